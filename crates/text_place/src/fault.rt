@@ -1,0 +1,93 @@
+/// A place in a source.
+#[derive(Clone, Copy, Debug, PartialEq, Eq)]
+pub struct Place {
+    /// The line, from 1.
+    pub line: u32,
+    /// The byte within its line, from 1.
+    pub column: u32,
+}
+
+/// What can be wrong with a source.
+#[derive(Clone, Copy, Debug, PartialEq, Eq)]
+pub enum FaultKind {
+    /// A byte at which no token begins, or which may not stand where it stands.
+    BadCharacter,
+    /// A comment that is not closed.
+    OpenComment,
+    /// A text that is not closed on its line.
+    OpenText,
+    /// A number that is not whole.
+    NotWhole,
+    /// A number past 2^53 - 1 in size.
+    TooLarge,
+    /// A value of another type than the one that is wanted.
+    TypeMismatch,
+    /// A division by 0.
+    ZeroDivisor,
+    /// A side or a height below 1.
+    BadSize,
+    /// A centred shape whose corners would lie between whole numbers.
+    NotOnGrid,
+    /// A coordinate past its limit.
+    OutOfRange,
+    /// Too few points or faces.
+    FewPoints,
+    /// A face that names a point that is not there.
+    BadPoint,
+    /// A face whose points lie on one line or on no one plane.
+    NotFlat,
+    /// A shape that is not convex.
+    NotConvex,
+    /// Faces that do not close a body.
+    NotClosed,
+    /// A token with which no program goes on.
+    Expected,
+    /// Constructs that are more than 64 deep in one another.
+    Nested,
+    /// A variable that has no value yet.
+    UnknownName,
+    /// A function that is not defined.
+    UnknownFunction,
+    /// A module that is not defined.
+    UnknownModule,
+    /// An argument that is surplus, unknown, given twice or missing.
+    BadArgument,
+    /// Calls or evaluations that are too deep in one another.
+    TooDeep,
+    /// More turns of loops and calls than one export may take.
+    TooManyTurns,
+    /// A range whose end comes before its start.
+    RangeOrder,
+    /// An assertion that does not hold.
+    AssertFailed,
+    /// A form of OpenSCAD that this profile leaves out.
+    NotInProfile,
+    /// A flat shape where a solid is wanted, or the other way round.
+    WrongDimension,
+    /// A rotation by other than quarter turns.
+    NotQuarter,
+    /// A transform that flattens space.
+    Singular,
+    /// More shapes than one export may have.
+    TooManyParts,
+    /// More face planes than one export may have.
+    TooManyPlanes,
+    /// A list that is too long or too deep.
+    LongList,
+    /// A form that this server does not read yet.
+    NotYet,
+}
+
+/// What is wrong with a source, and where.
+#[derive(Clone, Copy, Debug, PartialEq, Eq)]
+pub struct Fault {
+    pub kind: FaultKind,
+    pub place: Place,
+}
+
+/// Why a source has no answer.
+#[derive(Clone, Copy, Debug, PartialEq, Eq)]
+pub enum Stop {
+    Fault(Fault),
+    NoMemory,
+}
