@@ -1,3 +1,8 @@
+ghost use Rattle.std.specs.Prelude.{◌≡◌};
+ghost use Rattle.text_place.specs.Words.{word_of};
+
+use crate::memory::NoMemory;
+
 /// A place in a source.
 #[derive(Clone, Copy, Debug, PartialEq, Eq)]
 pub struct Place {
@@ -90,4 +95,82 @@ pub struct Fault {
 pub enum Stop {
     Fault(Fault),
     NoMemory,
+}
+
+/// The name of a kind, as it is printed.
+pub fn word(kind: FaultKind) -> &'static str
+    ensures { result.now ≡ word_of kind }
+{
+    match kind {
+        FaultKind::BadCharacter => "BadCharacter",
+        FaultKind::OpenComment => "OpenComment",
+        FaultKind::OpenText => "OpenText",
+        FaultKind::NotWhole => "NotWhole",
+        FaultKind::TooLarge => "TooLarge",
+        FaultKind::TypeMismatch => "TypeMismatch",
+        FaultKind::ZeroDivisor => "ZeroDivisor",
+        FaultKind::BadSize => "BadSize",
+        FaultKind::NotOnGrid => "NotOnGrid",
+        FaultKind::OutOfRange => "OutOfRange",
+        FaultKind::FewPoints => "FewPoints",
+        FaultKind::BadPoint => "BadPoint",
+        FaultKind::NotFlat => "NotFlat",
+        FaultKind::NotConvex => "NotConvex",
+        FaultKind::NotClosed => "NotClosed",
+        FaultKind::Expected => "Expected",
+        FaultKind::Nested => "Nested",
+        FaultKind::UnknownName => "UnknownName",
+        FaultKind::UnknownFunction => "UnknownFunction",
+        FaultKind::UnknownModule => "UnknownModule",
+        FaultKind::BadArgument => "BadArgument",
+        FaultKind::TooDeep => "TooDeep",
+        FaultKind::TooManyTurns => "TooManyTurns",
+        FaultKind::RangeOrder => "RangeOrder",
+        FaultKind::AssertFailed => "AssertFailed",
+        FaultKind::NotInProfile => "NotInProfile",
+        FaultKind::WrongDimension => "WrongDimension",
+        FaultKind::NotQuarter => "NotQuarter",
+        FaultKind::Singular => "Singular",
+        FaultKind::TooManyParts => "TooManyParts",
+        FaultKind::TooManyPlanes => "TooManyPlanes",
+        FaultKind::LongList => "LongList",
+        FaultKind::NotYet => "NotYet",
+    }
+}
+
+impl From<NoMemory> for Stop {
+    ghost use Rattle.text_place.specs.declared.fault.Stop.TheVariants.{NoMemory};
+
+    ghost from_gives = { λ _ stop. stop ≡ NoMemory };
+
+    fn from(_refused: NoMemory) -> Stop {
+        Stop::NoMemory
+    }
+}
+
+impl From<Fault> for Stop {
+    ghost use Rattle.text_place.specs.declared.fault.Stop.TheVariants.{Fault};
+
+    ghost from_gives = { λ fault stop. stop ≡ Fault fault };
+
+    fn from(fault: Fault) -> Stop {
+        Stop::Fault(fault)
+    }
+}
+
+#[cfg(test)]
+mod tests {
+    use super::*;
+
+    #[test]
+    fn names_kinds(rt: HostRuntime) {
+        let cases = [
+            (FaultKind::BadCharacter, "BadCharacter"),
+            (FaultKind::ZeroDivisor, "ZeroDivisor"),
+            (FaultKind::NotYet, "NotYet"),
+        ];
+        for (kind, name) in cases {
+            assert_eq!(rt; word(kind), name);
+        }
+    }
 }

@@ -2,10 +2,12 @@
 //! numbers, and want of memory.
 #![tactic(auto)]
 
+mod decimal;
 mod fault;
 mod lists;
 mod memory;
 
-pub use fault::{Fault, FaultKind, Place, Stop};
+pub use decimal::{one_numeral, push_decimal, read_decimal};
+pub use fault::{Fault, FaultKind, Place, Stop, word};
 pub use lists::{Bytes, Lines};
 pub use memory::NoMemory;

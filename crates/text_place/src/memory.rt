@@ -1,6 +1,3 @@
-ghost use Rattle.std.specs.Prelude.{◌≡◌};
-ghost use Rattle.text_place.specs.declared.memory.NoMemory.{NoMemory};
-
 use std::alloc::{AllocError, AllocFailed};
 
 /// Memory ran out: the one refusal that no contract ties to a cause.
