@@ -1,0 +1,5 @@
+pub mod IntegerRing
+pub mod Polynomials
+pub mod PolynomialSigns
+pub mod Signs
+pub mod Vectors
