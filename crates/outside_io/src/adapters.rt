@@ -1,0 +1,121 @@
+ghost use Rattle.std.specs.Prelude.{◌≡◌, ◌<◌, ◌≤◌, length, None, IfOk, OnOk, OnErr};
+ghost use Rattle.std.specs.Io.{ReadsAtMost};
+ghost use Rattle.std.specs.Io.KnownBytes.{ReadConsumes, WriteAppends};
+ghost use Rattle.outside_io.specs.Counts.{next_count, HasCause};
+
+use crate::traits::{Failed, Sink, Source};
+use std::io::{Read, Write};
+use std::marker::Model;
+
+/// A reader of std as a source. As a source it tells no bytes: what a read does to the reader is as
+/// trusted as the reader.
+#[derive(Drop)]
+pub struct ReadSource<R: Read> {
+    reader: R,
+    faults: u64,
+}
+
+impl<R: Read> Model for ReadSource<R> {
+    ghost use Rattle.outside_io.specs.Adapted.{AdaptedReader};
+
+    ghost Value = { AdaptedReader R };
+
+    ghost view = { λ s. record { reader = s.reader; faults = s.faults } };
+}
+
+impl<R: Read> ReadSource<R> {
+    /// A source over a reader, with no fault yet. Takes no memory.
+    pub fn new(reader: R) -> Self
+        ensures { result ≡ record { reader = reader; faults = 0 } }
+    {
+        ReadSource { reader, faults: 0 }
+    }
+}
+
+impl<R: Read> Source for ReadSource<R> {
+    ghost use Rattle.std.specs.Prelude.{None};
+
+    ghost left = { λ _. None };
+
+    ghost faults = { λ s. s.faults };
+
+    /// Reads once. Each error of the reader is a fault, counted up to 2^64 - 1.
+    fn read(&mut self, into: &mut [u8]) -> Result<usize, Failed>
+        requires { 0 < length into.old }
+        ensures bound { ReadsAtMost result into.new }
+        ensures bytes { ReadConsumes None None result into.new }
+
+        // What the read did to a reader that says which bytes it has left.
+        ensures of_reader { ReadConsumes (R.remaining self.old.reader) (R.remaining self.new.reader) result into.new }
+
+        // Failures, and they alone, are counted.
+        ensures cause { HasCause self.old.faults self.new.faults result }
+        ensures ok { OnOk result (self.new.faults ≡ self.old.faults) }
+        ensures err { OnErr result (self.new.faults ≡ next_count self.old.faults) }
+    {
+        match self.reader.read(into) {
+            Ok(count) => Ok(count),
+            Err(_) => {
+                self.faults = self.faults.saturating_add(1);
+                Err(Failed)
+            }
+        }
+    }
+}
+
+/// A writer of std as a sink. As a sink it tells no bytes: what a write does to the writer is as
+/// trusted as the writer.
+#[derive(Drop)]
+pub struct WriteSink<W: Write> {
+    writer: W,
+    faults: u64,
+}
+
+impl<W: Write> Model for WriteSink<W> {
+    ghost use Rattle.outside_io.specs.Adapted.{AdaptedWriter};
+
+    ghost Value = { AdaptedWriter W };
+
+    ghost view = { λ s. record { writer = s.writer; faults = s.faults } };
+}
+
+impl<W: Write> WriteSink<W> {
+    /// A sink over a writer, with no fault yet. Takes no memory.
+    pub fn new(writer: W) -> Self
+        ensures { result ≡ record { writer = writer; faults = 0 } }
+    {
+        WriteSink { writer, faults: 0 }
+    }
+}
+
+impl<W: Write> Sink for WriteSink<W> {
+    ghost use Rattle.std.specs.Prelude.{None};
+
+    ghost held = { λ _. None };
+
+    ghost faults = { λ s. s.faults };
+
+    /// Writes once. Each error of the writer and each write of no byte is a fault, counted up to
+    /// 2^64 - 1.
+    fn write(&mut self, from: &[u8]) -> Result<usize, Failed>
+        requires { 0 < length from.now }
+        ensures bound { IfOk result (λ n. (0 < n) × (n ≤ length from.now)) }
+        ensures bytes { WriteAppends None None result from.now }
+
+        // What the write did to a writer that says which bytes it holds.
+        ensures of_writer { WriteAppends (W.contents self.old.writer) (W.contents self.new.writer) result from.now }
+
+        // Failures, and they alone, are counted.
+        ensures cause { HasCause self.old.faults self.new.faults result }
+        ensures ok { OnOk result (self.new.faults ≡ self.old.faults) }
+        ensures err { OnErr result (self.new.faults ≡ next_count self.old.faults) }
+    {
+        match self.writer.write(from) {
+            Ok(0) | Err(_) => {
+                self.faults = self.faults.saturating_add(1);
+                Err(Failed)
+            }
+            Ok(count) => Ok(count),
+        }
+    }
+}
