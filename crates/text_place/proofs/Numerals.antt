@@ -1,5 +1,5 @@
 -- Laws of numerals, for this crate and those above.
-use Rattle.std.proofs.Common.{◌≡◌, ℕ, zero, suc, ◌+◌, ◌/◌, ◌%◌, ◌^◌, ◌<◌, ◌≤◌, List, [], ◌∷◌, ◌++◌, map, length, get_or, IsFalse, true, refl, sym, ap, subst, ◌∙◌, ⊎_elim, arith, decimal, mod-eq_of_lt, ne_eqb, length-append, ℤ, pos, negsuc}
+use Rattle.std.proofs.Common.{◌≡◌, ℕ, zero, suc, ◌+◌, ◌/◌, ◌%◌, ◌^◌, ◌<◌, ◌≤◌, List, [], ◌∷◌, ◌++◌, map, length, get_or, IsFalse, true, refl, sym, ap, subst, ◌∙◌, ⊎_elim, arith, decimal, mod-eq_of_lt, ne_eqb, length-append, lt_trans, lit<, ℤ, pos, negsuc}
 use lib.Signed.{mag}
 use Rattle.std.specs.Char.{digit_value, is_ascii_digit}
 use Rattle.std.specs.Int.{IsInRange}
@@ -7,13 +7,13 @@ use Rattle.std.specs.Int.Digits.{digits_of, digits_with_fuel}
 use Rattle.std.specs.Str.Parse.{AllDigits, digits_value}
 use Rattle.std.specs.Fmt.{signed_decimal}
 use Rattle.std.proofs.lemmas.Bool.{cases_lt}
-use Rattle.std.proofs.lemmas.Fmt.{decimal_by_steps_wide}
+use Rattle.std.proofs.lemmas.Fmt.{decimal_by_steps_wide, decimal-digits_value}
 use Rattle.std.proofs.lemmas.Int.Digits.{digits_of_step, length-digits_of-le, digits_push, digits_value_push}
 use Rattle.std.proofs.lemmas.List.{map_push, length-map}
 use lib.ListN.{get_or-append}
 use Rattle.std.proofs.lemmas.Str.{digit_value_digit}
 use Rattle.std.proofs.lemmas.Bool.Decides.{nat_tests}
-use Rattle.std.proofs.lemmas.Str.Parse.{digit_at, digit_from_value}
+use Rattle.std.proofs.lemmas.Str.Parse.{digit_at, digit_from_value, IsNumeralModel}
 use Rattle.text_place.specs.Decimals.{digits_within, numeral, signed_numeral, begins_with_digit}
 
 -- the digits are std's, as ASCII bytes
@@ -133,3 +133,12 @@ pub one_numeral : (m n : ℕ) (x y : List ℕ) → IsFalse (begins_with_digit x)
 one_numeral m n x y end_x end_y e =
     let h = split_digits (numeral m) (numeral n) x y (AllDigits-numeral m) (AllDigits-numeral n) end_x end_y e in
     (sym (digits_value-numeral m) ∙ ap (digits_value 10) h.0 ∙ digits_value-numeral n, h.1)
+
+digits_model : IsNumeralModel (AllDigits 10) (digits_value 10)
+digits_model = record { to = λ ds h. h; from = λ ds h. h; same = λ ds h. refl }
+
+-- digits with no zero before them are the numeral of the number that they write
+pub numeral-digits_value : (ds : List ℕ) → AllDigits 10 ds → 0 < length ds → 48 < get_or ds 0 0 → digits_value 10 ds < 2 ^ 64 → numeral (digits_value 10 ds) ≡ ds
+numeral-digits_value ds digits some above small =
+    sym (decimal-numeral (digits_value 10 ds) (lt_trans small (lit< tt)))
+    ∙ decimal-digits_value digits_model ds digits some (λ zero. absurd (omega (arith, zero))) small

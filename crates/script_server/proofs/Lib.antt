@@ -1,0 +1,12 @@
+pub mod Turns
+pub mod Beside
+pub mod Convex
+pub mod BoxBody
+pub mod BoxBoundary
+pub mod ScriptForm
+pub mod OneReading
+pub mod OneReply
+pub mod Texts
+pub mod Sides
+pub mod LineCounts
+pub mod Served
