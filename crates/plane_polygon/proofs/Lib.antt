@@ -1,0 +1,12 @@
+pub mod FourPoints
+pub mod Hull
+pub mod Rounds
+pub mod Cuts
+pub mod Rotations
+pub mod PartLists
+pub mod PartPolygons
+pub mod PartPoints
+pub mod PartCovers
+pub mod Faces
+pub mod CornerSides
+pub mod Parts
