@@ -22,7 +22,7 @@ positive_meeting p q r h = signed_positive (cramer p q r).w (cramer p q r) h
 pub positive_apart : (x : ℤ) → pos 0 <ℤ x → x ≢ pos 0
 positive_apart x h e = omega (arith, sums)
 
-not_less : (x y : ℤ) → y ≤ℤ x → int_lt x y ≡ false
+pub not_less : (x y : ℤ) → y ≤ℤ x → int_lt x y ≡ false
 not_less x y h = elim (int_lt x y) as (λ b. int_lt x y ≡ b → b ≡ false) [ true ↦ λ e. absurd (omega (arith, ints)) | false ↦ λ e. refl ] refl
 
 less : (x y : ℤ) → x <ℤ y → int_lt x y ≡ true
@@ -86,7 +86,7 @@ or_assoc : (x y z : Bool) → (x || (y || z)) ≡ ((x || y) || z)
 or_assoc true y z = refl
 or_assoc false y z = refl
 
-some_more : {A : Type 0} (p : A → Bool) (xs : List A) (y : A) → some_of p (xs ++ y ∷ []) ≡ (some_of p xs || p y)
+pub some_more : {A : Type 0} (p : A → Bool) (xs : List A) (y : A) → some_of p (xs ++ y ∷ []) ≡ (some_of p xs || p y)
 some_more p [] y = or_last (p y)
 some_more p (x ∷ xs) y = ap (λ (b : Bool). p x || b) (some_more p xs y) ∙ or_assoc (p x) (some_of p xs) (p y)
 

@@ -10,3 +10,6 @@ pub mod PartCovers
 pub mod Faces
 pub mod CornerSides
 pub mod Parts
+pub mod BoxStarts
+pub mod Trims
+pub mod BoxPoints

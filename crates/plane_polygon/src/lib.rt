@@ -4,17 +4,20 @@
 ghost use Rattle.std.specs.Prelude.{◌≡◌, IfOk};
 ghost use Rattle.plane_polygon.specs.Polygons.{IsPolygon};
 
+mod boxes;
 mod classes;
 mod cutting;
 mod laws;
 mod listing;
+mod planes;
 mod sides;
 mod sorting;
 
+pub use boxes::box_polygon;
 pub use classes::Class;
 pub use listing::corners;
 pub use cutting::cut;
-pub use laws::{parts_are_polygons, points_lie_in_the_fan, within_is_left};
+pub use laws::{box_polygons_are_polygons, parts_are_polygons, points_lie_in_the_fan, within_is_left};
 pub use sorting::sort_by;
 
 use plane_predicate::Plane;
@@ -72,3 +75,6 @@ impl Polygon {
         &self.edges
     }
 }
+
+#[cfg(test)]
+mod tests;
