@@ -1,16 +1,16 @@
 -- The box polygon of a plane has exactly the plane's points in the closed world box.
-use Rattle.std.proofs.Common.{◌≡◌, ◌≢◌, ◌↔◌, ◌⊎◌, inl, inr, ℕ, zero, suc, ◌+◌, ◌*◌, ◌<◌, ◌≤◌, Bool, true, false, not, if◌then◌else◌, List, [], ◌∷◌, refl, sym, ap, ◌∙◌, subst, arith, ℤ, pos, negsuc, ◌+ℤ◌, ◌-ℤ◌, ◌*ℤ◌, ◌<ℤ◌, ◌≤ℤ◌, unsigned_abs, Result, Ok, Err, IfOk}
+use Rattle.std.proofs.Common.{◌≡◌, ◌≢◌, ◌↔◌, inl, inr, ◌*◌, ◌≤◌, Bool, true, false, not, if◌then◌else◌, List, [], ◌∷◌, refl, sym, ap, ◌∙◌, subst, arith, ℤ, pos, negsuc, ◌-ℤ◌, ◌*ℤ◌, ◌<ℤ◌, ◌≤ℤ◌, unsigned_abs, Result, Ok, Err, IfOk}
 use Rattle.std.proofs.lemmas.Int.{ints}
 use Rattle.std.specs.Ordering.{int_eq}
 use Rattle.plane_predicate.specs.Space.{Coefficients, Coordinates, value, IsPlane, IsInReach, IsInClosedWorld}
 use Rattle.plane_predicate.proofs.IntegerRing.{sums}
-use Rattle.plane_predicate.proofs.Polynomials.{Poly, var, num, plus, times, minus, ring}
+use Rattle.plane_predicate.proofs.Polynomials.{var, num, times, minus, ring}
 use Rattle.plane_predicate.proofs.Vectors.{place, of_point, valueP}
 use Rattle.plane_predicate.proofs.Signs.{signs}
 use Rattle.plane_polygon.specs.Polygons.{Outline, IsPolygon, Covers}
 use Rattle.plane_polygon.specs.Boxes.{high_x, low_x, high_y, low_y, high_z, low_z, trimmed, turned, box_over_x, box_over_y, box_over_z, box_outline, ComesInReach}
 use Rattle.plane_polygon.proofs.BoxStarts.{FourTurns, four, four_polygon, four_covers, over_x_above, over_x_below, over_y_above, over_y_below, over_z_above, over_z_below, HX, LX, HY, LY, HZ, LZ}
-use Rattle.plane_polygon.proofs.Trims.{Trims, trims}
+use Rattle.plane_polygon.proofs.Trims.{trims}
 
 -- ---- the world box as six planes
 pub record IsNotAheadOfBox (p : Coordinates) : Type 0 where
@@ -112,9 +112,9 @@ boxed n e f g h hi lo t q w on qe qf qg qh qhi qlo =
       polygon = second.polygon;
       points = λ p. (
         λ k. (
-          let a = (second.points p).0 k in
-          let b = (first.points p).0 a.0 in
-          record { weight = b.0.weight; on = b.0.on; first = b.0.within 0 (omega arith); second = b.0.within 1 (omega arith); third = b.0.within 2 (omega arith); fourth = b.0.within 3 (omega arith); high = b.1; low = a.1 }),
+            let a = (second.points p).0 k in
+            let b = (first.points p).0 a.0 in
+            record { weight = b.0.weight; on = b.0.on; first = b.0.within 0 (omega arith); second = b.0.within 1 (omega arith); third = b.0.within 2 (omega arith); fourth = b.0.within 3 (omega arith); high = b.1; low = a.1 }),
         λ k. (second.points p).1 ((first.points p).1 (four_covers n e f g h p k.weight k.on k.first k.second k.third k.fourth, k.high), k.low),
       );
     }

@@ -1,12 +1,12 @@
 -- Four box planes as the edges of a polygon.
-use Rattle.std.proofs.Common.{◌≡◌, ◌≢◌, ◌↔◌, ◌⊎◌, inl, inr, ℕ, zero, suc, ◌+◌, ◌<◌, ◌≤◌, Bool, true, false, ◌&&◌, List, [], ◌∷◌, refl, sym, ap, ◌∙◌, subst, arith, ℤ, pos, negsuc, neg_ℤ, ◌+ℤ◌, ◌-ℤ◌, ◌*ℤ◌, ◌<ℤ◌, ◌≤ℤ◌}
+use Rattle.std.proofs.Common.{◌≡◌, ◌≢◌, ℕ, zero, suc, ◌<◌, Bool, true, ◌&&◌, List, [], ◌∷◌, refl, subst, arith, ℤ, pos, negsuc, neg_ℤ, ◌-ℤ◌, ◌<ℤ◌, ◌≤ℤ◌}
 use Rattle.std.proofs.lemmas.Bool.{and_parts}
 use Rattle.plane_predicate.specs.Space.{Coefficients, Coordinates, value, cramer}
 use Rattle.plane_predicate.proofs.IntegerRing.{sums}
-use Rattle.plane_predicate.proofs.Polynomials.{Poly, var, num, plus, times, minus, expand, at} 
+use Rattle.plane_predicate.proofs.Polynomials.{Poly, var, num, minus, expand}
 use Rattle.plane_predicate.proofs.PolynomialSigns.{is_above, AreAbove, above_by_form}
-use Rattle.plane_predicate.proofs.Vectors.{Form, Place, plane_of, valueP, cramerP}
-use Rattle.plane_polygon.specs.Polygons.{Outline, after, edge, sides, corner, IsPolygon, Covers}
+use Rattle.plane_predicate.proofs.Vectors.{Form, plane_of, valueP, cramerP}
+use Rattle.plane_polygon.specs.Polygons.{Outline, after, edge, corner, IsPolygon, Covers}
 use Rattle.plane_polygon.specs.Boxes.{high_x, low_x, high_y, low_y, high_z, low_z}
 
 -- ---- four edges

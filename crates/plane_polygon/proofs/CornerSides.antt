@@ -1,5 +1,5 @@
 -- Corners, and lists of them.
-use Rattle.std.proofs.Common.{◌≡◌, ◌≢◌, ℕ, zero, suc, ◌+◌, Bool, true, false, ◌||◌, List, [], ◌∷◌, ◌++◌, map, refl, sym, ap, ap₂, ◌∙◌, subst, arith, add-one, ℤ, pos, negsuc, ◌<ℤ◌, ◌≤ℤ◌, int_lt, neg_ℤ, inl, inr, ◌⊎◌}
+use Rattle.std.proofs.Common.{◌≡◌, ◌≢◌, ℕ, zero, suc, ◌+◌, Bool, true, false, ◌||◌, List, [], ◌∷◌, ◌++◌, map, refl, sym, ap, ap₂, ◌∙◌, subst, arith, add-one, ℤ, pos, negsuc, ◌<ℤ◌, ◌≤ℤ◌, int_lt, neg_ℤ, inl, inr}
 use Rattle.std.proofs.lemmas.List.{map-append}
 use Rattle.plane_predicate.specs.Space.{Coefficients, Coordinates, cramer, meeting, signed_by, IsPointTimes, IsReduced}
 use Rattle.plane_predicate.specs.Sides.{side_of}

@@ -1,10 +1,10 @@
 -- Where a plane crosses an edge.
-use Rattle.std.proofs.Common.{◌≡◌, ◌≢◌, ◌⊎◌, inl, inr, ℕ, zero, suc, ◌+◌, ◌-◌, ◌<◌, ◌≤◌, refl, sym, ap, ap₂, ◌∙◌, subst, arith, ℤ, pos, negsuc, ◌+ℤ◌, ◌-ℤ◌, ◌*ℤ◌, neg_ℤ, ◌<ℤ◌, ◌≤ℤ◌}
+use Rattle.std.proofs.Common.{◌≡◌, ◌⊎◌, inl, inr, refl, sym, ap, ◌∙◌, subst, arith, ℤ, pos, ◌+ℤ◌, ◌-ℤ◌, ◌*ℤ◌, neg_ℤ, ◌<ℤ◌, ◌≤ℤ◌}
 use Rattle.std.proofs.Math.IntN.{*ℤ-zero, zero-*ℤ}
 use Rattle.plane_predicate.specs.Space.{Coefficients, Coordinates, value, cramer}
 use Rattle.plane_predicate.proofs.IntegerRing.{sums, mul_comm_ℤ, mul_neg_left}
 use Rattle.plane_predicate.proofs.Identities.{combine, as_cramer, growth, growths, value_combine, value_swapped, weight_swapped}
-use Rattle.plane_predicate.proofs.Signs.{signs, pos_pos, neg_neg, pos_neg, neg_pos, least_least, least_most, most_most, most_least, zero_cancel, neg_cancel, pos_cancel}
+use Rattle.plane_predicate.proofs.Signs.{pos_pos, neg_neg, pos_neg, neg_pos, least_least, least_most, neg_cancel, pos_cancel}
 
 -- p is behind r and q is not, both on n and e
 pub record Crossing (n e r : Coefficients) (p q : Coordinates) : Type 0 where

@@ -1,10 +1,10 @@
 -- A point is strictly within a polygon exactly where it is strictly left of each way from a corner to the next.
-use Rattle.std.proofs.Common.{◌≡◌, ◌⊎◌, inl, inr, ℕ, zero, suc, ◌+◌, ◌-◌, ◌<◌, ◌≤◌, refl, sym, ap, ◌∙◌, subst, arith, ℤ, pos, ◌*ℤ◌, ◌<ℤ◌, ◌≤ℤ◌}
-use Rattle.plane_predicate.specs.Space.{Coefficients, Coordinates, value, turn, inner}
+use Rattle.std.proofs.Common.{◌≡◌, inl, inr, ℕ, zero, suc, ◌-◌, ◌<◌, subst, arith, ℤ, pos, ◌*ℤ◌, ◌<ℤ◌, ◌≤ℤ◌}
+use Rattle.plane_predicate.specs.Space.{Coordinates, value, turn, inner}
 use Rattle.plane_predicate.proofs.IntegerRing.{sums}
 use Rattle.plane_polygon.specs.Polygons.{Outline, after, edge, sides, corner, IsPolygon}
-use Rattle.plane_predicate.proofs.Signs.{signs, most_least, most_most, least_least}
-use Rattle.plane_polygon.proofs.Hull.{after_is, after_below, after_last, after_inside, plane_directed, turn_is, far_behind, strictly_left}
+use Rattle.plane_predicate.proofs.Signs.{signs, most_least, least_least}
+use Rattle.plane_polygon.proofs.Hull.{after_below, after_last, after_inside, plane_directed, turn_is, far_behind, strictly_left}
 
 not_both : (x : ℤ) → pos 0 <ℤ x → x ≤ℤ pos 0 → ⊥
 not_both x h k = omega (arith, sums)

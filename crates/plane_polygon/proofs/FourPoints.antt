@@ -1,9 +1,9 @@
 -- Four points of one plane.
-use Rattle.std.proofs.Common.{◌≡◌, ◌⊎◌, inl, inr, ℕ, refl, sym, ap, ap₂, ◌∙◌, arith, ℤ, pos, ◌+ℤ◌, ◌-ℤ◌, ◌*ℤ◌, neg_ℤ, ◌<ℤ◌, ◌≤ℤ◌}
+use Rattle.std.proofs.Common.{◌≡◌, refl, sym, ap, ◌∙◌, arith, ℤ, pos, ◌+ℤ◌, ◌-ℤ◌, ◌*ℤ◌, ◌<ℤ◌}
 use Rattle.std.proofs.Math.IntN.{*ℤ-zero, zero-*ℤ}
-use Rattle.plane_predicate.specs.Space.{Coefficients, Coordinates, value, turn, inner, cramer, product_with}
-use Rattle.plane_predicate.proofs.IntegerRing.{sums, mul_comm_ℤ, distribute}
-use Rattle.plane_predicate.proofs.Identities.{dependent, volume, turn_at_edge}
+use Rattle.plane_predicate.specs.Space.{Coefficients, Coordinates, value, turn, inner}
+use Rattle.plane_predicate.proofs.IntegerRing.{sums, mul_comm_ℤ}
+use Rattle.plane_predicate.proofs.Identities.{dependent, volume}
 use Rattle.plane_predicate.proofs.Signs.{zero_cancel}
 
 -- the sum in dependent, where all four are on m

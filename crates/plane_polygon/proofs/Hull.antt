@@ -1,12 +1,12 @@
 -- Each point of a polygon lies between three of its corners.
-use Rattle.std.proofs.Common.{◌≡◌, ◌≢◌, ◌⊎◌, inl, inr, ℕ, zero, suc, ◌+◌, ◌-◌, ◌<◌, ◌≤◌, Bool, true, false, cond, eqb, refl, sym, ap, ap₂, ◌∙◌, subst, arith, ℤ, pos, negsuc, ◌+ℤ◌, ◌-ℤ◌, ◌*ℤ◌, neg_ℤ, ◌<ℤ◌, ◌≤ℤ◌, get_or, eqb-true, true≢false}
-use Rattle.std.proofs.Math.IntN.{*ℤ-zero, zero-*ℤ}
+use Rattle.std.proofs.Common.{◌≡◌, ◌≢◌, ◌⊎◌, inl, inr, ℕ, zero, suc, ◌+◌, ◌-◌, ◌<◌, ◌≤◌, true, false, cond, eqb, refl, sym, ap, ◌∙◌, subst, arith, ℤ, pos, ◌+ℤ◌, ◌-ℤ◌, ◌*ℤ◌, neg_ℤ, ◌<ℤ◌, ◌≤ℤ◌, true≢false}
+use Rattle.std.proofs.Math.IntN.{zero-*ℤ}
 use Rattle.std.proofs.lemmas.Bool.Decides.{eqb_tells}
-use Rattle.plane_predicate.specs.Space.{Coefficients, Coordinates, value, turn, inner, cramer, product_with}
-use Rattle.plane_predicate.proofs.IntegerRing.{sums, mul_comm_ℤ, mul_neg_left}
+use Rattle.plane_predicate.specs.Space.{Coefficients, Coordinates, value, turn, inner, cramer}
+use Rattle.plane_predicate.proofs.IntegerRing.{sums, mul_neg_left}
 use Rattle.plane_predicate.proofs.Identities.{turn_at_edge, turn_round, turn_back, cramer_on_first, cramer_on_second, cramer_on_third}
 use Rattle.plane_polygon.specs.Polygons.{Outline, after, edge, sides, corner, IsPolygon, Covers, IsBetween}
-use Rattle.plane_predicate.proofs.Signs.{signs, pos_pos, neg_neg, pos_neg, least_least, least_most, most_most, zero_cancel}
+use Rattle.plane_predicate.proofs.Signs.{signs, pos_pos, neg_neg, pos_neg, least_least, least_most, most_most}
 use Rattle.plane_polygon.proofs.FourPoints.{four_points}
 
 dropped : (g a f : ℤ) → g *ℤ (a -ℤ pos 0 *ℤ f) ≡ g *ℤ a

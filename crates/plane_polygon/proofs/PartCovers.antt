@@ -1,20 +1,19 @@
 -- The points of the part behind a plane are those of the polygon that are not ahead of the plane.
-use Rattle.std.proofs.Common.{◌≡◌, ◌≢◌, ◌⊎◌, inl, inr, ℕ, zero, suc, ◌+◌, ◌-◌, ◌<◌, ◌≤◌, List, [], ◌∷◌, ◌++◌, length, refl, sym, ap, ap₂, ◌∙◌, subst, subst₂, arith, ℤ, pos, ◌+ℤ◌, ◌*ℤ◌, ◌<ℤ◌, ◌≤ℤ◌, neg_ℤ, append-nil}
-use Rattle.std.proofs.lemmas.Int.{ints}
+use Rattle.std.proofs.Common.{◌≡◌, ℕ, suc, ◌-◌, ◌<◌, List, [], ◌∷◌, ◌++◌, length, sym, ap, ◌∙◌, subst, arith, ℤ, pos, ◌+ℤ◌, ◌*ℤ◌, ◌<ℤ◌, ◌≤ℤ◌, neg_ℤ, append-nil}
 use Rattle.plane_predicate.specs.Space.{Coefficients, Coordinates, value, cramer}
 use Rattle.plane_predicate.proofs.IntegerRing.{sums}
-use Rattle.plane_predicate.proofs.Identities.{cramer_on_third, cramer_on_second, value_swapped, weight_swapped}
-use Rattle.plane_polygon.specs.Polygons.{Outline, after, edge, sides, corner, IsPolygon, Covers, IsBetween}
+use Rattle.plane_predicate.proofs.Identities.{value_swapped, weight_swapped}
+use Rattle.plane_polygon.specs.Polygons.{Outline, edge, sides, corner, IsPolygon, Covers, IsBetween}
 use Rattle.plane_polygon.specs.declared.classes.Class.TheVariants.{Across}
 use Rattle.plane_polygon.specs.Parts.{class_of, part_behind}
 use Rattle.plane_predicate.proofs.Signs.{least_most, least_least, most_cancel, least_cancel, pos_pos, most_most}
 use Rattle.plane_polygon.proofs.Hull.{hull}
-use Rattle.plane_polygon.proofs.Rounds.{step, step_below, at_most, corner_from, edge_from, no_edge_behind}
-use Rattle.plane_polygon.proofs.Cuts.{Crossing, meeting_value, weight_above, turned, lt_le, neg_of_positive, negative_of_pos}
+use Rattle.plane_polygon.proofs.Rounds.{step, step_below, corner_from, edge_from, no_edge_behind}
+use Rattle.plane_polygon.proofs.Cuts.{Crossing, meeting_value, weight_above, turned, lt_le, neg_of_positive}
 use Rattle.plane_polygon.proofs.Rotations.{Turns, list_turns}
-use Rattle.plane_polygon.proofs.PartLists.{Arc, arc_edges, arc_listed}
-use Rattle.plane_polygon.proofs.PartPolygons.{Cut, arc_outline, arc_polygon, arc_sides, arc_edge, arc_new, Which, old, out, into, which, arc_corner, arc_out, arc_into, leaving, coming, leaves, comes, at_most_or, below}
-use Rattle.plane_polygon.proofs.PartPoints.{reach, cut_of}
+use Rattle.plane_polygon.proofs.PartLists.{arc_listed}
+use Rattle.plane_polygon.proofs.PartPolygons.{Cut, arc_outline, arc_polygon, arc_sides, arc_edge, arc_new, Which, old, out, into, which, arc_corner, arc_out, arc_into, leaving, coming, leaves, comes}
+use Rattle.plane_polygon.proofs.PartPoints.{cut_of}
 
 -- ---- the arc's corners are corners of the polygon, or lie between two of them
 two_most : (x y : ℤ) → x ≤ℤ pos 0 → y ≤ℤ pos 0 → (x +ℤ y) ≤ℤ pos 0

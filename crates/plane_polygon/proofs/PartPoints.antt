@@ -1,17 +1,13 @@
 -- A plane that is across a polygon cuts it, and which points the part behind it has.
-use Rattle.std.proofs.Common.{◌≡◌, ◌≢◌, ◌⊎◌, inl, inr, ℕ, zero, suc, ◌+◌, ◌-◌, ◌<◌, ◌≤◌, Bool, true, false, not, ◌||◌, List, [], ◌∷◌, ◌++◌, length, map, get_or, length-append, refl, sym, ap, ap₂, ◌∙◌, subst, subst₂, arith, ℤ, pos, ◌+ℤ◌, ◌*ℤ◌, ◌<ℤ◌, ◌≤ℤ◌, neg_ℤ, int_lt, add-zero, add-suc, append-nil, true≢false}
+use Rattle.std.proofs.Common.{◌≡◌, ◌⊎◌, inl, inr, ℕ, zero, suc, ◌+◌, ◌-◌, ◌<◌, ◌≤◌, Bool, true, false, not, ◌||◌, List, [], ◌∷◌, ◌++◌, map, refl, sym, ap, ◌∙◌, subst, arith, ℤ, pos, ◌<ℤ◌, int_lt, add-zero, true≢false}
 use Rattle.std.proofs.lemmas.List.{map-append}
 use Rattle.std.proofs.lemmas.Int.{ints}
-use Rattle.plane_predicate.specs.Space.{Coefficients, Coordinates, value, cramer}
-use Rattle.plane_predicate.proofs.IntegerRing.{sums}
-use Rattle.plane_polygon.specs.Polygons.{Outline, after, edge, sides, corner, IsPolygon, Covers, IsBetween}
+use Rattle.plane_predicate.specs.Space.{Coefficients, Coordinates, value}
+use Rattle.plane_polygon.specs.Polygons.{Outline, sides, corner, IsPolygon}
 use Rattle.plane_polygon.specs.declared.classes.Class.TheVariants.{Across}
-use Rattle.plane_polygon.specs.Parts.{up_to, corners, some_of, before, is_behind, is_ahead, class_by, class_of, part_behind}
-use Rattle.plane_predicate.proofs.Signs.{least_most, most_cancel}
-use Rattle.plane_polygon.proofs.Hull.{after_below, hull}
-use Rattle.plane_polygon.proofs.Rounds.{step, step_below, step_is, at_most, corner_from, edge_from, no_edge_behind, no_alternation}
-use Rattle.plane_polygon.proofs.Cuts.{Crossing, meeting_value, crossing}
-use Rattle.plane_polygon.proofs.PartLists.{Arc, before_after, before_first}
+use Rattle.plane_polygon.specs.Parts.{up_to, corners, some_of, is_behind, is_ahead, class_by, class_of}
+use Rattle.plane_polygon.proofs.Rounds.{step, step_below, step_is, at_most, corner_from, no_alternation}
+use Rattle.plane_polygon.proofs.PartLists.{before_after, before_first}
 use Rattle.plane_polygon.proofs.PartPolygons.{Cut, below, not_below, at_most_or}
 
 -- ---- an index at which a test holds

@@ -1,12 +1,12 @@
 -- Going round a polygon from any corner, and why the corners behind a plane stand together.
-use Rattle.std.proofs.Common.{◌≡◌, ◌≢◌, ◌⊎◌, inl, inr, ℕ, zero, suc, ◌+◌, ◌-◌, ◌<◌, ◌≤◌, refl, sym, ap, ap₂, ◌∙◌, subst, subst₂, arith, ℤ, pos, negsuc, ◌+ℤ◌, ◌-ℤ◌, ◌*ℤ◌, neg_ℤ, ◌<ℤ◌, ◌≤ℤ◌, add-zero, add-suc, eq-or-lt_of_le, le_trans}
-use Rattle.std.proofs.Math.IntN.{*ℤ-zero, zero-*ℤ}
+use Rattle.std.proofs.Common.{◌≡◌, ◌≢◌, ◌⊎◌, inl, inr, ℕ, zero, suc, ◌+◌, ◌-◌, ◌<◌, ◌≤◌, sym, ap, ◌∙◌, subst, subst₂, arith, ℤ, pos, ◌+ℤ◌, ◌-ℤ◌, ◌*ℤ◌, ◌<ℤ◌, ◌≤ℤ◌, add-zero, add-suc}
+use Rattle.std.proofs.Math.IntN.{*ℤ-zero}
 use Rattle.std.proofs.lemmas.Bool.Decides.{eqb_tells}
-use Rattle.plane_predicate.specs.Space.{Coefficients, Coordinates, value, turn, inner, cramer}
-use Rattle.plane_predicate.proofs.IntegerRing.{sums, mul_comm_ℤ}
-use Rattle.plane_predicate.proofs.Identities.{turn_round, turn_back, cramer_on_first, cramer_on_second, cramer_on_third}
-use Rattle.plane_polygon.specs.Polygons.{Outline, after, edge, sides, corner, IsPolygon, Covers}
-use Rattle.plane_predicate.proofs.Signs.{signs, pos_pos, neg_neg, pos_neg, neg_pos, least_least, least_most, most_most, most_least, zero_cancel}
+use Rattle.plane_predicate.specs.Space.{Coefficients, Coordinates, value, turn}
+use Rattle.plane_predicate.proofs.IntegerRing.{sums}
+use Rattle.plane_predicate.proofs.Identities.{turn_round}
+use Rattle.plane_polygon.specs.Polygons.{Outline, after, edge, sides, corner, IsPolygon}
+use Rattle.plane_predicate.proofs.Signs.{signs, neg_neg, pos_neg, least_least, least_most, most_most}
 use Rattle.plane_polygon.proofs.FourPoints.{four_points}
 use Rattle.plane_polygon.proofs.Hull.{after_is, after_below, plane_directed, corner_on, corner_on_edge, corner_on_next, strictly_left}
 

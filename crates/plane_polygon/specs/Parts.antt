@@ -3,7 +3,6 @@ use Rattle.std.specs.Prelude.{ℕ, zero, suc, ◌-◌, Bool, true, false, ◌||�
 use Rattle.plane_predicate.specs.Space.{Coefficients, Coordinates, value, opposite_of}
 use Rattle.plane_polygon.specs.Polygons.{Outline, edge, sides, corner}
 use Rattle.plane_predicate.specs.declared.sides.Side.{Side}
-use Rattle.plane_predicate.specs.declared.sides.Side.TheVariants as Side
 use Rattle.plane_polygon.specs.declared.classes.Class.{Class}
 use Rattle.plane_polygon.specs.declared.classes.Class.TheVariants.{Behind, Ahead, On, Across}
 

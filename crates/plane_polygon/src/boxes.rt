@@ -34,15 +34,7 @@ fn over_z(alloc: Global, plane: &Plane) -> Result<Polygon, NoMemory>
     ensures { IfOk result (λ s. s ≡ box_over_z plane.now) }
 {
     let part = plane.c;
-    let whole = four_edges(
-        alloc,
-        plane,
-        part,
-        &low_x(),
-        &low_y(),
-        &high_x(),
-        &high_y(),
-    )?;
+    let whole = four_edges(alloc, plane, part, &low_x(), &low_y(), &high_x(), &high_y())?;
     let below = trim(alloc, whole, &high_z())?;
     trim(alloc, below, &low_z())
 }
@@ -54,15 +46,7 @@ fn over_y(alloc: Global, plane: &Plane) -> Result<Polygon, NoMemory>
     ensures { IfOk result (λ s. s ≡ box_over_y plane.now) }
 {
     let part = plane.b;
-    let whole = four_edges(
-        alloc,
-        plane,
-        part,
-        &low_x(),
-        &high_z(),
-        &high_x(),
-        &low_z(),
-    )?;
+    let whole = four_edges(alloc, plane, part, &low_x(), &high_z(), &high_x(), &low_z())?;
     let below = trim(alloc, whole, &high_y())?;
     trim(alloc, below, &low_y())
 }
@@ -74,15 +58,7 @@ fn over_x(alloc: Global, plane: &Plane) -> Result<Polygon, NoMemory>
     ensures { IfOk result (λ s. s ≡ box_over_x plane.now) }
 {
     let part = plane.a;
-    let whole = four_edges(
-        alloc,
-        plane,
-        part,
-        &low_y(),
-        &low_z(),
-        &high_y(),
-        &high_z(),
-    )?;
+    let whole = four_edges(alloc, plane, part, &low_y(), &low_z(), &high_y(), &high_z())?;
     let below = trim(alloc, whole, &high_x())?;
     trim(alloc, below, &low_x())
 }

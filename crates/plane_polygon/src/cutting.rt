@@ -58,8 +58,20 @@ fn part_edges(
     let mut from = last;
     for i in 0..edges.len() {
         let to = next_side(plane, edges, i, m, last);
-        push_kept(&mut behind, lies_behind(from), lies_behind(to), &edges[i], m)?;
-        push_kept(&mut ahead, lies_ahead(from), lies_ahead(to), &edges[i], &turned)?;
+        push_kept(
+            &mut behind,
+            lies_behind(from),
+            lies_behind(to),
+            &edges[i],
+            m,
+        )?;
+        push_kept(
+            &mut ahead,
+            lies_ahead(from),
+            lies_ahead(to),
+            &edges[i],
+            &turned,
+        )?;
         from = to;
     }
     Ok(PartEdges { behind, ahead })

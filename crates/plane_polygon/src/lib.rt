@@ -15,12 +15,13 @@ mod sorting;
 
 pub use boxes::box_polygon;
 pub use classes::Class;
-pub use listing::corners;
 pub use cutting::cut;
-pub use laws::{box_polygons_are_polygons, parts_are_polygons, points_lie_in_the_fan, within_is_left};
-pub use sorting::sort_by;
-
+pub use laws::{
+    box_polygons_are_polygons, parts_are_polygons, points_lie_in_the_fan, within_is_left,
+};
+pub use listing::corners;
 use plane_predicate::Plane;
+pub use sorting::sort_by;
 use std::alloc::Global;
 use std::marker::Model;
 use text_place::NoMemory;

@@ -38,11 +38,7 @@ fn corner_point(plane: &Plane, edges: &[Plane], i: usize) -> Point
     ensures times { IsPointTimes (corner (record { plane = plane.now; edges = edges.now }) i) result }
     ensures reduced { IsReduced result }
 {
-    let found = meeting_of(
-        plane,
-        &edges[i],
-        &edges[next_index(i, edges.len())],
-    );
+    let found = meeting_of(plane, &edges[i], &edges[next_index(i, edges.len())]);
     reduce(&found)
 }
 

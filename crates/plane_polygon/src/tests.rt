@@ -1,5 +1,5 @@
 ghost use Rattle.std.specs.Prelude.{◌≡◌, pos};
-ghost use Rattle.plane_predicate.specs.Space.{value};
+ghost use Rattle.plane_predicate.specs.Space.{point_at, value, IsInReach};
 ghost use Rattle.plane_polygon.specs.Boxes.{ComesInReach};
 
 use crate::{Class, Polygon, box_polygon, corners, cut, sort_by};
@@ -7,18 +7,30 @@ use plane_predicate::{Plane, plane_through};
 use std::alloc::Global;
 use std::process::Abort;
 
-// The plane through three points whose coordinates are at most 4095 in size.
+// The plane through three points, not on one line, whose coordinates are at most 4095 in size.
+fn laid(rt: &impl Abort, p: [i64; 3], q: [i64; 3], r: [i64; 3]) -> Plane
+    requires p_reach { IsInReach (point_at p) }
+    requires q_reach { IsInReach (point_at q) }
+    requires r_reach { IsInReach (point_at r) }
+    ensures { ComesInReach result }
+{
+    plane_through(p, q, r).expect(rt, "not on one line")
+}
+
+// The same, where the sizes are tested when it runs.
 fn through(rt: &impl Abort, points: [[i64; 3]; 3]) -> Plane
     ensures { ComesInReach result }
 {
     let [[a, b, c], [d, e, f], [g, h, i]] = points;
     let is_first = a.unsigned_abs() <= 4095 && b.unsigned_abs() <= 4095 && c.unsigned_abs() <= 4095;
     assert!(rt; is_first);
-    let is_second = d.unsigned_abs() <= 4095 && e.unsigned_abs() <= 4095 && f.unsigned_abs() <= 4095;
+    let is_second = d.unsigned_abs() <= 4095
+        && e.unsigned_abs() <= 4095
+        && f.unsigned_abs() <= 4095;
     assert!(rt; is_second);
     let is_third = g.unsigned_abs() <= 4095 && h.unsigned_abs() <= 4095 && i.unsigned_abs() <= 4095;
     assert!(rt; is_third);
-    plane_through([a, b, c], [d, e, f], [g, h, i]).expect(rt, "not on one line")
+    laid(rt, [a, b, c], [d, e, f], [g, h, i])
 }
 
 // The box polygon of the plane through three points.
@@ -89,11 +101,15 @@ fn box_polygons_have_their_corners(rt: HostRuntime) {
     assert!(rt; has_corners(&rt, alloc, &wall, &upright));
     let hexagon = boxed(&rt, alloc, [[0, 0, 0], [1, -1, 0], [0, 1, -1]]);
     assert!(rt; hexagon.edges().len() == 6);
-    let nook = boxed(&rt, alloc, [[4095, 4095, 4094], [4094, 4095, 4095], [4095, 4094, 4095]]);
+    let nook = boxed(
+        &rt,
+        alloc,
+        [[4095, 4095, 4094], [4094, 4095, 4095], [4095, 4094, 4095]],
+    );
     let triangle = [
-        [4096, 4092, 4096, 1],
-        [4092, 4096, 4096, 1],
         [4096, 4096, 4092, 1],
+        [4092, 4096, 4096, 1],
+        [4096, 4092, 4096, 1],
     ];
     assert!(rt; has_corners(&rt, alloc, &nook, &triangle));
 }

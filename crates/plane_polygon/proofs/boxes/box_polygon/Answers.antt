@@ -1,4 +1,4 @@
-use Rattle.std.proofs.Common.{rules, ◌≡◌, ◌≢◌, ◌↔◌, ℤ, ℕ, pos, w64, to_z, of_z, to_z-of_z, FitsSigned, IfOk, sym, ap, subst, ◌∙◌}
+use Rattle.std.proofs.Common.{rules, ◌≡◌, ◌≢◌, ◌↔◌, ℤ, pos, w64, to_z, of_z, to_z-of_z, FitsSigned, sym, ap, subst, ◌∙◌}
 use Rattle.plane_predicate.specs.Space.{Coefficients, Coordinates, value, IsPlane, IsInClosedWorld}
 use Rattle.plane_polygon.specs.Polygons.{Outline, Covers}
 use Rattle.plane_polygon.specs.Boxes.{box_outline, box_over_x, box_over_y, box_over_z}
@@ -67,4 +67,3 @@ returns-else-plane-ne0-2-clause-points c =
     let h : IsPlane m = subst IsPlane c.plane.view_is c.plane.invariant in
     if_ok c.over_x.result (λ s. s ≡ box_over_x m) (λ s. (p : Coordinates) → Covers s p ↔ ((value m p ≡ pos 0) × IsInClosedWorld p))
     (λ s e. subst (λ (t : Outline). (p : Coordinates) → Covers t p ↔ ((value m p ≡ pos 0) × IsInClosedWorld p)) (sym (e ∙ sym is)) (box_polygon_is m h c.requires).points) c.over_x.ensures
-

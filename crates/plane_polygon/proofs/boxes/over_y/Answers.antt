@@ -1,4 +1,4 @@
-use Rattle.std.proofs.Common.{rules, ◌≡◌, ◌≢◌, pos, w64, to_z-of_z, FitsSigned}
+use Rattle.std.proofs.Common.{rules, ◌≢◌, pos, w64, to_z-of_z, FitsSigned}
 use Rattle.plane_predicate.specs.Space.{Coefficients}
 use Rattle.plane_polygon.proofs.BoxPoints.{start_y}
 use Rattle.plane_polygon.proofs.boxes.over_y.Goals as goal

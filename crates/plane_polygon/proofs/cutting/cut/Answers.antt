@@ -39,4 +39,3 @@ returns-clause-ahead c =
     let e : c.in_ok-parts.parts.ahead.items ≡ (part_ahead s m).edges = rw c.deref.ensures.value at c.in_ok-parts.ensures.ahead in
     rw (← c.polygon.view_is)
     (subst (λ (es : List Coefficients). (p : Coordinates) → Covers (record { plane = s.plane; edges = es }) p ↔ (Covers s p × (pos 0 ≤ℤ value m p))) (sym e) (ahead_points s m c.polygon.invariant across))
-

@@ -1,8 +1,8 @@
-use Rattle.std.proofs.Common.{◌≡◌, ◌<◌, length, ap, ◌∙◌, sym, add-one, ℕ}
+use Rattle.std.proofs.Common.{◌<◌, length, ap, ◌∙◌, sym, add-one, ℕ}
 use Rattle.plane_predicate.specs.Space.{value, opposite_of}
 use Rattle.plane_predicate.specs.Sides.{side_of}
 use Rattle.plane_polygon.specs.Polygons.{Outline, corner}
-use Rattle.plane_polygon.specs.Parts.{is_behind, is_ahead, is_side_behind, is_side_ahead, before}
+use Rattle.plane_polygon.specs.Parts.{is_side_behind, is_side_ahead, before}
 use Rattle.plane_polygon.proofs.CornerSides.{side_behind, side_ahead_opposite}
 use Rattle.plane_polygon.proofs.PartLists.{kept_step}
 use Rattle.plane_polygon.proofs.cutting.part_edges.Goals as goal

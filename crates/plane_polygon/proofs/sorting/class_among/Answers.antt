@@ -1,4 +1,4 @@
-use Rattle.std.proofs.Common.{◌≡◌, ap, ◌∙◌}
+use Rattle.std.proofs.Common.{ap, ◌∙◌}
 use Rattle.plane_predicate.specs.Space.{value}
 use Rattle.plane_polygon.specs.Polygons.{Outline, corner}
 use Rattle.plane_polygon.specs.Parts.{is_behind, is_ahead, is_side_behind, is_side_ahead}
