@@ -32,6 +32,9 @@ mul_comm_ℤ x y = omega (arith, ints)
 pub mul_neg_left : (x y : ℤ) → neg_ℤ x *ℤ y ≡ neg_ℤ (x *ℤ y)
 mul_neg_left x y = omega (arith, ints, ap (λ (n : ℕ). n * up y) (neg_is x).0, ap (λ (n : ℕ). n * down y) (neg_is x).0, ap (λ (n : ℕ). n * up y) (neg_is x).1, ap (λ (n : ℕ). n * down y) (neg_is x).1)
 
+pub mul_neg_right : (x y : ℤ) → x *ℤ neg_ℤ y ≡ neg_ℤ (x *ℤ y)
+mul_neg_right x y = omega (arith, ints, ap (λ (n : ℕ). up x * n) (neg_is y).0, ap (λ (n : ℕ). down x * n) (neg_is y).0, ap (λ (n : ℕ). up x * n) (neg_is y).1, ap (λ (n : ℕ). down x * n) (neg_is y).1)
+
 pub one_mul : (x : ℤ) → pos 1 *ℤ x ≡ x
 one_mul x = omega (arith, ints)
 

@@ -3,3 +3,11 @@ pub mod Polynomials
 pub mod PolynomialSigns
 pub mod Signs
 pub mod Vectors
+pub mod Identities
+pub mod Sizes
+pub mod Opposites
+pub mod Meetings
+pub mod Divisions
+pub mod ThroughPoints
+pub mod Coprime
+pub mod SamePlanes

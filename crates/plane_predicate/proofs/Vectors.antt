@@ -45,3 +45,29 @@ value-at xs m p = refl
 -- the opposite plane has the opposite value
 pub value-opposite : (m : Coefficients) (p : Coordinates) → plane_value (opposite_of m) p ≡ neg_ℤ (plane_value m p)
 value-opposite m p = omega (arith, sums, mul_neg_left m.a p.x, mul_neg_left m.b p.y, mul_neg_left m.c p.z, mul_neg_left m.d p.w)
+
+abbrev pub minorP : Poly → Poly → Poly → Poly → Poly
+minorP a b c d = minus (times a d) (times b c)
+
+abbrev pub determinantP : Poly → Poly → Poly → Poly → Poly → Poly → Poly → Poly → Poly → Poly
+determinantP a b c d e f g h i = plus (plus (times a (minorP e f h i)) (times b (minorP f d i g))) (times c (minorP d e g h))
+
+abbrev pub productP : Form → Place → Place → Poly
+productP n p q = determinantP n.a n.b n.c p.x p.y p.z q.x q.y q.z
+
+abbrev pub turnP : Form → Place → Place → Place → Poly
+turnP n p q r = plus (plus (times p.w (productP n q r)) (times q.w (productP n r p))) (times r.w (productP n p q))
+
+abbrev pub innerP : Form → Form → Poly
+innerP m n = plus (plus (times m.a n.a) (times m.b n.b)) (times m.c n.c)
+
+abbrev pub combineP : Poly → Place → Poly → Place → Place
+combineP u p v q = record { x = plus (times u p.x) (times v q.x); y = plus (times u p.y) (times v q.y); z = plus (times u p.z) (times v q.z); w = plus (times u p.w) (times v q.w) }
+
+abbrev pub cramerP : Form → Form → Form → Place
+cramerP p q r = record {
+  x = determinantP p.d p.b p.c q.d q.b q.c r.d r.b r.c;
+  y = determinantP p.a p.d p.c q.a q.d q.c r.a r.d r.c;
+  z = determinantP p.a p.b p.d q.a q.b q.d r.a r.b r.d;
+  w = determinantP p.a p.b p.c q.a q.b q.c r.a r.b r.c;
+}

@@ -1,7 +1,19 @@
-//! Planes of space in exact whole numbers.
+//! Planes of space and their meetings, in exact whole numbers.
 #![tactic(auto)]
 
+mod arithmetic;
+mod laws;
+mod meeting;
+mod reduction;
+mod sides;
+mod through;
+
+pub use laws::planes_with_the_same_points;
+pub use meeting::{meet, opposite, side};
+pub use reduction::reduce;
+pub use sides::Side;
 use std::marker::Model;
+pub use through::plane_through;
 
 /// The points with `a x + b y + c z = d`, where a point is behind the plane if the left side is
 /// smaller, and ahead of it if the left side is greater.
@@ -27,6 +39,30 @@ impl Model for Plane {
     ghost inverse = { λ v. record { a = v.a; b = v.b; c = v.c; d = v.d } };
 
     ghost invariant = { λ p. IsPlane (record { a = p.a; b = p.b; c = p.c; d = p.d }) };
+}
+
+/// The point `(x / w, y / w, z / w)`, with `w` above 0.
+///
+/// A point keeps the sizes that a meeting of three planes has: at most 1.45 * 10^25 for `w`, and at
+/// most 1.79 * 10^29 for `x`, `y` and `z`.
+#[derive(Clone, Copy, Debug, PartialEq, Eq)]
+pub struct Point {
+    pub x: i128,
+    pub y: i128,
+    pub z: i128,
+    pub w: i128,
+}
+
+impl Model for Point {
+    ghost use Rattle.plane_predicate.specs.Space.{Coordinates, IsPoint};
+
+    ghost Value = { Coordinates };
+
+    ghost view = { λ p. record { x = p.x; y = p.y; z = p.z; w = p.w } };
+
+    ghost inverse = { λ v. record { x = v.x; y = v.y; z = v.z; w = v.w } };
+
+    ghost invariant = { λ p. IsPoint (record { x = p.x; y = p.y; z = p.z; w = p.w }) };
 }
 
 #[cfg(test)]

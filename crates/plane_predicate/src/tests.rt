@@ -1,19 +1,136 @@
-use super::Plane;
+use crate::through::plane_of;
+use crate::{Plane, Point, Side, meet, opposite, plane_through, reduce, side};
+use std::process::Abort;
 
-// A plane can be made: the greatest plane that a face may have, and one with a direction of its own.
+const MOST: i64 = 134_152_200;
+
+const MOST_OFFSET: i64 = 1_648_059_777_000;
+
+// The plane with these numbers, which have no common factor.
+fn plane(rt: &impl Abort, numbers: [i64; 4]) -> Plane {
+    let [a, b, c, d] = numbers;
+    let is_small = a.unsigned_abs() <= 134_152_200
+        && b.unsigned_abs() <= 134_152_200
+        && c.unsigned_abs() <= 134_152_200
+        && d.unsigned_abs() <= 1_648_059_777_000;
+    assert!(rt; is_small);
+    plane_of(a, b, c, d).expect(rt, "a plane has a direction")
+}
+
+// The side of the fourth plane on which the first three meet.
+fn side_of_meeting(rt: &impl Abort, p: &Plane, q: &Plane, r: &Plane, s: &Plane) -> Side {
+    match meet(p, q, r) {
+        None => panic!(rt; "the three planes meet"),
+        Some(_) => side(p, q, r, s),
+    }
+}
+
 #[test]
-fn planes_can_be_made(rt: HostRuntime) {
-    let high = Plane {
-        a: 1,
-        b: 0,
-        c: 0,
-        d: 4095,
-    };
-    let low = Plane {
-        a: -1,
-        b: 0,
-        c: 0,
-        d: 0,
-    };
-    assert_ne!(rt; high, low);
+fn planes_go_through_three_points(rt: HostRuntime) {
+    assert_eq!(rt;
+        plane_through([0, 0, 0], [1, 0, 0], [0, 1, 0]),
+        Some(plane(&rt, [0, 0, 1, 0]))
+    );
+    assert_eq!(rt;
+        plane_through([0, 0, 0], [0, 1, 0], [1, 0, 0]),
+        Some(plane(&rt, [0, 0, -1, 0]))
+    );
+    assert_eq!(rt;
+        plane_through(
+            [-4095, -4095, -4095],
+            [4095, 4095, -4094],
+            [-4094, 4095, 4095]
+        ),
+        Some(plane(&rt, [8190, -8191, 8190, -33_533_955]))
+    );
+    assert_eq!(rt; plane_through([0, 0, 0], [1, 1, 1], [2, 2, 2]), None);
+}
+
+#[test]
+fn planes_meet_in_one_point(rt: HostRuntime) {
+    let x = plane(&rt, [1, 0, 0, 1]);
+    let y = plane(&rt, [0, 1, 0, 2]);
+    let z = plane(&rt, [0, 0, 1, 3]);
+    let found = meet(&x, &y, &z).expect(&rt, "they meet");
+    assert!(rt; found.x == 1 && found.y == 2 && found.z == 3 && found.w == 1);
+    let exchanged = meet(&y, &x, &z).expect(&rt, "they meet");
+    assert_eq!(rt; exchanged, found);
+    let half = meet(
+        &plane(&rt, [1, 1, 0, 1]),
+        &plane(&rt, [1, -1, 0, 0]),
+        &plane(&rt, [0, 0, 1, 0]),
+    )
+    .expect(&rt, "they meet");
+    assert!(rt; half.x == 1 && half.y == 1 && half.z == 0 && half.w == 2);
+    let parallel = meet(
+        &plane(&rt, [1, 0, 0, 0]),
+        &plane(&rt, [1, 0, 0, 1]),
+        &plane(&rt, [0, 0, 1, 0]),
+    );
+    assert_eq!(rt; parallel, None);
+}
+
+#[test]
+fn a_meeting_is_reduced(rt: HostRuntime) {
+    let found = meet(
+        &plane(&rt, [2, 0, 0, 1]),
+        &plane(&rt, [0, 2, 0, -3]),
+        &plane(&rt, [0, 0, 2, 5]),
+    )
+    .expect(&rt, "they meet");
+    assert!(rt; found.x == 4 && found.y == -12 && found.z == 20 && found.w == 8);
+    let least: Point = reduce(&found);
+    assert!(rt; least.x == 1 && least.y == -3 && least.z == 5 && least.w == 2);
+}
+
+#[test]
+fn a_meeting_lies_on_a_side(rt: HostRuntime) {
+    let x = plane(&rt, [1, 0, 0, 1]);
+    let y = plane(&rt, [0, 1, 0, 2]);
+    let z = plane(&rt, [0, 0, 1, 3]);
+    let rows = [
+        ([1, 1, 1, 6], Side::On),
+        ([1, 1, 1, 7], Side::Behind),
+        ([1, 1, 1, 5], Side::Ahead),
+        ([-1, -1, -1, -5], Side::Behind),
+    ];
+    for (numbers, wanted) in rows {
+        let by = plane(&rt, numbers);
+        assert_eq!(rt; side_of_meeting(&rt, &x, &y, &z, &by), wanted);
+        assert_eq!(rt; side_of_meeting(&rt, &y, &x, &z, &by), wanted);
+    }
+}
+
+// Planes whose numbers are as great as they may be, with all signs of the last one. The sides were
+// computed with whole numbers of any size.
+#[test]
+fn sums_are_exact_at_their_limits(rt: HostRuntime) {
+    let first = plane(&rt, [MOST, MOST - 1, MOST, MOST_OFFSET]);
+    let second = plane(&rt, [-MOST, MOST, MOST - 1, MOST_OFFSET]);
+    let third = plane(&rt, [MOST - 1, -MOST, MOST, -MOST_OFFSET]);
+    let turned = opposite(&first);
+    let rows = [
+        ([MOST, MOST - 1, MOST, MOST_OFFSET], Side::On),
+        ([MOST, MOST - 1, MOST, -MOST_OFFSET], Side::Ahead),
+        ([MOST, MOST - 1, -MOST, MOST_OFFSET], Side::Behind),
+        ([MOST, MOST - 1, -MOST, -MOST_OFFSET], Side::Ahead),
+        ([MOST, 1 - MOST, MOST, MOST_OFFSET], Side::Behind),
+        ([MOST, 1 - MOST, MOST, -MOST_OFFSET], Side::Ahead),
+        ([MOST, 1 - MOST, -MOST, MOST_OFFSET], Side::Behind),
+        ([MOST, 1 - MOST, -MOST, -MOST_OFFSET], Side::Ahead),
+        ([-MOST, MOST - 1, MOST, MOST_OFFSET], Side::Behind),
+        ([-MOST, MOST - 1, MOST, -MOST_OFFSET], Side::Ahead),
+        ([-MOST, MOST - 1, -MOST, MOST_OFFSET], Side::Behind),
+        ([-MOST, MOST - 1, -MOST, -MOST_OFFSET], Side::Ahead),
+        ([-MOST, 1 - MOST, MOST, MOST_OFFSET], Side::Behind),
+        ([-MOST, 1 - MOST, MOST, -MOST_OFFSET], Side::Ahead),
+        ([-MOST, 1 - MOST, -MOST, MOST_OFFSET], Side::Behind),
+        ([-MOST, 1 - MOST, -MOST, -MOST_OFFSET], Side::On),
+    ];
+    for (numbers, wanted) in rows {
+        let by = plane(&rt, numbers);
+        assert_eq!(rt; side_of_meeting(&rt, &first, &second, &third, &by), wanted);
+        assert_eq!(rt; side_of_meeting(&rt, &turned, &second, &third, &by), wanted);
+        assert_eq!(rt; side_of_meeting(&rt, &second, &third, &turned, &by), wanted);
+    }
 }

@@ -1,0 +1,11 @@
+use Rattle.std.proofs.Common.{rules, ◌≢◌, pos, w64, to_z-of_z, FitsSigned}
+use Rattle.plane_predicate.specs.Space.{Coefficients}
+use Rattle.plane_polygon.proofs.BoxPoints.{start_z}
+use Rattle.plane_polygon.proofs.boxes.over_z.Goals as goal
+
+pub four_edges-requires : goal.four_edges-requires
+four_edges-requires c =
+    let n : Coefficients = record { a = c.plane.inside.a; b = c.plane.inside.b; c = c.plane.inside.c; d = c.plane.inside.d } in
+    let fits : FitsSigned w64 c.plane.inside.c = search rules in
+    let some : n.c ≢ pos 0 = rw (← c.plane.view_is) at c.requires in
+    rw (c.low_x.ensures, c.low_y.ensures, c.high_x.ensures, c.high_y.ensures, ← c.plane.view_is) (simp to_z-of_z (start_z n some))

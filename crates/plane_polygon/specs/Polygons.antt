@@ -1,0 +1,77 @@
+-- Convex polygons of space, as planes bounded by planes (Bernstein and Fussell).
+use Rattle.std.specs.Prelude.{◌≡◌, ◌≢◌, ℕ, suc, ◌≤◌, ◌<◌, cond, eqb, List, [], ◌∷◌, length, get_or, ℤ, pos, ◌+ℤ◌, ◌*ℤ◌, ◌<ℤ◌, ◌≤ℤ◌}
+use Rattle.plane_predicate.specs.Space.{Coefficients, Coordinates, value, cramer, turn, IsPointTimes, IsReduced}
+
+-- a plane with a cyclic list of edge planes, counterclockwise seen from ahead of it
+pub record Outline : Type 0 where
+  pub plane : Coefficients
+  pub edges : List Coefficients
+
+-- the index that follows i round a list of length k
+abbrev pub after : ℕ → ℕ → ℕ
+after k i = cond (eqb (suc i) k) 0 (suc i)
+
+-- the plane without a direction, past the end of a list
+abbrev pub nowhere : Coefficients
+nowhere = record { a = pos 0; b = pos 0; c = pos 0; d = pos 0 }
+
+-- edge i goes from corner i - 1 to corner i
+abbrev pub edge : Outline → ℕ → Coefficients
+edge s i = get_or s.edges i nowhere
+
+-- how many edges there are
+abbrev pub sides : Outline → ℕ
+sides s = length s.edges
+
+-- corner i is the meeting of the plane with edge i, which ends there, and the next edge, which begins there. Its w comes
+-- as Cramer's rule gives it: above 0 exactly where the corner exists and the next edge turns left, seen from ahead
+abbrev pub corner : Outline → ℕ → Coordinates
+corner s i = cramer s.plane (edge s i) (edge s (after (sides s) i))
+
+-- at least three edges; each corner exists, the corners go counterclockwise seen from ahead, and each is strictly behind
+-- every edge other than its own two
+pub record IsPolygon (s : Outline) : Type 0 where
+  pub three : 3 ≤ sides s
+  pub turns_left : (i : ℕ) → i < sides s → pos 0 <ℤ (corner s i).w
+  pub behind : (i j : ℕ) → i < sides s → j < sides s → j ≢ i → j ≢ after (sides s) i → value (edge s j) (corner s i) <ℤ pos 0
+
+-- the points of a polygon: on its plane, and not ahead of any edge
+pub record Covers (s : Outline) (p : Coordinates) : Type 0 where
+  pub weight : pos 0 <ℤ p.w
+  pub on : value s.plane p ≡ pos 0
+  pub within : (j : ℕ) → j < sides s → value (edge s j) p ≤ℤ pos 0
+
+-- p is a combination of a, b and c with weights of at least 0
+pub record IsBetween (a b c p : Coordinates) : Type 0 where
+  pub u : ℤ
+  pub v : ℤ
+  pub t : ℤ
+  pub k : ℤ
+  pub whole : pos 0 <ℤ k
+  pub first : pos 0 ≤ℤ u
+  pub second : pos 0 ≤ℤ v
+  pub third : pos 0 ≤ℤ t
+  pub sum : (m : Coefficients) → k *ℤ value m p ≡ u *ℤ value m a +ℤ v *ℤ value m b +ℤ t *ℤ value m c
+
+-- p is between corner 0 and two neighbouring corners: a triangle of the fan from corner 0
+pub record IsInFan (s : Outline) (p : Coordinates) : Type 0 where
+  pub from : ℕ
+  pub inside : suc from < sides s
+  pub between : IsBetween (corner s 0) (corner s from) (corner s (suc from)) p
+
+-- p is on the plane and strictly behind every edge
+pub record IsStrictlyWithin (s : Outline) (p : Coordinates) : Type 0 where
+  pub on : value s.plane p ≡ pos 0
+  pub behind : (j : ℕ) → j < sides s → value (edge s j) p <ℤ pos 0
+
+-- p is on the plane and strictly left of each way from a corner to the next, seen from ahead
+pub record IsStrictlyLeft (s : Outline) (p : Coordinates) : Type 0 where
+  pub on : value s.plane p ≡ pos 0
+  pub left : (i : ℕ) → i < sides s → pos 0 <ℤ turn s.plane (corner s i) (corner s (after (sides s) i)) p
+
+-- the second points are the first ones, in order, each without a common factor
+abbrev pub AreReducedFrom : List Coordinates → List Coordinates → Type 0
+AreReducedFrom [] [] = Unit {0}
+AreReducedFrom (p ∷ ps) (q ∷ qs) = IsPointTimes p q × IsReduced q × AreReducedFrom ps qs
+AreReducedFrom [] (q ∷ qs) = ⊥
+AreReducedFrom (p ∷ ps) [] = ⊥

@@ -1,0 +1,52 @@
+//! The corners of a polygon.
+
+ghost use Rattle.std.specs.Prelude.{◌≡◌, ◌<◌, ◌<ℤ◌, pos, length, IfOk};
+ghost use Rattle.plane_predicate.specs.Space.{cramer, IsPointTimes, IsReduced};
+ghost use Rattle.plane_polygon.specs.Polygons.{corner, AreReducedFrom, IsPolygon};
+ghost use Rattle.plane_polygon.specs.Parts.{corners};
+
+use crate::Polygon;
+use crate::sides::next_index;
+use plane_predicate::{Plane, Point, meet, reduce};
+use std::alloc::{AllocError, Global};
+use text_place::NoMemory;
+
+/// The corners, reduced, counterclockwise seen from ahead. Corner i is where edge i ends and edge
+/// i + 1 begins.
+pub fn corners(alloc: Global, polygon: &Polygon) -> Result<Vec<Point>, NoMemory>
+    ensures { IfOk result (λ v. AreReducedFrom (corners polygon.now) v.items) }
+{
+    Ok(corners_of(alloc, &polygon.plane, &polygon.edges)?)
+}
+
+/// The same, of a plane and edges that meet what a polygon keeps.
+fn corners_of(alloc: Global, plane: &Plane, edges: &[Plane]) -> Result<Vec<Point>, AllocError>
+    requires { IsPolygon (record { plane = plane.now; edges = edges.now }) }
+    ensures { IfOk result (λ v. AreReducedFrom (corners (record { plane = plane.now; edges = edges.now })) v.items) }
+{
+    let mut found = Vec::new(alloc);
+    for i in 0..edges.len() {
+        found.push(corner_point(plane, edges, i))?;
+    }
+    Ok(found)
+}
+
+/// Corner `i`, reduced.
+fn corner_point(plane: &Plane, edges: &[Plane], i: usize) -> Point
+    requires index { i < length edges.now }
+    requires polygon { IsPolygon (record { plane = plane.now; edges = edges.now }) }
+    ensures times { IsPointTimes (corner (record { plane = plane.now; edges = edges.now }) i) result }
+    ensures reduced { IsReduced result }
+{
+    let found = meeting_of(plane, &edges[i], &edges[next_index(i, edges.len())]);
+    reduce(&found)
+}
+
+/// The meeting of three planes whose determinant is positive.
+#[tactic(auto, using(crate::proofs::CornerSides::positive_meeting, crate::proofs::CornerSides::positive_apart))]
+fn meeting_of(p: &Plane, q: &Plane, r: &Plane) -> Point
+    requires { pos 0 <ℤ (cramer p.now q.now r.now).w }
+    ensures { result ≡ cramer p.now q.now r.now }
+{
+    meet(p, q, r).unwrap()
+}

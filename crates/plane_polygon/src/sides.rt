@@ -1,0 +1,69 @@
+//! On which side of a plane the corners of a polygon lie.
+
+ghost use Rattle.std.specs.Prelude.{◌≡◌, ◌-◌, ◌<◌, ◌<ℤ◌, pos, length};
+ghost use Rattle.plane_predicate.specs.Space.{value, cramer};
+ghost use Rattle.plane_predicate.specs.Sides.{side_of};
+ghost use Rattle.plane_polygon.specs.Polygons.{after, corner, IsPolygon};
+ghost use Rattle.plane_polygon.specs.Parts.{is_side_behind, is_side_ahead};
+
+use plane_predicate::{Plane, Side, side};
+
+/// The index after `i` round a list of `count` items.
+pub fn next_index(i: usize, count: usize) -> usize
+    requires { i < count }
+    ensures { result ≡ after count i }
+{
+    if i + 1 == count { 0 } else { i + 1 }
+}
+
+/// The side of `m` on which a meeting with a positive determinant lies.
+#[tactic(auto, using(crate::proofs::CornerSides::positive_meeting, crate::proofs::CornerSides::positive_apart))]
+pub fn side_at(p: &Plane, q: &Plane, r: &Plane, m: &Plane) -> Side
+    requires { pos 0 <ℤ (cramer p.now q.now r.now).w }
+    ensures { result ≡ side_of (value m.now (cramer p.now q.now r.now)) }
+{
+    side(p, q, r, m)
+}
+
+/// The side of `m` on which corner `i` lies.
+pub fn corner_side(plane: &Plane, edges: &[Plane], i: usize, m: &Plane) -> Side
+    requires index { i < length edges.now }
+    requires polygon { IsPolygon (record { plane = plane.now; edges = edges.now }) }
+    ensures { result ≡ side_of (value m.now (corner (record { plane = plane.now; edges = edges.now }) i)) }
+{
+    side_at(plane, &edges[i], &edges[next_index(i, edges.len())], m)
+}
+
+/// The same, where the last corner's side is known.
+pub fn next_side(plane: &Plane, edges: &[Plane], i: usize, m: &Plane, last: Side) -> Side
+    requires index { i < length edges.now }
+    requires polygon { IsPolygon (record { plane = plane.now; edges = edges.now }) }
+    requires last { last ≡ side_of (value m.now (corner (record { plane = plane.now; edges = edges.now }) (length edges.now - 1))) }
+    ensures { result ≡ side_of (value m.now (corner (record { plane = plane.now; edges = edges.now }) i)) }
+{
+    if i + 1 == edges.len() {
+        last
+    } else {
+        corner_side(plane, edges, i, m)
+    }
+}
+
+/// Whether a side is the one behind.
+pub fn lies_behind(side: Side) -> bool
+    ensures { result ≡ is_side_behind side }
+{
+    match side {
+        Side::Behind => true,
+        Side::On | Side::Ahead => false,
+    }
+}
+
+/// Whether a side is the one ahead.
+pub fn lies_ahead(side: Side) -> bool
+    ensures { result ≡ is_side_ahead side }
+{
+    match side {
+        Side::Behind | Side::On => false,
+        Side::Ahead => true,
+    }
+}

@@ -1,0 +1,143 @@
+ghost use Rattle.std.specs.Prelude.{◌≡◌, pos};
+ghost use Rattle.plane_predicate.specs.Space.{point_at, value, IsInReach};
+ghost use Rattle.plane_polygon.specs.Boxes.{ComesInReach};
+
+use crate::{Class, Polygon, box_polygon, corners, cut, sort_by};
+use plane_predicate::{Plane, plane_through};
+use std::alloc::Global;
+use std::process::Abort;
+
+// The plane through three points, not on one line, whose coordinates are at most 4095 in size.
+fn laid(rt: &impl Abort, p: [i64; 3], q: [i64; 3], r: [i64; 3]) -> Plane
+    requires p_reach { IsInReach (point_at p) }
+    requires q_reach { IsInReach (point_at q) }
+    requires r_reach { IsInReach (point_at r) }
+    ensures { ComesInReach result }
+{
+    plane_through(p, q, r).expect(rt, "not on one line")
+}
+
+// The same, where the sizes are tested when it runs.
+fn through(rt: &impl Abort, points: [[i64; 3]; 3]) -> Plane
+    ensures { ComesInReach result }
+{
+    let [[a, b, c], [d, e, f], [g, h, i]] = points;
+    let is_first = a.unsigned_abs() <= 4095 && b.unsigned_abs() <= 4095 && c.unsigned_abs() <= 4095;
+    assert!(rt; is_first);
+    let is_second = d.unsigned_abs() <= 4095
+        && e.unsigned_abs() <= 4095
+        && f.unsigned_abs() <= 4095;
+    assert!(rt; is_second);
+    let is_third = g.unsigned_abs() <= 4095 && h.unsigned_abs() <= 4095 && i.unsigned_abs() <= 4095;
+    assert!(rt; is_third);
+    laid(rt, [a, b, c], [d, e, f], [g, h, i])
+}
+
+// The box polygon of the plane through three points.
+fn boxed(rt: &impl Abort, alloc: Global, points: [[i64; 3]; 3]) -> Polygon {
+    let plane = through(rt, points);
+    box_polygon(alloc, &plane).expect(rt, "memory")
+}
+
+// The two parts of a polygon that the plane is across.
+fn parts(rt: &impl Abort, alloc: Global, polygon: &Polygon, plane: &Plane) -> (Polygon, Polygon) {
+    match sort_by(polygon, plane) {
+        Class::Across => cut(alloc, polygon, plane).expect(rt, "memory"),
+        Class::Behind | Class::Ahead | Class::On => panic!(rt; "the plane is across"),
+    }
+}
+
+// The corners are these, in this order.
+fn has_corners(rt: &impl Abort, alloc: Global, polygon: &Polygon, wanted: &[[i128; 4]]) -> bool {
+    let found = corners(alloc, polygon).expect(rt, "memory");
+    if found.len() != wanted.len() {
+        return false;
+    }
+    for (point, numbers) in found.iter().zip(wanted) {
+        let [x, y, z, w] = *numbers;
+        if point.x != x || point.y != y || point.z != z || point.w != w {
+            return false;
+        }
+    }
+    true
+}
+
+const GROUND: [[i64; 3]; 3] = [[0, 0, 0], [1, 0, 0], [0, 1, 0]];
+
+#[test]
+fn a_box_polygon_lies_against_planes(rt: HostRuntime) {
+    let ground = boxed(&rt, rt.alloc(), GROUND);
+    let rows = [
+        ([[4095, 0, 0], [4095, 1, 0], [4095, 0, 1]], Class::Across),
+        ([[0, 0, 1], [1, 0, 1], [0, 1, 1]], Class::Behind),
+        ([[0, 0, -1], [1, 0, -1], [0, 1, -1]], Class::Ahead),
+        (GROUND, Class::On),
+    ];
+    for (points, wanted) in rows {
+        let plane = through(&rt, points);
+        assert_eq!(rt; sort_by(&ground, &plane), wanted);
+    }
+    assert!(rt; ground.plane().c == 1 && ground.edges().len() == 4);
+}
+
+#[test]
+fn box_polygons_have_their_corners(rt: HostRuntime) {
+    let alloc = rt.alloc();
+    let ground = boxed(&rt, alloc, GROUND);
+    let square = [
+        [-4096, -4096, 0, 1],
+        [4096, -4096, 0, 1],
+        [4096, 4096, 0, 1],
+        [-4096, 4096, 0, 1],
+    ];
+    assert!(rt; has_corners(&rt, alloc, &ground, &square));
+    let wall = boxed(&rt, alloc, [[0, 0, 0], [0, 0, 1], [1, 0, 0]]);
+    let upright = [
+        [-4096, 0, 4096, 1],
+        [4096, 0, 4096, 1],
+        [4096, 0, -4096, 1],
+        [-4096, 0, -4096, 1],
+    ];
+    assert!(rt; has_corners(&rt, alloc, &wall, &upright));
+    let hexagon = boxed(&rt, alloc, [[0, 0, 0], [1, -1, 0], [0, 1, -1]]);
+    assert!(rt; hexagon.edges().len() == 6);
+    let nook = boxed(
+        &rt,
+        alloc,
+        [[4095, 4095, 4094], [4094, 4095, 4095], [4095, 4094, 4095]],
+    );
+    let triangle = [
+        [4096, 4096, 4092, 1],
+        [4092, 4096, 4096, 1],
+        [4096, 4092, 4096, 1],
+    ];
+    assert!(rt; has_corners(&rt, alloc, &nook, &triangle));
+}
+
+// By a diagonal, by a plane through one corner, and not by one that touches a corner.
+#[test]
+fn a_square_is_cut_at_its_corners(rt: HostRuntime) {
+    let alloc = rt.alloc();
+    let ground = boxed(&rt, alloc, GROUND);
+    let diagonal = through(&rt, [[0, 0, 0], [0, 0, 1], [-1, -1, 0]]);
+    let (above, below) = parts(&rt, alloc, &ground, &diagonal);
+    let upper = [
+        [-4096, -4096, 0, 1],
+        [4096, 4096, 0, 1],
+        [-4096, 4096, 0, 1],
+    ];
+    assert!(rt; has_corners(&rt, alloc, &above, &upper));
+    let lower = [
+        [4096, -4096, 0, 1],
+        [4096, 4096, 0, 1],
+        [-4096, -4096, 0, 1],
+    ];
+    assert!(rt; has_corners(&rt, alloc, &below, &lower));
+    let steep = through(&rt, [[2048, 0, 0], [2048, 0, 1], [2047, -2, 0]]);
+    let (left, right) = parts(&rt, alloc, &ground, &steep);
+    assert!(rt; left.edges().len() == 4 && right.edges().len() == 3);
+    let middle = through(&rt, [[0, 0, 0], [0, 1, 0], [0, 0, 1]]);
+    let (half, _other) = parts(&rt, alloc, &ground, &middle);
+    let touching = through(&rt, [[2048, 2048, 0], [2048, 2048, 1], [2049, 2047, 0]]);
+    assert_eq!(rt; sort_by(&half, &touching), Class::Behind);
+}

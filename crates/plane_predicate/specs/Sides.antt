@@ -1,0 +1,15 @@
+-- The sides of a plane.
+use Rattle.std.specs.Prelude.{ℤ, pos, negsuc, zero, suc, neg_ℤ}
+use Rattle.plane_predicate.specs.declared.sides.Side.{Side}
+use Rattle.plane_predicate.specs.declared.sides.Side.TheVariants.{Behind, On, Ahead}
+
+-- the side of a point by the value of the plane at it
+abbrev pub side_of : ℤ → Side
+side_of (pos zero) = On
+side_of (pos (suc n)) = Ahead
+side_of (negsuc n) = Behind
+
+-- a value with its sign changed where w is below 0
+abbrev pub turned_by : ℤ → ℤ → ℤ
+turned_by (pos n) v = v
+turned_by (negsuc n) v = neg_ℤ v

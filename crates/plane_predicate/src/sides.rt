@@ -1,0 +1,9 @@
+//! The sides of a plane.
+
+/// Where a point lies as a plane sees it.
+#[derive(Clone, Copy, Debug, PartialEq, Eq)]
+pub enum Side {
+    Behind,
+    On,
+    Ahead,
+}
