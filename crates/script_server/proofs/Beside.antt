@@ -7,6 +7,7 @@ use Rattle.std.proofs.lemmas.Bool.{and_parts, and_from, cond-true, cond-false, f
 use Rattle.std.proofs.lemmas.List.Folds.{list_all_at}
 use Rattle.std.proofs.lemmas.Bool.Decides.{Decides-int_eq}
 use Rattle.plane_predicate.specs.Space.{Coefficients, Coordinates, value, opposite_of}
+use Rattle.plane_predicate.proofs.Opposites.{same_plane}
 use Rattle.script_server.specs.Meaning.Formulas.{is_same, is_behind, just_behind, just_ahead}
 
 pub behind_from_test : (m : Coefficients) (p : Coordinates) → is_behind m p ≡ true → value m p <ℤ pos 0
@@ -15,15 +16,12 @@ behind_from_test m p e = grind (arith, ints, e)
 pub test_from_behind : (m : Coefficients) (p : Coordinates) → value m p <ℤ pos 0 → is_behind m p ≡ true
 test_from_behind m p h = grind (arith, ints, h)
 
-four_numbers : (a b c d a' b' c' d' : ℤ) → a ≡ a' → b ≡ b' → c ≡ c' → d ≡ d' → (let plane : ℤ → ℤ → ℤ → ℤ → Coefficients = λ s t u v. record { a = s; b = t; c = u; d = v } in plane a b c d ≡ plane a' b' c' d')
-four_numbers a b c d a' b' c' d' ha hb hc hd = rw (ha, hb, hc, hd) refl
-
 same_from_test : (m n : Coefficients) → is_same m n ≡ true → m ≡ n
 same_from_test m n e =
     let last = and_parts (int_eq m.a n.a && int_eq m.b n.b && int_eq m.c n.c) (int_eq m.d n.d) e in
     let third = and_parts (int_eq m.a n.a && int_eq m.b n.b) (int_eq m.c n.c) last.0 in
     let first = and_parts (int_eq m.a n.a) (int_eq m.b n.b) third.0 in
-    four_numbers m.a m.b m.c m.d n.a n.b n.c n.d ((Decides-int_eq m.a n.a).0 first.0) ((Decides-int_eq m.b n.b).0 first.1) ((Decides-int_eq m.c n.c).0 third.1) ((Decides-int_eq m.d n.d).0 last.1)
+    same_plane m.a m.b m.c m.d n.a n.b n.c n.d ((Decides-int_eq m.a n.a).0 first.0) ((Decides-int_eq m.b n.b).0 first.1) ((Decides-int_eq m.c n.c).0 third.1) ((Decides-int_eq m.d n.d).0 last.1)
 
 test_itself : (m : Coefficients) → is_same m m ≡ true
 test_itself m =

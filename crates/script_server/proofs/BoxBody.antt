@@ -2,16 +2,16 @@
 use Rattle.std.proofs.Common.{◌≡◌, ◌≢◌, inl, inr, ⊎_elim, ℕ, zero, suc, ◌<◌, ◌≤◌, Bool, true, false, not, ◌&&◌, ◌||◌, eqb, ltb, List, [], ◌∷◌, map, length, get_or, refl, sym, ◌∙◌, subst, arith, ℤ, pos, negsuc, ◌+ℤ◌, ◌-ℤ◌, ◌*ℤ◌, ◌<ℤ◌}
 use Rattle.std.proofs.lemmas.Bool.{and_parts, or_cases, eqb-true, eqb-false, ltb-true, not-true, cases_eq}
 use Rattle.std.proofs.Math.ListN.{get_or-map}
-use Rattle.plane_predicate.specs.Space.{Coefficients, Coordinates, value}
+use Rattle.plane_predicate.specs.Space.{Coefficients, Coordinates, value, turn}
 use Rattle.plane_predicate.proofs.IntegerRing.{sums}
 use Rattle.plane_predicate.proofs.Polynomials.{Poly, var, num, plus, minus, times, at, value as poly_value, expand}
 use Rattle.plane_predicate.proofs.PolynomialSigns.{is_zero, is_above, AreAbove, zero_by_form, above_by_form}
 use Rattle.plane_predicate.proofs.Signs.{pos_pos, pos_neg, neg_cancel}
-use Rattle.plane_predicate.proofs.Vectors.{Form, Place, place, of_point, plane_of, point_of, valueP}
-use Rattle.script_server.specs.Meaning.Boundaries.{turn, after, corner}
+use Rattle.plane_predicate.proofs.Vectors.{Form, Place, place, of_point, plane_of, point_of, valueP, turnP}
+use Rattle.script_server.specs.Meaning.Boundaries.{after, corner}
 use Rattle.script_server.specs.declared.meaning.Sides.{Sides}
 use Rattle.script_server.specs.Meaning.Boxes.{IsBox, box_planes, box_vertices, box_faces}
-use Rattle.script_server.proofs.Turns.{turnP}
+use Rattle.script_server.proofs.Turns.{turn-at}
 use Rattle.script_server.proofs.Convex.{nowhere, IsConvexBody}
 
 -- variables 0 to 2 are the sides, and 3 to 6 a point

@@ -3,11 +3,12 @@ use Rattle.std.proofs.Common.{◌≡◌, ◌≢◌, inl, inr, ⊎_elim, ℕ, ◌
 use Rattle.std.specs.Prelude.{SomeIndex}
 use Rattle.std.proofs.lemmas.List.{get_or_default}
 use Rattle.std.proofs.lemmas.Bool.{and_parts, and_from, not_from_false, false_from_ne_true, both_ways, cases_eq, cases_cond}
-use Rattle.plane_predicate.specs.Space.{Coefficients, Coordinates, value, opposite_of}
+use Rattle.plane_predicate.specs.Space.{Coefficients, Coordinates, value, opposite_of, turn}
 use Rattle.plane_predicate.proofs.IntegerRing.{sums}
+use Rattle.plane_predicate.proofs.Opposites.{same_plane}
 use Rattle.plane_predicate.proofs.Vectors.{value-opposite}
 use Rattle.script_server.specs.Meaning.Formulas.{leaf, holds, IsOnOneFacePlane, just_behind, just_ahead, bounds}
-use Rattle.script_server.specs.Meaning.Boundaries.{turn, after, corner, Faces, Covers, ExactlyOne, NoneHas, OneExactlyWhere}
+use Rattle.script_server.specs.Meaning.Boundaries.{after, corner, Faces, Covers, ExactlyOne, NoneHas, OneExactlyWhere}
 use Rattle.script_server.proofs.Turns.{turn-opposite}
 use Rattle.script_server.proofs.Beside.{behind_from_test, test_from_behind, just_behind-itself, just_behind-opposite, just_behind-other, just_ahead-itself, list_all-at, list_all-from}
 
@@ -45,11 +46,8 @@ not_left_of_both n p q r = both_above (turn n p q r) (turn (opposite_of n) p q r
 twice_negative : (x : ℤ) → neg_ℤ (neg_ℤ x) ≡ x
 twice_negative x = omega (arith, sums)
 
-four_negatives : (a b c d a' b' c' d' : ℤ) → a ≡ a' → b ≡ b' → c ≡ c' → d ≡ d' → (let plane : ℤ → ℤ → ℤ → ℤ → Coefficients = λ s t u v. record { a = s; b = t; c = u; d = v } in plane a b c d ≡ plane a' b' c' d')
-four_negatives a b c d a' b' c' d' ha hb hc hd = rw (ha, hb, hc, hd) refl
-
 pub opposite-opposite : (n : Coefficients) → opposite_of (opposite_of n) ≡ n
-opposite-opposite n = four_negatives _ _ _ _ n.a n.b n.c n.d (twice_negative n.a) (twice_negative n.b) (twice_negative n.c) (twice_negative n.d)
+opposite-opposite n = same_plane _ _ _ _ n.a n.b n.c n.d (twice_negative n.a) (twice_negative n.b) (twice_negative n.c) (twice_negative n.d)
 
 one_where : (b : Bool) (P : List ℕ → Type 0) (faces : List (List ℕ)) → (b ≡ true → ExactlyOne P faces) → (b ≡ false → NoneHas P faces) → OneExactlyWhere b P faces
 one_where true P faces h g = h refl

@@ -20,11 +20,5 @@ line_count-numeral =
     (λ n small. line_count-digit n)
     (λ n ds large none. line_count-append ds ((48 + n % 10) ∷ []) ∙ omega (arith, none, line_count-digit (n % 10)))
 
-line_count-corner : (x y z : ℕ) → line_count (vertex_line (point x y z)) ≡ 1
-line_count-corner x y z = simp (line_count-append, line_count-numeral)
-
-line_count-face : (a b c d : ℕ) → line_count (face_line (a ∷ b ∷ c ∷ d ∷ [])) ≡ 1
-line_count-face a b c d = simp (line_count-append, line_count-numeral)
-
 pub line_count-box_text : (s : Sides) → line_count (box_text s) ≡ 16
-line_count-box_text s = simp (line_count-append, line_count-numeral, line_count-corner, line_count-face)
+line_count-box_text s = simp (line_count-append, line_count-numeral)

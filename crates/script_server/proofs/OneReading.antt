@@ -4,6 +4,7 @@ use Rattle.std.proofs.lemmas.List.{append_cancel_left}
 use Rattle.text_place.specs.Decimals.{numeral, signed_numeral, begins_with_digit}
 use Rattle.text_place.proofs.Numerals.{one_numeral, numeral_byte, numeral_nonempty}
 use Rattle.plane_predicate.specs.Space.{Coordinates}
+use Rattle.plane_predicate.proofs.Opposites.{same_point}
 use Rattle.script_server.specs.Meaning.OffTexts.{vertex_line, face_line, off_text}
 
 digits_are_no_sign : (ds x y : List ℕ) → 0 < length ds → 48 ≤ get_or ds 0 0 → ds ++ x ≡ 45 ∷ y → ⊥
@@ -28,9 +29,6 @@ one_signed (negsuc m) (negsuc n) x y end_x end_y e =
 vertex_line-before : (p : Coordinates) (rest : List ℕ) → vertex_line p ++ rest ≡ signed_numeral p.x ++ 32 ∷ (signed_numeral p.y ++ 32 ∷ (signed_numeral p.z ++ 32 ∷ (signed_numeral p.w ++ 10 ∷ rest)))
 vertex_line-before p rest = simp append_assoc
 
-four_numbers : (x y z w x' y' z' w' : ℤ) → x ≡ x' → y ≡ y' → z ≡ z' → w ≡ w' → (let point : ℤ → ℤ → ℤ → ℤ → Coordinates = λ a b c d. record { x = a; y = b; z = c; w = d } in point x y z w ≡ point x' y' z' w')
-four_numbers x y z w x' y' z' w' hx hy hz hw = rw (hx, hy, hz, hw) refl
-
 one_vertex : (p q : Coordinates) (x y : List ℕ) → vertex_line p ++ x ≡ vertex_line q ++ y → (p ≡ q) × (x ≡ y)
 one_vertex p q x y e =
     let first = one_signed p.x q.x _ _ refl refl (sym (vertex_line-before p x) ∙ e ∙ vertex_line-before q y) in
@@ -40,7 +38,7 @@ one_vertex p q x y e =
     let third = one_signed p.z q.z _ _ refl refl after_y in
     let after_z : signed_numeral p.w ++ 10 ∷ x ≡ signed_numeral q.w ++ 10 ∷ y = append_cancel_left (32 ∷ []) _ _ third.1 in
     let last = one_signed p.w q.w (10 ∷ x) (10 ∷ y) refl refl after_z in
-    (four_numbers p.x p.y p.z p.w q.x q.y q.z q.w first.0 second.0 third.0 last.0, append_cancel_left (10 ∷ []) x y last.1)
+    (same_point p.x p.y p.z p.w q.x q.y q.z q.w first.0 second.0 third.0 last.0, append_cancel_left (10 ∷ []) x y last.1)
 
 -- lists of as many items are read one by one, where each item is
 one_by_one : {A : Type 0} (line : A → List ℕ) → ((p q : A) (x y : List ℕ) → line p ++ x ≡ line q ++ y → (p ≡ q) × (x ≡ y)) →

@@ -1,20 +1,9 @@
 -- Turns of points whose numbers are polynomials, and about opposite planes.
 use Rattle.std.proofs.Common.{◌≡◌, List, refl, ap, ◌∙◌, ℤ, ◌+ℤ◌, ◌-ℤ◌, ◌*ℤ◌, neg_ℤ, arith}
-use Rattle.plane_predicate.specs.Space.{Coefficients, Coordinates, opposite_of}
+use Rattle.plane_predicate.specs.Space.{Coefficients, Coordinates, opposite_of, product_with, turn}
 use Rattle.plane_predicate.proofs.IntegerRing.{sums, mul_neg_left, mul_comm_ℤ}
-use Rattle.plane_predicate.proofs.Polynomials.{Poly, plus, times, minus, value}
-use Rattle.plane_predicate.proofs.Vectors.{Form, Place, plane_of, point_of}
-use Rattle.script_server.specs.Meaning.Boundaries.{product_with, turn}
-
-abbrev productP : Form → Place → Place → Poly
-productP n p q =
-    plus (plus
-    (times n.a (minus (times p.y q.z) (times p.z q.y)))
-    (times n.b (minus (times p.z q.x) (times p.x q.z))))
-    (times n.c (minus (times p.x q.y) (times p.y q.x)))
-
-abbrev pub turnP : Form → Place → Place → Place → Poly
-turnP n p q r = plus (plus (times p.w (productP n q r)) (times q.w (productP n r p))) (times r.w (productP n p q))
+use Rattle.plane_predicate.proofs.Polynomials.{value}
+use Rattle.plane_predicate.proofs.Vectors.{Form, Place, plane_of, point_of, turnP}
 
 pub turn-at : (xs : List ℤ) (n : Form) (p q r : Place) → turn (plane_of xs n) (point_of xs p) (point_of xs q) (point_of xs r) ≡ value xs (turnP n p q r)
 turn-at xs n p q r = refl

@@ -1,19 +1,8 @@
 -- When a 4OFF text is the boundary of a formula.
 use Rattle.std.specs.Prelude.{◌≡◌, ◌≢◌, ℕ, suc, ◌<◌, Bool, true, false, ◌==◌, if◌then◌else◌, List, [], length, slice_index, slice_index_or, ℤ, pos, ◌+ℤ◌, ◌-ℤ◌, ◌*ℤ◌, ◌<ℤ◌, All}
-use Rattle.plane_predicate.specs.Space.{Coefficients, Coordinates, value, IsInClosedWorld}
+use Rattle.plane_predicate.specs.Space.{Coefficients, Coordinates, value, turn, IsInClosedWorld}
 use Rattle.script_server.specs.Meaning.Formulas.{Formula, IsFacePlane, IsOnOneFacePlane, bounds}
 use Rattle.script_server.specs.Meaning.OffTexts.{Reads}
-
--- the product of n's direction with the cross product of p and q, by their first three numbers
-abbrev pub product_with : Coefficients → Coordinates → Coordinates → ℤ
-product_with n p q =
-    n.a *ℤ (p.y *ℤ q.z -ℤ p.z *ℤ q.y)
-    +ℤ n.b *ℤ (p.z *ℤ q.x -ℤ p.x *ℤ q.z)
-    +ℤ n.c *ℤ (p.x *ℤ q.y -ℤ p.y *ℤ q.x)
-
--- above 0 where the way from p by q to r turns left, seen from ahead of n
-abbrev pub turn : Coefficients → Coordinates → Coordinates → Coordinates → ℤ
-turn n p q r = p.w *ℤ product_with n q r +ℤ q.w *ℤ product_with n r p +ℤ r.w *ℤ product_with n p q
 
 -- the place that follows place i round a list of this length
 abbrev pub after : ℕ → ℕ → ℕ
