@@ -1,10 +1,10 @@
 -- A point is strictly within a polygon exactly where it is strictly left of each way from a corner to the next.
-use Rattle.std.proofs.Common.{◌≡◌, inl, inr, ℕ, zero, suc, ◌-◌, ◌<◌, subst, arith, ℤ, pos, ◌*ℤ◌, ◌<ℤ◌, ◌≤ℤ◌}
+use Rattle.std.proofs.Common.{sym, ◌≡◌, ◌≢◌, inl, inr, ℕ, zero, suc, ◌-◌, ◌<◌, subst, arith, ℤ, pos, ◌*ℤ◌, ◌<ℤ◌, ◌≤ℤ◌}
 use Rattle.plane_predicate.specs.Space.{Coordinates, value, turn, inner}
 use Rattle.plane_predicate.proofs.IntegerRing.{sums}
 use Rattle.plane_polygon.specs.Polygons.{Outline, after, edge, sides, corner, IsPolygon}
 use Rattle.plane_predicate.proofs.Signs.{signs, most_least, least_least}
-use Rattle.plane_polygon.proofs.Hull.{after_below, after_last, after_inside, plane_directed, turn_is, far_behind, strictly_left}
+use Rattle.plane_polygon.proofs.Hull.{after_is, corner_on, after_below, after_last, after_inside, plane_directed, turn_is, far_behind, strictly_left}
 
 not_both : (x : ℤ) → pos 0 <ℤ x → x ≤ℤ pos 0 → ⊥
 not_both x h k = omega (arith, sums)
@@ -42,3 +42,15 @@ within_by_turns s h q e t j l = let w = earlier (sides s) j l in subst (λ (n : 
 
 pub turns_by_within : (s : Outline) → IsPolygon s → (q : Coordinates) → value s.plane q ≡ pos 0 → ((j : ℕ) → j < sides s → value (edge s j) q <ℤ pos 0) → (i : ℕ) → i < sides s → pos 0 <ℤ turn s.plane (corner s i) (corner s (after (sides s) i)) q
 turns_by_within s h q e b i l = strictly_left s h i l q e (b (after (sides s) i) (after_below (sides s) i l))
+
+after_injective : (k i j : ℕ) → i < k → j < k → after k i ≡ after k j → i ≡ j
+after_injective k i j l m e =
+    elim (after_is k i) [
+      | inl p ↦ elim (after_is k j) [ inl q ↦ omega arith | inr q ↦ omega arith ]
+      | inr p ↦ elim (after_is k j) [ inl q ↦ omega arith | inr q ↦ omega arith ]
+    ]
+
+pub others_left : (s : Outline) → IsPolygon s → (i j : ℕ) → i < sides s → j < sides s → j ≢ i → j ≢ after (sides s) i → pos 0 <ℤ turn s.plane (corner s i) (corner s (after (sides s) i)) (corner s j)
+others_left s h i j l m a b =
+    strictly_left s h i l (corner s j) (corner_on s j)
+    (h.behind j (after (sides s) i) m (after_below (sides s) i l) (λ e. b (sym e)) (λ e. a (sym (after_injective (sides s) i j l m e))))

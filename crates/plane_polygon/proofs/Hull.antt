@@ -27,7 +27,7 @@ directed n e f h =
     let a = square n.a in let b = square n.b in let c = square n.c in
     elim (signs (inner n n)) [
       | inl k ↦ absurd (omega (arith, sums))
-      | inr (inl k) ↦ absurd (let z = no_turn n.a n.b n.c _ _ _ (no_square n.a (omega (arith, sums))) (no_square n.b (omega (arith, sums))) (no_square n.c (omega (arith, sums))) in omega (arith, sums, subst (λ (x : ℤ). pos 0 <ℤ x) z h))
+      | inr (inl k) ↦ absurd (let z : (cramer n e f).w ≡ pos 0 = no_turn n.a n.b n.c _ _ _ (no_square n.a (omega (arith, sums))) (no_square n.b (omega (arith, sums))) (no_square n.c (omega (arith, sums))) in omega (arith, sums, subst (λ (x : ℤ). pos 0 <ℤ x) z h))
       | inr (inr k) ↦ k
     ]
 

@@ -41,7 +41,8 @@ pub record Covers (s : Outline) (p : Coordinates) : Type 0 where
   pub on : value s.plane p ≡ pos 0
   pub within : (j : ℕ) → j < sides s → value (edge s j) p ≤ℤ pos 0
 
--- p is a combination of a, b and c with weights of at least 0
+-- p is a combination of a, b and c with weights of at least 0: k p = u a + v b + t c, as every plane sees it. The planes
+-- (1, 0, 0, 0), (0, 1, 0, 0), (0, 0, 1, 0) and (0, 0, 0, -1) see the four numbers of a point
 pub record IsBetween (a b c p : Coordinates) : Type 0 where
   pub u : ℤ
   pub v : ℤ

@@ -1,14 +1,14 @@
 //! The parts into which a plane cuts a polygon.
 
 ghost use Rattle.std.specs.Prelude.{◌≡◌, ◌++◌, ◌↔◌, ◌≤ℤ◌, pos, IfOk, OnOk};
-ghost use Rattle.plane_predicate.specs.Space.{Coordinates, value, opposite_of};
+ghost use Rattle.plane_predicate.specs.Space.{Coordinates, value};
 ghost use Rattle.plane_polygon.specs.Polygons.{Covers, IsPolygon};
-ghost use Rattle.plane_polygon.specs.Parts.{class_of, is_side_behind, is_side_ahead, kept_by, part_ahead, part_behind};
+ghost use Rattle.plane_polygon.specs.Parts.{class_of, kept_by, part_ahead, part_behind};
 ghost use Rattle.plane_polygon.specs.declared.classes.Class.TheVariants.{Across};
 
 use crate::Polygon;
 use crate::sides::{corner_side, lies_ahead, lies_behind, next_side};
-use plane_predicate::{Plane, Side, opposite};
+use plane_predicate::{Plane, opposite};
 use std::alloc::{AllocError, Global};
 use text_place::NoMemory;
 

@@ -1,8 +1,8 @@
 //! Laws of polygons, for the crates above. They are proved, and do nothing when they run.
 
-ghost use Rattle.std.specs.Prelude.{◌≡◌, ◌↔◌, ◌≤ℤ◌, pos};
-ghost use Rattle.plane_predicate.specs.Space.{Coefficients, Coordinates, value, IsInClosedWorld, IsPlane};
-ghost use Rattle.plane_polygon.specs.Polygons.{Covers, IsInFan, IsPolygon, IsStrictlyLeft, IsStrictlyWithin, Outline};
+ghost use Rattle.std.specs.Prelude.{◌≡◌, ◌≢◌, ◌↔◌, ◌<◌, ◌≤ℤ◌, ◌<ℤ◌, ℕ, pos};
+ghost use Rattle.plane_predicate.specs.Space.{Coefficients, Coordinates, turn, value, IsInClosedWorld, IsPlane};
+ghost use Rattle.plane_polygon.specs.Polygons.{after, corner, sides, Covers, IsInFan, IsPolygon, IsStrictlyLeft, IsStrictlyWithin, Outline};
 ghost use Rattle.plane_polygon.specs.Parts.{class_of, part_ahead, part_behind};
 ghost use Rattle.plane_polygon.specs.Boxes.{box_outline, ComesInReach};
 ghost use Rattle.plane_polygon.specs.declared.classes.Class.TheVariants.{Across};
@@ -20,6 +20,12 @@ pub fn parts_are_polygons()
     ensures ahead { (s : Outline) (m : Coefficients) → IsPolygon s → class_of s m ≡ Across → IsPolygon (part_ahead s m) }
     ensures behind_points { (s : Outline) (m : Coefficients) → IsPolygon s → class_of s m ≡ Across → (p : Coordinates) → Covers (part_behind s m) p ↔ (Covers s p × (value m p ≤ℤ pos 0)) }
     ensures ahead_points { (s : Outline) (m : Coefficients) → IsPolygon s → class_of s m ≡ Across → (p : Coordinates) → Covers (part_ahead s m) p ↔ (Covers s p × (pos 0 ≤ℤ value m p)) }
+{}
+
+/// The corners go counterclockwise, seen from ahead: each other corner lies strictly left of the
+/// way from a corner to the next.
+pub fn corners_go_counterclockwise()
+    ensures { (s : Outline) → IsPolygon s → (i j : ℕ) → i < sides s → j < sides s → j ≢ i → j ≢ after (sides s) i → pos 0 <ℤ turn s.plane (corner s i) (corner s (after (sides s) i)) (corner s j) }
 {}
 
 /// A point is strictly behind all edges exactly where it is strictly left of each way from a

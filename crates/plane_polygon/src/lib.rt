@@ -17,7 +17,8 @@ pub use boxes::box_polygon;
 pub use classes::Class;
 pub use cutting::cut;
 pub use laws::{
-    box_polygons_are_polygons, parts_are_polygons, points_lie_in_the_fan, within_is_left,
+    box_polygons_are_polygons, corners_go_counterclockwise, parts_are_polygons,
+    points_lie_in_the_fan, within_is_left,
 };
 pub use listing::corners;
 use plane_predicate::Plane;

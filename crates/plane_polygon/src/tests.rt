@@ -1,5 +1,4 @@
-ghost use Rattle.std.specs.Prelude.{◌≡◌, pos};
-ghost use Rattle.plane_predicate.specs.Space.{point_at, value, IsInReach};
+ghost use Rattle.plane_predicate.specs.Space.{point_at, IsInReach};
 ghost use Rattle.plane_polygon.specs.Boxes.{ComesInReach};
 
 use crate::{Class, Polygon, box_polygon, corners, cut, sort_by};
