@@ -191,7 +191,7 @@ negative_zero x e = omega (arith, sums)
 zero_negative : (x : ℤ) → x ≡ pos 0 → neg_ℤ x ≡ pos 0
 zero_negative x e = omega (arith, sums)
 
-opposite_points : (n : Coefficients) → HaveSamePoints (opposite_of n) n
+pub opposite_points : (n : Coefficients) → HaveSamePoints (opposite_of n) n
 opposite_points n = record { points = λ p w. (λ e. negative_zero (value n p) (sym (value-opposite n p) ∙ e), λ e. value-opposite n p ∙ zero_negative (value n p) e) }
 
 same_points_of : (m n : Coefficients) → (m ≡ n) ⊎ (m ≡ opposite_of n) → HaveSamePoints m n

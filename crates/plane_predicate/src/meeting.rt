@@ -2,7 +2,7 @@
 
 ghost use Rattle.std.specs.Prelude.{◌≡◌, ◌≢◌, ◌↔◌, ◌*◌, ◌≤◌, ◌<◌, ◌^◌, ◌*ℤ◌, ◌+ℤ◌, ◌-ℤ◌, pos, unsigned_abs, IfSome, IsNone};
 ghost use Rattle.plane_predicate.specs.Space.{minor, cramer, meeting, value, opposite_of};
-ghost use Rattle.plane_predicate.specs.Space.{signed_by};
+ghost use Rattle.plane_predicate.specs.Space.{signed_by, HaveSamePoints};
 ghost use Rattle.plane_predicate.specs.Sides.{side_of, turned_by};
 
 use crate::arithmetic::{dot, minor_of, minors_dot, minus, times};
@@ -11,7 +11,8 @@ use std::marker::Model;
 
 /// The same points, seen from the other side: all four signs are changed.
 pub fn opposite(p: &Plane) -> Plane
-    ensures { result ≡ opposite_of p.now }
+    ensures numbers { result ≡ opposite_of p.now }
+    ensures points { HaveSamePoints result p.now }
 {
     Plane {
         a: -p.a,

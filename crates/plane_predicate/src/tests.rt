@@ -134,3 +134,55 @@ fn sums_are_exact_at_their_limits(rt: HostRuntime) {
         assert_eq!(rt; side_of_meeting(&rt, &second, &third, &turned, &by), wanted);
     }
 }
+
+// These numbers, where a bit of `signs` turns the one of its place round.
+fn signed(rt: &impl Abort, numbers: [i64; 4], signs: u32) -> Plane {
+    let [a, b, c, d] = numbers;
+    let sign = |bit: u32| if signs & bit == 0 { 1 } else { -1 };
+    plane(
+        rt,
+        [
+            a.wrapping_mul(sign(1)),
+            b.wrapping_mul(sign(2)),
+            c.wrapping_mul(sign(4)),
+            d.wrapping_mul(sign(8)),
+        ],
+    )
+}
+
+// How many of the 4,096 meetings of three planes at the limits, with all signs, lie on each side.
+fn sides_of_meetings(rt: &impl Abort, by: &Plane) -> (u32, u32, u32) {
+    let mut behind: u32 = 0;
+    let mut on: u32 = 0;
+    let mut ahead: u32 = 0;
+    for first in 0..16 {
+        let p = signed(rt, [MOST, MOST - 1, MOST, MOST_OFFSET], first);
+        for second in 0..16 {
+            let q = signed(rt, [MOST, MOST, MOST - 1, MOST_OFFSET], second);
+            for third in 0..16 {
+                let r = signed(rt, [MOST - 1, MOST, MOST, MOST_OFFSET], third);
+                match side_of_meeting(rt, &p, &q, &r, by) {
+                    Side::Behind => behind = behind.wrapping_add(1),
+                    Side::On => on = on.wrapping_add(1),
+                    Side::Ahead => ahead = ahead.wrapping_add(1),
+                }
+            }
+        }
+    }
+    (behind, on, ahead)
+}
+
+// The numbers were computed with whole numbers of any size. They are the same for each direction of
+// the fourth plane, since the three take all signs.
+#[test]
+fn sums_are_exact_at_their_limits_with_all_signs(rt: HostRuntime) {
+    for signs in 0..16 {
+        let by = signed(&rt, [MOST, MOST - 1, MOST, MOST_OFFSET], signs);
+        let wanted = if signs < 8 {
+            (2464, 608, 1024)
+        } else {
+            (1024, 608, 2464)
+        };
+        assert_eq!(rt; sides_of_meetings(&rt, &by), wanted);
+    }
+}

@@ -20,7 +20,7 @@ loop-i-preserved c =
           (c.lies_behind.ensures ∙ ap is_side_behind c.loop-i.invariant.from ∙ side_behind (value m first))
           (c.lies_behind-in-loop-i.ensures ∙ ap is_side_behind c.next_side-to.ensures ∙ side_behind (value m (corner s i)))
           within c.index-edges-i.is;
-      ahead = rw c.opposite-turned.ensures at c.in_ok-push_kept-2.ensures
+      ahead = rw c.opposite-turned.ensures.numbers at c.in_ok-push_kept-2.ensures
           ∙ kept_step s (opposite_of m) i c.loop-i.ahead.items c.lies_ahead.result c.lies_ahead-in-loop-i.result c.index-edges-i-in-loop-i.result c.loop-i.invariant.ahead
           (c.lies_ahead.ensures ∙ ap is_side_ahead c.loop-i.invariant.from ∙ side_ahead_opposite m first)
           (c.lies_ahead-in-loop-i.ensures ∙ ap is_side_ahead c.next_side-to.ensures ∙ side_ahead_opposite m (corner s i))
