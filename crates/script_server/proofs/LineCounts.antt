@@ -6,7 +6,7 @@ use Rattle.text_place.proofs.Numerals.{numeral_by_steps}
 use Rattle.script_server.specs.declared.meaning.Sides.{Sides}
 use Rattle.script_server.specs.Meaning.OffTexts.{vertex_line, face_line}
 use Rattle.script_server.specs.Meaning.Boxes.{point, box_text}
-use Rattle.script_server.specs.Meaning.Replies.{line_count}
+use Rattle.reply_text.specs.Texts.{line_count}
 
 line_count-append : (xs ys : List ℕ) → line_count (xs ++ ys) ≡ line_count xs + line_count ys
 line_count-append xs ys = sum_by-append (λ b. cond (eqb b 10) 1 0) xs ys

@@ -1,19 +1,21 @@
--- A command has one reply, unless memory runs out.
-use Rattle.std.proofs.Common.{◌≡◌, ◌≢◌, ⊎_elim, ℕ, List, [], ◌∷◌, ◌++◌, refl, sym, ap, ◌∙◌, codes, Option, Some, None}
-use Rattle.std.specs.Prelude.{MatchOption}
+-- An export has one reply, and printed replies one reading.
+use Rattle.std.proofs.Common.{◌≡◌, ◌≢◌, ⊎_elim, ℕ, List, [], ◌∷◌, ◌++◌, refl, sym, ap, ◌∙◌, codes}
 use Rattle.std.specs.Str.Parse.{digits_value}
 use Rattle.std.proofs.lemmas.List.{append_cancel_left, append_cancel_right}
 use Rattle.text_place.specs.Decimals.{numeral}
 use Rattle.text_place.proofs.Numerals.{digits_value-numeral}
+use Rattle.script_reader.specs.declared.script.ClientScript.{ClientScript}
+use Rattle.script_reader.specs.declared.script.Script.{Script}
+use Rattle.reply_text.specs.declared.reply.Reply.{Reply}
+use Rattle.reply_text.specs.declared.reply.Reply.TheVariants as reply
+use Rattle.reply_text.specs.Texts.{output}
+use Rattle.reply_text.specs.Answers.{AllFit, IsExport}
+use Rattle.reply_text.proofs.OneOutput.{same_output}
 use Rattle.script_server.specs.declared.meaning.Sides.{Sides}
-use Rattle.script_server.specs.declared.meaning.Command.{Command}
-use Rattle.script_server.specs.declared.meaning.Command.TheVariants.{Put, Set, Cut, Show, Export, Bad}
-use Rattle.script_server.specs.declared.meaning.SessionFault.{SessionFault}
-use Rattle.script_server.specs.declared.meaning.Reply.{Reply}
-use Rattle.script_server.specs.declared.meaning.Reply.TheVariants as reply
 use Rattle.script_server.specs.Meaning.OffTexts.{newline}
 use Rattle.script_server.specs.Meaning.Boxes.{IsBoxSource, cube_text, box_text}
-use Rattle.script_server.specs.Meaning.Sessions.{State, source_of, refusal, next, Exports, IsDone, Fits, SameWants}
+use Rattle.script_server.specs.Meaning.Scripts.{AllServed}
+use Rattle.script_server.specs.Meaning.Exports.{Exports}
 use Rattle.script_server.proofs.ScriptForm.{one_cut}
 use Rattle.script_server.proofs.Sides.{inner_text, cube_text-inner, no_comma}
 
@@ -43,47 +45,18 @@ one_reply source r q h g =
     (λ a. ⊎_elim (λ b. absurd (a.0 b.0 b.1)) (λ b. a.1 ∙ sym b.1) g)
     h
 
-one_done : (s : State) (c : Command) (r q : Reply) → IsDone s c r → IsDone s c q → r ≡ q
-one_done s (Put line text) r q h g = h ∙ sym g
-one_done s (Set line text) r q h g = h ∙ sym g
-one_done s (Cut from upto) r q h g = h ∙ sym g
-one_done s Show r q h g = h ∙ sym g
-one_done s Export r q h g = one_reply (source_of s) r q h g
-one_done s Bad r q h g = absurd h
+has_memory : (source : List ℕ) (r : Reply) → Exports source r → r ≢ reply.NoMem
+has_memory source r h e = ⊎_elim (λ a. (let f = a.2 in cc (f, e))) (λ a. (let f = a.1 in cc (f, e))) h
 
-one_answer_of : (s : State) (c : Command) (why : Option SessionFault) (r q : Reply) → MatchOption why (IsDone s c r) (λ w. r ≡ reply.Refused w) → MatchOption why (IsDone s c q) (λ w. q ≡ reply.Refused w) → r ≡ q
-one_answer_of s c None r q h g = one_done s c r q h g
-one_answer_of s c (Some why) r q h g = h ∙ sym g
+pub exports_are : IsExport Exports
+exports_are = record { one = one_reply; has_memory = has_memory }
 
-done_has_memory : (s : State) (c : Command) (r : Reply) → IsDone s c r → r ≢ reply.NoMem
-done_has_memory s (Put line text) r h e = cc (h, e)
-done_has_memory s (Set line text) r h e = cc (h, e)
-done_has_memory s (Cut from upto) r h e = cc (h, e)
-done_has_memory s Show r h e = cc (h, e)
-done_has_memory s Export r h e = ⊎_elim (λ a. (let f = a.2 in cc (f, e))) (λ a. (let f = a.1 in cc (f, e))) h
-done_has_memory s Bad r h e = h
+all_fit : (clients : List ClientScript) (rs : List (List Reply)) → AllServed clients rs → AllFit Exports clients rs
+all_fit [] [] h = tt
+all_fit [] (r ∷ rs) h = absurd h
+all_fit (client ∷ clients) [] h = absurd h
+all_fit (client ∷ clients) (r ∷ rs) h = (h.0.fits, all_fit clients rs h.1)
 
-answer_has_memory : (s : State) (c : Command) (why : Option SessionFault) (r : Reply) → MatchOption why (IsDone s c r) (λ w. r ≡ reply.Refused w) → r ≢ reply.NoMem
-answer_has_memory s c None r h e = done_has_memory s c r h e
-answer_has_memory s c (Some why) r h e = cc (h, e)
-
-heads_and_tails : (r q : Reply) (rs qs : List Reply) → r ≡ q → rs ≡ qs → r ∷ rs ≡ q ∷ qs
-heads_and_tails r q rs qs h g = cc
-
-pub own_replies : (s : State) (cs : List Command) (rs qs : List Reply) → Fits s cs rs → Fits s cs qs → SameWants rs qs → rs ≡ qs
-own_replies s [] [] [] h g w = refl
-own_replies s [] [] (q ∷ qs) h g w = absurd g
-own_replies s [] (r ∷ rs) qs h g w = absurd h
-own_replies s (c ∷ cs) [] qs h g w = absurd h
-own_replies s (c ∷ cs) (r ∷ rs) [] h g w = absurd g
-own_replies s (c ∷ cs) (r ∷ rs) (q ∷ qs) h g w =
-    ⊎_elim
-    (λ a. ⊎_elim
-    (λ b. heads_and_tails r q rs qs (a.0 ∙ sym b.0) (own_replies s cs rs qs a.1 b.1 w.1))
-    (λ b. absurd (answer_has_memory s c (refusal s c) q b.0 (w.0.0 a.0)))
-    g)
-    (λ a. ⊎_elim
-    (λ b. absurd (answer_has_memory s c (refusal s c) r a.0 (w.0.1 b.0)))
-    (λ b. heads_and_tails r q rs qs (one_answer_of s c (refusal s c) r q a.0 b.0) (own_replies (next s c) cs rs qs a.1 b.1 w.1))
-    g)
-    h
+pub one_output : (script : Script) (rs qs : List (List Reply)) → AllServed script.clients rs → AllServed script.clients qs →
+    output script.clients rs ≡ output script.clients qs → rs ≡ qs
+one_output script rs qs h g e = same_output Exports exports_are script.clients rs qs (all_fit script.clients rs h) (all_fit script.clients qs g) e

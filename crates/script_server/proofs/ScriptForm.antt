@@ -4,9 +4,10 @@ use Rattle.std.specs.Prelude.{All, IfNone}
 use Rattle.std.proofs.lemmas.List.{append_cancel_left}
 use Rattle.std.proofs.lemmas.List.Elements.{All-head, All-tail, All-append, All-cons, All-nil, All-weaker, All-same, All-from_recursion}
 use Rattle.script_server.specs.Meaning.OffTexts.{newline}
-use Rattle.script_server.specs.declared.meaning.Command.TheVariants.{Put, Export}
-use Rattle.script_server.specs.declared.meaning.Script.{Script}
-use Rattle.script_server.specs.Meaning.Scripts.{IsScript, IsNameByte, IsName, IsTail, put_line, export_line, IsOneExport}
+use Rattle.script_reader.specs.declared.script.Command.TheVariants.{Put, Export}
+use Rattle.script_reader.specs.declared.script.Script.{Script}
+use Rattle.script_reader.specs.Spelling.{IsNameByte, IsName, IsTail}
+use Rattle.script_server.specs.Meaning.Scripts.{IsScript, put_line, export_line, IsOneExport}
 use Rattle.script_server.specs.Lines.{AreOneClient, IsExportWord}
 
 -- what holds anyway holds of no answer

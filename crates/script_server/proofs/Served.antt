@@ -6,15 +6,15 @@ use Rattle.std.specs.Io.KnownBytes.{Consumes, IsAtEnd}
 use Rattle.text_place.specs.Decimals.{numeral}
 use Rattle.text_place.specs.declared.fault.FaultKind.TheVariants.{NotYet}
 use Rattle.script_server.specs.declared.meaning.Sides.{Sides}
-use Rattle.script_server.specs.declared.meaning.Command.TheVariants.{Put, Export}
-use Rattle.script_server.specs.declared.meaning.Reply.TheVariants as reply
+use Rattle.script_reader.specs.declared.script.Command.TheVariants.{Put, Export}
+use Rattle.reply_text.specs.declared.reply.Reply.TheVariants as reply
 use Rattle.script_server.specs.Meaning.OffTexts.{newline}
 use Rattle.script_server.specs.Meaning.Formulas.{leaf}
 use Rattle.script_server.specs.Meaning.Boxes.{IsBox, IsBoxSource, cube_text, box_planes, box_text}
 use Rattle.script_server.proofs.BoxBoundary.{box_boundary}
 use Rattle.script_server.proofs.LineCounts.{line_count-box_text}
-use Rattle.script_server.specs.Meaning.Sessions.{Exports, IsBounded}
-use Rattle.script_server.specs.Meaning.Replies.{reply_body, client_text}
+use Rattle.script_server.specs.Meaning.Exports.{Exports, IsBounded}
+use Rattle.reply_text.specs.Texts.{reply_body, client_text}
 use Rattle.script_server.specs.Meaning.Scripts.{IsOneExport}
 use Rattle.script_server.specs.Serving.{IsOutput, IsNoScript, IsAnswered, AppendsExport}
 

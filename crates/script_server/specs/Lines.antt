@@ -1,7 +1,7 @@
 -- The parts of two lines, one that puts a text and one that exports.
 use Rattle.std.specs.Prelude.{◌≡◌, ◌≢◌, ℕ, ◌≤◌, List, ◌++◌, length, All, codes, ◌⊎◌}
 use Rattle.script_server.specs.Meaning.OffTexts.{newline}
-use Rattle.script_server.specs.Meaning.Scripts.{IsName}
+use Rattle.script_reader.specs.Spelling.{IsName}
 
 -- the end of the second line, with its newline or without
 abbrev pub IsExportWord : List ℕ → Type 0

@@ -3,6 +3,5 @@ pub mod Formulas
 pub mod OffTexts
 pub mod Boundaries
 pub mod Boxes
-pub mod Sessions
-pub mod Replies
+pub mod Exports
 pub mod Scripts

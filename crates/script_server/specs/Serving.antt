@@ -4,12 +4,12 @@ use Rattle.std.specs.Prelude.{◌≡◌, ℕ, ◌<◌, List, [], ◌∷◌, ◌+
 use Rattle.std.specs.Io.KnownBytes.{Appends, Consumes, IsAtEnd}
 use Rattle.text_place.specs.Decimals.{numeral}
 use Rattle.outside_io.specs.Moves.{AppendsProperPrefix}
-use Rattle.script_server.specs.declared.meaning.Script.{Script}
-use Rattle.script_server.specs.declared.meaning.Reply.{Reply}
+use Rattle.script_reader.specs.declared.script.Script.{Script}
+use Rattle.reply_text.specs.declared.reply.Reply.{Reply}
 use Rattle.script_server.specs.Meaning.OffTexts.{newline}
-use Rattle.script_server.specs.declared.meaning.Reply.TheVariants as reply
-use Rattle.script_server.specs.Meaning.Sessions.{Exports, IsBounded}
-use Rattle.script_server.specs.Meaning.Replies.{reply_body, client_text, output}
+use Rattle.reply_text.specs.declared.reply.Reply.TheVariants as reply
+use Rattle.script_server.specs.Meaning.Exports.{Exports, IsBounded}
+use Rattle.reply_text.specs.Texts.{reply_body, client_text, output}
 use Rattle.script_server.specs.Meaning.Scripts.{IsScript, AllServed}
 
 -- the words are the one word `run`

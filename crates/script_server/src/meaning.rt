@@ -1,160 +1,17 @@
-//! What a script asks and what its clients are answered.
-//!
-//! These types, and the definitions of what they mean (`specs/Meaning`), stand here until the
-//! crates for scripts, sessions and replies take them over.
+//! What an export means: formulas, the boundary of a solid, and boxes (`specs/Meaning`), and the laws
+//! that their words leave nothing open.
 
 ghost use Rattle.std.specs.Prelude.{◌≡◌, ℕ, List};
 ghost use Rattle.plane_predicate.specs.Space.{Coordinates};
-ghost use Rattle.script_server.specs.declared.meaning.Command.{Command};
+ghost use Rattle.script_reader.specs.declared.script.Command.{Command};
 ghost use Rattle.script_server.specs.Meaning.OffTexts.{off_text};
-ghost use Rattle.script_server.specs.declared.meaning.Reply.{Reply};
-ghost use Rattle.script_server.specs.declared.meaning.Script.{Script};
-ghost use Rattle.script_server.specs.Meaning.Scripts.{IsScript};
-ghost use Rattle.script_server.specs.Meaning.Sessions.{State, Exports, Fits, SameWants};
-
-use std::marker::Model;
-use text_place::{Bytes, Fault, Lines};
-
-/// One command of a client.
-#[derive(Drop)]
-pub enum Command {
-    /// `put N TEXT`: the text becomes a new line N, and the old line N and later ones move down.
-    Put { line: u32, text: Bytes },
-    /// `set N TEXT`: line N becomes the text.
-    Set { line: u32, text: Bytes },
-    /// `cut N M`: lines N to M are removed.
-    Cut { from: u32, upto: u32 },
-    /// `show`: the lines are replied.
-    Show,
-    /// `export`: the source's solid is replied.
-    Export,
-    /// A line that is none of these.
-    Bad,
-}
-
-/// The commands of one client in order, which contracts see as a list.
-#[derive(Drop)]
-pub struct Commands {
-    items: Vec<Command>,
-}
-
-impl Model for Commands {
-    ghost use Rattle.std.specs.Prelude.{List};
-    ghost use Rattle.script_server.specs.declared.meaning.Command.{Command};
-
-    ghost Value = { List Command };
-
-    ghost view = { λ c. c.items.items };
-}
-
-impl Commands {
-    /// The commands of a vector. Takes no memory.
-    pub fn of(items: Vec<Command>) -> Self
-        ensures { result ≡ items.items }
-    {
-        Commands { items }
-    }
-
-    /// The commands in order. Takes no memory.
-    pub fn items(&self) -> &[Command]
-        ensures { result.now ≡ self.now }
-    {
-        &self.items
-    }
-}
-
-/// A client with its commands.
-#[derive(Drop)]
-pub struct ClientScript {
-    pub name: Bytes,
-    pub commands: Commands,
-}
-
-/// The clients of a script by first appearance, which contracts see as a list.
-#[derive(Drop)]
-pub struct ClientScripts {
-    items: Vec<ClientScript>,
-}
-
-impl Model for ClientScripts {
-    ghost use Rattle.std.specs.Prelude.{List};
-    ghost use Rattle.script_server.specs.declared.meaning.ClientScript.{ClientScript};
-
-    ghost Value = { List ClientScript };
-
-    ghost view = { λ c. c.items.items };
-}
-
-impl ClientScripts {
-    /// The clients of a vector. Takes no memory.
-    pub fn of(items: Vec<ClientScript>) -> Self
-        ensures { result ≡ items.items }
-    {
-        ClientScripts { items }
-    }
-
-    /// The clients in order. Takes no memory.
-    pub fn items(&self) -> &[ClientScript]
-        ensures { result.now ≡ self.now }
-    {
-        &self.items
-    }
-}
-
-/// A script.
-#[derive(Drop)]
-pub struct Script {
-    pub clients: ClientScripts,
-}
-
-/// Why a session refuses a command.
-#[derive(Clone, Copy, Debug, PartialEq, Eq)]
-pub enum SessionFault {
-    NoSuchLine,
-    TooManyLines,
-    TooManyShows,
-    TooManyExports,
-    BadCommand,
-    NoMemory,
-}
-
-/// The limit that an export passes.
-#[derive(Clone, Copy, Debug, PartialEq, Eq)]
-pub enum Complex {
-    /// The solid of this node is too large.
-    Solid(u32),
-    /// The solids up to this node are too large together.
-    Sum(u32),
-    Facets,
-    Corners,
-    Vertices,
-}
-
-/// What one command is answered.
-#[derive(Drop)]
-pub enum Reply {
-    /// A done edit: the number of lines afterwards.
-    Lines(u32),
-    /// A command that the session refuses.
-    Refused(SessionFault),
-    /// An export whose source has a fault.
-    Faulted(Fault),
-    /// An export that passes a limit.
-    Complex(Complex),
-    /// Memory ran out, and the command counts as not given.
-    NoMem,
-    /// A show: the lines of the source.
-    Text(Lines),
-    /// An export: the bytes of its 4OFF text.
-    Solid(Bytes),
-}
-
-/// Why bytes are no script.
-#[derive(Clone, Copy, Debug, PartialEq, Eq)]
-pub enum ScriptFault {
-    /// A form that this server does not read yet.
-    NotYet,
-}
+ghost use Rattle.reply_text.specs.declared.reply.Reply.{Reply};
+ghost use Rattle.script_reader.specs.declared.script.Script.{Script};
+ghost use Rattle.edit_session.specs.Sessions.{State};
+ghost use Rattle.reply_text.specs.Texts.{output};
+ghost use Rattle.reply_text.specs.Answers.{Fits, SameWants};
+ghost use Rattle.script_server.specs.Meaning.Scripts.{IsScript, AllServed};
+ghost use Rattle.script_server.specs.Meaning.Exports.{Exports};
 
 /// The sides of a box along x, y and z.
 #[derive(Clone, Copy, Debug, PartialEq, Eq)]
@@ -183,5 +40,12 @@ pub fn one_reply()
 /// A client's own commands define its replies: only the places at which memory ran out are open.
 pub fn own_replies()
     ensures { (s : State) (cs : List Command) (rs qs : List Reply) →
-        Fits s cs rs → Fits s cs qs → SameWants rs qs → rs ≡ qs }
+        Fits Exports s cs rs → Fits Exports s cs qs → SameWants rs qs → rs ≡ qs }
+{}
+
+/// For one script, replies that its clients' own commands define and that print the same bytes are
+/// equal: so the printed output tells at which places memory ran out.
+pub fn one_output()
+    ensures { (script : Script) (rs qs : List (List Reply)) → AllServed script.clients rs → AllServed script.clients qs →
+        output script.clients rs ≡ output script.clients qs → rs ≡ qs }
 {}

@@ -2,11 +2,15 @@
 
 ghost use Rattle.std.specs.Prelude.{◌≡◌, ℕ, ◌≤◌, ◌↔◌, ◌⊎◌, List, ◌++◌, length, codes, IsTrue, IfSome, IfNone, IfOk, OnErr};
 ghost use Rattle.script_server.specs.Meaning.OffTexts.{newline};
-ghost use Rattle.script_server.specs.Meaning.Scripts.{IsName, IsTail, IsOneExport};
+ghost use Rattle.script_reader.specs.Spelling.{IsName, IsTail};
+ghost use Rattle.script_server.specs.Meaning.Scripts.{IsOneExport};
 ghost use Rattle.script_server.specs.Lines.{AreOneClient, IsExportWord};
 
-use crate::meaning::ScriptFault;
 use crate::slices::split_first;
+
+/// The script has a form that this server does not read yet.
+#[derive(Clone, Copy, Debug, PartialEq, Eq)]
+pub struct NotYet;
 
 /// The client and its line.
 #[derive(Clone, Copy)]
@@ -73,10 +77,10 @@ fn one_export(bytes: &[u8]) -> Option<OneExport<'_>>
 }
 
 /// The client and its line, or `NotYet` exactly where the bytes are not of this form. Takes no memory.
-pub fn read_script(bytes: &[u8]) -> Result<OneExport<'_>, ScriptFault>
+pub fn read_script(bytes: &[u8]) -> Result<OneExport<'_>, NotYet>
     requires { length bytes.now ≤ 1048576 }
     ensures found { IfOk result (λ script. IsOneExport bytes.now script.name.now script.text.now) }
     ensures fault { OnErr result ((name text : List ℕ) → IsOneExport bytes.now name text → ⊥) }
 {
-    one_export(bytes).ok_or(ScriptFault::NotYet)
+    one_export(bytes).ok_or(NotYet)
 }

@@ -1,24 +1,14 @@
 -- The one form of script that is read so far, and when all clients of a script are served.
 use Rattle.std.specs.Prelude.{◌≡◌, ◌≢◌, ℕ, ◌≤◌, List, [], ◌∷◌, ◌++◌, length, All, codes, ◌⊎◌}
-use Rattle.script_server.specs.declared.meaning.Command.TheVariants.{Put, Export}
-use Rattle.script_server.specs.declared.meaning.ClientScript.{ClientScript}
-use Rattle.script_server.specs.declared.meaning.Script.{Script}
-use Rattle.script_server.specs.declared.meaning.Reply.{Reply}
-use Rattle.script_server.specs.Meaning.OffTexts.{space, newline}
-use Rattle.script_server.specs.Meaning.Sessions.{start, Fits, AllBounded}
-
--- `a` to `z` and `0` to `9`
-abbrev pub IsNameByte : ℕ → Type 0
-IsNameByte b = ((97 ≤ b) × (b ≤ 122)) ⊎ ((48 ≤ b) × (b ≤ 57))
-
-pub record IsName (name : List ℕ) : Type 0 where
-  pub some : 1 ≤ length name
-  pub short : length name ≤ 16
-  pub bytes : All IsNameByte name
-
--- what stands behind the number of a `put`: a space and the text, or nothing where the text is empty
-abbrev pub IsTail : List ℕ → List ℕ → Type 0
-IsTail tail text = (tail ≡ space ++ text) ⊎ ((tail ≡ []) × (text ≡ []))
+use Rattle.script_reader.specs.declared.script.Command.TheVariants.{Put, Export}
+use Rattle.script_reader.specs.declared.script.ClientScript.{ClientScript}
+use Rattle.script_reader.specs.declared.script.Script.{Script}
+use Rattle.reply_text.specs.declared.reply.Reply.{Reply}
+use Rattle.script_server.specs.Meaning.OffTexts.{newline}
+use Rattle.script_reader.specs.Spelling.{IsName, IsTail}
+use Rattle.edit_session.specs.Sessions.{start}
+use Rattle.reply_text.specs.Answers.{Fits}
+use Rattle.script_server.specs.Meaning.Exports.{Exports, AllBounded}
 
 abbrev pub put_line : List ℕ → List ℕ → List ℕ
 put_line name tail = name ++ codes " put 1" ++ tail
@@ -46,7 +36,7 @@ IsScript bytes script =
 
 -- a client's replies are those that its own commands define, and its solids are boundaries
 pub record IsServed (client : ClientScript) (replies : List Reply) : Type 0 where
-  pub fits : Fits start client.commands replies
+  pub fits : Fits Exports start client.commands replies
   pub bounded : AllBounded start client.commands replies
 
 abbrev pub AllServed : List ClientScript → List (List Reply) → Type 0

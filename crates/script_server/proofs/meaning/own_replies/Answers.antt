@@ -1,5 +1,7 @@
-use Rattle.script_server.proofs.OneReply as law
+use Rattle.reply_text.proofs.OneAnswer.{own_replies}
+use Rattle.script_server.specs.Meaning.Exports.{Exports}
+use Rattle.script_server.proofs.OneReply.{exports_are}
 use Rattle.script_server.proofs.meaning.own_replies.Goals as goal
 
 pub returns : goal.returns
-returns c = law.own_replies
+returns c = own_replies Exports exports_are

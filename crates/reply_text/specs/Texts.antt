@@ -2,14 +2,14 @@
 use Rattle.std.specs.Prelude.{ℕ, suc, ◌==◌, List, [], ◌∷◌, ◌++◌, flat_map, length, count_by, codes}
 use Rattle.text_place.specs.Decimals.{numeral}
 use Rattle.text_place.specs.Words.{word_of}
-use Rattle.script_server.specs.declared.meaning.ClientScript.{ClientScript}
-use Rattle.script_server.specs.declared.meaning.SessionFault.{SessionFault}
-use Rattle.script_server.specs.declared.meaning.SessionFault.TheVariants.{NoSuchLine, TooManyLines, TooManyShows, TooManyExports, BadCommand, NoMemory}
-use Rattle.script_server.specs.declared.meaning.Complex.{Complex}
-use Rattle.script_server.specs.declared.meaning.Complex.TheVariants as limit
-use Rattle.script_server.specs.declared.meaning.Reply.{Reply}
-use Rattle.script_server.specs.declared.meaning.Reply.TheVariants as reply
-use Rattle.script_server.specs.Meaning.OffTexts.{space, newline}
+use Rattle.script_reader.specs.declared.script.ClientScript.{ClientScript}
+use Rattle.script_reader.specs.Lines.{space, newline}
+use Rattle.edit_session.specs.declared.fault.SessionFault.{SessionFault}
+use Rattle.edit_session.specs.declared.fault.SessionFault.TheVariants.{NoSuchLine, TooManyLines, TooManyShows, TooManyExports, BadCommand, NoMemory}
+use Rattle.reply_text.specs.declared.reply.Complex.{Complex}
+use Rattle.reply_text.specs.declared.reply.Complex.TheVariants as limit
+use Rattle.reply_text.specs.declared.reply.Reply.{Reply}
+use Rattle.reply_text.specs.declared.reply.Reply.TheVariants as reply
 
 abbrev pub refusal_word : SessionFault → List ℕ
 refusal_word NoSuchLine = codes "NoSuchLine"

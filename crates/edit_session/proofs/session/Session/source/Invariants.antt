@@ -1,0 +1,7 @@
+use Rattle.std.proofs.Common.{◌≡◌, ◌++◌, drop, flat_map}
+use Rattle.script_reader.specs.Lines.{newline}
+use Rattle.edit_session.proofs.session.Session.source.Given as goal
+
+abbrev pub invariant-loop-line : goal.invariant-loop-line
+invariant-loop-line l =
+    l.source.items ++ flat_map (λ line. line ++ newline) (drop l.line-index l.line-items) ≡ flat_map (λ line. line ++ newline) l.line-items

@@ -1,0 +1,32 @@
+-- What a call of a session answers and leaves.
+use Rattle.std.specs.Prelude.{◌≡◌, ℕ, ◌⊎◌, length, Some, None}
+use Rattle.script_reader.specs.declared.script.Command.{Command}
+use Rattle.script_reader.specs.declared.script.Command.TheVariants.{Put, Set, Cut, Show, Export}
+use Rattle.edit_session.specs.declared.fault.SessionFault.{SessionFault}
+use Rattle.edit_session.specs.declared.fault.SessionFault.TheVariants.{NoMemory}
+use Rattle.edit_session.specs.declared.fault.Asked.{Asked}
+use Rattle.edit_session.specs.declared.fault.Asked.TheVariants as asked
+use Rattle.edit_session.specs.Sessions.{State, refusal, accepted}
+
+-- an edit was done, and this is the number of lines afterwards
+pub record Edits (old : State) (c : Command) (new : State) (count : ℕ) : Type 0 where
+  pub allowed : refusal old c ≡ None
+  pub done : new ≡ accepted old c
+  pub lines : count ≡ length new.lines
+
+-- a command was refused, for the reason of the table or for want of memory, and nothing changed
+pub record Refuses (old : State) (c : Command) (new : State) (why : SessionFault) : Type 0 where
+  pub reason : (refusal old c ≡ Some why) ⊎ (why ≡ NoMemory)
+  pub same : new ≡ old
+
+abbrev pub IsEdit : Command → Type 0
+IsEdit (Put line text) = Unit {0}
+IsEdit (Set line text) = Unit {0}
+IsEdit (Cut from upto) = Unit {0}
+IsEdit _ = ⊥
+
+-- what is answered to a command that is not refused: an edit is done, a show and an export are left to be booked
+abbrev pub Accepts : State → Command → State → Asked → Type 0
+Accepts old c new (asked.Lines count) = IsEdit c × Edits old c new count
+Accepts old c new asked.Show = (c ≡ Show) × (refusal old c ≡ None) × (new ≡ old)
+Accepts old c new asked.Export = (c ≡ Export) × (refusal old c ≡ None) × (new ≡ old)

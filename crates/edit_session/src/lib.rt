@@ -1,0 +1,10 @@
+//! Sessions: the source of one client, line by line.
+#![tactic(auto)]
+
+mod fault;
+mod session;
+#[cfg(test)]
+mod tests;
+
+pub use fault::{Asked, SessionFault};
+pub use session::Session;

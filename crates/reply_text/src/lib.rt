@@ -1,0 +1,12 @@
+//! Replies to commands, and their text.
+#![tactic(auto)]
+
+mod laws;
+mod reply;
+#[cfg(test)]
+mod tests;
+mod text;
+
+pub use laws::{one_output, own_replies};
+pub use reply::{Complex, Reply};
+pub use text::push_reply;

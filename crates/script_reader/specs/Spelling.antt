@@ -1,0 +1,52 @@
+-- How the lines of a script are spelled.
+use Rattle.std.specs.Prelude.{◌≡◌, ◌≢◌, ℕ, ◌≤◌, List, [], ◌∷◌, ◌++◌, length, All, codes, ◌⊎◌}
+use Rattle.std.specs.Str.Parse.{digits_value}
+use Rattle.text_place.specs.Decimals.{IsShortNumeral}
+use Rattle.script_reader.specs.declared.script.Command.{Command}
+use Rattle.script_reader.specs.declared.script.Command.TheVariants.{Put, Set, Cut, Show, Export, Bad}
+use Rattle.script_reader.specs.Lines.{space}
+
+-- `a` to `z` and `0` to `9`
+abbrev pub IsNameByte : ℕ → Type 0
+IsNameByte b = ((97 ≤ b) × (b ≤ 122)) ⊎ ((48 ≤ b) × (b ≤ 57))
+
+pub record IsName (name : List ℕ) : Type 0 where
+  pub some : 1 ≤ length name
+  pub short : length name ≤ 16
+  pub bytes : All IsNameByte name
+
+-- what stands behind the number of a `put` or a `set`: a space and the text, or nothing where the text is empty
+abbrev pub IsTail : List ℕ → List ℕ → Type 0
+IsTail tail text = (tail ≡ space ++ text) ⊎ ((tail ≡ []) × (text ≡ []))
+
+-- 1 to 7 digits that write this number
+abbrev pub Writes : List ℕ → ℕ → Type 0
+Writes digits n = IsShortNumeral digits × (n ≡ digits_value 10 digits)
+
+-- `WORD N` with a tail
+abbrev pub IsEdit : List ℕ → List ℕ → ℕ → List ℕ → Type 0
+IsEdit word words line text =
+    (digits : List ℕ) × (tail : List ℕ) × (words ≡ word ++ digits ++ tail) × Writes digits line × IsTail tail text
+
+-- what stands behind a name and its space, where it is one of the five commands
+abbrev pub IsKnown : List ℕ → Command → Type 0
+IsKnown words (Put line text) = IsEdit (codes "put ") words line text
+IsKnown words (Set line text) = IsEdit (codes "set ") words line text
+IsKnown words (Cut from upto) =
+    (digits : List ℕ) × (digits' : List ℕ)
+    × (words ≡ codes "cut " ++ digits ++ space ++ digits') × Writes digits from × Writes digits' upto
+IsKnown words Show = words ≡ codes "show"
+IsKnown words Export = words ≡ codes "export"
+IsKnown words Bad = ⊥
+
+-- what stands behind a name: a space and one of the commands, or else it is a bad command
+abbrev pub IsCommand : List ℕ → Command → Type 0
+IsCommand tail command =
+    ((words : List ℕ) × (tail ≡ space ++ words) × IsKnown words command)
+    ⊎ ((command ≡ Bad) × ((words : List ℕ) (known : Command) → tail ≡ space ++ words → IsKnown words known → ⊥))
+
+-- the line begins with a name, which a space or the line's end follows
+pub record IsNamed (line name tail : List ℕ) : Type 0 where
+  pub spelled : line ≡ name ++ tail
+  pub named : IsName name
+  pub ended : (tail ≡ []) ⊎ ((words : List ℕ) × (tail ≡ space ++ words))
