@@ -2,12 +2,12 @@
 use Rattle.std.proofs.Common.{◌≡◌, ℕ, zero, suc, ◌+◌, ◌-◌, ◌<◌, ◌≤◌, List, [], ◌∷◌, length, take, drop, get_or, Bool, true, false, cond, not, ◌&&◌, Option, Some, None, refl, sym, ap, ◌∙◌, subst, arith, nat_eq, length-drop, IfSome, IfNone}
 use Rattle.std.proofs.Common.{inl, inr}
 use Rattle.std.proofs.lemmas.Bool.Decides.{eqb_tells}
-use Rattle.scad_lexer.specs.declared.class.Class.TheVariants.{Blank as BlankClass, Letter, Digit, NameByte, InLine, Exponent, Sign, Byte}
+use Rattle.scad_lexer.specs.declared.class.Class.TheVariants.{InLine, Exponent, Sign, Byte}
 use Rattle.scad_lexer.specs.declared.token.Symbol.{Symbol}
 use Rattle.scad_lexer.specs.declared.token.Symbol.TheVariants.{Dot, Divide}
 use Rattle.scad_lexer.specs.declared.word.Word.{Word}
 use Rattle.scad_lexer.specs.declared.word.Word.TheVariants.{Blank, OpenComment, Name, Special, Numeral, NumeralAndLetter, Text, OpenText, Symbol as SymbolWord}
-use Rattle.scad_lexer.specs.Words.{has, digit, letter, blank, name_byte, begins_with, run_of, every, when, alone, with_bytes, more_bytes, one_longer, longest, in_whole, in_fraction, number_end, exponent, after_sign, in_exponent, after_point, after_dollar, after_slash, in_comment, after_star, in_text, in_escape, single, double, double_of, symbol_word, symbol_of, word_from, IsLongest, HasNoWord}
+use Rattle.scad_lexer.specs.Words.{has, digit, letter, blank, name_byte, begins_with, run_of, every, when, alone, with_bytes, more_bytes, one_longer, longest, in_whole, in_fraction, number_end, exponent, after_sign, in_exponent, after_point, after_dollar, after_slash, in_comment, after_star, in_text, in_escape, single, double_of, symbol_word, symbol_of, word_from, IsLongest, HasNoWord}
 use Rattle.scad_lexer.proofs.Longest.{longest_end, longest_step, longest_taken, longest_stop, longest_alone, longest_some, longest_same, longest_every, run_then, behind_run, drop_more, longest_is, longest_isnt}
 
 not_equal : (b c : ℕ) → (b ≡ c → ⊥) → nat_eq b c ≡ false

@@ -1,12 +1,11 @@
 -- What a word of a source stands for, and the tokens of a whole source.
-use Rattle.std.specs.Prelude.{◌≡◌, ℕ, zero, suc, ◌+◌, ◌-◌, ◌*◌, ◌<◌, ◌≤◌, ◌^◌, List, [], ◌∷◌, ◌++◌, length, take, drop, Bool, true, false, cond, ◌||◌, ◌&&◌, nat_eq, nat_le, Option, Some, None, codes}
+use Rattle.std.specs.Prelude.{◌≡◌, ℕ, suc, ◌+◌, ◌-◌, ◌*◌, ◌≤◌, ◌^◌, List, [], ◌∷◌, ◌++◌, length, take, drop, Bool, true, cond, ◌&&◌, nat_eq, Option, Some, None, codes}
 use Rattle.std.specs.Str.{bytes_eq}
 use Rattle.scad_lexer.specs.declared.token.Reserved.{Reserved}
 use Rattle.scad_lexer.specs.declared.token.Reserved.TheVariants.{Module, Function, If, Else, For, IntersectionFor, True, False, Undef, Use, Include, Let, Each}
-use Rattle.std.specs.Prelude.{Result, Ok, Err, ◌⊎◌, ◌≢◌, nat_lt, IsSome}
+use Rattle.std.specs.Prelude.{Result, Ok, Err, ◌⊎◌, ◌≢◌, nat_lt}
 use Rattle.std.specs.Global.{Vec}
 use Rattle.text_place.specs.declared.fault.Place.{Place}
-use Rattle.text_place.specs.declared.fault.Fault.{Fault as FaultIn}
 use Rattle.text_place.specs.declared.fault.Stop.{Stop}
 use Rattle.text_place.specs.declared.fault.Stop.TheVariants.{Fault as StopFault, NoMemory}
 use Rattle.text_place.specs.declared.fault.FaultKind.{FaultKind}

@@ -1,5 +1,5 @@
 -- Words of a source: blanks, comments and tokens (OpenSCAD User Manual, in the profile of this server).
-use Rattle.std.specs.Prelude.{◌≡◌, ℕ, zero, suc, ◌+◌, ◌≤◌, List, [], ◌∷◌, length, take, Bool, true, false, cond, ◌||◌, ◌&&◌, not, nat_eq, nat_le, Option, Some, None}
+use Rattle.std.specs.Prelude.{◌≡◌, ℕ, suc, ◌+◌, ◌≤◌, List, [], ◌∷◌, length, take, Bool, true, false, cond, ◌||◌, ◌&&◌, not, nat_eq, nat_le, Option, Some, None}
 use Rattle.scad_lexer.specs.declared.class.Class.{Class}
 use Rattle.scad_lexer.specs.declared.class.Class.TheVariants.{Blank as BlankClass, Letter, Digit, NameByte, InLine, Exponent, Sign, Printable, Byte}
 use Rattle.scad_lexer.specs.declared.token.Symbol.{Symbol}

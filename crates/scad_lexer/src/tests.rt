@@ -6,6 +6,9 @@ use text_place::{Stop, word};
 
 // The tokens or the fault of a source, in words.
 fn told(alloc: Global, source: &[u8]) -> Result<String, Fail> {
+    if source.len() > 100 {
+        return Ok(format!(in alloc; "too long")?);
+    }
     match lex(alloc, source) {
         Ok(tokens) => listed(alloc, &tokens),
         Err(Stop::Fault(fault)) => Ok(format!(in alloc;

@@ -1,5 +1,4 @@
-use Rattle.std.proofs.Common.{◌≡◌, arith}
-use Rattle.scad_lexer.proofs.Meanings.{decode_more, decode_fault, decode_end}
+use Rattle.scad_lexer.proofs.Meanings.{decode_end}
 use Rattle.scad_lexer.proofs.meaning.decode.Goals as goal
 
 pub returns-clause-value : goal.returns-clause-value

@@ -1,4 +1,4 @@
-use Rattle.std.proofs.Common.{◌≡◌, sym, ◌∙◌}
+use Rattle.std.proofs.Common.{sym, ◌∙◌}
 use Rattle.scad_lexer.proofs.Meanings.{step_escape, bad_escape, step_plain, step_bad}
 use Rattle.scad_lexer.proofs.meaning.next_byte.Goals as goal
 

@@ -1,4 +1,4 @@
-use Rattle.std.proofs.Common.{◌≡◌, ◌∙◌}
+use Rattle.std.proofs.Common.{◌∙◌}
 use Rattle.scad_lexer.proofs.Meanings.{too_large}
 use Rattle.scad_lexer.proofs.meaning.number.Goals as goal
 

@@ -1,4 +1,4 @@
-use Rattle.std.proofs.Common.{◌≡◌, sym, ap, ◌∙◌, arith}
+use Rattle.std.proofs.Common.{sym, ◌∙◌}
 use Rattle.scad_lexer.proofs.Scanned.{blank_word, name_word, numeral_word}
 use Rattle.scad_lexer.proofs.scan.after_byte.Goals as goal
 

@@ -1,4 +1,4 @@
-use Rattle.std.proofs.Common.{◌≡◌, sym, ap, ◌∙◌, arith}
+use Rattle.std.proofs.Common.{◌∙◌}
 use Rattle.scad_lexer.proofs.Scanned.{dollar_word, text_word, point_word, slash_word, symbol_found}
 use Rattle.scad_lexer.proofs.scan.after_mark.Goals as goal
 

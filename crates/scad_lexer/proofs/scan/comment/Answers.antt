@@ -1,4 +1,4 @@
-use Rattle.std.proofs.Common.{◌≡◌, sym, ap, ◌∙◌, arith}
+use Rattle.std.proofs.Common.{sym, ◌∙◌, arith}
 use Rattle.scad_lexer.proofs.Scanned.{comment_closed, comment_more, comment_open}
 use Rattle.scad_lexer.proofs.scan.comment.Goals as goal
 

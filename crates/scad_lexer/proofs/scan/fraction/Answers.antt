@@ -1,4 +1,3 @@
-use Rattle.std.proofs.Common.{◌≡◌, sym, ap, ◌∙◌, arith}
 use Rattle.scad_lexer.proofs.Scanned.{fraction_then}
 use Rattle.scad_lexer.proofs.scan.fraction.Goals as goal
 

@@ -1,4 +1,4 @@
-use Rattle.std.proofs.Common.{◌≡◌, sym, ap, ◌∙◌, arith}
+use Rattle.std.proofs.Common.{arith}
 use Rattle.scad_lexer.proofs.Scanned.{found_some, found_none, no_word}
 use Rattle.scad_lexer.proofs.scan.longest_word.Goals as goal
 

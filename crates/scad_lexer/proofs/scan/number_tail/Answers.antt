@@ -1,4 +1,4 @@
-use Rattle.std.proofs.Common.{◌≡◌, sym, ap, ◌∙◌, arith}
+use Rattle.std.proofs.Common.{sym, ◌∙◌}
 use Rattle.scad_lexer.proofs.Scanned.{power_then, letter_ends, number_ends}
 use Rattle.scad_lexer.proofs.scan.number_tail.Goals as goal
 

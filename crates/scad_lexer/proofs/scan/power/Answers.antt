@@ -1,4 +1,4 @@
-use Rattle.std.proofs.Common.{◌≡◌, sym, ap, ◌∙◌, arith}
+use Rattle.std.proofs.Common.{sym, ◌∙◌}
 use Rattle.scad_lexer.proofs.Scanned.{exponent_then, sign_then, no_exponent, no_power}
 use Rattle.scad_lexer.proofs.scan.power.Goals.{else-begins-2-via-then-begins-2+else-begins-3, else-begins-2-via-else-begins-2}
 use Rattle.scad_lexer.proofs.scan.power.Goals as goal

@@ -1,4 +1,4 @@
-use Rattle.std.proofs.Common.{◌≡◌, sym, ap, ◌∙◌, arith}
+use Rattle.std.proofs.Common.{sym, ◌∙◌}
 use Rattle.scad_lexer.proofs.Scanned.{line_comment, block_comment, slash_alone}
 use Rattle.scad_lexer.proofs.scan.slash.Goals as goal
 

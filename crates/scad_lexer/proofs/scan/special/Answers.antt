@@ -1,4 +1,4 @@
-use Rattle.std.proofs.Common.{◌≡◌, sym, ap, ◌∙◌, arith}
+use Rattle.std.proofs.Common.{sym, ◌∙◌}
 use Rattle.scad_lexer.proofs.Scanned.{special_name, no_special}
 use Rattle.scad_lexer.proofs.scan.special.Goals as goal
 

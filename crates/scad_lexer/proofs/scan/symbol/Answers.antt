@@ -1,4 +1,4 @@
-use Rattle.std.proofs.Common.{◌≡◌, sym, ap, ◌∙◌, arith}
+use Rattle.std.proofs.Common.{sym, ◌∙◌}
 use Rattle.scad_lexer.proofs.Scanned.{symbol_pair, symbol_single}
 use Rattle.scad_lexer.proofs.scan.symbol.Goals as goal
 

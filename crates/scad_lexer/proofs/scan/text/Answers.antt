@@ -1,4 +1,4 @@
-use Rattle.std.proofs.Common.{◌≡◌, sym, ap, ◌∙◌, arith}
+use Rattle.std.proofs.Common.{sym, ◌∙◌, arith}
 use Rattle.scad_lexer.proofs.Scanned.{text_newline, text_closed, text_more, text_ends}
 use Rattle.scad_lexer.proofs.scan.text.Goals as goal
 

@@ -1,4 +1,3 @@
-use Rattle.std.proofs.Common.{◌≡◌, sym, ap, ◌∙◌, arith}
 use Rattle.scad_lexer.proofs.Scanned.{whole_then, no_digit}
 use Rattle.scad_lexer.proofs.scan.whole.Goals as goal
 

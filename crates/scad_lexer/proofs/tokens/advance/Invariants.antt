@@ -1,4 +1,4 @@
-use Rattle.std.proofs.Common.{◌≡◌, ◌+◌, ◌-◌, ◌≤◌, length, drop}
+use Rattle.std.proofs.Common.{◌≡◌, ◌+◌, ◌≤◌, drop}
 use Rattle.scad_lexer.specs.Tokens.{moved}
 use Rattle.scad_lexer.proofs.tokens.advance.Given as goal
 

@@ -1,4 +1,4 @@
-use Rattle.std.proofs.Common.{◌≡◌, arith, length-take-le, sym}
+use Rattle.std.proofs.Common.{arith, length-take-le, sym}
 use Rattle.std.proofs.lemmas.Bool.{eqb-true}
 use Rattle.std.proofs.lemmas.Result.{err_from_is_err_and}
 use Rattle.scad_lexer.proofs.Lexing.{goes_on, goes_end, goes_fault, rest_length}

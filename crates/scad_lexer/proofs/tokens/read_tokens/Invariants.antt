@@ -1,4 +1,4 @@
-use Rattle.std.proofs.Common.{◌≡◌, ◌+◌, ◌≤◌, length}
+use Rattle.std.proofs.Common.{◌+◌, ◌≤◌, length}
 use Rattle.scad_lexer.proofs.Lexing.{GoesOn}
 use Rattle.scad_lexer.proofs.tokens.read_tokens.Given as goal
 
