@@ -1,1 +1,4 @@
+pub mod Ahead
 pub mod Examples
+pub mod Greedy
+pub mod Readers

@@ -1,3 +1,4 @@
 pub mod Classes
 pub mod Grammar
 pub mod Languages
+pub mod Reading
