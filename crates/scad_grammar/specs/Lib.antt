@@ -1,4 +1,6 @@
 pub mod Classes
+pub mod Faults
 pub mod Grammar
 pub mod Languages
 pub mod Reading
+pub mod Reads
