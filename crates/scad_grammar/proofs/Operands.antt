@@ -6,7 +6,7 @@ use Rattle.scad_lexer.specs.declared.token.TokenKind.{TokenKind}
 use Rattle.scad_lexer.specs.declared.token.TokenKind.TheVariants.{Name, Symbol}
 use Rattle.scad_lexer.specs.declared.token.Symbol.TheVariants.{OpenBracket, CloseBracket, Dot, Plus, Minus, Or, And, Equal, Less, Times}
 use Rattle.scad_ast.specs.Terms.{Term, SuffixTerm}
-use Rattle.scad_grammar.specs.Classes.{name, open_parenthesis_sign, open_bracket_sign, close_bracket_sign, dot_sign, plus_sign, minus_sign, not_sign, among, is}
+use Rattle.scad_grammar.specs.Classes.{numeral, text, true_word, false_word, undef_word, child_count, name, open_parenthesis_sign, open_bracket_sign, close_bracket_sign, dot_sign, plus_sign, minus_sign, not_sign, among, is}
 use Rattle.scad_grammar.specs.Languages.{Language, One, Both, EitherOf, Many, Before, first_of}
 use Rattle.scad_grammar.specs.Grammar.{Primary, Suffix, Postfix, Unary, Chain, levels, index_of, member_of, postfix_of, unary_of}
 use Rattle.scad_grammar.specs.Reading.{starts, both, choice, many}
@@ -43,6 +43,13 @@ suffix_signs = open_bracket_sign ∷ dot_sign ∷ []
 abbrev pub operand_more : List ℕ
 operand_more = open_parenthesis_sign ∷ open_bracket_sign ∷ dot_sign ∷ []
 
+abbrev pub unary_signs : List ℕ
+unary_signs = minus_sign ∷ plus_sign ∷ not_sign ∷ []
+
+-- what may begin a primary
+abbrev pub firsts_of_primary : List ℕ
+firsts_of_primary = numeral ∷ text ∷ true_word ∷ false_word ∷ undef_word ∷ child_count ∷ name ∷ open_parenthesis_sign ∷ open_bracket_sign ∷ []
+
 suffix_opens : (E : Language Term) → Opens (Suffix E) (among suffix_signs)
 suffix_opens E =
     either_opens _ _ (among suffix_signs)
@@ -68,3 +75,27 @@ module _ (e : Reads Term) (E F : Language Term) (more : List ℕ) (ie : IsReader
         (then (one (is name)) (One (is name)) (One (is name)) (is dot_sign) (λ x t. false) (λ x t. false) member_of dot_one name_one (token (Name []) ∷ [], token (Name []), (refl, refl)) (λ t y rest h. h))
         (both_opens index_of (One (is open_bracket_sign)) _ _ (one_opens (is open_bracket_sign)))
         (λ x s rest h k. next_apart (dot_sign ∷ []) (open_bracket_sign ∷ []) refl (s ++ rest) (both_opens member_of (One (is dot_sign)) _ _ (one_opens (is dot_sign)) x s rest h))
+
+  suffixes_reads : IsReader (many (among suffix_signs) (suffix_read e)) (Many (Suffix E)) (Many (Suffix F)) (λ x. among operand_more)
+  suffixes_reads = many_reads (among suffix_signs) (suffix_read e) (Suffix E) (Suffix F) (λ x t. false) (among operand_more) suffix_reads (suffix_opens E) (λ x rest h. never_starts rest) (λ x rest h. never_starts rest) (next_less suffix_signs operand_more refl)
+
+  -- p is a primary
+  module _ (p : Reads Term) (P Q : Language Term) (ip : IsReader p P Q (λ x. among (open_parenthesis_sign ∷ []))) where
+    pub postfix_reads : IsReader (postfix_read e p) (Both postfix_of P (Many (Suffix E))) (Both postfix_of Q (Many (Suffix F))) (λ x. among operand_more)
+    postfix_reads =
+        both_reads postfix_of p (many (among suffix_signs) (suffix_read e)) P Q (Many (Suffix E)) (Many (Suffix F)) (λ x. among (open_parenthesis_sign ∷ [])) (λ x. among operand_more) (λ x. among operand_more) ip suffixes_reads
+          ([], [], refl)
+          (λ x. many_follows (Suffix E) (among suffix_signs) (among (open_parenthesis_sign ∷ [])) (among operand_more) (suffix_opens E) (next_apart suffix_signs (open_parenthesis_sign ∷ []) refl) (next_less (open_parenthesis_sign ∷ []) operand_more refl))
+          (λ x y rest h. h)
+
+    -- u is an operand one deeper
+    module _ (u : Reads Term) (U V : Language Term) (iu : IsReader u U V (λ x. among operand_more)) (some_u : (w : List Token) × (y : Term) × V y w)
+        (starts_p : Opens P (among firsts_of_primary)) where
+      pub unary_reads : IsReader (unary_read e u p) (EitherOf (Both unary_of (One (among unary_signs)) U) (Both postfix_of P (Many (Suffix E)))) (EitherOf (Both unary_of (One (among unary_signs)) V) (Both postfix_of Q (Many (Suffix F)))) (λ x. among operand_more)
+      unary_reads =
+          choice_reads (among unary_signs) (both unary_of (one (among unary_signs)) u) (postfix_read e p)
+            (Both unary_of (One (among unary_signs)) U) (Both unary_of (One (among unary_signs)) V) (Both postfix_of P (Many (Suffix E))) (Both postfix_of Q (Many (Suffix F))) (λ x. among operand_more)
+            (then u U V (among unary_signs) (λ x. among operand_more) (λ x. among operand_more) unary_of unary_one iu some_u (λ t y rest h. h))
+            postfix_reads
+            (both_opens unary_of (One (among unary_signs)) U (among unary_signs) (one_opens (among unary_signs)))
+            (λ x s rest h k. next_apart firsts_of_primary unary_signs refl (s ++ rest) (both_opens postfix_of P (Many (Suffix E)) (among firsts_of_primary) starts_p x s rest h))
