@@ -1,8 +1,8 @@
 -- A choice by the next two tokens.
-use Rattle.std.proofs.Common.{◌≡◌, ℕ, List, [], ◌∷◌, ◌++◌, Bool, true, false, cond, Result, Ok, Err, Option, Some, None, ◌⊎◌, inl, inr, refl, sym, ap, ◌∙◌, subst, append_assoc, ◌&&◌}
+use Rattle.std.proofs.Common.{◌≡◌, List, [], ◌∷◌, ◌++◌, Bool, true, false, cond, Ok, Err, ◌⊎◌, inl, inr, refl, sym, ap, ◌∙◌, subst, ◌&&◌}
 use Rattle.scad_grammar.specs.declared.SyntaxFault.{SyntaxFault as Kind}
 use Rattle.scad_grammar.specs.Reading.{Read, Reader, after, starts}
-use Rattle.scad_grammar.proofs.Readers.{SameHead, Begins, Told, IsReader, seen}
+use Rattle.scad_grammar.proofs.Readers.{SameHead, Told, IsReader, seen}
 
 abbrev pub two : {T : Type 0} → (T → Bool) → (T → Bool) → List T → Bool
 two a b [] = false

@@ -1,12 +1,12 @@
 -- Small programs of the grammar, by hand.
-use Rattle.std.proofs.Common.{◌≡◌, ℕ, zero, suc, List, [], ◌∷◌, Option, Some, None, inl, inr, refl}
+use Rattle.std.proofs.Common.{ℕ, suc, [], ◌∷◌, inl, refl}
 use Rattle.text_place.specs.declared.fault.Place.{Place}
 use Rattle.scad_lexer.specs.declared.token.Token.{Token}
 use Rattle.scad_lexer.specs.declared.token.TokenKind.{TokenKind}
-use Rattle.scad_lexer.specs.declared.token.TokenKind.TheVariants.{Numeral, Name, Symbol, End}
-use Rattle.scad_lexer.specs.declared.token.Symbol.TheVariants.{Semicolon, Assign}
-use Rattle.scad_ast.specs.Terms.{Term, NumberTerm, StatementTerm, EmptyStatement, AssignmentTerm}
-use Rattle.scad_grammar.specs.Grammar.{Expr, Operand, Statement, Body, Program}
+use Rattle.scad_lexer.specs.declared.token.TokenKind.TheVariants.{Symbol, End}
+use Rattle.scad_lexer.specs.declared.token.Symbol.TheVariants.{Semicolon}
+use Rattle.scad_ast.specs.Terms.{EmptyStatement}
+use Rattle.scad_grammar.specs.Grammar.{Statement, Program}
 
 abbrev at : ℕ → Place
 at column = record { line = 1; column = column }

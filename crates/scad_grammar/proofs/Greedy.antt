@@ -1,9 +1,9 @@
 -- Two parts that are read one after the other only where they go together, as an `if` and its `else`.
-use Rattle.std.proofs.Common.{◌≡◌, ℕ, List, [], ◌∷◌, ◌++◌, Bool, true, false, cond, Result, Ok, Err, Option, Some, None, ◌⊎◌, inl, inr, refl, sym, ap, ◌∙◌, subst, append_assoc, ◌&&◌}
+use Rattle.std.proofs.Common.{◌≡◌, List, [], ◌∷◌, ◌++◌, Bool, true, false, cond, Ok, Err, Option, Some, None, inl, inr, refl, sym, ap, ◌∙◌, subst, append_assoc}
 use Rattle.scad_grammar.specs.declared.SyntaxFault.{SyntaxFault as Kind}
 use Rattle.scad_grammar.specs.declared.SyntaxFault.TheVariants.{Expected, Nested, NotInProfile}
 use Rattle.scad_grammar.specs.Reading.{Read, Reader, after, starts, mapped, nothing, both, choice}
-use Rattle.scad_grammar.proofs.Readers.{SameHead, Begins, Told, IsReader, seen, same_behind, same_start, EitherOf, Mapped, Nothing, Opens, mapped_opens, same_reads, choice_reads, mapped_reads, nothing_reads}
+use Rattle.scad_grammar.proofs.Readers.{SameHead, Begins, Told, IsReader, seen, same_behind, EitherOf, Mapped, Nothing, Opens, mapped_opens, same_reads, choice_reads, mapped_reads, nothing_reads}
 
 -- what was read says which tokens don't follow it
 abbrev pub Stops : {T A : Type 0} → Reader T Kind A → (A → T → Bool) → Type 0
@@ -36,27 +36,36 @@ module _ {T A B C : Type 0} (f : A → B → C) (Fit : A → B → Type 0) (ra :
   second : (ts : List T) (a : A) (us : List T) → ra ts ≡ Ok (a, us) → Told ra La Wa ts (Ok (a, us)) → (q : Read T Kind B) → Told rb Lb Wb us q
       → Told (both f ra rb) (BothIf f Fit La Lb) (BothIf f Fit Wa Wb) ts (after q (λ b ts. Ok (f a b, ts)))
   second ts a us e t (Ok q) u =
-      let stop : starts (la a) (u.0 ++ q.1) ≡ false = ap (starts (la a)) (sym u.1) ∙ sa ts a us e in
-      (t.0 ++ u.0, t.1 ∙ ap (λ l. t.0 ++ l) u.1 ∙ sym (append_assoc t.0 u.0 q.1), (a, q.0, t.0, u.0, t.2, u.2, fits a q.0 u.0 q.1 (ib.wide q.0 u.0 u.2) stop, refl, refl),
+      let stop : starts (la a) (u.0 ++ q.1) ≡ false = ap (starts (la a)) (sym u.1) ∙ sa ts a us e in (
+        t.0 ++ u.0,
+        t.1 ∙ ap (λ l. t.0 ++ l) u.1 ∙ sym (append_assoc t.0 u.0 q.1),
+        (a, q.0, t.0, u.0, t.2, u.2, fits a q.0 u.0 q.1 (ib.wide q.0 u.0 u.2) stop, refl, refl),
         λ rest h.
-          ap (both f ra rb) (append_assoc t.0 u.0 rest)
-          ∙ ap (λ r. after r (λ a ts. after (rb ts) (λ b ts. Ok (f a b, ts)))) (t.3 (u.0 ++ rest) (subst (λ l. SameHead l (u.0 ++ rest)) (sym u.1) (same_behind u.0 q.1 rest h)))
-          ∙ ap (λ r. after r (λ b ts. Ok (f a b, ts))) (u.3 rest h))
+            ap (both f ra rb) (append_assoc t.0 u.0 rest)
+            ∙ ap (λ r. after r (λ a ts. after (rb ts) (λ b ts. Ok (f a b, ts)))) (t.3 (u.0 ++ rest) (subst (λ l. SameHead l (u.0 ++ rest)) (sym u.1) (same_behind u.0 q.1 rest h)))
+            ∙ ap (λ r. after r (λ b ts. Ok (f a b, ts))) (u.3 rest h),
+      )
   second ts a us e t (Err x) u =
       let stop : starts (la a) (u.0 ++ x.1) ≡ false = ap (starts (la a)) (sym u.1) ∙ sa ts a us e in
-      let b = begun a t.0 (u.0 ++ seen x.0 x.1) (ia.wide a t.0 t.2) (start_seen (la a) u.0 x.0 x.1 stop) u.2 in
-      (t.0 ++ u.0, t.1 ∙ ap (λ l. t.0 ++ l) u.1 ∙ sym (append_assoc t.0 u.0 x.1), subst (Begins (BothIf f Fit Wa Wb)) (sym (append_assoc t.0 u.0 (seen x.0 x.1))) b,
+      let b = begun a t.0 (u.0 ++ seen x.0 x.1) (ia.wide a t.0 t.2) (start_seen (la a) u.0 x.0 x.1 stop) u.2 in (
+        t.0 ++ u.0,
+        t.1 ∙ ap (λ l. t.0 ++ l) u.1 ∙ sym (append_assoc t.0 u.0 x.1),
+        subst (Begins (BothIf f Fit Wa Wb)) (sym (append_assoc t.0 u.0 (seen x.0 x.1))) b,
         λ rest h.
-          ap (both f ra rb) (append_assoc t.0 u.0 rest)
-          ∙ ap (λ r. after r (λ a ts. after (rb ts) (λ b ts. Ok (f a b, ts)))) (t.3 (u.0 ++ rest) (subst (λ l. SameHead l (u.0 ++ rest)) (sym u.1) (same_behind u.0 x.1 rest h)))
-          ∙ ap (λ r. after r (λ b ts. Ok (f a b, ts))) (u.3 rest h))
+            ap (both f ra rb) (append_assoc t.0 u.0 rest)
+            ∙ ap (λ r. after r (λ a ts. after (rb ts) (λ b ts. Ok (f a b, ts)))) (t.3 (u.0 ++ rest) (subst (λ l. SameHead l (u.0 ++ rest)) (sym u.1) (same_behind u.0 x.1 rest h)))
+            ∙ ap (λ r. after r (λ b ts. Ok (f a b, ts))) (u.3 rest h),
+      )
 
   first : (ts : List T) (r : Read T Kind A) → ra ts ≡ r → Told ra La Wa ts r → Told (both f ra rb) (BothIf f Fit La Lb) (BothIf f Fit Wa Wb) ts (after r (λ a ts. after (rb ts) (λ b ts. Ok (f a b, ts))))
   first ts (Ok p) e t = second ts p.0 p.1 e t (rb p.1) (ib.told p.1)
   first ts (Err x) e t =
-      let s = some t.2.1 in
-      (t.0, t.1, (t.2.0 ++ s.0, f t.2.1 s.1, (t.2.1, s.1, (t.0 ++ seen x.0 x.1) ++ t.2.0, s.0, t.2.2, s.2, s.3, refl, sym (append_assoc (t.0 ++ seen x.0 x.1) t.2.0 s.0))),
-        λ rest h. ap (λ r. after r (λ a ts. after (rb ts) (λ b ts. Ok (f a b, ts)))) (t.3 rest h))
+      let s = some t.2.1 in (
+        t.0,
+        t.1,
+        (t.2.0 ++ s.0, f t.2.1 s.1, (t.2.1, s.1, (t.0 ++ seen x.0 x.1) ++ t.2.0, s.0, t.2.2, s.2, s.3, refl, sym (append_assoc (t.0 ++ seen x.0 x.1) t.2.0 s.0))),
+        λ rest h. ap (λ r. after r (λ a ts. after (rb ts) (λ b ts. Ok (f a b, ts)))) (t.3 rest h),
+      )
 
   complete : (c : C) (s rest : List T) → BothIf f Fit La Lb c s → starts (mc c) rest ≡ false → both f ra rb (s ++ rest) ≡ Ok (c, rest)
   complete c s rest h e =
@@ -68,10 +77,10 @@ module _ {T A B C : Type 0} (f : A → B → C) (Fit : A → B → Type 0) (ra :
 
   pub both_if_reads : IsReader (both f ra rb) (BothIf f Fit La Lb) (BothIf f Fit Wa Wb) mc
   both_if_reads = record {
-      told = λ ts. first ts (ra ts) refl (ia.told ts);
-      wide = λ c s h. (h.0, h.1, h.2, h.3, ia.wide h.0 h.2 h.4, ib.wide h.1 h.3 h.5, h.6, h.7, h.8);
-      complete = complete;
-    }
+    told = λ ts. first ts (ra ts) refl (ia.told ts);
+    wide = λ c s h. (h.0, h.1, h.2, h.3, ia.wide h.0 h.2 h.4, ib.wide h.1 h.3 h.5, h.6, h.7, h.8);
+    complete = complete;
+  }
 
 -- what stops behind the second part of two
 module _ {T A B C : Type 0} (f : A → B → C) (ra : Reader T Kind A) (rb : Reader T Kind B) (lb : B → T → Bool) (lc : C → T → Bool) (sb : Stops rb lb)
@@ -136,7 +145,7 @@ module _ {T A : Type 0} (test : T → Bool) (r : Reader T Kind A) (L W : A → L
   pub maybe_reads : IsReader (maybe test r) (Maybe L) (Maybe W) (or_first test more)
   maybe_reads =
       same_reads (maybe test r) (EitherOf (Mapped Some L) (Nothing None)) (EitherOf (Mapped Some W) (Nothing None)) (Maybe L) (Maybe W) (or_first test more)
-        (choice_reads test (mapped Some r) (nothing None) (Mapped Some L) (Mapped Some W) (Nothing None) (Nothing None) (or_first test more)
-          (mapped_reads Some r L W more (or_first test more) ir (λ x rest e. e)) (nothing_reads None (or_first test more))
-          (mapped_opens Some L test opens) nothing_stands)
-        (to_maybe L) from_maybe (to_maybe W)
+      (choice_reads test (mapped Some r) (nothing None) (Mapped Some L) (Mapped Some W) (Nothing None) (Nothing None) (or_first test more)
+      (mapped_reads Some r L W more (or_first test more) ir (λ x rest e. e)) (nothing_reads None (or_first test more))
+      (mapped_opens Some L test opens) nothing_stands)
+      (to_maybe L) from_maybe (to_maybe W)

@@ -1,7 +1,7 @@
 -- Chains of operators at many levels, read by one function of the levels.
-use Rattle.std.proofs.Common.{◌≡◌, ℕ, zero, suc, List, [], ◌∷◌, ◌++◌, Bool, true, false, cond, refl, sym, ap, ◌∙◌, nat_eq, append-nil}
+use Rattle.std.proofs.Common.{◌≡◌, ℕ, List, [], ◌∷◌, ◌++◌, Bool, true, false, cond, refl, sym, nat_eq, append-nil}
 use Rattle.scad_lexer.specs.declared.token.Token.{Token}
-use Rattle.scad_ast.specs.Terms.{Term, LinkTerm}
+use Rattle.scad_ast.specs.Terms.{Term}
 use Rattle.scad_grammar.specs.Classes.{among, listed}
 use Rattle.scad_grammar.specs.Reading.{starts, both, many}
 use Rattle.scad_grammar.specs.Languages.{Language, Both, Many, One}
@@ -9,7 +9,7 @@ use Rattle.scad_grammar.specs.Grammar.{Chain, chain_of, link}
 use Rattle.scad_grammar.specs.Faults.{Reads, one}
 use Rattle.scad_grammar.specs.Reads.{chain_read}
 use Rattle.scad_grammar.proofs.Readers.{IsReader, both_reads, many_reads, many_follows, both_opens, one_opens}
-use Rattle.scad_grammar.proofs.Tests.{OneReads, then, apart, next_apart, next_less}
+use Rattle.scad_grammar.proofs.Tests.{OneReads, then, apart, next_apart}
 
 -- what may go on a chain
 abbrev pub goes_on : List (List ℕ) → List ℕ → List ℕ
@@ -58,12 +58,12 @@ chain_reads (ops ∷ levels) more u U V g o iu some =
     let below = chain_reads levels more u U V here.1 o.1 iu some in
     let item = then (chain_read levels u) (Chain levels U) (Chain levels V) (among ops) (λ x. among (goes_on levels more)) (λ x. among (goes_on levels more)) link o.0 below (some_chain levels V some) (λ t y rest e. e) in
     both_reads chain_of (chain_read levels u) (many (among ops) (both link (one (among ops)) (chain_read levels u))) (Chain levels U) (Chain levels V) (Many (Both link (One (among ops)) (Chain levels U))) (Many (Both link (One (among ops)) (Chain levels V)))
-      (λ x. among (goes_on levels more)) (λ x. among (ops ++ goes_on levels more)) (λ x. among (ops ++ goes_on levels more))
-      below
-      (many_reads (among ops) (both link (one (among ops)) (chain_read levels u)) (Both link (One (among ops)) (Chain levels U)) (Both link (One (among ops)) (Chain levels V)) (λ x. among (goes_on levels more)) (among (ops ++ goes_on levels more))
-        item (both_opens link (One (among ops)) (Chain levels U) (among ops) (one_opens (among ops)))
-        (λ x. next_apart ops (goes_on levels more) here.0) (λ x. less_right ops (goes_on levels more)) (less_left ops (goes_on levels more)))
-      ([], [], refl)
-      (λ x. many_follows (Both link (One (among ops)) (Chain levels U)) (among ops) (among (goes_on levels more)) (among (ops ++ goes_on levels more)) (both_opens link (One (among ops)) (Chain levels U) (among ops) (one_opens (among ops)))
-        (next_apart ops (goes_on levels more) here.0) (less_right ops (goes_on levels more)))
-      (λ x y rest e. e)
+    (λ x. among (goes_on levels more)) (λ x. among (ops ++ goes_on levels more)) (λ x. among (ops ++ goes_on levels more))
+    below
+    (many_reads (among ops) (both link (one (among ops)) (chain_read levels u)) (Both link (One (among ops)) (Chain levels U)) (Both link (One (among ops)) (Chain levels V)) (λ x. among (goes_on levels more)) (among (ops ++ goes_on levels more))
+    item (both_opens link (One (among ops)) (Chain levels U) (among ops) (one_opens (among ops)))
+    (λ x. next_apart ops (goes_on levels more) here.0) (λ x. less_right ops (goes_on levels more)) (less_left ops (goes_on levels more)))
+    ([], [], refl)
+    (λ x. many_follows (Both link (One (among ops)) (Chain levels U)) (among ops) (among (goes_on levels more)) (among (ops ++ goes_on levels more)) (both_opens link (One (among ops)) (Chain levels U) (among ops) (one_opens (among ops)))
+    (next_apart ops (goes_on levels more) here.0) (less_right ops (goes_on levels more)))
+    (λ x y rest e. e)

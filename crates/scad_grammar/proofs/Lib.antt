@@ -5,3 +5,4 @@ pub mod Levels
 pub mod Operands
 pub mod Readers
 pub mod Tests
+pub mod Trailing

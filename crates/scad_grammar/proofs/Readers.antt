@@ -1,5 +1,5 @@
 -- Laws of readers: what they read is in their language, and they look no further than one token.
-use Rattle.std.proofs.Common.{◌≡◌, ℕ, zero, suc, ◌+◌, ◌<◌, ◌≤◌, List, [], ◌∷◌, ◌++◌, length, Bool, true, false, cond, Result, Ok, Err, Option, Some, None, ◌⊎◌, inl, inr, refl, sym, ap, ◌∙◌, subst, arith, append_assoc, length-append, append-nil}
+use Rattle.std.proofs.Common.{◌≡◌, ℕ, zero, suc, ◌<◌, ◌≤◌, List, [], ◌∷◌, ◌++◌, length, Bool, true, false, cond, Ok, Err, Option, Some, None, ◌⊎◌, inl, inr, refl, sym, ap, ◌∙◌, subst, arith, append_assoc, length-append, append-nil}
 use Rattle.scad_grammar.specs.declared.SyntaxFault.{SyntaxFault as Kind}
 use Rattle.scad_grammar.specs.declared.SyntaxFault.TheVariants.{Expected, Nested, NotInProfile}
 use Rattle.scad_grammar.specs.Reading.{Read, Reader, after, starts, one_of, mapped, nothing, both, choice, with_front, in_front, many_times, many}
@@ -84,25 +84,33 @@ module _ {T A B C : Type 0} (f : A → B → C) (ra : Reader T Kind A) (rb : Rea
     (down : (x : A) (y : B) (rest : List T) → starts (mc (f x y)) rest ≡ false → starts (mb y) rest ≡ false) where
   both_second : (ts : List T) (a : A) (ts' : List T) → Told ra La Wa ts (Ok (a, ts')) → (r : Read T Kind B) → rb ts' ≡ r → Told rb Lb Wb ts' r
       → Told (both f ra rb) (Both f La Lb) (Both f Wa Wb) ts (after r (λ b ts. Ok (f a b, ts)))
-  both_second ts a ts' t (Ok q) e u =
-      (t.0 ++ u.0, t.1 ∙ ap (λ l. t.0 ++ l) u.1 ∙ sym (append_assoc t.0 u.0 q.1), (a, q.0, t.0, u.0, t.2, u.2, refl, refl),
-        λ rest h.
-          ap (both f ra rb) (append_assoc t.0 u.0 rest)
-          ∙ ap (λ r. after r (λ a ts. after (rb ts) (λ b ts. Ok (f a b, ts)))) (t.3 (u.0 ++ rest) (subst (λ l. SameHead l (u.0 ++ rest)) (sym u.1) (same_behind u.0 q.1 rest h)))
-          ∙ ap (λ r. after r (λ b ts. Ok (f a b, ts))) (u.3 rest h))
-  both_second ts a ts' t (Err x) e u =
-      (t.0 ++ u.0, t.1 ∙ ap (λ l. t.0 ++ l) u.1 ∙ sym (append_assoc t.0 u.0 x.1),
-        (u.2.0, f a u.2.1, (a, u.2.1, t.0, (u.0 ++ seen x.0 x.1) ++ u.2.0, ia.wide a t.0 t.2, u.2.2, refl, ap (λ l. l ++ u.2.0) (append_assoc t.0 u.0 (seen x.0 x.1)) ∙ append_assoc t.0 (u.0 ++ seen x.0 x.1) u.2.0)),
-        λ rest h.
-          ap (both f ra rb) (append_assoc t.0 u.0 rest)
-          ∙ ap (λ r. after r (λ a ts. after (rb ts) (λ b ts. Ok (f a b, ts)))) (t.3 (u.0 ++ rest) (subst (λ l. SameHead l (u.0 ++ rest)) (sym u.1) (same_behind u.0 x.1 rest h)))
-          ∙ ap (λ r. after r (λ b ts. Ok (f a b, ts))) (u.3 rest h))
+  both_second ts a ts' t (Ok q) e u = (
+    t.0 ++ u.0,
+    t.1 ∙ ap (λ l. t.0 ++ l) u.1 ∙ sym (append_assoc t.0 u.0 q.1),
+    (a, q.0, t.0, u.0, t.2, u.2, refl, refl),
+    λ rest h.
+        ap (both f ra rb) (append_assoc t.0 u.0 rest)
+        ∙ ap (λ r. after r (λ a ts. after (rb ts) (λ b ts. Ok (f a b, ts)))) (t.3 (u.0 ++ rest) (subst (λ l. SameHead l (u.0 ++ rest)) (sym u.1) (same_behind u.0 q.1 rest h)))
+        ∙ ap (λ r. after r (λ b ts. Ok (f a b, ts))) (u.3 rest h),
+  )
+  both_second ts a ts' t (Err x) e u = (
+    t.0 ++ u.0,
+    t.1 ∙ ap (λ l. t.0 ++ l) u.1 ∙ sym (append_assoc t.0 u.0 x.1),
+    (u.2.0, f a u.2.1, (a, u.2.1, t.0, (u.0 ++ seen x.0 x.1) ++ u.2.0, ia.wide a t.0 t.2, u.2.2, refl, ap (λ l. l ++ u.2.0) (append_assoc t.0 u.0 (seen x.0 x.1)) ∙ append_assoc t.0 (u.0 ++ seen x.0 x.1) u.2.0)),
+    λ rest h.
+        ap (both f ra rb) (append_assoc t.0 u.0 rest)
+        ∙ ap (λ r. after r (λ a ts. after (rb ts) (λ b ts. Ok (f a b, ts)))) (t.3 (u.0 ++ rest) (subst (λ l. SameHead l (u.0 ++ rest)) (sym u.1) (same_behind u.0 x.1 rest h)))
+        ∙ ap (λ r. after r (λ b ts. Ok (f a b, ts))) (u.3 rest h),
+  )
 
   both_first : (ts : List T) (r : Read T Kind A) → Told ra La Wa ts r → Told (both f ra rb) (Both f La Lb) (Both f Wa Wb) ts (after r (λ a ts. after (rb ts) (λ b ts. Ok (f a b, ts))))
   both_first ts (Ok p) t = both_second ts p.0 p.1 t (rb p.1) refl (ib.told p.1)
-  both_first ts (Err x) t =
-      (t.0, t.1, (t.2.0 ++ some.0, f t.2.1 some.1, (t.2.1, some.1, (t.0 ++ seen x.0 x.1) ++ t.2.0, some.0, t.2.2, some.2, refl, sym (append_assoc (t.0 ++ seen x.0 x.1) t.2.0 some.0))),
-        λ rest h. ap (λ r. after r (λ a ts. after (rb ts) (λ b ts. Ok (f a b, ts)))) (t.3 rest h))
+  both_first ts (Err x) t = (
+    t.0,
+    t.1,
+    (t.2.0 ++ some.0, f t.2.1 some.1, (t.2.1, some.1, (t.0 ++ seen x.0 x.1) ++ t.2.0, some.0, t.2.2, some.2, refl, sym (append_assoc (t.0 ++ seen x.0 x.1) t.2.0 some.0))),
+    λ rest h. ap (λ r. after r (λ a ts. after (rb ts) (λ b ts. Ok (f a b, ts)))) (t.3 rest h),
+  )
 
   both_complete : (c : C) (s rest : List T) → Both f La Lb c s → starts (mc c) rest ≡ false → both f ra rb (s ++ rest) ≡ Ok (c, rest)
   both_complete c s rest h e =
@@ -124,18 +132,34 @@ module _ {T A : Type 0} (test : T → Bool) (ra rb : Reader T Kind A) (La Wa Lb 
     (first : (x : A) (s rest : List T) → La x s → starts test (s ++ rest) ≡ true)
     (other : (x : A) (s rest : List T) → Lb x s → starts (more x) rest ≡ false → starts test (s ++ rest) ≡ false) where
   choice_of : (ts : List T) (b : Bool) → starts test ts ≡ b → (r q : Read T Kind A) → Told ra La Wa ts r → Told rb Lb Wb ts q → Told (choice test ra rb) (EitherOf La Lb) (EitherOf Wa Wb) ts (cond b r q)
-  choice_of ts true e (Ok p) q t u =
-      (t.0, t.1, inl t.2, λ rest h.
-        ap (λ b. cond b (ra (t.0 ++ rest)) (rb (t.0 ++ rest))) (same_start test (t.0 ++ p.1) (t.0 ++ rest) (same_behind t.0 p.1 rest h) ∙ ap (starts test) (sym t.1) ∙ e) ∙ t.3 rest h)
-  choice_of ts true e (Err p) q t u =
-      (t.0, t.1, (t.2.0, t.2.1, inl t.2.2), λ rest h.
-        ap (λ b. cond b (ra (t.0 ++ rest)) (rb (t.0 ++ rest))) (same_start test (t.0 ++ p.1) (t.0 ++ rest) (same_behind t.0 p.1 rest h) ∙ ap (starts test) (sym t.1) ∙ e) ∙ t.3 rest h)
-  choice_of ts false e r (Ok p) t u =
-      (u.0, u.1, inr u.2, λ rest h.
-        ap (λ b. cond b (ra (u.0 ++ rest)) (rb (u.0 ++ rest))) (same_start test (u.0 ++ p.1) (u.0 ++ rest) (same_behind u.0 p.1 rest h) ∙ ap (starts test) (sym u.1) ∙ e) ∙ u.3 rest h)
-  choice_of ts false e r (Err p) t u =
-      (u.0, u.1, (u.2.0, u.2.1, inr u.2.2), λ rest h.
-        ap (λ b. cond b (ra (u.0 ++ rest)) (rb (u.0 ++ rest))) (same_start test (u.0 ++ p.1) (u.0 ++ rest) (same_behind u.0 p.1 rest h) ∙ ap (starts test) (sym u.1) ∙ e) ∙ u.3 rest h)
+  choice_of ts true e (Ok p) q t u = (
+    t.0,
+    t.1,
+    inl t.2,
+    λ rest h.
+        ap (λ b. cond b (ra (t.0 ++ rest)) (rb (t.0 ++ rest))) (same_start test (t.0 ++ p.1) (t.0 ++ rest) (same_behind t.0 p.1 rest h) ∙ ap (starts test) (sym t.1) ∙ e) ∙ t.3 rest h,
+  )
+  choice_of ts true e (Err p) q t u = (
+    t.0,
+    t.1,
+    (t.2.0, t.2.1, inl t.2.2),
+    λ rest h.
+        ap (λ b. cond b (ra (t.0 ++ rest)) (rb (t.0 ++ rest))) (same_start test (t.0 ++ p.1) (t.0 ++ rest) (same_behind t.0 p.1 rest h) ∙ ap (starts test) (sym t.1) ∙ e) ∙ t.3 rest h,
+  )
+  choice_of ts false e r (Ok p) t u = (
+    u.0,
+    u.1,
+    inr u.2,
+    λ rest h.
+        ap (λ b. cond b (ra (u.0 ++ rest)) (rb (u.0 ++ rest))) (same_start test (u.0 ++ p.1) (u.0 ++ rest) (same_behind u.0 p.1 rest h) ∙ ap (starts test) (sym u.1) ∙ e) ∙ u.3 rest h,
+  )
+  choice_of ts false e r (Err p) t u = (
+    u.0,
+    u.1,
+    (u.2.0, u.2.1, inr u.2.2),
+    λ rest h.
+        ap (λ b. cond b (ra (u.0 ++ rest)) (rb (u.0 ++ rest))) (same_start test (u.0 ++ p.1) (u.0 ++ rest) (same_behind u.0 p.1 rest h) ∙ ap (starts test) (sym u.1) ∙ e) ∙ u.3 rest h,
+  )
 
   choice_complete : (x : A) (s rest : List T) → EitherOf La Lb x s → starts (more x) rest ≡ false → choice test ra rb (s ++ rest) ≡ Ok (x, rest)
   choice_complete x s rest (inl h) e = ap (λ b. cond b (ra (s ++ rest)) (rb (s ++ rest))) (first x s rest h) ∙ ia.complete x s rest h e
@@ -154,10 +178,10 @@ Nothing a x s = (x ≡ a) × (s ≡ [])
 
 pub nothing_reads : {T A : Type 0} (a : A) (more : A → T → Bool) → IsReader (nothing a) (Nothing a) (Nothing a) more
 nothing_reads a more = record {
-    told = λ ts. ([], refl, (refl, refl), λ rest h. refl);
-    wide = λ x s h. h;
-    complete = λ x s rest h e. ap (λ l. Ok (a, l ++ rest)) h.1 ∙ ap (λ x. Ok (x, rest)) (sym h.0);
-  }
+  told = λ ts. ([], refl, (refl, refl), λ rest h. refl);
+  wide = λ x s h. h;
+  complete = λ x s rest h e. ap (λ l. Ok (a, l ++ rest)) h.1 ∙ ap (λ x. Ok (x, rest)) (sym h.0);
+}
 
 -- the same language in other words
 pub same_reads : {T A : Type 0} (r : Reader T Kind A) (L W M V : A → List T → Type 0) (more : A → T → Bool) → IsReader r L W more
@@ -234,27 +258,39 @@ module _ {T A : Type 0} (test : T → Bool) (r : Reader T Kind A) (L W : A → L
   start_of s a b h e = same_start test (s ++ a) (s ++ b) (same_behind s a b h) ∙ e
 
   told_rest : (ts : List T) (x : A) (us : List T) → starts test ts ≡ true → Told r L W ts (Ok (x, us)) → (q : Read T Kind (List A)) → Told (many test r) (Many L) (Many W) us q → Told (many test r) (Many L) (Many W) ts (with_front x q)
-  told_rest ts x us e t (Ok p) u =
-      (t.0 ++ u.0, t.1 ∙ ap (λ l. t.0 ++ l) u.1 ∙ sym (append_assoc t.0 u.0 p.1), (t.0, u.0, t.2, u.2, refl), λ rest h.
+  told_rest ts x us e t (Ok p) u = (
+    t.0 ++ u.0,
+    t.1 ∙ ap (λ l. t.0 ++ l) u.1 ∙ sym (append_assoc t.0 u.0 p.1),
+    (t.0, u.0, t.2, u.2, refl),
+    λ rest h.
         let behind = subst (λ l. SameHead l (u.0 ++ rest)) (sym u.1) (same_behind u.0 p.1 rest h) in
         ap (many test r) (append_assoc t.0 u.0 rest)
         ∙ many_front (t.0 ++ (u.0 ++ rest)) x (u.0 ++ rest) (start_of t.0 us (u.0 ++ rest) behind (ap (starts test) (sym t.1) ∙ e)) (t.3 (u.0 ++ rest) behind)
-        ∙ ap (with_front x) (u.3 rest h))
-  told_rest ts x us e t (Err p) u =
-      (t.0 ++ u.0, t.1 ∙ ap (λ l. t.0 ++ l) u.1 ∙ sym (append_assoc t.0 u.0 p.1), (u.2.0, x ∷ u.2.1, (t.0, (u.0 ++ seen p.0 p.1) ++ u.2.0, ir.wide x t.0 t.2, u.2.2, ap (λ l. l ++ u.2.0) (append_assoc t.0 u.0 (seen p.0 p.1)) ∙ append_assoc t.0 (u.0 ++ seen p.0 p.1) u.2.0)), λ rest h.
+        ∙ ap (with_front x) (u.3 rest h),
+  )
+  told_rest ts x us e t (Err p) u = (
+    t.0 ++ u.0,
+    t.1 ∙ ap (λ l. t.0 ++ l) u.1 ∙ sym (append_assoc t.0 u.0 p.1),
+    (u.2.0, x ∷ u.2.1, (t.0, (u.0 ++ seen p.0 p.1) ++ u.2.0, ir.wide x t.0 t.2, u.2.2, ap (λ l. l ++ u.2.0) (append_assoc t.0 u.0 (seen p.0 p.1)) ∙ append_assoc t.0 (u.0 ++ seen p.0 p.1) u.2.0)),
+    λ rest h.
         let behind = subst (λ l. SameHead l (u.0 ++ rest)) (sym u.1) (same_behind u.0 p.1 rest h) in
         ap (many test r) (append_assoc t.0 u.0 rest)
         ∙ many_front (t.0 ++ (u.0 ++ rest)) x (u.0 ++ rest) (start_of t.0 us (u.0 ++ rest) behind (ap (starts test) (sym t.1) ∙ e)) (t.3 (u.0 ++ rest) behind)
-        ∙ ap (with_front x) (u.3 rest h))
+        ∙ ap (with_front x) (u.3 rest h),
+  )
 
   told_step : (n : ℕ) → ((us : List T) → length us ≤ n → Told (many test r) (Many L) (Many W) us (many test r us)) → (ts : List T) → length ts ≤ suc n → (b : Bool) → starts test ts ≡ b
       → (q : Read T Kind A) → r ts ≡ q → Told r L W ts q → Told (many test r) (Many L) (Many W) ts (cond b (after q (λ x us. with_front x (many test r us))) (Ok ([], ts)))
   told_step n ih ts a true e (Ok p) f t =
       let less : length p.1 < length ts = shrinks ts (r ts) (ir.told ts) p f in
       told_rest ts p.0 p.1 e t (many test r p.1) (ih p.1 (omega arith))
-  told_step n ih ts a true e (Err p) f t =
-      (t.0, t.1, (t.2.0, t.2.1 ∷ [], ((t.0 ++ seen p.0 p.1) ++ t.2.0, [], t.2.2, refl, sym (append-nil ((t.0 ++ seen p.0 p.1) ++ t.2.0)))), λ rest h.
-        many_fault (t.0 ++ rest) (p.0, rest) (start_of t.0 p.1 rest h (ap (starts test) (sym t.1) ∙ e)) (t.3 rest h))
+  told_step n ih ts a true e (Err p) f t = (
+    t.0,
+    t.1,
+    (t.2.0, t.2.1 ∷ [], ((t.0 ++ seen p.0 p.1) ++ t.2.0, [], t.2.2, refl, sym (append-nil ((t.0 ++ seen p.0 p.1) ++ t.2.0)))),
+    λ rest h.
+        many_fault (t.0 ++ rest) (p.0, rest) (start_of t.0 p.1 rest h (ap (starts test) (sym t.1) ∙ e)) (t.3 rest h),
+  )
   told_step n ih ts a false e q f t = ([], refl, refl, λ rest h. many_none rest (same_start test ts rest h ∙ e))
 
   told_many : (n : ℕ) (ts : List T) → length ts ≤ n → Told (many test r) (Many L) (Many W) ts (many test r ts)
@@ -286,10 +322,10 @@ Mapped {T} {A} f L b s = (a : A) × L a s × (b ≡ f a)
 
 pub mapped_reads : {T A B : Type 0} (f : A → B) (r : Reader T Kind A) (L W : A → List T → Type 0) (more : A → T → Bool) (next : B → T → Bool) → IsReader r L W more → ((x : A) (rest : List T) → starts (next (f x)) rest ≡ false → starts (more x) rest ≡ false) → IsReader (mapped f r) (Mapped f L) (Mapped f W) next
 mapped_reads {T} {A} {B} f r L W more next ir down = record {
-    told = λ ts. told ts (r ts) (ir.told ts);
-    wide = λ b s h. (h.0, ir.wide h.0 s h.1, h.2);
-    complete = λ b s rest h e. ap (λ q. after q (λ a ts. Ok (f a, ts))) (ir.complete h.0 s rest h.1 (down h.0 rest (ap (λ b. starts (next b) rest) (sym h.2) ∙ e))) ∙ ap (λ b. Ok (b, rest)) (sym h.2);
-  }
+  told = λ ts. told ts (r ts) (ir.told ts);
+  wide = λ b s h. (h.0, ir.wide h.0 s h.1, h.2);
+  complete = λ b s rest h e. ap (λ q. after q (λ a ts. Ok (f a, ts))) (ir.complete h.0 s rest h.1 (down h.0 rest (ap (λ b. starts (next b) rest) (sym h.2) ∙ e))) ∙ ap (λ b. Ok (b, rest)) (sym h.2);
+}
   where
     told : (ts : List T) (q : Read T Kind A) → Told r L W ts q → Told (mapped f r) (Mapped f L) (Mapped f W) ts (after q (λ a ts. Ok (f a, ts)))
     told ts (Ok p) t = (t.0, t.1, (p.0, t.2, refl), λ rest h. ap (λ q. after q (λ a ts. Ok (f a, ts))) (t.3 rest h))

@@ -1,14 +1,13 @@
 -- Classes of the next token, and one token of a class.
 use Rattle.std.proofs.lemmas.Bool.Decides.{eqb_tells}
-use Rattle.std.proofs.Common.{◌≡◌, ℕ, zero, suc, ◌+◌, List, [], ◌∷◌, ◌++◌, Bool, true, false, cond, not, Option, Some, None, ◌⊎◌, inl, inr, refl, sym, ap, ◌∙◌, arith, nat_eq}
+use Rattle.std.proofs.Common.{◌≡◌, ℕ, List, [], ◌∷◌, ◌++◌, Bool, true, false, cond, not, Option, Some, None, ◌⊎◌, inl, inr, refl, sym, ap, ◌∙◌}
 use Rattle.scad_lexer.specs.declared.token.Token.{Token}
-use Rattle.scad_grammar.specs.declared.SyntaxFault.{SyntaxFault}
-use Rattle.scad_grammar.specs.declared.SyntaxFault.TheVariants.{Expected, Nested, NotInProfile}
+use Rattle.scad_grammar.specs.declared.SyntaxFault.TheVariants.{Expected, NotInProfile}
 use Rattle.scad_grammar.specs.Classes.{listed, among, class_of}
 use Rattle.scad_grammar.specs.Reading.{starts}
 use Rattle.scad_grammar.specs.Languages.{Language, One}
 use Rattle.scad_grammar.specs.Faults.{Reads, one, first, fault_of, left_out, left_out_of_expressions}
-use Rattle.scad_grammar.proofs.Readers.{IsReader, IsPlain, Opens, Both, one_reads, starts_of, starts_not, starts_less, never_starts, both_reads}
+use Rattle.scad_grammar.proofs.Readers.{IsReader, IsPlain, Both, one_reads, starts_of, starts_not, starts_less, never_starts, both_reads}
 use Rattle.scad_grammar.specs.Reading.{both}
 
 abbrev pub other_than : List ℕ → Token → Bool
@@ -36,16 +35,16 @@ pub classes_apart : (xs ys : List ℕ) → apart xs ys ≡ true → (k : ℕ) �
 classes_apart [] ys e k h = absurd (cc)
 classes_apart (x ∷ xs) ys e k h =
     elim (eqb_tells k x) [
-      inl p ↦ ap (listed ys) p.1 ∙ (cond_false (listed ys x) (apart xs ys) e).0
-    | inr p ↦ classes_apart xs ys (cond_false (listed ys x) (apart xs ys) e).1 k (ap (λ b. cond b true (listed xs k)) (sym p.0) ∙ h)
+      | inl p ↦ ap (listed ys) p.1 ∙ (cond_false (listed ys x) (apart xs ys) e).0
+      | inr p ↦ classes_apart xs ys (cond_false (listed ys x) (apart xs ys) e).1 k (ap (λ b. cond b true (listed xs k)) (sym p.0) ∙ h)
     ]
 
 pub classes_within : (xs ys : List ℕ) → within xs ys ≡ true → (k : ℕ) → listed xs k ≡ true → listed ys k ≡ true
 classes_within [] ys e k h = absurd (cc)
 classes_within (x ∷ xs) ys e k h =
     elim (eqb_tells k x) [
-      inl p ↦ ap (listed ys) p.1 ∙ (cond_true (listed ys x) (within xs ys) e).0
-    | inr p ↦ classes_within xs ys (cond_true (listed ys x) (within xs ys) e).1 k (ap (λ b. cond b true (listed xs k)) (sym p.0) ∙ h)
+      | inl p ↦ ap (listed ys) p.1 ∙ (cond_true (listed ys x) (within xs ys) e).0
+      | inr p ↦ classes_within xs ys (cond_true (listed ys x) (within xs ys) e).1 k (ap (λ b. cond b true (listed xs k)) (sym p.0) ∙ h)
     ]
 
 not_true : (b : Bool) → b ≡ false → not b ≡ true

@@ -1,5 +1,5 @@
 -- Languages of tokens: relations between values and the lists of tokens that write them.
-use Rattle.std.specs.Prelude.{◌≡◌, ℕ, zero, suc, List, [], ◌∷◌, ◌++◌, Bool, true, false, Option, Some, None, ◌⊎◌}
+use Rattle.std.specs.Prelude.{◌≡◌, List, [], ◌∷◌, ◌++◌, Bool, true, Option, Some, None, ◌⊎◌}
 use Rattle.scad_lexer.specs.declared.token.Token.{Token}
 
 abbrev pub Language : Type 0 → Type 1

@@ -1,11 +1,10 @@
 -- How expressions are read, by what stands next.
-use Rattle.std.specs.Prelude.{◌≡◌, ℕ, zero, suc, List, [], ◌∷◌, Bool, true, false, cond, Option, Some, None, Ok, Err}
-use Rattle.scad_lexer.specs.declared.token.Token.{Token}
-use Rattle.scad_ast.specs.Terms.{Term, LinkTerm, SuffixTerm}
-use Rattle.scad_grammar.specs.Classes.{name, open_bracket_sign, close_bracket_sign, dot_sign, plus_sign, minus_sign, not_sign, question_sign, colon_sign, among, is}
-use Rattle.scad_grammar.specs.Languages.{first_of, second_of, pair_of}
-use Rattle.scad_grammar.specs.Grammar.{link, chain_of, choice_of, unary_of, postfix_of, index_of, member_of, levels}
-use Rattle.scad_grammar.specs.Reading.{both, choice, mapped, nothing, many}
+use Rattle.std.specs.Prelude.{ℕ, List, [], ◌∷◌}
+use Rattle.scad_ast.specs.Terms.{Term, SuffixTerm}
+use Rattle.scad_grammar.specs.Classes.{name, open_bracket_sign, close_bracket_sign, dot_sign, plus_sign, minus_sign, not_sign, among, is}
+use Rattle.scad_grammar.specs.Languages.{first_of}
+use Rattle.scad_grammar.specs.Grammar.{link, chain_of, unary_of, postfix_of, index_of, member_of, levels}
+use Rattle.scad_grammar.specs.Reading.{both, choice, many}
 use Rattle.scad_grammar.specs.Faults.{Reads, one}
 
 -- e reads an expression one deeper, p a primary, u an operand one deeper
