@@ -4,5 +4,6 @@ pub mod Greedy
 pub mod Levels
 pub mod Operands
 pub mod Readers
+pub mod Separated
 pub mod Tests
 pub mod Trailing
