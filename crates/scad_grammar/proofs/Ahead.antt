@@ -1,7 +1,7 @@
 -- A choice by the next two tokens.
 use Rattle.std.proofs.Common.{◌≡◌, List, [], ◌∷◌, ◌++◌, Bool, true, false, cond, Ok, Err, ◌⊎◌, inl, inr, refl, sym, ap, ◌∙◌, subst, ◌&&◌}
 use Rattle.scad_grammar.specs.declared.SyntaxFault.{SyntaxFault as Kind}
-use Rattle.scad_grammar.specs.Reading.{Read, Reader, after, starts}
+use Rattle.scad_grammar.specs.Reading.{Read, Reader, after, starts, ahead}
 use Rattle.scad_grammar.proofs.Readers.{SameHead, Told, IsReader, seen}
 
 abbrev pub two : {T : Type 0} → (T → Bool) → (T → Bool) → List T → Bool
@@ -13,12 +13,6 @@ abbrev pub tail2 : {T : Type 0} → List T → List T
 tail2 [] = []
 tail2 (t ∷ []) = []
 tail2 (t ∷ u ∷ ts) = ts
-
--- where two tokens of these stand, they and what r reads; else what q reads
-abbrev pub ahead : {T A C : Type 0} → (T → T → A → C) → (T → Bool) → (T → Bool) → Reader T Kind A → Reader T Kind C → Reader T Kind C
-ahead f a b r q [] = q []
-ahead f a b r q (t ∷ []) = q (t ∷ [])
-ahead f a b r q (t ∷ u ∷ ts) = cond (a t && b u) (after (r ts) (λ x us. Ok (f t u x, us))) (q (t ∷ u ∷ ts))
 
 abbrev pub Two : {T A C : Type 0} → (T → T → A → C) → (T → Bool) → (T → Bool) → (A → List T → Type 0) → C → List T → Type 0
 Two {T} {A} f a b L c s = (t : T) × (u : T) × (x : A) × (p : List T) × (a t ≡ true) × (b u ≡ true) × L x p × (c ≡ f t u x) × (s ≡ t ∷ u ∷ p)

@@ -2,7 +2,7 @@
 use Rattle.std.proofs.Common.{◌≡◌, List, [], ◌∷◌, ◌++◌, Bool, true, false, cond, Ok, Err, Option, Some, None, inl, inr, refl, sym, ap, ◌∙◌, subst, append_assoc}
 use Rattle.scad_grammar.specs.declared.SyntaxFault.{SyntaxFault as Kind}
 use Rattle.scad_grammar.specs.declared.SyntaxFault.TheVariants.{Expected, Nested, NotInProfile}
-use Rattle.scad_grammar.specs.Reading.{Read, Reader, after, starts, mapped, nothing, both, choice}
+use Rattle.scad_grammar.specs.Reading.{Read, Reader, after, starts, mapped, nothing, both, choice, maybe}
 use Rattle.scad_grammar.proofs.Readers.{SameHead, Begins, Told, IsReader, seen, same_behind, EitherOf, Mapped, Nothing, Opens, mapped_opens, same_reads, choice_reads, mapped_reads, nothing_reads}
 
 -- what was read says which tokens don't follow it
@@ -122,13 +122,14 @@ abbrev pub Maybe : {T A : Type 0} → (A → List T → Type 0) → Option A →
 Maybe L None s = s ≡ []
 Maybe L (Some x) s = L x s
 
-abbrev pub maybe : {T A : Type 0} → (T → Bool) → Reader T Kind A → Reader T Kind (Option A)
-maybe test r = choice test (mapped Some r) (nothing None)
-
 -- what may go on it: what may go on what was read, or what may begin it
 abbrev pub or_first : {T A : Type 0} → (T → Bool) → (A → T → Bool) → Option A → T → Bool
 or_first test more None = test
 or_first test more (Some x) = more x
+
+pub maybe_ends : {T A : Type 0} (test : T → Bool) (more : A → T → Bool) (x : Option A) (rest : List T) → starts test rest ≡ false → ((x : A) → starts (more x) rest ≡ false) → starts (or_first test more x) rest ≡ false
+maybe_ends test more None rest e h = e
+maybe_ends test more (Some x) rest e h = h x
 
 module _ {T A : Type 0} (test : T → Bool) (r : Reader T Kind A) (L W : A → List T → Type 0) (more : A → T → Bool) (ir : IsReader r L W more) (opens : Opens L test) where
   to_maybe : (M : A → List T → Type 0) (x : Option A) (s : List T) → EitherOf (Mapped Some M) (Nothing None) x s → Maybe M x s

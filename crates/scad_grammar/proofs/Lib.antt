@@ -3,6 +3,7 @@ pub mod Examples
 pub mod Greedy
 pub mod Levels
 pub mod Operands
+pub mod Primary
 pub mod Readers
 pub mod Separated
 pub mod Tests

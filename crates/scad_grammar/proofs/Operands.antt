@@ -11,29 +11,29 @@ use Rattle.scad_grammar.specs.Languages.{Language, One, Both, EitherOf, Many, Be
 use Rattle.scad_grammar.specs.Grammar.{Suffix, index_of, member_of, postfix_of, unary_of}
 use Rattle.scad_grammar.specs.Reading.{starts, both, many}
 use Rattle.scad_grammar.specs.Faults.{Reads, one}
-use Rattle.scad_grammar.specs.Reads.{suffix_read, postfix_read, unary_read}
+use Rattle.scad_grammar.specs.Reads.{firsts_of_primary, suffix_read, postfix_read, unary_read}
 use Rattle.scad_grammar.proofs.Readers.{IsReader, Opens, both_reads, choice_reads, many_reads, many_follows, both_opens, either_opens, one_opens, never_starts}
 use Rattle.scad_grammar.proofs.Tests.{OneReads, one_at, then, next_apart, next_within, next_less}
 
-abbrev here : Place
+abbrev pub here : Place
 here = record { line = 1; column = 1 }
 
-abbrev token : TokenKind → Token
+abbrev pub token : TokenKind → Token
 token kind = record { kind = kind; place = here }
 
-open_bracket_one : OneReads (is open_bracket_sign)
+pub open_bracket_one : OneReads (is open_bracket_sign)
 open_bracket_one = one_at (is open_bracket_sign) (token (Symbol OpenBracket), refl)
 
-close_bracket_one : OneReads (is close_bracket_sign)
+pub close_bracket_one : OneReads (is close_bracket_sign)
 close_bracket_one = one_at (is close_bracket_sign) (token (Symbol CloseBracket), refl)
 
-dot_one : OneReads (is dot_sign)
+pub dot_one : OneReads (is dot_sign)
 dot_one = one_at (is dot_sign) (token (Symbol Dot), refl)
 
-name_one : OneReads (is name)
+pub name_one : OneReads (is name)
 name_one = one_at (is name) (token (Name []), refl)
 
-unary_one : OneReads (among (minus_sign ∷ plus_sign ∷ not_sign ∷ []))
+pub unary_one : OneReads (among (minus_sign ∷ plus_sign ∷ not_sign ∷ []))
 unary_one = one_at (among (minus_sign ∷ plus_sign ∷ not_sign ∷ [])) (token (Symbol Minus), refl)
 
 -- what may begin a suffix, and what may go on an operand
@@ -46,11 +46,7 @@ operand_more = open_parenthesis_sign ∷ open_bracket_sign ∷ dot_sign ∷ []
 abbrev pub unary_signs : List ℕ
 unary_signs = minus_sign ∷ plus_sign ∷ not_sign ∷ []
 
--- what may begin a primary
-abbrev pub firsts_of_primary : List ℕ
-firsts_of_primary = numeral ∷ text ∷ true_word ∷ false_word ∷ undef_word ∷ child_count ∷ name ∷ open_parenthesis_sign ∷ open_bracket_sign ∷ []
-
-suffix_opens : (E : Language Term) → Opens (Suffix E) (among suffix_signs)
+pub suffix_opens : (E : Language Term) → Opens (Suffix E) (among suffix_signs)
 suffix_opens E =
     either_opens _ _ (among suffix_signs)
     (both_opens index_of (One (is open_bracket_sign)) _ _ (λ x s rest h. next_within (open_bracket_sign ∷ []) suffix_signs refl (s ++ rest) (one_opens (is open_bracket_sign) x s rest h)))

@@ -1,7 +1,7 @@
 -- Items with separators between them are one item and those behind separators.
 use Rattle.std.proofs.Common.{◌≡◌, List, [], ◌∷◌, ◌++◌, Bool, true, false, Option, Some, None, inl, inr, refl, sym, ap, ◌∙◌, append_assoc, subst}
 use Rattle.scad_lexer.specs.declared.token.Token.{Token}
-use Rattle.scad_grammar.specs.Languages.{Language, One, Both, Many, Maybe, Behind, Separated, cons}
+use Rattle.scad_grammar.specs.Languages.{Language, One, Both, Many, Maybe, Behind, Separated, cons, first_of}
 use Rattle.scad_grammar.specs.Reading.{starts, both, trailing}
 use Rattle.scad_grammar.specs.Faults.{Reads}
 use Rattle.scad_grammar.proofs.Readers.{IsReader, Opens, both_reads, same_reads}
@@ -70,3 +70,13 @@ module _ {A : Type 0} (mark go : Token → Bool) (r : Reads A) (L W : Language A
       (trailing_reads mark go r L W more wide ir first apart no_more no_mark no_go) ([], [], inl refl)
       (λ x xs s rest h e. ends x x xs s rest h e) (λ x xs rest e. e))
       (to L) (from L) (to W)
+
+  listed : (M : Language A) (xs : List A) (s : List Token) → Trailing mark M xs s → Both first_of (Many (Behind mark M)) (Maybe (One mark)) xs s
+  listed M xs s h = let k = cut mark M xs s h in (xs, k.0, k.1, k.2, k.3, k.4, refl, k.5)
+
+  unlisted : (M : Language A) (xs : List A) (s : List Token) → Both first_of (Many (Behind mark M)) (Maybe (One mark)) xs s → Trailing mark M xs s
+  unlisted M xs s h = subst (λ xs. Trailing mark M xs s) (sym h.6) (subst (Trailing mark M h.0) (sym h.7) (paste mark M h.0 h.1 h.2 h.3 h.4 h.5))
+
+  -- those behind an item
+  pub items_reads : IsReader (trailing mark go r) (Both first_of (Many (Behind mark L)) (Maybe (One mark))) (Both first_of (Many (Behind mark W)) (Maybe (One mark))) (λ xs. wide)
+  items_reads = same_reads (trailing mark go r) (Trailing mark L) (Trailing mark W) (Both first_of (Many (Behind mark L)) (Maybe (One mark))) (Both first_of (Many (Behind mark W)) (Maybe (One mark))) (λ xs. wide) (trailing_reads mark go r L W more wide ir first apart no_more no_mark no_go) (listed L) (unlisted L) (listed W)

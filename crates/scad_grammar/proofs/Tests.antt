@@ -3,15 +3,12 @@ use Rattle.std.proofs.lemmas.Bool.Decides.{eqb_tells}
 use Rattle.std.proofs.Common.{◌≡◌, ℕ, List, [], ◌∷◌, ◌++◌, Bool, true, false, cond, not, Option, Some, None, ◌⊎◌, inl, inr, refl, sym, ap, ◌∙◌}
 use Rattle.scad_lexer.specs.declared.token.Token.{Token}
 use Rattle.scad_grammar.specs.declared.SyntaxFault.TheVariants.{Expected, NotInProfile}
-use Rattle.scad_grammar.specs.Classes.{listed, among, class_of}
+use Rattle.scad_grammar.specs.Classes.{listed, among, other_than, class_of}
 use Rattle.scad_grammar.specs.Reading.{starts}
 use Rattle.scad_grammar.specs.Languages.{Language, One}
 use Rattle.scad_grammar.specs.Faults.{Reads, one, first, fault_of, left_out, left_out_of_expressions}
 use Rattle.scad_grammar.proofs.Readers.{IsReader, IsPlain, Both, one_reads, starts_of, starts_not, starts_less, never_starts, both_reads}
 use Rattle.scad_grammar.specs.Reading.{both}
-
-abbrev pub other_than : List ℕ → Token → Bool
-other_than cs t = not (among cs t)
 
 -- no class is in both
 abbrev pub apart : List ℕ → List ℕ → Bool
@@ -78,6 +75,13 @@ stops_at ys (t ∷ l) h = inr (go (among ys t) h)
     go : (b : Bool) → not b ≡ false → b ≡ true
     go true e = refl
     go false e = absurd (cc)
+
+-- nothing but what ends it goes on
+pub no_close : (ys zs : List ℕ) → apart ys zs ≡ true → (l : List Token) → starts (other_than ys) l ≡ false → starts (among zs) l ≡ false
+no_close ys zs e l h = elim (stops_at ys l h) [ | inl p ↦ ap (starts (among zs)) p | inr p ↦ next_apart ys zs e l p ]
+
+pub close_ends : (ys : List ℕ) (l : List Token) → starts (among ys) l ≡ true → starts (other_than ys) l ≡ false
+close_ends ys l = starts_not (among ys) (other_than ys) (λ t e. ap not e) l
 
 abbrev pub OneReads : (Token → Bool) → Type 0
 OneReads test = IsReader (one test) (One test) (One test) (λ x t. false)

@@ -1,5 +1,5 @@
 -- Classes of tokens: what a token is, without its number or bytes.
-use Rattle.std.specs.Prelude.{ℕ, List, [], ◌∷◌, Bool, true, false, cond, nat_eq, codes}
+use Rattle.std.specs.Prelude.{ℕ, List, [], ◌∷◌, Bool, true, false, cond, not, nat_eq, codes}
 use Rattle.std.specs.Str.{bytes_eq}
 use Rattle.scad_lexer.specs.declared.token.Token.{Token}
 use Rattle.scad_lexer.specs.declared.token.TokenKind.{TokenKind}
@@ -217,6 +217,10 @@ among cs t = listed cs (class_of t.kind)
 -- a token of this class
 abbrev pub is : ℕ → Token → Bool
 is c = among (c ∷ [])
+
+-- a token of none of these classes
+abbrev pub other_than : List ℕ → Token → Bool
+other_than cs t = not (among cs t)
 
 -- the number of a numeral
 abbrev pub number_of : TokenKind → ℕ

@@ -125,8 +125,8 @@ Bracket E =
     Both bracket_of (One (is open_bracket_sign))
     (Before
     (Maybe (Both pair_of E
-    (EitherOf (Mapped items (Both first_of (Many (Behind (is comma_sign) E)) (Maybe (One (is comma_sign)))))
-    (Behind (is colon_sign) (Both range_of E (Maybe (Behind (is colon_sign) E)))))))
+    (EitherOf (Behind (is colon_sign) (Both range_of E (Maybe (Behind (is colon_sign) E))))
+    (Mapped items (Both first_of (Many (Behind (is comma_sign) E)) (Maybe (One (is comma_sign))))))))
     (is close_bracket_sign))
 
 -- primary = NUMERAL | TEXT | "true" | "false" | "undef" | "$children" | NAME | NAME "(" args ")" | "(" expr ")" | lists and ranges
