@@ -1,7 +1,9 @@
 pub mod Ahead
 pub mod Examples
+pub mod Expressions
 pub mod Greedy
 pub mod Levels
+pub mod Nested
 pub mod Operands
 pub mod Primary
 pub mod Readers

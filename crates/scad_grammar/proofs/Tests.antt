@@ -1,6 +1,6 @@
 -- Classes of the next token, and one token of a class.
 use Rattle.std.proofs.lemmas.Bool.Decides.{eqb_tells}
-use Rattle.std.proofs.Common.{◌≡◌, ℕ, List, [], ◌∷◌, ◌++◌, Bool, true, false, cond, not, Option, Some, None, ◌⊎◌, inl, inr, refl, sym, ap, ◌∙◌}
+use Rattle.std.proofs.Common.{◌≡◌, ℕ, List, [], ◌∷◌, ◌++◌, Bool, true, false, cond, nat_eq, not, Option, Some, None, ◌⊎◌, inl, inr, refl, sym, ap, ◌∙◌}
 use Rattle.scad_lexer.specs.declared.token.Token.{Token}
 use Rattle.scad_grammar.specs.declared.SyntaxFault.TheVariants.{Expected, NotInProfile}
 use Rattle.scad_grammar.specs.Classes.{listed, among, other_than, class_of}
@@ -53,6 +53,14 @@ classes_less xs ys e k h = go (listed xs k) refl
     go : (b : Bool) → listed xs k ≡ b → b ≡ false
     go false f = refl
     go true f = absurd (let g = classes_within xs ys e k f in cc)
+
+pub either_listed : (xs ys : List ℕ) (k : ℕ) → listed (xs ++ ys) k ≡ true → (listed xs k ≡ true) ⊎ (listed ys k ≡ true)
+either_listed [] ys k h = inr h
+either_listed (x ∷ xs) ys k h = go (nat_eq k x) h (either_listed xs ys k)
+  where
+    go : (b : Bool) → cond b true (listed (xs ++ ys) k) ≡ true → (listed (xs ++ ys) k ≡ true → (listed xs k ≡ true) ⊎ (listed ys k ≡ true)) → (cond b true (listed xs k) ≡ true) ⊎ (listed ys k ≡ true)
+    go true e f = inl refl
+    go false e f = f e
 
 -- the same of the next token
 pub next_apart : (xs ys : List ℕ) → apart xs ys ≡ true → (l : List Token) → starts (among xs) l ≡ true → starts (among ys) l ≡ false
