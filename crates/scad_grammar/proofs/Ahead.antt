@@ -20,13 +20,18 @@ Two {T} {A} f a b L c s = (t : T) × (u : T) × (x : A) × (p : List T) × (a t 
 abbrev pub Ahead : {T A C : Type 0} → (T → T → A → C) → (T → Bool) → (T → Bool) → (A → List T → Type 0) → (C → List T → Type 0) → C → List T → Type 0
 Ahead f a b L M c s = Two f a b L c s ⊎ M c s
 
+-- what follows what was read, or the tokens from a fault on
+abbrev pub rest_of : {T A : Type 0} → Read T Kind A → List T
+rest_of (Ok p) = p.1
+rest_of (Err e) = e.1
+
 both_true : (b c : Bool) → (b && c) ≡ true → (b ≡ true) × (c ≡ true)
 both_true true c e = (refl, e)
 both_true false c e = absurd (cc)
 
 module _ {T A C : Type 0} (f : T → T → A → C) (a b : T → Bool) (r : Reader T Kind A) (q : Reader T Kind C) (L W : A → List T → Type 0) (M V : C → List T → Type 0) (ma : A → T → Bool) (more : C → T → Bool)
     (ir : IsReader r L W ma) (iq : IsReader q M V more) (down : (t u : T) (x : A) (rest : List T) → starts (more (f t u x)) rest ≡ false → starts (ma x) rest ≡ false)
-    (alone : (t : T) → a t ≡ true → (c : C) × M c (t ∷ []))
+    (moves : (t : T) → a t ≡ true → rest_of (q (t ∷ [])) ≡ [])
     (unlike : (c : C) (s rest : List T) → M c s → starts (more c) rest ≡ false → two a b (s ++ rest) ≡ false) where
   -- the second reader, where the first two tokens are no such two
   ahead_second : (ts : List T) → two a b ts ≡ false → ahead f a b r q ts ≡ q ts
@@ -56,39 +61,22 @@ module _ {T A C : Type 0} (f : T → T → A → C) (a b : T → Bool) (r : Read
   two_same (t ∷ []) (v ∷ at) (u ∷ us) h e n = ap (λ x. a t && b x) (sym h) ∙ e
   two_same (t ∷ u ∷ s) at rest h e n = e
 
-  reads_alone : (t : T) (e : a t ≡ true) → q (t ∷ []) ≡ Ok ((alone t e).0, [])
-  reads_alone t e = iq.complete (alone t e).0 (t ∷ []) [] (alone t e).1 refl
-
   -- a token that may begin such two is taken
-  taken_ok : (c : C) (s at : List T) → s ≡ [] → ((rest : List T) → SameHead at rest → q (s ++ rest) ≡ Ok (c, rest)) → starts a at ≡ false
-  taken_ok c s [] z k = refl
-  taken_ok c s (t ∷ at) z k = go (a t) refl
+  taken_at : (s at : List T) (x : Read T Kind C) → rest_of x ≡ at → s ≡ [] → ((rest : List T) → SameHead at rest → rest_of (q (s ++ rest)) ≡ rest) → starts a at ≡ false
+  taken_at s [] x w z k = refl
+  taken_at s (t ∷ at) x w z k = go (a t) refl
     where
       go : (v : Bool) → a t ≡ v → v ≡ false
       go false e = refl
       go true e =
-          let one : q (t ∷ []) ≡ Ok (c, t ∷ []) = subst (λ s. q (s ++ t ∷ []) ≡ Ok (c, t ∷ [])) z (k (t ∷ []) refl) in
-          let both : ◌≡◌ {A = Read T Kind C} (Ok (c, t ∷ [])) (Ok ((alone t e).0, [])) = sym one ∙ reads_alone t e in
-          let pair : ◌≡◌ {A = C × List T} (c, t ∷ []) ((alone t e).0, []) = cc in
-          let list : t ∷ [] ≡ [] = ap (λ (p : C × List T). p.1) pair in
-          absurd (cc)
-
-  taken_err : (x : Kind) (s at : List T) → s ≡ [] → ((rest : List T) → SameHead at rest → q (s ++ rest) ≡ Err (x, rest)) → starts a at ≡ false
-  taken_err x s [] z k = refl
-  taken_err x s (t ∷ at) z k = go (a t) refl
-    where
-      go : (v : Bool) → a t ≡ v → v ≡ false
-      go false e = refl
-      go true e =
-          let one : q (t ∷ []) ≡ Err (x, t ∷ []) = subst (λ s. q (s ++ t ∷ []) ≡ Err (x, t ∷ [])) z (k (t ∷ []) refl) in
-          let both : ◌≡◌ {A = Read T Kind C} (Err (x, t ∷ [])) (Ok ((alone t e).0, [])) = sym one ∙ reads_alone t e in
+          let list : t ∷ [] ≡ [] = sym (subst (λ s. rest_of (q (s ++ t ∷ [])) ≡ t ∷ []) z (k (t ∷ []) refl)) ∙ moves t e in
           absurd (cc)
 
   told_second : (ts : List T) → two a b ts ≡ false → (x : Read T Kind C) → Told q M V ts x → Told (ahead f a b r q) (Ahead f a b L M) (Ahead f a b W V) ts x
   told_second ts e (Ok p) k =
-      (k.0, k.1, inr k.2, λ rest h. ahead_second (k.0 ++ rest) (two_same k.0 p.1 rest h (ap (two a b) (sym k.1) ∙ e) (λ z. taken_ok p.0 k.0 p.1 z k.3)) ∙ k.3 rest h)
+      (k.0, k.1, inr k.2, λ rest h. ahead_second (k.0 ++ rest) (two_same k.0 p.1 rest h (ap (two a b) (sym k.1) ∙ e) (λ z. taken_at k.0 p.1 (Ok p) refl z (λ rest h. ap rest_of (k.3 rest h)))) ∙ k.3 rest h)
   told_second ts e (Err p) k =
-      (k.0, k.1, (k.2.0, k.2.1, inr k.2.2), λ rest h. ahead_second (k.0 ++ rest) (two_same k.0 p.1 rest h (ap (two a b) (sym k.1) ∙ e) (λ z. taken_err p.0 k.0 p.1 z k.3)) ∙ k.3 rest h)
+      (k.0, k.1, (k.2.0, k.2.1, inr k.2.2), λ rest h. ahead_second (k.0 ++ rest) (two_same k.0 p.1 rest h (ap (two a b) (sym k.1) ∙ e) (λ z. taken_at k.0 p.1 (Err p) refl z (λ rest h. ap rest_of (k.3 rest h)))) ∙ k.3 rest h)
 
   told_at : (ts : List T) (v : Bool) → two a b ts ≡ v → Told (ahead f a b r q) (Ahead f a b L M) (Ahead f a b W V) ts (ahead f a b r q ts)
   told_at ts false e = subst (Told (ahead f a b r q) (Ahead f a b L M) (Ahead f a b W V) ts) (sym (ahead_second ts e)) (told_second ts e (q ts) (iq.told ts))

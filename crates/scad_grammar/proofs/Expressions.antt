@@ -8,12 +8,12 @@ use Rattle.scad_grammar.specs.declared.SyntaxFault.TheVariants.{Nested}
 use Rattle.scad_grammar.specs.Classes.{numeral, text, true_word, false_word, undef_word, child_count, name, open_parenthesis_sign, close_parenthesis_sign, open_bracket_sign, close_bracket_sign, comma_sign, assign_sign, colon_sign, question_sign, minus_sign, plus_sign, not_sign, times_sign, divide_sign, remainder_sign, less_sign, greater_sign, less_equal_sign, greater_equal_sign, equal_sign, not_equal_sign, and_sign, or_sign, among, is, other_than, listed, class_of, number_of, bytes_of}
 use Rattle.scad_grammar.specs.Languages.{Language, One, Mapped, Both, EitherOf, Nothing, Many, Maybe, Never, Before, Behind, first_of, second_of, pair_of}
 use Rattle.scad_grammar.specs.Grammar.{InParentheses, Arg, Args, Primary, Bracket, Suffix, Postfix, Unary, Chain, Choice, Expr, Operand, levels, chain_of, choice_of, unary_of, postfix_of, named_of, paren_of, bracket_of, link}
-use Rattle.scad_grammar.specs.Reading.{starts, mapped, both, maybe, ahead, many}
+use Rattle.scad_grammar.specs.Reading.{after, starts, mapped, both, maybe, ahead, many}
 use Rattle.scad_grammar.specs.Faults.{Reads, one, fault_of, left_out_of_expressions}
 use Rattle.scad_grammar.specs.Reads.{firsts_of_primary, firsts_of_expression, head_of, nested, named, arg_read, primary_read, unary_read, chain_read, choice_read, arg_in, expr_read, operand_read}
 use Rattle.scad_grammar.proofs.Readers.{SameHead, Begins, Told, IsReader, Opens, plain_seen, both_reads, mapped_reads, same_reads, more_reads, both_opens, either_opens, mapped_opens, one_opens, never_starts}
 use Rattle.scad_grammar.proofs.Greedy.{or_first, maybe_ends, maybe_reads}
-use Rattle.scad_grammar.proofs.Ahead.{Two, Ahead, two, ahead_reads}
+use Rattle.scad_grammar.proofs.Ahead.{Two, Ahead, two, rest_of, ahead_reads}
 use Rattle.scad_grammar.proofs.Tests.{OneReads, either_listed, one_at, then, apart, within, next_apart, next_within, next_less, next_other, fault_plain}
 use Rattle.scad_grammar.proofs.Nested.{nested_reads}
 use Rattle.scad_grammar.proofs.Levels.{goes_on, AllOne, chain_reads}
@@ -186,7 +186,7 @@ module _ (e : Reads Term) (E F : Language Term) (ie : IsReader e E F (λ x. amon
       (ahead_reads named (is name) (is assign_sign) e (mapped PositionalTerm e) E F (Mapped PositionalTerm E) (Mapped PositionalTerm F) (λ x. among expression_more) (λ x. among arg_more) ie
       (mapped_reads PositionalTerm e E F (λ x. among expression_more) (λ x. among arg_more) ie (λ x. next_less expression_more arg_more refl))
       (λ t u x. next_less expression_more arg_more refl)
-      (λ t h. let k = alone t h in (PositionalTerm k.0, (k.0, k.1, refl)))
+      (λ t h. ap rest_of (ap (λ q. after q (λ x us. Ok (PositionalTerm x, us))) (ie.complete (alone t h).0 (t ∷ []) [] (alone t h).1 refl)))
       (λ c s rest h k. unlike h.0 s rest h.1 (next_less (assign_sign ∷ []) arg_more refl rest k)))
       (to_arg E) (from_arg E) (to_arg F)
 

@@ -105,13 +105,16 @@ param_of t (Some e) = DefaultTerm t.place (bytes_of t.kind) e
 abbrev pub Param : Language Term → Language ParamTerm
 Param E = Both param_of (One (is name)) (Maybe (Behind (is assign_sign) E))
 
--- params = [ param { "," param } [","] ]
-abbrev pub Params : Language Term → Language (List ParamTerm)
-Params E = EitherOf (Separated (is comma_sign) (Param E)) (Nothing [])
+-- params = [ param { "," param } [","] ], over what a parameter is
+abbrev pub Params : Language ParamTerm → Language (List ParamTerm)
+Params P = EitherOf (Separated (is comma_sign) P) (Nothing [])
+
+abbrev pub binder_of : Token → Term → BinderTerm
+binder_of t e = record { at = t.place; name = bytes_of t.kind; values = e }
 
 -- binder = NAME "=" expr
 abbrev pub Binder : Language Term → Language BinderTerm
-Binder E = Both (λ t e. record { at = t.place; name = bytes_of t.kind; values = e }) (One (is name)) (Behind (is assign_sign) E)
+Binder E = Both binder_of (One (is name)) (Behind (is assign_sign) E)
 
 -- binder { "," binder } [","]
 abbrev pub Binders : Language Term → Language (List BinderTerm)
@@ -181,7 +184,12 @@ unfoldable mutual
   Operand zero = Never
   Operand (suc d) = Unary (Expr d) (Operand d)
 
--- statements; E is an expression one deeper, S a statement and B a body one deeper
+-- a parameter whose tokens are less deep than so much
+abbrev pub ParamIn : ℕ → Language ParamTerm
+ParamIn zero = Never
+ParamIn (suc d) = Param (Expr (suc d))
+
+-- statements; E is an expression one deeper, P a parameter, S a statement and B a body one deeper
 
 abbrev pub mark_of : Token → MarkTerm
 mark_of t = record { at = t.place; modifier = modifier_at (class_of t.kind) }
@@ -250,6 +258,12 @@ BodyOf E S B =
     (EitherOf (Both block_of (One (is open_brace_sign)) (Before (Many S) (is close_brace_sign)))
     (Mapped InstanceBody (Instance E B)))
 
+abbrev pub bare_block_of : Token → List StatementTerm → StatementTerm
+bare_block_of t ss = BlockStatement t.place (statements_from ss)
+
+abbrev pub assignment_of : Token → Term → StatementTerm
+assignment_of t e = AssignmentTerm t.place (bytes_of t.kind) e
+
 abbrev pub module_of : Token → (Token × (List ParamTerm × BodyTerm)) → StatementTerm
 module_of t p = ModuleTerm t.place (bytes_of p.0.kind) p.0.place p.1.0 p.1.1
 
@@ -259,20 +273,20 @@ function_of t p = FunctionTerm t.place (bytes_of p.0.kind) p.0.place p.1.0 p.1.1
 -- statement = ";" | "{" { statement } "}" | NAME "=" expr ";" | "module" NAME "(" params ")" body
 --           | "function" NAME "(" params ")" "=" expr ";" | instance
 -- X is an expression as deep as the statement
-abbrev pub StatementOf : Language Term → Language Term → Language StatementTerm → Language BodyTerm → Language StatementTerm
-StatementOf X E S B =
+abbrev pub StatementOf : Language Term → Language Term → Language ParamTerm → Language StatementTerm → Language BodyTerm → Language StatementTerm
+StatementOf X E P S B =
     EitherOf (Mapped (λ t. EmptyStatement t.place) (One (is semicolon_sign)))
-    (EitherOf (Both (λ t ss. BlockStatement t.place (statements_from ss)) (One (is open_brace_sign)) (Before (Many S) (is close_brace_sign)))
-    (EitherOf (Both (λ t e. AssignmentTerm t.place (bytes_of t.kind) e) (One (is name)) (Behind (is assign_sign) (Before X (is semicolon_sign))))
-    (EitherOf (Both module_of (One (is module_word)) (Both pair_of (One (is name)) (Both pair_of (InParentheses (Params E)) B)))
-    (EitherOf (Both function_of (One (is function_word)) (Both pair_of (One (is name)) (Both pair_of (InParentheses (Params E)) (Behind (is assign_sign) (Before X (is semicolon_sign))))))
+    (EitherOf (Both bare_block_of (One (is open_brace_sign)) (Before (Many S) (is close_brace_sign)))
+    (EitherOf (Both assignment_of (One (is name)) (Behind (is assign_sign) (Before X (is semicolon_sign))))
+    (EitherOf (Both module_of (One (is module_word)) (Both pair_of (One (is name)) (Both pair_of (InParentheses (Params P)) B)))
+    (EitherOf (Both function_of (One (is function_word)) (Both pair_of (One (is name)) (Both pair_of (InParentheses (Params P)) (Behind (is assign_sign) (Before X (is semicolon_sign))))))
     (Mapped InstanceStatement (Instance E B))))))
 
 -- a statement, and a body, whose tokens are less deep than so much
 unfoldable mutual
   pub Statement : ℕ → Language StatementTerm
   Statement zero = Never
-  Statement (suc d) = StatementOf (Expr (suc d)) (Expr d) (Statement d) (Body d)
+  Statement (suc d) = StatementOf (Expr (suc d)) (Expr d) (ParamIn d) (Statement d) (Body d)
 
   pub Body : ℕ → Language BodyTerm
   Body zero = Never

@@ -4,3 +4,4 @@ pub mod Grammar
 pub mod Languages
 pub mod Reading
 pub mod Reads
+pub mod StatementReads
