@@ -131,6 +131,15 @@ pub maybe_ends : {T A : Type 0} (test : T → Bool) (more : A → T → Bool) (x
 maybe_ends test more None rest e h = e
 maybe_ends test more (Some x) rest e h = h x
 
+pub maybe_stops : {T A : Type 0} (test : T → Bool) (r : Reader T Kind A) (l : A → T → Bool) → Stops r l → Stops (maybe test r) (or_first test l)
+maybe_stops {T} {A} test r l sr ts x rest g = go (starts test ts) refl g
+  where
+    go : (b : Bool) → starts test ts ≡ b → cond b (mapped Some r ts) (nothing None ts) ≡ Ok (x, rest) → starts (or_first test l x) rest ≡ false
+    go true e g = mapped_stops Some r l (or_first test l) sr (λ a rest h. h) ts x rest g
+    go false e g =
+        let pair : ◌≡◌ {A = Option A × List T} (None, ts) (x, rest) = cc in
+        subst (λ (p : Option A × List T). starts (or_first test l p.0) p.1 ≡ false) pair e
+
 module _ {T A : Type 0} (test : T → Bool) (r : Reader T Kind A) (L W : A → List T → Type 0) (more : A → T → Bool) (ir : IsReader r L W more) (opens : Opens L test) where
   to_maybe : (M : A → List T → Type 0) (x : Option A) (s : List T) → EitherOf (Mapped Some M) (Nothing None) x s → Maybe M x s
   to_maybe M x s (inl h) = subst (λ x. Maybe M x s) (sym h.2) h.1

@@ -1,4 +1,5 @@
 pub mod Ahead
+pub mod Cores
 pub mod Examples
 pub mod Expressions
 pub mod Greedy
