@@ -1,15 +1,15 @@
 -- What is read of cores and instances is in the grammar, where that holds of their parts.
-use Rattle.std.proofs.Common.{◌≡◌, ℕ, List, [], ◌∷◌, ◌++◌, Bool, true, false, Option, Some, None, Ok, inl, inr, refl, sym, ap, ◌∙◌, subst, append-nil, append_assoc, cond}
+use Rattle.std.proofs.Common.{◌≡◌, ℕ, List, [], ◌∷◌, ◌++◌, Bool, true, false, Option, Some, None, Ok, Err, inl, inr, refl, sym, ap, ◌∙◌, subst, append-nil, append_assoc, cond}
 use Rattle.scad_lexer.specs.declared.token.Token.{Token}
 use Rattle.scad_lexer.specs.declared.token.TokenKind.TheVariants.{Name, Reserved, Symbol}
 use Rattle.scad_lexer.specs.declared.token.Reserved.TheVariants.{If, Else, For}
 use Rattle.scad_lexer.specs.declared.token.Symbol.TheVariants.{OpenParenthesis, CloseParenthesis, Assign, Times}
-use Rattle.scad_ast.specs.Terms.{Term, ArgTerm, ParamTerm, BinderTerm, MarkTerm, InstanceTerm, CoreTerm, ForTerm, IntersectionForTerm, BodyTerm}
+use Rattle.scad_ast.specs.Terms.{Term, ArgTerm, ParamTerm, BinderTerm, MarkTerm, InstanceStatement, InstanceTerm, CoreTerm, ForTerm, IntersectionForTerm, BodyTerm}
 use Rattle.scad_grammar.specs.Classes.{name, if_word, else_word, for_word, intersection_for_word, open_parenthesis_sign, close_parenthesis_sign, close_bracket_sign, comma_sign, assign_sign, among, is, other_than}
 use Rattle.scad_grammar.specs.Languages.{Language, One, Mapped, Both, BothIf, EitherOf, Nothing, Many, Maybe, Behind, Before, Separated, first_of, second_of, pair_of, cons}
 use Rattle.scad_grammar.specs.Grammar.{InParentheses, Arg, Args, Param, Params, Binder, Binders, Core, Instance, binder_of, param_of, mark_of, if_of, loop_of, call_of, instance_of, IsNearest, ends_open, instance_open, core_open}
-use Rattle.scad_grammar.specs.Reading.{starts, mapped, nothing, both, choice, maybe, many, trailing}
-use Rattle.scad_grammar.specs.Faults.{Reads, one}
+use Rattle.scad_grammar.specs.Reading.{Read, after, starts, mapped, nothing, both, choice, maybe, many, trailing}
+use Rattle.scad_grammar.specs.Faults.{Reads, one, fault_of, left_out}
 use Rattle.scad_grammar.specs.Reads.{firsts_of_expression, in_parentheses, args_read}
 use Rattle.scad_grammar.specs.StatementReads.{mark_signs, loop_words, firsts_of_core, firsts_of_instance, param_read, binder_read, params_read, binders_read, if_read, loop_read, call_read, core_read, marks_read, instance_read}
 use Rattle.scad_grammar.proofs.Readers.{IsReader, Opens, both_reads, choice_reads, mapped_reads, many_reads, nothing_reads, both_opens, either_opens, mapped_opens, one_opens, never_starts}
@@ -18,7 +18,9 @@ use Rattle.scad_grammar.proofs.Separated.{separated_reads}
 use Rattle.scad_grammar.proofs.Tests.{OneReads, one_at, then, apart, next_apart, next_within, next_less, next_other, no_close, close_ends}
 use Rattle.scad_grammar.proofs.Operands.{token, name_one}
 use Rattle.scad_grammar.proofs.Primary.{Some_of, in_parentheses_reads, args_reads}
-use Rattle.scad_grammar.proofs.Expressions.{expression_more, arg_more, arg_opens}
+use Rattle.scad_grammar.proofs.Expressions.{expression_more, arg_more, arg_opens, two_not, two_name}
+use Rattle.scad_grammar.proofs.Ahead.{two, rest_of}
+use Rattle.scad_grammar.specs.declared.SyntaxFault.{SyntaxFault}
 
 abbrev closes : List ℕ
 closes = close_parenthesis_sign ∷ []
@@ -160,6 +162,68 @@ start_many (m ∷ ms) p q rest k e =
 pub instance_opens : (E : Language Term) (B : Language BodyTerm) → Opens (Instance E B) (among firsts_of_instance)
 instance_opens E B i s rest h = ap (λ l. starts (among firsts_of_instance) (l ++ rest)) h.7 ∙ start_many h.0 h.2 h.3 rest h.4 (core_opens E B h.1 h.3 rest h.5)
 
+marks_reads : IsReader marks_read Marks Marks (λ x. among mark_signs)
+marks_reads =
+    many_reads (among mark_signs) (mapped mark_of (one (among mark_signs))) (Mapped mark_of (One (among mark_signs))) (Mapped mark_of (One (among mark_signs))) (λ x t. false) (among mark_signs)
+    (mapped_reads mark_of (one (among mark_signs)) (One (among mark_signs)) (One (among mark_signs)) (λ x t. false) (λ x t. false) mark_one (λ x rest h. h)) mark_opens (λ x rest h. never_starts rest) (λ x rest h. never_starts rest) (λ rest h. h)
+
+pub some_headed : {A : Type 0} (C : Language BodyTerm) (W : Language A) → Some_of C → Some_of W → Some_of (Both pair_of (InParentheses W) C)
+some_headed C W some_b some =
+    let opening : Token = token (Symbol OpenParenthesis) in
+    let closing : Token = token (Symbol CloseParenthesis) in
+    let l : List Token = opening ∷ (some.0 ++ closing ∷ []) in
+    (l ++ some_b.0, (some.1, some_b.1), (some.1, some_b.1, l, some_b.0, (opening, some.1, opening ∷ [], some.0 ++ closing ∷ [], (refl, refl), (some.1, closing, some.0, closing ∷ [], some.2, (refl, refl), refl, refl), refl, refl), some_b.2, refl, refl))
+
+pub some_core : (F : Language Term) (C : Language BodyTerm) → Some_of C → Some_of (Core F C)
+some_core F C some_b =
+    let h = some_headed C (Args F) some_b ([], [], inr (refl, refl)) in
+    (token (Name []) ∷ h.0, call_of (token (Name [])) h.1, inr (inr (token (Name []), h.1, token (Name []) ∷ [], h.0, (refl, refl), h.2, refl, refl)))
+
+-- where a name stands alone, an instance lacks its arguments
+rest_mapped : {A B : Type 0} (f : A → B) (q : Read Token SyntaxFault A) → rest_of (after q (λ x us. Ok (f x, us))) ≡ rest_of q
+rest_mapped f (Ok p) = refl
+rest_mapped f (Err x) = refl
+
+pub choice_second : {A : Type 0} (test : Token → Bool) (r q : Reads A) (ts : List Token) → starts test ts ≡ false → choice test r q ts ≡ q ts
+choice_second test r q ts e = ap (λ v. cond v (r ts) (q ts)) e
+
+call_moves : (a : Reads ArgTerm) (b : Reads BodyTerm) (t : Token) → is name t ≡ true → rest_of (call_read a b (t ∷ [])) ≡ []
+call_moves a b t h = ap (λ v. rest_of (after (cond v (Ok (t, [])) (Err (fault_of left_out (Some t), t ∷ []))) (λ t ts. after (both pair_of (in_parentheses (args_read a)) b ts) (λ p us. Ok (call_of t p, us))))) h
+
+core_moves : (e : Reads Term) (a : Reads ArgTerm) (n : Reads BinderTerm) (b : Reads BodyTerm) (t : Token) → is name t ≡ true → rest_of (core_read e a n b (t ∷ [])) ≡ []
+core_moves e a n b t h =
+    ap rest_of (choice_second (is if_word) (if_read e b) (choice (among loop_words) (loop_read n b) (call_read a b)) (t ∷ []) (next_apart (name ∷ []) (if_word ∷ []) refl (t ∷ []) h))
+    ∙ ap rest_of (choice_second (among loop_words) (loop_read n b) (call_read a b) (t ∷ []) (next_apart (name ∷ []) loop_words refl (t ∷ []) h))
+    ∙ call_moves a b t h
+
+instance_moves : (e : Reads Term) (a : Reads ArgTerm) (n : Reads BinderTerm) (b : Reads BodyTerm) (t : Token) → is name t ≡ true → rest_of (instance_read (core_read e a n b) (t ∷ [])) ≡ []
+instance_moves e a n b t h =
+    ap (λ q. rest_of (after q (λ ms us. after (core_read e a n b us) (λ c vs. Ok (instance_of ms c, vs))))) (marks_reads.complete [] [] (t ∷ []) refl (next_apart (name ∷ []) mark_signs refl (t ∷ []) h))
+    ∙ rest_mapped (instance_of []) (core_read e a n b (t ∷ [])) ∙ core_moves e a n b t h
+
+pub statement_moves : (e : Reads Term) (a : Reads ArgTerm) (n : Reads BinderTerm) (b : Reads BodyTerm) (t : Token) → is name t ≡ true → rest_of (mapped InstanceStatement (instance_read (core_read e a n b)) (t ∷ [])) ≡ []
+statement_moves e a n b t h = rest_mapped InstanceStatement (instance_read (core_read e a n b) (t ∷ [])) ∙ instance_moves e a n b t h
+
+-- no instance begins with a name and an `=`
+call_unlike : (E : Language Term) (B : Language BodyTerm) (c : CoreTerm) (s rest : List Token) → Call E B c s → two (is name) (is assign_sign) (s ++ rest) ≡ false
+call_unlike E B c s rest h =
+    ap (λ l. two (is name) (is assign_sign) (l ++ rest)) h.7 ∙ ap (λ l. two (is name) (is assign_sign) ((l ++ h.3) ++ rest)) h.4.1
+    ∙ two_name h.0 (h.3 ++ rest) (next_apart (open_parenthesis_sign ∷ []) (assign_sign ∷ []) refl (h.3 ++ rest) (both_opens pair_of (InParentheses (Args E)) B (is open_parenthesis_sign) (both_opens second_of (One (is open_parenthesis_sign)) _ (is open_parenthesis_sign) (one_opens (is open_parenthesis_sign))) h.1 h.3 rest h.5))
+
+core_unlike : (E : Language Term) (B : Language BodyTerm) (c : CoreTerm) (s rest : List Token) → Core E B c s → two (is name) (is assign_sign) (s ++ rest) ≡ false
+core_unlike E B c s rest (inl h) = two_not (s ++ rest) (next_apart (if_word ∷ []) (name ∷ []) refl (s ++ rest) (if_opens E B c s rest h))
+core_unlike E B c s rest (inr (inl h)) = two_not (s ++ rest) (next_apart loop_words (name ∷ []) refl (s ++ rest) (loop_opens E B c s rest h))
+core_unlike E B c s rest (inr (inr h)) = call_unlike E B c s rest h
+
+marks_unlike : (ms : List MarkTerm) (p q rest : List Token) → Marks ms p → two (is name) (is assign_sign) (q ++ rest) ≡ false → two (is name) (is assign_sign) ((p ++ q) ++ rest) ≡ false
+marks_unlike [] p q rest k e = ap (λ l. two (is name) (is assign_sign) ((l ++ q) ++ rest)) k ∙ e
+marks_unlike (m ∷ ms) p q rest k e =
+    ap (λ l. two (is name) (is assign_sign) ((l ++ q) ++ rest)) k.4 ∙ ap (λ l. two (is name) (is assign_sign) (l ++ rest)) (append_assoc k.0 k.1 q) ∙ ap (two (is name) (is assign_sign)) (append_assoc k.0 (k.1 ++ q) rest)
+    ∙ two_not (k.0 ++ ((k.1 ++ q) ++ rest)) (next_apart mark_signs (name ∷ []) refl (k.0 ++ ((k.1 ++ q) ++ rest)) (mark_opens m k.0 ((k.1 ++ q) ++ rest) k.2))
+
+pub instance_unlike : (E : Language Term) (B : Language BodyTerm) (i : InstanceTerm) (s rest : List Token) → Instance E B i s → two (is name) (is assign_sign) (s ++ rest) ≡ false
+instance_unlike E B i s rest h = ap (λ l. two (is name) (is assign_sign) (l ++ rest)) h.7 ∙ marks_unlike h.0 h.2 h.3 rest h.4 (core_unlike E B h.1 h.3 rest h.5)
+
 -- b reads a body
 module _ (b : Reads BodyTerm) (B C : Language BodyTerm) (ib : IsReader b B C body_more) (sb : Stops b body_more) (some_b : Some_of C) where
   -- something in parentheses, and a body
@@ -167,13 +231,6 @@ module _ (b : Reads BodyTerm) (B C : Language BodyTerm) (ib : IsReader b B C bod
       → IsReader (both pair_of (in_parentheses r) b) (Both pair_of (InParentheses L) B) (Both pair_of (InParentheses W) C) (λ p. body_more p.1)
   headed_reads r L W more ir some stops =
       both_reads pair_of (in_parentheses r) b (InParentheses L) (InParentheses W) B C (λ x t. false) body_more (λ p. body_more p.1) (in_parentheses_reads r L W more ir some stops) ib some_b (λ x y s rest h k. never_starts (s ++ rest)) (λ x y rest k. k)
-
-  pub some_headed : {A : Type 0} (W : Language A) → Some_of W → Some_of (Both pair_of (InParentheses W) C)
-  some_headed W some =
-      let opening : Token = token (Symbol OpenParenthesis) in
-      let closing : Token = token (Symbol CloseParenthesis) in
-      let l : List Token = opening ∷ (some.0 ++ closing ∷ []) in
-      (l ++ some_b.0, (some.1, some_b.1), (some.1, some_b.1, l, some_b.0, (opening, some.1, opening ∷ [], some.0 ++ closing ∷ [], (refl, refl), (some.1, closing, some.0, closing ∷ [], some.2, (refl, refl), refl, refl), refl, refl), some_b.2, refl, refl))
 
   pub headed_stops : {A : Type 0} (r : Reads A) → Stops (both pair_of (in_parentheses r) b) (λ p. body_more p.1)
   headed_stops r = both_stops pair_of (in_parentheses r) b body_more (λ p. body_more p.1) sb (λ x y rest h. h)
@@ -197,7 +254,7 @@ module _ (b : Reads BodyTerm) (B C : Language BodyTerm) (ib : IsReader b B C bod
     test_reads : IsReader test_read (Test E B) (Test F C) (λ p. body_more p.1.1)
     test_reads =
         then (both pair_of (in_parentheses e) b) (Both pair_of (InParentheses E) B) (Both pair_of (InParentheses F) C) (is if_word) (λ p. body_more p.1) (λ p. body_more p.1.1) pair_of if_one
-        (headed_reads e E F (λ x. among expression_more) ie some_e (λ x. next_apart closes expression_more refl)) (some_headed F some_e) (λ t y rest h. h)
+        (headed_reads e E F (λ x. among expression_more) ie some_e (λ x. next_apart closes expression_more refl)) (some_headed C F some_b some_e) (λ t y rest h. h)
 
     test_stops : Stops test_read (λ p. body_more p.1.1)
     test_stops = both_stops pair_of (one (is if_word)) (both pair_of (in_parentheses e) b) (λ p. body_more p.1) (λ p. body_more p.1.1) (headed_stops e) (λ x y rest h. h)
@@ -241,7 +298,7 @@ module _ (b : Reads BodyTerm) (B C : Language BodyTerm) (ib : IsReader b B C bod
     loop_reads : IsReader (loop_read n b) (Loop E B) (Loop F C) core_more
     loop_reads =
         then (both pair_of (in_parentheses (binders_read n)) b) (Both pair_of (InParentheses (Binders E)) B) (Both pair_of (InParentheses (Binders F)) C) (among loop_words) (λ p. body_more p.1) core_more loop_of loop_one
-        (headed_reads (binders_read n) (Binders E) (Binders F) (λ x. other_than closes) (binders_reads n E F iv) (some_binders F some_e) (λ x. close_ends closes)) (some_headed (Binders F) (some_binders F some_e))
+        (headed_reads (binders_read n) (Binders E) (Binders F) (λ x. other_than closes) (binders_reads n E F iv) (some_binders F some_e) (λ x. close_ends closes)) (some_headed C (Binders F) some_b (some_binders F some_e))
         (λ t y rest h. ap (λ v. starts (else_open v) rest) (sym (loop_open t y)) ∙ h)
 
     loop_stops : Stops (loop_read n b) core_more
@@ -255,7 +312,7 @@ module _ (b : Reads BodyTerm) (B C : Language BodyTerm) (ib : IsReader b B C bod
     call_reads : IsReader (call_read a b) (Call E B) (Call F C) core_more
     call_reads =
         then (both pair_of (in_parentheses (args_read a)) b) (Both pair_of (InParentheses (Args E)) B) (Both pair_of (InParentheses (Args F)) C) (is name) (λ p. body_more p.1) core_more call_of name_one
-        (headed_reads (args_read a) (Args E) (Args F) (λ x. other_than closes) args ([], [], inr (refl, refl)) (λ x. close_ends closes)) (some_headed (Args F) ([], [], inr (refl, refl))) (λ t y rest h. h)
+        (headed_reads (args_read a) (Args E) (Args F) (λ x. other_than closes) args ([], [], inr (refl, refl)) (λ x. close_ends closes)) (some_headed C (Args F) some_b ([], [], inr (refl, refl))) (λ t y rest h. h)
 
     call_stops : Stops (call_read a b) core_more
     call_stops = both_stops call_of (one (is name)) (both pair_of (in_parentheses (args_read a)) b) (λ p. body_more p.1) core_more (headed_stops (args_read a)) (λ t y rest h. h)
@@ -271,23 +328,13 @@ module _ (b : Reads BodyTerm) (B C : Language BodyTerm) (ib : IsReader b B C bod
     core_stops : Stops (core_read e a n b) core_more
     core_stops = choice_stops (is if_word) (if_read e b) (choice (among loop_words) (loop_read n b) (call_read a b)) core_more if_stops (choice_stops (among loop_words) (loop_read n b) (call_read a b) core_more loop_stops call_stops)
 
-    marks_reads : IsReader marks_read Marks Marks (λ x. among mark_signs)
-    marks_reads =
-        many_reads (among mark_signs) (mapped mark_of (one (among mark_signs))) (Mapped mark_of (One (among mark_signs))) (Mapped mark_of (One (among mark_signs))) (λ x t. false) (among mark_signs)
-        (mapped_reads mark_of (one (among mark_signs)) (One (among mark_signs)) (One (among mark_signs)) (λ x t. false) (λ x t. false) mark_one (λ x rest h. h)) mark_opens (λ x rest h. never_starts rest) (λ x rest h. never_starts rest) (λ rest h. h)
-
     instance_core : (ms : List MarkTerm) (c : CoreTerm) → instance_open (instance_of ms c) ≡ core_open c
     instance_core [] c = refl
     instance_core (m ∷ ms) c = refl
 
-    pub some_core : Some_of (Core F C)
-    some_core =
-        let h = some_headed (Args F) ([], [], inr (refl, refl)) in
-        (token (Name []) ∷ h.0, call_of (token (Name [])) h.1, inr (inr (token (Name []), h.1, token (Name []) ∷ [], h.0, (refl, refl), h.2, refl, refl)))
-
     pub instance_reads : IsReader (instance_read (core_read e a n b)) (Instance E B) (Instance F C) instance_more
     instance_reads =
-        both_reads instance_of marks_read (core_read e a n b) Marks Marks (Core E B) (Core F C) (λ x. among mark_signs) core_more instance_more marks_reads core_reads some_core
+        both_reads instance_of marks_read (core_read e a n b) Marks Marks (Core E B) (Core F C) (λ x. among mark_signs) core_more instance_more marks_reads core_reads (some_core F C some_b)
         (λ x y s rest h k. next_apart firsts_of_core mark_signs refl (s ++ rest) (core_opens E B y s rest h))
         (λ x y rest k. ap (λ v. starts (else_open v) rest) (sym (instance_core x y)) ∙ k)
 

@@ -3,7 +3,7 @@ use Rattle.std.proofs.Common.{◌≡◌, ℕ, zero, suc, List, [], ◌∷◌, �
 use Rattle.scad_lexer.specs.declared.token.Token.{Token}
 use Rattle.scad_lexer.specs.declared.token.TokenKind.TheVariants.{Numeral, Name, Symbol}
 use Rattle.scad_lexer.specs.declared.token.Symbol.TheVariants.{OpenParenthesis, CloseParenthesis, CloseBracket, Question, Colon, Or, And, Equal, Less, Plus, Times}
-use Rattle.scad_ast.specs.Terms.{Term, NumberTerm, TextTerm, TruthTerm, UndefTerm, ChildCountTerm, ArgTerm, PositionalTerm, LinkTerm}
+use Rattle.scad_ast.specs.Terms.{Term, NumberTerm, TextTerm, TruthTerm, UndefTerm, ChildCountTerm, ArgTerm, NamedTerm, PositionalTerm}
 use Rattle.scad_grammar.specs.declared.SyntaxFault.TheVariants.{Nested}
 use Rattle.scad_grammar.specs.Classes.{numeral, text, true_word, false_word, undef_word, child_count, name, open_parenthesis_sign, close_parenthesis_sign, open_bracket_sign, close_bracket_sign, comma_sign, assign_sign, colon_sign, question_sign, minus_sign, plus_sign, not_sign, times_sign, divide_sign, remainder_sign, less_sign, greater_sign, less_equal_sign, greater_equal_sign, equal_sign, not_equal_sign, and_sign, or_sign, among, is, other_than, listed, class_of, number_of, bytes_of}
 use Rattle.scad_grammar.specs.Languages.{Language, One, Mapped, Both, EitherOf, Nothing, Many, Maybe, Never, Before, Behind, first_of, second_of, pair_of}
@@ -86,7 +86,7 @@ zero_choice E U = alone_choice E U zero_term (zero_token ∷ []) (zero_unary E U
 abbrev Unlike : {A : Type 0} → Language A → Type 0
 Unlike {A} L = (x : A) (s rest : List Token) → L x s → starts (is assign_sign) rest ≡ false → two (is name) (is assign_sign) (s ++ rest) ≡ false
 
-two_not : (l : List Token) → starts (is name) l ≡ false → two (is name) (is assign_sign) l ≡ false
+pub two_not : (l : List Token) → starts (is name) l ≡ false → two (is name) (is assign_sign) l ≡ false
 two_not [] e = refl
 two_not (t ∷ []) e = refl
 two_not (t ∷ u ∷ l) e = ap (λ b. b && is assign_sign u) e
@@ -95,7 +95,7 @@ and_false : (b c : Bool) → c ≡ false → (b && c) ≡ false
 and_false true c e = e
 and_false false c e = refl
 
-two_name : (t : Token) (l : List Token) → starts (is assign_sign) l ≡ false → two (is name) (is assign_sign) (t ∷ l) ≡ false
+pub two_name : (t : Token) (l : List Token) → starts (is assign_sign) l ≡ false → two (is name) (is assign_sign) (t ∷ l) ≡ false
 two_name t [] e = refl
 two_name t (u ∷ l) e = and_false (is name t) (is assign_sign u) e
 
@@ -168,16 +168,24 @@ sides_open E = both_opens pair_of (One (is question_sign)) _ (is question_sign) 
 choice_unlike : (E U : Language Term) → Unlike (Choice E U)
 choice_unlike E U = both_unlike choice_of (Chain levels (Unary E U)) (Maybe (Sides E)) (chain_unlike levels (Unary E U) refl (unary_unlike E U)) (maybe_keeps (Sides E) (question_sign ∷ []) refl (sides_open E))
 
+-- two tokens and something are a token, and something behind a token
+module _ {A C : Type 0} (f : Token → A → C) (a b : Token → Bool) (L : Language A) where
+  pub two_to : (c : C) (s : List Token) → Two (λ t u x. f t x) a b L c s → Both f (One a) (Behind b L) c s
+  two_to c s h = (h.0, h.2, h.0 ∷ [], h.1 ∷ h.3, (h.4, refl), (h.1, h.2, h.1 ∷ [], h.3, (h.5, refl), h.6, refl, refl), h.7, h.8)
+
+  pub two_from : (c : C) (s : List Token) → Both f (One a) (Behind b L) c s → Two (λ t u x. f t x) a b L c s
+  two_from c s h =
+      let k = h.5 in
+      (h.0, k.0, k.1, k.3, h.4.0, k.4.0, k.5, h.6 ∙ ap (f h.0) k.6, h.7 ∙ ap (λ l. l ++ h.3) h.4.1 ∙ ap (λ l. h.0 ∷ l) (k.7 ∙ ap (λ l. l ++ k.3) k.4.1))
+
 -- an argument is told from a named one by its second token
 module _ (e : Reads Term) (E F : Language Term) (ie : IsReader e E F (λ x. among expression_more)) (alone : (t : Token) → is name t ≡ true → (x : Term) × E x (t ∷ [])) (unlike : Unlike E) where
   to_arg : (L : Language Term) (c : ArgTerm) (s : List Token) → Ahead named (is name) (is assign_sign) L (Mapped PositionalTerm L) c s → Arg L c s
-  to_arg L c s (inl h) = inl (h.0, h.2, h.0 ∷ [], h.1 ∷ h.3, (h.4, refl), (h.1, h.2, h.1 ∷ [], h.3, (h.5, refl), h.6, refl, refl), h.7, h.8)
+  to_arg L c s (inl h) = inl (two_to (λ t x. NamedTerm t.place (bytes_of t.kind) x) (is name) (is assign_sign) L c s h)
   to_arg L c s (inr h) = inr h
 
   from_arg : (L : Language Term) (c : ArgTerm) (s : List Token) → Arg L c s → Ahead named (is name) (is assign_sign) L (Mapped PositionalTerm L) c s
-  from_arg L c s (inl h) =
-      let k = h.5 in
-      inl (h.0, k.0, k.1, k.3, h.4.0, k.4.0, k.5, h.6 ∙ ap (named h.0 k.0) k.6, h.7 ∙ ap (λ l. l ++ h.3) h.4.1 ∙ ap (λ l. h.0 ∷ l) (k.7 ∙ ap (λ l. l ++ k.3) k.4.1))
+  from_arg L c s (inl h) = inl (two_from (λ t x. NamedTerm t.place (bytes_of t.kind) x) (is name) (is assign_sign) L c s h)
   from_arg L c s (inr h) = inr h
 
   pub arg_reads : IsReader (arg_read e) (Arg E) (Arg F) (λ x. among arg_more)
