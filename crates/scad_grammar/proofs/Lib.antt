@@ -9,5 +9,6 @@ pub mod Operands
 pub mod Primary
 pub mod Readers
 pub mod Separated
+pub mod Statements
 pub mod Tests
 pub mod Trailing
