@@ -99,7 +99,7 @@ some_params Q = ([], [], inr (refl, refl))
 binders_reads : (n : Reads BinderTerm) (E F : Language Term) → IsReader n (Binder E) (Binder F) (λ x. among expression_more) → IsReader (binders_read n) (Binders E) (Binders F) (λ x. other_than closes)
 binders_reads n E F im = separated_reads (is comma_sign) (is name) n (Binder E) (Binder F) (λ x. among expression_more) (other_than closes) im (binder_opens E) (λ x. next_apart (comma_sign ∷ []) expression_more refl) (λ x. no_close closes expression_more refl) (no_close closes (comma_sign ∷ []) refl) (no_close closes (name ∷ []) refl)
 
-some_binders : (F : Language Term) → Some_of F → Some_of (Binders F)
+pub some_binders : (F : Language Term) → Some_of F → Some_of (Binders F)
 some_binders F some =
     let t : Token = token (Name []) in
     let u : Token = token (Symbol Assign) in

@@ -305,6 +305,10 @@ begins_arg F l b = (b.0, PositionalTerm b.1, inr (b.1, b.2, refl))
 alone_name : (E U : Language Term) (t : Token) → is name t ≡ true → (x : Term) × Choice E U x (t ∷ [])
 alone_name E U t h = (named_of t None, alone_choice E U (named_of t None) (t ∷ []) (alone_unary E U (named_of t None) (t ∷ []) (inr (inr (inr (inr (inr (inr (inl (t, None, t ∷ [], [], (h, refl), refl, refl, refl))))))))))
 
+pub some_expr : (d : ℕ) → Some_of (Expr (suc d))
+unfolding Expr Operand
+some_expr d = (zero_token ∷ [], zero_term, zero_choice (Expr d) (Operand d))
+
 -- What is read at a depth is in the grammar of that depth, and what is taken before a fault begins something that is at most two deeper.
 pub depth_reads : (d : ℕ) → IsReader (expr_read d) (Expr d) (Expr (suc (suc d))) (λ x. among expression_more) × IsReader (operand_read d) (Operand d) (Operand (suc (suc d))) (λ x. among operand_more) × IsReader (arg_in d (expr_read d)) (Arg (Expr d)) (Arg (Expr (suc (suc d)))) (λ x. among arg_more)
 unfolding Expr Operand expr_read operand_read
