@@ -7,8 +7,10 @@ pub mod Levels
 pub mod Nested
 pub mod Operands
 pub mod Primary
+pub mod Programs
 pub mod Readers
 pub mod Separated
 pub mod Statements
 pub mod Tests
 pub mod Trailing
+pub mod Wider
