@@ -1,5 +1,6 @@
 pub mod Ahead
 pub mod Cores
+pub mod Deeper
 pub mod Examples
 pub mod Expressions
 pub mod Greedy
