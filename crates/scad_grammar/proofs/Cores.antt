@@ -162,7 +162,7 @@ start_many (m ∷ ms) p q rest k e =
 pub instance_opens : (E : Language Term) (B : Language BodyTerm) → Opens (Instance E B) (among firsts_of_instance)
 instance_opens E B i s rest h = ap (λ l. starts (among firsts_of_instance) (l ++ rest)) h.7 ∙ start_many h.0 h.2 h.3 rest h.4 (core_opens E B h.1 h.3 rest h.5)
 
-marks_reads : IsReader marks_read Marks Marks (λ x. among mark_signs)
+pub marks_reads : IsReader marks_read Marks Marks (λ x. among mark_signs)
 marks_reads =
     many_reads (among mark_signs) (mapped mark_of (one (among mark_signs))) (Mapped mark_of (One (among mark_signs))) (Mapped mark_of (One (among mark_signs))) (λ x t. false) (among mark_signs)
     (mapped_reads mark_of (one (among mark_signs)) (One (among mark_signs)) (One (among mark_signs)) (λ x t. false) (λ x t. false) mark_one (λ x rest h. h)) mark_opens (λ x rest h. never_starts rest) (λ x rest h. never_starts rest) (λ rest h. h)
