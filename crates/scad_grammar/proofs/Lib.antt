@@ -3,6 +3,7 @@ pub mod Cores
 pub mod Deeper
 pub mod Examples
 pub mod Expressions
+pub mod FirstFaults
 pub mod Greedy
 pub mod Levels
 pub mod Nested

@@ -1,5 +1,6 @@
 pub mod Classes
 pub mod Faults
+pub mod FirstFault
 pub mod Grammar
 pub mod Languages
 pub mod Reading
