@@ -1,19 +1,19 @@
 -- What is read of cores and instances is in the grammar, where that holds of their parts.
-use Rattle.std.proofs.Common.{◌≡◌, ℕ, List, [], ◌∷◌, ◌++◌, Bool, true, false, Option, Some, None, Ok, Err, inl, inr, refl, sym, ap, ◌∙◌, subst, append-nil, append_assoc, cond}
+use Rattle.std.proofs.Common.{◌≡◌, ℕ, List, [], ◌∷◌, ◌++◌, Bool, true, false, Option, Some, None, Ok, Err, inl, inr, refl, sym, ap, ◌∙◌, append-nil, append_assoc, cond}
 use Rattle.scad_lexer.specs.declared.token.Token.{Token}
 use Rattle.scad_lexer.specs.declared.token.TokenKind.TheVariants.{Name, Reserved, Symbol}
 use Rattle.scad_lexer.specs.declared.token.Reserved.TheVariants.{If, Else, For}
 use Rattle.scad_lexer.specs.declared.token.Symbol.TheVariants.{OpenParenthesis, CloseParenthesis, Assign, Times}
 use Rattle.scad_ast.specs.Terms.{Term, ArgTerm, ParamTerm, BinderTerm, MarkTerm, InstanceStatement, InstanceTerm, CoreTerm, ForTerm, IntersectionForTerm, BodyTerm}
 use Rattle.scad_grammar.specs.Classes.{name, if_word, else_word, for_word, intersection_for_word, open_parenthesis_sign, close_parenthesis_sign, close_bracket_sign, comma_sign, assign_sign, among, is, other_than}
-use Rattle.scad_grammar.specs.Languages.{Language, One, Mapped, Both, BothIf, EitherOf, Nothing, Many, Maybe, Behind, Before, Separated, first_of, second_of, pair_of, cons}
+use Rattle.scad_grammar.specs.Languages.{Language, One, Mapped, Both, BothIf, EitherOf, Nothing, Many, Maybe, Behind, Separated, first_of, second_of, pair_of, cons}
 use Rattle.scad_grammar.specs.Grammar.{InParentheses, Arg, Args, Param, Params, Binder, Binders, Core, Instance, binder_of, param_of, mark_of, if_of, loop_of, call_of, instance_of, IsNearest, ends_open, instance_open, core_open}
-use Rattle.scad_grammar.specs.Reading.{Read, after, starts, mapped, nothing, both, choice, maybe, many, trailing}
+use Rattle.scad_grammar.specs.Reading.{Read, after, starts, mapped, nothing, both, choice, maybe, trailing}
 use Rattle.scad_grammar.specs.Faults.{Reads, one, fault_of, left_out}
 use Rattle.scad_grammar.specs.Reads.{firsts_of_expression, in_parentheses, args_read}
 use Rattle.scad_grammar.specs.StatementReads.{mark_signs, loop_words, firsts_of_core, firsts_of_instance, param_read, binder_read, params_read, binders_read, if_read, loop_read, call_read, core_read, marks_read, instance_read}
 use Rattle.scad_grammar.proofs.Readers.{IsReader, Opens, both_reads, choice_reads, mapped_reads, many_reads, nothing_reads, both_opens, either_opens, mapped_opens, one_opens, never_starts}
-use Rattle.scad_grammar.proofs.Greedy.{Stops, both_if_reads, both_stops, mapped_stops, choice_stops, or_first, maybe_ends, maybe_reads, maybe_stops}
+use Rattle.scad_grammar.proofs.Greedy.{Stops, both_if_reads, both_stops, choice_stops, or_first, maybe_ends, maybe_reads, maybe_stops}
 use Rattle.scad_grammar.proofs.Separated.{separated_reads}
 use Rattle.scad_grammar.proofs.Tests.{OneReads, one_at, then, apart, next_apart, next_within, next_less, next_other, no_close, close_ends}
 use Rattle.scad_grammar.proofs.Operands.{token, name_one}
@@ -122,7 +122,6 @@ Call E B = Both call_of (One (is name)) (Both pair_of (InParentheses (Args E)) B
 
 other_opens : (B : Language BodyTerm) → Opens (Other B) (is else_word)
 other_opens B = both_opens second_of (One (is else_word)) B (is else_word) (one_opens (is else_word))
-
 
 module _ (E : Language Term) (B : Language BodyTerm) where
   loop_opens : Opens (Loop E B) (among loop_words)
@@ -340,4 +339,3 @@ module _ (b : Reads BodyTerm) (B C : Language BodyTerm) (ib : IsReader b B C bod
 
     pub instance_stops : Stops (instance_read (core_read e a n b)) instance_more
     instance_stops = both_stops instance_of marks_read (core_read e a n b) core_more instance_more core_stops (λ x y rest k. ap (λ v. starts (else_open v) rest) (instance_core x y) ∙ k)
-

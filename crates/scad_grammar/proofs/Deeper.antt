@@ -1,16 +1,16 @@
 -- With more depth the reading is the same, where the lesser one doesn't run out of depth.
-use Rattle.std.proofs.Common.{◌≡◌, ℕ, zero, suc, ◌+◌, List, [], ◌∷◌, length, Bool, true, false, cond, Ok, Err, ◌⊎◌, inl, inr, refl, sym, ap, ◌∙◌, arith, ◌&&◌, Some, None}
+use Rattle.std.proofs.Common.{◌≡◌, ℕ, zero, suc, List, [], ◌∷◌, length, Bool, true, false, cond, Ok, Err, ◌⊎◌, inl, inr, refl, sym, ap, ◌∙◌, ◌&&◌, Some, None}
 use Rattle.scad_lexer.specs.declared.token.Token.{Token}
-use Rattle.scad_ast.specs.Terms.{Term, ArgTerm, ParamTerm, BinderTerm, StatementTerm, EmptyStatement, InstanceStatement, InstanceTerm, CoreTerm, BodyTerm, EmptyBody, InstanceBody, NumberTerm, TextTerm, TruthTerm, UndefTerm, ChildCountTerm, PositionalTerm}
+use Rattle.scad_ast.specs.Terms.{Term, ArgTerm, ParamTerm, BinderTerm, StatementTerm, InstanceStatement, BodyTerm, InstanceBody, PositionalTerm}
 use Rattle.scad_grammar.specs.declared.SyntaxFault.{SyntaxFault}
 use Rattle.scad_grammar.specs.declared.SyntaxFault.TheVariants.{Nested}
-use Rattle.scad_grammar.specs.Classes.{numeral, text, true_word, false_word, undef_word, child_count, name, end, if_word, else_word, module_word, function_word, open_parenthesis_sign, close_parenthesis_sign, open_bracket_sign, close_bracket_sign, open_brace_sign, close_brace_sign, comma_sign, semicolon_sign, assign_sign, colon_sign, question_sign, dot_sign, minus_sign, plus_sign, not_sign, among, is, other_than, number_of, bytes_of}
+use Rattle.scad_grammar.specs.Classes.{numeral, text, true_word, false_word, undef_word, child_count, name, end, if_word, else_word, module_word, function_word, open_parenthesis_sign, close_parenthesis_sign, open_bracket_sign, close_bracket_sign, open_brace_sign, close_brace_sign, comma_sign, semicolon_sign, assign_sign, colon_sign, question_sign, dot_sign, minus_sign, plus_sign, not_sign, among, is, other_than}
 use Rattle.scad_grammar.specs.Languages.{first_of, second_of, pair_of, cons}
-use Rattle.scad_grammar.specs.Grammar.{Rest, items, link, chain_of, unary_of, postfix_of, index_of, member_of, levels, choice_of, named_of, paren_of, bracket_of, range_of, binder_of, param_of, if_of, loop_of, call_of, instance_of, block_of, bare_block_of, assignment_of, module_of, function_of}
-use Rattle.scad_grammar.specs.Reading.{Read, Reader, after, starts, one_of, mapped, nothing, both, choice, maybe, ahead, with_front, many_times, many, trailing_times, trailing}
+use Rattle.scad_grammar.specs.Grammar.{items, link, chain_of, unary_of, postfix_of, index_of, levels, choice_of, named_of, paren_of, bracket_of, range_of, binder_of, param_of, if_of, loop_of, call_of, instance_of, block_of, bare_block_of, module_of, function_of}
+use Rattle.scad_grammar.specs.Reading.{Read, after, starts, one_of, mapped, nothing, both, choice, maybe, ahead, with_front, many_times, many, trailing_times, trailing}
 use Rattle.scad_grammar.specs.Faults.{Reads, one, first, fault_of, left_out, left_out_of_expressions}
-use Rattle.scad_grammar.specs.Reads.{head_of, nested, firsts_of_primary, firsts_of_expression, suffix_read, postfix_read, unary_read, chain_read, named, arg_read, args_read, in_parentheses, range_read, rest_read, bracket_read, name_read, paren_read, primary_read, choice_read, arg_in, expr_read, operand_read}
-use Rattle.scad_grammar.specs.StatementReads.{mark_signs, loop_words, firsts_of_core, firsts_of_instance, firsts_of_body, firsts_of_statement, param_read, binder_read, params_read, binders_read, if_read, loop_read, call_read, core_read, marks_read, instance_read, braces_read, body_over, module_read, ended_read, function_read, definition_read, assigned, statement_over, param_in, binder_in, instance_in, statement_read, body_read, program_read}
+use Rattle.scad_grammar.specs.Reads.{head_of, nested, firsts_of_expression, suffix_read, unary_read, chain_read, named, arg_read, args_read, in_parentheses, range_read, rest_read, bracket_read, name_read, paren_read, primary_read, choice_read, arg_in, expr_read, operand_read}
+use Rattle.scad_grammar.specs.StatementReads.{mark_signs, loop_words, firsts_of_core, firsts_of_instance, firsts_of_body, firsts_of_statement, param_read, binder_read, params_read, binders_read, if_read, core_read, marks_read, instance_read, braces_read, body_over, ended_read, definition_read, assigned, statement_over, param_in, binder_in, statement_read, body_read, program_read}
 use Rattle.scad_grammar.proofs.Tests.{next_less}
 use Rattle.scad_grammar.proofs.Cores.{marks_reads}
 
@@ -25,7 +25,7 @@ same r = record { at = λ ts. inl refl }
 
 after_alike : {A B : Type 0} (r q : Read Token SyntaxFault A) (f g : A → List Token → Read Token SyntaxFault B) → Alike r q → ((a : A) (ts : List Token) → Alike (f a ts) (g a ts)) → Alike (after r f) (after q g)
 after_alike r q f g (inr h) k = inr (h.0, ap (λ r. after r f) h.1)
-after_alike r (Ok p) f g (inl e) k = elim (k p.0 p.1) [ | inl h ↦ inl (ap (λ r. after r f) e ∙ h) | inr h ↦ inr (h.0, ap (λ r. after r f) e ∙ h.1) ]
+after_alike r (Ok p) f g (inl e) k = elim (k p.0 p.1) [ inl h ↦ inl (ap (λ r. after r f) e ∙ h) | inr h ↦ inr (h.0, ap (λ r. after r f) e ∙ h.1) ]
 after_alike r (Err x) f g (inl e) k = inl (ap (λ r. after r f) e)
 
 mapped_agrees : {A B : Type 0} (f : A → B) (r q : Reads A) → Agrees r q → Agrees (mapped f r) (mapped f q)
@@ -331,9 +331,9 @@ deeper_statements (suc d) =
     let k = deeper_statements d in
     let e = deeper_expressions d in (
       statement_agrees (expr_read d) (expr_read (suc d)) (arg_in d (expr_read d)) (arg_in (suc d) (expr_read (suc d))) (binder_in d (expr_read d)) (binder_in (suc d) (expr_read (suc d))) (body_read d) (body_read (suc d)) e.0 e.2 (deeper_binders d) k.1
-      (statement_read d) (statement_read (suc d)) k.0 (expr_read (suc d)) (expr_read (suc (suc d))) (param_in d (expr_read d)) (param_in (suc d) (expr_read (suc d))) (deeper_expressions (suc d)).0 (deeper_params d),
+          (statement_read d) (statement_read (suc d)) k.0 (expr_read (suc d)) (expr_read (suc (suc d))) (param_in d (expr_read d)) (param_in (suc d) (expr_read (suc d))) (deeper_expressions (suc d)).0 (deeper_params d),
       body_agrees (expr_read d) (expr_read (suc d)) (arg_in d (expr_read d)) (arg_in (suc d) (expr_read (suc d))) (binder_in d (expr_read d)) (binder_in (suc d) (expr_read (suc d))) (body_read d) (body_read (suc d)) e.0 e.2 (deeper_binders d) k.1
-      (statement_read d) (statement_read (suc d)) k.0,
+          (statement_read d) (statement_read (suc d)) k.0,
     )
 
 pub program_agrees : (d : ℕ) → Agrees (program_read d) (program_read (suc d))

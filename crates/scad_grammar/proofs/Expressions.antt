@@ -1,20 +1,19 @@
 -- What is read of expressions is in the grammar, at each depth.
-use Rattle.std.proofs.Common.{◌≡◌, ℕ, zero, suc, List, [], ◌∷◌, ◌++◌, Bool, true, false, cond, nat_eq, Option, Some, None, Ok, Err, ◌⊎◌, inl, inr, refl, sym, ap, ◌∙◌, subst, append_assoc, append-nil, ◌&&◌}
+use Rattle.std.proofs.Common.{◌≡◌, ℕ, zero, suc, List, [], ◌∷◌, ◌++◌, Bool, true, false, cond, Option, Some, None, Ok, inl, inr, refl, sym, ap, ◌∙◌, append_assoc, append-nil, ◌&&◌}
 use Rattle.scad_lexer.specs.declared.token.Token.{Token}
-use Rattle.scad_lexer.specs.declared.token.TokenKind.TheVariants.{Numeral, Name, Symbol}
-use Rattle.scad_lexer.specs.declared.token.Symbol.TheVariants.{OpenParenthesis, CloseParenthesis, CloseBracket, Question, Colon, Or, And, Equal, Less, Plus, Times}
+use Rattle.scad_lexer.specs.declared.token.TokenKind.TheVariants.{Numeral, Symbol}
+use Rattle.scad_lexer.specs.declared.token.Symbol.TheVariants.{CloseParenthesis, CloseBracket, Question, Colon, Or, And, Equal, Less, Plus, Times}
 use Rattle.scad_ast.specs.Terms.{Term, NumberTerm, TextTerm, TruthTerm, UndefTerm, ChildCountTerm, ArgTerm, NamedTerm, PositionalTerm}
-use Rattle.scad_grammar.specs.declared.SyntaxFault.TheVariants.{Nested}
-use Rattle.scad_grammar.specs.Classes.{numeral, text, true_word, false_word, undef_word, child_count, name, open_parenthesis_sign, close_parenthesis_sign, open_bracket_sign, close_bracket_sign, comma_sign, assign_sign, colon_sign, question_sign, minus_sign, plus_sign, not_sign, times_sign, divide_sign, remainder_sign, less_sign, greater_sign, less_equal_sign, greater_equal_sign, equal_sign, not_equal_sign, and_sign, or_sign, among, is, other_than, listed, class_of, number_of, bytes_of}
-use Rattle.scad_grammar.specs.Languages.{Language, One, Mapped, Both, EitherOf, Nothing, Many, Maybe, Never, Before, Behind, first_of, second_of, pair_of}
+use Rattle.scad_grammar.specs.Classes.{numeral, text, true_word, false_word, undef_word, child_count, name, open_parenthesis_sign, close_parenthesis_sign, open_bracket_sign, close_bracket_sign, assign_sign, colon_sign, question_sign, minus_sign, plus_sign, times_sign, divide_sign, remainder_sign, less_sign, greater_sign, less_equal_sign, greater_equal_sign, equal_sign, not_equal_sign, and_sign, or_sign, among, is, class_of, number_of, bytes_of}
+use Rattle.scad_grammar.specs.Languages.{Language, One, Mapped, Both, EitherOf, Many, Maybe, Never, Before, Behind, second_of, pair_of}
 use Rattle.scad_grammar.specs.Grammar.{InParentheses, Arg, Args, Primary, Bracket, Suffix, Postfix, Unary, Chain, Choice, Expr, Operand, levels, chain_of, choice_of, unary_of, postfix_of, named_of, paren_of, bracket_of, link}
-use Rattle.scad_grammar.specs.Reading.{after, starts, mapped, both, maybe, ahead, many}
-use Rattle.scad_grammar.specs.Faults.{Reads, one, fault_of, left_out_of_expressions}
-use Rattle.scad_grammar.specs.Reads.{firsts_of_primary, firsts_of_expression, head_of, nested, named, arg_read, primary_read, unary_read, chain_read, choice_read, arg_in, expr_read, operand_read}
-use Rattle.scad_grammar.proofs.Readers.{SameHead, Begins, Told, IsReader, Opens, plain_seen, both_reads, mapped_reads, same_reads, more_reads, both_opens, either_opens, mapped_opens, one_opens, never_starts}
+use Rattle.scad_grammar.specs.Reading.{after, starts, mapped, both, maybe}
+use Rattle.scad_grammar.specs.Faults.{Reads, one, left_out_of_expressions}
+use Rattle.scad_grammar.specs.Reads.{firsts_of_primary, firsts_of_expression, named, arg_read, primary_read, unary_read, chain_read, choice_read, arg_in, expr_read, operand_read}
+use Rattle.scad_grammar.proofs.Readers.{Begins, IsReader, Opens, both_reads, mapped_reads, same_reads, both_opens, either_opens, mapped_opens, one_opens}
 use Rattle.scad_grammar.proofs.Greedy.{or_first, maybe_ends, maybe_reads}
 use Rattle.scad_grammar.proofs.Ahead.{Two, Ahead, two, rest_of, ahead_reads}
-use Rattle.scad_grammar.proofs.Tests.{OneReads, either_listed, one_at, then, apart, within, next_apart, next_within, next_less, next_other, fault_plain}
+use Rattle.scad_grammar.proofs.Tests.{OneReads, either_listed, one_at, then, apart, next_apart, next_within, next_less, next_other}
 use Rattle.scad_grammar.proofs.Nested.{nested_reads}
 use Rattle.scad_grammar.proofs.Levels.{goes_on, AllOne, chain_reads}
 use Rattle.scad_grammar.proofs.Operands.{token, here, operand_more, unary_signs, suffix_signs, suffix_opens, unary_reads}
@@ -200,13 +199,22 @@ module _ (e : Reads Term) (E F : Language Term) (ie : IsReader e E F (λ x. amon
 
 -- one token of each level
 levels_one : AllOne levels
-levels_one =
-    (one_at (among (or_sign ∷ [])) (token (Symbol Or), refl),
-    (one_at (among (and_sign ∷ [])) (token (Symbol And), refl),
-    (one_at (among (equal_sign ∷ not_equal_sign ∷ [])) (token (Symbol Equal), refl),
-    (one_at (among (less_sign ∷ less_equal_sign ∷ greater_sign ∷ greater_equal_sign ∷ [])) (token (Symbol Less), refl),
-    (one_at (among (plus_sign ∷ minus_sign ∷ [])) (token (Symbol Plus), refl),
-    (one_at (among (times_sign ∷ divide_sign ∷ remainder_sign ∷ [])) (token (Symbol Times), refl), tt))))))
+levels_one = (
+  one_at (among (or_sign ∷ [])) (token (Symbol Or), refl),
+  (
+    one_at (among (and_sign ∷ [])) (token (Symbol And), refl),
+    (
+      one_at (among (equal_sign ∷ not_equal_sign ∷ [])) (token (Symbol Equal), refl),
+      (
+        one_at (among (less_sign ∷ less_equal_sign ∷ greater_sign ∷ greater_equal_sign ∷ [])) (token (Symbol Less), refl),
+        (
+          one_at (among (plus_sign ∷ minus_sign ∷ [])) (token (Symbol Plus), refl),
+          (one_at (among (times_sign ∷ divide_sign ∷ remainder_sign ∷ [])) (token (Symbol Times), refl), tt),
+        ),
+      ),
+    ),
+  ),
+)
 
 -- an expression over the expressions, arguments and operands one deeper
 module _ (e : Reads Term) (a : Reads ArgTerm) (u : Reads Term) (E F U V : Language Term)

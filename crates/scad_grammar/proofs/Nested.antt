@@ -1,12 +1,11 @@
 -- Where nothing stands that is deeper, nothing is read.
-use Rattle.std.proofs.Common.{◌≡◌, ℕ, List, [], ◌∷◌, ◌++◌, Bool, true, false, cond, Some, None, Err, refl, sym, ap, ◌∙◌, subst}
+use Rattle.std.proofs.Common.{◌≡◌, ℕ, List, [], ◌∷◌, Bool, true, false, cond, Some, None, Err, refl, sym, ap, ◌∙◌, subst}
 use Rattle.scad_lexer.specs.declared.token.Token.{Token}
 use Rattle.scad_grammar.specs.declared.SyntaxFault.TheVariants.{Nested}
 use Rattle.scad_grammar.specs.Classes.{among}
 use Rattle.scad_grammar.specs.Languages.{Language}
-use Rattle.scad_grammar.specs.Reading.{Read, starts}
 use Rattle.scad_grammar.specs.Faults.{fault_of}
-use Rattle.scad_grammar.specs.Reads.{head_of, nested}
+use Rattle.scad_grammar.specs.Reads.{nested}
 use Rattle.scad_grammar.proofs.Readers.{SameHead, Begins, Told, IsReader, plain_seen}
 use Rattle.scad_grammar.proofs.Tests.{fault_plain}
 

@@ -6,7 +6,7 @@ use Rattle.scad_lexer.specs.declared.token.TokenKind.{TokenKind}
 use Rattle.scad_lexer.specs.declared.token.TokenKind.TheVariants.{Name, Symbol}
 use Rattle.scad_lexer.specs.declared.token.Symbol.TheVariants.{OpenBracket, CloseBracket, Dot, Minus}
 use Rattle.scad_ast.specs.Terms.{Term}
-use Rattle.scad_grammar.specs.Classes.{numeral, text, true_word, false_word, undef_word, child_count, name, open_parenthesis_sign, open_bracket_sign, close_bracket_sign, dot_sign, plus_sign, minus_sign, not_sign, among, is}
+use Rattle.scad_grammar.specs.Classes.{name, open_parenthesis_sign, open_bracket_sign, close_bracket_sign, dot_sign, plus_sign, minus_sign, not_sign, among, is}
 use Rattle.scad_grammar.specs.Languages.{Language, One, Both, EitherOf, Many, Before, first_of}
 use Rattle.scad_grammar.specs.Grammar.{Suffix, index_of, member_of, postfix_of, unary_of}
 use Rattle.scad_grammar.specs.Reading.{starts, both, many}

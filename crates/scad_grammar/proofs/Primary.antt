@@ -1,11 +1,9 @@
 -- What is read of primaries is in the grammar, where that holds of the expressions and arguments in them.
-use Rattle.std.proofs.Common.{◌≡◌, ℕ, List, [], ◌∷◌, ◌++◌, Bool, true, false, not, Option, Some, None, inl, inr, refl, sym, ap, ◌∙◌, append-nil, append_assoc, codes}
-use Rattle.text_place.specs.declared.fault.Place.{Place}
+use Rattle.std.proofs.Common.{◌≡◌, ℕ, List, [], ◌∷◌, ◌++◌, Bool, true, false, Option, Some, None, inl, inr, refl, sym, ap, ◌∙◌, append-nil, append_assoc, codes}
 use Rattle.scad_lexer.specs.declared.token.Token.{Token}
-use Rattle.scad_lexer.specs.declared.token.TokenKind.{TokenKind}
-use Rattle.scad_lexer.specs.declared.token.TokenKind.TheVariants.{Numeral, Name, Special, Text, Reserved, Symbol}
+use Rattle.scad_lexer.specs.declared.token.TokenKind.TheVariants.{Numeral, Special, Text, Reserved, Symbol}
 use Rattle.scad_lexer.specs.declared.token.Reserved.TheVariants.{True, False, Undef}
-use Rattle.scad_lexer.specs.declared.token.Symbol.TheVariants.{OpenParenthesis, CloseParenthesis, OpenBracket, CloseBracket, Comma, Colon}
+use Rattle.scad_lexer.specs.declared.token.Symbol.TheVariants.{OpenParenthesis, CloseParenthesis, OpenBracket, CloseBracket, Colon}
 use Rattle.scad_ast.specs.Terms.{Term, NumberTerm, TextTerm, TruthTerm, UndefTerm, ChildCountTerm, ArgTerm}
 use Rattle.scad_grammar.specs.Classes.{numeral, text, true_word, false_word, undef_word, child_count, name, open_parenthesis_sign, close_parenthesis_sign, open_bracket_sign, close_bracket_sign, comma_sign, colon_sign, among, is, other_than, number_of, bytes_of}
 use Rattle.scad_grammar.specs.Languages.{Language, One, Mapped, Both, EitherOf, Nothing, Many, Maybe, Before, Behind, Separated, first_of, second_of, pair_of, cons}
@@ -16,7 +14,7 @@ use Rattle.scad_grammar.specs.Reads.{firsts_of_primary, args_read, in_parenthese
 use Rattle.scad_grammar.proofs.Readers.{IsReader, Opens, both_reads, choice_reads, mapped_reads, more_reads, nothing_reads, both_opens, either_opens, mapped_opens, one_opens, never_starts}
 use Rattle.scad_grammar.proofs.Greedy.{or_first, maybe_ends, maybe_reads}
 use Rattle.scad_grammar.proofs.Separated.{separated_reads, items_reads}
-use Rattle.scad_grammar.proofs.Tests.{OneReads, one_at, first_at, then, apart, within, next_apart, next_within, next_other, no_close, close_ends}
+use Rattle.scad_grammar.proofs.Tests.{OneReads, one_at, first_at, then, apart, within, next_apart, next_within, no_close, close_ends}
 use Rattle.scad_grammar.proofs.Operands.{token, name_one, close_bracket_one}
 
 pub open_parenthesis_one : OneReads (is open_parenthesis_sign)

@@ -1,5 +1,5 @@
 -- No list of tokens has two programs.
-use Rattle.std.proofs.Common.{◌≡◌, ℕ, ◌+◌, List, [], ◌++◌, Ok, sym, ap, ◌∙◌, arith, refl, append-nil}
+use Rattle.std.proofs.Common.{◌≡◌, ℕ, ◌+◌, List, [], Ok, sym, ap, ◌∙◌, arith, refl, append-nil}
 use Rattle.scad_lexer.specs.declared.token.Token.{Token}
 use Rattle.scad_ast.specs.Terms.{StatementTerm}
 use Rattle.scad_grammar.specs.declared.SyntaxFault.{SyntaxFault}

@@ -1,28 +1,28 @@
 -- What is read of statements and programs is in the grammar, at each depth.
-use Rattle.std.proofs.Common.{◌≡◌, ℕ, zero, suc, List, [], ◌∷◌, ◌++◌, Bool, true, false, cond, Ok, Err, Option, Some, None, ◌⊎◌, inl, inr, refl, sym, ap, ◌∙◌, subst, append_assoc, append-nil}
+use Rattle.std.proofs.Common.{◌≡◌, ℕ, zero, suc, List, [], ◌∷◌, ◌++◌, Bool, true, false, cond, Ok, Err, None, inl, inr, refl, sym, ap, ◌∙◌, append-nil}
 use Rattle.scad_lexer.specs.declared.token.Token.{Token}
 use Rattle.scad_lexer.specs.declared.token.TokenKind.TheVariants.{Name, Reserved, Symbol, End}
 use Rattle.scad_lexer.specs.declared.token.Reserved.TheVariants.{Module, Function}
 use Rattle.scad_lexer.specs.declared.token.Symbol.TheVariants.{OpenParenthesis, CloseParenthesis, OpenBrace, CloseBrace, Semicolon, Assign}
-use Rattle.scad_ast.specs.Terms.{Term, ArgTerm, ParamTerm, BinderTerm, StatementTerm, EmptyStatement, BlockStatement, AssignmentTerm, ModuleTerm, FunctionTerm, InstanceStatement, InstanceTerm, BodyTerm, EmptyBody, InstanceBody}
-use Rattle.scad_grammar.specs.Classes.{name, end, module_word, function_word, if_word, else_word, for_word, intersection_for_word, open_parenthesis_sign, close_parenthesis_sign, open_brace_sign, close_brace_sign, semicolon_sign, assign_sign, among, is, other_than, listed, class_of}
-use Rattle.scad_grammar.specs.Languages.{Language, One, Mapped, Both, EitherOf, Nothing, Many, Maybe, Never, Behind, Before, first_of, second_of, pair_of}
-use Rattle.scad_grammar.specs.Grammar.{binder_of, param_of, mark_of, if_of, loop_of, call_of, instance_of, Binders, InParentheses, Arg, Args, Param, Params, Binder, Core, Instance, BodyOf, StatementOf, Expr, Operand, ParamIn, Statement, Body, Program, block_of, bare_block_of, assignment_of, module_of, function_of, ends_open, instance_open}
+use Rattle.scad_ast.specs.Terms.{Term, ParamTerm, BinderTerm, StatementTerm, EmptyStatement, BlockStatement, AssignmentTerm, ModuleTerm, FunctionTerm, InstanceStatement, InstanceTerm, BodyTerm, EmptyBody, InstanceBody}
+use Rattle.scad_grammar.specs.Classes.{name, end, module_word, function_word, if_word, else_word, for_word, intersection_for_word, close_parenthesis_sign, open_brace_sign, close_brace_sign, semicolon_sign, assign_sign, among, is, other_than, class_of}
+use Rattle.scad_grammar.specs.Languages.{Language, One, Mapped, Both, EitherOf, Many, Never, Behind, Before, second_of, pair_of}
+use Rattle.scad_grammar.specs.Grammar.{binder_of, param_of, mark_of, if_of, loop_of, call_of, instance_of, Binders, InParentheses, Args, Param, Params, Binder, Core, Instance, BodyOf, StatementOf, Expr, Operand, ParamIn, Statement, Body, Program, block_of, bare_block_of, assignment_of, module_of, function_of, ends_open, instance_open}
 use Rattle.scad_grammar.specs.Reading.{Read, starts, mapped, both, choice, ahead, many}
 use Rattle.scad_grammar.specs.declared.SyntaxFault.{SyntaxFault}
 use Rattle.scad_grammar.specs.Faults.{Reads, one, fault_of, left_out}
 use Rattle.scad_grammar.specs.declared.SyntaxFault.TheVariants.{Nested}
 use Rattle.scad_grammar.specs.Reads.{nested, head_of, in_parentheses, arg_in, expr_read}
-use Rattle.scad_grammar.specs.StatementReads.{mark_signs, loop_words, firsts_of_core, firsts_of_instance, firsts_of_body, firsts_of_statement, params_read, core_read, instance_read, braces_read, body_over, module_read, ended_read, function_read, definition_read, assigned, statement_over, param_in, binder_in, instance_in, statement_read, body_read, program_read}
+use Rattle.scad_grammar.specs.StatementReads.{mark_signs, loop_words, firsts_of_core, firsts_of_instance, firsts_of_body, firsts_of_statement, params_read, braces_read, body_over, module_read, ended_read, function_read, definition_read, assigned, statement_over, param_in, binder_in, instance_in, statement_read, body_read, program_read}
 use Rattle.scad_grammar.proofs.Readers.{IsReader, Opens, Begins, both_reads, choice_reads, mapped_reads, same_reads, many_reads, both_opens, either_opens, mapped_opens, one_opens, never_starts}
 use Rattle.scad_grammar.proofs.Greedy.{Stops, both_stops, mapped_stops, choice_stops}
-use Rattle.scad_grammar.proofs.Ahead.{Two, Ahead, two, rest_of, ahead_reads}
-use Rattle.scad_grammar.proofs.Tests.{OneReads, either_listed, one_at, then, apart, next_apart, next_within, next_less, close_ends}
+use Rattle.scad_grammar.proofs.Ahead.{Ahead, two, rest_of, ahead_reads}
+use Rattle.scad_grammar.proofs.Tests.{OneReads, either_listed, one_at, then, next_apart, next_within, next_less, close_ends}
 use Rattle.scad_grammar.proofs.Nested.{nested_reads}
 use Rattle.scad_grammar.proofs.Operands.{token, name_one}
 use Rattle.scad_grammar.proofs.Primary.{Some_of, some_before, before_reads, in_parentheses_reads}
-use Rattle.scad_grammar.proofs.Expressions.{expression_more, arg_more, zero_token, zero_term, two_to, two_from, two_not, depth_reads, expr_opens, some_expr}
-use Rattle.scad_grammar.proofs.Cores.{assign_one, else_open, body_more, instance_more, open_less, not_else, params_reads, some_params, param_reads, param_opens, binder_reads, headed_reads, some_headed, some_core, some_binders, instance_opens, instance_reads, instance_stops, instance_unlike, statement_moves, choice_second}
+use Rattle.scad_grammar.proofs.Expressions.{expression_more, arg_more, two_to, two_from, two_not, depth_reads, expr_opens, some_expr}
+use Rattle.scad_grammar.proofs.Cores.{assign_one, else_open, body_more, instance_more, open_less, not_else, params_reads, some_params, param_reads, param_opens, binder_reads, some_headed, some_core, some_binders, instance_opens, instance_reads, instance_stops, instance_unlike, statement_moves, choice_second}
 
 abbrev closes : List ℕ
 closes = close_parenthesis_sign ∷ []
@@ -417,8 +417,8 @@ statement_depth_reads (suc d) =
     let ii = instance_in_reads d (body_read d) (Body d) (Body (suc (suc d))) below.1 below.2 some in
     let si = instance_in_stops d (body_read d) (Body d) (Body (suc (suc d))) below.1 below.2 some in (
       statement_reads (statement_read d) (Statement d) (Statement (suc (suc d))) below.0 (statement_depth_opens d) (instance_in d (body_read d)) (Instance (Expr d) (Body d)) (Instance (Expr (suc (suc d))) (Body (suc (suc d)))) ii si (instance_opens (Expr d) (Body d))
-      (expr_read (suc d)) (param_in d (expr_read d)) (body_read d) (Expr (suc d)) (Expr (suc (suc (suc d)))) (ParamIn d) (ParamIn (suc (suc d))) (Body d) (Body (suc (suc d)))
-      (depth_reads (suc d)).0 (param_in_reads d) (param_in_opens d) below.1 below.2 (some_expr (suc (suc d))) some (instance_unlike (Expr d) (Body d)) (statement_moves (expr_read d) (arg_in d (expr_read d)) (binder_in d (expr_read d)) (body_read d)),
+          (expr_read (suc d)) (param_in d (expr_read d)) (body_read d) (Expr (suc d)) (Expr (suc (suc (suc d)))) (ParamIn d) (ParamIn (suc (suc d))) (Body d) (Body (suc (suc d)))
+          (depth_reads (suc d)).0 (param_in_reads d) (param_in_opens d) below.1 below.2 (some_expr (suc (suc d))) some (instance_unlike (Expr d) (Body d)) (statement_moves (expr_read d) (arg_in d (expr_read d)) (binder_in d (expr_read d)) (body_read d)),
       body_reads (statement_read d) (Statement d) (Statement (suc (suc d))) below.0 (statement_depth_opens d) (instance_in d (body_read d)) (Instance (Expr d) (Body d)) (Instance (Expr (suc (suc d))) (Body (suc (suc d)))) ii si (instance_opens (Expr d) (Body d)),
       body_stops (statement_read d) (Statement d) (Statement (suc (suc d))) below.0 (statement_depth_opens d) (instance_in d (body_read d)) (Instance (Expr d) (Body d)) (Instance (Expr (suc (suc d))) (Body (suc (suc d)))) ii si (instance_opens (Expr d) (Body d)),
     )

@@ -86,7 +86,7 @@ stops_at ys (t ∷ l) h = inr (go (among ys t) h)
 
 -- nothing but what ends it goes on
 pub no_close : (ys zs : List ℕ) → apart ys zs ≡ true → (l : List Token) → starts (other_than ys) l ≡ false → starts (among zs) l ≡ false
-no_close ys zs e l h = elim (stops_at ys l h) [ | inl p ↦ ap (starts (among zs)) p | inr p ↦ next_apart ys zs e l p ]
+no_close ys zs e l h = elim (stops_at ys l h) [ inl p ↦ ap (starts (among zs)) p | inr p ↦ next_apart ys zs e l p ]
 
 pub close_ends : (ys : List ℕ) (l : List Token) → starts (among ys) l ≡ true → starts (other_than ys) l ≡ false
 close_ends ys l = starts_not (among ys) (other_than ys) (λ t e. ap not e) l

@@ -1,10 +1,10 @@
 -- What is in the grammar of a depth is in that of each greater depth.
-use Rattle.std.proofs.Common.{◌≡◌, ℕ, zero, suc, ◌+◌, List, [], ◌∷◌, Bool, Option, Some, None, inl, inr, subst, arith}
+use Rattle.std.proofs.Common.{◌≡◌, ℕ, zero, suc, ◌+◌, List, [], ◌∷◌, Bool, Option, Some, None, inl, inr, arith}
 use Rattle.scad_lexer.specs.declared.token.Token.{Token}
-use Rattle.scad_ast.specs.Terms.{Term, StatementTerm, EmptyStatement, InstanceStatement, ParamTerm, BodyTerm, EmptyBody, InstanceBody, PositionalTerm, NamedTerm, NumberTerm, TextTerm, TruthTerm, UndefTerm, ChildCountTerm}
-use Rattle.scad_grammar.specs.Classes.{open_parenthesis_sign, close_parenthesis_sign, close_bracket_sign, open_brace_sign, close_brace_sign, comma_sign, semicolon_sign, assign_sign, colon_sign, question_sign, dot_sign, open_bracket_sign, name, end, if_word, else_word, is, among}
-use Rattle.scad_grammar.specs.Languages.{Language, One, Mapped, Both, BothIf, EitherOf, Nothing, Many, Maybe, Never, Behind, Before, Separated, first_of, second_of, pair_of, cons}
-use Rattle.scad_grammar.specs.Grammar.{InParentheses, Arg, Args, Param, Params, Binder, Binders, Bracket, Primary, Suffix, Postfix, Unary, Chain, Choice, Expr, Operand, ParamIn, Core, Instance, BodyOf, StatementOf, Statement, Body, Program, levels, link, chain_of, items, if_of, IsNearest}
+use Rattle.scad_ast.specs.Terms.{Term, StatementTerm, InstanceStatement, ParamTerm, BodyTerm, InstanceBody, PositionalTerm}
+use Rattle.scad_grammar.specs.Classes.{open_parenthesis_sign, close_parenthesis_sign, close_bracket_sign, open_brace_sign, close_brace_sign, comma_sign, semicolon_sign, assign_sign, colon_sign, question_sign, open_bracket_sign, name, end, if_word, else_word, is, among}
+use Rattle.scad_grammar.specs.Languages.{Language, One, Mapped, Both, BothIf, EitherOf, Nothing, Many, Maybe, Behind, Before, Separated, first_of, second_of, pair_of, cons}
+use Rattle.scad_grammar.specs.Grammar.{InParentheses, Arg, Args, Param, Params, Binders, Bracket, Primary, Suffix, Unary, Chain, Choice, Expr, Operand, ParamIn, Core, Instance, BodyOf, StatementOf, Statement, Body, Program, levels, link, chain_of, items, if_of, IsNearest}
 
 record Within {A : Type 0} (L M : Language A) : Type 0 where
   at : (x : A) (s : List Token) → L x s → M x s
@@ -19,7 +19,7 @@ both_if_within : {A B C : Type 0} (f : A → B → C) (Fit : A → B → Type 0)
 both_if_within f Fit h k = record { at = λ c s x. (x.0, x.1, x.2, x.3, h.at x.0 x.2 x.4, k.at x.1 x.3 x.5, x.6, x.7, x.8) }
 
 either_within : {A : Type 0} {La Ma Lb Mb : Language A} → Within La Ma → Within Lb Mb → Within (EitherOf La Lb) (EitherOf Ma Mb)
-either_within h k = record { at = λ x s y. elim y [ | inl z ↦ inl (h.at x s z) | inr z ↦ inr (k.at x s z) ] }
+either_within h k = record { at = λ x s y. elim y [ inl z ↦ inl (h.at x s z) | inr z ↦ inr (k.at x s z) ] }
 
 mapped_within : {A B : Type 0} (f : A → B) {L M : Language A} → Within L M → Within (Mapped f L) (Mapped f M)
 mapped_within f h = record { at = λ b s x. (x.0, h.at x.0 s x.1, x.2) }
@@ -135,9 +135,10 @@ unfolding Statement Body
 statement_wider zero = (record { at = λ x s h. elim h [ ] }, record { at = λ x s h. elim h [ ] })
 statement_wider (suc d) =
     let k = statement_wider d in
-    let e = (expr_wider d).0 in
-    (statement_within (Expr d) (Expr (suc d)) (Body d) (Body (suc d)) e k.1 (Statement d) (Statement (suc d)) k.0 (Expr (suc d)) (Expr (suc (suc d))) (ParamIn d) (ParamIn (suc d)) (expr_wider (suc d)).0 (param_wider d),
-    body_within (Expr d) (Expr (suc d)) (Body d) (Body (suc d)) e k.1 (Statement d) (Statement (suc d)) k.0)
+    let e = (expr_wider d).0 in (
+      statement_within (Expr d) (Expr (suc d)) (Body d) (Body (suc d)) e k.1 (Statement d) (Statement (suc d)) k.0 (Expr (suc d)) (Expr (suc (suc d))) (ParamIn d) (ParamIn (suc d)) (expr_wider (suc d)).0 (param_wider d),
+      body_within (Expr d) (Expr (suc d)) (Body d) (Body (suc d)) e k.1 (Statement d) (Statement (suc d)) k.0,
+    )
 
 pub wider : (d : ℕ) (x : List StatementTerm) (s : List Token) → Program d x s → Program (suc d) x s
 wider d = (before_within (is end) (many_within (statement_wider d).0)).at

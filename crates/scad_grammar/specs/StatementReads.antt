@@ -1,8 +1,8 @@
 -- How statements are read, by what stands next.
-use Rattle.std.specs.Prelude.{ℕ, zero, suc, List, [], ◌∷◌, Option}
+use Rattle.std.specs.Prelude.{ℕ, zero, suc, List, [], ◌∷◌}
 use Rattle.scad_lexer.specs.declared.token.Token.{Token}
 use Rattle.scad_ast.specs.Terms.{Term, ArgTerm, ParamTerm, BinderTerm, MarkTerm, StatementTerm, EmptyStatement, InstanceStatement, InstanceTerm, CoreTerm, BodyTerm, EmptyBody, InstanceBody}
-use Rattle.scad_grammar.specs.Classes.{name, end, module_word, function_word, if_word, else_word, for_word, intersection_for_word, close_parenthesis_sign, open_brace_sign, close_brace_sign, comma_sign, semicolon_sign, assign_sign, times_sign, remainder_sign, not_sign, hash_sign, among, is, other_than}
+use Rattle.scad_grammar.specs.Classes.{name, end, module_word, function_word, if_word, else_word, for_word, intersection_for_word, open_brace_sign, close_brace_sign, comma_sign, semicolon_sign, assign_sign, times_sign, remainder_sign, not_sign, hash_sign, among, is}
 use Rattle.scad_grammar.specs.Languages.{first_of, second_of, pair_of, cons}
 use Rattle.scad_grammar.specs.Grammar.{binder_of, param_of, mark_of, if_of, loop_of, call_of, instance_of, block_of, bare_block_of, assignment_of, module_of, function_of}
 use Rattle.scad_grammar.specs.Reading.{mapped, nothing, both, choice, maybe, ahead, many, trailing}

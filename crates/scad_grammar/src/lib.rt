@@ -20,5 +20,4 @@ pub enum SyntaxFault {
 /// No list of tokens has two programs, however deep they may be.
 pub fn one_program_each()
     ensures { (d k : ℕ) (x y : List StatementTerm) (s : List Token) → Program d x s → Program k y s → x ≡ y }
-{
-}
+{}
