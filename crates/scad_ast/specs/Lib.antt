@@ -1,0 +1,3 @@
+pub mod ExprView
+pub mod StatementView
+pub mod Terms

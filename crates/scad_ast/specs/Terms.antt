@@ -1,0 +1,141 @@
+-- The syntax as plain trees, without memory (OpenSCAD User Manual, in the profile of this server).
+use Rattle.std.specs.Prelude.{ℕ, Bool, List, [], ◌∷◌}
+use Rattle.text_place.specs.declared.fault.Place.{Place}
+use Rattle.scad_ast.specs.declared.operator.BinaryOp.{BinaryOp}
+use Rattle.scad_ast.specs.declared.operator.UnaryOp.{UnaryOp}
+use Rattle.scad_ast.specs.declared.operator.Modifier.{Modifier}
+
+-- an expression; the first place of each form is that of its first token
+mutual
+  pub data Term : Type 0 where
+    NumberTerm : (at : Place) → (n : ℕ) → Term
+    TextTerm : (at : Place) → (bytes : List ℕ) → Term
+    TruthTerm : (at : Place) → (truth : Bool) → Term
+    UndefTerm : (at : Place) → Term
+    ChildCountTerm : (at : Place) → Term
+    NameTerm : (at : Place) → (name : List ℕ) → Term
+    CallTerm : (at : Place) → (name : List ℕ) → (args : ArgTerms) → Term
+    ParenTerm : (at : Place) → (inner : Term) → Term
+    ListTerm : (at : Place) → (items : Terms) → Term
+    RangeTerm : (at : Place) → (from to : Term) → Term
+    SteppedRangeTerm : (at : Place) → (from step to : Term) → Term
+    PostfixTerm : (at : Place) → (of : Term) → (rest : SuffixTerms) → Term
+    UnaryTerm : (at : Place) → (op : UnaryOp) → (of : Term) → Term
+    ChainTerm : (at : Place) → (first : Term) → (rest : LinkTerms) → Term
+    ChoiceTerm : (at : Place) → (test : Term) → (mark : Place) → (yes no : Term) → Term
+
+  pub data Terms : Type 0 where
+    no_terms : Terms
+    and_term : (first : Term) → (rest : Terms) → Terms
+
+  pub data ArgTerms : Type 0 where
+    no_args : ArgTerms
+    and_named : (at : Place) → (name : List ℕ) → (value : Term) → (rest : ArgTerms) → ArgTerms
+    and_positional : (value : Term) → (rest : ArgTerms) → ArgTerms
+
+  pub data SuffixTerms : Type 0 where
+    no_suffixes : SuffixTerms
+    and_index : (at : Place) → (index : Term) → (rest : SuffixTerms) → SuffixTerms
+    and_member : (at : Place) → (name : List ℕ) → (name_at : Place) → (rest : SuffixTerms) → SuffixTerms
+
+  pub data LinkTerms : Type 0 where
+    no_links : LinkTerms
+    and_link : (op : BinaryOp) → (at : Place) → (right : Term) → (rest : LinkTerms) → LinkTerms
+
+-- an operator and its right side
+pub record LinkTerm : Type 0 where
+  pub op : BinaryOp
+  pub at : Place
+  pub right : Term
+
+pub data SuffixTerm : Type 0 where
+  IndexTerm : (at : Place) → (index : Term) → SuffixTerm
+  MemberTerm : (at : Place) → (name : List ℕ) → (name_at : Place) → SuffixTerm
+
+pub data ArgTerm : Type 0 where
+  NamedTerm : (at : Place) → (name : List ℕ) → (value : Term) → ArgTerm
+  PositionalTerm : (value : Term) → ArgTerm
+
+-- lists of these
+abbrev pub terms_from : List Term → Terms
+terms_from [] = no_terms
+terms_from (t ∷ ts) = and_term t (terms_from ts)
+
+abbrev pub links_from : List LinkTerm → LinkTerms
+links_from [] = no_links
+links_from (l ∷ ls) = and_link l.op l.at l.right (links_from ls)
+
+abbrev pub suffixes_from : List SuffixTerm → SuffixTerms
+suffixes_from [] = no_suffixes
+suffixes_from (IndexTerm at index ∷ ss) = and_index at index (suffixes_from ss)
+suffixes_from (MemberTerm at name name_at ∷ ss) = and_member at name name_at (suffixes_from ss)
+
+abbrev pub args_from : List ArgTerm → ArgTerms
+args_from [] = no_args
+args_from (NamedTerm at name value ∷ rest) = and_named at name value (args_from rest)
+args_from (PositionalTerm value ∷ rest) = and_positional value (args_from rest)
+
+-- the place of the first token
+abbrev pub place_of : Term → Place
+place_of (NumberTerm at n) = at
+place_of (TextTerm at bytes) = at
+place_of (TruthTerm at truth) = at
+place_of (UndefTerm at) = at
+place_of (ChildCountTerm at) = at
+place_of (NameTerm at name) = at
+place_of (CallTerm at name args) = at
+place_of (ParenTerm at inner) = at
+place_of (ListTerm at items) = at
+place_of (RangeTerm at from to) = at
+place_of (SteppedRangeTerm at from step to) = at
+place_of (PostfixTerm at of rest) = at
+place_of (UnaryTerm at op of) = at
+place_of (ChainTerm at first rest) = at
+place_of (ChoiceTerm at test mark one other) = at
+
+-- a parameter, and a variable of a loop
+pub data ParamTerm : Type 0 where
+  PlainTerm : (at : Place) → (name : List ℕ) → ParamTerm
+  DefaultTerm : (at : Place) → (name : List ℕ) → (value : Term) → ParamTerm
+
+pub record BinderTerm : Type 0 where
+  pub at : Place
+  pub name : List ℕ
+  pub values : Term
+
+pub record MarkTerm : Type 0 where
+  pub at : Place
+  pub modifier : Modifier
+
+-- statements; the first place of each form is that of its first token
+mutual
+  pub data StatementTerm : Type 0 where
+    EmptyStatement : (at : Place) → StatementTerm
+    BlockStatement : (at : Place) → (statements : StatementTerms) → StatementTerm
+    AssignmentTerm : (at : Place) → (name : List ℕ) → (value : Term) → StatementTerm
+    ModuleTerm : (at : Place) → (name : List ℕ) → (name_at : Place) → (params : List ParamTerm) → (body : BodyTerm) → StatementTerm
+    FunctionTerm : (at : Place) → (name : List ℕ) → (name_at : Place) → (params : List ParamTerm) → (value : Term) → StatementTerm
+    InstanceStatement : (instance : InstanceTerm) → StatementTerm
+
+  pub data StatementTerms : Type 0 where
+    no_statements : StatementTerms
+    and_statement : (first : StatementTerm) → (rest : StatementTerms) → StatementTerms
+
+  pub data InstanceTerm : Type 0 where
+    AnInstance : (at : Place) → (marks : List MarkTerm) → (core : CoreTerm) → InstanceTerm
+
+  pub data CoreTerm : Type 0 where
+    IfTerm : (at : Place) → (test : Term) → (body : BodyTerm) → CoreTerm
+    IfElseTerm : (at : Place) → (test : Term) → (body other : BodyTerm) → CoreTerm
+    ForTerm : (at : Place) → (binders : List BinderTerm) → (body : BodyTerm) → CoreTerm
+    IntersectionForTerm : (at : Place) → (binders : List BinderTerm) → (body : BodyTerm) → CoreTerm
+    ModuleCallTerm : (at : Place) → (name : List ℕ) → (args : List ArgTerm) → (body : BodyTerm) → CoreTerm
+
+  pub data BodyTerm : Type 0 where
+    EmptyBody : (at : Place) → BodyTerm
+    BlockBody : (at : Place) → (statements : StatementTerms) → BodyTerm
+    InstanceBody : (instance : InstanceTerm) → BodyTerm
+
+abbrev pub statements_from : List StatementTerm → StatementTerms
+statements_from [] = no_statements
+statements_from (s ∷ ss) = and_statement s (statements_from ss)

@@ -1,0 +1,16 @@
+//! Syntax of the modelling language: one variant for each form, every name, call, operator and
+//! opening bracket with its place, and every form with the place of its first token.
+#![tactic(auto)]
+
+mod expression;
+mod operator;
+mod statement;
+#[cfg(test)]
+mod tests;
+
+pub use expression::{Arg, Args, Expr, Exprs, Link, Links, Suffix, Suffixes};
+pub use operator::{BinaryOp, Modifier, UnaryOp};
+pub use statement::{
+    Binder, Binders, Body, Core, Instance, Mark, Marks, Param, Params, Program, Statement,
+    Statements,
+};

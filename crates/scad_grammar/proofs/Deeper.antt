@@ -1,0 +1,340 @@
+-- With more depth the reading is the same, where the lesser one doesn't run out of depth.
+use Rattle.std.proofs.Common.{◌≡◌, ℕ, zero, suc, List, [], ◌∷◌, length, Bool, true, false, cond, Ok, Err, ◌⊎◌, inl, inr, refl, sym, ap, ◌∙◌, ◌&&◌, Some, None}
+use Rattle.scad_lexer.specs.declared.token.Token.{Token}
+use Rattle.scad_ast.specs.Terms.{Term, ArgTerm, ParamTerm, BinderTerm, StatementTerm, InstanceStatement, BodyTerm, InstanceBody, PositionalTerm}
+use Rattle.scad_grammar.specs.declared.SyntaxFault.{SyntaxFault}
+use Rattle.scad_grammar.specs.declared.SyntaxFault.TheVariants.{Nested}
+use Rattle.scad_grammar.specs.Classes.{numeral, text, true_word, false_word, undef_word, child_count, name, end, if_word, else_word, module_word, function_word, open_parenthesis_sign, close_parenthesis_sign, open_bracket_sign, close_bracket_sign, open_brace_sign, close_brace_sign, comma_sign, semicolon_sign, assign_sign, colon_sign, question_sign, dot_sign, minus_sign, plus_sign, not_sign, among, is, other_than}
+use Rattle.scad_grammar.specs.Languages.{first_of, second_of, pair_of, cons}
+use Rattle.scad_grammar.specs.Grammar.{items, link, chain_of, unary_of, postfix_of, index_of, levels, choice_of, named_of, paren_of, bracket_of, range_of, binder_of, param_of, if_of, loop_of, call_of, instance_of, block_of, bare_block_of, module_of, function_of}
+use Rattle.scad_grammar.specs.Reading.{Read, after, starts, one_of, mapped, nothing, both, choice, maybe, ahead, with_front, many_times, many, trailing_times, trailing}
+use Rattle.scad_grammar.specs.Faults.{Reads, one, first, fault_of, left_out, left_out_of_expressions}
+use Rattle.scad_grammar.specs.Reads.{head_of, nested, firsts_of_expression, suffix_read, unary_read, chain_read, named, arg_read, args_read, in_parentheses, range_read, rest_read, bracket_read, name_read, paren_read, primary_read, choice_read, arg_in, expr_read, operand_read}
+use Rattle.scad_grammar.specs.StatementReads.{mark_signs, loop_words, firsts_of_core, firsts_of_instance, firsts_of_body, firsts_of_statement, param_read, binder_read, params_read, binders_read, if_read, core_read, marks_read, instance_read, braces_read, body_over, ended_read, definition_read, assigned, statement_over, param_in, binder_in, statement_read, body_read, program_read}
+use Rattle.scad_grammar.proofs.Tests.{next_less}
+use Rattle.scad_grammar.proofs.Cores.{marks_reads}
+
+abbrev pub Alike : {A : Type 0} → Read Token SyntaxFault A → Read Token SyntaxFault A → Type 0
+Alike r q = (r ≡ q) ⊎ ((at : List Token) × (r ≡ Err (Nested, at)))
+
+pub record Agrees {A : Type 0} (r q : Reads A) : Type 0 where
+  pub at : (ts : List Token) → Alike (r ts) (q ts)
+
+same : {A : Type 0} (r : Reads A) → Agrees r r
+same r = record { at = λ ts. inl refl }
+
+after_alike : {A B : Type 0} (r q : Read Token SyntaxFault A) (f g : A → List Token → Read Token SyntaxFault B) → Alike r q → ((a : A) (ts : List Token) → Alike (f a ts) (g a ts)) → Alike (after r f) (after q g)
+after_alike r q f g (inr h) k = inr (h.0, ap (λ r. after r f) h.1)
+after_alike r (Ok p) f g (inl e) k = elim (k p.0 p.1) [ inl h ↦ inl (ap (λ r. after r f) e ∙ h) | inr h ↦ inr (h.0, ap (λ r. after r f) e ∙ h.1) ]
+after_alike r (Err x) f g (inl e) k = inl (ap (λ r. after r f) e)
+
+mapped_agrees : {A B : Type 0} (f : A → B) (r q : Reads A) → Agrees r q → Agrees (mapped f r) (mapped f q)
+mapped_agrees f r q h = record { at = λ ts. after_alike (r ts) (q ts) (λ a ts. Ok (f a, ts)) (λ a ts. Ok (f a, ts)) (h.at ts) (λ a ts. inl refl) }
+
+both_agrees : {A B C : Type 0} (f : A → B → C) (r q : Reads A) (s p : Reads B) → Agrees r q → Agrees s p → Agrees (both f r s) (both f q p)
+both_agrees f r q s p h k = record {
+  at = λ ts. after_alike (r ts) (q ts) (λ a ts. after (s ts) (λ b ts. Ok (f a b, ts))) (λ a ts. after (p ts) (λ b ts. Ok (f a b, ts))) (h.at ts) (λ a us. after_alike (s us) (p us) (λ b ts. Ok (f a b, ts)) (λ b ts. Ok (f a b, ts)) (k.at us) (λ b vs. inl refl));
+}
+
+cond_alike : {A : Type 0} (b : Bool) (r q s p : Read Token SyntaxFault A) → Alike r q → Alike s p → Alike (cond b r s) (cond b q p)
+cond_alike true r q s p h k = h
+cond_alike false r q s p h k = k
+
+choice_agrees : {A : Type 0} (test : Token → Bool) (r q s p : Reads A) → Agrees r q → Agrees s p → Agrees (choice test r s) (choice test q p)
+choice_agrees test r q s p h k = record { at = λ ts. cond_alike (starts test ts) (r ts) (q ts) (s ts) (p ts) (h.at ts) (k.at ts) }
+
+maybe_agrees : {A : Type 0} (test : Token → Bool) (r q : Reads A) → Agrees r q → Agrees (maybe test r) (maybe test q)
+maybe_agrees test r q h = choice_agrees test (mapped Some r) (mapped Some q) (nothing None) (nothing None) (mapped_agrees Some r q h) (same (nothing None))
+
+ahead_at : {A C : Type 0} (f : Token → Token → A → C) (a b : Token → Bool) (r q : Reads A) (s p : Reads C) → Agrees r q → Agrees s p → (ts : List Token) → Alike (ahead f a b r s ts) (ahead f a b q p ts)
+ahead_at f a b r q s p h k [] = k.at []
+ahead_at f a b r q s p h k (t ∷ []) = k.at (t ∷ [])
+ahead_at f a b r q s p h k (t ∷ u ∷ ts) =
+    cond_alike (a t && b u) (after (r ts) (λ x us. Ok (f t u x, us))) (after (q ts) (λ x us. Ok (f t u x, us))) (s (t ∷ u ∷ ts)) (p (t ∷ u ∷ ts))
+    (after_alike (r ts) (q ts) (λ x us. Ok (f t u x, us)) (λ x us. Ok (f t u x, us)) (h.at ts) (λ x us. inl refl)) (k.at (t ∷ u ∷ ts))
+
+ahead_agrees : {A C : Type 0} (f : Token → Token → A → C) (a b : Token → Bool) (r q : Reads A) (s p : Reads C) → Agrees r q → Agrees s p → Agrees (ahead f a b r s) (ahead f a b q p)
+ahead_agrees f a b r q s p h k = record { at = ahead_at f a b r q s p h k }
+
+front_alike : {A : Type 0} (x : A) (r q : Read Token SyntaxFault (List A)) → Alike r q → Alike (with_front x r) (with_front x q)
+front_alike x r q (inl h) = inl (ap (with_front x) h)
+front_alike x r q (inr h) = inr (h.0, ap (with_front x) h.1)
+
+times_alike : {A : Type 0} (n : ℕ) (test : Token → Bool) (r q : Reads A) → Agrees r q → (ts : List Token) → Alike (many_times n test r ts) (many_times n test q ts)
+unfolding many_times
+times_alike zero test r q h ts = inl refl
+times_alike (suc n) test r q h ts =
+    cond_alike (starts test ts) (after (r ts) (λ x us. with_front x (many_times n test r us))) (after (q ts) (λ x us. with_front x (many_times n test q us))) (Ok ([], ts)) (Ok ([], ts))
+    (after_alike (r ts) (q ts) (λ x us. with_front x (many_times n test r us)) (λ x us. with_front x (many_times n test q us)) (h.at ts) (λ x us. front_alike x (many_times n test r us) (many_times n test q us) (times_alike n test r q h us))) (inl refl)
+
+many_agrees : {A : Type 0} (test : Token → Bool) (r q : Reads A) → Agrees r q → Agrees (many test r) (many test q)
+unfolding many
+many_agrees test r q h = record { at = λ ts. times_alike (length ts) test r q h ts }
+
+trailing_alike : {A : Type 0} (n : ℕ) (mark go : Token → Bool) (r q : Reads A) → Agrees r q → (ts : List Token) → Alike (trailing_times n mark go r ts) (trailing_times n mark go q ts)
+unfolding trailing_times
+trailing_alike zero mark go r q h ts = inl refl
+trailing_alike (suc n) mark go r q h [] = inl refl
+trailing_alike (suc n) mark go r q h (t ∷ ts) =
+    cond_alike (mark t) (cond (starts go ts) (after (r ts) (λ x us. with_front x (trailing_times n mark go r us))) (Ok ([], ts))) (cond (starts go ts) (after (q ts) (λ x us. with_front x (trailing_times n mark go q us))) (Ok ([], ts))) (Ok ([], t ∷ ts)) (Ok ([], t ∷ ts))
+    (cond_alike (starts go ts) (after (r ts) (λ x us. with_front x (trailing_times n mark go r us))) (after (q ts) (λ x us. with_front x (trailing_times n mark go q us))) (Ok ([], ts)) (Ok ([], ts))
+    (after_alike (r ts) (q ts) (λ x us. with_front x (trailing_times n mark go r us)) (λ x us. with_front x (trailing_times n mark go q us)) (h.at ts) (λ x us. front_alike x (trailing_times n mark go r us) (trailing_times n mark go q us) (trailing_alike n mark go r q h us))) (inl refl)) (inl refl)
+
+trailing_agrees : {A : Type 0} (mark go : Token → Bool) (r q : Reads A) → Agrees r q → Agrees (trailing mark go r) (trailing mark go q)
+unfolding trailing
+trailing_agrees mark go r q h = record { at = λ ts. trailing_alike (length ts) mark go r q h ts }
+
+-- a token of some class before and behind
+behind_agrees : {A B : Type 0} (f : Token → A → B) (test : Reads Token) (r q : Reads A) → Agrees r q → Agrees (both f test r) (both f test q)
+behind_agrees f test r q h = both_agrees f test test r q (same test) h
+
+before_agrees : {A : Type 0} (c : ℕ) (r q : Reads A) → Agrees r q → Agrees (both first_of r (one (is c))) (both first_of q (one (is c)))
+before_agrees c r q h = both_agrees first_of r q (one (is c)) (one (is c)) h (same (one (is c)))
+
+parentheses_agree : {A : Type 0} (r q : Reads A) → Agrees r q → Agrees (in_parentheses r) (in_parentheses q)
+parentheses_agree r q h = behind_agrees second_of (one (is open_parenthesis_sign)) (both first_of r (one (is close_parenthesis_sign))) (both first_of q (one (is close_parenthesis_sign))) (before_agrees close_parenthesis_sign r q h)
+
+module _ (e f u v : Reads Term) (a b : Reads ArgTerm) (he : Agrees e f) (hu : Agrees u v) (ha : Agrees a b) where
+  args_agree : Agrees (args_read a) (args_read b)
+  args_agree =
+      choice_agrees (other_than (close_parenthesis_sign ∷ [])) _ _ _ _
+      (both_agrees cons a b _ _ ha (trailing_agrees (is comma_sign) (other_than (close_parenthesis_sign ∷ [])) a b ha)) (same (nothing []))
+
+  behind_colon : Agrees (both second_of (one (is colon_sign)) e) (both second_of (one (is colon_sign)) f)
+  behind_colon = behind_agrees second_of (one (is colon_sign)) e f he
+
+  rest_agrees : Agrees (rest_read e) (rest_read f)
+  rest_agrees =
+      choice_agrees (is colon_sign) (range_read e) (range_read f) _ _
+      (behind_agrees second_of (one (is colon_sign)) _ _ (both_agrees range_of e f _ _ he (maybe_agrees (is colon_sign) _ _ behind_colon)))
+      (mapped_agrees items _ _ (trailing_agrees (is comma_sign) (other_than (close_bracket_sign ∷ [])) e f he))
+
+  bracket_agrees : Agrees (bracket_read e) (bracket_read f)
+  bracket_agrees =
+      behind_agrees bracket_of (first (is open_bracket_sign)) _ _
+      (before_agrees close_bracket_sign _ _ (maybe_agrees (other_than (close_bracket_sign ∷ [])) _ _ (both_agrees pair_of e f (rest_read e) (rest_read f) he rest_agrees)))
+
+  name_agrees : Agrees (name_read a) (name_read b)
+  name_agrees = behind_agrees named_of (one (is name)) _ _ (maybe_agrees (is open_parenthesis_sign) _ _ (parentheses_agree (args_read a) (args_read b) args_agree))
+
+  paren_agrees : Agrees (paren_read e) (paren_read f)
+  paren_agrees = behind_agrees paren_of (one (is open_parenthesis_sign)) _ _ (before_agrees close_parenthesis_sign e f he)
+
+  primary_agrees : Agrees (primary_read e a) (primary_read f b)
+  primary_agrees =
+      choice_agrees (is numeral) _ _ _ _ (same _) (choice_agrees (is text) _ _ _ _ (same _) (choice_agrees (is true_word) _ _ _ _ (same _) (choice_agrees (is false_word) _ _ _ _ (same _)
+      (choice_agrees (is undef_word) _ _ _ _ (same _) (choice_agrees (is child_count) _ _ _ _ (same _)
+      (choice_agrees (is name) (name_read a) (name_read b) _ _ name_agrees (choice_agrees (is open_parenthesis_sign) (paren_read e) (paren_read f) (bracket_read e) (bracket_read f) paren_agrees bracket_agrees)))))))
+
+  suffix_agrees : Agrees (suffix_read e) (suffix_read f)
+  suffix_agrees = choice_agrees (is open_bracket_sign) _ _ _ _ (behind_agrees index_of (one (is open_bracket_sign)) _ _ (before_agrees close_bracket_sign e f he)) (same _)
+
+  unary_agrees : Agrees (unary_read e u (primary_read e a)) (unary_read f v (primary_read f b))
+  unary_agrees =
+      choice_agrees (among (minus_sign ∷ plus_sign ∷ not_sign ∷ [])) _ _ _ _ (behind_agrees unary_of (one (among (minus_sign ∷ plus_sign ∷ not_sign ∷ []))) u v hu)
+      (both_agrees postfix_of (primary_read e a) (primary_read f b) _ _ primary_agrees (many_agrees (among (open_bracket_sign ∷ dot_sign ∷ [])) (suffix_read e) (suffix_read f) suffix_agrees))
+
+  chain_agrees : (below : List (List ℕ)) (r q : Reads Term) → Agrees r q → Agrees (chain_read below r) (chain_read below q)
+  chain_agrees [] r q h = h
+  chain_agrees (ops ∷ below) r q h = both_agrees chain_of (chain_read below r) (chain_read below q) _ _ (chain_agrees below r q h) (many_agrees (among ops) _ _ (behind_agrees link (one (among ops)) (chain_read below r) (chain_read below q) (chain_agrees below r q h)))
+
+  choice_read_agrees : Agrees (choice_read e u (primary_read e a)) (choice_read f v (primary_read f b))
+  choice_read_agrees =
+      both_agrees choice_of _ _ _ _ (chain_agrees levels _ _ unary_agrees)
+      (maybe_agrees (is question_sign) _ _ (behind_agrees pair_of (one (is question_sign)) _ _ (both_agrees pair_of e f _ _ he behind_colon)))
+
+arg_agrees : (e f : Reads Term) → Agrees e f → Agrees (arg_read e) (arg_read f)
+arg_agrees e f he = ahead_agrees named (is name) (is assign_sign) e f _ _ he (mapped_agrees PositionalTerm e f he)
+
+-- what begins no expression is refused in the same way at each depth
+abbrev refusal : {A : Type 0} → List ℕ → List Token → Read Token SyntaxFault A
+refusal classes ts = Err (fault_of classes (head_of ts), ts)
+
+skip : {A : Type 0} (v : Bool) (r q : Read Token SyntaxFault A) → v ≡ false → cond v r q ≡ q
+skip v r q e = ap (λ v. cond v r q) e
+
+one_refuses : (classes : List ℕ) (test : Token → Bool) (ts : List Token) → starts test ts ≡ false → one_of test (fault_of classes) ts ≡ refusal classes ts
+one_refuses classes test [] h = refl
+one_refuses classes test (t ∷ ts) h = ap (λ v. cond v (Ok (t, ts)) (Err (fault_of classes (Some t), t ∷ ts))) h
+
+both_refuses : {A B C : Type 0} (classes : List ℕ) (f : A → B → C) (r : Reads A) (q : Reads B) (ts : List Token) → r ts ≡ refusal classes ts → both f r q ts ≡ refusal classes ts
+both_refuses classes f r q ts h = ap (λ x. after x (λ a us. after (q us) (λ b vs. Ok (f a b, vs)))) h
+
+mapped_refuses : {A B : Type 0} (classes : List ℕ) (f : A → B) (r : Reads A) (ts : List Token) → r ts ≡ refusal classes ts → mapped f r ts ≡ refusal classes ts
+mapped_refuses classes f r ts h = ap (λ x. after x (λ a us. Ok (f a, us))) h
+
+primary_refuses : (e : Reads Term) (a : Reads ArgTerm) (ts : List Token) → starts (among firsts_of_expression) ts ≡ false → primary_read e a ts ≡ refusal left_out_of_expressions ts
+primary_refuses e a ts h =
+    skip (starts (is numeral) ts) _ _ (next_less (numeral ∷ []) firsts_of_expression refl ts h)
+    ∙ skip (starts (is text) ts) _ _ (next_less (text ∷ []) firsts_of_expression refl ts h)
+    ∙ skip (starts (is true_word) ts) _ _ (next_less (true_word ∷ []) firsts_of_expression refl ts h)
+    ∙ skip (starts (is false_word) ts) _ _ (next_less (false_word ∷ []) firsts_of_expression refl ts h)
+    ∙ skip (starts (is undef_word) ts) _ _ (next_less (undef_word ∷ []) firsts_of_expression refl ts h)
+    ∙ skip (starts (is child_count) ts) _ _ (next_less (child_count ∷ []) firsts_of_expression refl ts h)
+    ∙ skip (starts (is name) ts) _ _ (next_less (name ∷ []) firsts_of_expression refl ts h)
+    ∙ skip (starts (is open_parenthesis_sign) ts) _ _ (next_less (open_parenthesis_sign ∷ []) firsts_of_expression refl ts h)
+    ∙ both_refuses left_out_of_expressions bracket_of (first (is open_bracket_sign)) _ ts (one_refuses left_out_of_expressions (is open_bracket_sign) ts (next_less (open_bracket_sign ∷ []) firsts_of_expression refl ts h))
+
+unary_refuses : (e u : Reads Term) (a : Reads ArgTerm) (ts : List Token) → starts (among firsts_of_expression) ts ≡ false → unary_read e u (primary_read e a) ts ≡ refusal left_out_of_expressions ts
+unary_refuses e u a ts h =
+    skip (starts (among (minus_sign ∷ plus_sign ∷ not_sign ∷ [])) ts) _ _ (next_less (minus_sign ∷ plus_sign ∷ not_sign ∷ []) firsts_of_expression refl ts h)
+    ∙ both_refuses left_out_of_expressions postfix_of (primary_read e a) _ ts (primary_refuses e a ts h)
+
+chain_refuses : (below : List (List ℕ)) (r : Reads Term) (ts : List Token) → r ts ≡ refusal left_out_of_expressions ts → chain_read below r ts ≡ refusal left_out_of_expressions ts
+chain_refuses [] r ts h = h
+chain_refuses (ops ∷ below) r ts h = both_refuses left_out_of_expressions chain_of (chain_read below r) _ ts (chain_refuses below r ts h)
+
+choice_refuses : (e u : Reads Term) (a : Reads ArgTerm) (ts : List Token) → starts (among firsts_of_expression) ts ≡ false → choice_read e u (primary_read e a) ts ≡ refusal left_out_of_expressions ts
+choice_refuses e u a ts h = both_refuses left_out_of_expressions choice_of (chain_read levels (unary_read e u (primary_read e a))) _ ts (chain_refuses levels (unary_read e u (primary_read e a)) ts (unary_refuses e u a ts h))
+
+arg_refuses : (e : Reads Term) (ts : List Token) → starts (among firsts_of_expression) ts ≡ false → e ts ≡ refusal left_out_of_expressions ts → arg_read e ts ≡ refusal left_out_of_expressions ts
+arg_refuses e [] h k = mapped_refuses left_out_of_expressions PositionalTerm e [] k
+arg_refuses e (t ∷ []) h k = mapped_refuses left_out_of_expressions PositionalTerm e (t ∷ []) k
+arg_refuses e (t ∷ u ∷ ts) h k =
+    ap (λ v. cond (v && is assign_sign u) (after (e ts) (λ x us. Ok (named t u x, us))) (mapped PositionalTerm e (t ∷ u ∷ ts))) (next_less (name ∷ []) firsts_of_expression refl (t ∷ u ∷ ts) h)
+    ∙ mapped_refuses left_out_of_expressions PositionalTerm e (t ∷ u ∷ ts) k
+
+-- where nothing stands that is deeper, a deeper reader agrees that refuses what can't begin it
+nested_agrees : {A : Type 0} (begins classes : List ℕ) (r : Reads A) → ((ts : List Token) → starts (among begins) ts ≡ false → r ts ≡ refusal classes ts) → Agrees (nested begins classes) r
+nested_agrees {A} begins classes r h = record { at = λ ts. go ts (starts (among begins) ts) refl }
+  where
+    go : (ts : List Token) (v : Bool) → starts (among begins) ts ≡ v → Alike (nested {A = A} begins classes ts) (r ts)
+    go ts true e = inr (ts, ap (λ v. cond v (Err (Nested, ts)) (refusal classes ts)) e)
+    go ts false e = inl (ap (λ v. cond v (Err (Nested, ts)) (refusal classes ts)) e ∙ sym (h ts e))
+
+expr_refuses : (d : ℕ) (ts : List Token) → starts (among firsts_of_expression) ts ≡ false → expr_read (suc d) ts ≡ refusal left_out_of_expressions ts
+unfolding expr_read operand_read
+expr_refuses d ts h = choice_refuses (expr_read d) (operand_read d) (arg_in d (expr_read d)) ts h
+
+-- at each greater depth
+deeper_expressions : (d : ℕ) → Agrees (expr_read d) (expr_read (suc d)) × Agrees (operand_read d) (operand_read (suc d)) × Agrees (arg_in d (expr_read d)) (arg_in (suc d) (expr_read (suc d)))
+unfolding expr_read operand_read
+deeper_expressions zero = (
+  nested_agrees firsts_of_expression left_out_of_expressions (expr_read 1) (expr_refuses 0),
+  nested_agrees firsts_of_expression left_out_of_expressions (operand_read 1) (unary_refuses (expr_read 0) (operand_read 0) (arg_in 0 (expr_read 0))),
+  nested_agrees firsts_of_expression left_out_of_expressions (arg_read (expr_read 1)) (λ ts h. arg_refuses (expr_read 1) ts h (expr_refuses 0 ts h)),
+)
+deeper_expressions (suc d) =
+    let k = deeper_expressions d in
+    let one : Agrees (expr_read (suc d)) (expr_read (suc (suc d))) = choice_read_agrees (expr_read d) (expr_read (suc d)) (operand_read d) (operand_read (suc d)) (arg_in d (expr_read d)) (arg_in (suc d) (expr_read (suc d))) k.0 k.1 k.2 in (
+      one,
+      unary_agrees (expr_read d) (expr_read (suc d)) (operand_read d) (operand_read (suc d)) (arg_in d (expr_read d)) (arg_in (suc d) (expr_read (suc d))) k.0 k.1 k.2,
+      arg_agrees (expr_read (suc d)) (expr_read (suc (suc d))) one,
+    )
+
+param_agrees : (e f : Reads Term) → Agrees e f → Agrees (param_read e) (param_read f)
+param_agrees e f h = behind_agrees param_of (one (is name)) _ _ (maybe_agrees (is assign_sign) _ _ (behind_agrees second_of (one (is assign_sign)) e f h))
+
+binder_agrees : (e f : Reads Term) → Agrees e f → Agrees (binder_read e) (binder_read f)
+binder_agrees e f h = behind_agrees binder_of (one (is name)) _ _ (behind_agrees second_of (one (is assign_sign)) e f h)
+
+deeper_params : (d : ℕ) → Agrees (param_in d (expr_read d)) (param_in (suc d) (expr_read (suc d)))
+deeper_params zero = nested_agrees (name ∷ []) left_out (param_read (expr_read 1)) (λ ts h. both_refuses left_out param_of (one (is name)) _ ts (one_refuses left_out (is name) ts h))
+deeper_params (suc d) = param_agrees (expr_read (suc d)) (expr_read (suc (suc d))) (deeper_expressions (suc d)).0
+
+deeper_binders : (d : ℕ) → Agrees (binder_in d (expr_read d)) (binder_in (suc d) (expr_read (suc d)))
+deeper_binders zero = nested_agrees (name ∷ []) left_out (binder_read (expr_read 1)) (λ ts h. both_refuses left_out binder_of (one (is name)) _ ts (one_refuses left_out (is name) ts h))
+deeper_binders (suc d) = binder_agrees (expr_read (suc d)) (expr_read (suc (suc d))) (deeper_expressions (suc d)).0
+
+module _ (e f : Reads Term) (a c : Reads ArgTerm) (n l : Reads BinderTerm) (b w : Reads BodyTerm) (he : Agrees e f) (ha : Agrees a c) (hn : Agrees n l) (hb : Agrees b w) where
+  headed_agrees : {A : Type 0} (r q : Reads A) → Agrees r q → Agrees (both pair_of (in_parentheses r) b) (both pair_of (in_parentheses q) w)
+  headed_agrees r q h = both_agrees pair_of (in_parentheses r) (in_parentheses q) b w (parentheses_agree r q h) hb
+
+  if_agrees : Agrees (if_read e b) (if_read f w)
+  if_agrees =
+      both_agrees if_of _ _ _ _ (behind_agrees pair_of (one (is if_word)) _ _ (headed_agrees e f he))
+      (maybe_agrees (is else_word) _ _ (behind_agrees second_of (one (is else_word)) b w hb))
+
+  core_agrees : Agrees (core_read e a n b) (core_read f c l w)
+  core_agrees =
+      choice_agrees (is if_word) (if_read e b) (if_read f w) _ _ if_agrees
+      (choice_agrees (among loop_words) _ _ _ _
+      (behind_agrees loop_of (one (among loop_words)) _ _ (headed_agrees (binders_read n) (binders_read l) (both_agrees cons n l _ _ hn (trailing_agrees (is comma_sign) (is name) n l hn))))
+      (behind_agrees call_of (one (is name)) _ _ (headed_agrees (args_read a) (args_read c) (args_agree e f e f a c he he ha))))
+
+  instance_agrees : Agrees (instance_read (core_read e a n b)) (instance_read (core_read f c l w))
+  instance_agrees = both_agrees instance_of marks_read marks_read _ _ (same marks_read) core_agrees
+
+  module _ (s t : Reads StatementTerm) (hs : Agrees s t) where
+    braces_agree : Agrees (braces_read s) (braces_read t)
+    braces_agree = before_agrees close_brace_sign _ _ (many_agrees (among firsts_of_statement) s t hs)
+
+    body_agrees : Agrees (body_over s (instance_read (core_read e a n b))) (body_over t (instance_read (core_read f c l w)))
+    body_agrees =
+        choice_agrees (is semicolon_sign) _ _ _ _ (same _)
+        (choice_agrees (is open_brace_sign) _ _ _ _ (behind_agrees block_of (one (is open_brace_sign)) (braces_read s) (braces_read t) braces_agree) (mapped_agrees InstanceBody _ _ instance_agrees))
+
+    module _ (x y : Reads Term) (m p : Reads ParamTerm) (hx : Agrees x y) (hm : Agrees m p) where
+      params_agree : Agrees (params_read m) (params_read p)
+      params_agree = choice_agrees (is name) _ _ _ _ (both_agrees cons m p _ _ hm (trailing_agrees (is comma_sign) (is name) m p hm)) (same (nothing []))
+
+      ended_agrees : Agrees (ended_read x) (ended_read y)
+      ended_agrees = before_agrees semicolon_sign x y hx
+
+      statement_agrees : Agrees (statement_over x m s b (instance_read (core_read e a n b))) (statement_over y p t w (instance_read (core_read f c l w)))
+      statement_agrees =
+          choice_agrees (is semicolon_sign) _ _ _ _ (same _)
+          (choice_agrees (is open_brace_sign) _ _ _ _ (behind_agrees bare_block_of (one (is open_brace_sign)) (braces_read s) (braces_read t) braces_agree)
+          (ahead_agrees assigned (is name) (is assign_sign) (ended_read x) (ended_read y) _ _ ended_agrees
+          (choice_agrees (is module_word) _ _ _ _
+          (behind_agrees module_of (one (is module_word)) _ _ (behind_agrees pair_of (one (is name)) _ _ (both_agrees pair_of (in_parentheses (params_read m)) (in_parentheses (params_read p)) b w (parentheses_agree (params_read m) (params_read p) params_agree) hb)))
+          (choice_agrees (is function_word) _ _ _ _
+          (behind_agrees function_of (one (is function_word)) _ _ (behind_agrees pair_of (one (is name)) _ _ (both_agrees pair_of (in_parentheses (params_read m)) (in_parentheses (params_read p)) _ _ (parentheses_agree (params_read m) (params_read p) params_agree) (behind_agrees second_of (one (is assign_sign)) (ended_read x) (ended_read y) ended_agrees))))
+          (mapped_agrees InstanceStatement _ _ instance_agrees)))))
+
+-- what begins no statement is refused in the same way at each depth
+module _ (e : Reads Term) (a : Reads ArgTerm) (n : Reads BinderTerm) (b : Reads BodyTerm) where
+  core_refuses : (ts : List Token) → starts (among firsts_of_core) ts ≡ false → core_read e a n b ts ≡ refusal left_out ts
+  core_refuses ts h =
+      skip (starts (is if_word) ts) _ _ (next_less (if_word ∷ []) firsts_of_core refl ts h)
+      ∙ skip (starts (among loop_words) ts) _ _ (next_less loop_words firsts_of_core refl ts h)
+      ∙ both_refuses left_out call_of (one (is name)) _ ts (one_refuses left_out (is name) ts (next_less (name ∷ []) firsts_of_core refl ts h))
+
+  instance_refuses : (ts : List Token) → starts (among firsts_of_instance) ts ≡ false → instance_read (core_read e a n b) ts ≡ refusal left_out ts
+  instance_refuses ts h =
+      ap (λ q. after q (λ ms us. after (core_read e a n b us) (λ c vs. Ok (instance_of ms c, vs)))) (marks_reads.complete [] [] ts refl (next_less mark_signs firsts_of_instance refl ts h))
+      ∙ ap (λ q. after q (λ c vs. Ok (instance_of [] c, vs))) (core_refuses ts (next_less firsts_of_core firsts_of_instance refl ts h))
+
+  body_refuses : (s : Reads StatementTerm) (ts : List Token) → starts (among firsts_of_body) ts ≡ false → body_over s (instance_read (core_read e a n b)) ts ≡ refusal left_out ts
+  body_refuses s ts h =
+      skip (starts (is semicolon_sign) ts) _ _ (next_less (semicolon_sign ∷ []) firsts_of_body refl ts h)
+      ∙ skip (starts (is open_brace_sign) ts) _ _ (next_less (open_brace_sign ∷ []) firsts_of_body refl ts h)
+      ∙ mapped_refuses left_out InstanceBody (instance_read (core_read e a n b)) ts (instance_refuses ts (next_less firsts_of_instance firsts_of_body refl ts h))
+
+  module _ (x : Reads Term) (m : Reads ParamTerm) (s : Reads StatementTerm) where
+    definition_refuses : (ts : List Token) → starts (among firsts_of_statement) ts ≡ false → definition_read x m b (instance_read (core_read e a n b)) ts ≡ refusal left_out ts
+    definition_refuses ts h =
+        skip (starts (is module_word) ts) _ _ (next_less (module_word ∷ []) firsts_of_statement refl ts h)
+        ∙ skip (starts (is function_word) ts) _ _ (next_less (function_word ∷ []) firsts_of_statement refl ts h)
+        ∙ mapped_refuses left_out InstanceStatement (instance_read (core_read e a n b)) ts (instance_refuses ts (next_less firsts_of_instance firsts_of_statement refl ts h))
+
+    named_refuses : (ts : List Token) → starts (among firsts_of_statement) ts ≡ false → ahead assigned (is name) (is assign_sign) (ended_read x) (definition_read x m b (instance_read (core_read e a n b))) ts ≡ refusal left_out ts
+    named_refuses [] h = definition_refuses [] h
+    named_refuses (t ∷ []) h = definition_refuses (t ∷ []) h
+    named_refuses (t ∷ u ∷ ts) h =
+        ap (λ v. cond (v && is assign_sign u) (after (ended_read x ts) (λ y us. Ok (assigned t u y, us))) (definition_read x m b (instance_read (core_read e a n b)) (t ∷ u ∷ ts))) (next_less (name ∷ []) firsts_of_statement refl (t ∷ u ∷ ts) h)
+        ∙ definition_refuses (t ∷ u ∷ ts) h
+
+    statement_refuses : (ts : List Token) → starts (among firsts_of_statement) ts ≡ false → statement_over x m s b (instance_read (core_read e a n b)) ts ≡ refusal left_out ts
+    statement_refuses ts h =
+        skip (starts (is semicolon_sign) ts) _ _ (next_less (semicolon_sign ∷ []) firsts_of_statement refl ts h)
+        ∙ skip (starts (is open_brace_sign) ts) _ _ (next_less (open_brace_sign ∷ []) firsts_of_statement refl ts h)
+        ∙ named_refuses ts h
+
+deeper_statements : (d : ℕ) → Agrees (statement_read d) (statement_read (suc d)) × Agrees (body_read d) (body_read (suc d))
+unfolding statement_read body_read
+deeper_statements zero = (
+  nested_agrees firsts_of_statement left_out (statement_read 1) (statement_refuses (expr_read 0) (arg_in 0 (expr_read 0)) (binder_in 0 (expr_read 0)) (body_read 0) (expr_read 1) (param_in 0 (expr_read 0)) (statement_read 0)),
+  nested_agrees firsts_of_body left_out (body_read 1) (body_refuses (expr_read 0) (arg_in 0 (expr_read 0)) (binder_in 0 (expr_read 0)) (body_read 0) (statement_read 0)),
+)
+deeper_statements (suc d) =
+    let k = deeper_statements d in
+    let e = deeper_expressions d in (
+      statement_agrees (expr_read d) (expr_read (suc d)) (arg_in d (expr_read d)) (arg_in (suc d) (expr_read (suc d))) (binder_in d (expr_read d)) (binder_in (suc d) (expr_read (suc d))) (body_read d) (body_read (suc d)) e.0 e.2 (deeper_binders d) k.1
+          (statement_read d) (statement_read (suc d)) k.0 (expr_read (suc d)) (expr_read (suc (suc d))) (param_in d (expr_read d)) (param_in (suc d) (expr_read (suc d))) (deeper_expressions (suc d)).0 (deeper_params d),
+      body_agrees (expr_read d) (expr_read (suc d)) (arg_in d (expr_read d)) (arg_in (suc d) (expr_read (suc d))) (binder_in d (expr_read d)) (binder_in (suc d) (expr_read (suc d))) (body_read d) (body_read (suc d)) e.0 e.2 (deeper_binders d) k.1
+          (statement_read d) (statement_read (suc d)) k.0,
+    )
+
+pub program_agrees : (d : ℕ) → Agrees (program_read d) (program_read (suc d))
+program_agrees d = before_agrees end _ _ (many_agrees (among firsts_of_statement) (statement_read d) (statement_read (suc d)) (deeper_statements d).0)

@@ -1,0 +1,335 @@
+-- What is read of expressions is in the grammar, at each depth.
+use Rattle.std.proofs.Common.{◌≡◌, ℕ, zero, suc, List, [], ◌∷◌, ◌++◌, Bool, true, false, cond, Option, Some, None, Ok, inl, inr, refl, sym, ap, ◌∙◌, append_assoc, append-nil, ◌&&◌}
+use Rattle.scad_lexer.specs.declared.token.Token.{Token}
+use Rattle.scad_lexer.specs.declared.token.TokenKind.TheVariants.{Numeral, Symbol}
+use Rattle.scad_lexer.specs.declared.token.Symbol.TheVariants.{CloseParenthesis, CloseBracket, Question, Colon, Or, And, Equal, Less, Plus, Times}
+use Rattle.scad_ast.specs.Terms.{Term, NumberTerm, TextTerm, TruthTerm, UndefTerm, ChildCountTerm, ArgTerm, NamedTerm, PositionalTerm}
+use Rattle.scad_grammar.specs.Classes.{numeral, text, true_word, false_word, undef_word, child_count, name, open_parenthesis_sign, close_parenthesis_sign, open_bracket_sign, close_bracket_sign, assign_sign, colon_sign, question_sign, minus_sign, plus_sign, times_sign, divide_sign, remainder_sign, less_sign, greater_sign, less_equal_sign, greater_equal_sign, equal_sign, not_equal_sign, and_sign, or_sign, among, is, class_of, number_of, bytes_of}
+use Rattle.scad_grammar.specs.Languages.{Language, One, Mapped, Both, EitherOf, Many, Maybe, Never, Before, Behind, second_of, pair_of}
+use Rattle.scad_grammar.specs.Grammar.{InParentheses, Arg, Args, Primary, Bracket, Suffix, Postfix, Unary, Chain, Choice, Expr, Operand, levels, chain_of, choice_of, unary_of, postfix_of, named_of, paren_of, bracket_of, link}
+use Rattle.scad_grammar.specs.Reading.{after, starts, mapped, both, maybe}
+use Rattle.scad_grammar.specs.Faults.{Reads, one, left_out_of_expressions}
+use Rattle.scad_grammar.specs.Reads.{firsts_of_primary, firsts_of_expression, named, arg_read, primary_read, unary_read, chain_read, choice_read, arg_in, expr_read, operand_read}
+use Rattle.scad_grammar.proofs.Readers.{Begins, IsReader, Opens, both_reads, mapped_reads, same_reads, both_opens, either_opens, mapped_opens, one_opens}
+use Rattle.scad_grammar.proofs.Greedy.{or_first, maybe_ends, maybe_reads}
+use Rattle.scad_grammar.proofs.Ahead.{Two, Ahead, two, rest_of, ahead_reads}
+use Rattle.scad_grammar.proofs.Tests.{OneReads, either_listed, one_at, then, apart, next_apart, next_within, next_less, next_other}
+use Rattle.scad_grammar.proofs.Nested.{nested_reads}
+use Rattle.scad_grammar.proofs.Levels.{goes_on, AllOne, chain_reads}
+use Rattle.scad_grammar.proofs.Operands.{token, here, operand_more, unary_signs, suffix_signs, suffix_opens, unary_reads}
+use Rattle.scad_grammar.proofs.Primary.{Some_of, colon_one, primary_opens, primary_reads}
+
+-- what may go on an expression, and an argument
+abbrev pub chain_more : List ℕ
+chain_more = goes_on levels operand_more
+
+abbrev pub expression_more : List ℕ
+expression_more = question_sign ∷ chain_more
+
+abbrev pub arg_more : List ℕ
+arg_more = assign_sign ∷ expression_more
+
+question_one : OneReads (is question_sign)
+question_one = one_at (is question_sign) (token (Symbol Question), refl)
+
+-- what begins an operand, a chain, an expression, an argument
+pub unary_opens : (E U : Language Term) → Opens (Unary E U) (among firsts_of_expression)
+unary_opens E U =
+    either_opens (Both unary_of (One (among unary_signs)) U) (Postfix E) (among firsts_of_expression)
+    (λ x s rest h. next_within unary_signs firsts_of_expression refl (s ++ rest) (both_opens unary_of (One (among unary_signs)) U (among unary_signs) (one_opens (among unary_signs)) x s rest h))
+    (λ x s rest h. next_within firsts_of_primary firsts_of_expression refl (s ++ rest) (both_opens postfix_of (Primary E) (Many (Suffix E)) (among firsts_of_primary) (primary_opens E) x s rest h))
+
+chain_opens : (levels : List (List ℕ)) (X : Language Term) (test : Token → Bool) → Opens X test → Opens (Chain levels X) test
+chain_opens [] X test o = o
+chain_opens (ops ∷ levels) X test o = both_opens chain_of (Chain levels X) (Many (Both link (One (among ops)) (Chain levels X))) test (chain_opens levels X test o)
+
+pub choice_opens : (E U : Language Term) → Opens (Choice E U) (among firsts_of_expression)
+choice_opens E U = both_opens choice_of (Chain levels (Unary E U)) _ (among firsts_of_expression) (chain_opens levels (Unary E U) (among firsts_of_expression) (unary_opens E U))
+
+pub expr_opens : (d : ℕ) → Opens (Expr d) (among firsts_of_expression)
+unfolding Expr Operand
+expr_opens zero x s rest h = elim h [ ]
+expr_opens (suc d) x s rest h = choice_opens (Expr d) (Operand d) x s rest h
+
+pub arg_opens : (E : Language Term) → Opens E (among firsts_of_expression) → Opens (Arg E) (among firsts_of_expression)
+arg_opens E o =
+    either_opens _ (Mapped PositionalTerm E) (among firsts_of_expression)
+    (λ x s rest h. next_within (name ∷ []) firsts_of_expression refl (s ++ rest) (both_opens _ (One (is name)) (Behind (is assign_sign) E) (is name) (one_opens (is name)) x s rest h))
+    (mapped_opens PositionalTerm E (among firsts_of_expression) o)
+
+-- a numeral alone
+abbrev pub zero_token : Token
+zero_token = token (Numeral 0)
+
+abbrev pub zero_term : Term
+zero_term = NumberTerm here 0
+
+-- a primary alone
+alone_unary : (E U : Language Term) (x : Term) (s : List Token) → Primary E x s → Unary E U x s
+alone_unary E U x s h = inr (x, [], s, [], h, refl, refl, sym (append-nil s))
+
+alone_chain : (levels : List (List ℕ)) (X : Language Term) (x : Term) (s : List Token) → X x s → Chain levels X x s
+alone_chain [] X x s h = h
+alone_chain (ops ∷ levels) X x s h = (x, [], s, [], alone_chain levels X x s h, refl, refl, sym (append-nil s))
+
+alone_choice : (E U : Language Term) (x : Term) (s : List Token) → Unary E U x s → Choice E U x s
+alone_choice E U x s h = (x, None, s, [], alone_chain levels (Unary E U) x s h, refl, refl, sym (append-nil s))
+
+zero_unary : (E U : Language Term) → Unary E U zero_term (zero_token ∷ [])
+zero_unary E U = alone_unary E U zero_term (zero_token ∷ []) (inl (zero_token, (refl, refl), refl))
+
+zero_choice : (E U : Language Term) → Choice E U zero_term (zero_token ∷ [])
+zero_choice E U = alone_choice E U zero_term (zero_token ∷ []) (zero_unary E U)
+
+-- no expression begins with a name and an `=`
+abbrev Unlike : {A : Type 0} → Language A → Type 0
+Unlike {A} L = (x : A) (s rest : List Token) → L x s → starts (is assign_sign) rest ≡ false → two (is name) (is assign_sign) (s ++ rest) ≡ false
+
+pub two_not : (l : List Token) → starts (is name) l ≡ false → two (is name) (is assign_sign) l ≡ false
+two_not [] e = refl
+two_not (t ∷ []) e = refl
+two_not (t ∷ u ∷ l) e = ap (λ b. b && is assign_sign u) e
+
+and_false : (b c : Bool) → c ≡ false → (b && c) ≡ false
+and_false true c e = e
+and_false false c e = refl
+
+pub two_name : (t : Token) (l : List Token) → starts (is assign_sign) l ≡ false → two (is name) (is assign_sign) (t ∷ l) ≡ false
+two_name t [] e = refl
+two_name t (u ∷ l) e = and_false (is name t) (is assign_sign u) e
+
+opens_unlike : {A : Type 0} (L : Language A) (cs : List ℕ) → apart cs (name ∷ []) ≡ true → Opens L (among cs) → Unlike L
+opens_unlike L cs a o x s rest h e = two_not (s ++ rest) (next_apart cs (name ∷ []) a (s ++ rest) (o x s rest h))
+
+both_unlike : {A B C : Type 0} (f : A → B → C) (La : Language A) (Lb : Language B) → Unlike La → ((y : B) (s rest : List Token) → Lb y s → starts (is assign_sign) rest ≡ false → starts (is assign_sign) (s ++ rest) ≡ false) → Unlike (Both f La Lb)
+both_unlike f La Lb ua ob c s rest h e = ap (λ l. two (is name) (is assign_sign) (l ++ rest)) h.7 ∙ ap (two (is name) (is assign_sign)) (append_assoc h.2 h.3 rest) ∙ ua h.0 h.2 (h.3 ++ rest) h.4 (ob h.1 h.3 rest h.5 e)
+
+either_unlike : {A : Type 0} (La Lb : Language A) → Unlike La → Unlike Lb → Unlike (EitherOf La Lb)
+either_unlike La Lb ua ub x s rest (inl h) e = ua x s rest h e
+either_unlike La Lb ua ub x s rest (inr h) e = ub x s rest h e
+
+single_unlike : (c : ℕ) (f : Token → Term) → apart (c ∷ []) (name ∷ []) ≡ true → Unlike (Mapped f (One (is c)))
+single_unlike c f a = opens_unlike (Mapped f (One (is c))) (c ∷ []) a (mapped_opens f (One (is c)) (is c) (one_opens (is c)))
+
+many_keeps : {A : Type 0} (L : Language A) (cs : List ℕ) → apart cs (assign_sign ∷ []) ≡ true → Opens L (among cs) → (ys : List A) (s rest : List Token) → Many L ys s → starts (is assign_sign) rest ≡ false → starts (is assign_sign) (s ++ rest) ≡ false
+many_keeps L cs a o [] s rest h e = ap (λ l. starts (is assign_sign) (l ++ rest)) h ∙ e
+many_keeps L cs a o (y ∷ ys) s rest h e = ap (λ l. starts (is assign_sign) (l ++ rest)) h.4 ∙ ap (starts (is assign_sign)) (append_assoc h.0 h.1 rest) ∙ next_apart cs (assign_sign ∷ []) a (h.0 ++ (h.1 ++ rest)) (o y h.0 (h.1 ++ rest) h.2)
+
+maybe_keeps : {A : Type 0} (L : Language A) (cs : List ℕ) → apart cs (assign_sign ∷ []) ≡ true → Opens L (among cs) → (y : Option A) (s rest : List Token) → Maybe L y s → starts (is assign_sign) rest ≡ false → starts (is assign_sign) (s ++ rest) ≡ false
+maybe_keeps L cs a o None s rest h e = ap (λ l. starts (is assign_sign) (l ++ rest)) h ∙ e
+maybe_keeps L cs a o (Some y) s rest h e = next_apart cs (assign_sign ∷ []) a (s ++ rest) (o y s rest h)
+
+name_unlike : Unlike (One (is name))
+name_unlike t s rest h e = ap (λ l. two (is name) (is assign_sign) (l ++ rest)) h.1 ∙ two_name t rest e
+
+primary_unlike : (E : Language Term) → Unlike (Primary E)
+primary_unlike E =
+    either_unlike _ _ (single_unlike numeral (λ t. NumberTerm t.place (number_of t.kind)) refl)
+    (either_unlike _ _ (single_unlike text (λ t. TextTerm t.place (bytes_of t.kind)) refl)
+    (either_unlike _ _ (single_unlike true_word (λ t. TruthTerm t.place true) refl)
+    (either_unlike _ _ (single_unlike false_word (λ t. TruthTerm t.place false) refl)
+    (either_unlike _ _ (single_unlike undef_word (λ t. UndefTerm t.place) refl)
+    (either_unlike _ _ (single_unlike child_count (λ t. ChildCountTerm t.place) refl)
+    (either_unlike _ _ (both_unlike named_of (One (is name)) (Maybe (InParentheses (Args E))) name_unlike
+    (maybe_keeps (InParentheses (Args E)) (open_parenthesis_sign ∷ []) refl (both_opens second_of (One (is open_parenthesis_sign)) _ (is open_parenthesis_sign) (one_opens (is open_parenthesis_sign)))))
+    (either_unlike _ _ (opens_unlike _ (open_parenthesis_sign ∷ []) refl (both_opens paren_of (One (is open_parenthesis_sign)) (Before E (is close_parenthesis_sign)) (is open_parenthesis_sign) (one_opens (is open_parenthesis_sign))))
+    (opens_unlike (Bracket E) (open_bracket_sign ∷ []) refl (both_opens bracket_of (One (is open_bracket_sign)) _ (is open_bracket_sign) (one_opens (is open_bracket_sign)))))))))))
+
+unary_unlike : (E U : Language Term) → Unlike (Unary E U)
+unary_unlike E U =
+    either_unlike (Both unary_of (One (among unary_signs)) U) (Postfix E)
+    (opens_unlike _ unary_signs refl (both_opens unary_of (One (among unary_signs)) U (among unary_signs) (one_opens (among unary_signs))))
+    (both_unlike postfix_of (Primary E) (Many (Suffix E)) (primary_unlike E) (many_keeps (Suffix E) suffix_signs refl (suffix_opens E)))
+
+-- no operator of these levels is an `=`
+abbrev no_assign : List (List ℕ) → Bool
+no_assign [] = true
+no_assign (ops ∷ levels) = cond (apart ops (assign_sign ∷ [])) (no_assign levels) false
+
+cond_true : (b c : Bool) → cond b c false ≡ true → (b ≡ true) × (c ≡ true)
+cond_true true c e = (refl, e)
+cond_true false c e = absurd (cc)
+
+chain_unlike : (levels : List (List ℕ)) (X : Language Term) → no_assign levels ≡ true → Unlike X → Unlike (Chain levels X)
+chain_unlike [] X n u = u
+chain_unlike (ops ∷ levels) X n u =
+    let k = cond_true (apart ops (assign_sign ∷ [])) (no_assign levels) n in
+    both_unlike chain_of (Chain levels X) (Many (Both link (One (among ops)) (Chain levels X))) (chain_unlike levels X k.1 u)
+    (many_keeps (Both link (One (among ops)) (Chain levels X)) ops k.0 (both_opens link (One (among ops)) (Chain levels X) (among ops) (one_opens (among ops))))
+
+-- what stands behind a condition
+abbrev Sides : Language Term → Language (Token × (Term × Term))
+Sides E = Both pair_of (One (is question_sign)) (Both pair_of E (Behind (is colon_sign) E))
+
+sides_open : (E : Language Term) → Opens (Sides E) (is question_sign)
+sides_open E = both_opens pair_of (One (is question_sign)) _ (is question_sign) (one_opens (is question_sign))
+
+choice_unlike : (E U : Language Term) → Unlike (Choice E U)
+choice_unlike E U = both_unlike choice_of (Chain levels (Unary E U)) (Maybe (Sides E)) (chain_unlike levels (Unary E U) refl (unary_unlike E U)) (maybe_keeps (Sides E) (question_sign ∷ []) refl (sides_open E))
+
+-- two tokens and something are a token, and something behind a token
+module _ {A C : Type 0} (f : Token → A → C) (a b : Token → Bool) (L : Language A) where
+  pub two_to : (c : C) (s : List Token) → Two (λ t u x. f t x) a b L c s → Both f (One a) (Behind b L) c s
+  two_to c s h = (h.0, h.2, h.0 ∷ [], h.1 ∷ h.3, (h.4, refl), (h.1, h.2, h.1 ∷ [], h.3, (h.5, refl), h.6, refl, refl), h.7, h.8)
+
+  pub two_from : (c : C) (s : List Token) → Both f (One a) (Behind b L) c s → Two (λ t u x. f t x) a b L c s
+  two_from c s h =
+      let k = h.5 in
+      (h.0, k.0, k.1, k.3, h.4.0, k.4.0, k.5, h.6 ∙ ap (f h.0) k.6, h.7 ∙ ap (λ l. l ++ h.3) h.4.1 ∙ ap (λ l. h.0 ∷ l) (k.7 ∙ ap (λ l. l ++ k.3) k.4.1))
+
+-- an argument is told from a named one by its second token
+module _ (e : Reads Term) (E F : Language Term) (ie : IsReader e E F (λ x. among expression_more)) (alone : (t : Token) → is name t ≡ true → (x : Term) × E x (t ∷ [])) (unlike : Unlike E) where
+  to_arg : (L : Language Term) (c : ArgTerm) (s : List Token) → Ahead named (is name) (is assign_sign) L (Mapped PositionalTerm L) c s → Arg L c s
+  to_arg L c s (inl h) = inl (two_to (λ t x. NamedTerm t.place (bytes_of t.kind) x) (is name) (is assign_sign) L c s h)
+  to_arg L c s (inr h) = inr h
+
+  from_arg : (L : Language Term) (c : ArgTerm) (s : List Token) → Arg L c s → Ahead named (is name) (is assign_sign) L (Mapped PositionalTerm L) c s
+  from_arg L c s (inl h) = inl (two_from (λ t x. NamedTerm t.place (bytes_of t.kind) x) (is name) (is assign_sign) L c s h)
+  from_arg L c s (inr h) = inr h
+
+  pub arg_reads : IsReader (arg_read e) (Arg E) (Arg F) (λ x. among arg_more)
+  arg_reads =
+      same_reads (arg_read e) (Ahead named (is name) (is assign_sign) E (Mapped PositionalTerm E)) (Ahead named (is name) (is assign_sign) F (Mapped PositionalTerm F)) (Arg E) (Arg F) (λ x. among arg_more)
+      (ahead_reads named (is name) (is assign_sign) e (mapped PositionalTerm e) E F (Mapped PositionalTerm E) (Mapped PositionalTerm F) (λ x. among expression_more) (λ x. among arg_more) ie
+      (mapped_reads PositionalTerm e E F (λ x. among expression_more) (λ x. among arg_more) ie (λ x. next_less expression_more arg_more refl))
+      (λ t u x. next_less expression_more arg_more refl)
+      (λ t h. ap rest_of (ap (λ q. after q (λ x us. Ok (PositionalTerm x, us))) (ie.complete (alone t h).0 (t ∷ []) [] (alone t h).1 refl)))
+      (λ c s rest h k. unlike h.0 s rest h.1 (next_less (assign_sign ∷ []) arg_more refl rest k)))
+      (to_arg E) (from_arg E) (to_arg F)
+
+-- one token of each level
+levels_one : AllOne levels
+levels_one = (
+  one_at (among (or_sign ∷ [])) (token (Symbol Or), refl),
+  (
+    one_at (among (and_sign ∷ [])) (token (Symbol And), refl),
+    (
+      one_at (among (equal_sign ∷ not_equal_sign ∷ [])) (token (Symbol Equal), refl),
+      (
+        one_at (among (less_sign ∷ less_equal_sign ∷ greater_sign ∷ greater_equal_sign ∷ [])) (token (Symbol Less), refl),
+        (
+          one_at (among (plus_sign ∷ minus_sign ∷ [])) (token (Symbol Plus), refl),
+          (one_at (among (times_sign ∷ divide_sign ∷ remainder_sign ∷ [])) (token (Symbol Times), refl), tt),
+        ),
+      ),
+    ),
+  ),
+)
+
+-- an expression over the expressions, arguments and operands one deeper
+module _ (e : Reads Term) (a : Reads ArgTerm) (u : Reads Term) (E F U V : Language Term)
+    (ie : IsReader e E F (λ x. among expression_more)) (ia : IsReader a (Arg E) (Arg F) (λ x. among arg_more)) (iu : IsReader u U V (λ x. among operand_more))
+    (oe : Opens E (among firsts_of_expression)) (some_e : Some_of F) (some_u : Some_of V) where
+  operand_reads : IsReader (unary_read e u (primary_read e a)) (Unary E U) (Unary F V) (λ x. among operand_more)
+  operand_reads =
+      unary_reads e E F expression_more ie (λ t s rest h. next_apart (close_bracket_sign ∷ []) expression_more refl (s ++ rest) (one_opens (is close_bracket_sign) t s rest h)) some_e
+      (primary_read e a) (Primary E) (Primary F)
+      (primary_reads e a E F expression_more arg_more ie ia (λ x s rest h. next_other firsts_of_expression (close_bracket_sign ∷ []) refl (s ++ rest) (oe x s rest h))
+      (λ x s rest h. next_other firsts_of_expression (close_parenthesis_sign ∷ []) refl (s ++ rest) (arg_opens E oe x s rest h)) some_e refl refl refl refl refl refl)
+      u U V iu some_u (primary_opens E)
+
+  behind_colon : IsReader (both second_of (one (is colon_sign)) e) (Behind (is colon_sign) E) (Behind (is colon_sign) F) (λ x. among expression_more)
+  behind_colon = then e E F (is colon_sign) (λ x. among expression_more) (λ x. among expression_more) second_of colon_one ie some_e (λ t y rest h. h)
+
+  some_behind : Some_of (Behind (is colon_sign) F)
+  some_behind = (token (Symbol Colon) ∷ some_e.0, some_e.1, (token (Symbol Colon), some_e.1, token (Symbol Colon) ∷ [], some_e.0, (refl, refl), some_e.2, refl, refl))
+
+  sides_reads : IsReader (both pair_of (one (is question_sign)) (both pair_of e (both second_of (one (is colon_sign)) e))) (Sides E) (Sides F) (λ x. among expression_more)
+  sides_reads =
+      then (both pair_of e (both second_of (one (is colon_sign)) e)) (Both pair_of E (Behind (is colon_sign) E)) (Both pair_of F (Behind (is colon_sign) F)) (is question_sign) (λ x. among expression_more) (λ x. among expression_more) pair_of question_one
+      (both_reads pair_of e (both second_of (one (is colon_sign)) e) E F (Behind (is colon_sign) E) (Behind (is colon_sign) F) (λ x. among expression_more) (λ x. among expression_more) (λ x. among expression_more) ie behind_colon some_behind
+      (λ x y s rest h k. next_apart (colon_sign ∷ []) expression_more refl (s ++ rest) (both_opens second_of (One (is colon_sign)) E (is colon_sign) (one_opens (is colon_sign)) y s rest h))
+      (λ x y rest k. k))
+      (some_e.0 ++ some_behind.0, (some_e.1, some_behind.1), (some_e.1, some_behind.1, some_e.0, some_behind.0, some_e.2, some_behind.2, refl, refl))
+      (λ t y rest h. h)
+
+  sides_follow : (x : Term) (y : Option (Token × (Term × Term))) (s rest : List Token) → Maybe (Sides E) y s → starts (among expression_more) rest ≡ false → starts (among chain_more) (s ++ rest) ≡ false
+  sides_follow x None s rest h k = ap (λ l. starts (among chain_more) (l ++ rest)) h ∙ next_less chain_more expression_more refl rest k
+  sides_follow x (Some y) s rest h k = next_apart (question_sign ∷ []) chain_more refl (s ++ rest) (sides_open E y s rest h)
+
+  choice_read_reads : IsReader (choice_read e u (primary_read e a)) (Choice E U) (Choice F V) (λ x. among expression_more)
+  choice_read_reads =
+      both_reads choice_of (chain_read levels (unary_read e u (primary_read e a))) (maybe (is question_sign) (both pair_of (one (is question_sign)) (both pair_of e (both second_of (one (is colon_sign)) e))))
+      (Chain levels (Unary E U)) (Chain levels (Unary F V)) (Maybe (Sides E)) (Maybe (Sides F)) (λ x. among chain_more) (or_first (is question_sign) (λ x. among expression_more)) (λ x. among expression_more)
+      (chain_reads levels operand_more (unary_read e u (primary_read e a)) (Unary E U) (Unary F V) refl levels_one operand_reads (zero_token ∷ [], zero_term, zero_unary F V))
+      (maybe_reads (is question_sign) (both pair_of (one (is question_sign)) (both pair_of e (both second_of (one (is colon_sign)) e))) (Sides E) (Sides F) (λ x. among expression_more) sides_reads (sides_open E))
+      ([], None, refl)
+      sides_follow
+      (λ x y rest k. maybe_ends (is question_sign) (λ x. among expression_more) y rest (next_less (question_sign ∷ []) expression_more refl rest k) (λ y. k))
+
+-- a token that may begin an expression begins one, where a numeral stands one deeper
+module _ (E U : Language Term) (e : E zero_term (zero_token ∷ [])) (u : U zero_term (zero_token ∷ [])) where
+  abbrev close : Token
+  close = token (Symbol CloseParenthesis)
+
+  abbrev close_bracket : Token
+  close_bracket = token (Symbol CloseBracket)
+
+  begins_primary : (t : Token) → among firsts_of_primary t ≡ true → Begins (Primary E) (t ∷ [])
+  begins_primary t h =
+      elim (either_listed (numeral ∷ []) (text ∷ true_word ∷ false_word ∷ undef_word ∷ child_count ∷ name ∷ open_parenthesis_sign ∷ open_bracket_sign ∷ []) (class_of t.kind) h) [
+        | inl a ↦ ([], NumberTerm t.place (number_of t.kind), inl (t, (a, refl), refl))
+        | inr h ↦ elim (either_listed (text ∷ []) (true_word ∷ false_word ∷ undef_word ∷ child_count ∷ name ∷ open_parenthesis_sign ∷ open_bracket_sign ∷ []) (class_of t.kind) h) [
+          | inl a ↦ ([], TextTerm t.place (bytes_of t.kind), inr (inl (t, (a, refl), refl)))
+          | inr h ↦ elim (either_listed (true_word ∷ []) (false_word ∷ undef_word ∷ child_count ∷ name ∷ open_parenthesis_sign ∷ open_bracket_sign ∷ []) (class_of t.kind) h) [
+            | inl a ↦ ([], TruthTerm t.place true, inr (inr (inl (t, (a, refl), refl))))
+            | inr h ↦ elim (either_listed (false_word ∷ []) (undef_word ∷ child_count ∷ name ∷ open_parenthesis_sign ∷ open_bracket_sign ∷ []) (class_of t.kind) h) [
+              | inl a ↦ ([], TruthTerm t.place false, inr (inr (inr (inl (t, (a, refl), refl)))))
+              | inr h ↦ elim (either_listed (undef_word ∷ []) (child_count ∷ name ∷ open_parenthesis_sign ∷ open_bracket_sign ∷ []) (class_of t.kind) h) [
+                | inl a ↦ ([], UndefTerm t.place, inr (inr (inr (inr (inl (t, (a, refl), refl))))))
+                | inr h ↦ elim (either_listed (child_count ∷ []) (name ∷ open_parenthesis_sign ∷ open_bracket_sign ∷ []) (class_of t.kind) h) [
+                  | inl a ↦ ([], ChildCountTerm t.place, inr (inr (inr (inr (inr (inl (t, (a, refl), refl)))))))
+                  | inr h ↦ elim (either_listed (name ∷ []) (open_parenthesis_sign ∷ open_bracket_sign ∷ []) (class_of t.kind) h) [
+                    | inl a ↦ ([], named_of t None, inr (inr (inr (inr (inr (inr (inl (t, None, t ∷ [], [], (a, refl), refl, refl, refl))))))))
+                    | inr h ↦ elim (either_listed (open_parenthesis_sign ∷ []) (open_bracket_sign ∷ []) (class_of t.kind) h) [
+                      | inl a ↦ (zero_token ∷ close ∷ [], paren_of t zero_term, inr (inr (inr (inr (inr (inr (inr (inl (t, zero_term, t ∷ [], zero_token ∷ close ∷ [], (a, refl), (zero_term, close, zero_token ∷ [], close ∷ [], e, (refl, refl), refl, refl), refl, refl)))))))))
+                      | inr a ↦ (close_bracket ∷ [], bracket_of t None, inr (inr (inr (inr (inr (inr (inr (inr (t, None, t ∷ [], close_bracket ∷ [], (a, refl), (None, close_bracket, [], close_bracket ∷ [], refl, (refl, refl), refl, refl), refl, refl)))))))))
+                    ]
+                  ]
+                ]
+              ]
+            ]
+          ]
+        ]
+      ]
+
+  begins_unary : (t : Token) → among firsts_of_expression t ≡ true → Begins (Unary E U) (t ∷ [])
+  begins_unary t h =
+      elim (either_listed unary_signs firsts_of_primary (class_of t.kind) h) [
+        | inl a ↦ (zero_token ∷ [], unary_of t zero_term, inl (t, zero_term, t ∷ [], zero_token ∷ [], (a, refl), u, refl, refl))
+        | inr a ↦ let b = begins_primary t a in (b.0, b.1, alone_unary E U b.1 (t ∷ b.0) b.2)
+      ]
+
+  begins_choice : (t : Token) → among firsts_of_expression t ≡ true → Begins (Choice E U) (t ∷ [])
+  begins_choice t h = let b = begins_unary t h in (b.0, b.1, alone_choice E U b.1 (t ∷ b.0) b.2)
+
+no_arg : (c : ArgTerm) (s : List Token) → Arg Never c s → ⊥
+no_arg c s (inl h) = elim h.5.5 [ ]
+no_arg c s (inr h) = elim h.1 [ ]
+
+begins_arg : (F : Language Term) (l : List Token) → Begins F l → Begins (Arg F) l
+begins_arg F l b = (b.0, PositionalTerm b.1, inr (b.1, b.2, refl))
+
+alone_name : (E U : Language Term) (t : Token) → is name t ≡ true → (x : Term) × Choice E U x (t ∷ [])
+alone_name E U t h = (named_of t None, alone_choice E U (named_of t None) (t ∷ []) (alone_unary E U (named_of t None) (t ∷ []) (inr (inr (inr (inr (inr (inr (inl (t, None, t ∷ [], [], (h, refl), refl, refl, refl))))))))))
+
+pub some_expr : (d : ℕ) → Some_of (Expr (suc d))
+unfolding Expr Operand
+some_expr d = (zero_token ∷ [], zero_term, zero_choice (Expr d) (Operand d))
+
+-- What is read at a depth is in the grammar of that depth, and what is taken before a fault begins something that is at most two deeper.
+pub depth_reads : (d : ℕ) → IsReader (expr_read d) (Expr d) (Expr (suc (suc d))) (λ x. among expression_more) × IsReader (operand_read d) (Operand d) (Operand (suc (suc d))) (λ x. among operand_more) × IsReader (arg_in d (expr_read d)) (Arg (Expr d)) (Arg (Expr (suc (suc d)))) (λ x. among arg_more)
+unfolding Expr Operand expr_read operand_read
+depth_reads zero = (
+  nested_reads firsts_of_expression left_out_of_expressions Never (Expr 2) (λ x. among expression_more) (λ x s h. h) (begins_choice (Expr 1) (Operand 1) (zero_choice Never Never) (zero_unary Never Never)) (zero_token ∷ [], zero_term, zero_choice (Expr 1) (Operand 1)),
+  nested_reads firsts_of_expression left_out_of_expressions Never (Operand 2) (λ x. among operand_more) (λ x s h. h) (begins_unary (Expr 1) (Operand 1) (zero_choice Never Never) (zero_unary Never Never)) (zero_token ∷ [], zero_term, zero_unary (Expr 1) (Operand 1)),
+  nested_reads firsts_of_expression left_out_of_expressions (Arg Never) (Arg (Expr 2)) (λ x. among arg_more) no_arg (λ t h. begins_arg (Expr 2) (t ∷ []) (begins_choice (Expr 1) (Operand 1) (zero_choice Never Never) (zero_unary Never Never) t h)) (begins_arg (Expr 2) [] (zero_token ∷ [], zero_term, zero_choice (Expr 1) (Operand 1))),
+)
+depth_reads (suc d) =
+    let below = depth_reads d in
+    let some : Some_of (Expr (suc (suc d))) = (zero_token ∷ [], zero_term, zero_choice (Expr (suc d)) (Operand (suc d))) in
+    let one = choice_read_reads (expr_read d) (arg_in d (expr_read d)) (operand_read d) (Expr d) (Expr (suc (suc d))) (Operand d) (Operand (suc (suc d))) below.0 below.2 below.1 (expr_opens d) some (zero_token ∷ [], zero_term, zero_unary (Expr (suc d)) (Operand (suc d))) in (
+      one,
+      operand_reads (expr_read d) (arg_in d (expr_read d)) (operand_read d) (Expr d) (Expr (suc (suc d))) (Operand d) (Operand (suc (suc d))) below.0 below.2 below.1 (expr_opens d) some (zero_token ∷ [], zero_term, zero_unary (Expr (suc d)) (Operand (suc d))),
+      arg_reads (expr_read (suc d)) (Expr (suc d)) (Expr (suc (suc (suc d)))) one (alone_name (Expr d) (Operand d)) (choice_unlike (Expr d) (Operand d)),
+    )

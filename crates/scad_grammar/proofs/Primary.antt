@@ -1,0 +1,291 @@
+-- What is read of primaries is in the grammar, where that holds of the expressions and arguments in them.
+use Rattle.std.proofs.Common.{◌≡◌, ℕ, List, [], ◌∷◌, ◌++◌, Bool, true, false, Option, Some, None, inl, inr, refl, sym, ap, ◌∙◌, append-nil, append_assoc, codes}
+use Rattle.scad_lexer.specs.declared.token.Token.{Token}
+use Rattle.scad_lexer.specs.declared.token.TokenKind.TheVariants.{Numeral, Special, Text, Reserved, Symbol}
+use Rattle.scad_lexer.specs.declared.token.Reserved.TheVariants.{True, False, Undef}
+use Rattle.scad_lexer.specs.declared.token.Symbol.TheVariants.{OpenParenthesis, CloseParenthesis, OpenBracket, CloseBracket, Colon}
+use Rattle.scad_ast.specs.Terms.{Term, NumberTerm, TextTerm, TruthTerm, UndefTerm, ChildCountTerm, ArgTerm}
+use Rattle.scad_grammar.specs.Classes.{numeral, text, true_word, false_word, undef_word, child_count, name, open_parenthesis_sign, close_parenthesis_sign, open_bracket_sign, close_bracket_sign, comma_sign, colon_sign, among, is, other_than, number_of, bytes_of}
+use Rattle.scad_grammar.specs.Languages.{Language, One, Mapped, Both, EitherOf, Nothing, Many, Maybe, Before, Behind, Separated, first_of, second_of, pair_of, cons}
+use Rattle.scad_grammar.specs.Grammar.{InParentheses, Arg, Args, Primary, Bracket, Rest, items, bracket_of, range_of, named_of, paren_of}
+use Rattle.scad_grammar.specs.Reading.{starts, mapped, nothing, both, choice, maybe, trailing}
+use Rattle.scad_grammar.specs.Faults.{Reads, one, first}
+use Rattle.scad_grammar.specs.Reads.{firsts_of_primary, args_read, in_parentheses, range_read, rest_read, bracket_read, name_read, paren_read, primary_read}
+use Rattle.scad_grammar.proofs.Readers.{IsReader, Opens, both_reads, choice_reads, mapped_reads, more_reads, nothing_reads, both_opens, either_opens, mapped_opens, one_opens, never_starts}
+use Rattle.scad_grammar.proofs.Greedy.{or_first, maybe_ends, maybe_reads}
+use Rattle.scad_grammar.proofs.Separated.{separated_reads, items_reads}
+use Rattle.scad_grammar.proofs.Tests.{OneReads, one_at, first_at, then, apart, within, next_apart, next_within, no_close, close_ends}
+use Rattle.scad_grammar.proofs.Operands.{token, name_one, close_bracket_one}
+
+pub open_parenthesis_one : OneReads (is open_parenthesis_sign)
+open_parenthesis_one = one_at (is open_parenthesis_sign) (token (Symbol OpenParenthesis), refl)
+
+pub close_parenthesis_one : OneReads (is close_parenthesis_sign)
+close_parenthesis_one = one_at (is close_parenthesis_sign) (token (Symbol CloseParenthesis), refl)
+
+pub colon_one : OneReads (is colon_sign)
+colon_one = one_at (is colon_sign) (token (Symbol Colon), refl)
+
+abbrev pub Some_of : {A : Type 0} → Language A → Type 0
+Some_of {A} L = (w : List Token) × (y : A) × L y w
+
+pub some_before : {A : Type 0} (L : Language A) (c : ℕ) (t : Token) → is c t ≡ true → Some_of L → Some_of (Before L (is c))
+some_before L c t h s = (s.0 ++ t ∷ [], s.1, (s.1, t, s.0, t ∷ [], s.2, (h, refl), refl, refl))
+
+-- something before a token that doesn't go on it
+pub before_reads : {A : Type 0} (r : Reads A) (L W : Language A) (c : ℕ) (more : A → Token → Bool) → OneReads (is c) → (t : Token) → is c t ≡ true → IsReader r L W more
+    → ((x : A) (l : List Token) → starts (is c) l ≡ true → starts (more x) l ≡ false) → IsReader (both first_of r (one (is c))) (Before L (is c)) (Before W (is c)) (λ x t. false)
+before_reads r L W c more ic t h ir stops =
+    both_reads first_of r (one (is c)) L W (One (is c)) (One (is c)) more (λ x t. false) (λ x t. false) ir ic (t ∷ [], t, (h, refl)) (λ x u s rest o k. stops x (s ++ rest) (one_opens (is c) u s rest o)) (λ x u rest k. k)
+
+-- something in parentheses
+pub in_parentheses_reads : {A : Type 0} (r : Reads A) (L W : Language A) (more : A → Token → Bool) → IsReader r L W more → Some_of W → ((x : A) (l : List Token) → starts (is close_parenthesis_sign) l ≡ true → starts (more x) l ≡ false)
+    → IsReader (in_parentheses r) (InParentheses L) (InParentheses W) (λ x t. false)
+in_parentheses_reads r L W more ir some stops =
+    then (both first_of r (one (is close_parenthesis_sign))) (Before L (is close_parenthesis_sign)) (Before W (is close_parenthesis_sign)) (is open_parenthesis_sign) (λ x t. false) (λ x t. false) second_of open_parenthesis_one
+    (before_reads r L W close_parenthesis_sign more close_parenthesis_one (token (Symbol CloseParenthesis)) refl ir stops)
+    (some_before W close_parenthesis_sign (token (Symbol CloseParenthesis)) refl some) (λ t y rest h. h)
+
+-- one alternative of a single token, before others
+single_reads : (c : ℕ) (cs : List ℕ) (f : Token → Term) → OneReads (is c) → (r : Reads Term) (L W : Language Term) (more : Term → Token → Bool) → IsReader r L W more → Opens L (among cs) → apart cs (c ∷ []) ≡ true
+    → IsReader (choice (is c) (mapped f (one (is c))) r) (EitherOf (Mapped f (One (is c))) L) (EitherOf (Mapped f (One (is c))) W) more
+single_reads c cs f ic r L W more ir opens a =
+    choice_reads (is c) (mapped f (one (is c))) r (Mapped f (One (is c))) (Mapped f (One (is c))) L W more
+    (mapped_reads f (one (is c)) (One (is c)) (One (is c)) (λ x t. false) more ic (λ x rest h. never_starts rest)) ir
+    (mapped_opens f (One (is c)) (is c) (one_opens (is c)))
+    (λ x s rest h k. next_apart cs (c ∷ []) a (s ++ rest) (opens x s rest h))
+
+single_opens : (c : ℕ) (cs all : List ℕ) (f : Token → Term) (L : Language Term) → within (c ∷ []) all ≡ true → within cs all ≡ true → Opens L (among cs) → Opens (EitherOf (Mapped f (One (is c))) L) (among all)
+single_opens c cs all f L w v opens =
+    either_opens (Mapped f (One (is c))) L (among all) (λ x s rest h. next_within (c ∷ []) all w (s ++ rest) (mapped_opens f (One (is c)) (is c) (one_opens (is c)) x s rest h)) (λ x s rest h. next_within cs all v (s ++ rest) (opens x s rest h))
+
+abbrev bracket_firsts : List ℕ
+bracket_firsts = open_bracket_sign ∷ []
+
+abbrev paren_firsts : List ℕ
+paren_firsts = open_parenthesis_sign ∷ bracket_firsts
+
+abbrev name_firsts : List ℕ
+name_firsts = name ∷ paren_firsts
+
+abbrev child_firsts : List ℕ
+child_firsts = child_count ∷ name_firsts
+
+abbrev undef_firsts : List ℕ
+undef_firsts = undef_word ∷ child_firsts
+
+abbrev false_firsts : List ℕ
+false_firsts = false_word ∷ undef_firsts
+
+abbrev true_firsts : List ℕ
+true_firsts = true_word ∷ false_firsts
+
+abbrev text_firsts : List ℕ
+text_firsts = text ∷ true_firsts
+
+abbrev NameForm : Language Term → Language Term
+NameForm E = Both named_of (One (is name)) (Maybe (InParentheses (Args E)))
+
+abbrev ParenForm : Language Term → Language Term
+ParenForm E = Both paren_of (One (is open_parenthesis_sign)) (Before E (is close_parenthesis_sign))
+
+-- the alternatives of a primary from each one on
+abbrev FromParen : Language Term → Language Term
+FromParen E = EitherOf (ParenForm E) (Bracket E)
+
+abbrev FromName : Language Term → Language Term
+FromName E = EitherOf (NameForm E) (FromParen E)
+
+abbrev FromChild : Language Term → Language Term
+FromChild E = EitherOf (Mapped (λ t. ChildCountTerm t.place) (One (is child_count))) (FromName E)
+
+abbrev FromUndef : Language Term → Language Term
+FromUndef E = EitherOf (Mapped (λ t. UndefTerm t.place) (One (is undef_word))) (FromChild E)
+
+abbrev FromFalse : Language Term → Language Term
+FromFalse E = EitherOf (Mapped (λ t. TruthTerm t.place false) (One (is false_word))) (FromUndef E)
+
+abbrev FromTrue : Language Term → Language Term
+FromTrue E = EitherOf (Mapped (λ t. TruthTerm t.place true) (One (is true_word))) (FromFalse E)
+
+abbrev FromText : Language Term → Language Term
+FromText E = EitherOf (Mapped (λ t. TextTerm t.place (bytes_of t.kind)) (One (is text))) (FromTrue E)
+
+bracket_opens : (E : Language Term) → Opens (Bracket E) (among bracket_firsts)
+bracket_opens E = both_opens bracket_of (One (is open_bracket_sign)) _ (is open_bracket_sign) (one_opens (is open_bracket_sign))
+
+from_paren_opens : (E : Language Term) → Opens (FromParen E) (among paren_firsts)
+from_paren_opens E =
+    either_opens (ParenForm E) (Bracket E) (among paren_firsts)
+    (λ x s rest h. next_within (open_parenthesis_sign ∷ []) paren_firsts refl (s ++ rest) (both_opens paren_of (One (is open_parenthesis_sign)) _ (is open_parenthesis_sign) (one_opens (is open_parenthesis_sign)) x s rest h))
+    (λ x s rest h. next_within bracket_firsts paren_firsts refl (s ++ rest) (bracket_opens E x s rest h))
+
+from_name_opens : (E : Language Term) → Opens (FromName E) (among name_firsts)
+from_name_opens E =
+    either_opens (NameForm E) (FromParen E) (among name_firsts)
+    (λ x s rest h. next_within (name ∷ []) name_firsts refl (s ++ rest) (both_opens named_of (One (is name)) _ (is name) (one_opens (is name)) x s rest h))
+    (λ x s rest h. next_within paren_firsts name_firsts refl (s ++ rest) (from_paren_opens E x s rest h))
+
+from_child_opens : (E : Language Term) → Opens (FromChild E) (among child_firsts)
+from_child_opens E = single_opens child_count name_firsts child_firsts (λ t. ChildCountTerm t.place) (FromName E) refl refl (from_name_opens E)
+
+from_undef_opens : (E : Language Term) → Opens (FromUndef E) (among undef_firsts)
+from_undef_opens E = single_opens undef_word child_firsts undef_firsts (λ t. UndefTerm t.place) (FromChild E) refl refl (from_child_opens E)
+
+from_false_opens : (E : Language Term) → Opens (FromFalse E) (among false_firsts)
+from_false_opens E = single_opens false_word undef_firsts false_firsts (λ t. TruthTerm t.place false) (FromUndef E) refl refl (from_undef_opens E)
+
+from_true_opens : (E : Language Term) → Opens (FromTrue E) (among true_firsts)
+from_true_opens E = single_opens true_word false_firsts true_firsts (λ t. TruthTerm t.place true) (FromFalse E) refl refl (from_false_opens E)
+
+from_text_opens : (E : Language Term) → Opens (FromText E) (among text_firsts)
+from_text_opens E = single_opens text true_firsts text_firsts (λ t. TextTerm t.place (bytes_of t.kind)) (FromTrue E) refl refl (from_true_opens E)
+
+pub primary_opens : (E : Language Term) → Opens (Primary E) (among firsts_of_primary)
+primary_opens E = single_opens numeral text_firsts firsts_of_primary (λ t. NumberTerm t.place (number_of t.kind)) (FromText E) refl refl (from_text_opens E)
+
+-- a list in which nothing stands
+abbrev pub some_args : (E : Language Term) → Some_of (Args E)
+some_args E = ([], [], inr (refl, refl))
+
+-- E and F hold expressions one deeper; more may go on an expression, and more_arg an argument
+module _ (e : Reads Term) (a : Reads ArgTerm) (E F : Language Term) (more more_arg : List ℕ) (ie : IsReader e E F (λ x. among more)) (ia : IsReader a (Arg E) (Arg F) (λ x. among more_arg))
+    (oe : Opens E (other_than (close_bracket_sign ∷ []))) (oa : Opens (Arg E) (other_than (close_parenthesis_sign ∷ []))) (some_e : Some_of F)
+    (no_parenthesis : apart (close_parenthesis_sign ∷ []) more ≡ true) (no_bracket : apart (close_bracket_sign ∷ []) more ≡ true) (no_comma : apart (comma_sign ∷ []) more ≡ true) (no_colon : apart (colon_sign ∷ []) more ≡ true)
+    (no_parenthesis_arg : apart (close_parenthesis_sign ∷ []) more_arg ≡ true) (no_comma_arg : apart (comma_sign ∷ []) more_arg ≡ true) where
+  abbrev closes : List ℕ
+  closes = close_parenthesis_sign ∷ []
+
+  pub args_reads : IsReader (args_read a) (Args E) (Args F) (λ x. other_than closes)
+  args_reads =
+      choice_reads (other_than closes) (both cons a (trailing (is comma_sign) (other_than closes) a)) (nothing []) (Separated (is comma_sign) (Arg E)) (Separated (is comma_sign) (Arg F)) (Nothing []) (Nothing []) (λ x. other_than closes)
+      (separated_reads (is comma_sign) (other_than closes) a (Arg E) (Arg F) (λ x. among more_arg) (other_than closes) ia oa (λ x. next_apart (comma_sign ∷ []) more_arg no_comma_arg)
+      (λ x. no_close closes more_arg no_parenthesis_arg) (no_close closes (comma_sign ∷ []) refl) (λ rest h. h))
+      (nothing_reads [] (λ x. other_than closes))
+      (both_opens first_of _ _ (other_than closes) (both_opens cons (Arg E) _ (other_than closes) oa))
+      (λ x s rest h k. ap (λ l. starts (other_than closes) (l ++ rest)) h.1 ∙ k)
+
+  range_reads : IsReader (range_read e) (Behind (is colon_sign) (Both range_of E (Maybe (Behind (is colon_sign) E)))) (Behind (is colon_sign) (Both range_of F (Maybe (Behind (is colon_sign) F)))) (λ x. other_than (close_bracket_sign ∷ []))
+  range_reads =
+      then (both range_of e (maybe (is colon_sign) (both second_of (one (is colon_sign)) e))) (Both range_of E (Maybe (Behind (is colon_sign) E))) (Both range_of F (Maybe (Behind (is colon_sign) F))) (is colon_sign) (λ x. other_than (close_bracket_sign ∷ [])) (λ x. other_than (close_bracket_sign ∷ [])) second_of colon_one
+      (both_reads range_of e (maybe (is colon_sign) (both second_of (one (is colon_sign)) e)) E F (Maybe (Behind (is colon_sign) E)) (Maybe (Behind (is colon_sign) F)) (λ x. among more) (or_first (is colon_sign) (λ x. among more)) (λ x. other_than (close_bracket_sign ∷ []))
+      ie
+      (maybe_reads (is colon_sign) (both second_of (one (is colon_sign)) e) (Behind (is colon_sign) E) (Behind (is colon_sign) F) (λ x. among more)
+      (then e E F (is colon_sign) (λ x. among more) (λ x. among more) second_of colon_one ie some_e (λ t y rest h. h))
+      (both_opens second_of (One (is colon_sign)) E (is colon_sign) (one_opens (is colon_sign))))
+      ([], None, refl)
+      (λ x y s rest h k. follows y s rest h k)
+      (λ x y rest k. maybe_ends (is colon_sign) (λ x. among more) y rest (no_close (close_bracket_sign ∷ []) (colon_sign ∷ []) refl rest k) (λ x. no_close (close_bracket_sign ∷ []) more no_bracket rest k)))
+      (some_e.0, range_of some_e.1 None, (some_e.1, None, some_e.0, [], some_e.2, refl, refl, sym (append-nil some_e.0)))
+      (λ t y rest h. h)
+    where
+      follows : (y : Option Term) (s rest : List Token) → Maybe (Behind (is colon_sign) E) y s → starts (other_than (close_bracket_sign ∷ [])) rest ≡ false → starts (among more) (s ++ rest) ≡ false
+      follows None s rest h k = ap (λ l. starts (among more) (l ++ rest)) h ∙ no_close (close_bracket_sign ∷ []) more no_bracket rest k
+      follows (Some y) s rest h k = next_apart (colon_sign ∷ []) more no_colon (s ++ rest) (both_opens second_of (One (is colon_sign)) E (is colon_sign) (one_opens (is colon_sign)) y s rest h)
+
+  abbrev brackets : List ℕ
+  brackets = close_bracket_sign ∷ []
+
+  abbrev RangeRest : Language Term → Language Rest
+  RangeRest E = Behind (is colon_sign) (Both range_of E (Maybe (Behind (is colon_sign) E)))
+
+  abbrev ItemsRest : Language Term → Language Rest
+  ItemsRest E = Mapped items (Both first_of (Many (Behind (is comma_sign) E)) (Maybe (One (is comma_sign))))
+
+  -- items begin with a comma, or there are none
+  items_start : (xs : List Term) (m : Option Token) (p q rest : List Token) → Many (Behind (is comma_sign) E) xs p → Maybe (One (is comma_sign)) m q → (ys : List ℕ) → apart (comma_sign ∷ []) ys ≡ true → apart brackets ys ≡ true → starts (other_than brackets) rest ≡ false → starts (among ys) ((p ++ q) ++ rest) ≡ false
+  items_start [] None p q rest h k ys c b e = ap (λ l. starts (among ys) ((l ++ q) ++ rest)) h ∙ ap (λ l. starts (among ys) (l ++ rest)) k ∙ no_close brackets ys b rest e
+  items_start [] (Some t) p q rest h k ys c b e = ap (λ l. starts (among ys) ((l ++ q) ++ rest)) h ∙ next_apart (comma_sign ∷ []) ys c (q ++ rest) (one_opens (is comma_sign) t q rest k)
+  items_start (x ∷ xs) m p q rest h k ys c b e =
+      ap (λ l. starts (among ys) ((l ++ q) ++ rest)) h.4 ∙ ap (λ l. starts (among ys) (l ++ rest)) (append_assoc h.0 h.1 q) ∙ ap (starts (among ys)) (append_assoc h.0 (h.1 ++ q) rest)
+      ∙ next_apart (comma_sign ∷ []) ys c (h.0 ++ ((h.1 ++ q) ++ rest)) (both_opens second_of (One (is comma_sign)) E (is comma_sign) (one_opens (is comma_sign)) x h.0 ((h.1 ++ q) ++ rest) h.2)
+
+  items_stop : (x : Rest) (s rest : List Token) → ItemsRest E x s → (ys : List ℕ) → apart (comma_sign ∷ []) ys ≡ true → apart brackets ys ≡ true → starts (other_than brackets) rest ≡ false → starts (among ys) (s ++ rest) ≡ false
+  items_stop x s rest h ys c b e = let k = h.1 in ap (λ l. starts (among ys) (l ++ rest)) k.7 ∙ items_start k.0 k.1 k.2 k.3 rest k.4 k.5 ys c b e
+
+  range_opens : Opens (RangeRest E) (is colon_sign)
+  range_opens = both_opens second_of (One (is colon_sign)) _ (is colon_sign) (one_opens (is colon_sign))
+
+  rest_reads : IsReader (rest_read e) (EitherOf (RangeRest E) (ItemsRest E)) (EitherOf (RangeRest F) (ItemsRest F)) (λ x. other_than brackets)
+  rest_reads =
+      choice_reads (is colon_sign) (range_read e) (mapped items (trailing (is comma_sign) (other_than brackets) e)) (RangeRest E) (RangeRest F) (ItemsRest E) (ItemsRest F) (λ x. other_than brackets)
+      range_reads
+      (mapped_reads items (trailing (is comma_sign) (other_than brackets) e) (Both first_of (Many (Behind (is comma_sign) E)) (Maybe (One (is comma_sign)))) (Both first_of (Many (Behind (is comma_sign) F)) (Maybe (One (is comma_sign)))) (λ x. other_than brackets) (λ x. other_than brackets)
+      (items_reads (is comma_sign) (other_than brackets) e E F (λ x. among more) (other_than brackets) ie oe (λ x. next_apart (comma_sign ∷ []) more no_comma)
+      (λ x. no_close brackets more no_bracket) (no_close brackets (comma_sign ∷ []) refl) (λ rest h. h))
+      (λ x rest h. h))
+      range_opens
+      (λ x s rest h k. items_stop x s rest h (colon_sign ∷ []) refl refl k)
+
+  rest_follows : (x : Term) (y : Rest) (s rest : List Token) → EitherOf (RangeRest E) (ItemsRest E) y s → starts (other_than brackets) rest ≡ false → starts (among more) (s ++ rest) ≡ false
+  rest_follows x y s rest (inl h) k = next_apart (colon_sign ∷ []) more no_colon (s ++ rest) (range_opens y s rest h)
+  rest_follows x y s rest (inr h) k = items_stop y s rest h more no_comma no_bracket k
+
+  abbrev Filled : Language Term → Language (Term × Rest)
+  Filled E = Both pair_of E (EitherOf (RangeRest E) (ItemsRest E))
+
+  filled_reads : IsReader (both pair_of e (rest_read e)) (Filled E) (Filled F) (λ x. other_than brackets)
+  filled_reads =
+      both_reads pair_of e (rest_read e) E F (EitherOf (RangeRest E) (ItemsRest E)) (EitherOf (RangeRest F) (ItemsRest F)) (λ x. among more) (λ x. other_than brackets) (λ x. other_than brackets) ie rest_reads
+      ([], items [], inr ([], ([], None, [], [], refl, refl, refl, refl), refl))
+      rest_follows (λ x y rest k. k)
+
+  maybe_filled : IsReader (maybe (other_than brackets) (both pair_of e (rest_read e))) (Maybe (Filled E)) (Maybe (Filled F)) (λ x. other_than brackets)
+  maybe_filled =
+      more_reads (maybe (other_than brackets) (both pair_of e (rest_read e))) (Maybe (Filled E)) (Maybe (Filled F)) (or_first (other_than brackets) (λ x. other_than brackets)) (λ x. other_than brackets)
+      (maybe_reads (other_than brackets) (both pair_of e (rest_read e)) (Filled E) (Filled F) (λ x. other_than brackets) filled_reads (both_opens pair_of E _ (other_than brackets) oe))
+      (λ x rest h. maybe_ends (other_than brackets) (λ x. other_than brackets) x rest h (λ y. h))
+
+  bracket_reads : IsReader (bracket_read e) (Bracket E) (Bracket F) (λ x t. false)
+  bracket_reads =
+      both_reads bracket_of (first (is open_bracket_sign)) (both first_of (maybe (other_than brackets) (both pair_of e (rest_read e))) (one (is close_bracket_sign)))
+      (One (is open_bracket_sign)) (One (is open_bracket_sign)) (Before (Maybe (Filled E)) (is close_bracket_sign)) (Before (Maybe (Filled F)) (is close_bracket_sign)) (λ x t. false) (λ x t. false) (λ x t. false)
+      (first_at (is open_bracket_sign) (token (Symbol OpenBracket), refl))
+      (before_reads (maybe (other_than brackets) (both pair_of e (rest_read e))) (Maybe (Filled E)) (Maybe (Filled F)) close_bracket_sign (λ x. other_than brackets) close_bracket_one (token (Symbol CloseBracket)) refl maybe_filled (λ x. close_ends brackets))
+      (some_before (Maybe (Filled F)) close_bracket_sign (token (Symbol CloseBracket)) refl ([], None, refl))
+      (λ x y s rest h k. never_starts (s ++ rest)) (λ x y rest k. k)
+
+  abbrev paren_more : Term → Token → Bool
+  paren_more x = among (open_parenthesis_sign ∷ [])
+
+  name_reads : IsReader (name_read a) (NameForm E) (NameForm F) paren_more
+  name_reads =
+      then (maybe (is open_parenthesis_sign) (in_parentheses (args_read a))) (Maybe (InParentheses (Args E))) (Maybe (InParentheses (Args F))) (is name) (or_first (is open_parenthesis_sign) (λ x t. false)) paren_more named_of name_one
+      (maybe_reads (is open_parenthesis_sign) (in_parentheses (args_read a)) (InParentheses (Args E)) (InParentheses (Args F)) (λ x t. false)
+      (in_parentheses_reads (args_read a) (Args E) (Args F) (λ x. other_than closes) args_reads (some_args F) (λ x. close_ends closes))
+      (both_opens second_of (One (is open_parenthesis_sign)) _ (is open_parenthesis_sign) (one_opens (is open_parenthesis_sign))))
+      ([], None, refl)
+      (λ t y rest h. maybe_ends (is open_parenthesis_sign) (λ x t. false) y rest h (λ x. never_starts rest))
+
+  paren_reads : IsReader (paren_read e) (ParenForm E) (ParenForm F) paren_more
+  paren_reads =
+      then (both first_of e (one (is close_parenthesis_sign))) (Before E (is close_parenthesis_sign)) (Before F (is close_parenthesis_sign)) (is open_parenthesis_sign) (λ x t. false) paren_more paren_of open_parenthesis_one
+      (before_reads e E F close_parenthesis_sign (λ x. among more) close_parenthesis_one (token (Symbol CloseParenthesis)) refl ie (λ x. next_apart closes more no_parenthesis))
+      (some_before F close_parenthesis_sign (token (Symbol CloseParenthesis)) refl some_e) (λ t y rest h. never_starts rest)
+
+  from_paren : IsReader (choice (is open_parenthesis_sign) (paren_read e) (bracket_read e)) (FromParen E) (FromParen F) paren_more
+  from_paren =
+      choice_reads (is open_parenthesis_sign) (paren_read e) (bracket_read e) (ParenForm E) (ParenForm F) (Bracket E) (Bracket F) paren_more paren_reads
+      (more_reads (bracket_read e) (Bracket E) (Bracket F) (λ x t. false) paren_more bracket_reads (λ x rest h. never_starts rest))
+      (both_opens paren_of (One (is open_parenthesis_sign)) _ (is open_parenthesis_sign) (one_opens (is open_parenthesis_sign)))
+      (λ x s rest h k. next_apart bracket_firsts (open_parenthesis_sign ∷ []) refl (s ++ rest) (bracket_opens E x s rest h))
+
+  from_name : IsReader (choice (is name) (name_read a) (choice (is open_parenthesis_sign) (paren_read e) (bracket_read e))) (FromName E) (FromName F) paren_more
+  from_name =
+      choice_reads (is name) (name_read a) (choice (is open_parenthesis_sign) (paren_read e) (bracket_read e)) (NameForm E) (NameForm F) (FromParen E) (FromParen F) paren_more name_reads from_paren
+      (both_opens named_of (One (is name)) _ (is name) (one_opens (is name)))
+      (λ x s rest h k. next_apart paren_firsts (name ∷ []) refl (s ++ rest) (from_paren_opens E x s rest h))
+
+  pub primary_reads : IsReader (primary_read e a) (Primary E) (Primary F) paren_more
+  primary_reads =
+      single_reads numeral text_firsts (λ t. NumberTerm t.place (number_of t.kind)) (one_at (is numeral) (token (Numeral 0), refl)) _ (FromText E) (FromText F) paren_more
+      (single_reads text true_firsts (λ t. TextTerm t.place (bytes_of t.kind)) (one_at (is text) (token (Text []), refl)) _ (FromTrue E) (FromTrue F) paren_more
+      (single_reads true_word false_firsts (λ t. TruthTerm t.place true) (one_at (is true_word) (token (Reserved True), refl)) _ (FromFalse E) (FromFalse F) paren_more
+      (single_reads false_word undef_firsts (λ t. TruthTerm t.place false) (one_at (is false_word) (token (Reserved False), refl)) _ (FromUndef E) (FromUndef F) paren_more
+      (single_reads undef_word child_firsts (λ t. UndefTerm t.place) (one_at (is undef_word) (token (Reserved Undef), refl)) _ (FromChild E) (FromChild F) paren_more
+      (single_reads child_count name_firsts (λ t. ChildCountTerm t.place) (one_at (is child_count) (token (Special (codes "children")), refl)) _ (FromName E) (FromName F) paren_more from_name (from_name_opens E) refl)
+      (from_child_opens E) refl)
+      (from_undef_opens E) refl)
+      (from_false_opens E) refl)
+      (from_true_opens E) refl)
+      (from_text_opens E) refl

@@ -1,0 +1,234 @@
+-- Classes of tokens: what a token is, without its number or bytes.
+use Rattle.std.specs.Prelude.{ℕ, List, [], ◌∷◌, Bool, true, false, cond, not, nat_eq, codes}
+use Rattle.std.specs.Str.{bytes_eq}
+use Rattle.scad_lexer.specs.declared.token.Token.{Token}
+use Rattle.scad_lexer.specs.declared.token.TokenKind.{TokenKind}
+use Rattle.scad_lexer.specs.declared.token.TokenKind.TheVariants.{Numeral, Name, Special, Text, Reserved as ReservedToken, Symbol as SymbolToken, End}
+use Rattle.scad_lexer.specs.declared.token.Reserved.{Reserved}
+use Rattle.scad_lexer.specs.declared.token.Reserved.TheVariants.{Module, Function, If, Else, For, IntersectionFor, True, False, Undef, Use, Include, Let, Each}
+use Rattle.scad_lexer.specs.declared.token.Symbol.{Symbol}
+use Rattle.scad_lexer.specs.declared.token.Symbol.TheVariants.{OpenParenthesis, CloseParenthesis, OpenBracket, CloseBracket, OpenBrace, CloseBrace, Comma, Semicolon, Assign, Colon, Question, Dot, Plus, Minus, Times, Divide, Remainder, Less, Greater, LessEqual, GreaterEqual, Equal, NotEqual, And, Or, Not, Hash, Caret}
+
+abbrev pub numeral : ℕ
+numeral = 0
+
+abbrev pub name : ℕ
+name = 1
+
+abbrev pub child_count : ℕ
+child_count = 2
+
+abbrev pub special : ℕ
+special = 3
+
+abbrev pub text : ℕ
+text = 4
+
+abbrev pub end : ℕ
+end = 5
+
+abbrev pub module_word : ℕ
+module_word = 10
+
+abbrev pub function_word : ℕ
+function_word = 11
+
+abbrev pub if_word : ℕ
+if_word = 12
+
+abbrev pub else_word : ℕ
+else_word = 13
+
+abbrev pub for_word : ℕ
+for_word = 14
+
+abbrev pub intersection_for_word : ℕ
+intersection_for_word = 15
+
+abbrev pub true_word : ℕ
+true_word = 16
+
+abbrev pub false_word : ℕ
+false_word = 17
+
+abbrev pub undef_word : ℕ
+undef_word = 18
+
+abbrev pub use_word : ℕ
+use_word = 19
+
+abbrev pub include_word : ℕ
+include_word = 20
+
+abbrev pub let_word : ℕ
+let_word = 21
+
+abbrev pub each_word : ℕ
+each_word = 22
+
+abbrev pub open_parenthesis_sign : ℕ
+open_parenthesis_sign = 30
+
+abbrev pub close_parenthesis_sign : ℕ
+close_parenthesis_sign = 31
+
+abbrev pub open_bracket_sign : ℕ
+open_bracket_sign = 32
+
+abbrev pub close_bracket_sign : ℕ
+close_bracket_sign = 33
+
+abbrev pub open_brace_sign : ℕ
+open_brace_sign = 34
+
+abbrev pub close_brace_sign : ℕ
+close_brace_sign = 35
+
+abbrev pub comma_sign : ℕ
+comma_sign = 36
+
+abbrev pub semicolon_sign : ℕ
+semicolon_sign = 37
+
+abbrev pub assign_sign : ℕ
+assign_sign = 38
+
+abbrev pub colon_sign : ℕ
+colon_sign = 39
+
+abbrev pub question_sign : ℕ
+question_sign = 40
+
+abbrev pub dot_sign : ℕ
+dot_sign = 41
+
+abbrev pub plus_sign : ℕ
+plus_sign = 42
+
+abbrev pub minus_sign : ℕ
+minus_sign = 43
+
+abbrev pub times_sign : ℕ
+times_sign = 44
+
+abbrev pub divide_sign : ℕ
+divide_sign = 45
+
+abbrev pub remainder_sign : ℕ
+remainder_sign = 46
+
+abbrev pub less_sign : ℕ
+less_sign = 47
+
+abbrev pub greater_sign : ℕ
+greater_sign = 48
+
+abbrev pub less_equal_sign : ℕ
+less_equal_sign = 49
+
+abbrev pub greater_equal_sign : ℕ
+greater_equal_sign = 50
+
+abbrev pub equal_sign : ℕ
+equal_sign = 51
+
+abbrev pub not_equal_sign : ℕ
+not_equal_sign = 52
+
+abbrev pub and_sign : ℕ
+and_sign = 53
+
+abbrev pub or_sign : ℕ
+or_sign = 54
+
+abbrev pub not_sign : ℕ
+not_sign = 55
+
+abbrev pub hash_sign : ℕ
+hash_sign = 56
+
+abbrev pub caret_sign : ℕ
+caret_sign = 57
+
+abbrev pub reserved_class : Reserved → ℕ
+reserved_class Module = module_word
+reserved_class Function = function_word
+reserved_class If = if_word
+reserved_class Else = else_word
+reserved_class For = for_word
+reserved_class IntersectionFor = intersection_for_word
+reserved_class True = true_word
+reserved_class False = false_word
+reserved_class Undef = undef_word
+reserved_class Use = use_word
+reserved_class Include = include_word
+reserved_class Let = let_word
+reserved_class Each = each_word
+
+abbrev pub symbol_class : Symbol → ℕ
+symbol_class OpenParenthesis = open_parenthesis_sign
+symbol_class CloseParenthesis = close_parenthesis_sign
+symbol_class OpenBracket = open_bracket_sign
+symbol_class CloseBracket = close_bracket_sign
+symbol_class OpenBrace = open_brace_sign
+symbol_class CloseBrace = close_brace_sign
+symbol_class Comma = comma_sign
+symbol_class Semicolon = semicolon_sign
+symbol_class Assign = assign_sign
+symbol_class Colon = colon_sign
+symbol_class Question = question_sign
+symbol_class Dot = dot_sign
+symbol_class Plus = plus_sign
+symbol_class Minus = minus_sign
+symbol_class Times = times_sign
+symbol_class Divide = divide_sign
+symbol_class Remainder = remainder_sign
+symbol_class Less = less_sign
+symbol_class Greater = greater_sign
+symbol_class LessEqual = less_equal_sign
+symbol_class GreaterEqual = greater_equal_sign
+symbol_class Equal = equal_sign
+symbol_class NotEqual = not_equal_sign
+symbol_class And = and_sign
+symbol_class Or = or_sign
+symbol_class Not = not_sign
+symbol_class Hash = hash_sign
+symbol_class Caret = caret_sign
+
+-- the class of a token; `$children` has its own
+abbrev pub class_of : TokenKind → ℕ
+class_of (Numeral n) = numeral
+class_of (Name bytes) = name
+class_of (Special bytes) = cond (bytes_eq bytes (codes "children")) child_count special
+class_of (Text bytes) = text
+class_of (ReservedToken r) = reserved_class r
+class_of (SymbolToken s) = symbol_class s
+class_of End = end
+
+-- the class is one of these
+abbrev pub listed : List ℕ → ℕ → Bool
+listed [] k = false
+listed (c ∷ cs) k = cond (nat_eq k c) true (listed cs k)
+
+-- a token of one of these classes
+abbrev pub among : List ℕ → Token → Bool
+among cs t = listed cs (class_of t.kind)
+
+-- a token of this class
+abbrev pub is : ℕ → Token → Bool
+is c = among (c ∷ [])
+
+-- a token of none of these classes
+abbrev pub other_than : List ℕ → Token → Bool
+other_than cs t = not (among cs t)
+
+-- the number of a numeral
+abbrev pub number_of : TokenKind → ℕ
+number_of (Numeral n) = n
+number_of k = 0
+
+-- the bytes of a name or a text
+abbrev pub bytes_of : TokenKind → List ℕ
+bytes_of (Name bytes) = bytes
+bytes_of (Text bytes) = bytes
+bytes_of k = []

@@ -1,0 +1,30 @@
+-- The fault of a token at which nothing goes on.
+use Rattle.std.specs.Prelude.{ℕ, List, [], ◌∷◌, Bool, cond, Option, Some, None}
+use Rattle.scad_lexer.specs.declared.token.Token.{Token}
+use Rattle.scad_grammar.specs.declared.SyntaxFault.{SyntaxFault}
+use Rattle.scad_grammar.specs.declared.SyntaxFault.TheVariants.{Expected, NotInProfile}
+use Rattle.scad_grammar.specs.Classes.{special, for_word, if_word, function_word, use_word, include_word, let_word, each_word, caret_sign, among}
+use Rattle.scad_grammar.specs.Reading.{Reader, one_of}
+
+-- forms that this profile leaves out, wherever they stand
+abbrev pub left_out : List ℕ
+left_out = use_word ∷ include_word ∷ let_word ∷ each_word ∷ caret_sign ∷ special ∷ []
+
+-- the same in the place of an expression
+abbrev pub left_out_of_expressions : List ℕ
+left_out_of_expressions = for_word ∷ if_word ∷ function_word ∷ left_out
+
+abbrev pub fault_of : List ℕ → Option Token → SyntaxFault
+fault_of classes None = Expected
+fault_of classes (Some t) = cond (among classes t) NotInProfile Expected
+
+abbrev pub Reads : Type 0 → Type 0
+Reads A = Reader Token SyntaxFault A
+
+-- one token of these
+abbrev pub one : (Token → Bool) → Reads Token
+one test = one_of test (fault_of left_out)
+
+-- one token of these, where an expression may begin
+abbrev pub first : (Token → Bool) → Reads Token
+first test = one_of test (fault_of left_out_of_expressions)

@@ -1,0 +1,69 @@
+-- Languages of tokens: relations between values and the lists of tokens that write them.
+use Rattle.std.specs.Prelude.{◌≡◌, List, [], ◌∷◌, ◌++◌, Bool, true, Option, Some, None, ◌⊎◌}
+use Rattle.scad_lexer.specs.declared.token.Token.{Token}
+
+abbrev pub Language : Type 0 → Type 1
+Language A = A → List Token → Type 0
+
+-- one token of these
+abbrev pub One : (Token → Bool) → Language Token
+One test t s = (test t ≡ true) × (s ≡ t ∷ [])
+
+-- something that stands for another thing
+abbrev pub Mapped : {A B : Type 0} → (A → B) → Language A → Language B
+Mapped {A} f L b s = (a : A) × L a s × (b ≡ f a)
+
+-- one after the other
+abbrev pub Both : {A B C : Type 0} → (A → B → C) → Language A → Language B → Language C
+Both {A} {B} f La Lb c s = (a : A) × (b : B) × (p : List Token) × (q : List Token) × La a p × Lb b q × (c ≡ f a b) × (s ≡ p ++ q)
+
+-- one after the other, where they go together
+abbrev pub BothIf : {A B C : Type 0} → (A → B → C) → (A → B → Type 0) → Language A → Language B → Language C
+BothIf {A} {B} f Fit La Lb c s = (a : A) × (b : B) × (p : List Token) × (q : List Token) × La a p × Lb b q × Fit a b × (c ≡ f a b) × (s ≡ p ++ q)
+
+-- the one or the other
+abbrev pub EitherOf : {A : Type 0} → Language A → Language A → Language A
+EitherOf La Lb x s = La x s ⊎ Lb x s
+
+-- no tokens
+abbrev pub Nothing : {A : Type 0} → A → Language A
+Nothing a x s = (x ≡ a) × (s ≡ [])
+
+-- any number of them
+abbrev pub Many : {A : Type 0} → Language A → Language (List A)
+Many L [] s = s ≡ []
+Many {A} L (x ∷ xs) s = (p : List Token) × (q : List Token) × L x p × Many L xs q × (s ≡ p ++ q)
+
+-- it, or nothing
+abbrev pub Maybe : {A : Type 0} → Language A → Language (Option A)
+Maybe L None s = s ≡ []
+Maybe L (Some x) s = L x s
+
+-- nothing at all is so
+abbrev pub Never : {A : Type 0} → Language A
+Never x s = ⊥
+
+-- the parts of two that are one after the other
+abbrev pub first_of : {A B : Type 0} → A → B → A
+first_of a b = a
+
+abbrev pub second_of : {A B : Type 0} → A → B → B
+second_of a b = b
+
+abbrev pub pair_of : {A B : Type 0} → A → B → A × B
+pair_of a b = (a, b)
+
+abbrev pub cons : {A : Type 0} → A → List A → List A
+cons x xs = x ∷ xs
+
+-- a token of these before something
+abbrev pub Behind : {A : Type 0} → (Token → Bool) → Language A → Language A
+Behind test L = Both second_of (One test) L
+
+-- a token of these behind something
+abbrev pub Before : {A : Type 0} → Language A → (Token → Bool) → Language A
+Before L test = Both first_of L (One test)
+
+-- some, at least one, with separators between them and maybe one behind the last
+abbrev pub Separated : {A : Type 0} → (Token → Bool) → Language A → Language (List A)
+Separated mark L = Both first_of (Both cons L (Many (Behind mark L))) (Maybe (One mark))

@@ -1,0 +1,146 @@
+-- A text gives one thing, word by word.
+use Rattle.std.proofs.Common.{◌≡◌, ℕ, zero, suc, ◌+◌, ◌-◌, ◌<◌, ◌≤◌, List, [], ◌∷◌, ◌++◌, length, take, drop, get_or, cond, Option, Some, None, Result, Ok, Err, ◌⊎◌, inl, inr, refl, sym, ap, ◌∙◌, subst, arith, nat_eq, append_assoc, IfOk, IfErr, length-take-le, length-drop}
+use Rattle.std.specs.Global.{Vec}
+use Rattle.text_place.specs.declared.fault.Place.{Place}
+use Rattle.text_place.specs.declared.fault.FaultKind.{FaultKind}
+use Rattle.text_place.specs.declared.fault.FaultKind.TheVariants.{BadCharacter}
+use Rattle.text_place.specs.declared.fault.Stop.{Stop}
+use Rattle.text_place.specs.declared.fault.Stop.TheVariants.{Fault as StopFault, NoMemory}
+use Rattle.scad_lexer.specs.declared.token.Token.{Token as TokenIn}
+use Rattle.scad_lexer.specs.declared.token.TokenKind.{TokenKind}
+use Rattle.scad_lexer.specs.declared.token.TokenKind.TheVariants.{End}
+use Rattle.scad_lexer.specs.declared.word.Word.{Word}
+use Rattle.scad_lexer.specs.declared.meaning.Meaning.{Meaning}
+use Rattle.scad_lexer.specs.declared.meaning.Meaning.TheVariants.{Blank, Token, Fault}
+use Rattle.scad_lexer.specs.Words.{word_of, IsLongest, HasNoWord}
+use Rattle.scad_lexer.specs.Tokens.{Outcome, Gives, Faults, in_front, tokens_at, IsSound, IsEnd, IsStray, IsFaulty, Piece, Reads, LexesFrom, Lexes, IsFaultFrom, IsFault, Agrees, made, meaning_from, meaning_of, moved, IsNext}
+use Rattle.scad_lexer.proofs.Longest.{drop_more}
+use Rattle.scad_lexer.proofs.Scanned.{rest_all}
+
+-- the longest word is one
+longest_once : (text : List ℕ) (n m : ℕ) (w v : Word) → IsLongest text n w → IsLongest text m v → (n ≡ m) × (w ≡ v)
+longest_once text n m w v a b =
+    let same : n ≡ m = omega (arith, b.most n w a.within a.found, a.most m v b.within b.found) in
+    let both : Some w ≡ Some v = sym a.found ∙ ap (λ n. word_of (take n text)) same ∙ b.found in
+    (same, cc)
+
+no_bytes : (n : ℕ) → take {A = ℕ} n [] ≡ []
+no_bytes zero = refl
+no_bytes (suc n) = refl
+
+empty_longest : (text : List ℕ) (n : ℕ) (w : Word) → text ≡ [] → IsLongest text n w → ⊥
+empty_longest text n w e h =
+    let none : word_of (take n text) ≡ None = ap (λ t. word_of (take n t)) e ∙ ap word_of (no_bytes n) in
+    let both : None ≡ Some w = sym none ∙ h.found in
+    cc
+
+last_once : (p : Place) (text : List ℕ) (o q : Outcome) → (IsEnd p text o ⊎ (IsStray p text o ⊎ IsFaulty p text o)) → (IsEnd p text q ⊎ (IsStray p text q ⊎ IsFaulty p text q)) → o ≡ q
+last_once p text o q (inl a) (inl b) = a.1 ∙ sym b.1
+last_once p text o q (inl a) (inr (inl b)) = absurd (b.0 a.0)
+last_once p text o q (inl a) (inr (inr b)) = absurd (empty_longest text b.length b.word a.0 b.longest)
+last_once p text o q (inr (inl a)) (inl b) = absurd (a.0 b.0)
+last_once p text o q (inr (inl a)) (inr (inl b)) = a.2 ∙ sym b.2
+last_once p text o q (inr (inl a)) (inr (inr b)) = absurd (a.1 b.length b.word b.longest.within b.longest.found)
+last_once p text o q (inr (inr a)) (inl b) = absurd (empty_longest text a.length a.word b.0 a.longest)
+last_once p text o q (inr (inr a)) (inr (inl b)) = absurd (b.1 a.length a.word a.longest.within a.longest.found)
+last_once p text o q (inr (inr a)) (inr (inr b)) =
+    let one = longest_once text a.length b.length a.word b.word a.longest b.longest in
+    let means : Fault a.kind a.before ≡ Fault b.kind b.before = sym a.means ∙ ap (λ n. meaning_of a.word (take n text)) one.0 ∙ ap (λ w. meaning_of w (take b.length text)) one.1 ∙ b.means in
+    let kind : a.kind ≡ b.kind = cc in
+    let before : a.before ≡ b.before = cc in
+    a.outcome ∙ ap (λ k. Faults k (moved p (take a.before text))) kind ∙ ap (λ n. Faults b.kind (moved p (take n text))) before ∙ sym b.outcome
+
+fault_unsound : (m : Meaning) (k : FaultKind) (n : ℕ) → m ≡ Fault k n → IsSound m → ⊥
+fault_unsound (Fault k n) j i e h = h
+fault_unsound Blank j i e h = absurd (cc)
+fault_unsound (Token k) j i e h = absurd (cc)
+
+-- a word with no fault is no last thing
+not_last : (p : Place) (text : List ℕ) (o : Outcome) (n : ℕ) (w : Word) → (IsEnd p text o ⊎ (IsStray p text o ⊎ IsFaulty p text o)) → IsLongest text n w → IsSound (meaning_of w (take n text)) → ⊥
+not_last p text o n w (inl a) h s = empty_longest text n w a.0 h
+not_last p text o n w (inr (inl a)) h s = a.1 n w h.within h.found
+not_last p text o n w (inr (inr a)) h s =
+    let one = longest_once text a.length n a.word w a.longest h in
+    fault_unsound (meaning_of w (take n text)) a.kind a.before (sym (ap (λ n. meaning_of a.word (take n text)) one.0 ∙ ap (λ w. meaning_of w (take n text)) one.1) ∙ a.means) s
+
+pub reads_once : (xs ys : List Piece) (p : Place) (text : List ℕ) (o q : Outcome) → Reads xs p text o → Reads ys p text q → o ≡ q
+reads_once [] [] p text o q a b = last_once p text o q a b
+reads_once [] (y ∷ ys) p text o q a b = absurd (not_last p text o y.bytes y.word a b.0 b.1)
+reads_once (x ∷ xs) [] p text o q a b = absurd (not_last p text q x.bytes x.word b a.0 a.1)
+reads_once (x ∷ xs) (y ∷ ys) p text o q a b =
+    let one = longest_once text x.bytes y.bytes x.word y.word a.0 b.0 in
+    let next : Reads ys (moved p (take x.bytes text)) (drop x.bytes text) b.2.0 = subst (λ n. Reads ys (moved p (take n text)) (drop n text) b.2.0) (sym one.0) b.2.1 in
+    let rest : a.2.0 ≡ b.2.0 = reads_once xs ys (moved p (take x.bytes text)) (drop x.bytes text) a.2.0 b.2.0 a.2.1 next in
+    a.2.2 ∙ ap (in_front (tokens_at p (meaning_of x.word (take x.bytes text)))) rest
+    ∙ ap (λ n. in_front (tokens_at p (meaning_of x.word (take n text))) b.2.0) one.0 ∙ ap (λ w. in_front (tokens_at p (meaning_of w (take y.bytes text))) b.2.0) one.1 ∙ sym b.2.2
+
+-- the first thing that was found is the only one
+pub agrees : (text : List ℕ) (r : Result (Vec TokenIn) Stop) → IfOk r (λ ts. Lexes text (Gives ts.items)) → IfErr r (λ stop. IsFault text stop) → (o : Outcome) → Lexes text o → Agrees r o
+agrees text (Ok ts) f e o h = reads_once h.0 f.0 _ text o (Gives ts.items) h.1 f.1
+agrees text (Err (StopFault x)) f e o h = reads_once h.0 e.0 _ text o (Faults x.kind x.place) h.1 e.1
+agrees text (Err NoMemory) f e o h = tt
+
+sound_from : (kind : Option TokenKind) → IsSound (meaning_from kind)
+sound_from None = tt
+sound_from (Some k) = tt
+
+made_from : (p : Place) (kind : Option TokenKind) → tokens_at p (meaning_from kind) ≡ made p kind
+made_from p None = refl
+made_from p (Some k) = refl
+
+in_front_twice : (ts us : List TokenIn) (o : Outcome) → in_front ts (in_front us o) ≡ in_front (ts ++ us) o
+in_front_twice ts us (Gives vs) = ap Gives (sym (append_assoc ts us vs))
+in_front_twice ts us (Faults k p) = refl
+
+-- what holds of what was read so far
+abbrev pub GoesOn : List ℕ → List TokenIn → Place → List ℕ → Type 0
+GoesOn text ts p rest = (o : Outcome) → LexesFrom p rest o → Lexes text (in_front ts o)
+
+pub goes_first : (text : List ℕ) → GoesOn text [] (record { line = 1; column = 1 }) text
+goes_first text (Gives ts) h = h
+goes_first text (Faults k p) h = h
+
+-- one word more
+pub goes_on : (text : List ℕ) (ts : List TokenIn) (p : Place) (rest : List ℕ) (n : ℕ) (kind : Option TokenKind) → GoesOn text ts p rest → IsNext rest n kind → GoesOn text (ts ++ made p kind) (moved p (take n rest)) (take (length rest - n) (drop n rest))
+goes_on text ts p rest n kind told next o h =
+    let here : Reads h.0 (moved p (take n rest)) (drop n rest) o = subst (λ l. Reads h.0 (moved p (take n rest)) l o) (rest_all rest n) h.1 in
+    let same : in_front (made p kind) o ≡ in_front (tokens_at p (meaning_of next.word (take n rest))) o = ap (λ ts. in_front ts o) (sym (made_from p kind) ∙ ap (tokens_at p) (sym next.means)) in
+    subst (Lexes text) (in_front_twice ts (made p kind) o)
+    (told (in_front (made p kind) o) (record { bytes = n; word = next.word } ∷ h.0, (next.longest, subst IsSound (sym next.means) (sound_from kind), (o, here, same))))
+
+pub goes_end : (text : List ℕ) (ts : List TokenIn) (p : Place) (rest : List ℕ) → GoesOn text ts p rest → length rest ≡ 0 → Lexes text (Gives (ts ++ record { kind = End; place = p } ∷ []))
+goes_end text ts p [] told e = told (Gives (record { kind = End; place = p } ∷ [])) ([], inl (refl, refl))
+goes_end text ts p (b ∷ rest) told e = absurd (omega arith)
+
+pub goes_fault : (text : List ℕ) (ts : List TokenIn) (p : Place) (rest : List ℕ) (stop : Stop) → GoesOn text ts p rest → IsFaultFrom p rest stop → IsFault text stop
+goes_fault text ts p rest (StopFault x) told h = told (Faults x.kind x.place) h
+goes_fault text ts p rest NoMemory told h = tt
+
+-- one word
+pub stray : (p : Place) (text : List ℕ) → 1 ≤ length text → HasNoWord text → LexesFrom p text (Faults BadCharacter p)
+stray p [] some h = absurd (omega arith)
+stray p (b ∷ t) some h = ([], inr (inl ((λ e. cc), h, refl)))
+
+pub faulty : (p : Place) (text : List ℕ) (n : ℕ) (w : Word) (k : FaultKind) (m : ℕ) → IsLongest text n w → Fault k m ≡ meaning_of w (take n text) → LexesFrom p text (Faults k (moved p (take m text)))
+faulty p text n w k m h e = ([], inr (inr (record { length = n; word = w; kind = k; before = m; longest = h; means = sym e; outcome = refl })))
+
+pub word_some : (text : List ℕ) (n : ℕ) (w : Word) → IsLongest text n w → 1 ≤ n
+word_some text zero w h = absurd (let e = h.found in cc)
+word_some text (suc n) w h = omega arith
+
+pub is_next : (text : List ℕ) (n : ℕ) (w : Word) (kind : Option TokenKind) → IsLongest text n w → meaning_from kind ≡ meaning_of w (take n text) → IsNext text n kind
+is_next text n w kind h e = record { word = w; longest = h; means = sym e; some = word_some text n w h }
+
+pub taken_some : (text : List ℕ) (n : ℕ) (w : Word) → IsLongest text n w → 1 ≤ length (take n text)
+taken_some text n w h = omega (arith, word_some text n w h, length-take-le n text h.within)
+
+-- the place behind one byte more
+abbrev pub behind : Place → ℕ → Place
+behind p b = cond (nat_eq b 10) (record { line = suc p.line; column = 1 }) (record { line = p.line; column = suc p.column })
+
+pub moved_more : (p : Place) (t : List ℕ) (n : ℕ) → n < length t → moved p (drop n t) ≡ moved (behind p (get_or t n 0)) (drop (n + 1) t)
+moved_more p t n h = ap (moved p) (drop_more t n h)
+
+-- how long the parts of a cut are
+pub rest_length : (t : List ℕ) (n : ℕ) → n ≤ length t → length (take (length t - n) (drop n t)) + n ≡ length t
+rest_length t n h = omega (arith, ap length (rest_all t n), length-drop n t)

@@ -1,0 +1,4 @@
+pub mod Lexing
+pub mod Longest
+pub mod Meanings
+pub mod Scanned

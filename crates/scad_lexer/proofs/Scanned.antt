@@ -1,0 +1,437 @@
+-- What each part of a word is found to be.
+use Rattle.std.proofs.Common.{◌≡◌, ℕ, zero, suc, ◌+◌, ◌-◌, ◌<◌, ◌≤◌, List, [], ◌∷◌, length, take, drop, get_or, Bool, true, false, cond, not, ◌&&◌, Option, Some, None, refl, sym, ap, ◌∙◌, subst, arith, nat_eq, length-drop, IfSome, IfNone}
+use Rattle.std.proofs.Common.{inl, inr}
+use Rattle.std.proofs.lemmas.Bool.Decides.{eqb_tells}
+use Rattle.scad_lexer.specs.declared.class.Class.TheVariants.{InLine, Exponent, Sign, Byte}
+use Rattle.scad_lexer.specs.declared.token.Symbol.{Symbol}
+use Rattle.scad_lexer.specs.declared.token.Symbol.TheVariants.{Dot, Divide}
+use Rattle.scad_lexer.specs.declared.word.Word.{Word}
+use Rattle.scad_lexer.specs.declared.word.Word.TheVariants.{Blank, OpenComment, Name, Special, Numeral, NumeralAndLetter, Text, OpenText, Symbol as SymbolWord}
+use Rattle.scad_lexer.specs.Words.{has, digit, letter, blank, name_byte, begins_with, run_of, every, when, alone, with_bytes, more_bytes, one_longer, longest, in_whole, in_fraction, number_end, exponent, after_sign, in_exponent, after_point, after_dollar, after_slash, in_comment, after_star, in_text, in_escape, single, double_of, symbol_word, symbol_of, word_from, IsLongest, HasNoWord}
+use Rattle.scad_lexer.proofs.Longest.{longest_end, longest_step, longest_taken, longest_stop, longest_alone, longest_some, longest_same, longest_every, run_then, behind_run, drop_more, longest_is, longest_isnt}
+
+not_equal : (b c : ℕ) → (b ≡ c → ⊥) → nat_eq b c ≡ false
+not_equal b c h = elim (eqb_tells b c) [ inl p ↦ absurd (h p.1) | inr p ↦ p.0 ]
+
+take_all : (t : List ℕ) (n : ℕ) → length t ≤ n → take n t ≡ t
+take_all [] zero h = refl
+take_all [] (suc n) h = refl
+take_all (b ∷ t) zero h = absurd (omega arith)
+take_all (b ∷ t) (suc n) h = ap (λ l. b ∷ l) (take_all t n (omega arith))
+
+-- the rest of a text, as a slice gives it
+pub rest_all : (t : List ℕ) (n : ℕ) → take (length t - n) (drop n t) ≡ drop n t
+rest_all t n = take_all (drop n t) (length t - n) (omega (arith, length-drop n t))
+
+-- a byte of a class, and then what g reads
+pub begin_then : (p : ℕ → Bool) (f g : List ℕ → Option Word) → ((b : ℕ) (w : List ℕ) → p b ≡ true → f (b ∷ w) ≡ g w) → (t : List ℕ) (x : Word) (n : ℕ) → begins_with p t ≡ true → longest g (take (length t - 1) (drop 1 t)) ≡ Some (x, n) → longest f t ≡ Some (x, 1 + n)
+begin_then p f g h [] x n e k = absurd (cc)
+begin_then p f g h (b ∷ t) x n e k =
+    let one : suc n ≡ 1 + n = omega arith in
+    longest_taken f g b (λ w. h b w e) t x n (ap (longest g) (sym (rest_all (b ∷ t) 1)) ∙ k) ∙ ap (λ n. Some (x, n)) one
+
+-- no byte that goes on
+pub begin_none : (f : List ℕ → Option Word) (x : Option Word) → f [] ≡ x → (t : List ℕ) → ((b : ℕ) (u w : List ℕ) → t ≡ b ∷ u → f (b ∷ w) ≡ None) → longest f t ≡ with_bytes 0 x
+begin_none f x e [] h = longest_end f ∙ ap (with_bytes 0) e
+begin_none f x e (b ∷ t) h = longest_stop f b (λ w. h b t w refl) t ∙ ap (with_bytes 0) e
+
+pub begins_at : (p : ℕ → Bool) (t : List ℕ) (b : ℕ) (u : List ℕ) (c : Bool) → begins_with p t ≡ c → t ≡ b ∷ u → p b ≡ c
+begins_at p t b u c e h = ap (begins_with p) (sym h) ∙ e
+
+-- a run of digits, and what is found behind it
+pub digits_then : (f : List ℕ → Option Word) (x : Word) → f [] ≡ Some x → ((b : ℕ) (w : List ℕ) → digit b ≡ true → f (b ∷ w) ≡ f w) → (t : List ℕ) (n : ℕ) → n ≡ run_of digit t → (y : Word) (m : ℕ) → longest f (take (length t - n) (drop n t)) ≡ Some (y, m) → longest f t ≡ Some (y, n + m)
+digits_then f x e h t n same y m g = run_then digit f x e h t n same y m (ap (longest f) (sym (rest_all t n)) ∙ g)
+
+pub no_digit : (t : List ℕ) (n : ℕ) → n ≡ run_of digit t → begins_with digit (take (length t - n) (drop n t)) ≡ false
+no_digit t n same = ap (begins_with digit) (rest_all t n ∙ ap (λ n. drop n t) same) ∙ go (drop (run_of digit t) t) refl
+  where
+    go : (u : List ℕ) → drop (run_of digit t) t ≡ u → begins_with digit u ≡ false
+    go [] e = refl
+    go (b ∷ u) e = behind_run digit t b u e
+
+whole_digit : (b : ℕ) (w : List ℕ) → digit b ≡ true → in_whole (b ∷ w) ≡ in_whole w
+unfolding in_whole
+whole_digit b w e = ap (λ c. cond c (in_whole w) (cond (nat_eq b 46) (in_fraction w) (number_end (b ∷ w)))) e
+
+whole_empty : in_whole [] ≡ Some Numeral
+unfolding in_whole
+whole_empty = refl
+
+pub whole_then : (t : List ℕ) (n : ℕ) → n ≡ run_of digit t → (y : Word) (m : ℕ) → longest in_whole (take (length t - n) (drop n t)) ≡ Some (y, m) → longest in_whole t ≡ Some (y, n + m)
+whole_then = digits_then in_whole Numeral whole_empty whole_digit
+
+-- where no digit stands, a point or the end of the number
+whole_point : (b : ℕ) (w : List ℕ) → digit b ≡ false → nat_eq b 46 ≡ true → in_whole (b ∷ w) ≡ in_fraction w
+unfolding in_whole
+whole_point b w d e = rw (d, e) refl
+
+whole_other : (b : ℕ) (w : List ℕ) → digit b ≡ false → nat_eq b 46 ≡ false → in_whole (b ∷ w) ≡ number_end (b ∷ w)
+unfolding in_whole
+whole_other b w d e = rw (d, e) refl
+
+same_from : (f g : List ℕ → Option Word) → f [] ≡ g [] → (b : ℕ) (t : List ℕ) → ((w : List ℕ) → f (b ∷ w) ≡ g (b ∷ w)) → longest f (b ∷ t) ≡ longest g (b ∷ t)
+same_from f g e b t h = longest_step f (λ w. g (b ∷ w)) b h t ∙ ap (λ x. one_longer (longest (λ w. g (b ∷ w)) t) (with_bytes 0 x)) e ∙ sym (longest_step g (λ w. g (b ∷ w)) b (λ w. refl) t)
+
+pub point_then : (t : List ℕ) (x : Word) (n : ℕ) → begins_with digit t ≡ false → begins_with (has (Byte 46)) t ≡ true → longest in_fraction (take (length t - 1) (drop 1 t)) ≡ Some (x, n) → longest in_whole t ≡ Some (x, 1 + n)
+point_then [] x n d e k = absurd (cc)
+point_then (b ∷ t) x n d e k =
+    let one : suc n ≡ 1 + n = omega arith in
+    longest_taken in_whole in_fraction b (λ w. whole_point b w d e) t x n (ap (longest in_fraction) (sym (rest_all (b ∷ t) 1)) ∙ k) ∙ ap (λ n. Some (x, n)) one
+
+pub whole_ends : (t : List ℕ) (r : Option (Word × ℕ)) → begins_with digit t ≡ false → begins_with (has (Byte 46)) t ≡ false → longest number_end t ≡ r → longest in_whole t ≡ r
+unfolding in_whole
+whole_ends [] r d e k = longest_end in_whole ∙ sym (longest_end number_end) ∙ k
+whole_ends (b ∷ t) r d e k = same_from in_whole number_end refl b t (λ w. whole_other b w d e) ∙ k
+
+fraction_digit : (b : ℕ) (w : List ℕ) → digit b ≡ true → in_fraction (b ∷ w) ≡ in_fraction w
+unfolding in_fraction
+fraction_digit b w e = ap (λ c. cond c (in_fraction w) (number_end (b ∷ w))) e
+
+fraction_empty : in_fraction [] ≡ Some Numeral
+unfolding in_fraction
+fraction_empty = refl
+
+fraction_ends : (t : List ℕ) (r : Option (Word × ℕ)) → begins_with digit t ≡ false → longest number_end t ≡ r → longest in_fraction t ≡ r
+unfolding in_fraction
+fraction_ends [] r d k = longest_end in_fraction ∙ sym (longest_end number_end) ∙ k
+fraction_ends (b ∷ t) r d k = same_from in_fraction number_end refl b t (λ w. ap (λ c. cond c (in_fraction w) (number_end (b ∷ w))) d) ∙ k
+
+pub fraction_then : (t : List ℕ) (n : ℕ) → n ≡ run_of digit t → (y : Word) (m : ℕ) → longest number_end (take (length t - n) (drop n t)) ≡ Some (y, m) → longest in_fraction t ≡ Some (y, n + m)
+fraction_then t n same y m g = digits_then in_fraction Numeral fraction_empty fraction_digit t n same y m (fraction_ends (take (length t - n) (drop n t)) (Some (y, m)) (no_digit t n same) g)
+
+-- the end of a number
+end_power : (b : ℕ) (w : List ℕ) → has Exponent b ≡ true → number_end (b ∷ w) ≡ exponent w
+end_power b w e = ap (λ c. cond c (exponent w) (cond (letter b) (alone NumeralAndLetter w) None)) e
+
+pub power_then : (t : List ℕ) (x : Word) (n : ℕ) → begins_with (has Exponent) t ≡ true → longest exponent (take (length t - 1) (drop 1 t)) ≡ Some (x, n) → longest number_end t ≡ Some (x, 1 + n)
+power_then = begin_then (has Exponent) number_end exponent end_power
+
+end_letter : (b : ℕ) (w : List ℕ) → has Exponent b ≡ false → letter b ≡ true → number_end (b ∷ w) ≡ alone NumeralAndLetter w
+end_letter b w e l = rw (e, l) refl
+
+end_none : (b : ℕ) (w : List ℕ) → has Exponent b ≡ false → letter b ≡ false → number_end (b ∷ w) ≡ None
+end_none b w e l = rw (e, l) refl
+
+pub letter_ends : (t : List ℕ) → begins_with (has Exponent) t ≡ false → begins_with letter t ≡ true → longest number_end t ≡ Some (NumeralAndLetter, 1)
+letter_ends [] e l = absurd (cc)
+letter_ends (b ∷ t) e l = longest_taken number_end (alone NumeralAndLetter) b (λ w. end_letter b w e l) t NumeralAndLetter 0 (longest_alone NumeralAndLetter t)
+
+pub number_ends : (t : List ℕ) → begins_with (has Exponent) t ≡ false → begins_with letter t ≡ false → longest number_end t ≡ Some (Numeral, 0)
+number_ends t e l = begin_none number_end (Some Numeral) refl t (λ b u w h. end_none b w (begins_at (has Exponent) t b u false e h) (begins_at letter t b u false l h))
+
+-- exponents
+exponent_digit : (b : ℕ) (w : List ℕ) → digit b ≡ true → exponent (b ∷ w) ≡ in_exponent w
+exponent_digit b w e = ap (λ c. cond c (in_exponent w) (cond (has Sign b) (after_sign w) None)) e
+
+pub exponent_then : (t : List ℕ) (x : Word) (n : ℕ) → begins_with digit t ≡ true → longest in_exponent (take (length t - 1) (drop 1 t)) ≡ Some (x, n) → longest exponent t ≡ Some (x, 1 + n)
+exponent_then = begin_then digit exponent in_exponent exponent_digit
+
+exponent_sign : (b : ℕ) (w : List ℕ) → digit b ≡ false → has Sign b ≡ true → exponent (b ∷ w) ≡ after_sign w
+exponent_sign b w d e = rw (d, e) refl
+
+exponent_none : (b : ℕ) (w : List ℕ) → digit b ≡ false → has Sign b ≡ false → exponent (b ∷ w) ≡ None
+exponent_none b w d e = rw (d, e) refl
+
+sign_digit : (b : ℕ) (w : List ℕ) → digit b ≡ true → after_sign (b ∷ w) ≡ in_exponent w
+sign_digit b w e = ap (λ c. cond c (in_exponent w) None) e
+
+sign_none : (b : ℕ) (w : List ℕ) → digit b ≡ false → after_sign (b ∷ w) ≡ None
+sign_none b w e = ap (λ c. cond c (in_exponent w) None) e
+
+two_more : (n : ℕ) → suc (suc n) ≡ 2 + n
+two_more n = omega arith
+
+pub sign_then : (t : List ℕ) (x : Word) (n : ℕ) → begins_with digit t ≡ false → begins_with (has Sign) t ≡ true → begins_with digit (take (length t - 1) (drop 1 t)) ≡ true → longest in_exponent (take (length t - 2) (drop 2 t)) ≡ Some (x, n) → longest exponent t ≡ Some (x, 2 + n)
+sign_then [] x n d e g k = absurd (cc)
+sign_then (b ∷ []) x n d e g k = absurd (cc)
+sign_then (b ∷ c ∷ t) x n d e g k =
+    let next : digit c ≡ true = ap (begins_with digit) (sym (rest_all (b ∷ c ∷ t) 1)) ∙ g in
+    longest_taken exponent after_sign b (λ w. exponent_sign b w d e) (c ∷ t) x (suc n)
+    (longest_taken after_sign in_exponent c (λ w. sign_digit c w next) t x n (ap (longest in_exponent) (sym (rest_all (b ∷ c ∷ t) 2)) ∙ k))
+    ∙ ap (λ n. Some (x, n)) (two_more n)
+
+-- a sign with no digit behind it
+sign_alone : (t : List ℕ) → begins_with digit t ≡ false → longest after_sign t ≡ None
+sign_alone t d = begin_none after_sign None refl t (λ b u w h. sign_none b w (begins_at digit t b u false d h))
+
+pub no_exponent : (t : List ℕ) → begins_with digit t ≡ false → begins_with (has Sign) t ≡ false → longest exponent t ≡ Some (NumeralAndLetter, 0)
+no_exponent t d e = begin_none exponent (Some NumeralAndLetter) refl t (λ b u w h. exponent_none b w (begins_at digit t b u false d h) (begins_at (has Sign) t b u false e h))
+
+pub no_power : (t : List ℕ) → begins_with digit t ≡ false → begins_with (has Sign) t ≡ true → begins_with digit (take (length t - 1) (drop 1 t)) ≡ false → longest exponent t ≡ Some (NumeralAndLetter, 0)
+no_power [] d e g = absurd (cc)
+no_power (b ∷ t) d e g =
+    longest_step exponent after_sign b (λ w. exponent_sign b w d e) t
+    ∙ ap (λ r. one_longer r (Some (NumeralAndLetter, 0))) (sign_alone t (ap (begins_with digit) (sym (rest_all (b ∷ t) 1)) ∙ g))
+
+in_exponent_digit : (b : ℕ) (w : List ℕ) → digit b ≡ true → in_exponent (b ∷ w) ≡ in_exponent w
+unfolding in_exponent
+in_exponent_digit b w e = ap (λ c. cond c (in_exponent w) (cond (letter b) (alone NumeralAndLetter w) None)) e
+
+in_exponent_letter : (b : ℕ) (w : List ℕ) → digit b ≡ false → letter b ≡ true → in_exponent (b ∷ w) ≡ alone NumeralAndLetter w
+unfolding in_exponent
+in_exponent_letter b w d e = rw (d, e) refl
+
+in_exponent_none : (b : ℕ) (w : List ℕ) → digit b ≡ false → letter b ≡ false → in_exponent (b ∷ w) ≡ None
+unfolding in_exponent
+in_exponent_none b w d e = rw (d, e) refl
+
+in_exponent_empty : in_exponent [] ≡ Some Numeral
+unfolding in_exponent
+in_exponent_empty = refl
+
+behind_letter : (t : List ℕ) → begins_with digit t ≡ false → begins_with letter t ≡ true → longest in_exponent t ≡ Some (NumeralAndLetter, 1)
+behind_letter [] d e = absurd (cc)
+behind_letter (b ∷ t) d e = longest_taken in_exponent (alone NumeralAndLetter) b (λ w. in_exponent_letter b w d e) t NumeralAndLetter 0 (longest_alone NumeralAndLetter t)
+
+pub power_letter : (t : List ℕ) (n : ℕ) → n ≡ run_of digit t → begins_with letter (take (length t - n) (drop n t)) ≡ true → longest in_exponent t ≡ Some (NumeralAndLetter, n + 1)
+power_letter t n same e = digits_then in_exponent Numeral in_exponent_empty in_exponent_digit t n same NumeralAndLetter 1 (behind_letter (take (length t - n) (drop n t)) (no_digit t n same) e)
+
+pub power_ends : (t : List ℕ) (n : ℕ) → n ≡ run_of digit t → begins_with letter (take (length t - n) (drop n t)) ≡ false → longest in_exponent t ≡ Some (Numeral, n)
+power_ends t n same e =
+    let r = take (length t - n) (drop n t) in
+    let none : n + 0 ≡ n = omega arith in
+    digits_then in_exponent Numeral in_exponent_empty in_exponent_digit t n same Numeral 0
+    (begin_none in_exponent (Some Numeral) in_exponent_empty r (λ b u w h. in_exponent_none b w (begins_at digit r b u false (no_digit t n same) h) (begins_at letter r b u false e h)))
+    ∙ ap (λ n. Some (Numeral, n)) none
+
+-- a point
+point_digit : (b : ℕ) (w : List ℕ) → digit b ≡ true → after_point (b ∷ w) ≡ in_fraction w
+point_digit b w e = ap (λ c. cond c (in_fraction w) None) e
+
+point_none : (b : ℕ) (w : List ℕ) → digit b ≡ false → after_point (b ∷ w) ≡ None
+point_none b w e = ap (λ c. cond c (in_fraction w) None) e
+
+pub fraction_behind : (t : List ℕ) (x : Word) (n : ℕ) → begins_with digit t ≡ true → longest in_fraction (take (length t - 1) (drop 1 t)) ≡ Some (x, n) → longest after_point t ≡ Some (x, 1 + n)
+fraction_behind = begin_then digit after_point in_fraction point_digit
+
+pub point_alone : (t : List ℕ) → begins_with digit t ≡ false → longest after_point t ≡ Some (SymbolWord Dot, 0)
+point_alone t d = begin_none after_point (Some (SymbolWord Dot)) refl t (λ b u w h. point_none b w (begins_at digit t b u false d h))
+
+-- a dollar
+dollar_letter : (b : ℕ) (w : List ℕ) → letter b ≡ true → after_dollar (b ∷ w) ≡ when (every name_byte w) Special
+dollar_letter b w e = ap (λ c. cond c (when (every name_byte w) Special) None) e
+
+dollar_none : (b : ℕ) (w : List ℕ) → letter b ≡ false → after_dollar (b ∷ w) ≡ None
+dollar_none b w e = ap (λ c. cond c (when (every name_byte w) Special) None) e
+
+pub special_name : (t : List ℕ) (n : ℕ) → begins_with letter t ≡ true → n ≡ run_of name_byte (take (length t - 1) (drop 1 t)) → longest after_dollar t ≡ Some (Special, 1 + n)
+special_name t n e h = begin_then letter after_dollar (λ w. when (every name_byte w) Special) dollar_letter t Special n e (longest_every name_byte Special (take (length t - 1) (drop 1 t)) ∙ ap (λ n. Some (Special, n)) (sym h))
+
+pub no_special : (t : List ℕ) → begins_with letter t ≡ false → longest after_dollar t ≡ None
+no_special t e = begin_none after_dollar None refl t (λ b u w h. dollar_none b w (begins_at letter t b u false e h))
+
+-- a slash
+slash_line : (b : ℕ) (w : List ℕ) → nat_eq b 47 ≡ true → after_slash (b ∷ w) ≡ when (every (has InLine) w) Blank
+slash_line b w e = ap (λ c. cond c (when (every (has InLine) w) Blank) (cond (nat_eq b 42) (in_comment w) None)) e
+
+slash_star : (b : ℕ) (w : List ℕ) → nat_eq b 47 ≡ false → nat_eq b 42 ≡ true → after_slash (b ∷ w) ≡ in_comment w
+slash_star b w d e = rw (d, e) refl
+
+slash_none : (b : ℕ) (w : List ℕ) → nat_eq b 47 ≡ false → nat_eq b 42 ≡ false → after_slash (b ∷ w) ≡ None
+slash_none b w d e = rw (d, e) refl
+
+pub line_comment : (t : List ℕ) (n : ℕ) → begins_with (has (Byte 47)) t ≡ true → n ≡ run_of (has InLine) (take (length t - 1) (drop 1 t)) → longest after_slash t ≡ Some (Blank, 1 + n)
+line_comment t n e h = begin_then (has (Byte 47)) after_slash (λ w. when (every (has InLine) w) Blank) slash_line t Blank n e (longest_every (has InLine) Blank (take (length t - 1) (drop 1 t)) ∙ ap (λ n. Some (Blank, n)) (sym h))
+
+pub block_comment : (t : List ℕ) (x : Word) (n : ℕ) → begins_with (has (Byte 47)) t ≡ false → begins_with (has (Byte 42)) t ≡ true → longest in_comment (take (length t - 1) (drop 1 t)) ≡ Some (x, n) → longest after_slash t ≡ Some (x, 1 + n)
+block_comment [] x n d e k = absurd (cc)
+block_comment (b ∷ t) x n d e k =
+    let one : suc n ≡ 1 + n = omega arith in
+    longest_taken after_slash in_comment b (λ w. slash_star b w d e) t x n (ap (longest in_comment) (sym (rest_all (b ∷ t) 1)) ∙ k) ∙ ap (λ n. Some (x, n)) one
+
+pub slash_alone : (t : List ℕ) → begins_with (has (Byte 47)) t ≡ false → begins_with (has (Byte 42)) t ≡ false → longest after_slash t ≡ Some (SymbolWord Divide, 0)
+slash_alone t d e = begin_none after_slash (Some (SymbolWord Divide)) refl t (λ b u w h. slash_none b w (begins_at (has (Byte 47)) t b u false d h) (begins_at (has (Byte 42)) t b u false e h))
+
+-- symbols
+pair_rest : (b c : ℕ) (x : Option Word) → symbol_of b (c ∷ []) ≡ x → (t : List ℕ) → longest (λ w. symbol_of b (c ∷ w)) t ≡ with_bytes 0 x
+pair_rest b c x e t = begin_none (λ w. symbol_of b (c ∷ w)) x e t (λ d u w h. refl)
+
+pub symbol_pair : (b : ℕ) (t : List ℕ) (s : Symbol) → double_of b t ≡ Some s → Some (SymbolWord s, 1) ≡ longest (symbol_of b) t
+symbol_pair b [] s e = absurd (cc)
+symbol_pair b (c ∷ t) s e = sym (longest_taken (symbol_of b) (λ w. symbol_of b (c ∷ w)) c (λ w. refl) t (SymbolWord s) 0 (pair_rest b c (Some (SymbolWord s)) (ap symbol_word e) t))
+
+pub symbol_single : (b : ℕ) (t : List ℕ) (x : Option Symbol) → double_of b t ≡ None → single b ≡ x → longest (symbol_of b) t ≡ with_bytes 0 (symbol_word x)
+symbol_single b [] x e h = longest_end (symbol_of b) ∙ ap (λ x. with_bytes 0 (symbol_word x)) h
+symbol_single b (c ∷ t) x e h =
+    longest_step (symbol_of b) (λ w. symbol_of b (c ∷ w)) c (λ w. refl) t
+    ∙ ap (λ r. one_longer r (with_bytes 0 (symbol_word (single b)))) (pair_rest b c None (ap symbol_word e) t)
+    ∙ ap (λ x. with_bytes 0 (symbol_word x)) h
+
+-- one byte on, in a loop
+pub longest_on : (f g : List ℕ → Option Word) (x : Word) → g [] ≡ Some x → (b : ℕ) → ((w : List ℕ) → f (b ∷ w) ≡ g w) → (t : List ℕ) → longest f (b ∷ t) ≡ more_bytes 1 (longest g t)
+longest_on f g x e b h t =
+    let s = longest_some g x e t in
+    let one : suc s.0.1 ≡ 1 + s.0.1 = omega arith in
+    longest_taken f g b h t s.0.0 s.0.1 s.1 ∙ ap (λ n. Some (s.0.0, n)) one ∙ ap (more_bytes 1) (sym s.1)
+
+more_twice : (n : ℕ) (r : Option (Word × ℕ)) → more_bytes n (more_bytes 1 r) ≡ more_bytes (n + 1) r
+more_twice n None = refl
+more_twice n (Some p) = let same : n + (1 + p.1) ≡ n + 1 + p.1 = omega arith in ap (λ n. Some (p.0, n)) same
+
+-- a loop of two states over a text
+abbrev pub comment_state : Bool → List ℕ → Option Word
+comment_state s w = cond s (after_star w) (in_comment w)
+
+abbrev pub text_state : Bool → List ℕ → Option Word
+text_state s w = cond s (in_escape w) (in_text w)
+
+state_open : (s : Bool) → comment_state s [] ≡ Some OpenComment
+unfolding in_comment after_star
+state_open true = refl
+state_open false = refl
+
+text_open : (s : Bool) → text_state s [] ≡ Some OpenText
+unfolding in_text in_escape
+text_open true = refl
+text_open false = refl
+
+comment_go : (s : Bool) (b : ℕ) (w : List ℕ) → (s && nat_eq b 47) ≡ false → comment_state s (b ∷ w) ≡ comment_state (nat_eq b 42) w
+unfolding in_comment after_star
+comment_go true b w e = ap (λ c. cond c (alone Blank w) (cond (nat_eq b 42) (after_star w) (in_comment w))) e
+comment_go false b w e = refl
+
+pub comment_more : (t : List ℕ) (r : Option (Word × ℕ)) (s : Bool) (n : ℕ) → n < length t → r ≡ more_bytes n (longest (comment_state s) (drop n t)) → (s && nat_eq (get_or t n 0) 47) ≡ false → r ≡ more_bytes (n + 1) (longest (comment_state (nat_eq (get_or t n 0) 42)) (drop (n + 1) t))
+comment_more t r s n l h e =
+    h ∙ ap (λ u. more_bytes n (longest (comment_state s) u)) (drop_more t n l)
+    ∙ ap (more_bytes n) (longest_on (comment_state s) (comment_state (nat_eq (get_or t n 0) 42)) OpenComment (state_open (nat_eq (get_or t n 0) 42)) (get_or t n 0) (λ w. comment_go s (get_or t n 0) w e) (drop (n + 1) t))
+    ∙ more_twice n (longest (comment_state (nat_eq (get_or t n 0) 42)) (drop (n + 1) t))
+
+comment_close : (b : ℕ) (w : List ℕ) → nat_eq b 47 ≡ true → comment_state true (b ∷ w) ≡ alone Blank w
+unfolding after_star
+comment_close b w e = ap (λ c. cond c (alone Blank w) (cond (nat_eq b 42) (after_star w) (in_comment w))) e
+
+pub comment_closed : (t : List ℕ) (r : Option (Word × ℕ)) (s : Bool) (n : ℕ) → n < length t → r ≡ more_bytes n (longest (comment_state s) (drop n t)) → (s && nat_eq (get_or t n 0) 47) ≡ true → r ≡ Some (Blank, n + 1)
+comment_closed t r true n l h e =
+    h ∙ ap (λ u. more_bytes n (longest (comment_state true) u)) (drop_more t n l)
+    ∙ ap (more_bytes n) (longest_taken (comment_state true) (alone Blank) (get_or t n 0) (λ w. comment_close (get_or t n 0) w e) (drop (n + 1) t) Blank 0 (longest_alone Blank (drop (n + 1) t)))
+comment_closed t r false n l h e = absurd (cc)
+
+drop_past : (t : List ℕ) (n : ℕ) → length t ≤ n → drop n t ≡ []
+drop_past [] zero h = refl
+drop_past [] (suc n) h = refl
+drop_past (b ∷ t) zero h = absurd (omega arith)
+drop_past (b ∷ t) (suc n) h = drop_past t n (omega arith)
+
+ends_open : (f : List ℕ → Option Word) (x : Word) → f [] ≡ Some x → (t : List ℕ) (r : Option (Word × ℕ)) (n : ℕ) → length t ≤ n → r ≡ more_bytes n (longest f (drop n t)) → r ≡ Some (x, n)
+ends_open f x e t r n l h =
+    let none : n + 0 ≡ n = omega arith in
+    h ∙ ap (λ u. more_bytes n (longest f u)) (drop_past t n l) ∙ ap (more_bytes n) (longest_end f ∙ ap (with_bytes 0) e) ∙ ap (λ n. Some (x, n)) none
+
+pub comment_open : (t : List ℕ) (r : Option (Word × ℕ)) (s : Bool) (n : ℕ) → length t ≤ n → r ≡ more_bytes n (longest (comment_state s) (drop n t)) → r ≡ Some (OpenComment, n)
+comment_open t r s n = ends_open (comment_state s) OpenComment (state_open s) t r n
+
+pub text_ends : (t : List ℕ) (r : Option (Word × ℕ)) (s : Bool) (n : ℕ) → length t ≤ n → r ≡ more_bytes n (longest (text_state s) (drop n t)) → r ≡ Some (OpenText, n)
+text_ends t r s n = ends_open (text_state s) OpenText (text_open s) t r n
+
+text_go : (s : Bool) (b : ℕ) (w : List ℕ) → nat_eq b 10 ≡ false → (not s && nat_eq b 34) ≡ false → text_state s (b ∷ w) ≡ text_state (not s && nat_eq b 92) w
+unfolding in_text in_escape
+text_go true b w e q = ap (λ c. cond c None (in_text w)) e
+text_go false b w e q = rw (q, e) refl
+
+pub text_more : (t : List ℕ) (r : Option (Word × ℕ)) (s : Bool) (n : ℕ) → n < length t → r ≡ more_bytes n (longest (text_state s) (drop n t)) → (get_or t n 0 ≡ 10 → ⊥) → (not s && nat_eq (get_or t n 0) 34) ≡ false → r ≡ more_bytes (n + 1) (longest (text_state (not s && nat_eq (get_or t n 0) 92)) (drop (n + 1) t))
+text_more t r s n l h e q =
+    let next = not s && nat_eq (get_or t n 0) 92 in
+    h ∙ ap (λ u. more_bytes n (longest (text_state s) u)) (drop_more t n l)
+    ∙ ap (more_bytes n) (longest_on (text_state s) (text_state next) OpenText (text_open next) (get_or t n 0) (λ w. text_go s (get_or t n 0) w (not_equal (get_or t n 0) 10 e) q) (drop (n + 1) t))
+    ∙ more_twice n (longest (text_state next) (drop (n + 1) t))
+
+text_line : (s : Bool) (b : ℕ) (w : List ℕ) → nat_eq b 10 ≡ true → nat_eq b 34 ≡ false → nat_eq b 92 ≡ false → text_state s (b ∷ w) ≡ None
+unfolding in_text in_escape
+text_line true b w e q k = ap (λ c. cond c None (in_text w)) e
+text_line false b w e q k = rw (q, k, e) refl
+
+newline_is : (b : ℕ) → b ≡ 10 → (nat_eq b 10 ≡ true) × (nat_eq b 34 ≡ false) × (nat_eq b 92 ≡ false)
+newline_is b e = subst (λ b. (nat_eq b 10 ≡ true) × (nat_eq b 34 ≡ false) × (nat_eq b 92 ≡ false)) (sym e) (refl, refl, refl)
+
+pub text_newline : (t : List ℕ) (r : Option (Word × ℕ)) (s : Bool) (n : ℕ) → n < length t → r ≡ more_bytes n (longest (text_state s) (drop n t)) → get_or t n 0 ≡ 10 → r ≡ Some (OpenText, n)
+text_newline t r s n l h e =
+    let is = newline_is (get_or t n 0) e in
+    let none : n + 0 ≡ n = omega arith in
+    h ∙ ap (λ u. more_bytes n (longest (text_state s) u)) (drop_more t n l)
+    ∙ ap (more_bytes n) (longest_stop (text_state s) (get_or t n 0) (λ w. text_line s (get_or t n 0) w is.0 is.1 is.2) (drop (n + 1) t) ∙ ap (with_bytes 0) (text_open s))
+    ∙ ap (λ n. Some (OpenText, n)) none
+
+text_quote : (b : ℕ) (w : List ℕ) → nat_eq b 34 ≡ true → text_state false (b ∷ w) ≡ alone Text w
+unfolding in_text
+text_quote b w e = ap (λ c. cond c (alone Text w) (cond (nat_eq b 92) (in_escape w) (cond (nat_eq b 10) None (in_text w)))) e
+
+pub text_closed : (t : List ℕ) (r : Option (Word × ℕ)) (s : Bool) (n : ℕ) → n < length t → r ≡ more_bytes n (longest (text_state s) (drop n t)) → (not s && nat_eq (get_or t n 0) 34) ≡ true → r ≡ Some (Text, n + 1)
+text_closed t r false n l h e =
+    h ∙ ap (λ u. more_bytes n (longest (text_state false) u)) (drop_more t n l)
+    ∙ ap (more_bytes n) (longest_taken (text_state false) (alone Text) (get_or t n 0) (λ w. text_quote (get_or t n 0) w e) (drop (n + 1) t) Text 0 (longest_alone Text (drop (n + 1) t)))
+text_closed t r true n l h e = absurd (cc)
+
+-- what a word is that begins with a byte of a class
+is_blank : (b : ℕ) (w : List ℕ) → blank b ≡ true → word_from b w ≡ alone Blank w
+unfolding word_from
+is_blank b w e = rw e refl
+
+is_name : (b : ℕ) (w : List ℕ) → blank b ≡ false → letter b ≡ true → word_from b w ≡ when (every name_byte w) Name
+unfolding word_from
+is_name b w e f = rw (e, f) refl
+
+is_numeral : (b : ℕ) (w : List ℕ) → blank b ≡ false → letter b ≡ false → digit b ≡ true → word_from b w ≡ in_whole w
+unfolding word_from
+is_numeral b w e f g = rw (e, f, g) refl
+
+pub blank_word : (b : ℕ) (t : List ℕ) → blank b ≡ true → Some (Blank, 0) ≡ longest (word_from b) t
+blank_word b t e = sym (longest_same (word_from b) (alone Blank) (λ w. is_blank b w e) t ∙ longest_alone Blank t)
+
+pub name_word : (b : ℕ) (t : List ℕ) (n : ℕ) → blank b ≡ false → letter b ≡ true → n ≡ run_of name_byte t → Some (Name, n) ≡ longest (word_from b) t
+name_word b t n e f h = ap (λ n. Some (Name, n)) h ∙ sym (longest_same (word_from b) (λ w. when (every name_byte w) Name) (λ w. is_name b w e f) t ∙ longest_every name_byte Name t)
+
+pub numeral_word : (b : ℕ) (t : List ℕ) (r : Option (Word × ℕ)) → blank b ≡ false → letter b ≡ false → digit b ≡ true → longest in_whole t ≡ r → r ≡ longest (word_from b) t
+numeral_word b t r e f g h = sym (longest_same (word_from b) in_whole (λ w. is_numeral b w e f g) t ∙ h)
+
+quote_is : (w : List ℕ) → word_from 34 w ≡ in_text w
+unfolding word_from
+quote_is w = refl
+
+point_is : (w : List ℕ) → word_from 46 w ≡ after_point w
+unfolding word_from
+point_is w = refl
+
+slash_is : (w : List ℕ) → word_from 47 w ≡ after_slash w
+unfolding word_from
+slash_is w = refl
+
+dollar_is : (w : List ℕ) → word_from 36 w ≡ after_dollar w
+unfolding word_from
+dollar_is w = refl
+
+pub dollar_word : (b : ℕ) (t : List ℕ) → b ≡ 36 → longest after_dollar t ≡ longest (word_from b) t
+dollar_word b t e = subst (λ b. longest after_dollar t ≡ longest (word_from b) t) (sym e) (sym (longest_same (word_from 36) after_dollar dollar_is t))
+
+pub text_word : (b : ℕ) (t : List ℕ) (r : Option (Word × ℕ)) → b ≡ 34 → longest in_text t ≡ r → r ≡ longest (word_from b) t
+text_word b t r e h = subst (λ b. r ≡ longest (word_from b) t) (sym e) (sym (longest_same (word_from 34) in_text quote_is t ∙ h))
+
+pub point_word : (b : ℕ) (t : List ℕ) (r : Option (Word × ℕ)) → b ≡ 46 → longest after_point t ≡ r → r ≡ longest (word_from b) t
+point_word b t r e h = subst (λ b. r ≡ longest (word_from b) t) (sym e) (sym (longest_same (word_from 46) after_point point_is t ∙ h))
+
+pub slash_word : (b : ℕ) (t : List ℕ) (r : Option (Word × ℕ)) → b ≡ 47 → longest after_slash t ≡ r → r ≡ longest (word_from b) t
+slash_word b t r e h = subst (λ b. r ≡ longest (word_from b) t) (sym e) (sym (longest_same (word_from 47) after_slash slash_is t ∙ h))
+
+is_symbol : (b : ℕ) (w : List ℕ) → blank b ≡ false → letter b ≡ false → digit b ≡ false → nat_eq b 36 ≡ false → nat_eq b 34 ≡ false → nat_eq b 46 ≡ false → nat_eq b 47 ≡ false → word_from b w ≡ symbol_of b w
+unfolding word_from
+is_symbol b w e f g h i j k = rw (e, f, g, h, i, j, k) refl
+
+pub symbol_found : (b : ℕ) (t : List ℕ) → blank b ≡ false → letter b ≡ false → digit b ≡ false → (b ≡ 36 → ⊥) → (b ≡ 34 → ⊥) → (b ≡ 46 → ⊥) → (b ≡ 47 → ⊥) → longest (symbol_of b) t ≡ longest (word_from b) t
+symbol_found b t e f g h i j k = sym (longest_same (word_from b) (symbol_of b) (λ w. is_symbol b w e f g (not_equal b 36 h) (not_equal b 34 i) (not_equal b 46 j) (not_equal b 47 k)) t)
+
+text_parts : (t : List ℕ) → 0 < length t → get_or t 0 0 ∷ take (length t - 1) (drop 1 t) ≡ t
+text_parts [] h = absurd (omega arith)
+text_parts (b ∷ t) h = ap (λ l. b ∷ l) (rest_all (b ∷ t) 1)
+
+-- the word that a text begins with
+pub found_some : (t : List ℕ) (r : Option (Word × ℕ)) → 0 < length t → r ≡ longest (word_from (get_or t 0 0)) (take (length t - 1) (drop 1 t)) → IfSome (more_bytes 1 r) (λ p. IsLongest t p.1 p.0)
+found_some t None h e = tt
+found_some t (Some p) h e = subst (λ t. IsLongest t (1 + p.1) p.0) (text_parts t h) (longest_is (get_or t 0 0) (take (length t - 1) (drop 1 t)) p.0 p.1 (sym e))
+
+pub found_none : (t : List ℕ) (r : Option (Word × ℕ)) → 0 < length t → r ≡ longest (word_from (get_or t 0 0)) (take (length t - 1) (drop 1 t)) → IfNone (more_bytes 1 r) (HasNoWord t)
+found_none t None h e = subst HasNoWord (text_parts t h) (longest_isnt (get_or t 0 0) (take (length t - 1) (drop 1 t)) (sym e))
+found_none t (Some p) h e = tt
+
+pub no_word : (t : List ℕ) → length t ≡ 0 → HasNoWord t
+no_word [] h zero o l g = absurd (cc)
+no_word [] h (suc m) o l g = absurd (omega arith)
+no_word (b ∷ t) h m o l g = absurd (omega arith)

@@ -1,0 +1,67 @@
+ghost use Rattle.std.specs.Prelude.{◌≡◌, ◌≤◌, IsTrue, length};
+ghost use Rattle.scad_lexer.specs.Words.{has, run_of, begins_with};
+
+/// A class of bytes.
+#[derive(Clone, Copy, Debug, PartialEq, Eq)]
+pub enum Class {
+    /// Space, tab, carriage return and newline.
+    Blank,
+    /// A letter or `_`.
+    Letter,
+    Digit,
+    /// A letter, `_` or a digit.
+    NameByte,
+    /// Any byte but newline.
+    InLine,
+    /// The letter of an exponent.
+    Exponent,
+    /// `+` or `-`.
+    Sign,
+    /// A byte that may stand in a text.
+    Printable,
+    /// One byte.
+    Byte(u8),
+}
+
+impl Class {
+    /// Whether a byte is of this class.
+    pub fn has(self, byte: u8) -> bool
+        ensures { result ≡ has self byte }
+    {
+        match self {
+            Class::Blank => matches!(byte, b' ' | b'\t' | b'\r' | b'\n'),
+            Class::Letter => byte.is_ascii_alphabetic() || byte == b'_',
+            Class::Digit => byte.is_ascii_digit(),
+            Class::NameByte => byte.is_ascii_alphanumeric() || byte == b'_',
+            Class::InLine => byte != b'\n',
+            Class::Exponent => byte == b'e' || byte == b'E',
+            Class::Sign => byte == b'+' || byte == b'-',
+            Class::Printable => (b' '..=b'~').contains(&byte),
+            Class::Byte(only) => byte == only,
+        }
+    }
+
+    /// Whether the text begins with a byte of this class.
+    pub fn begins(self, text: &[u8]) -> bool
+        ensures begins { result ≡ begins_with (has self) text.now }
+        ensures some { IsTrue result → 1 ≤ length text.now }
+    {
+        match text {
+            [] => false,
+            [byte, ..] => self.has(*byte),
+        }
+    }
+
+    /// How many bytes at the front are of this class.
+    #[tactic(auto, using(crate::proofs::Longest::run_more, crate::proofs::Longest::run_stop, crate::proofs::Longest::run_end))]
+    pub fn run(self, text: &[u8]) -> usize
+        ensures run { result ≡ run_of (has self) text.now }
+        ensures within { result ≤ length text.now }
+    {
+        let mut n = 0;
+        while n < text.len() && self.has(text[n]) {
+            n += 1;
+        }
+        n
+    }
+}

@@ -1,0 +1,15 @@
+//! Tokens of the modelling language: a source is blanks, comments and tokens, each as long as
+//! possible.
+#![tactic(auto)]
+
+mod class;
+mod meaning;
+mod scan;
+#[cfg(test)]
+mod tests;
+mod token;
+mod tokens;
+mod word;
+
+pub use token::{Reserved, Symbol, Token, TokenKind};
+pub use tokens::lex;

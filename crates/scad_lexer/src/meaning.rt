@@ -1,0 +1,229 @@
+ghost use Rattle.std.specs.Prelude.{◌≡◌, ◌-◌, ◌^◌, ◌<◌, ◌≤◌, length, IfOk, IfErr, IfSome, IfNone, MatchOption, drop, nat_eq, MatchResult, Ok, Err};
+ghost use Rattle.std.specs.Str.{bytes_eq};
+ghost use Rattle.scad_lexer.specs.Words.{every};
+ghost use Rattle.scad_lexer.specs.Tokens.{reserved_of, escape_at, with_byte, zero_fraction, number_from, numeral_of, letter_behind, decoded, inside, text_of, meaning_of, name_of, IsWithin};
+
+use crate::class::Class;
+use crate::token::{Reserved, TokenKind};
+use crate::word::Word;
+use std::alloc::Global;
+use text_place::{Bytes, FaultKind, NoMemory};
+
+/// What a word stands for.
+#[derive(Drop)]
+pub enum Meaning {
+    /// No token.
+    Blank,
+    Token(TokenKind),
+    /// A fault, and how many bytes of the word stand before it.
+    Fault(FaultKind, usize),
+}
+
+/// What a word stands for, by the kind of word that it is.
+pub fn meant(alloc: Global, word: Word, bytes: &[u8]) -> Result<Meaning, NoMemory>
+    requires { 1 ≤ length bytes.now }
+    ensures means { IfOk result (λ m. m ≡ meaning_of word bytes.now) }
+    ensures within { IfOk result (λ m. IsWithin (length bytes.now) m) }
+{
+    match word {
+        Word::Blank => Ok(Meaning::Blank),
+        Word::OpenComment => Ok(Meaning::Fault(FaultKind::OpenComment, 0)),
+        Word::OpenText => Ok(Meaning::Fault(FaultKind::OpenText, 0)),
+        Word::Name => Ok(Meaning::Token(name(alloc, bytes)?)),
+        Word::Special => Ok(Meaning::Token(TokenKind::Special(Bytes::of(bytes[1..].to_vec(
+            alloc,
+        )?)))),
+        Word::Numeral => Ok(numeral(bytes)),
+        Word::NumeralAndLetter => Ok(numeral_and_letter(bytes)),
+        Word::Text => text(alloc, bytes),
+        Word::Symbol(symbol) => Ok(Meaning::Token(TokenKind::Symbol(symbol))),
+    }
+}
+
+fn name(alloc: Global, bytes: &[u8]) -> Result<TokenKind, NoMemory>
+    ensures { IfOk result (λ k. k ≡ name_of bytes.now) }
+{
+    match reserved(bytes) {
+        Some(reserved) => Ok(TokenKind::Reserved(reserved)),
+        None => Ok(TokenKind::Name(Bytes::of(bytes.to_vec(alloc)?))),
+    }
+}
+
+fn same(word: &[u8], name: &[u8]) -> bool
+    ensures { result ≡ bytes_eq word.now name.now }
+{
+    word == name
+}
+
+/// The reserved name that a word is, if it is one.
+fn reserved(word: &[u8]) -> Option<Reserved>
+    ensures { result ≡ reserved_of word.now }
+{
+    if same(word, b"module") {
+        Some(Reserved::Module)
+    } else if same(word, b"function") {
+        Some(Reserved::Function)
+    } else if same(word, b"if") {
+        Some(Reserved::If)
+    } else if same(word, b"else") {
+        Some(Reserved::Else)
+    } else if same(word, b"for") {
+        Some(Reserved::For)
+    } else if same(word, b"intersection_for") {
+        Some(Reserved::IntersectionFor)
+    } else if same(word, b"true") {
+        Some(Reserved::True)
+    } else if same(word, b"false") {
+        Some(Reserved::False)
+    } else if same(word, b"undef") {
+        Some(Reserved::Undef)
+    } else if same(word, b"use") {
+        Some(Reserved::Use)
+    } else if same(word, b"include") {
+        Some(Reserved::Include)
+    } else if same(word, b"let") {
+        Some(Reserved::Let)
+    } else if same(word, b"each") {
+        Some(Reserved::Each)
+    } else {
+        None
+    }
+}
+
+/// What a numeral stands for.
+fn numeral(bytes: &[u8]) -> Meaning
+    ensures means { result ≡ numeral_of bytes.now }
+    ensures within { IsWithin 0 result }
+{
+    let digits = Class::Digit.run(bytes);
+    if !is_zero_fraction(&bytes[digits..]) {
+        return Meaning::Fault(FaultKind::NotWhole, 0);
+    }
+    match number(&bytes[..digits]) {
+        Some(number) => Meaning::Token(TokenKind::Numeral(number)),
+        None => Meaning::Fault(FaultKind::TooLarge, 0),
+    }
+}
+
+/// Whether what follows the whole part is nothing, or a point and zeros.
+fn is_zero_fraction(bytes: &[u8]) -> bool
+    ensures { result ≡ zero_fraction bytes.now }
+{
+    match bytes {
+        [] => true,
+        _ => Class::Byte(b'.').begins(bytes) && is_zeros(&bytes[1..]),
+    }
+}
+
+fn is_zeros(bytes: &[u8]) -> bool
+    ensures { result ≡ every (λ c. nat_eq c 48) bytes.now }
+{
+    for byte in bytes {
+        if *byte != b'0' {
+            return false;
+        }
+    }
+    true
+}
+
+/// The number that digits write, where it is below 2^53.
+fn number(digits: &[u8]) -> Option<u64>
+    ensures { MatchOption result (2 ^ 53 ≤ number_from 0 digits.now) (λ n. (n ≡ number_from 0 digits.now) × (n < 2 ^ 53)) }
+{
+    let mut number: u64 = 0;
+    for digit in digits {
+        number = number * 10 + u64::from(digit.saturating_sub(b'0'));
+        if number >= 1 << 53 {
+            return None;
+        }
+    }
+    Some(number)
+}
+
+/// The fault of a numeral with a letter behind it.
+fn numeral_and_letter(bytes: &[u8]) -> Meaning
+    requires { 1 ≤ length bytes.now }
+    ensures means { result ≡ letter_behind bytes.now }
+    ensures within { IsWithin (length bytes.now) result }
+{
+    let letter = bytes.len() - 1;
+    match numeral(&bytes[..letter]) {
+        Meaning::Fault(kind, before) => Meaning::Fault(kind, before),
+        _ => Meaning::Fault(FaultKind::BadCharacter, letter),
+    }
+}
+
+/// What a text with both its quotes stands for.
+fn text(alloc: Global, bytes: &[u8]) -> Result<Meaning, NoMemory>
+    ensures means { IfOk result (λ m. m ≡ text_of bytes.now) }
+    ensures within { IfOk result (λ m. IsWithin (length bytes.now) m) }
+{
+    match decode(alloc, without_quotes(bytes))? {
+        Ok(bytes) => Ok(Meaning::Token(TokenKind::Text(Bytes::of(bytes)))),
+        Err(before) => Ok(Meaning::Fault(FaultKind::BadCharacter, 1 + before)),
+    }
+}
+
+fn without_quotes(bytes: &[u8]) -> &[u8]
+    ensures inside { result.now ≡ inside bytes.now }
+    ensures within { length result.now ≡ length bytes.now - 1 - 1 }
+{
+    if bytes.len() < 2 {
+        &[]
+    } else {
+        &bytes[1..bytes.len() - 1]
+    }
+}
+
+/// The bytes that the inside of a text writes, or how many bytes stand before its first fault.
+fn decode(alloc: Global, inside: &[u8]) -> Result<Result<Vec<u8>, usize>, NoMemory>
+    ensures value { IfOk result (λ r. MatchResult r (λ v. decoded inside.now ≡ Ok v.items) (λ n. decoded inside.now ≡ Err n)) }
+    ensures within { IfOk result (λ r. IfErr r (λ n. n < length inside.now)) }
+{
+    let mut bytes = Vec::new(alloc);
+    let mut count = 0;
+    while count < inside.len() {
+        match next_byte(&inside[count..]) {
+            Some((byte, written)) => {
+                bytes.push(byte)?;
+                count += written;
+            }
+            None => return Ok(Err(count)),
+        }
+    }
+    Ok(Ok(bytes))
+}
+
+/// The byte that the front of a text's inside writes, and in how many bytes.
+fn next_byte(inside: &[u8]) -> Option<(u8, usize)>
+    requires { 1 ≤ length inside.now }
+    ensures some { IfSome result (λ p. decoded inside.now ≡ with_byte p.0 p.1 (decoded (drop p.1 inside.now))) }
+    ensures within { IfSome result (λ p. (1 ≤ p.1) × (p.1 ≤ length inside.now)) }
+    ensures none { IfNone result (decoded inside.now ≡ Err 0) }
+{
+    if Class::Byte(b'\\').begins(inside) {
+        match escape(&inside[1..]) {
+            Some(byte) => Some((byte, 2)),
+            None => None,
+        }
+    } else if Class::Printable.begins(inside) {
+        Some((inside[0], 1))
+    } else {
+        None
+    }
+}
+
+/// The byte that an escape stands for, behind its backslash.
+fn escape(text: &[u8]) -> Option<u8>
+    ensures found { result ≡ escape_at text.now }
+    ensures some { IfSome result (λ b. 1 ≤ length text.now) }
+{
+    match text {
+        [b'"', ..] => Some(b'"'),
+        [b'\\', ..] => Some(b'\\'),
+        [b'n', ..] => Some(b'\n'),
+        [b't', ..] => Some(b'\t'),
+        [b'r', ..] => Some(b'\r'),
+        _ => None,
+    }
+}

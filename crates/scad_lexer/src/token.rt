@@ -1,0 +1,77 @@
+use text_place::{Bytes, Place};
+
+/// A token of a source.
+#[derive(Drop)]
+pub struct Token {
+    pub kind: TokenKind,
+    /// Where its first byte stands.
+    pub place: Place,
+}
+
+/// What a token is.
+#[derive(Drop)]
+pub enum TokenKind {
+    /// A whole number, at most 2^53 - 1.
+    Numeral(u64),
+    /// A name that is not reserved.
+    Name(Bytes),
+    /// A special name, without its `$`.
+    Special(Bytes),
+    /// A text, without its quotes and with its escapes replaced.
+    Text(Bytes),
+    Reserved(Reserved),
+    Symbol(Symbol),
+    /// The end of the source.
+    End,
+}
+
+/// A name that is reserved.
+#[derive(Clone, Copy, Debug, PartialEq, Eq)]
+pub enum Reserved {
+    Module,
+    Function,
+    If,
+    Else,
+    For,
+    IntersectionFor,
+    True,
+    False,
+    Undef,
+    Use,
+    Include,
+    Let,
+    Each,
+}
+
+/// A symbol of one or two bytes.
+#[derive(Clone, Copy, Debug, PartialEq, Eq)]
+pub enum Symbol {
+    OpenParenthesis,
+    CloseParenthesis,
+    OpenBracket,
+    CloseBracket,
+    OpenBrace,
+    CloseBrace,
+    Comma,
+    Semicolon,
+    Assign,
+    Colon,
+    Question,
+    Dot,
+    Plus,
+    Minus,
+    Times,
+    Divide,
+    Remainder,
+    Less,
+    Greater,
+    LessEqual,
+    GreaterEqual,
+    Equal,
+    NotEqual,
+    And,
+    Or,
+    Not,
+    Hash,
+    Caret,
+}

@@ -1,0 +1,99 @@
+ghost use Rattle.std.specs.Prelude.{◌≡◌, ◌+◌, ◌-◌, ◌^◌, ◌<◌, ◌≤◌, ◌++◌, length, take, IfOk, IfErr, OnOk};
+ghost use Rattle.scad_lexer.specs.Words.{IsLongest};
+ghost use Rattle.scad_lexer.specs.Tokens.{Outcome, Gives, Lexes, Agrees, IsFault, IsFaultFrom, moved, IsNext, made};
+
+use crate::meaning::{Meaning, meant};
+use crate::scan::longest_word;
+use crate::token::{Token, TokenKind};
+use std::alloc::Global;
+use text_place::{Fault, FaultKind, NoMemory, Place, Stop};
+
+/// The tokens of a source with fewer than 2^32 - 1 bytes, the last of which is `End`, or its first
+/// fault: `BadCharacter`, `OpenComment`, `OpenText`, `NotWhole` or `TooLarge`.
+pub fn lex(alloc: Global, text: &[u8]) -> Result<Vec<Token>, Stop>
+    requires { length text.now < 2 ^ 32 - 1 }
+    // What is given are the source's tokens, each as long as possible.
+    ensures found { IfOk result (λ ts. Lexes text.now (Gives ts.items)) }
+    // A fault is the source's first one, at its place.
+    ensures fault { IfErr result (λ stop. IsFault text.now stop) }
+    // What the source gives is answered, unless memory runs out.
+    ensures only { (o : Outcome) → Lexes text.now o → Agrees result o }
+{
+    read_tokens(alloc, text)
+}
+
+fn read_tokens(alloc: Global, text: &[u8]) -> Result<Vec<Token>, Stop>
+    requires { length text.now < 2 ^ 32 - 1 }
+    ensures found { IfOk result (λ ts. Lexes text.now (Gives ts.items)) }
+    ensures fault { IfErr result (λ stop. IsFault text.now stop) }
+{
+    let mut tokens = Vec::new(alloc);
+    let mut rest = text;
+    let mut place = Place { line: 1, column: 1 };
+    'words: while !rest.is_empty() {
+        let (kind, bytes) = next_word(alloc, place, rest)?;
+        push_token(&mut tokens, kind, place)?;
+        place = advance(place, &rest[..bytes]);
+        rest = &rest[bytes..];
+    }
+    push_token(&mut tokens, Some(TokenKind::End), place)?;
+    Ok(tokens)
+}
+
+/// The token that the longest word here makes, if it makes one, and how many bytes the word has.
+fn next_word(alloc: Global, place: Place, rest: &[u8]) -> Result<(Option<TokenKind>, usize), Stop>
+    requires some { 1 ≤ length rest.now }
+    requires line { place.line + length rest.now < 2 ^ 32 }
+    requires column { place.column + length rest.now < 2 ^ 32 }
+    ensures found { IfOk result (λ p. IsNext rest.now p.1 p.0) }
+    ensures fault { IfErr result (λ stop. IsFaultFrom place rest.now stop) }
+{
+    let Some((word, bytes)) = longest_word(rest) else {
+        return Err(Stop::Fault(Fault {
+            kind: FaultKind::BadCharacter,
+            place,
+        }));
+    };
+    match meant(alloc, word, &rest[..bytes])? {
+        Meaning::Blank => Ok((None, bytes)),
+        Meaning::Token(kind) => Ok((Some(kind), bytes)),
+        Meaning::Fault(kind, before) => Err(Stop::Fault(Fault {
+            kind,
+            place: advance(place, &rest[..before]),
+        })),
+    }
+}
+
+fn push_token(
+    tokens: &mut Vec<Token>,
+    kind: Option<TokenKind>,
+    place: Place,
+) -> Result<(), NoMemory>
+    ensures { OnOk result (tokens.new.items ≡ tokens.old.items ++ made place kind) }
+{
+    if let Some(kind) = kind {
+        tokens.push(Token { kind, place })?;
+    }
+    Ok(())
+}
+
+/// The place behind these bytes.
+fn advance(place: Place, bytes: &[u8]) -> Place
+    requires line { place.line + length bytes.now < 2 ^ 32 }
+    requires column { place.column + length bytes.now < 2 ^ 32 }
+    ensures moved { result ≡ moved place bytes.now }
+    ensures line { result.line ≤ place.line + length bytes.now }
+    ensures column { result.column ≤ place.column + length bytes.now }
+{
+    let mut line = place.line;
+    let mut column = place.column;
+    for byte in bytes {
+        if *byte == b'\n' {
+            line += 1;
+            column = 1;
+        } else {
+            column += 1;
+        }
+    }
+    Place { line, column }
+}
