@@ -152,14 +152,20 @@ pub fn run<F: Fit, N: Namer<F::Key>, W: Work<F>>(
 
 /// Isolation: two works that agree on a client's commands give that client equal replies, for as many
 /// commands as both answered, whatever the other clients, the names, the budgets and the events are.
-pub fn isolated<F: Fit, N: Namer<F::Key>, M: Namer<F::Key>, W: Work<F>>(
+pub fn isolated<
+    F: Fit,
+    N: Namer<F::Key>,
+    M: Namer<F::Key>,
+    W: Work<F>,
+    U: Work<F, Reply = W::Reply>,
+>(
     first: &World<F, N, W>,
-    second: &World<F, M, W>,
+    second: &World<F, M, U>,
     client: u32,
 )
     requires first { client < length first.now.1.parts }
     requires second { client < length second.now.1.parts }
-    requires agree { AgreeOn (W.tasks first.now.0) (W.tasks second.now.0) client }
+    requires agree { AgreeOn (W.tasks first.now.0) (U.tasks second.now.0) client }
     ensures { SameReplies first.now.1 second.now.1 client }
 {
     let _first = first.replies(client);

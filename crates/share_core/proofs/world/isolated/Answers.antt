@@ -10,6 +10,6 @@ returns g c p q ep eq n l m =
     let la : n ≤ length c.replies-first.result.now = subst (λ rs. n ≤ length rs) ra l in
     let lb : n ≤ length c.replies-second.result.now = subst (λ rs. n ≤ length rs) rb m in
     ap (take n) ra
-    ∙ same_from ((g.W.Work.tasks c.args.first.now.0).reply c.args.client) ((g.W.Work.tasks c.args.second.now.0).reply c.args.client) 0 c.replies-first.result.now c.replies-second.result.now n c.replies-first.ensures.answered c.replies-second.ensures.answered
+    ∙ same_from ((g.W.Work.tasks c.args.first.now.0).reply c.args.client) ((g.U.Work.tasks c.args.second.now.0).reply c.args.client) 0 c.replies-first.result.now c.replies-second.result.now n c.replies-first.ensures.answered c.replies-second.ensures.answered
     (λ i x y. c.requires.agree i (omega (arith, x, c.replies-first.ensures.within)) (omega (arith, y, c.replies-second.ensures.within))) la lb
     ∙ sym (ap (take n) rb)
