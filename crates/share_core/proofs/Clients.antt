@@ -1,17 +1,15 @@
 -- The clients' parts, and one event on them.
-use Rattle.std.proofs.Common.{◌≡◌, ◌≢◌, ℕ, zero, suc, ◌+◌, ◌<◌, ◌≤◌, Bool, true, false, List, [], ◌∷◌, map, length, refl, ap, sym, subst, ◌∙◌, arith, Some, None, option_map, replicate, set}
-use Rattle.std.specs.Prelude.{Option, slice_get}
+use Rattle.std.proofs.Common.{◌≡◌, ◌≢◌, ℕ, zero, suc, ◌+◌, Bool, false, List, [], ◌∷◌, refl, ap, sym, subst, ◌∙◌, arith, Some, replicate, set}
+use Rattle.std.specs.Prelude.{slice_get}
 use Rattle.std.specs.Option.{option_map_or}
 use Rattle.std.proofs.lemmas.Option.{none-some, same_Some}
 use Rattle.memo_core.specs.Views.{Core}
-use Rattle.share_core.specs.Views.{Part, Tasks, Machine, settled}
-use Rattle.share_core.specs.Fields.{IsSoundPart, AreSoundParts, part_of, machine_of, nobody}
+use Rattle.share_core.specs.Views.{Part, Tasks, Machine}
+use Rattle.share_core.specs.Fields.{IsSoundPart, AreSoundParts, nobody}
 use Rattle.share_core.specs.Steps.{Answers, Steps, Changes, is_possible, can_do}
-use Rattle.share_core.specs.declared.parts.ClientPart.{ClientPart}
 use Rattle.share_core.specs.declared.event.Event.{Event}
 use Rattle.share_core.specs.declared.event.Stepped.{Stepped}
 use Rattle.share_core.specs.declared.event.Stepped.TheVariants.{Taken, NotReady}
-use Rattle.share_core.proofs.Lists.{map_set}
 
 module _ {A : Type 0} where
   -- what stands at a place, put there again

@@ -1,11 +1,11 @@
 -- What the nodes of a sound part keep.
-use Rattle.std.proofs.Common.{◌≡◌, ◌≢◌, ℕ, zero, suc, ◌+◌, ◌<◌, ◌≤◌, Bool, true, false, cond, ◌&&◌, List, [], ◌∷◌, ◌++◌, map, length, refl, ap, sym, subst, ◌∙◌, arith, Some, None, option_map, replicate, set}
-use Rattle.std.specs.Prelude.{Option, IfSome, slice_get}
+use Rattle.std.proofs.Common.{◌≡◌, ℕ, zero, suc, ◌+◌, ◌<◌, Bool, true, false, cond, ◌&&◌, List, [], ◌∷◌, length, refl, ap, sym, subst, ◌∙◌, arith, Some, None, replicate, set}
+use Rattle.std.specs.Prelude.{Option, slice_get}
 use Rattle.std.proofs.lemmas.Option.{none-some, same_Some, slice_get_within}
 use Rattle.std.specs.Option.{option_map_or}
-use Rattle.share_core.specs.Views.{Node, Unasked, Missed, Built, There, Part, Tasks, HaveFits, AllThere, MoreThere}
+use Rattle.share_core.specs.Views.{Node, Unasked, Missed, Built, There, Tasks, HaveFits, AllThere, MoreThere}
 use Rattle.share_core.specs.Fields.{value_of, have, IsSoundNode, AreSoundNodes}
-use Rattle.share_core.specs.Steps.{all_there, is_there, is_at, is_missed, is_unasked}
+use Rattle.share_core.specs.Steps.{all_there, is_at, is_missed, is_unasked}
 
 pub never : false ≡ true → ⊥
 never p = subst (λ (b : Bool). cond b ⊥ (Unit {0})) p tt

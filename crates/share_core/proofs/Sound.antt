@@ -1,14 +1,14 @@
 -- What each act keeps of a client's part.
-use Rattle.std.proofs.Common.{◌≡◌, ℕ, zero, suc, ◌+◌, ◌<◌, ◌≤◌, Bool, true, false, cond, ◌&&◌, List, [], ◌∷◌, ◌++◌, map, length, refl, ap, sym, subst, ◌∙◌, arith, Some, None, option_map, replicate, set}
-use Rattle.std.specs.Prelude.{Option, IfSome, slice_get, nat_lt, is_none}
+use Rattle.std.proofs.Common.{◌≡◌, ℕ, ◌+◌, ◌<◌, true, false, ◌&&◌, List, [], ◌∷◌, ◌++◌, length, refl, ap, subst, ◌∙◌, arith, Some, None, option_map, replicate, set}
+use Rattle.std.specs.Prelude.{Option, IfSome, slice_get}
 use Rattle.std.proofs.lemmas.Option.{none-some, same_Some, slice_get_within}
 use Rattle.std.specs.Option.{option_map_or}
 use Rattle.std.proofs.lemmas.List.{length-append, length-set, length-replicate}
-use Rattle.share_core.specs.Views.{Node, Unasked, Missed, Built, There, Part, Tasks, HaveFits, AllThere, MoreThere}
+use Rattle.share_core.specs.Views.{Node, Unasked, Missed, Built, There, Part, Tasks, MoreThere}
 use Rattle.share_core.specs.Fields.{value_of, have, IsSoundNode, AreSoundNodes, IsSoundPart, AreRepliesFrom}
-use Rattle.share_core.specs.Steps.{all_there, is_there, key_at, node_at, with_node, begun, replied, can_do, is_at, is_unasked, is_missed}
+use Rattle.share_core.specs.Steps.{all_there, key_at, node_at, with_node, begun, replied, can_do, is_at, is_unasked, is_missed}
 use Rattle.share_core.specs.declared.event.Act.TheVariants.{Probe, Build, Reply}
-use Rattle.share_core.proofs.Nodes.{never, both, unasked_at, missed_at, sound_at, more_set, node_stays, nodes_stay, sound_set, unasked_sound, have_fits}
+use Rattle.share_core.proofs.Nodes.{never, both, unasked_at, missed_at, sound_at, more_set, node_stays, nodes_stay, sound_set, unasked_sound}
 
 -- one reply more
 pub replies_more : {R : Type 0} (f : ℕ → R) (n : ℕ) (rs : List R) (r : R) → AreRepliesFrom f n rs → r ≡ f (n + length rs) → AreRepliesFrom f n (rs ++ r ∷ [])

@@ -1,15 +1,15 @@
 -- What whole runs leave.
-use Rattle.std.proofs.Common.{◌≡◌, ◌≢◌, ℕ, zero, suc, ◌+◌, ◌-◌, ◌<◌, ◌≤◌, take, Bool, true, false, cond, ◌⊎◌, inl, inr, List, [], ◌∷◌, ◌++◌, map, length, refl, ap, sym, subst, ◌∙◌, arith, Some, None, replicate, set, nat_eq}
-use Rattle.std.specs.Prelude.{Option, slice_get, if◌then◌else◌, nat_lt}
+use Rattle.std.proofs.Common.{◌≡◌, ℕ, zero, suc, ◌+◌, ◌-◌, ◌<◌, ◌≤◌, take, Bool, true, false, cond, inl, inr, List, [], ◌∷◌, ◌++◌, length, refl, ap, sym, subst, ◌∙◌, arith, Some, replicate, set, nat_eq}
+use Rattle.std.specs.Prelude.{slice_get, if◌then◌else◌, nat_lt}
 use Rattle.std.proofs.lemmas.Option.{none-some, same_Some}
 use Rattle.std.proofs.lemmas.List.{map-append, append-nil, append_assoc, length-append}
 use Rattle.std.proofs.lemmas.Bool.Decides.{nat_tests}
-use Rattle.memo_core.specs.Memo.{Item, Said, Probe_said, Fill_said, Entry, item, holds, filled, fill_said, pushed, mark_of}
-use Rattle.memo_core.specs.Views.{Core, mark_in, after_probe, after_fill}
-use Rattle.share_core.specs.Views.{Part, Tasks, Machine, Node}
+use Rattle.memo_core.specs.Memo.{Fill_said, Entry, holds, fill_said, pushed, mark_of}
+use Rattle.memo_core.specs.Views.{Core, mark_in}
+use Rattle.share_core.specs.Views.{Part, Tasks, Machine}
 use Rattle.share_core.specs.Fields.{AreRepliesFrom, nobody}
-use Rattle.share_core.specs.Steps.{Answers, Steps, Changes, is_possible, key_at, with_node, begun, replied, first_machine}
-use Rattle.share_core.specs.Runs.{Runs, Leaves, Call, call_of, calls_of, call_by, calls_after, replies_in, reply_of, fills}
+use Rattle.share_core.specs.Steps.{Answers, Steps, Changes, is_possible, key_at, first_machine}
+use Rattle.share_core.specs.Runs.{Runs, Leaves, call_of, calls_of, call_by, calls_after, replies_in, reply_of, fills}
 use Rattle.share_core.specs.declared.event.Act.{Act}
 use Rattle.share_core.specs.declared.event.Act.TheVariants.{Command, Probe, Build, Fill, Reply}
 use Rattle.share_core.specs.declared.event.Event.{Event}
@@ -89,6 +89,21 @@ module _ {K V R : Type 0} (same : K → K → Bool) (name_of : K → List ℕ) (
   passed_more m [] ts n e n' r p s = inl (ap (λ x. is_possible tasks x e) (sym r.1) ∙ p, (r.0, s ∙ r.1))
   passed_more m (x ∷ xs) ts n e n' (inl r) p s = inl (r.0, passed_more m xs ts n e n' r.1 p s)
   passed_more m (x ∷ xs) ts n e n' (inr r) p s = inr (r.0, (r.1.0, r.1.1, r.1.2, r.1.3, passed_more r.1.0 xs r.1.1 n e n' r.1.4 p s))
+
+  -- no act changes the budget
+  pub act_budget : (client : ℕ) (act : Act) (m : Core K V) (p : Part V R) (n : Core K V) (q : Part V R) → Changes same name_of fits weighs tasks client act m p n q
+      → n.budget ≡ m.budget
+  act_budget client Command m p n q c = ap (λ x. x.budget) c.0
+  act_budget client (Probe k) m p n q c = ap (λ x. x.budget) c.0
+  act_budget client (Build k) m p n q c = ap (λ x. x.budget) c.4
+  act_budget client (Fill k) m p n q c = ap (λ x. x.budget) c.3
+  act_budget client Reply m p n q c = ap (λ x. x.budget) c.0
+
+  -- nor does a run
+  pub run_budget : (m : Machine K V R) (es ts : List Event) (n : Machine K V R) → Runs same name_of fits weighs tasks m es ts n → n.memo.budget ≡ m.memo.budget
+  run_budget m [] ts n r = ap (λ x. x.memo.budget) r.1
+  run_budget m (x ∷ xs) ts n (inl r) = run_budget m xs ts n r.1
+  run_budget m (x ∷ xs) ts n (inr r) = let s = r.1.2 in run_budget r.1.0 xs r.1.1 n r.1.4 ∙ act_budget x.client x.act m.memo s.0 r.1.0.memo s.1 s.3
 
   -- at first nothing has happened
   pub first_leaves : (clients budget : ℕ) → Leaves tasks [] (first_machine clients budget)

@@ -1,8 +1,8 @@
 -- How the fields of a world stand for what contracts see, and what each part keeps.
-use Rattle.std.specs.Prelude.{◌≡◌, ℕ, ◌+◌, ◌<◌, ◌≤◌, Bool, true, List, [], ◌∷◌, map, length, Option, Some, None, option_map, IfSome, slice_index_or}
+use Rattle.std.specs.Prelude.{◌≡◌, ℕ, ◌+◌, ◌<◌, ◌≤◌, true, List, [], ◌∷◌, map, length, Option, Some, None, option_map, IfSome}
 use Rattle.std.specs.Arc.{arc_value}
 use Rattle.memo_core.specs.Views.{Core}
-use Rattle.share_core.specs.Views.{Node, Unasked, Missed, Built, There, Part, Tasks, HaveFits, Machine, settled}
+use Rattle.share_core.specs.Views.{Node, Unasked, Missed, Built, There, Part, Tasks, Machine, settled}
 use Rattle.share_core.specs.declared.parts.NodeState.{NodeState}
 use Rattle.share_core.specs.declared.parts.NodeState.TheVariants as state
 use Rattle.share_core.specs.declared.parts.ClientPart.{ClientPart}

@@ -1,5 +1,5 @@
 -- The pure machine: what the clients do, how far each of them is, and the one memo.
-use Rattle.std.specs.Prelude.{◌≡◌, ℕ, ◌+◌, ◌<◌, List, [], ◌∷◌, Option, Some, None, Bool, true, option_map, slice_set}
+use Rattle.std.specs.Prelude.{◌≡◌, ℕ, ◌+◌, List, [], ◌∷◌, Option, Some, None, Bool}
 use Rattle.memo_core.specs.Views.{Core}
 
 -- What the clients do: how many commands a client has, how many nodes a command has, each node's key,

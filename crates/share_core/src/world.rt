@@ -1,4 +1,6 @@
-ghost use Rattle.std.specs.Prelude.{◌≡◌, ◌≢◌, ℕ, ◌<◌, List, map, length, IfOk, OnErr, slice_get};
+ghost use Rattle.std.specs.Prelude.{◌≡◌, ◌≢◌, ℕ, ◌<◌, List, [], map, length, IfOk, OnErr, slice_get};
+ghost use Rattle.memo_core.specs.Memo.{IsLegal, replay};
+ghost use Rattle.memo_core.specs.Views.{marks};
 ghost use Rattle.share_core.specs.Fields.{AreSoundParts, part_of, machine_of};
 ghost use Rattle.share_core.specs.Steps.{Answers, Steps, is_possible, first_machine};
 ghost use Rattle.share_core.specs.Runs.{Runs, Leaves, AgreeOn, SameReplies};
@@ -127,7 +129,7 @@ fn step_parts<F: Fit, N: Namer<F::Key>, W: Work<F>>(
 }
 
 /// Takes a list of events in order, from the first state on. An event that is not possible changes
-/// nothing, and the next one follows.
+/// nothing, and the next one follows. The journal that is left is legal, and its replay is the memo.
 pub fn run<F: Fit, N: Namer<F::Key>, W: Work<F>>(
     alloc: Global,
     fit: F,
@@ -142,11 +144,15 @@ pub fn run<F: Fit, N: Namer<F::Key>, W: Work<F>>(
     ensures runs { IfOk result (λ w. (taken : List Event)
         × Runs F.same_key N.name_of F.fits F.weighs (W.tasks work) (first_machine clients budget) events.now taken w.1
         × Leaves (W.tasks work) taken w.1) }
+    ensures legal { IfOk result (λ w. IsLegal F.same_key N.name_of budget [] w.1.memo.journal) }
+    ensures replayed { IfOk result (λ w. marks w.1.memo.entries ≡
+        replay F.same_key N.name_of budget [] w.1.memo.journal) }
 {
     let mut world = World::new(alloc, fit, namer, work, clients, budget)?;
     for event in events {
         world.step(alloc, *event)?;
     }
+    let _journal = world.journal();
     Ok(world)
 }
 
@@ -158,11 +164,7 @@ pub fn isolated<
     M: Namer<F::Key>,
     W: Work<F>,
     U: Work<F, Reply = W::Reply>,
->(
-    first: &World<F, N, W>,
-    second: &World<F, M, U>,
-    client: u32,
-)
+>(first: &World<F, N, W>, second: &World<F, M, U>, client: u32)
     requires first { client < length first.now.1.parts }
     requires second { client < length second.now.1.parts }
     requires agree { AgreeOn (W.tasks first.now.0) (U.tasks second.now.0) client }

@@ -1,4 +1,4 @@
-use Rattle.std.proofs.Common.{rules, ◌≡◌, ◌∙◌, map, ap, sym, subst, true, option_map, Some, List, length}
+use Rattle.std.proofs.Common.{rules, ◌≡◌, map, ap, true, option_map, length}
 use Rattle.std.specs.Arc.{arc_value}
 use Rattle.share_core.specs.Fields.{node_of, part_of, have}
 use Rattle.share_core.specs.Steps.{all_there}

@@ -1,11 +1,8 @@
-use Rattle.std.proofs.Common.{rules, ◌≡◌, ◌∙◌, ◌<◌, ap, sym, subst, length, true, arith, replicate}
-use Rattle.std.specs.Prelude.{IfSome}
+use Rattle.std.proofs.Common.{rules, ◌≡◌, true}
 use Rattle.std.specs.Arc.{arc_value}
-use Rattle.memo_core.specs.Fields.{value_in}
-use Rattle.share_core.specs.Views.{Built, Unasked}
-use Rattle.share_core.specs.Fields.{part_of, node_of}
-use Rattle.share_core.specs.Steps.{can_do, key_at, node_at}
-use Rattle.share_core.specs.declared.event.Act.TheVariants.{Probe, Build, Reply}
+use Rattle.share_core.specs.Fields.{part_of}
+use Rattle.share_core.specs.Steps.{can_do, key_at}
+use Rattle.share_core.specs.declared.event.Act.TheVariants.{Build}
 use Rattle.share_core.proofs.Sound.{built_sound}
 use Rattle.share_core.proofs.acts.build.Goals as goal
 

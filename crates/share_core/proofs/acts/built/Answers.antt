@@ -1,7 +1,7 @@
-use Rattle.std.proofs.Common.{rules, ◌≡◌, ◌∙◌, map, ap, sym, subst, true, option_map, Some, List, length}
-use Rattle.std.specs.Prelude.{slice_get, Option}
+use Rattle.std.proofs.Common.{rules, ◌≡◌, map, ap, option_map, Some, length}
+use Rattle.std.specs.Prelude.{slice_get}
 use Rattle.std.specs.Arc.{arc_value}
-use Rattle.share_core.specs.Views.{Missed, HaveFits}
+use Rattle.share_core.specs.Views.{Missed}
 use Rattle.share_core.specs.Fields.{node_of, part_of, have}
 use Rattle.share_core.proofs.Nodes.{missed_at, sound_at, have_fits}
 use Rattle.share_core.proofs.Sound.{nodes_in}

@@ -1,11 +1,6 @@
-use Rattle.std.proofs.Common.{rules, ◌≡◌, ◌∙◌, ◌<◌, ap, sym, subst, length, true, arith, replicate}
-use Rattle.std.specs.Prelude.{IfSome}
-use Rattle.std.specs.Arc.{arc_value}
-use Rattle.memo_core.specs.Fields.{value_in}
-use Rattle.share_core.specs.Views.{Built, Unasked}
-use Rattle.share_core.specs.Fields.{part_of, node_of}
-use Rattle.share_core.specs.Steps.{can_do, key_at, node_at}
-use Rattle.share_core.specs.declared.event.Act.TheVariants.{Probe, Build, Reply}
+use Rattle.std.proofs.Common.{rules, ◌∙◌, ◌<◌, ap, length, replicate}
+use Rattle.share_core.specs.Views.{Unasked}
+use Rattle.share_core.specs.Fields.{part_of}
 use Rattle.share_core.proofs.Sound.{begun_sound}
 use Rattle.share_core.proofs.acts.command.Goals as goal
 

@@ -1,4 +1,4 @@
-use Rattle.std.proofs.Common.{arith, ◌≡◌, ◌∙◌, ◌<◌, ◌≤◌, ap, sym, subst, length, option_map, take, ◌+◌}
+use Rattle.std.proofs.Common.{arith, ◌≡◌, ◌∙◌, ◌≤◌, ap, sym, subst, length, option_map, take}
 use Rattle.std.proofs.lemmas.Option.{same_Some}
 use Rattle.share_core.proofs.Whole.{same_from}
 use Rattle.share_core.proofs.world.isolated.Goals as goal

@@ -1,4 +1,4 @@
-use Rattle.std.proofs.Common.{rules, refl, length, ◌<◌, ◌≡◌, ◌≢◌, ◌∙◌, ap, sym, map, option_map, Some}
+use Rattle.std.proofs.Common.{rules, refl, length, ◌<◌, ◌≡◌, ◌∙◌, ap, map, option_map, Some}
 use Rattle.std.specs.Prelude.{slice_get}
 use Rattle.std.proofs.lemmas.Option.{slice_get-map, slice_get_read}
 use Rattle.share_core.specs.Views.{settled}

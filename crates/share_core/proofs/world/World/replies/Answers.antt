@@ -1,4 +1,4 @@
-use Rattle.std.proofs.Common.{arith, refl, length, ◌<◌, ◌≡◌, ◌∙◌, ap, sym, subst, map, option_map, Some}
+use Rattle.std.proofs.Common.{arith, refl, length, ◌<◌, ◌≡◌, ◌∙◌, ap, subst, map, option_map, Some}
 use Rattle.std.specs.Prelude.{slice_get}
 use Rattle.std.proofs.lemmas.Option.{slice_get-map, slice_get_read}
 use Rattle.std.proofs.lemmas.List.{length-map}
