@@ -1,10 +1,12 @@
-ghost use Rattle.std.specs.Prelude.{◌≡◌, ℕ, ◌<◌, length, IfOk, OnOk, OnErr, IfNone, IfSome, MatchOption, option_map, true, false, Some, []};
+ghost use Rattle.std.specs.Prelude.{◌≡◌, ℕ, ◌<◌, length, option_map, true, false, Some, []};
+ghost use Rattle.std.specs.Prelude.{IfOk, OnOk, OnErr, IfNone, IfSome, MatchOption};
 ghost use Rattle.std.specs.Arc.{arc_value};
 ghost use Rattle.memo_core.specs.Fields.{value_in};
 ghost use Rattle.memo_core.specs.Views.{after_probe, after_fill};
 ghost use Rattle.share_core.specs.Views.{Node, Missed, Built, There, settled};
 ghost use Rattle.share_core.specs.Fields.{node_of, part_of, IsSoundPart};
-ghost use Rattle.share_core.specs.Steps.{Answers, can_do, begun, replied, with_node, node_at, key_at, probed, Changes, is_at, is_built};
+ghost use Rattle.share_core.specs.Steps.{Answers, Changes, can_do, is_at, is_built, node_at, key_at};
+ghost use Rattle.share_core.specs.Steps.{begun, replied, with_node, probed};
 ghost use Rattle.std.specs.Option.{option_map_or};
 
 use crate::event::{Act, Stepped};
@@ -36,7 +38,8 @@ pub fn command<F: Fit, W: Work<F>>(
     client: u32,
 ) -> Result<Stepped, NoMemory>
     requires { IsSoundPart F.fits F.weighs (W.tasks work.now) client (part_of part.old) }
-    ensures acts { IfOk result (Answers (can_do (W.tasks work.now) client Act.Command (part_of part.old))
+    ensures acts { IfOk result (Answers
+        (can_do (W.tasks work.now) client Act.Command (part_of part.old))
         (part_of part.new ≡ begun (W.tasks work.now) client (part_of part.old))
         (part_of part.new ≡ part_of part.old)) }
     ensures sound { IsSoundPart F.fits F.weighs (W.tasks work.now) client (part_of part.new) }
@@ -60,7 +63,8 @@ fn can_probe<F: Fit, W: Work<F>>(
     node: u32,
 ) -> Result<bool, NoMemory>
     requires { IsSoundPart F.fits F.weighs (W.tasks work.now) client (part_of part.now) }
-    ensures { IfOk result (λ b. b ≡ can_do (W.tasks work.now) client (Act.Probe node) (part_of part.now)) }
+    ensures { IfOk result (λ b. b ≡
+        can_do (W.tasks work.now) client (Act.Probe node) (part_of part.now)) }
 {
     let Some(nodes) = &part.nodes else {
         return Ok(false);
@@ -93,12 +97,17 @@ pub fn probe<F: Fit, N: Namer<F::Key>, W: Work<F>>(
     node: u32,
 ) -> Result<Stepped, NoMemory>
     requires { IsSoundPart F.fits F.weighs (W.tasks work.now) client (part_of part.old) }
-    ensures acts { IfOk result (Answers (can_do (W.tasks work.now) client (Act.Probe node) (part_of part.old))
-        ((settled memo.new ≡ after_probe F.same_key client (key_at (W.tasks work.now) client node (part_of part.old)) (settled memo.old))
-        × (part_of part.new ≡ with_node node (probed F.same_key (key_at (W.tasks work.now) client node (part_of part.old)) (settled memo.old)) (part_of part.old)))
+    ensures acts { IfOk result (Answers
+        (can_do (W.tasks work.now) client (Act.Probe node) (part_of part.old))
+        ((settled memo.new ≡ after_probe F.same_key client
+        (key_at (W.tasks work.now) client node (part_of part.old)) (settled memo.old))
+        × (part_of part.new ≡ with_node node
+        (probed F.same_key (key_at (W.tasks work.now) client node (part_of part.old))
+        (settled memo.old)) (part_of part.old)))
         ((settled memo.new ≡ settled memo.old) × (part_of part.new ≡ part_of part.old))) }
     ensures sound { IsSoundPart F.fits F.weighs (W.tasks work.now) client (part_of part.new) }
-    ensures err { OnErr result ((settled memo.new ≡ settled memo.old) × (part_of part.new ≡ part_of part.old)) }
+    ensures err { OnErr result
+        ((settled memo.new ≡ settled memo.old) × (part_of part.new ≡ part_of part.old)) }
 {
     if !can_probe(alloc, work, part, client, node)? {
         return Ok(Stepped::NotReady);
@@ -146,8 +155,10 @@ pub fn build<F: Fit, W: Work<F>>(
     node: u32,
 ) -> Result<Stepped, NoMemory>
     requires { IsSoundPart F.fits F.weighs (W.tasks work.now) client (part_of part.old) }
-    ensures acts { IfOk result (Answers (can_do (W.tasks work.now) client (Act.Build node) (part_of part.old))
-        ((v : F.Value) × (w : ℕ) × F.fits (key_at (W.tasks work.now) client node (part_of part.old)) v
+    ensures acts { IfOk result (Answers
+        (can_do (W.tasks work.now) client (Act.Build node) (part_of part.old))
+        ((v : F.Value) × (w : ℕ)
+        × F.fits (key_at (W.tasks work.now) client node (part_of part.old)) v
         × (w ≡ F.weighs v) × (part_of part.new ≡ with_node node (Built v w) (part_of part.old)))
         (part_of part.new ≡ part_of part.old)) }
     ensures sound { IsSoundPart F.fits F.weighs (W.tasks work.now) client (part_of part.new) }
@@ -193,7 +204,8 @@ fn offer<F: Fit, N: Namer<F::Key>>(
     requires fits { F.fits (arc_value key.now) (arc_value value) }
     requires weight { weight ≡ F.weighs (arc_value value) }
     ensures ok { OnOk result (settled memo.new ≡
-        after_fill F.same_key N.name_of client (arc_value key.now) (arc_value value) weight (settled memo.old)) }
+        after_fill F.same_key N.name_of client (arc_value key.now) (arc_value value) weight
+        (settled memo.old)) }
     ensures err { OnErr result (settled memo.new ≡ settled memo.old) }
 {
     memo.room(alloc)?;
@@ -213,13 +225,16 @@ pub fn fill<F: Fit, N: Namer<F::Key>, W: Work<F>>(
     node: u32,
 ) -> Result<Stepped, NoMemory>
     requires { IsSoundPart F.fits F.weighs (W.tasks work.now) client (part_of part.old) }
-    ensures acts { IfOk result (Answers (can_do (W.tasks work.now) client (Act.Fill node) (part_of part.old))
+    ensures acts { IfOk result (Answers
+        (can_do (W.tasks work.now) client (Act.Fill node) (part_of part.old))
         ((v : F.Value) × (w : ℕ) × (node_at node (part_of part.old) ≡ Some (Some (Built v w)))
-        × (settled memo.new ≡ after_fill F.same_key N.name_of client (key_at (W.tasks work.now) client node (part_of part.old)) v w (settled memo.old))
+        × (settled memo.new ≡ after_fill F.same_key N.name_of client
+        (key_at (W.tasks work.now) client node (part_of part.old)) v w (settled memo.old))
         × (part_of part.new ≡ with_node node (There v) (part_of part.old)))
         ((settled memo.new ≡ settled memo.old) × (part_of part.new ≡ part_of part.old))) }
     ensures sound { IsSoundPart F.fits F.weighs (W.tasks work.now) client (part_of part.new) }
-    ensures err { OnErr result ((settled memo.new ≡ settled memo.old) × (part_of part.new ≡ part_of part.old)) }
+    ensures err { OnErr result
+        ((settled memo.new ≡ settled memo.old) × (part_of part.new ≡ part_of part.old)) }
 {
     let Some((given, kept, weight)) = offered(part, node)? else {
         return Ok(Stepped::NotReady);
@@ -270,7 +285,8 @@ pub fn reply<F: Fit, W: Work<F>>(
     client: u32,
 ) -> Result<Stepped, NoMemory>
     requires { IsSoundPart F.fits F.weighs (W.tasks work.now) client (part_of part.old) }
-    ensures acts { IfOk result (Answers (can_do (W.tasks work.now) client Act.Reply (part_of part.old))
+    ensures acts { IfOk result (Answers
+        (can_do (W.tasks work.now) client Act.Reply (part_of part.old))
         (part_of part.new ≡ replied (W.tasks work.now) client (part_of part.old))
         (part_of part.new ≡ part_of part.old)) }
     ensures sound { IsSoundPart F.fits F.weighs (W.tasks work.now) client (part_of part.new) }
@@ -295,10 +311,12 @@ pub fn act<F: Fit, N: Namer<F::Key>, W: Work<F>>(
 ) -> Result<Stepped, NoMemory>
     requires { IsSoundPart F.fits F.weighs (W.tasks work.now) client (part_of part.old) }
     ensures acts { IfOk result (Answers (can_do (W.tasks work.now) client act (part_of part.old))
-        (Changes F.same_key N.name_of F.fits F.weighs (W.tasks work.now) client act (settled memo.old) (part_of part.old) (settled memo.new) (part_of part.new))
+        (Changes F.same_key N.name_of F.fits F.weighs (W.tasks work.now) client act
+        (settled memo.old) (part_of part.old) (settled memo.new) (part_of part.new))
         ((settled memo.new ≡ settled memo.old) × (part_of part.new ≡ part_of part.old))) }
     ensures sound { IsSoundPart F.fits F.weighs (W.tasks work.now) client (part_of part.new) }
-    ensures err { OnErr result ((settled memo.new ≡ settled memo.old) × (part_of part.new ≡ part_of part.old)) }
+    ensures err { OnErr result
+        ((settled memo.new ≡ settled memo.old) × (part_of part.new ≡ part_of part.old)) }
 {
     match act {
         Act::Command => command(alloc, work, part, client),

@@ -1,4 +1,5 @@
-ghost use Rattle.std.specs.Prelude.{◌≡◌, ◌<◌, map, length, IfOk, IfSome, option_map, slice_get, replicate, true, false};
+ghost use Rattle.std.specs.Prelude.{◌≡◌, ◌<◌, map, length, IfOk, IfSome, option_map, slice_get};
+ghost use Rattle.std.specs.Prelude.{replicate, true, false};
 ghost use Rattle.std.specs.Arc.{arc_value};
 ghost use Rattle.share_core.specs.Views.{Unasked};
 ghost use Rattle.share_core.specs.Fields.{nobody, node_of, value_of, part_of, have};
@@ -58,7 +59,8 @@ pub fn values<V: Drop>(
     alloc: Global,
     nodes: &[NodeState<V>],
 ) -> Result<Vec<Option<Arc<V>>>, NoMemory>
-    ensures { IfOk result (λ v. map (λ x. option_map arc_value x) v.items ≡ have (map node_of nodes.now)) }
+    ensures { IfOk result (λ v. map (λ x. option_map arc_value x) v.items ≡
+        have (map node_of nodes.now)) }
 {
     let mut all = Vec::new(alloc);
     for node in nodes {

@@ -7,8 +7,8 @@ use std::alloc::Global;
 use std::sync::Arc;
 use text_place::NoMemory;
 
-/// What the clients do. Clients, commands and nodes are numbered from 0; place i of `have` is that of
-/// node i.
+/// What the clients do. Clients, commands and nodes are numbered from 0; place i of `have` is that
+/// of node i.
 pub trait Work<F: Fit>: Drop {
     type Reply: Drop;
 
@@ -35,7 +35,8 @@ pub trait Work<F: Fit>: Drop {
         requires command { command < (tasks self.now).commands client }
         requires node { node < (tasks self.now).nodes client command }
         requires have { length have.now ≡ (tasks self.now).nodes client command }
-        ensures { result ≡ (tasks self.now).ready client command node (map (λ v. option_map arc_value v) have.now) };
+        ensures { result ≡ (tasks self.now).ready client command node
+            (map (λ v. option_map arc_value v) have.now) };
 
     /// Builds a value for a node, and says what it weighs.
     fn build(
@@ -49,9 +50,12 @@ pub trait Work<F: Fit>: Drop {
         requires command { command < (tasks self.now).commands client }
         requires node { node < (tasks self.now).nodes client command }
         requires have { length have.now ≡ (tasks self.now).nodes client command }
-        requires ready { (tasks self.now).ready client command node (map (λ v. option_map arc_value v) have.now) ≡ true }
-        requires fit { HaveFits F.fits ((tasks self.now).key client command) 0 (map (λ v. option_map arc_value v) have.now) }
-        ensures fits { IfOk result (λ r. F.fits ((tasks self.now).key client command node) (arc_value r.0)) }
+        requires ready { (tasks self.now).ready client command node
+            (map (λ v. option_map arc_value v) have.now) ≡ true }
+        requires fit { HaveFits F.fits ((tasks self.now).key client command) 0
+            (map (λ v. option_map arc_value v) have.now) }
+        ensures fits { IfOk result (λ r.
+            F.fits ((tasks self.now).key client command node) (arc_value r.0)) }
         ensures weighs { IfOk result (λ r. r.1 ≡ F.weighs (arc_value r.0)) };
 
     /// The reply to a command. All values that fit give the same one.
@@ -65,10 +69,12 @@ pub trait Work<F: Fit>: Drop {
         requires command { command < (tasks self.now).commands client }
         requires have { length have.now ≡ (tasks self.now).nodes client command }
         requires there { AllThere (map (λ v. option_map arc_value v) have.now) }
-        requires fit { HaveFits F.fits ((tasks self.now).key client command) 0 (map (λ v. option_map arc_value v) have.now) }
+        requires fit { HaveFits F.fits ((tasks self.now).key client command) 0
+            (map (λ v. option_map arc_value v) have.now) }
         ensures { IfOk result (λ r. r ≡ (tasks self.now).reply client command) };
 
     /// A node that is ready stays ready as more values are there.
-    ghost stays_ready: { (w : Self) (client command node : ℕ) (have more : List (Option F.Value)) → MoreThere have more →
-        (tasks w).ready client command node have ≡ true → (tasks w).ready client command node more ≡ true };
+    ghost stays_ready: { (w : Self) (client command node : ℕ) (have more : List (Option F.Value)) →
+        MoreThere have more → (tasks w).ready client command node have ≡ true →
+        (tasks w).ready client command node more ≡ true };
 }

@@ -1,4 +1,5 @@
-ghost use Rattle.std.specs.Prelude.{◌≡◌, ◌≢◌, ℕ, ◌<◌, List, [], map, length, IfOk, OnErr, slice_get};
+ghost use Rattle.std.specs.Prelude.{◌≡◌, ◌≢◌, ℕ, ◌<◌, List, [], map, length};
+ghost use Rattle.std.specs.Prelude.{IfOk, OnErr, slice_get};
 ghost use Rattle.memo_core.specs.Memo.{IsLegal, replay};
 ghost use Rattle.memo_core.specs.Views.{marks};
 ghost use Rattle.share_core.specs.Fields.{AreSoundParts, part_of, machine_of};
@@ -32,19 +33,21 @@ impl<F: Fit, N: Namer<F::Key>, W: Work<F>> Model for World<F, N, W> {
 
     ghost view = { λ w. (w.work, machine_of w.memo w.parts.items) };
 
-    ghost invariant = { λ w. AreSoundParts F.fits F.weighs (W.tasks w.work) 0 (map part_of w.parts.items) };
+    ghost invariant = { λ w. AreSoundParts F.fits F.weighs (W.tasks w.work) 0
+        (map part_of w.parts.items) };
 }
 
 impl<F: Fit, N: Namer<F::Key>, W: Work<F>> World<F, N, W> {
-    ghost use Rattle.std.specs.Prelude.{◌≡◌, ◌≢◌, ℕ, ◌<◌, ◌≤◌, [], length, IfOk, OnErr, slice_get, option_map, Some};
+    ghost use Rattle.std.specs.Prelude.{◌≡◌, ◌≢◌, ℕ, ◌<◌, ◌≤◌, [], length, IfOk, OnErr};
+    ghost use Rattle.std.specs.Prelude.{slice_get, option_map, Some};
     ghost use Rattle.memo_core.specs.Fields.{items_of};
     ghost use Rattle.memo_core.specs.Memo.{IsLegal, replay};
     ghost use Rattle.memo_core.specs.Views.{marks};
     ghost use Rattle.share_core.specs.Fields.{AreRepliesFrom};
     ghost use Rattle.share_core.specs.Steps.{Answers, Steps, is_possible, first_machine};
 
-    /// A world in which nothing has happened: every client is between commands, its first command is the
-    /// next one, and it has no replies; the memo is empty.
+    /// A world in which nothing has happened: every client is between commands, its first command
+    /// is the next one, and it has no replies; the memo is empty.
     pub fn new(
         alloc: Global,
         fit: F,
@@ -65,7 +68,8 @@ impl<F: Fit, N: Namer<F::Key>, W: Work<F>> World<F, N, W> {
     pub fn step(&mut self, alloc: Global, event: Event) -> Result<Stepped, NoMemory>
         ensures work { self.new.0 ≡ self.old.0 }
         ensures steps { IfOk result (Answers (is_possible (W.tasks self.old.0) self.old.1 event)
-            (Steps F.same_key N.name_of F.fits F.weighs (W.tasks self.old.0) self.old.1 event self.new.1)
+            (Steps F.same_key N.name_of F.fits F.weighs (W.tasks self.old.0) self.old.1 event
+            self.new.1)
             (self.new.1 ≡ self.old.1)) }
         ensures others { (client : ℕ) → client ≢ event.client →
             slice_get self.new.1.parts client ≡ slice_get self.old.1.parts client }
@@ -78,7 +82,8 @@ impl<F: Fit, N: Namer<F::Key>, W: Work<F>> World<F, N, W> {
     /// The replies of a client so far: those of its first commands. Takes no memory.
     pub fn replies(&self, client: u32) -> &[W::Reply]
         requires { client < length self.now.1.parts }
-        ensures is { option_map (λ p. p.replies) (slice_get self.now.1.parts client) ≡ Some result.now }
+        ensures is { option_map (λ p. p.replies) (slice_get self.now.1.parts client) ≡
+            Some result.now }
         ensures answered { AreRepliesFrom ((W.tasks self.now.0).reply client) 0 result.now }
         ensures within { length result.now ≤ (W.tasks self.now.0).commands client }
     {
@@ -88,7 +93,8 @@ impl<F: Fit, N: Namer<F::Key>, W: Work<F>> World<F, N, W> {
     /// The journal of the memo. Takes no memory.
     pub fn journal(&self) -> &[JournalItem<F::Key>]
         ensures is { items_of result.now ≡ self.now.1.memo.journal }
-        ensures legal { IsLegal F.same_key N.name_of self.now.1.memo.budget [] self.now.1.memo.journal }
+        ensures legal { IsLegal F.same_key N.name_of self.now.1.memo.budget []
+            self.now.1.memo.journal }
         ensures replayed { marks self.now.1.memo.entries ≡
             replay F.same_key N.name_of self.now.1.memo.budget [] self.now.1.memo.journal }
     {
@@ -105,14 +111,19 @@ fn step_parts<F: Fit, N: Namer<F::Key>, W: Work<F>>(
     event: Event,
 ) -> Result<Stepped, NoMemory>
     requires { AreSoundParts F.fits F.weighs (W.tasks work.now) 0 (map part_of parts.old.items) }
-    ensures steps { IfOk result (Answers (is_possible (W.tasks work.now) (machine_of memo.old parts.old.items) event)
-        (Steps F.same_key N.name_of F.fits F.weighs (W.tasks work.now) (machine_of memo.old parts.old.items) event (machine_of memo.new parts.new.items))
+    ensures steps { IfOk result (Answers
+        (is_possible (W.tasks work.now) (machine_of memo.old parts.old.items) event)
+        (Steps F.same_key N.name_of F.fits F.weighs (W.tasks work.now)
+        (machine_of memo.old parts.old.items) event (machine_of memo.new parts.new.items))
         (machine_of memo.new parts.new.items ≡ machine_of memo.old parts.old.items)) }
-    ensures sound { AreSoundParts F.fits F.weighs (W.tasks work.now) 0 (map part_of parts.new.items) }
+    ensures sound { AreSoundParts F.fits F.weighs (W.tasks work.now) 0
+        (map part_of parts.new.items) }
     ensures others { (client : ℕ) → client ≢ event.client →
-        slice_get (map part_of parts.new.items) client ≡ slice_get (map part_of parts.old.items) client }
+        slice_get (map part_of parts.new.items) client ≡
+        slice_get (map part_of parts.old.items) client }
     ensures clients { length parts.new.items ≡ length parts.old.items }
-    ensures err { OnErr result (machine_of memo.new parts.new.items ≡ machine_of memo.old parts.old.items) }
+    ensures err { OnErr result
+        (machine_of memo.new parts.new.items ≡ machine_of memo.old parts.old.items) }
 {
     let client = event.client as usize;
     if client >= parts.len() {
@@ -129,7 +140,7 @@ fn step_parts<F: Fit, N: Namer<F::Key>, W: Work<F>>(
 }
 
 /// Takes a list of events in order, from the first state on. An event that is not possible changes
-/// nothing, and the next one follows. The journal that is left is legal, and its replay is the memo.
+/// nothing, and the next one follows. The journal that is left is legal and replays to the memo.
 pub fn run<F: Fit, N: Namer<F::Key>, W: Work<F>>(
     alloc: Global,
     fit: F,
@@ -142,7 +153,8 @@ pub fn run<F: Fit, N: Namer<F::Key>, W: Work<F>>(
     ensures work { IfOk result (λ w. w.0 ≡ work) }
     ensures clients { IfOk result (λ w. length w.1.parts ≡ clients) }
     ensures runs { IfOk result (λ w. (taken : List Event)
-        × Runs F.same_key N.name_of F.fits F.weighs (W.tasks work) (first_machine clients budget) events.now taken w.1
+        × Runs F.same_key N.name_of F.fits F.weighs (W.tasks work)
+        (first_machine clients budget) events.now taken w.1
         × Leaves (W.tasks work) taken w.1) }
     ensures legal { IfOk result (λ w. IsLegal F.same_key N.name_of budget [] w.1.memo.journal) }
     ensures replayed { IfOk result (λ w. marks w.1.memo.entries ≡
@@ -156,8 +168,9 @@ pub fn run<F: Fit, N: Namer<F::Key>, W: Work<F>>(
     Ok(world)
 }
 
-/// Isolation: two works that agree on a client's commands give that client equal replies, for as many
-/// commands as both answered, whatever the other clients, the names, the budgets and the events are.
+/// Isolation: two works that agree on a client's commands give that client equal replies, for as
+/// many commands as both answered, whatever the other clients, the names, the budgets and the
+/// events are.
 pub fn isolated<
     F: Fit,
     N: Namer<F::Key>,
