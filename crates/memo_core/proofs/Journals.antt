@@ -1,0 +1,16 @@
+-- A journal with one item more.
+use Rattle.std.proofs.Common.{◌≡◌, ℕ, ◌+◌, Bool, List, [], ◌∷◌, ◌++◌, refl}
+use Rattle.memo_core.specs.Memo.{Mark, Item, after_said, says_at, replay, IsLegal, evicted_by, evicted_in}
+use Rattle.std.proofs.lemmas.List.Sums.{sum_by_push}
+
+pub evicted_more : {K : Type 0} (is : List (Item K)) (i : Item K) → evicted_in (is ++ i ∷ []) ≡ evicted_in is + evicted_by i.said
+evicted_more is i = sum_by_push (λ x. evicted_by x.said) is i
+
+module _ {K : Type 0} (same : K → K → Bool) (name_of : K → List ℕ) (budget : ℕ) where
+  pub replay_more : (es : List (Mark K)) (is : List (Item K)) (i : Item K) → replay same name_of budget es (is ++ i ∷ []) ≡ after_said same name_of budget i.key i.said (replay same name_of budget es is)
+  replay_more es [] i = refl
+  replay_more es (x ∷ xs) i = replay_more (after_said same name_of budget x.key x.said es) xs i
+
+  pub legal_more : (es : List (Mark K)) (is : List (Item K)) (i : Item K) → IsLegal same name_of budget es is → i.said ≡ says_at same name_of budget i.key i.said (replay same name_of budget es is) → IsLegal same name_of budget es (is ++ i ∷ [])
+  legal_more es [] i l h = (h, tt)
+  legal_more es (x ∷ xs) i l h = (l.0, legal_more (after_said same name_of budget x.key x.said es) xs i l.1 h)

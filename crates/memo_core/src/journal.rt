@@ -1,0 +1,49 @@
+ghost use Rattle.std.specs.Prelude.{◌≡◌};
+ghost use Rattle.std.specs.Arc.{arc_value};
+ghost use Rattle.memo_core.specs.Memo.{item, Probe_said, Fill_said};
+ghost use Rattle.memo_core.specs.Fields.{item_of};
+
+use std::sync::Arc;
+
+/// What one call of a memo did.
+#[derive(Clone, Copy, Debug, PartialEq, Eq)]
+pub enum Did {
+    /// A probe: whether it was a hit.
+    Probed {
+        hit: bool,
+    },
+    /// A fill: the weight that was offered, whether it was kept, and how many entries were dropped.
+    Filled {
+        weight: u64,
+        kept: bool,
+        evicted: u32,
+    },
+}
+
+/// One call of a memo: whose it was, of which key, and what it did.
+#[derive(Drop)]
+pub struct JournalItem<K> {
+    pub caller: u32,
+    pub key: Arc<K>,
+    pub did: Did,
+}
+
+/// The item of a probe.
+pub fn probed<K>(caller: u32, key: Arc<K>, hit: bool) -> JournalItem<K>
+    ensures { item_of result ≡ item caller (arc_value key) (Probe_said hit) }
+{
+    let did = Did::Probed { hit };
+    JournalItem { caller, key, did }
+}
+
+/// The item of a fill.
+pub fn filled<K>(caller: u32, key: Arc<K>, weight: u64, kept: bool, evicted: u32) -> JournalItem<K>
+    ensures { item_of result ≡ item caller (arc_value key) (Fill_said weight kept evicted) }
+{
+    let did = Did::Filled {
+        weight,
+        kept,
+        evicted,
+    };
+    JournalItem { caller, key, did }
+}

@@ -1,0 +1,15 @@
+//! The sequential memo: a list of entries, most recent first, that is searched from its front. A
+//! cache of names stands behind it, and a journal says what each call said.
+#![tactic(auto)]
+
+mod fit;
+mod journal;
+mod memo;
+mod slots;
+
+pub use fit::{Fit, NAME_BYTES, Name, Namer};
+pub use journal::{Did, JournalItem};
+pub use memo::{Fill, MemoCore, Probe};
+
+#[cfg(test)]
+mod tests;

@@ -1,0 +1,5 @@
+pub mod Lists
+pub mod Nodes
+pub mod Sound
+pub mod Clients
+pub mod Whole

@@ -1,0 +1,74 @@
+-- How the fields of a world stand for what contracts see, and what each part keeps.
+use Rattle.std.specs.Prelude.{◌≡◌, ℕ, ◌+◌, ◌<◌, ◌≤◌, true, List, [], ◌∷◌, map, length, Option, Some, None, option_map, IfSome}
+use Rattle.std.specs.Arc.{arc_value}
+use Rattle.memo_core.specs.Views.{Core}
+use Rattle.share_core.specs.Views.{Node, Unasked, Missed, Built, There, Part, Tasks, Machine, settled}
+use Rattle.share_core.specs.declared.parts.NodeState.{NodeState}
+use Rattle.share_core.specs.declared.parts.NodeState.TheVariants as state
+use Rattle.share_core.specs.declared.parts.ClientPart.{ClientPart}
+
+module _ {V : Type 0} where
+  -- a node as contracts see it
+  abbrev pub node_of : NodeState V → Node V
+  node_of state.Unasked = Unasked
+  node_of state.Missed = Missed
+  node_of (state.Built value weight) = Built (arc_value value) weight
+  node_of (state.There value) = There (arc_value value)
+
+  -- the value of a node that is there
+  abbrev pub value_of : Node V → Option V
+  value_of Unasked = None
+  value_of Missed = None
+  value_of (Built value weight) = None
+  value_of (There value) = Some value
+
+  -- the values that are there
+  abbrev pub have : List (Node V) → List (Option V)
+  have nodes = map value_of nodes
+
+  -- nobody's part
+  abbrev pub nobody : {R : Type 0} → Part V R
+  nobody = record { nodes = None; replies = [] }
+
+module _ {V R : Type 0} where
+  -- a client's part as contracts see it
+  abbrev pub part_of : ClientPart V R → Part V R
+  part_of p = record { nodes = option_map (λ v. map node_of v.items) p.nodes; replies = p.replies.items }
+
+module _ {R : Type 0} where
+  -- the replies are those of the commands from the n-th on
+  abbrev pub AreRepliesFrom : (ℕ → R) → ℕ → List R → Type 0
+  AreRepliesFrom reply n [] = Unit {0}
+  AreRepliesFrom reply n (r ∷ rs) = (r ≡ reply n) × AreRepliesFrom reply (n + 1) rs
+
+module _ {K V R : Type 0} (fits : K → V → Type 0) (weighs : V → ℕ) (tasks : Tasks K V R) (client : ℕ) where
+  -- a missed node is ready; a value fits its node's key, and weighs its weight
+  abbrev pub IsSoundNode : ℕ → List (Option V) → ℕ → Node V → Type 0
+  IsSoundNode command values n Unasked = Unit {0}
+  IsSoundNode command values n Missed = tasks.ready client command n values ≡ true
+  IsSoundNode command values n (Built v w) = fits (tasks.key client command n) v × (w ≡ weighs v)
+  IsSoundNode command values n (There v) = fits (tasks.key client command n) v
+
+  -- so is each node from the n-th on
+  abbrev pub AreSoundNodes : ℕ → List (Option V) → ℕ → List (Node V) → Type 0
+  AreSoundNodes command values n [] = Unit {0}
+  AreSoundNodes command values n (x ∷ xs) = IsSoundNode command values n x × AreSoundNodes command values (n + 1) xs
+
+  -- what each client's part keeps
+  pub record IsSoundPart (part : Part V R) : Type 0 where
+    pub answered : AreRepliesFrom (tasks.reply client) 0 part.replies
+    pub within : length part.replies ≤ tasks.commands client
+    pub command : IfSome part.nodes (λ _. length part.replies < tasks.commands client)
+    pub count : IfSome part.nodes (λ xs. length xs ≡ tasks.nodes client (length part.replies))
+    pub sound : IfSome part.nodes (λ xs. AreSoundNodes (length part.replies) (have xs) 0 xs)
+
+module _ {K V R : Type 0} (fits : K → V → Type 0) (weighs : V → ℕ) (tasks : Tasks K V R) where
+  -- what the parts of the clients from the n-th on keep
+  abbrev pub AreSoundParts : ℕ → List (Part V R) → Type 0
+  AreSoundParts n [] = Unit {0}
+  AreSoundParts n (p ∷ ps) = IsSoundPart fits weighs tasks n p × AreSoundParts (n + 1) ps
+
+module _ {K V R : Type 0} where
+  -- the machine that a memo and the clients' parts stand for
+  abbrev pub machine_of : Core K V → List (ClientPart V R) → Machine K V R
+  machine_of memo parts = record { memo = settled memo; parts = map part_of parts }

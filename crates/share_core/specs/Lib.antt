@@ -1,0 +1,4 @@
+pub mod Views
+pub mod Fields
+pub mod Steps
+pub mod Runs

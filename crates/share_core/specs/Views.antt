@@ -1,0 +1,57 @@
+-- The pure machine: what the clients do, how far each of them is, and the one memo.
+use Rattle.std.specs.Prelude.{◌≡◌, ℕ, ◌+◌, List, [], ◌∷◌, Option, Some, None, Bool}
+use Rattle.memo_core.specs.Views.{Core}
+
+-- What the clients do: how many commands a client has, how many nodes a command has, each node's key,
+-- whether a node is ready where these values are there, and the reply that fitting values give.
+pub record Tasks (K V R : Type 0) : Type 0 where
+  pub commands : ℕ → ℕ
+  pub nodes : ℕ → ℕ → ℕ
+  pub key : ℕ → ℕ → ℕ → K
+  pub ready : ℕ → ℕ → ℕ → List (Option V) → Bool
+  pub reply : ℕ → ℕ → R
+
+-- how far a node is: not probed, missed, built with a weight, or there
+pub data Node (V : Type 0) : Type 0 where
+  Unasked : Node V
+  Missed : Node V
+  Built : V → ℕ → Node V
+  There : V → Node V
+
+-- One client's part: the nodes of the command that it is at, or none between commands, and its replies.
+-- The command that it is at, or else its next one, has the number of its replies.
+pub record Part (V R : Type 0) : Type 0 where
+  pub nodes : Option (List (Node V))
+  pub replies : List R
+
+-- the memo, without the room of its journal, and each client's part
+pub record Machine (K V R : Type 0) : Type 0 where
+  pub memo : Core K V
+  pub parts : List (Part V R)
+
+module _ {K V : Type 0} where
+  -- a memo without the room of its journal, which is no part of the state
+  abbrev pub settled : Core K V → Core K V
+  settled core = record { entries = core.entries; budget = core.budget; journal = core.journal; spare = 0 }
+
+module _ {K V : Type 0} where
+  -- each value that is there fits its node's key
+  abbrev pub HaveFits : (K → V → Type 0) → (ℕ → K) → ℕ → List (Option V) → Type 0
+  HaveFits fits key n [] = Unit {0}
+  HaveFits fits key n (None ∷ vs) = HaveFits fits key (n + 1) vs
+  HaveFits fits key n (Some v ∷ vs) = fits (key n) v × HaveFits fits key (n + 1) vs
+
+module _ {V : Type 0} where
+  -- every value is there
+  abbrev pub AllThere : List (Option V) → Type 0
+  AllThere [] = Unit {0}
+  AllThere (None ∷ vs) = ⊥
+  AllThere (Some v ∷ vs) = AllThere vs
+
+  -- the values that are there stay, and more may come
+  abbrev pub MoreThere : List (Option V) → List (Option V) → Type 0
+  MoreThere [] [] = Unit {0}
+  MoreThere [] (w ∷ ws) = ⊥
+  MoreThere (v ∷ vs) [] = ⊥
+  MoreThere (None ∷ vs) (w ∷ ws) = MoreThere vs ws
+  MoreThere (Some v ∷ vs) (w ∷ ws) = (w ≡ Some v) × MoreThere vs ws

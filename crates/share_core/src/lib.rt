@@ -1,0 +1,16 @@
+//! The pure machine of clients that share one memo: every interleaving of their events, with no
+//! thread. Each client's replies are those that its own commands define.
+#![tactic(auto)]
+
+mod acts;
+mod event;
+mod parts;
+mod work;
+mod world;
+
+pub use event::{Act, Event, Stepped};
+pub use work::Work;
+pub use world::{World, isolated, run};
+
+#[cfg(test)]
+mod tests;
