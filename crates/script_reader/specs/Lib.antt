@@ -1,2 +1,4 @@
 pub mod Lines
 pub mod Spelling
+pub mod Scripts
+pub mod Reading

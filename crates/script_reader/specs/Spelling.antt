@@ -1,5 +1,5 @@
 -- How the lines of a script are spelled.
-use Rattle.std.specs.Prelude.{◌≡◌, ◌≢◌, ℕ, ◌≤◌, List, [], ◌∷◌, ◌++◌, length, All, codes, ◌⊎◌}
+use Rattle.std.specs.Prelude.{◌≡◌, ℕ, ◌≤◌, List, [], ◌++◌, length, All, codes, ◌⊎◌}
 use Rattle.std.specs.Str.Parse.{digits_value}
 use Rattle.text_place.specs.Decimals.{IsShortNumeral}
 use Rattle.script_reader.specs.declared.script.Command.{Command}

@@ -1,6 +1,13 @@
 //! Scripts: commands of clients, one on each line.
 #![tactic(auto)]
 
+mod clients;
+mod cuts;
+mod reader;
 mod script;
 
+pub use reader::read_script;
 pub use script::{ClientScript, ClientScripts, Command, Commands, Script, ScriptFault};
+
+#[cfg(test)]
+mod tests;

@@ -1,9 +1,9 @@
 //! What a script is: clients with their commands.
 
-ghost use Rattle.std.specs.Prelude.{◌≡◌};
+ghost use Rattle.std.specs.Prelude.{◌≡◌, ◌∷◌, [], ◌++◌, OnOk};
 
 use std::marker::Model;
-use text_place::Bytes;
+use text_place::{Bytes, NoMemory};
 
 /// One command of a client.
 #[derive(Drop)]
@@ -50,6 +50,14 @@ impl Commands {
         ensures { result.now ≡ self.now }
     {
         &self.items
+    }
+
+    // One command more at the end.
+    pub(crate) fn push(&mut self, command: Command) -> Result<(), NoMemory>
+        ensures { OnOk result (self.new ≡ self.old ++ command ∷ []) }
+    {
+        self.items.push(command)?;
+        Ok(())
     }
 }
 
@@ -112,4 +120,14 @@ pub enum ScriptFault {
     TooManyCommands(u32),
     /// Memory ran out.
     NoMemory,
+}
+
+impl From<NoMemory> for ScriptFault {
+    ghost use Rattle.script_reader.specs.declared.script.ScriptFault.TheVariants.{NoMemory};
+
+    ghost from_gives = { λ _ fault. fault ≡ NoMemory };
+
+    fn from(_refused: NoMemory) -> ScriptFault {
+        ScriptFault::NoMemory
+    }
 }

@@ -16,7 +16,7 @@ use Rattle.script_server.specs.Meaning.OffTexts.{newline}
 use Rattle.script_server.specs.Meaning.Boxes.{IsBoxSource, cube_text, box_text}
 use Rattle.script_server.specs.Meaning.Scripts.{AllServed}
 use Rattle.script_server.specs.Meaning.Exports.{Exports}
-use Rattle.script_server.proofs.ScriptForm.{one_cut}
+use Rattle.script_reader.proofs.CutLaws.{one_cut}
 use Rattle.script_server.proofs.Sides.{inner_text, cube_text-inner, no_comma}
 
 same_number : (m n : ℕ) → numeral m ≡ numeral n → m ≡ n

@@ -3,6 +3,8 @@ use Rattle.std.proofs.Common.{◌≡◌, ◌≢◌, ◌⊎◌, inl, inr, ⊎_eli
 use Rattle.std.specs.Prelude.{All, IfNone}
 use Rattle.std.proofs.lemmas.List.{append_cancel_left}
 use Rattle.std.proofs.lemmas.List.Elements.{All-head, All-tail, All-append, All-cons, All-nil, All-weaker, All-same, All-from_recursion}
+use Rattle.script_reader.proofs.CutLaws.{one_cut, no_cut}
+use Rattle.script_reader.proofs.OneLine.{one_text}
 use Rattle.script_server.specs.Meaning.OffTexts.{newline}
 use Rattle.script_reader.specs.declared.script.Command.TheVariants.{Put, Export}
 use Rattle.script_reader.specs.declared.script.Script.{Script}
@@ -10,33 +12,12 @@ use Rattle.script_reader.specs.Spelling.{IsNameByte, IsName, IsTail}
 use Rattle.script_server.specs.Meaning.Scripts.{IsScript, put_line, export_line, IsOneExport}
 use Rattle.script_server.specs.Lines.{AreOneClient, IsExportWord}
 
--- what holds anyway holds of no answer
-pub none_anyway : {X : Type 0} (r : Option X) (P : Type 0) → P → IfNone r P
-none_anyway None P p = p
-none_anyway (Some x) P p = tt
-
 All-append_right : (P : ℕ → Type 0) (xs ys : List ℕ) → All P (xs ++ ys) → All P ys
 All-append_right P [] ys h = h
 All-append_right P (x ∷ xs) ys h = All-append_right P xs ys (All-tail P x (xs ++ ys) h)
 
 All-both : (P Q : ℕ → Type 0) (xs : List ℕ) → All P xs → All Q xs → All (λ b. P b × Q b) xs
 All-both P Q xs h g = λ k d l. (h k d l, g k d l)
-
--- a list has one cut at the first place of an item
-pub one_cut : (a : ℕ) (f g r s : List ℕ) → All (λ b. b ≢ a) f → All (λ b. b ≢ a) g → f ++ a ∷ r ≡ g ++ a ∷ s → (f ≡ g) × (r ≡ s)
-one_cut a [] [] r s hf hg e = (refl, cc)
-one_cut a [] (y ∷ g) r s hf hg e = absurd (All-head (λ b. b ≢ a) y g hg cc)
-one_cut a (x ∷ f) [] r s hf hg e = absurd (All-head (λ b. b ≢ a) x f hf cc)
-one_cut a (x ∷ f) (y ∷ g) r s hf hg e =
-    let heads : x ≡ y = cc in
-    let rests : f ++ a ∷ r ≡ g ++ a ∷ s = cc in
-    let cut = one_cut a f g r s (All-tail (λ b. b ≢ a) x f hf) (All-tail (λ b. b ≢ a) y g hg) rests in
-    let front : f ≡ g = cut.0 in
-    (cc, cut.1)
-
-pub no_cut : (a : ℕ) (f r : List ℕ) → All (λ b. b ≢ a) (f ++ a ∷ r) → ⊥
-no_cut a [] r h = All-head (λ b. b ≢ a) a r h refl
-no_cut a (x ∷ f) r h = no_cut a f r (All-tail (λ b. b ≢ a) x (f ++ a ∷ r) h)
 
 name_is_plain : (a : ℕ) → ((b : ℕ) → IsNameByte b → b ≢ a) → (name : List ℕ) → IsName name → All (λ b. b ≢ a) name
 name_is_plain a h name named = All-weaker IsNameByte (λ b. b ≢ a) h name named.bytes
@@ -94,13 +75,6 @@ export_has_space bytes name text first second h e plain none =
 pub words_are : (name line front behind rest : List ℕ) → IsName name → line ≡ name ++ 32 ∷ rest → line ≡ front ++ 32 ∷ behind → All (λ b. b ≢ 32) front → (front ≡ name) × (behind ≡ rest)
 words_are name line front behind rest named e cut plain = one_cut 32 front name behind rest plain (name_is_plain 32 no_space name named) (sym cut ∙ e)
 
-same_text : (tail text text' : List ℕ) → IsTail tail text → IsTail tail text' → text ≡ text'
-same_text tail text text' h g =
-    ⊎_elim
-    (λ e. ⊎_elim (λ f. (let both : 32 ∷ text ≡ 32 ∷ text' = sym e ∙ f in cc)) (λ f. (let both : 32 ∷ text ≡ [] = sym e ∙ f.0 in cc)) g)
-    (λ e. ⊎_elim (λ f. (let both : 32 ∷ text' ≡ [] = sym f ∙ e.0 in cc)) (λ f. e.1 ∙ sym f.1) g)
-    h
-
 -- the cuts of the bytes: the two lines at the newline, and each line at its first space
 pub record IsCut (bytes first second name put again export : List ℕ) : Type 0 where
   pub lines : bytes ≡ first ++ 10 ∷ second
@@ -136,7 +110,7 @@ is_one_client bytes n t first second name put again export tail text h cut e tai
     let exports = export_words_are bytes n t first second name put again export h cut in
     let tails : codes "put 1" ++ tail ≡ codes "put 1" ++ h.tail = sym e ∙ puts.1 in
     let same : tail ≡ h.tail = cc in
-    let texts : text ≡ t = same_text h.tail text t (subst (λ (x : List ℕ). IsTail x text) same tailed) h.tailed in
+    let texts : text ≡ t = one_text h.tail text t (subst (λ (x : List ℕ). IsTail x text) same tailed) h.tailed in
     record {
       short = subst (λ (x : List ℕ). length x ≤ 1024) (sym lines.0) h.short_line;
       named = subst IsName (sym puts.0) h.named;
@@ -195,7 +169,7 @@ one_export : (bytes name text name' text' : List ℕ) → IsOneExport bytes name
 one_export bytes name text name' text' h g =
     let words = put_words_are bytes name' text' _ _ _ _ _ _ g (cut_of bytes name text h) in
     let tails : h.tail ≡ g.tail = append_cancel_left (codes "put 1") h.tail g.tail words.1 in
-    (words.0, same_text g.tail text text' (subst (λ (tail : List ℕ). IsTail tail text) tails h.tailed) g.tailed)
+    (words.0, one_text g.tail text text' (subst (λ (tail : List ℕ). IsTail tail text) tails h.tailed) g.tailed)
 
 script_of : List ℕ → List ℕ → Script
 script_of name text = record { clients = record { name = name; commands = Put 1 text ∷ Export ∷ [] } ∷ [] }

@@ -10,7 +10,7 @@ use Rattle.std.proofs.lemmas.List.Elements.{All-from_get_or}
 use Rattle.text_place.specs.Decimals.{numeral, IsShortNumeral}
 use Rattle.script_server.specs.declared.meaning.Sides.{Sides}
 use Rattle.script_server.specs.Meaning.Boxes.{IsBox, cube_text}
-use Rattle.script_server.proofs.ScriptForm.{one_cut, no_cut}
+use Rattle.script_reader.proofs.CutLaws.{one_cut, no_cut}
 use Rattle.text_place.proofs.Numerals.{numeral_digit, numeral-digits_value, AllDigits-numeral, numeral_nonempty, numeral_byte, first_numeral, length-numeral-le}
 
 zero_numeral : numeral 0 ≡ 48 ∷ []

@@ -3,7 +3,7 @@ use Rattle.std.proofs.lemmas.Bool.{false≢true}
 use Rattle.std.specs.Str.Parse.{digits_value}
 use Rattle.text_place.specs.Decimals.{numeral, IsShortNumeral}
 use Rattle.text_place.proofs.Numerals.{digits_value-numeral}
-use Rattle.script_server.proofs.ScriptForm.{none_anyway}
+use Rattle.script_reader.proofs.CutLaws.{none_anyway}
 use Rattle.script_server.proofs.Sides.{side_from_digits, side_is_short, side_begins_above}
 use Rattle.script_server.proofs.cube.side_of.Goals as goal
 

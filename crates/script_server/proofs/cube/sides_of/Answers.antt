@@ -1,4 +1,4 @@
-use Rattle.script_server.proofs.ScriptForm.{none_anyway}
+use Rattle.script_reader.proofs.CutLaws.{none_anyway}
 use Rattle.script_server.proofs.Sides.{IsSidesCut, NoBox, others_have_comma, first_side_is, other_sides_are}
 use Rattle.script_server.proofs.cube.sides_of.Goals as goal
 

@@ -1,6 +1,7 @@
 use Rattle.std.proofs.Common.{refl}
 use Rattle.std.proofs.lemmas.Bool.{false≢true}
-use Rattle.script_server.proofs.ScriptForm.{none_anyway, NoExport, put_has_space, export_has_space, IsCut, put_has_text, is_one_client, is_one_export}
+use Rattle.script_reader.proofs.CutLaws.{none_anyway}
+use Rattle.script_server.proofs.ScriptForm.{NoExport, put_has_space, export_has_space, IsCut, put_has_text, is_one_client, is_one_export}
 use Rattle.script_server.proofs.script.one_export.Goals as goal
 
 pub returns-in_err-name-clause-none : goal.returns-in_err-name-clause-none

@@ -1,0 +1,8 @@
+pub mod CutLaws
+pub mod KnownCommands
+pub mod Places
+pub mod LineRead
+pub mod Grouping
+pub mod Told
+pub mod OneLine
+pub mod OneScript
