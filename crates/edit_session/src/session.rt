@@ -3,7 +3,8 @@
 ghost use Rattle.std.specs.Prelude.{◌≡◌, ◌↔◌, ◌≤◌, ◌++◌, take, drop, length, Some, None, IsTrue, IfOk, IfErr};
 ghost use Rattle.script_reader.specs.declared.script.Command.TheVariants.{Put, Set, Cut, Show, Export};
 ghost use Rattle.edit_session.specs.Sessions.{start, source_of, refusal, accepted};
-ghost use Rattle.edit_session.specs.Limits.{IsText, HasText, IsWithin};
+ghost use Rattle.script_reader.specs.Limits.{IsText, HasText};
+ghost use Rattle.edit_session.specs.Limits.{IsWithin};
 ghost use Rattle.edit_session.specs.Asking.{Edits, Refuses, Accepts};
 
 use crate::fault::{Asked, SessionFault};

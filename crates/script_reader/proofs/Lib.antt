@@ -6,3 +6,4 @@ pub mod Grouping
 pub mod Told
 pub mod OneLine
 pub mod OneScript
+pub mod WithinLimits

@@ -2,3 +2,4 @@ pub mod Lines
 pub mod Spelling
 pub mod Scripts
 pub mod Reading
+pub mod Limits

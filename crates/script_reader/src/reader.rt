@@ -4,6 +4,7 @@ ghost use Rattle.std.specs.Prelude.{◌≡◌, ◌≤◌, ◌⊎◌, [], length,
 ghost use Rattle.script_reader.specs.declared.script.Script.{Script};
 ghost use Rattle.script_reader.specs.declared.script.ScriptFault.{ScriptFault};
 ghost use Rattle.script_reader.specs.declared.script.ScriptFault.TheVariants.{NoMemory};
+ghost use Rattle.script_reader.specs.Limits.{AreWithin};
 ghost use Rattle.script_reader.specs.Scripts.{EndsScript, HasFault, IsScript, IsScriptFault};
 
 use crate::clients::{Clients, read_line};
@@ -18,6 +19,7 @@ const SCRIPT_BYTES: usize = 1_048_576;
 fn read_lines(alloc: Global, bytes: &[u8]) -> Result<Vec<ClientScript>, ScriptFault>
     requires { length bytes.now ≤ 1048576 }
     ensures found { IfOk result (λ clients. EndsScript [] bytes.now (record { clients = clients.items })) }
+    ensures within { IfOk result (λ clients. AreWithin clients.items) }
     ensures fault { IfErr result (λ fault. (fault ≡ NoMemory) ⊎ HasFault [] 0 bytes.now fault) }
 {
     let mut clients = Clients {
@@ -39,6 +41,7 @@ fn read_lines(alloc: Global, bytes: &[u8]) -> Result<Vec<ClientScript>, ScriptFa
 /// `ScriptFault`. Names are numbered by first appearance.
 pub fn read_script(alloc: Global, bytes: &[u8]) -> Result<Script, ScriptFault>
     ensures found { IfOk result (λ script. IsScript bytes.now script) }
+    ensures within { IfOk result (λ script. AreWithin script.clients) }
     ensures fault { IfErr result (λ fault. (fault ≡ NoMemory) ⊎ IsScriptFault bytes.now fault) }
 
     // Nothing else: a script is read and a fault answered, unless memory runs out.
@@ -49,7 +52,8 @@ pub fn read_script(alloc: Global, bytes: &[u8]) -> Result<Script, ScriptFault>
 }
 
 fn read_bytes(alloc: Global, bytes: &[u8]) -> Result<Script, ScriptFault>
-    ensures { MatchResult result (IsScript bytes.now) (λ fault. (fault ≡ NoMemory) ⊎ IsScriptFault bytes.now fault) }
+    ensures within { IfOk result (λ script. AreWithin script.clients) }
+    ensures outcome { MatchResult result (IsScript bytes.now) (λ fault. (fault ≡ NoMemory) ⊎ IsScriptFault bytes.now fault) }
 {
     if bytes.len() > SCRIPT_BYTES {
         return Err(ScriptFault::TooLarge);

@@ -1,6 +1,7 @@
 use Rattle.std.proofs.Common.{arith}
 use Rattle.std.proofs.lemmas.Result.{err_from_is_err_and}
 use Rattle.script_reader.proofs.OneLine.{first_shorter}
+use Rattle.script_reader.proofs.WithinLimits.{within_more}
 use Rattle.script_reader.proofs.Told.{told_more, told_fault}
 use Rattle.script_reader.proofs.reader.read_lines.Goals as goal
 
@@ -20,6 +21,7 @@ loop-rest-preserved c =
     record {
       known = c.in_ok-read_line.ensures.known;
       counted = omega (arith, less, c.loop-rest.invariant.counted);
+      within = within_more c.loop-rest.rest.now c.first_line.result.0.now c.first_line.result.1.now c.loop-rest.clients.scripts.items c.read_line.new.clients.scripts.items c.first_line.ensures c.in_ok-read_line.ensures.ok c.loop-rest.invariant.within;
       told = told_more c.args.bytes.now c.loop-rest.number c.loop-rest.rest.now c.first_line.result.0.now c.first_line.result.1.now c.loop-rest.clients.scripts.items c.read_line.new.clients.scripts.items
           c.loop-rest.invariant.told c.first_line.ensures c.in_ok-read_line.ensures.ok;
     }
