@@ -1,4 +1,4 @@
-ghost use Rattle.std.specs.Prelude.{◌≡◌, ◌+◌, ◌-◌, ◌^◌, ◌<◌, ◌≤◌, ◌++◌, length, take, IfOk, IfErr, OnOk};
+ghost use Rattle.std.specs.Prelude.{◌≡◌, ℕ, List, ◌+◌, ◌-◌, ◌^◌, ◌<◌, ◌≤◌, ◌++◌, length, take, IfOk, IfErr, OnOk};
 ghost use Rattle.scad_lexer.specs.Words.{IsLongest};
 ghost use Rattle.scad_lexer.specs.Tokens.{Outcome, Gives, Lexes, Agrees, IsFault, IsFaultFrom, moved, IsNext, made};
 
@@ -21,6 +21,11 @@ pub fn lex(alloc: Global, text: &[u8]) -> Result<Vec<Token>, Stop>
 {
     read_tokens(alloc, text)
 }
+
+/// A source gives one thing: its tokens, or its first fault.
+pub fn one_outcome()
+    ensures { (text : List ℕ) (o q : Outcome) → Lexes text o → Lexes text q → o ≡ q }
+{}
 
 fn read_tokens(alloc: Global, text: &[u8]) -> Result<Vec<Token>, Stop>
     requires { length text.now < 2 ^ 32 - 1 }
