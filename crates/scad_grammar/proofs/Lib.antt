@@ -8,6 +8,7 @@ pub mod Greedy
 pub mod Levels
 pub mod Nested
 pub mod Operands
+pub mod Outlines
 pub mod Primary
 pub mod Programs
 pub mod Readers

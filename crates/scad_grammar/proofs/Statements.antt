@@ -42,7 +42,7 @@ module_one = one_at (is module_word) (token (Reserved Module), refl)
 function_one : OneReads (is function_word)
 function_one = one_at (is function_word) (token (Reserved Function), refl)
 
-end_one : OneReads (is end)
+pub end_one : OneReads (is end)
 end_one = one_at (is end) (token End, refl)
 
 -- an `else` behind this statement would be its own
