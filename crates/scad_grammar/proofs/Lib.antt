@@ -1,4 +1,5 @@
 pub mod Ahead
+pub mod Alike
 pub mod Cores
 pub mod Deeper
 pub mod Examples
