@@ -49,7 +49,7 @@ pub record Keeps (R : (A : Type 0) → Reads A → Reads A → Type 0) (T : (A :
   pub ahead_keeps : {A C : Type 0} (f : Token → Token → A → C) (r q : Reads A) (s p : Reads C) → R A r q → R C s p → R C (ahead f (is name) (is assign_sign) r s) (ahead f (is name) (is assign_sign) q p)
   pub many_keeps : {A : Type 0} (test : Token → Bool) (r q : Reads A) → Steady test → R A r q → R (List A) (many test r) (many test q)
   pub many_taken_keeps : {A : Type 0} (cs : List ℕ) (r q : Reads A) → apart (numeral ∷ []) cs ≡ true → T A cs r → R A r q → R (List A) (many (among cs) r) (many (among cs) q)
-  pub trailing_keeps : {A : Type 0} (mark go : Token → Bool) (r q : Reads A) → Steady mark → Steady go → R A r q → R (List A) (trailing mark go r) (trailing mark go q)
+  pub trailing_keeps : {A : Type 0} (go : Token → Bool) (r q : Reads A) → Steady go → R A r q → R (List A) (trailing (is comma_sign) go r) (trailing (is comma_sign) go q)
 
 -- nothing is asked for
 abbrev pub Free : (A : Type 0) → List ℕ → Reads A → Type 0
@@ -80,7 +80,7 @@ module _ (R : (A : Type 0) → Reads A → Reads A → Type 0) (T : (A : Type 0)
   pub args_keep : (a b : Reads ArgTerm) → R ArgTerm a b → R (List ArgTerm) (args_read a) (args_read b)
   args_keep a b ha =
       k.choice_keeps (other_than (close_parenthesis_sign ∷ [])) _ _ (nothing []) (nothing []) (steady_other (close_parenthesis_sign ∷ []) refl)
-      (k.both_keeps cons a b _ _ ha (k.trailing_keeps (is comma_sign) (other_than (close_parenthesis_sign ∷ [])) a b (steady_among (comma_sign ∷ []) refl) (steady_other (close_parenthesis_sign ∷ []) refl) ha)) (k.nothing_keeps [])
+      (k.both_keeps cons a b _ _ ha (k.trailing_keeps (other_than (close_parenthesis_sign ∷ [])) a b (steady_other (close_parenthesis_sign ∷ []) refl) ha)) (k.nothing_keeps [])
 
   pub arg_keeps : (e f : Reads Term) → R Term e f → R ArgTerm (arg_read e) (arg_read f)
   arg_keeps e f he = k.ahead_keeps named e f (mapped PositionalTerm e) (mapped PositionalTerm f) he (k.mapped_keeps PositionalTerm e f he)
@@ -92,10 +92,10 @@ module _ (R : (A : Type 0) → Reads A → Reads A → Type 0) (T : (A : Type 0)
   binder_keeps e f h = behind_keeps binder_of (name ∷ []) _ _ refl (behind_keeps second_of (assign_sign ∷ []) e f refl h)
 
   pub binders_keep : (n m : Reads BinderTerm) → R BinderTerm n m → R (List BinderTerm) (binders_read n) (binders_read m)
-  binders_keep n m h = k.both_keeps cons n m _ _ h (k.trailing_keeps (is comma_sign) (is name) n m (steady_among (comma_sign ∷ []) refl) (steady_among (name ∷ []) refl) h)
+  binders_keep n m h = k.both_keeps cons n m _ _ h (k.trailing_keeps (is name) n m (steady_among (name ∷ []) refl) h)
 
   pub params_keep : (n m : Reads ParamTerm) → R ParamTerm n m → R (List ParamTerm) (params_read n) (params_read m)
-  params_keep n m h = k.choice_keeps (is name) _ _ (nothing []) (nothing []) (steady_among (name ∷ []) refl) (k.both_keeps cons n m _ _ h (k.trailing_keeps (is comma_sign) (is name) n m (steady_among (comma_sign ∷ []) refl) (steady_among (name ∷ []) refl) h)) (k.nothing_keeps [])
+  params_keep n m h = k.choice_keeps (is name) _ _ (nothing []) (nothing []) (steady_among (name ∷ []) refl) (k.both_keeps cons n m _ _ h (k.trailing_keeps (is name) n m (steady_among (name ∷ []) refl) h)) (k.nothing_keeps [])
 
   module _ (e f : Reads Term) (he : R Term e f) where
     behind_colon : R Term (both second_of (one (is colon_sign)) e) (both second_of (one (is colon_sign)) f)
@@ -105,7 +105,7 @@ module _ (R : (A : Type 0) → Reads A → Reads A → Type 0) (T : (A : Type 0)
     rest_keeps =
         k.choice_keeps (is colon_sign) (range_read e) (range_read f) _ _ (steady_among (colon_sign ∷ []) refl)
         (behind_keeps second_of (colon_sign ∷ []) _ _ refl (k.both_keeps range_of e f _ _ he (maybe_keeps (is colon_sign) _ _ (steady_among (colon_sign ∷ []) refl) behind_colon)))
-        (k.mapped_keeps items _ _ (k.trailing_keeps (is comma_sign) (other_than (close_bracket_sign ∷ [])) e f (steady_among (comma_sign ∷ []) refl) (steady_other (close_bracket_sign ∷ []) refl) he))
+        (k.mapped_keeps items _ _ (k.trailing_keeps (other_than (close_bracket_sign ∷ [])) e f (steady_other (close_bracket_sign ∷ []) refl) he))
 
     -- what is behind the opening bracket
     pub filled_keeps : R (Option (Term × Rest)) (both first_of (maybe (other_than (close_bracket_sign ∷ [])) (both pair_of e (rest_read e))) (one (is close_bracket_sign))) (both first_of (maybe (other_than (close_bracket_sign ∷ [])) (both pair_of f (rest_read f))) (one (is close_bracket_sign)))
@@ -149,7 +149,7 @@ module _ (R : (A : Type 0) → Reads A → Reads A → Type 0) (T : (A : Type 0)
   named_keeps a b h = behind_keeps named_of (name ∷ []) _ _ refl (maybe_keeps (is open_parenthesis_sign) _ _ (steady_among (open_parenthesis_sign ∷ []) refl) (parentheses_keep (args_read a) (args_read b) (args_keep a b h)))
 
   -- a primary, where the law holds of single tokens and of the bracket of a list
-  module _ (single : (c : ℕ) (f : Token → Term) → listed firsts_of_primary c ≡ true → R Term (mapped f (one (is c))) (mapped f (one (is c)))) (bracket : R Token (first (is open_bracket_sign)) (first (is open_bracket_sign)))
+  module _ (single : (c : ℕ) (f : Token → Term) → apart (end ∷ []) (c ∷ []) ≡ true → R Term (mapped f (one (is c))) (mapped f (one (is c)))) (bracket : R Token (first (is open_bracket_sign)) (first (is open_bracket_sign)))
       (by_numeral : (r q s p : Reads Term) → R Term r q → R Term s p → R Term (choice (is numeral) r s) (choice (is numeral) q p)) where
     pub primary_keeps : (e f : Reads Term) (a b : Reads ArgTerm) → R Term e f → R ArgTerm a b → R Term (primary_read e a) (primary_read f b)
     primary_keeps e f a b he ha =

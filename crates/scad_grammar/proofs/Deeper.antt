@@ -100,7 +100,7 @@ agreement = record {
   ahead_keeps = λ f. ahead_agrees f (is name) (is assign_sign);
   many_keeps = λ test r q e. many_agrees test r q;
   many_taken_keeps = λ cs r q e t. many_agrees (among cs) r q;
-  trailing_keeps = λ mark go r q e g. trailing_agrees mark go r q;
+  trailing_keeps = λ go r q e. trailing_agrees (is comma_sign) go r q;
 }
 
 -- what begins no expression is refused in the same way at each depth

@@ -13,6 +13,7 @@ pub mod Outlines
 pub mod Primary
 pub mod Programs
 pub mod Readers
+pub mod Regular
 pub mod Separated
 pub mod Statements
 pub mod Tests
