@@ -120,7 +120,7 @@ both_refuses classes f r q ts h = ap (λ x. after x (λ a us. after (q us) (λ b
 mapped_refuses : {A B : Type 0} (classes : List ℕ) (f : A → B) (r : Reads A) (ts : List Token) → r ts ≡ refusal classes ts → mapped f r ts ≡ refusal classes ts
 mapped_refuses classes f r ts h = ap (λ x. after x (λ a us. Ok (f a, us))) h
 
-primary_refuses : (e : Reads Term) (a : Reads ArgTerm) (ts : List Token) → starts (among firsts_of_expression) ts ≡ false → primary_read e a ts ≡ refusal left_out_of_expressions ts
+pub primary_refuses : (e : Reads Term) (a : Reads ArgTerm) (ts : List Token) → starts (among firsts_of_expression) ts ≡ false → primary_read e a ts ≡ refusal left_out_of_expressions ts
 primary_refuses e a ts h =
     skip (starts (is numeral) ts) _ _ (next_less (numeral ∷ []) firsts_of_expression refl ts h)
     ∙ skip (starts (is text) ts) _ _ (next_less (text ∷ []) firsts_of_expression refl ts h)

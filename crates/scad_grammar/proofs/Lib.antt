@@ -5,8 +5,10 @@ pub mod Deeper
 pub mod Examples
 pub mod Expressions
 pub mod FirstFaults
+pub mod Gaps
 pub mod Greedy
 pub mod Levels
+pub mod Lockstep
 pub mod Nested
 pub mod Operands
 pub mod Outlines
@@ -15,6 +17,7 @@ pub mod Programs
 pub mod Readers
 pub mod Regular
 pub mod Separated
+pub mod Shrinks
 pub mod Statements
 pub mod Tests
 pub mod Trailing
