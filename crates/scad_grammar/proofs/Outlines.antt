@@ -11,7 +11,8 @@ use Rattle.scad_grammar.specs.Faults.{Reads, one, fault_of, left_out, left_out_o
 use Rattle.scad_grammar.specs.Reads.{head_of, arg_read, args_read, primary_read, unary_read, choice_read}
 use Rattle.scad_grammar.specs.StatementReads.{firsts_of_statement, param_read, binder_read, params_read, binders_read, statement_over, body_over, braces_read}
 use Rattle.scad_grammar.specs.declared.SyntaxFault.{SyntaxFault}
-use Rattle.scad_grammar.proofs.Readers.{SameHead, Begins, Told, IsReader, same_start, plain_seen, seen, one_reads, mapped_reads, never_starts}
+use Rattle.scad_grammar.proofs.Readers.{same_reads, SameHead, Begins, Told, IsReader, same_start, plain_seen, seen, one_reads, mapped_reads, never_starts}
+use Rattle.scad_grammar.proofs.Wider.{none_many}
 use Rattle.scad_grammar.proofs.Greedy.{Stops, mapped_stops}
 use Rattle.scad_grammar.proofs.Tests.{fault_plain, next_apart, next_less, no_close}
 use Rattle.scad_grammar.proofs.Operands.{token, operand_more}
@@ -186,8 +187,19 @@ open_statement_reads (suc d) =
         body_stops (open_statement d) (StatementsAt outline d) (StatementsAt outline d) below.0 (some_statements outline d) (open_instance d (open_body d)) (InstanceAt outline d) (InstanceAt outline d) ii si (instance_depth_opens outline d),
       )
 
--- an outline is read, to a depth above none
-pub outline_reads : (d : ℕ) → IsReader (outline_read (suc d)) (Outline (suc d)) (Outline (suc d)) (λ x t. false)
+statements_at : (d : ℕ) → IsReader (many (among firsts_of_statement) (open_statement d)) (Many (Statement outline d)) (Many (Statement outline d)) (λ xs. among statements_more)
+unfolding Statement Body
+statements_at zero =
+    same_reads (many (among firsts_of_statement) (open_statement zero)) (Nothing []) (Nothing []) (Many (Statement outline zero)) (Many (Statement outline zero)) (λ xs. among statements_more) (open_statement_reads zero).0
+    (none_many (Statement outline zero)) nothing (none_many (Statement outline zero))
+  where
+    nothing : (x : List StatementTerm) (s : List Token) → Many (Statement outline zero) x s → Nothing [] x s
+    nothing [] s h = (refl, h)
+    nothing (x ∷ xs) s h = elim h.2 [ ]
+statements_at (suc d) = (open_statement_reads (suc d)).0
+
+-- an outline is read
+pub outline_reads : (d : ℕ) → IsReader (outline_read d) (Outline d) (Outline d) (λ x t. false)
 outline_reads d =
-    before_reads (many (among firsts_of_statement) (open_statement (suc d))) (Many (Statement outline (suc d))) (Many (Statement outline (suc d))) end (λ x. among statements_more) end_one (token End) refl
-    (open_statement_reads (suc d)).0 (λ x. next_apart (end ∷ []) statements_more refl)
+    before_reads (many (among firsts_of_statement) (open_statement d)) (Many (Statement outline d)) (Many (Statement outline d)) end (λ x. among statements_more) end_one (token End) refl
+    (statements_at d) (λ x. next_apart (end ∷ []) statements_more refl)

@@ -102,7 +102,7 @@ times_fair (suc n) test r h ts =
     cond_fair ts (starts test ts) (after (r ts) (λ x us. with_front x (many_times n test r us))) (Ok ([], ts))
     (after_fair ts (r ts) (λ x us. with_front x (many_times n test r us)) (h.at ts) (λ x us. front_fair x us (many_times n test r us) (times_fair n test r h us))) (λ e. e)
 
-many_fair : {A : Type 0} (test : Token → Bool) (r : Reads A) → Regular r → Regular (many test r)
+pub many_fair : {A : Type 0} (test : Token → Bool) (r : Reads A) → Regular r → Regular (many test r)
 unfolding many
 many_fair test r h = record { at = λ ts. times_fair (length ts) test r h ts }
 

@@ -129,7 +129,7 @@ nothing_params : (k : ℕ) (E : Language Term) → Within (Nothing []) (ParamsIn
 nothing_params zero E = same_within _
 nothing_params (suc k) E = record { at = λ x s h. inr h }
 
-none_many : {A : Type 0} (L : Language A) (x : List A) (s : List Token) → Nothing [] x s → Many L x s
+pub none_many : {A : Type 0} (L : Language A) (x : List A) (s : List Token) → Nothing [] x s → Many L x s
 none_many L [] s h = h.1
 none_many L (y ∷ ys) s h = absurd (let e = h.0 in cc)
 
