@@ -1,16 +1,16 @@
 -- Readers that are built in the same way: a law of two readers that each way of building keeps holds of what is built.
-use Rattle.std.proofs.Common.{◌≡◌, ℕ, List, [], ◌∷◌, ◌++◌, length, ◌≤◌, Bool, true, false, cond, not, Ok, Err, Option, Some, None, ◌⊎◌, inl, inr, refl, sym, ap, ◌∙◌, subst}
+use Rattle.std.proofs.Common.{◌≡◌, ℕ, List, [], ◌∷◌, length, ◌≤◌, Bool, true, false, cond, not, Ok, Err, Option, Some, None, ◌⊎◌, inl, refl, sym, ap, ◌∙◌, subst}
 use Rattle.scad_lexer.specs.declared.token.Token.{Token}
 use Rattle.scad_ast.specs.Terms.{Term, SuffixTerm, NumberTerm, TextTerm, TruthTerm, UndefTerm, ChildCountTerm, ArgTerm, PositionalTerm, ParamTerm, BinderTerm, MarkTerm, StatementTerm, EmptyStatement, InstanceStatement, InstanceTerm, CoreTerm, BodyTerm, EmptyBody, InstanceBody}
 use Rattle.scad_grammar.specs.declared.SyntaxFault.{SyntaxFault}
 use Rattle.scad_grammar.specs.declared.SyntaxFault.TheVariants.{Nested}
-use Rattle.scad_grammar.specs.Classes.{listed, or_sign, and_sign, equal_sign, not_equal_sign, less_sign, less_equal_sign, greater_sign, greater_equal_sign, times_sign, divide_sign, remainder_sign, numeral, text, true_word, false_word, undef_word, child_count, name, end, if_word, else_word, for_word, intersection_for_word, module_word, function_word, open_parenthesis_sign, close_parenthesis_sign, open_bracket_sign, close_bracket_sign, open_brace_sign, close_brace_sign, comma_sign, semicolon_sign, assign_sign, colon_sign, question_sign, dot_sign, minus_sign, plus_sign, not_sign, among, is, other_than, class_of, number_of, bytes_of}
+use Rattle.scad_grammar.specs.Classes.{or_sign, and_sign, equal_sign, not_equal_sign, less_sign, less_equal_sign, greater_sign, greater_equal_sign, times_sign, divide_sign, remainder_sign, numeral, text, true_word, false_word, undef_word, child_count, name, end, if_word, else_word, for_word, module_word, function_word, open_parenthesis_sign, close_parenthesis_sign, open_bracket_sign, close_bracket_sign, open_brace_sign, close_brace_sign, comma_sign, semicolon_sign, assign_sign, colon_sign, question_sign, dot_sign, minus_sign, plus_sign, not_sign, among, is, other_than, class_of, number_of, bytes_of}
 use Rattle.scad_grammar.specs.Languages.{first_of, second_of, pair_of, cons}
 use Rattle.scad_grammar.specs.Grammar.{Rest, items, link, chain_of, unary_of, postfix_of, index_of, member_of, levels, choice_of, named_of, paren_of, bracket_of, range_of, binder_of, param_of, mark_of, if_of, loop_of, call_of, instance_of, block_of, bare_block_of, module_of, function_of}
 use Rattle.scad_grammar.specs.Reading.{Read, after, mapped, nothing, both, choice, maybe, ahead, many, trailing}
 use Rattle.scad_grammar.specs.Faults.{Reads, one, first, fault_of, left_out}
-use Rattle.scad_grammar.specs.Reads.{firsts_of_primary, suffix_read, postfix_read, unary_read, chain_read, named, arg_read, args_read, in_parentheses, range_read, rest_read, bracket_read, name_read, paren_read, primary_read, choice_read}
-use Rattle.scad_grammar.specs.StatementReads.{mark_signs, loop_words, firsts_of_statement, param_read, binder_read, params_read, binders_read, if_read, call_read, marks_read, instance_read, braces_read, body_over, module_read, ended_read, function_read, definition_read, assigned, statement_over}
+use Rattle.scad_grammar.specs.Reads.{suffix_read, postfix_read, unary_read, chain_read, named, arg_read, args_read, in_parentheses, range_read, rest_read, bracket_read, name_read, paren_read, primary_read, choice_read}
+use Rattle.scad_grammar.specs.StatementReads.{mark_signs, loop_words, firsts_of_statement, param_read, binder_read, params_read, binders_read, if_read, call_read, marks_read, braces_read, body_over, ended_read, function_read, definition_read, assigned, statement_over}
 use Rattle.scad_grammar.proofs.Ahead.{rest_of}
 use Rattle.scad_grammar.proofs.Tests.{apart, classes_apart, classes_within}
 use Rattle.scad_grammar.proofs.Cores.{loop_over, core_over, instance_over}

@@ -5,20 +5,20 @@ use Rattle.scad_lexer.specs.declared.token.TokenKind.TheVariants.{Name, Reserved
 use Rattle.scad_lexer.specs.declared.token.Reserved.TheVariants.{If, Else, For}
 use Rattle.scad_lexer.specs.declared.token.Symbol.TheVariants.{OpenParenthesis, CloseParenthesis, Assign, Times}
 use Rattle.scad_ast.specs.Terms.{Term, ArgTerm, ParamTerm, BinderTerm, MarkTerm, InstanceStatement, InstanceTerm, CoreTerm, ForTerm, IntersectionForTerm, BodyTerm}
-use Rattle.scad_grammar.specs.Classes.{name, if_word, else_word, for_word, intersection_for_word, open_parenthesis_sign, close_parenthesis_sign, close_bracket_sign, comma_sign, assign_sign, among, is, other_than}
+use Rattle.scad_grammar.specs.Classes.{name, if_word, else_word, for_word, intersection_for_word, open_parenthesis_sign, close_parenthesis_sign, comma_sign, assign_sign, among, is, other_than}
 use Rattle.scad_grammar.specs.Languages.{Language, One, Mapped, Both, BothIf, EitherOf, Nothing, Many, Maybe, Behind, Separated, first_of, second_of, pair_of, cons}
-use Rattle.scad_grammar.specs.Grammar.{InParentheses, Arg, Args, Param, Params, Binder, Binders, Core, Instance, binder_of, param_of, mark_of, if_of, loop_of, call_of, instance_of, IsNearest, ends_open, instance_open, core_open}
+use Rattle.scad_grammar.specs.Grammar.{InParentheses, Param, Params, Binder, Binders, Core, Instance, binder_of, param_of, mark_of, if_of, loop_of, call_of, instance_of, IsNearest, ends_open, instance_open, core_open}
 use Rattle.scad_grammar.specs.Reading.{Read, after, starts, mapped, nothing, both, choice, maybe, trailing}
 use Rattle.scad_grammar.specs.Faults.{Reads, one, fault_of, left_out}
-use Rattle.scad_grammar.specs.Reads.{firsts_of_expression, in_parentheses, args_read}
-use Rattle.scad_grammar.specs.StatementReads.{mark_signs, loop_words, firsts_of_core, firsts_of_instance, param_read, binder_read, params_read, binders_read, if_read, loop_read, call_read, core_read, marks_read, instance_read}
+use Rattle.scad_grammar.specs.Reads.{in_parentheses, args_read}
+use Rattle.scad_grammar.specs.StatementReads.{mark_signs, loop_words, firsts_of_core, firsts_of_instance, param_read, binder_read, params_read, binders_read, if_read, call_read, marks_read, instance_read}
 use Rattle.scad_grammar.proofs.Readers.{IsReader, Opens, both_reads, choice_reads, mapped_reads, many_reads, nothing_reads, both_opens, either_opens, mapped_opens, one_opens, never_starts}
 use Rattle.scad_grammar.proofs.Greedy.{Stops, both_if_reads, both_stops, choice_stops, or_first, maybe_ends, maybe_reads, maybe_stops}
 use Rattle.scad_grammar.proofs.Separated.{separated_reads}
-use Rattle.scad_grammar.proofs.Tests.{OneReads, one_at, then, apart, next_apart, next_within, next_less, next_other, no_close, close_ends}
+use Rattle.scad_grammar.proofs.Tests.{OneReads, one_at, then, apart, next_apart, next_within, next_less, no_close, close_ends}
 use Rattle.scad_grammar.proofs.Operands.{token, name_one}
-use Rattle.scad_grammar.proofs.Primary.{Some_of, in_parentheses_reads, args_reads}
-use Rattle.scad_grammar.proofs.Expressions.{expression_more, arg_more, arg_opens, two_not, two_name}
+use Rattle.scad_grammar.proofs.Primary.{Some_of, in_parentheses_reads}
+use Rattle.scad_grammar.proofs.Expressions.{expression_more, arg_more, two_not, two_name}
 use Rattle.scad_grammar.proofs.Ahead.{two, rest_of}
 use Rattle.scad_grammar.specs.declared.SyntaxFault.{SyntaxFault}
 

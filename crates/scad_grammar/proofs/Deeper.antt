@@ -4,16 +4,16 @@ use Rattle.scad_lexer.specs.declared.token.Token.{Token}
 use Rattle.scad_ast.specs.Terms.{Term, ArgTerm, ParamTerm, BinderTerm, StatementTerm, InstanceStatement, BodyTerm, InstanceBody, PositionalTerm}
 use Rattle.scad_grammar.specs.declared.SyntaxFault.{SyntaxFault}
 use Rattle.scad_grammar.specs.declared.SyntaxFault.TheVariants.{Nested}
-use Rattle.scad_grammar.specs.Classes.{numeral, text, true_word, false_word, undef_word, child_count, name, end, if_word, else_word, module_word, function_word, open_parenthesis_sign, close_parenthesis_sign, open_bracket_sign, close_bracket_sign, open_brace_sign, close_brace_sign, comma_sign, semicolon_sign, assign_sign, colon_sign, question_sign, dot_sign, minus_sign, plus_sign, not_sign, among, is, other_than}
-use Rattle.scad_grammar.specs.Languages.{first_of, second_of, pair_of, cons}
-use Rattle.scad_grammar.specs.Grammar.{items, link, chain_of, unary_of, postfix_of, index_of, levels, choice_of, named_of, paren_of, bracket_of, range_of, binder_of, param_of, if_of, loop_of, call_of, instance_of, block_of, bare_block_of, module_of, function_of}
+use Rattle.scad_grammar.specs.Classes.{numeral, text, true_word, false_word, undef_word, child_count, name, end, if_word, module_word, function_word, open_parenthesis_sign, open_bracket_sign, open_brace_sign, comma_sign, semicolon_sign, assign_sign, minus_sign, plus_sign, not_sign, among, is}
+use Rattle.scad_grammar.specs.Languages.{first_of}
+use Rattle.scad_grammar.specs.Grammar.{chain_of, postfix_of, levels, choice_of, bracket_of, binder_of, param_of, call_of, instance_of}
 use Rattle.scad_grammar.specs.Reading.{Read, after, starts, one_of, mapped, nothing, both, choice, maybe, ahead, with_front, many_times, many, trailing_times, trailing}
 use Rattle.scad_grammar.specs.Faults.{Reads, one, first, fault_of, left_out, left_out_of_expressions}
-use Rattle.scad_grammar.specs.Reads.{head_of, nested, firsts_of_expression, suffix_read, unary_read, chain_read, named, arg_read, args_read, in_parentheses, range_read, rest_read, bracket_read, name_read, paren_read, primary_read, choice_read, arg_in, expr_read, operand_read}
-use Rattle.scad_grammar.specs.StatementReads.{mark_signs, loop_words, firsts_of_core, firsts_of_instance, firsts_of_body, firsts_of_statement, param_read, binder_read, params_read, binders_read, if_read, core_read, marks_read, instance_read, braces_read, body_over, ended_read, definition_read, assigned, statement_over, param_in, binder_in, statement_read, body_read, program_read}
+use Rattle.scad_grammar.specs.Reads.{head_of, nested, firsts_of_expression, unary_read, chain_read, named, arg_read, primary_read, choice_read, arg_in, expr_read, operand_read}
+use Rattle.scad_grammar.specs.StatementReads.{mark_signs, loop_words, firsts_of_core, firsts_of_instance, firsts_of_body, firsts_of_statement, param_read, binder_read, binders_read, core_read, instance_read, body_over, ended_read, definition_read, assigned, statement_over, param_in, binder_in, statement_read, body_read, program_read}
 use Rattle.scad_grammar.proofs.Tests.{next_less}
 use Rattle.scad_grammar.proofs.Cores.{marks_reads}
-use Rattle.scad_grammar.proofs.Alike.{Keeps, Free, args_keep, arg_keeps, param_keeps, binder_keeps, binders_keep, params_keep, unary_keeps, expression_keeps, primary_keeps, instance_keeps, body_keeps, statement_keeps}
+use Rattle.scad_grammar.proofs.Alike.{Keeps, Free, arg_keeps, param_keeps, binder_keeps, binders_keep, unary_keeps, expression_keeps, primary_keeps, instance_keeps, body_keeps, statement_keeps}
 
 abbrev pub Alike : {A : Type 0} → Read Token SyntaxFault A → Read Token SyntaxFault A → Type 0
 Alike r q = (r ≡ q) ⊎ ((at : List Token) × (r ≡ Err (Nested, at)))

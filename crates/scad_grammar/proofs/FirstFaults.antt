@@ -11,9 +11,8 @@ use Rattle.scad_grammar.specs.Reading.{Read, after, many}
 use Rattle.scad_grammar.specs.Faults.{Reads, one, fault_of, left_out, left_out_of_expressions}
 use Rattle.scad_grammar.specs.Grammar.{Program, Outline}
 use Rattle.scad_grammar.specs.StatementReads.{firsts_of_statement, statement_read, program_read}
-use Rattle.scad_grammar.specs.FirstFault.{BeginsSome, BeginsWithin, BeforeExpression, IsLeftOut, IsFault, IsFirstFault, EndsOnce}
+use Rattle.scad_grammar.specs.FirstFault.{BeginsSome, BeginsWithin, IsFault, IsFirstFault, EndsOnce}
 use Rattle.scad_grammar.proofs.Readers.{Begins, Told, IsReader, SameHead, seen}
-use Rattle.scad_grammar.proofs.Ahead.{rest_of}
 use Rattle.scad_grammar.proofs.Tests.{classes_apart, classes_within, either_listed}
 use Rattle.scad_grammar.proofs.Expressions.{zero_token}
 use Rattle.scad_grammar.proofs.Shrinks.{left}
@@ -25,7 +24,6 @@ use Rattle.scad_grammar.proofs.Outlines.{outline_read, outline_reads}
 use Rattle.scad_grammar.proofs.Gaps.{Cut, equal, refused, gapped, program_cut}
 use Rattle.scad_grammar.proofs.Statements.{program_reads}
 use Rattle.scad_grammar.proofs.Wider.{lift, is_outline}
-use Rattle.scad_grammar.proofs.Programs.{complete_at}
 
 abbrev ReadProgram : Type 0
 ReadProgram = Read Token SyntaxFault (List StatementTerm)
@@ -49,8 +47,10 @@ front_of [] v s r e l = (s, refl)
 front_of (t ∷ u) v [] r e l = absurd (omega (arith, ap length e, length-append u v))
 front_of (t ∷ u) v (y ∷ s) r e l =
     let pair : ◌≡◌ {A = Token × List Token} (t, u ++ v) (y, s ++ r) = cc in
-    let k = front_of u v s r (ap (λ (p : Token × List Token). p.1) pair) l in
-    (k.0, ap (λ h. h ∷ s) (sym (ap (λ (p : Token × List Token). p.0) pair)) ∙ ap (λ l. t ∷ l) k.1)
+    same_head (ap (λ (p : Token × List Token). p.0) pair) (front_of u v s r (ap (λ (p : Token × List Token). p.1) pair) l)
+  where
+    same_head : t ≡ y → (w : List Token) × (s ≡ u ++ w) → (w : List Token) × (y ∷ s ≡ t ∷ (u ++ w))
+    same_head e k = (k.0, ap (λ h. h ∷ s) (sym e) ∙ ap (λ l. t ∷ l) k.1)
 
 -- what a reader has gone beyond begins something
 module _ (r : Reads (List StatementTerm)) (L W : Language (List StatementTerm)) (i : IsReader r L W (λ x t. false)) where
@@ -78,7 +78,7 @@ module _ (r : Reads (List StatementTerm)) (L W : Language (List StatementTerm)) 
 
 -- a fault at one depth is one at each greater depth, if it isn't want of depth
 one_deeper : (d : ℕ) (ts : List Token) (fault : SyntaxFault) (at : List Token) → fault ≢ Nested → program_read d ts ≡ Err (fault, at) → program_read (suc d) ts ≡ Err (fault, at)
-one_deeper d ts fault at n e = elim ((program_agrees d).at ts) [ | inl h ↦ sym h ∙ e | inr h ↦ absurd (n (same_kind fault Nested at h.0 (program_read d ts) e h.1)) ]
+one_deeper d ts fault at n e = elim ((program_agrees d).at ts) [ inl h ↦ sym h ∙ e | inr h ↦ absurd (n (same_kind fault Nested at h.0 (program_read d ts) e h.1)) ]
 
 fault_deeper : (k d : ℕ) (ts : List Token) (fault : SyntaxFault) (at : List Token) → fault ≢ Nested → program_read d ts ≡ Err (fault, at) → program_read (k + d) ts ≡ Err (fault, at)
 fault_deeper zero d ts fault at n e = let z : 0 + d ≡ d = omega arith in rw z e
@@ -113,8 +113,8 @@ reading_ends d ts n = go (many (among firsts_of_statement) (statement_read d) ts
     go (Err e) f = (f.0, f.1 n)
 
 -- all before a fault begins a program that is not too deep
-begins_within : (d : ℕ) (ts s at : List Token) (fault : SyntaxFault) → program_read d ts ≡ Err (fault, at) → ts ≡ s ++ at → BeginsWithin d s
-begins_within d ts s at fault e is =
+outline_begins : (d : ℕ) (ts s at : List Token) (fault : SyntaxFault) → program_read d ts ≡ Err (fault, at) → ts ≡ s ++ at → (x : List StatementTerm) × (w : List Token) × Outline d x (s ++ w)
+outline_begins d ts s at fault e is =
     let b = reaches (outline_read d) (Outline d) (Outline d) (outline_reads d) ts s at is (go (program_read d ts) (outline_read d ts) e ((program_cut d).at ts)) in
     (b.1, b.0, b.2)
   where
@@ -128,7 +128,7 @@ too_deep : (d : ℕ) (ts s : List Token) (t : Token) (more : List Token) → pro
 too_deep d ts s t more e is b = go (program_read d ts) (outline_read d ts) refl e ((program_cut d).at ts)
   where
     open_dead : (l : SyntaxFault) (p : ReadProgram) → outline_read d ts ≡ p → p ≡ Err (l, t ∷ more) → ⊥
-    open_dead l p f g = dead (outline_read d) (Outline d) (Outline d) (outline_reads d) ts l t more s (f ∙ g) is b.0 b.1 b.2
+    open_dead l p f g = dead (outline_read d) (Outline d) (Outline d) (outline_reads d) ts l t more s (f ∙ g) is b.1 b.2 b.3
 
     go : (q p : ReadProgram) → outline_read d ts ≡ p → q ≡ Err (Nested, t ∷ more) → Cut q p → ⊥
     go q p h f (equal g) = open_dead Nested p h (sym g ∙ f)
@@ -189,7 +189,7 @@ module _ (d : ℕ) (ts s : List Token) (t : Token) (more : List Token) (is_at : 
       plain k h e =
           let is_expected = expected k h in
           subst (λ k. IsFault d k s t) (sym is_expected)
-          (dead_some d ts Expected t more s (λ h. cc) (e ∙ ap (λ k. Err (k, t ∷ more)) is_expected) is_at, λ l. elim l [ | inl x ↦ absurd (let f : true ≡ false = sym x ∙ a in cc) | inr x ↦ absurd (let f : true ≡ false = sym x.0 ∙ b in cc) ])
+          (dead_some d ts Expected t more s (λ h. cc) (e ∙ ap (λ k. Err (k, t ∷ more)) is_expected) is_at, λ l. elim l [ inl x ↦ absurd (let f : true ≡ false = sym x ∙ a in cc) | inr x ↦ absurd (let f : true ≡ false = sym x.0 ∙ b in cc) ])
   listed_out true b a k h e n = go (either_listed words left_out (class_of t.kind) b)
     where
       go : (among words t ≡ true) ⊎ (among left_out t ≡ true) → IsFault d k s t
@@ -199,9 +199,9 @@ module _ (d : ℕ) (ts s : List Token) (t : Token) (more : List Token) (is_at : 
           kinds : (k : SyntaxFault) → (k ≡ fault_of left_out (Some t)) ⊎ (k ≡ fault_of left_out_of_expressions (Some t)) → program_read d ts ≡ Err (k, t ∷ more) → k ≢ Nested → ((m : Token) → is numeral m ≡ true → ((k ≡ Expected) × (BeginsSome (s ++ m ∷ []) → ⊥)) ⊎ ((k ≡ NotInProfile) × BeginsSome (s ++ m ∷ []))) → IsFault d k s t
           kinds Nested h e n f = absurd (n refl)
           kinds Expected h e n f =
-              (dead_some d ts Expected t more s n e is_at, λ l. elim l [ | inl x ↦ absurd (let f : true ≡ false = sym x ∙ a in cc) | inr x ↦ elim (f x.1.0 x.1.1) [ | inl y ↦ y.1 x.1.2 | inr y ↦ absurd (let z = y.0 in cc) ] ])
+              (dead_some d ts Expected t more s n e is_at, λ l. elim l [ inl x ↦ absurd (let f : true ≡ false = sym x ∙ a in cc) | inr x ↦ elim (f x.1.0 x.1.1) [ inl y ↦ y.1 x.1.2 | inr y ↦ absurd (let z = y.0 in cc) ] ])
           kinds NotInProfile h e n f =
-              (dead_some d ts NotInProfile t more s n e is_at, elim (f zero_token refl) [ | inl y ↦ absurd (let z = y.0 in cc) | inr y ↦ inr (b, (zero_token, refl, y.1)) ])
+              (dead_some d ts NotInProfile t more s n e is_at, elim (f zero_token refl) [ inl y ↦ absurd (let z = y.0 in cc) | inr y ↦ inr (b, (zero_token, refl, y.1)) ])
 
   always_out : among left_out t ≡ true → (k : SyntaxFault) → (k ≡ fault_of left_out (Some t)) ⊎ (k ≡ fault_of left_out_of_expressions (Some t)) → program_read d ts ≡ Err (k, t ∷ more) → IsFault d k s t
   always_out a k h e =
@@ -235,7 +235,9 @@ first_fault d ts fault at n e = go (program_read d ts) refl e (reading_ends d ts
     here : (at : List Token) → EndsOnce at → OfKind (fault, at) → program_read d ts ≡ Err (fault, at) → (s : List Token) → ts ≡ s ++ at → Begins (Program (suc (suc d))) (s ++ seen fault at) → IsFirstFault d ts fault at
     here [] x k e s i b = elim x [ ]
     here (t ∷ more) x k e s i b =
-        (s, t, more, i, refl, (suc (suc d), b.1, seen fault (t ∷ more) ++ b.0, subst (Program (suc (suc d)) b.1) (append_assoc s (seen fault (t ∷ more)) b.0) b.2), begins_within d ts s (t ∷ more) fault e i, is_fault d ts s t more i fault e k b)
+        let some : BeginsSome s = (suc (suc d), b.1, seen fault (t ∷ more) ++ b.0, subst (Program (suc (suc d)) b.1) (append_assoc s (seen fault (t ∷ more)) b.0) b.2) in
+        let o = outline_begins d ts s (t ∷ more) fault e i in
+        (s, t, more, i, refl, (some, o.0, o.1, o.2), is_fault d ts s t more i fault e k b)
 
     go : (q : ReadProgram) → program_read d ts ≡ q → q ≡ Err (fault, at) → Ends q → Told (program_read d) (Program d) (Program (suc (suc d))) ts q → IsFirstFault d ts fault at
     go (Ok p) f e x t = elim (no_both p.0 p.1 fault at (Ok p) refl e) [ ]
@@ -279,19 +281,22 @@ divided (x ∷ s) (y ∷ r) t u more rest e =
       ]
     ]
 
--- no program that isn't too deep goes on with the token of a fault
-not_alive : (d : ℕ) (k : SyntaxFault) (s : List Token) (t : Token) → IsFault d k s t → BeginsSome (s ++ t ∷ []) → BeginsWithin d (s ++ t ∷ []) → ⊥
-not_alive d Expected s t f b w = f.0 b
-not_alive d NotInProfile s t f b w = f.0 b
-not_alive d Nested s t f b w = f.1 w
+-- with the token of a fault no program goes on in which it isn't too deep
+not_alive : (d : ℕ) (k : SyntaxFault) (s : List Token) (t : Token) → IsFault d k s t → BeginsWithin d (s ++ t ∷ []) → ⊥
+not_alive d Expected s t f b = f.0 b.0
+not_alive d NotInProfile s t f b = f.0 b.0
+not_alive d Nested s t f b = f.1 b
 
 -- so no first fault stands behind it
-not_behind : (d : ℕ) (k : SyntaxFault) (s : List Token) (t : Token) (v r : List Token) → IsFault d k s t → r ≡ s ++ t ∷ v → BeginsSome r → BeginsWithin d r → ⊥
-not_behind d k s t v r f e b w =
+not_behind : (d : ℕ) (k : SyntaxFault) (s : List Token) (t : Token) (v r : List Token) → IsFault d k s t → r ≡ s ++ t ∷ v → BeginsWithin d r → ⊥
+not_behind d k s t v r f e b =
     let apart : s ++ t ∷ v ≡ (s ++ t ∷ []) ++ v = sym (append_assoc s (t ∷ []) v) in
-    not_alive d k s t f
-    (b.0, b.1, v ++ b.2, subst (Program b.0 b.1) (ap (λ l. l ++ b.2) (e ∙ apart) ∙ append_assoc (s ++ t ∷ []) v b.2) b.3)
-    (w.0, v ++ w.1, subst (Outline d w.0) (ap (λ l. l ++ w.1) (e ∙ apart) ∙ append_assoc (s ++ t ∷ []) v w.1) w.2)
+    not_alive d k s t f (
+      (b.0.0, b.0.1, v ++ b.0.2, subst (Program b.0.0 b.0.1) (ap (λ l. l ++ b.0.2) (e ∙ apart) ∙ append_assoc (s ++ t ∷ []) v b.0.2) b.0.3),
+      b.1,
+      v ++ b.2,
+      subst (Outline d b.1) (ap (λ l. l ++ b.2) (e ∙ apart) ∙ append_assoc (s ++ t ∷ []) v b.2) b.3,
+    )
 
 one_kind : (d : ℕ) (k l : SyntaxFault) (s : List Token) (t : Token) → IsFault d k s t → IsFault d l s t → k ≡ l
 one_kind d Expected Expected s t f g = refl
@@ -313,10 +318,10 @@ one_fault d ts k l at bt f g =
     let u = g.1 in
     let whole : s ++ t ∷ f.2 ≡ r ++ u ∷ g.2 = ap (λ l. s ++ l) (sym f.4) ∙ sym f.3 ∙ g.3 ∙ ap (λ l. r ++ l) g.4 in
     elim (divided s r t u f.2 g.2 whole) [
-      | inl e ↦ absurd (not_behind d k s t e.0 r f.7 e.1 g.5 g.6)
+      | inl e ↦ absurd (not_behind d k s t e.0 r f.6 e.1 g.5)
       | inr e ↦ elim e [
-        | inl e ↦ absurd (not_behind d l r u e.0 s g.7 e.1 f.5 f.6)
-        | inr e ↦ (one_kind d k l r u (subst (λ t. IsFault d k r t) e.1 (subst (λ s. IsFault d k s t) e.0 f.7)) g.7, f.4 ∙ ap (λ t. t ∷ f.2) e.1 ∙ ap (λ l. u ∷ l) e.2 ∙ sym g.4)
+        | inl e ↦ absurd (not_behind d l r u e.0 s g.6 e.1 f.5)
+        | inr e ↦ (one_kind d k l r u (subst (λ t. IsFault d k r t) e.1 (subst (λ s. IsFault d k s t) e.0 f.6)) g.6, f.4 ∙ ap (λ t. t ∷ f.2) e.1 ∙ ap (λ l. u ∷ l) e.2 ∙ sym g.4)
       ]
     ]
 
@@ -327,7 +332,7 @@ no_fault d ts x k at h f =
     let t = f.1 in
     let whole : ts ≡ (s ++ t ∷ []) ++ f.2 = f.3 ∙ ap (λ l. s ++ l) f.4 ∙ sym (append_assoc s (t ∷ []) f.2) in
     let is : Program d x ((s ++ t ∷ []) ++ f.2) = subst (Program d x) whole h in
-    not_alive d k s t f.7 (d, x, f.2, is) (x, f.2, is_outline d x ((s ++ t ∷ []) ++ f.2) is)
+    not_alive d k s t f.6 ((d, x, f.2, is), x, f.2, is_outline d x ((s ++ t ∷ []) ++ f.2) is)
 
 -- and a first fault is what the reading gives
 pub only_fault : (d : ℕ) (ts : List Token) (fault : SyntaxFault) (at : List Token) → EndsOnce ts → IsFirstFault d ts fault at → program_read d ts ≡ Err (fault, at)

@@ -1,7 +1,7 @@
 -- A program's reader and an outline's reader do the same until one token is refused; where that is a gap, the outline's reader goes on.
-use Rattle.std.proofs.Common.{◌≡◌, ℕ, zero, suc, ◌≤◌, List, [], ◌∷◌, length, Bool, true, false, cond, Ok, Err, Option, Some, None, refl, sym, ap, ◌∙◌, subst, arith, ◌&&◌}
+use Rattle.std.proofs.Common.{◌≡◌, ℕ, zero, suc, ◌≤◌, List, [], ◌∷◌, length, Bool, true, false, cond, Ok, Err, Some, refl, sym, ap, ◌∙◌, subst, arith, ◌&&◌}
 use Rattle.scad_lexer.specs.declared.token.Token.{Token}
-use Rattle.scad_ast.specs.Terms.{Term, ArgTerm, ParamTerm, BinderTerm, StatementTerm, InstanceTerm, BodyTerm, EmptyBody, UndefTerm}
+use Rattle.scad_ast.specs.Terms.{Term, ArgTerm, BinderTerm, EmptyBody, UndefTerm}
 use Rattle.scad_grammar.specs.declared.SyntaxFault.{SyntaxFault}
 use Rattle.scad_grammar.specs.declared.SyntaxFault.TheVariants.{Expected, Nested, NotInProfile}
 use Rattle.scad_grammar.specs.Classes.{numeral, special, name, end, assign_sign, comma_sign, open_bracket_sign, listed, among, is, class_of}
@@ -9,12 +9,11 @@ use Rattle.scad_grammar.specs.Languages.{first_of, cons}
 use Rattle.scad_grammar.specs.Reading.{Read, after, starts, one_of, mapped, nothing, both, choice, ahead, with_front, many_times, many, trailing_times, trailing}
 use Rattle.scad_grammar.specs.Faults.{Reads, one, first, fault_of, left_out, left_out_of_expressions}
 use Rattle.scad_grammar.specs.Reads.{head_of, nested, firsts_of_expression, primary_read, arg_in, expr_read, operand_read}
-use Rattle.scad_grammar.specs.StatementReads.{firsts_of_body, firsts_of_statement, binder_read, param_in, binder_in, binders_read, instance_in, statement_read, body_read, program_read}
-use Rattle.scad_grammar.proofs.Tests.{apart, classes_apart, classes_within, next_apart}
-use Rattle.scad_grammar.proofs.Ahead.{rest_of}
+use Rattle.scad_grammar.specs.StatementReads.{firsts_of_body, firsts_of_statement, binder_read, param_in, binder_in, binders_read, statement_read, body_read, program_read}
+use Rattle.scad_grammar.proofs.Tests.{apart, classes_apart, classes_within}
 use Rattle.scad_grammar.proofs.Shrinks.{left, Shrinks, after_left, one_shrinks, nothing_shrinks, mapped_shrinks, both_shrinks, choice_shrinks, ahead_shrinks, times_left, many_shrinks, trailing_left, trailing_shrinks, front_rest}
-use Rattle.scad_grammar.proofs.Outlines.{refusal, gap, open_arg, open_param, open_binders, open_expr, open_operand, open_instance, open_statement, open_body, outline_read}
-use Rattle.scad_grammar.proofs.Alike.{Keeps, Free, args_keep, arg_keeps, param_keeps, binder_keeps, binders_keep, params_keep, unary_keeps, expression_keeps, primary_keeps, instance_keeps, body_keeps, statement_keeps}
+use Rattle.scad_grammar.proofs.Outlines.{refusal, gap, open_arg, open_param, open_binders, open_expr, open_operand, open_statement, open_body, outline_read}
+use Rattle.scad_grammar.proofs.Alike.{Keeps, Free, arg_keeps, param_keeps, binder_keeps, binders_keep, unary_keeps, expression_keeps, primary_keeps, instance_keeps, body_keeps, statement_keeps}
 
 -- how the reading of a program ends, and that of an outline
 pub data Cut {A : Type 0} (q p : Read Token SyntaxFault A) : Type 0 where
@@ -53,7 +52,7 @@ mapped_cut f r q h = record {
 both_cut : {A B C : Type 0} (f : A → B → C) (r q : Reads A) (s p : Reads B) → Cuts r q → Cuts s p → Cuts (both f r s) (both f q p)
 both_cut f r q s p h k = record {
   at = λ ts. after_cut (r ts) (q ts) (λ a us. after (s us) (λ b vs. Ok (f a b, vs))) (λ a us. after (p us) (λ b vs. Ok (f a b, vs))) (h.at ts)
-        (λ a us. after_cut (s us) (p us) (λ b vs. Ok (f a b, vs)) (λ b vs. Ok (f a b, vs)) (k.at us) (λ b vs. equal refl) (λ b vs. omega arith)) (λ a us. (mapped_shrinks (f a) p k.shrinks).at us);
+      (λ a us. after_cut (s us) (p us) (λ b vs. Ok (f a b, vs)) (λ b vs. Ok (f a b, vs)) (k.at us) (λ b vs. equal refl) (λ b vs. omega arith)) (λ a us. (mapped_shrinks (f a) p k.shrinks).at us);
   shrinks = both_shrinks f q p h.shrinks k.shrinks;
 }
 

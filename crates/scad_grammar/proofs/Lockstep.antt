@@ -1,23 +1,22 @@
 -- A word of a statement and a numeral in one place: a reader refuses both, or reads the numeral where it refuses the word as one that
 -- expressions leave out, or the word has its place there.
-use Rattle.std.proofs.Common.{◌≡◌, ℕ, zero, suc, ◌≤◌, List, [], ◌∷◌, ◌++◌, length, Bool, true, false, cond, Ok, Err, Option, Some, None, ◌⊎◌, inl, inr, refl, sym, ap, ◌∙◌, subst, arith, ◌&&◌}
+use Rattle.std.proofs.Common.{◌≡◌, ℕ, zero, suc, ◌≤◌, List, [], ◌∷◌, ◌++◌, length, Bool, true, false, cond, Ok, Err, Option, Some, None, inl, inr, refl, sym, ap, ◌∙◌, subst, arith, ◌&&◌}
 use Rattle.scad_lexer.specs.declared.token.Token.{Token}
-use Rattle.scad_ast.specs.Terms.{Term, NumberTerm, TextTerm, TruthTerm, UndefTerm, ChildCountTerm, ArgTerm, ParamTerm, BinderTerm, CoreTerm, StatementTerm, EmptyStatement, InstanceStatement, InstanceTerm, BodyTerm}
+use Rattle.scad_ast.specs.Terms.{Term, NumberTerm, TextTerm, TruthTerm, UndefTerm, ChildCountTerm, ArgTerm, ParamTerm, BinderTerm, CoreTerm, StatementTerm, EmptyStatement, InstanceStatement, BodyTerm}
 use Rattle.scad_grammar.specs.declared.SyntaxFault.{SyntaxFault}
 use Rattle.scad_grammar.specs.declared.SyntaxFault.TheVariants.{Expected, Nested, NotInProfile}
-use Rattle.scad_grammar.specs.Classes.{else_word, close_parenthesis_sign, numeral, text, true_word, false_word, undef_word, child_count, name, end, if_word, for_word, function_word, module_word, assign_sign, comma_sign, semicolon_sign, open_brace_sign, open_parenthesis_sign, open_bracket_sign, close_bracket_sign, listed, among, is, other_than, class_of, number_of, bytes_of}
+use Rattle.scad_grammar.specs.Classes.{else_word, close_parenthesis_sign, numeral, text, true_word, false_word, undef_word, child_count, name, end, if_word, for_word, function_word, module_word, assign_sign, comma_sign, semicolon_sign, open_brace_sign, open_parenthesis_sign, open_bracket_sign, listed, among, is, class_of, number_of, bytes_of}
 use Rattle.scad_grammar.specs.Languages.{first_of, second_of, pair_of}
 use Rattle.scad_grammar.specs.Grammar.{bare_block_of, bracket_of, loop_of, instance_of, function_of, if_of}
 use Rattle.scad_grammar.specs.Reading.{Read, after, starts, one_of, mapped, nothing, both, choice, maybe, ahead, with_front, many_times, many, trailing_times, trailing}
 use Rattle.scad_grammar.specs.Faults.{Reads, one, first, fault_of, left_out, left_out_of_expressions}
-use Rattle.scad_grammar.specs.Reads.{head_of, nested, firsts_of_expression, in_parentheses, rest_read, bracket_read, name_read, paren_read, primary_read, arg_in, expr_read, operand_read}
+use Rattle.scad_grammar.specs.Reads.{head_of, nested, firsts_of_expression, in_parentheses, name_read, paren_read, primary_read, arg_in, expr_read, operand_read}
 use Rattle.scad_grammar.specs.StatementReads.{mark_signs, loop_words, firsts_of_body, firsts_of_statement, if_read, call_read, module_read, params_read, ended_read, definition_read, assigned, statement_over, function_read, param_in, binder_in, binders_read, braces_read, instance_in, statement_read, body_read, program_read}
 use Rattle.scad_grammar.proofs.Tests.{apart, either_listed, classes_apart, classes_within}
-use Rattle.scad_grammar.proofs.Ahead.{rest_of}
 use Rattle.scad_grammar.proofs.Cores.{loop_over, core_over, instance_over, marks_reads, choice_second}
 use Rattle.scad_grammar.proofs.Deeper.{primary_refuses}
 use Rattle.scad_grammar.proofs.Shrinks.{left, Shrinks, after_left, one_shrinks, nothing_shrinks, mapped_shrinks, both_shrinks, choice_shrinks, ahead_shrinks, times_left, many_shrinks, trailing_left, trailing_shrinks, front_rest}
-use Rattle.scad_grammar.proofs.Alike.{words, Steady, Past, Takes, Keeps, args_keep, arg_keeps, param_keeps, binder_keeps, binders_keep, params_keep, named_keeps, paren_keeps, filled_keeps, unary_keeps, expression_keeps, instance_keeps, body_keeps, statement_keeps}
+use Rattle.scad_grammar.proofs.Alike.{words, Steady, Past, Takes, Keeps, arg_keeps, param_keeps, binder_keeps, binders_keep, params_keep, named_keeps, paren_keeps, filled_keeps, unary_keeps, expression_keeps, instance_keeps, body_keeps, statement_keeps}
 
 abbrev Taken : (A : Type 0) → List ℕ → Reads A → Type 0
 Taken A cs r = Takes (among cs) r

@@ -1,17 +1,16 @@
 -- Outlines are read as programs are, but where a program's reader runs out of depth a gap is read.
-use Rattle.std.proofs.Common.{◌≡◌, ℕ, zero, suc, List, [], ◌∷◌, ◌++◌, Bool, true, false, cond, Ok, Err, Option, Some, None, inl, inr, refl, sym, ap, ◌∙◌, subst, append-nil}
+use Rattle.std.proofs.Common.{◌≡◌, ℕ, zero, suc, List, [], ◌∷◌, ◌++◌, Bool, true, false, cond, Ok, Err, Some, refl, sym, ap, ◌∙◌, subst}
 use Rattle.scad_lexer.specs.declared.token.Token.{Token}
 use Rattle.scad_lexer.specs.declared.token.TokenKind.TheVariants.{Special, End}
 use Rattle.scad_ast.specs.Terms.{Term, ArgTerm, ParamTerm, BinderTerm, StatementTerm, InstanceTerm, BodyTerm, EmptyBody, UndefTerm}
-use Rattle.scad_grammar.specs.Classes.{special, name, end, comma_sign, close_parenthesis_sign, among, is, other_than}
-use Rattle.scad_grammar.specs.Languages.{Language, One, Mapped, Nothing, Many, first_of}
-use Rattle.scad_grammar.specs.Grammar.{outline, TooDeep, ArgsIn, ParamsIn, BindersIn, StatementsIn, InstanceIn, Expr, Operand, Statement, Body, Outline, Param, Binder, Binders}
-use Rattle.scad_grammar.specs.Reading.{Read, starts, one_of, mapped, nothing, both, choice, many, many_times, trailing}
+use Rattle.scad_grammar.specs.Classes.{special, name, end, close_parenthesis_sign, among, is, other_than}
+use Rattle.scad_grammar.specs.Languages.{One, Nothing, Many, first_of}
+use Rattle.scad_grammar.specs.Grammar.{outline, TooDeep, Expr, Operand, Statement, Body, Outline, Param}
+use Rattle.scad_grammar.specs.Reading.{starts, one_of, mapped, both, many, many_times}
 use Rattle.scad_grammar.specs.Faults.{Reads, one, fault_of, left_out, left_out_of_expressions}
 use Rattle.scad_grammar.specs.Reads.{head_of, arg_read, args_read, primary_read, unary_read, choice_read}
-use Rattle.scad_grammar.specs.StatementReads.{firsts_of_statement, param_read, binder_read, params_read, binders_read, statement_over, body_over, braces_read}
-use Rattle.scad_grammar.specs.declared.SyntaxFault.{SyntaxFault}
-use Rattle.scad_grammar.proofs.Readers.{same_reads, SameHead, Begins, Told, IsReader, same_start, plain_seen, seen, one_reads, mapped_reads, never_starts}
+use Rattle.scad_grammar.specs.StatementReads.{firsts_of_statement, param_read, binder_read, params_read, binders_read, statement_over, body_over}
+use Rattle.scad_grammar.proofs.Readers.{same_reads, SameHead, Told, IsReader, same_start, plain_seen, seen, one_reads, mapped_reads, never_starts}
 use Rattle.scad_grammar.proofs.Wider.{none_many}
 use Rattle.scad_grammar.proofs.Greedy.{Stops, mapped_stops}
 use Rattle.scad_grammar.proofs.Tests.{fault_plain, next_apart, next_less, no_close}
@@ -19,7 +18,7 @@ use Rattle.scad_grammar.proofs.Operands.{token, operand_more}
 use Rattle.scad_grammar.proofs.Primary.{Some_of, before_reads}
 use Rattle.scad_grammar.proofs.Expressions.{ArgsAt, expression_more, expr_opens, some_expr, some_operand, some_args, choice_read_reads, operand_reads, arg_reads, args_over, alone_name, choice_unlike}
 use Rattle.scad_grammar.proofs.Cores.{body_more, instance_more, instance_over, instance_reads, instance_stops, instance_unlike, params_reads, param_reads, param_opens, binder_reads, binders_reads, statement_moves}
-use Rattle.scad_grammar.proofs.Statements.{InstanceAt, BindersAt, ParamsAt, StatementsAt, statement_more, statements_more, end_one, some_body, some_params_at, some_binders_at, some_statements, instance_depth_opens, statement_depth_opens, statements_reads, statement_reads, body_reads, body_stops}
+use Rattle.scad_grammar.proofs.Statements.{InstanceAt, BindersAt, ParamsAt, StatementsAt, statements_more, end_one, some_body, some_params_at, some_binders_at, some_statements, instance_depth_opens, statement_depth_opens, statements_reads, statement_reads, body_reads, body_stops}
 
 -- nothing is read: the next token is refused
 abbrev pub refusal : {A : Type 0} → List ℕ → Reads A
@@ -179,13 +178,13 @@ open_statement_reads (suc d) =
     let ii = open_instance_reads d below.1 below.2 in
     let si = open_instance_stops d below.1 below.2 in
     let one =
-      statement_reads (open_statement d) (StatementsAt outline d) (StatementsAt outline d) below.0 (some_statements outline d) (open_instance d (open_body d)) (InstanceAt outline d) (InstanceAt outline d) ii si (instance_depth_opens outline d)
-      (open_expr (suc d)) (open_param d (open_expr d)) (open_body d) (Expr outline (suc d)) (Expr outline (suc d)) (ParamsAt outline d) (ParamsAt outline d) (Body outline d) (Body outline d)
-      (open_reads (suc d)).0 (open_params_reads d) (some_params_at outline d) below.1 below.2 (some_outline (suc d)) (some_outline_body d) (instance_unlike (Expr outline d) (ArgsAt outline d) (BindersAt outline d) (Body outline d)) (statement_moves (open_expr d) (open_arg d (open_expr d)) (open_binders d (open_expr d)) (open_body d)) in (
-        statements_reads (open_statement (suc d)) (Statement outline (suc d)) (Statement outline (suc d)) one (statement_depth_opens outline (suc d)),
-        body_reads (open_statement d) (StatementsAt outline d) (StatementsAt outline d) below.0 (some_statements outline d) (open_instance d (open_body d)) (InstanceAt outline d) (InstanceAt outline d) ii si (instance_depth_opens outline d),
-        body_stops (open_statement d) (StatementsAt outline d) (StatementsAt outline d) below.0 (some_statements outline d) (open_instance d (open_body d)) (InstanceAt outline d) (InstanceAt outline d) ii si (instance_depth_opens outline d),
-      )
+    statement_reads (open_statement d) (StatementsAt outline d) (StatementsAt outline d) below.0 (some_statements outline d) (open_instance d (open_body d)) (InstanceAt outline d) (InstanceAt outline d) ii si (instance_depth_opens outline d)
+    (open_expr (suc d)) (open_param d (open_expr d)) (open_body d) (Expr outline (suc d)) (Expr outline (suc d)) (ParamsAt outline d) (ParamsAt outline d) (Body outline d) (Body outline d)
+    (open_reads (suc d)).0 (open_params_reads d) (some_params_at outline d) below.1 below.2 (some_outline (suc d)) (some_outline_body d) (instance_unlike (Expr outline d) (ArgsAt outline d) (BindersAt outline d) (Body outline d)) (statement_moves (open_expr d) (open_arg d (open_expr d)) (open_binders d (open_expr d)) (open_body d)) in (
+      statements_reads (open_statement (suc d)) (Statement outline (suc d)) (Statement outline (suc d)) one (statement_depth_opens outline (suc d)),
+      body_reads (open_statement d) (StatementsAt outline d) (StatementsAt outline d) below.0 (some_statements outline d) (open_instance d (open_body d)) (InstanceAt outline d) (InstanceAt outline d) ii si (instance_depth_opens outline d),
+      body_stops (open_statement d) (StatementsAt outline d) (StatementsAt outline d) below.0 (some_statements outline d) (open_instance d (open_body d)) (InstanceAt outline d) (InstanceAt outline d) ii si (instance_depth_opens outline d),
+    )
 
 statements_at : (d : ℕ) → IsReader (many (among firsts_of_statement) (open_statement d)) (Many (Statement outline d)) (Many (Statement outline d)) (λ xs. among statements_more)
 unfolding Statement Body

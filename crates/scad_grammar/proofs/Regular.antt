@@ -1,18 +1,18 @@
 -- No reader takes the end, and each fault is of one of three kinds.
-use Rattle.std.proofs.Common.{◌≡◌, ℕ, zero, suc, List, [], ◌∷◌, length, Bool, true, false, cond, Ok, Err, Option, Some, None, ◌⊎◌, inl, inr, refl, sym, ap, ◌∙◌, subst, ◌&&◌}
+use Rattle.std.proofs.Common.{◌≡◌, ℕ, zero, suc, List, [], ◌∷◌, length, Bool, true, false, cond, Ok, Err, Option, Some, ◌⊎◌, inl, inr, refl, sym, ◌∙◌, ◌&&◌}
 use Rattle.scad_lexer.specs.declared.token.Token.{Token}
-use Rattle.scad_ast.specs.Terms.{Term, ArgTerm, ParamTerm, BinderTerm, StatementTerm, InstanceTerm, BodyTerm}
+use Rattle.scad_ast.specs.Terms.{Term, ArgTerm}
 use Rattle.scad_grammar.specs.declared.SyntaxFault.{SyntaxFault}
 use Rattle.scad_grammar.specs.declared.SyntaxFault.TheVariants.{Nested}
 use Rattle.scad_grammar.specs.Classes.{numeral, name, end, assign_sign, comma_sign, open_bracket_sign, listed, among, is, class_of}
-use Rattle.scad_grammar.specs.Reading.{Read, after, starts, one_of, mapped, nothing, both, choice, ahead, with_front, many_times, many, trailing_times, trailing}
-use Rattle.scad_grammar.specs.Faults.{Reads, one, first, fault_of, left_out, left_out_of_expressions}
-use Rattle.scad_grammar.specs.Reads.{head_of, nested, firsts_of_expression, firsts_of_primary, primary_read, arg_in, expr_read, operand_read}
+use Rattle.scad_grammar.specs.Reading.{Read, after, starts, one_of, mapped, both, choice, ahead, with_front, many_times, many, trailing_times, trailing}
+use Rattle.scad_grammar.specs.Faults.{Reads, one, fault_of, left_out, left_out_of_expressions}
+use Rattle.scad_grammar.specs.Reads.{head_of, nested, firsts_of_expression, primary_read, arg_in, expr_read, operand_read}
 use Rattle.scad_grammar.specs.StatementReads.{firsts_of_body, firsts_of_statement, param_in, binder_in, binders_read, instance_in, statement_read, body_read}
 use Rattle.scad_grammar.specs.FirstFault.{EndsOnce}
-use Rattle.scad_grammar.proofs.Tests.{apart, classes_apart, classes_within}
+use Rattle.scad_grammar.proofs.Tests.{apart, classes_apart}
 use Rattle.scad_grammar.proofs.Ahead.{both_true}
-use Rattle.scad_grammar.proofs.Alike.{Keeps, Free, args_keep, arg_keeps, param_keeps, binder_keeps, binders_keep, params_keep, unary_keeps, expression_keeps, primary_keeps, instance_keeps, body_keeps, statement_keeps}
+use Rattle.scad_grammar.proofs.Alike.{Keeps, Free, arg_keeps, param_keeps, binder_keeps, binders_keep, unary_keeps, expression_keeps, primary_keeps, instance_keeps, body_keeps, statement_keeps}
 
 -- want of depth, or the fault of what is left out, everywhere or of expressions
 abbrev pub OfKind : SyntaxFault × List Token → Type 0

@@ -7,7 +7,7 @@ use Rattle.scad_lexer.specs.declared.token.Symbol.TheVariants.{OpenParenthesis, 
 use Rattle.scad_ast.specs.Terms.{Term, ArgTerm, ParamTerm, BinderTerm, StatementTerm, EmptyStatement, BlockStatement, AssignmentTerm, ModuleTerm, FunctionTerm, InstanceStatement, InstanceTerm, BodyTerm, EmptyBody, InstanceBody}
 use Rattle.scad_grammar.specs.Classes.{name, end, module_word, function_word, if_word, else_word, for_word, intersection_for_word, close_parenthesis_sign, open_brace_sign, close_brace_sign, semicolon_sign, assign_sign, among, is, other_than, class_of}
 use Rattle.scad_grammar.specs.Languages.{Language, One, Mapped, Both, EitherOf, Nothing, Many, Never, Behind, Before, second_of, pair_of}
-use Rattle.scad_grammar.specs.Grammar.{binder_of, param_of, mark_of, if_of, loop_of, call_of, instance_of, Binders, InParentheses, Args, Param, Params, Binder, Core, Instance, BodyOf, StatementOf, Detail, whole, outline, ArgsIn, BindersIn, ParamsIn, StatementsIn, InstanceIn, Expr, Operand, Statement, Body, Program, block_of, bare_block_of, assignment_of, module_of, function_of, ends_open, instance_open}
+use Rattle.scad_grammar.specs.Grammar.{binder_of, param_of, mark_of, if_of, loop_of, call_of, instance_of, Binders, InParentheses, Param, Params, Binder, Core, Instance, BodyOf, StatementOf, Detail, whole, BindersIn, ParamsIn, StatementsIn, InstanceIn, Expr, Statement, Body, Program, block_of, bare_block_of, assignment_of, module_of, function_of, ends_open, instance_open}
 use Rattle.scad_grammar.specs.Reading.{Read, starts, mapped, both, choice, ahead, many}
 use Rattle.scad_grammar.specs.declared.SyntaxFault.{SyntaxFault}
 use Rattle.scad_grammar.specs.Faults.{Reads, one, fault_of, left_out}
@@ -21,7 +21,7 @@ use Rattle.scad_grammar.proofs.Tests.{OneReads, either_listed, one_at, then, nex
 use Rattle.scad_grammar.proofs.Nested.{nested_reads}
 use Rattle.scad_grammar.proofs.Operands.{token, name_one}
 use Rattle.scad_grammar.proofs.Primary.{Some_of, some_before, before_reads, in_parentheses_reads}
-use Rattle.scad_grammar.proofs.Expressions.{ExprIn, ArgsAt, expression_more, arg_more, two_to, two_from, two_not, depth_reads, expr_opens, some_expr, some_args}
+use Rattle.scad_grammar.proofs.Expressions.{ExprIn, ArgsAt, expression_more, arg_more, two_to, two_from, two_not, depth_reads, some_expr, some_args}
 use Rattle.scad_grammar.proofs.Cores.{assign_one, else_open, body_more, instance_more, open_less, not_else, params_reads, param_reads, param_opens, binder_reads, binders_reads, some_headed, some_core, some_binders, instance_opens, instance_reads, instance_stops, instance_unlike, statement_moves, choice_second}
 
 abbrev closes : List ℕ

@@ -1,10 +1,10 @@
 -- What is in the grammar of a depth is in that of each greater depth, and in outline.
-use Rattle.std.proofs.Common.{◌≡◌, ℕ, zero, suc, ◌+◌, ◌≤◌, List, [], ◌∷◌, Bool, Option, Some, None, inl, inr, arith}
+use Rattle.std.proofs.Common.{ℕ, zero, suc, ◌+◌, ◌≤◌, List, [], ◌∷◌, Bool, Option, Some, None, inl, inr, arith}
 use Rattle.scad_lexer.specs.declared.token.Token.{Token}
 use Rattle.scad_ast.specs.Terms.{Term, ArgTerm, StatementTerm, InstanceStatement, InstanceTerm, ParamTerm, BinderTerm, BodyTerm, InstanceBody, PositionalTerm}
 use Rattle.scad_grammar.specs.Classes.{open_parenthesis_sign, close_parenthesis_sign, close_bracket_sign, open_brace_sign, close_brace_sign, comma_sign, semicolon_sign, assign_sign, colon_sign, question_sign, open_bracket_sign, name, end, if_word, else_word, is, among}
 use Rattle.scad_grammar.specs.Languages.{Language, One, Mapped, Both, BothIf, EitherOf, Nothing, Many, Maybe, Never, Behind, Before, Separated, first_of, second_of, pair_of, cons}
-use Rattle.scad_grammar.specs.Grammar.{InParentheses, Arg, Args, Param, Params, Binders, Bracket, Primary, Suffix, Unary, Chain, Choice, Detail, whole, outline, ArgsIn, ParamsIn, BindersIn, StatementsIn, InstanceIn, Expr, Operand, Core, Instance, BodyOf, StatementOf, Statement, Body, ProgramIn, Program, Outline, levels, link, chain_of, items, if_of, IsNearest}
+use Rattle.scad_grammar.specs.Grammar.{InParentheses, Arg, Args, Param, Params, Binders, Bracket, Primary, Suffix, Unary, Chain, Choice, Detail, whole, outline, ArgsIn, ParamsIn, BindersIn, StatementsIn, InstanceIn, Expr, Operand, Instance, BodyOf, StatementOf, Statement, Body, ProgramIn, Program, Outline, levels, link, chain_of, items, if_of, IsNearest}
 
 record Within {A : Type 0} (L M : Language A) : Type 0 where
   at : (x : A) (s : List Token) → L x s → M x s
@@ -180,8 +180,8 @@ module _ (g : Detail) where
       let b = statement_in_within d k less in
       let e = (expr_within d k less).0 in
       let i =
-        instance_within (Expr whole d) (Expr g k) (ArgsIn d (Expr whole d)) (ArgsIn k (Expr g k)) (BindersIn whole d (Expr whole d)) (BindersIn g k (Expr g k)) (Body whole d) (Body g k)
-        e (args_in_within d k less e) (binders_in_within d k less e) b.1 in
+      instance_within (Expr whole d) (Expr g k) (ArgsIn d (Expr whole d)) (ArgsIn k (Expr g k)) (BindersIn whole d (Expr whole d)) (BindersIn g k (Expr g k)) (Body whole d) (Body g k)
+      e (args_in_within d k less e) (binders_in_within d k less e) b.1 in
       let s = statements_in_within d k less b.0 in (
         statement_within (InstanceIn whole d (Body whole d)) (InstanceIn g k (Body g k)) i (StatementsIn d (Statement whole d)) (StatementsIn k (Statement g k)) s
             (Expr whole (suc d)) (Expr g (suc k)) (ParamsIn d (Expr whole d)) (ParamsIn k (Expr g k)) (Body whole d) (Body g k) (expr_within (suc d) (suc k) l).0 (params_in_within d k less e) b.1,

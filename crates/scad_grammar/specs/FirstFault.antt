@@ -12,9 +12,10 @@ use Rattle.scad_grammar.specs.Grammar.{Program, Outline}
 abbrev pub BeginsSome : List Token → Type 0
 BeginsSome s = (d : ℕ) × (x : List StatementTerm) × (w : List Token) × Program d x (s ++ w)
 
--- some program begins with them in which they are less deep than so much: what is deeper is left out of its outline
+-- Some program begins with these tokens in which each of them is less deep than so much: an outline does, and outlines
+-- show only what is less deep.
 abbrev pub BeginsWithin : ℕ → List Token → Type 0
-BeginsWithin d s = (x : List StatementTerm) × (w : List Token) × Outline d x (s ++ w)
+BeginsWithin d s = BeginsSome s × (x : List StatementTerm) × (w : List Token) × Outline d x (s ++ w)
 
 -- the place behind these tokens is that of an expression: a numeral could stand there
 abbrev pub BeforeExpression : List Token → Type 0
@@ -24,16 +25,17 @@ BeforeExpression s = (n : Token) × (is numeral n ≡ true) × BeginsSome (s ++ 
 abbrev pub IsLeftOut : List Token → Token → Type 0
 IsLeftOut s t = (among left_out t ≡ true) ⊎ ((among left_out_of_expressions t ≡ true) × BeforeExpression s)
 
--- Behind these tokens, this one is such a fault: no program goes on with it, and it is of a form that is left out, or isn't; or some
--- programs do, but only such in which it is too deep.
+-- Behind these tokens, this one is such a fault. Expected, NotInProfile: no program goes on with it, and it is of a form
+-- that isn't left out, or is. Nested: programs go on with it, but only such in which it is too deep.
 abbrev pub IsFault : ℕ → SyntaxFault → List Token → Token → Type 0
 IsFault d Expected s t = (BeginsSome (s ++ t ∷ []) → ⊥) × (IsLeftOut s t → ⊥)
 IsFault d NotInProfile s t = (BeginsSome (s ++ t ∷ []) → ⊥) × IsLeftOut s t
 IsFault d Nested s t = BeginsSome (s ++ t ∷ []) × (BeginsWithin d (s ++ t ∷ []) → ⊥)
 
--- The first fault is that of the first token of `at`: programs begin with all tokens before it, and some in which none of these is too deep.
+-- The first fault of `ts` is the first token of `at`: programs begin with all tokens before it, none of them too deep.
 abbrev pub IsFirstFault : ℕ → List Token → SyntaxFault → List Token → Type 0
-IsFirstFault d ts fault at = (s : List Token) × (t : Token) × (more : List Token) × (ts ≡ s ++ at) × (at ≡ t ∷ more) × BeginsSome s × BeginsWithin d s × IsFault d fault s t
+IsFirstFault d ts fault at =
+    (s : List Token) × (t : Token) × (more : List Token) × (ts ≡ s ++ at) × (at ≡ t ∷ more) × BeginsWithin d s × IsFault d fault s t
 
 -- the last token is the end, and no other is
 abbrev pub EndsOnce : List Token → Type 0
