@@ -2,6 +2,7 @@
 use Rattle.std.proofs.Common.{◌≡◌, ◌≢◌, ℕ, zero, suc, ◌+◌, ◌≤◌, List, [], ◌∷◌, ◌++◌, length, Bool, true, false, cond, Ok, Err, Some, ◌⊎◌, inl, inr, refl, sym, ap, ◌∙◌, subst, arith, append_assoc, append-nil, length-append}
 use Rattle.std.proofs.lemmas.List.{append_cancel_right}
 use Rattle.scad_lexer.specs.declared.token.Token.{Token}
+use Rattle.scad_lexer.specs.Tokens.{ends_once}
 use Rattle.scad_ast.specs.Terms.{StatementTerm}
 use Rattle.scad_grammar.specs.declared.SyntaxFault.{SyntaxFault}
 use Rattle.scad_grammar.specs.declared.SyntaxFault.TheVariants.{Expected, Nested, NotInProfile}
@@ -11,14 +12,14 @@ use Rattle.scad_grammar.specs.Reading.{Read, after, many}
 use Rattle.scad_grammar.specs.Faults.{Reads, one, fault_of, left_out, left_out_of_expressions}
 use Rattle.scad_grammar.specs.Grammar.{Program, Outline}
 use Rattle.scad_grammar.specs.StatementReads.{firsts_of_statement, statement_read, program_read}
-use Rattle.scad_grammar.specs.FirstFault.{BeginsSome, BeginsWithin, IsFault, IsFirstFault, EndsOnce}
+use Rattle.scad_grammar.specs.FirstFault.{BeginsSome, BeginsWithin, IsFault, IsFirstFault}
 use Rattle.scad_grammar.proofs.Readers.{Begins, Told, IsReader, SameHead, seen}
 use Rattle.scad_grammar.proofs.Tests.{classes_apart, classes_within, either_listed}
 use Rattle.scad_grammar.proofs.Expressions.{zero_token}
 use Rattle.scad_grammar.proofs.Shrinks.{left}
 use Rattle.scad_grammar.proofs.Alike.{words, Past}
 use Rattle.scad_grammar.proofs.Deeper.{program_agrees}
-use Rattle.scad_grammar.proofs.Regular.{OfKind, Fair, many_fair, regular_statements}
+use Rattle.scad_grammar.proofs.Regular.{EndsOnce, ends_once_is, OfKind, Fair, many_fair, regular_statements}
 use Rattle.scad_grammar.proofs.Lockstep.{Locked, before, earlier, everywhere, of_expressions, beyond, lock_program}
 use Rattle.scad_grammar.proofs.Outlines.{outline_read, outline_reads}
 use Rattle.scad_grammar.proofs.Gaps.{Cut, equal, refused, gapped, program_cut}
@@ -229,8 +230,8 @@ module _ (d : ℕ) (ts s : List Token) (t : Token) (more : List Token) (is_at : 
       by_list false a = listed_out (among left_out_of_expressions t) refl a NotInProfile h e (λ x. cc)
 
 -- what the reading of tokens with one end gives: their first fault,
-pub first_fault : (d : ℕ) (ts : List Token) (fault : SyntaxFault) (at : List Token) → EndsOnce ts → program_read d ts ≡ Err (fault, at) → IsFirstFault d ts fault at
-first_fault d ts fault at n e = go (program_read d ts) refl e (reading_ends d ts n) ((program_reads d).told ts)
+pub first_fault : (d : ℕ) (ts : List Token) (fault : SyntaxFault) (at : List Token) → ends_once ts ≡ true → program_read d ts ≡ Err (fault, at) → IsFirstFault d ts fault at
+first_fault d ts fault at n e = go (program_read d ts) refl e (reading_ends d ts (ends_once_is ts n)) ((program_reads d).told ts)
   where
     here : (at : List Token) → EndsOnce at → OfKind (fault, at) → program_read d ts ≡ Err (fault, at) → (s : List Token) → ts ≡ s ++ at → Begins (Program (suc (suc d))) (s ++ seen fault at) → IsFirstFault d ts fault at
     here [] x k e s i b = elim x [ ]
@@ -248,8 +249,8 @@ first_fault d ts fault at n e = go (program_read d ts) refl e (reading_ends d ts
         here at kind.1 kind.0 (f ∙ e) t.0 (t.1 ∙ ap (λ l. t.0 ++ l) tail) (subst (λ (p : SyntaxFault × List Token). Begins (Program (suc (suc d))) (t.0 ++ seen p.0 p.1)) pair t.2)
 
 -- or the program that they are
-pub is_found : (d : ℕ) (ts : List Token) (x : List StatementTerm) (rest : List Token) → EndsOnce ts → program_read d ts ≡ Ok (x, rest) → (rest ≡ []) × Program d x ts
-is_found d ts x rest n e = go (program_read d ts) e (reading_ends d ts n) ((program_reads d).told ts)
+pub is_found : (d : ℕ) (ts : List Token) (x : List StatementTerm) (rest : List Token) → ends_once ts ≡ true → program_read d ts ≡ Ok (x, rest) → (rest ≡ []) × Program d x ts
+is_found d ts x rest n e = go (program_read d ts) e (reading_ends d ts (ends_once_is ts n)) ((program_reads d).told ts)
   where
     go : (q : ReadProgram) → q ≡ Ok (x, rest) → Ends q → Told (program_read d) (Program d) (Program (suc (suc d))) ts q → (rest ≡ []) × Program d x ts
     go (Ok p) e f t =
@@ -335,7 +336,7 @@ no_fault d ts x k at h f =
     not_alive d k s t f.6 ((d, x, f.2, is), x, f.2, is_outline d x ((s ++ t ∷ []) ++ f.2) is)
 
 -- and a first fault is what the reading gives
-pub only_fault : (d : ℕ) (ts : List Token) (fault : SyntaxFault) (at : List Token) → EndsOnce ts → IsFirstFault d ts fault at → program_read d ts ≡ Err (fault, at)
+pub only_fault : (d : ℕ) (ts : List Token) (fault : SyntaxFault) (at : List Token) → ends_once ts ≡ true → IsFirstFault d ts fault at → program_read d ts ≡ Err (fault, at)
 only_fault d ts fault at n f = go (program_read d ts) refl
   where
     go : (q : ReadProgram) → program_read d ts ≡ q → program_read d ts ≡ Err (fault, at)
@@ -343,7 +344,7 @@ only_fault d ts fault at n f = go (program_read d ts) refl
     go (Err x) e = let k = one_fault d ts x.0 fault x.1 at (first_fault d ts x.0 x.1 n e) f in e ∙ ap (λ k. Err (k, x.1)) k.0 ∙ ap (λ l. Err (fault, l)) k.1
 
 -- tokens with one end are a program, or have a fault
-pub program_or_fault : (d : ℕ) (ts : List Token) → EndsOnce ts → ((x : List StatementTerm) × Program d x ts) ⊎ ((k : SyntaxFault) × (at : List Token) × IsFirstFault d ts k at)
+pub program_or_fault : (d : ℕ) (ts : List Token) → ends_once ts ≡ true → ((x : List StatementTerm) × Program d x ts) ⊎ ((k : SyntaxFault) × (at : List Token) × IsFirstFault d ts k at)
 program_or_fault d ts n = go (program_read d ts) refl
   where
     go : (q : ReadProgram) → program_read d ts ≡ q → ((x : List StatementTerm) × Program d x ts) ⊎ ((k : SyntaxFault) × (at : List Token) × IsFirstFault d ts k at)

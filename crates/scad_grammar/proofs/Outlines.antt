@@ -18,7 +18,7 @@ use Rattle.scad_grammar.proofs.Operands.{token, operand_more}
 use Rattle.scad_grammar.proofs.Primary.{Some_of, before_reads}
 use Rattle.scad_grammar.proofs.Expressions.{ArgsAt, expression_more, expr_opens, some_expr, some_operand, some_args, choice_read_reads, operand_reads, arg_reads, args_over, alone_name, choice_unlike}
 use Rattle.scad_grammar.proofs.Cores.{body_more, instance_more, instance_over, instance_reads, instance_stops, instance_unlike, params_reads, param_reads, param_opens, binder_reads, binders_reads, statement_moves}
-use Rattle.scad_grammar.proofs.Statements.{InstanceAt, BindersAt, ParamsAt, StatementsAt, statements_more, end_one, some_body, some_params_at, some_binders_at, some_statements, instance_depth_opens, statement_depth_opens, statements_reads, statement_reads, body_reads, body_stops}
+use Rattle.scad_grammar.proofs.Statements.{InstanceAt, BindersAt, ParamsAt, StatementsAt, statements_more, end_one, some_body, some_params_at, some_binders_at, some_statements, instance_depth_opens, statement_at_opens, statements_reads, statement_reads, body_reads, body_stops}
 
 -- nothing is read: the next token is refused
 abbrev pub refusal : {A : Type 0} → List ℕ → Reads A
@@ -181,7 +181,7 @@ open_statement_reads (suc d) =
     statement_reads (open_statement d) (StatementsAt outline d) (StatementsAt outline d) below.0 (some_statements outline d) (open_instance d (open_body d)) (InstanceAt outline d) (InstanceAt outline d) ii si (instance_depth_opens outline d)
     (open_expr (suc d)) (open_param d (open_expr d)) (open_body d) (Expr outline (suc d)) (Expr outline (suc d)) (ParamsAt outline d) (ParamsAt outline d) (Body outline d) (Body outline d)
     (open_reads (suc d)).0 (open_params_reads d) (some_params_at outline d) below.1 below.2 (some_outline (suc d)) (some_outline_body d) (instance_unlike (Expr outline d) (ArgsAt outline d) (BindersAt outline d) (Body outline d)) (statement_moves (open_expr d) (open_arg d (open_expr d)) (open_binders d (open_expr d)) (open_body d)) in (
-      statements_reads (open_statement (suc d)) (Statement outline (suc d)) (Statement outline (suc d)) one (statement_depth_opens outline (suc d)),
+      statements_reads (open_statement (suc d)) (Statement outline (suc d)) (Statement outline (suc d)) one (statement_at_opens outline (suc d)),
       body_reads (open_statement d) (StatementsAt outline d) (StatementsAt outline d) below.0 (some_statements outline d) (open_instance d (open_body d)) (InstanceAt outline d) (InstanceAt outline d) ii si (instance_depth_opens outline d),
       body_stops (open_statement d) (StatementsAt outline d) (StatementsAt outline d) below.0 (some_statements outline d) (open_instance d (open_body d)) (InstanceAt outline d) (InstanceAt outline d) ii si (instance_depth_opens outline d),
     )

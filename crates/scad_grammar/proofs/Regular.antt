@@ -1,18 +1,91 @@
 -- No reader takes the end, and each fault is of one of three kinds.
-use Rattle.std.proofs.Common.{◌≡◌, ℕ, zero, suc, List, [], ◌∷◌, length, Bool, true, false, cond, Ok, Err, Option, Some, ◌⊎◌, inl, inr, refl, sym, ◌∙◌, ◌&&◌}
+use Rattle.std.proofs.Common.{codes, not, ◌≡◌, ℕ, zero, suc, List, [], ◌∷◌, length, Bool, true, false, cond, Ok, Err, Option, Some, ◌⊎◌, inl, inr, refl, sym, ◌∙◌, ◌&&◌}
 use Rattle.scad_lexer.specs.declared.token.Token.{Token}
+use Rattle.scad_lexer.specs.declared.token.TokenKind.{TokenKind}
+use Rattle.scad_lexer.specs.declared.token.TokenKind.TheVariants.{Numeral, Name, Special, Text, Reserved as ReservedToken, Symbol as SymbolToken, End}
+use Rattle.scad_lexer.specs.declared.token.Reserved.TheVariants.{Module, Function, If, Else, For, IntersectionFor, True, False, Undef, Use, Include, Let, Each}
+use Rattle.scad_lexer.specs.declared.token.Symbol.TheVariants.{OpenParenthesis, CloseParenthesis, OpenBracket, CloseBracket, OpenBrace, CloseBrace, Comma, Semicolon, Assign, Colon, Question, Dot, Plus, Minus, Times, Divide, Remainder, Less, Greater, LessEqual, GreaterEqual, Equal, NotEqual, And, Or, Not, Hash, Caret}
+use Rattle.scad_lexer.specs.Tokens.{is_end, ends_once}
+use Rattle.std.specs.Str.{bytes_eq}
 use Rattle.scad_ast.specs.Terms.{Term, ArgTerm}
 use Rattle.scad_grammar.specs.declared.SyntaxFault.{SyntaxFault}
 use Rattle.scad_grammar.specs.declared.SyntaxFault.TheVariants.{Nested}
-use Rattle.scad_grammar.specs.Classes.{numeral, name, end, assign_sign, comma_sign, open_bracket_sign, listed, among, is, class_of}
+use Rattle.scad_grammar.specs.Classes.{numeral, name, special, child_count, end, assign_sign, comma_sign, open_bracket_sign, listed, among, is, class_of}
 use Rattle.scad_grammar.specs.Reading.{Read, after, starts, one_of, mapped, both, choice, ahead, with_front, many_times, many, trailing_times, trailing}
 use Rattle.scad_grammar.specs.Faults.{Reads, one, fault_of, left_out, left_out_of_expressions}
 use Rattle.scad_grammar.specs.Reads.{head_of, nested, firsts_of_expression, primary_read, arg_in, expr_read, operand_read}
 use Rattle.scad_grammar.specs.StatementReads.{firsts_of_body, firsts_of_statement, param_in, binder_in, binders_read, instance_in, statement_read, body_read}
-use Rattle.scad_grammar.specs.FirstFault.{EndsOnce}
 use Rattle.scad_grammar.proofs.Tests.{apart, classes_apart}
 use Rattle.scad_grammar.proofs.Ahead.{both_true}
 use Rattle.scad_grammar.proofs.Alike.{Keeps, Free, arg_keeps, param_keeps, binder_keeps, binders_keep, unary_keeps, expression_keeps, primary_keeps, instance_keeps, body_keeps, statement_keeps}
+
+-- the last token is the end, and no other is
+abbrev pub EndsOnce : List Token → Type 0
+EndsOnce [] = ⊥
+EndsOnce (t ∷ []) = is end t ≡ true
+EndsOnce (t ∷ u ∷ us) = (is end t ≡ false) × EndsOnce (u ∷ us)
+
+-- the end's class is its own
+end_class : (k : TokenKind) → listed (end ∷ []) (class_of k) ≡ is_end k
+end_class (Numeral n) = refl
+end_class (Name bytes) = refl
+end_class (Special bytes) = go (bytes_eq bytes (codes "children"))
+  where
+    go : (b : Bool) → listed (end ∷ []) (cond b child_count special) ≡ false
+    go true = refl
+    go false = refl
+end_class (Text bytes) = refl
+end_class (ReservedToken Module) = refl
+end_class (ReservedToken Function) = refl
+end_class (ReservedToken If) = refl
+end_class (ReservedToken Else) = refl
+end_class (ReservedToken For) = refl
+end_class (ReservedToken IntersectionFor) = refl
+end_class (ReservedToken True) = refl
+end_class (ReservedToken False) = refl
+end_class (ReservedToken Undef) = refl
+end_class (ReservedToken Use) = refl
+end_class (ReservedToken Include) = refl
+end_class (ReservedToken Let) = refl
+end_class (ReservedToken Each) = refl
+end_class (SymbolToken OpenParenthesis) = refl
+end_class (SymbolToken CloseParenthesis) = refl
+end_class (SymbolToken OpenBracket) = refl
+end_class (SymbolToken CloseBracket) = refl
+end_class (SymbolToken OpenBrace) = refl
+end_class (SymbolToken CloseBrace) = refl
+end_class (SymbolToken Comma) = refl
+end_class (SymbolToken Semicolon) = refl
+end_class (SymbolToken Assign) = refl
+end_class (SymbolToken Colon) = refl
+end_class (SymbolToken Question) = refl
+end_class (SymbolToken Dot) = refl
+end_class (SymbolToken Plus) = refl
+end_class (SymbolToken Minus) = refl
+end_class (SymbolToken Times) = refl
+end_class (SymbolToken Divide) = refl
+end_class (SymbolToken Remainder) = refl
+end_class (SymbolToken Less) = refl
+end_class (SymbolToken Greater) = refl
+end_class (SymbolToken LessEqual) = refl
+end_class (SymbolToken GreaterEqual) = refl
+end_class (SymbolToken Equal) = refl
+end_class (SymbolToken NotEqual) = refl
+end_class (SymbolToken And) = refl
+end_class (SymbolToken Or) = refl
+end_class (SymbolToken Not) = refl
+end_class (SymbolToken Hash) = refl
+end_class (SymbolToken Caret) = refl
+end_class End = refl
+
+both_are : (b c : Bool) → (not b && c) ≡ true → (b ≡ false) × (c ≡ true)
+both_are true c e = absurd (cc)
+both_are false c e = (refl, e)
+
+pub ends_once_is : (ts : List Token) → ends_once ts ≡ true → EndsOnce ts
+ends_once_is [] e = absurd (cc)
+ends_once_is (t ∷ []) e = end_class t.kind ∙ e
+ends_once_is (t ∷ u ∷ us) e = let k = both_are (is_end t.kind) (ends_once (u ∷ us)) e in (end_class t.kind ∙ k.0, ends_once_is (u ∷ us) k.1)
 
 -- want of depth, or the fault of what is left out, everywhere or of expressions
 abbrev pub OfKind : SyntaxFault × List Token → Type 0

@@ -150,10 +150,13 @@ InstanceAt g d = InstanceIn g d (Body g d)
 pub instance_depth_opens : (g : Detail) (d : ℕ) → Opens (InstanceAt g d) (among firsts_of_instance)
 instance_depth_opens g d = instance_opens (Expr g d) (ArgsAt g d) (BindersIn g d (Expr g d)) (Body g d)
 
-pub statement_depth_opens : (g : Detail) (d : ℕ) → Opens (Statement g d) (among firsts_of_statement)
+pub statement_at_opens : (g : Detail) (d : ℕ) → Opens (Statement g d) (among firsts_of_statement)
 unfolding Statement Body
-statement_depth_opens g zero x s rest h = elim h [ ]
-statement_depth_opens g (suc d) x s rest h = statement_opens (Expr g (suc d)) (ParamsIn d (Expr g d)) (InstanceAt g d) (StatementsIn d (Statement g d)) (Body g d) (instance_depth_opens g d) x s rest h
+statement_at_opens g zero x s rest h = elim h [ ]
+statement_at_opens g (suc d) x s rest h = statement_opens (Expr g (suc d)) (ParamsIn d (Expr g d)) (InstanceAt g d) (StatementsIn d (Statement g d)) (Body g d) (instance_depth_opens g d) x s rest h
+
+pub statement_depth_opens : (d : ℕ) → Opens (Statement whole d) (among firsts_of_statement)
+statement_depth_opens = statement_at_opens whole
 
 -- s reads a statement
 pub statements_reads : (s : Reads StatementTerm) (S R : Language StatementTerm) → IsReader s S R statement_more → Opens S (among firsts_of_statement) → IsReader (many (among firsts_of_statement) s) (Many S) (Many R) (λ xs. among statements_more)
@@ -414,8 +417,8 @@ no_statements r Q i = same_reads (many (among firsts_of_statement) r) (Many Neve
 
 statements_in_reads : (d : ℕ) (s : Reads StatementTerm) (R : Language StatementTerm) → IsReader s (Statement whole d) R statement_more → IsReader (many (among firsts_of_statement) s) (StatementsAt whole d) (Many R) (λ xs. among statements_more)
 unfolding Statement Body
-statements_in_reads zero s R i = no_statements s (Many R) (statements_reads s (Statement whole zero) R i (statement_depth_opens whole zero))
-statements_in_reads (suc d) s R i = statements_reads s (Statement whole (suc d)) R i (statement_depth_opens whole (suc d))
+statements_in_reads zero s R i = no_statements s (Many R) (statements_reads s (Statement whole zero) R i (statement_at_opens whole zero))
+statements_in_reads (suc d) s R i = statements_reads s (Statement whole (suc d)) R i (statement_at_opens whole (suc d))
 
 params_in_reads : (d : ℕ) → IsReader (params_read (param_in d (expr_read d))) (ParamsAt whole d) (ParamsAt whole (suc (suc d))) (λ x. other_than closes)
 params_in_reads zero =
@@ -483,4 +486,4 @@ statement_depth_reads (suc d) =
 pub program_reads : (d : ℕ) → IsReader (program_read d) (Program d) (Program (suc (suc d))) (λ x t. false)
 program_reads d =
     before_reads (many (among firsts_of_statement) (statement_read d)) (Many (Statement whole d)) (Many (Statement whole (suc (suc d)))) end (λ x. among statements_more) end_one (token End) refl
-    (statements_reads (statement_read d) (Statement whole d) (Statement whole (suc (suc d))) (statement_depth_reads d).0 (statement_depth_opens whole d)) (λ x. next_apart (end ∷ []) statements_more refl)
+    (statements_reads (statement_read d) (Statement whole d) (Statement whole (suc (suc d))) (statement_depth_reads d).0 (statement_at_opens whole d)) (λ x. next_apart (end ∷ []) statements_more refl)

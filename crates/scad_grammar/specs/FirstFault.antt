@@ -1,10 +1,10 @@
 -- Which token is the first fault of some tokens, and of what kind it is.
-use Rattle.std.specs.Prelude.{◌≡◌, ℕ, List, [], ◌∷◌, ◌++◌, true, false, ◌⊎◌}
+use Rattle.std.specs.Prelude.{◌≡◌, ℕ, List, [], ◌∷◌, ◌++◌, true, ◌⊎◌}
 use Rattle.scad_lexer.specs.declared.token.Token.{Token}
 use Rattle.scad_ast.specs.Terms.{StatementTerm}
 use Rattle.scad_grammar.specs.declared.SyntaxFault.{SyntaxFault}
 use Rattle.scad_grammar.specs.declared.SyntaxFault.TheVariants.{Expected, Nested, NotInProfile}
-use Rattle.scad_grammar.specs.Classes.{numeral, end, among, is}
+use Rattle.scad_grammar.specs.Classes.{numeral, among, is}
 use Rattle.scad_grammar.specs.Faults.{left_out, left_out_of_expressions}
 use Rattle.scad_grammar.specs.Grammar.{Program, Outline}
 
@@ -36,9 +36,3 @@ IsFault d Nested s t = BeginsSome (s ++ t ∷ []) × (BeginsWithin d (s ++ t ∷
 abbrev pub IsFirstFault : ℕ → List Token → SyntaxFault → List Token → Type 0
 IsFirstFault d ts fault at =
     (s : List Token) × (t : Token) × (more : List Token) × (ts ≡ s ++ at) × (at ≡ t ∷ more) × BeginsWithin d s × IsFault d fault s t
-
--- the last token is the end, and no other is
-abbrev pub EndsOnce : List Token → Type 0
-EndsOnce [] = ⊥
-EndsOnce (t ∷ []) = is end t ≡ true
-EndsOnce (t ∷ u ∷ us) = (is end t ≡ false) × EndsOnce (u ∷ us)

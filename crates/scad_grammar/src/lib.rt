@@ -1,11 +1,12 @@
 //! The grammar of the modelling language, and the laws of reading it from the front.
 #![tactic(auto)]
 
-ghost use Rattle.std.specs.Prelude.{◌≡◌, ℕ, List, ◌⊎◌};
+ghost use Rattle.std.specs.Prelude.{◌≡◌, ℕ, List, true, ◌⊎◌};
 ghost use Rattle.scad_lexer.specs.declared.token.Token.{Token};
+ghost use Rattle.scad_lexer.specs.Tokens.{ends_once};
 ghost use Rattle.scad_ast.specs.Terms.{StatementTerm};
 ghost use Rattle.scad_grammar.specs.Grammar.{Program};
-ghost use Rattle.scad_grammar.specs.FirstFault.{EndsOnce, IsFirstFault};
+ghost use Rattle.scad_grammar.specs.FirstFault.{IsFirstFault};
 
 /// Why tokens are no program.
 #[derive(Clone, Copy, Debug, PartialEq, Eq)]
@@ -25,7 +26,7 @@ pub fn one_program_each()
 
 /// Tokens that end with their only end are a program in which each is less deep than so much, or have a first fault.
 pub fn program_or_fault()
-    ensures { (d : ℕ) (s : List Token) → EndsOnce s → ((x : List StatementTerm) × Program d x s) ⊎ ((fault : SyntaxFault) × (at : List Token) × IsFirstFault d s fault at) }
+    ensures { (d : ℕ) (s : List Token) → ends_once s ≡ true → ((x : List StatementTerm) × Program d x s) ⊎ ((fault : SyntaxFault) × (at : List Token) × IsFirstFault d s fault at) }
 {}
 
 /// A program in which each token is less deep than so much has no fault.
