@@ -1,5 +1,5 @@
 -- The world box as a cell, and half spaces of it.
-use Rattle.std.proofs.Common.{arith, ℤ, ◌<ℤ◌,  negsuc, ◌*◌, ◌<◌, ◌-ℤ◌, ◌*ℤ◌, unsigned_abs, ◌≡◌, ◌↔◌, Bool, true, false, not, if◌then◌else◌, refl, sym, subst, ◌∙◌, pos}
+use Rattle.std.proofs.Common.{arith, ℤ, ◌<ℤ◌, negsuc, ◌*◌, ◌<◌, ◌-ℤ◌, ◌*ℤ◌, unsigned_abs, ◌≡◌, ◌↔◌, Bool, true, false, not, if◌then◌else◌, refl, sym, subst, ◌∙◌, pos}
 use Rattle.plane_predicate.proofs.IntegerRing.{sums}
 use Rattle.std.specs.Ordering.{int_eq}
 use Rattle.plane_predicate.specs.Space.{Coefficients, Coordinates, value, IsPlane, IsInReach, IsInWorld, IsInClosedWorld}
@@ -52,11 +52,19 @@ open_world p = (
     weight = h.weight;
     below = (
       below_by _ _ (sym (value_high_x p)) x.0,
-      (below_by _ _ (sym (value_low_x p)) x.1,
-      (below_by _ _ (sym (value_high_y p)) y.0,
-      (below_by _ _ (sym (value_low_y p)) y.1,
-      (below_by _ _ (sym (value_high_z p)) z.0,
-      (below_by _ _ (sym (value_low_z p)) z.1, tt))))),
+      (
+        below_by _ _ (sym (value_low_x p)) x.1,
+        (
+          below_by _ _ (sym (value_high_y p)) y.0,
+          (
+            below_by _ _ (sym (value_low_y p)) y.1,
+            (
+              below_by _ _ (sym (value_high_z p)) z.0,
+              (below_by _ _ (sym (value_low_z p)) z.1, tt),
+            ),
+          ),
+        ),
+      ),
     );
   }),
 )
