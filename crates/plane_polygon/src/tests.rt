@@ -148,3 +148,10 @@ fn a_square_is_cut_at_its_corners(rt: HostRuntime) {
     let touching = through(&rt, [[2048, 2048, 0], [2048, 2048, 1], [2049, 2047, 0]]);
     assert_eq!(rt; sort_by(&half, &touching), Class::Behind);
 }
+
+#[test]
+fn a_polygon_is_copied(rt: HostRuntime) {
+    let ground = boxed(&rt, rt.alloc(), GROUND);
+    let copied = ground.copy(rt.alloc()).expect(&rt, "memory");
+    assert!(rt; copied.plane().c == 1 && copied.edges().len() == 4);
+}

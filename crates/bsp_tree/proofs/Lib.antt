@@ -1,0 +1,12 @@
+pub mod Opposites
+pub mod SameNumbers
+pub mod Convexity
+pub mod Openness
+pub mod SamePoints
+pub mod PolygonsOfCells
+pub mod Sides
+pub mod Walks
+pub mod Complements
+pub mod Worlds
+pub mod Halves
+pub mod NearPoints
