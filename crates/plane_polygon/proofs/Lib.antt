@@ -14,3 +14,4 @@ pub mod Parts
 pub mod BoxStarts
 pub mod Trims
 pub mod BoxPoints
+mod Rows
