@@ -101,8 +101,6 @@ fn a_meeting_lies_on_a_side(rt: HostRuntime) {
     }
 }
 
-// Planes whose numbers are as great as they may be, with all signs of the last one. The sides were
-// computed with whole numbers of any size.
 #[test]
 fn a_point_lies_on_a_side(rt: HostRuntime) {
     let wall = plane(&rt, [1, 0, 0, 1]);
@@ -120,6 +118,8 @@ fn a_point_lies_on_a_side(rt: HostRuntime) {
     assert_eq!(rt; point_side(&opposite(&wall), &past), Side::Behind);
 }
 
+// Planes whose numbers are as great as they may be, with all signs of the last one. The sides were
+// computed with whole numbers of any size.
 #[test]
 fn sums_are_exact_at_their_limits(rt: HostRuntime) {
     let first = plane(&rt, [MOST, MOST - 1, MOST, MOST_OFFSET]);
@@ -191,6 +191,8 @@ fn sides_of_meetings(rt: &impl Abort, by: &Plane) -> (u32, u32, u32) {
 
 // The numbers were computed with whole numbers of any size. They are the same for each direction of
 // the fourth plane, since the three take all signs.
+// Planes whose numbers are as great as they may be, with all signs of the last one. The sides were
+// computed with whole numbers of any size.
 #[test]
 fn sums_are_exact_at_their_limits_with_all_signs(rt: HostRuntime) {
     for signs in 0..16 {
