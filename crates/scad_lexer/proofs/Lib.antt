@@ -2,3 +2,4 @@ pub mod Lexing
 pub mod Longest
 pub mod Meanings
 pub mod Scanned
+mod EndsOnce

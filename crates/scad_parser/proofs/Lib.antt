@@ -1,0 +1,5 @@
+mod Depths
+mod Lengths
+mod Loops
+mod Stops
+mod Trees

@@ -6,7 +6,7 @@ ghost use Rattle.scad_parser.specs.TokenClasses.{classes_of, operators_at, tight
 
 use scad_lexer::{Reserved, Symbol, TokenKind};
 
-/// A level of operators of two sides, or what stands between them.
+/// A level of operators of two sides.
 #[derive(Clone, Copy, Debug, PartialEq, Eq)]
 pub enum Level {
     Or,
@@ -15,21 +15,20 @@ pub enum Level {
     Order,
     Sum,
     Product,
-    Operand,
 }
 
 impl Level {
     /// The level whose operators bind more tightly.
-    pub fn tighter(self) -> Level
+    pub fn tighter(self) -> Option<Level>
         ensures { result ≡ tighter_than self }
     {
         match self {
-            Level::Or => Level::And,
-            Level::And => Level::Equal,
-            Level::Equal => Level::Order,
-            Level::Order => Level::Sum,
-            Level::Sum => Level::Product,
-            Level::Product | Level::Operand => Level::Operand,
+            Level::Or => Some(Level::And),
+            Level::And => Some(Level::Equal),
+            Level::Equal => Some(Level::Order),
+            Level::Order => Some(Level::Sum),
+            Level::Sum => Some(Level::Product),
+            Level::Product => None,
         }
     }
 
@@ -49,7 +48,6 @@ impl Level {
             Level::Product => {
                 matches!(symbol, Symbol::Times | Symbol::Divide | Symbol::Remainder)
             }
-            Level::Operand => false,
         }
     }
 }

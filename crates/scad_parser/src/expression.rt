@@ -1,4 +1,4 @@
-ghost use Rattle.std.specs.Prelude.{◌≡◌, ◌≤◌, ◌<◌, ◌∷◌, [], IfOk, IsTrue, length, map};
+ghost use Rattle.std.specs.Prelude.{◌≡◌, ◌≤◌, ◌<◌, ◌∷◌, [], true, IfOk, length, map};
 ghost use Rattle.scad_ast.specs.Terms.{Term, ArgTerm};
 ghost use Rattle.scad_ast.specs.ExprView.{term_of, terms_of, links_of, link_of, suffix_of, suffixes_of, arg_of, args_of};
 ghost use Rattle.scad_grammar.specs.Classes.{among, is, other_than};
@@ -7,7 +7,7 @@ ghost use Rattle.scad_grammar.specs.Faults.{Reads, one};
 ghost use Rattle.scad_grammar.specs.Grammar.{link as link_at, chain_of as chain_at, postfix_of as postfix_at, filled_of};
 ghost use Rattle.scad_grammar.specs.Reading.{starts, both, mapped, many, trailing, in_front};
 ghost use Rattle.scad_grammar.specs.Reads.{expr_read, operand_read, arg_in, args_read, primary_read, unary_read, postfix_read, suffix_read, chain_read, choice_read, name_read, bracket_read, rest_read};
-ghost use Rattle.scad_parser.specs.TokenClasses.{levels_at, operators_at, tighter_than, literals, suffix_signs};
+ghost use Rattle.scad_parser.specs.TokenClasses.{levels_at, operators_at, levels_below, literals, suffix_signs};
 ghost use Rattle.scad_parser.specs.Views.{Gives};
 
 use crate::class::{Class, Level};
@@ -67,12 +67,26 @@ fn chain<'a>(
     ensures value { Gives (λ p. (term_of p.0, p.1.now)) result (chain_read (levels_at level) (unary_read (expr_read depth) (operand_read depth) (primary_read (expr_read depth) (arg_in depth (expr_read depth)))) tokens.now) }
     ensures rest { IfOk result (λ p. length p.1.now ≤ length tokens.now) }
 {
-    if level == Level::Operand {
-        return unary(alloc, tokens, depth);
-    }
-    let (first, rest) = chain(alloc, tokens, depth, level.tighter())?;
+    let (first, rest) = side(alloc, tokens, depth, level)?;
     let (links, rest) = links(alloc, rest, depth, level)?;
     Ok((chain_of(alloc, first, links)?, rest))
+}
+
+/// What the operators of a level stand between.
+#[cycle(expression)]
+fn side<'a>(
+    alloc: Global,
+    tokens: &'a [Token],
+    depth: u32,
+    level: Level,
+) -> Parsed<'a, Expr>
+    ensures value { Gives (λ p. (term_of p.0, p.1.now)) result (chain_read (levels_below level) (unary_read (expr_read depth) (operand_read depth) (primary_read (expr_read depth) (arg_in depth (expr_read depth)))) tokens.now) }
+    ensures rest { IfOk result (λ p. length p.1.now ≤ length tokens.now) }
+{
+    match level.tighter() {
+        Some(tighter) => chain(alloc, tokens, depth, tighter),
+        None => unary(alloc, tokens, depth),
+    }
 }
 
 /// The operators of a level and what stands behind each.
@@ -83,7 +97,7 @@ fn links<'a>(
     depth: u32,
     level: Level,
 ) -> Parsed<'a, Links>
-    ensures value { Gives (λ p. (links_of p.0, p.1.now)) result (many (among (operators_at level)) (both link_at (one (among (operators_at level))) (chain_read (levels_at (tighter_than level)) (unary_read (expr_read depth) (operand_read depth) (primary_read (expr_read depth) (arg_in depth (expr_read depth)))))) tokens.now) }
+    ensures value { Gives (λ p. (links_of p.0, p.1.now)) result (many (among (operators_at level)) (both link_at (one (among (operators_at level))) (chain_read (levels_below level) (unary_read (expr_read depth) (operand_read depth) (primary_read (expr_read depth) (arg_in depth (expr_read depth)))))) tokens.now) }
     ensures rest { IfOk result (λ p. length p.1.now ≤ length tokens.now) }
 {
     let mut items = Vec::new(alloc);
@@ -104,17 +118,17 @@ fn link<'a>(
     depth: u32,
     level: Level,
 ) -> Parsed<'a, Link>
-    ensures value { Gives (λ p. (link_of p.0, p.1.now)) result (both link_at (one (among (operators_at level))) (chain_read (levels_at (tighter_than level)) (unary_read (expr_read depth) (operand_read depth) (primary_read (expr_read depth) (arg_in depth (expr_read depth))))) tokens.now) }
+    ensures value { Gives (λ p. (link_of p.0, p.1.now)) result (both link_at (one (among (operators_at level))) (chain_read (levels_below level) (unary_read (expr_read depth) (operand_read depth) (primary_read (expr_read depth) (arg_in depth (expr_read depth))))) tokens.now) }
     ensures shorter { IfOk result (λ p. length p.1.now < length tokens.now) }
 {
     let (operator, rest) = take(Class::Operator(level), tokens)?;
-    let (right, rest) = chain(alloc, rest, depth, level.tighter())?;
+    let (right, rest) = side(alloc, rest, depth, level)?;
     let op = binary(&operator.kind);
     let place = operator.place;
     Ok((Link { op, place, right }, rest))
 }
 
-/// What the operators of a chain stand between.
+/// An operand with its operators before it.
 #[cycle(expression)]
 fn unary<'a>(alloc: Global, tokens: &'a [Token], depth: u32) -> Parsed<'a, Expr>
     ensures value { Gives (λ p. (term_of p.0, p.1.now)) result (unary_read (expr_read depth) (operand_read depth) (primary_read (expr_read depth) (arg_in depth (expr_read depth))) tokens.now) }
@@ -269,31 +283,31 @@ fn bracket<'a>(alloc: Global, tokens: &'a [Token], depth: u32) -> Parsed<'a, Exp
 #[cycle(expression)]
 fn filled<'a>(
     alloc: Global,
-    open: &Token,
+    bracket: &Token,
     first: Expr,
     tokens: &'a [Token],
     depth: u32,
 ) -> Parsed<'a, Expr>
-    ensures value { Gives (λ p. (term_of p.0, p.1.now)) result (mapped (filled_of open.now (term_of first)) (rest_read (expr_read depth)) tokens.now) }
+    ensures value { Gives (λ p. (term_of p.0, p.1.now)) result (mapped (filled_of bracket.now (term_of first)) (rest_read (expr_read depth)) tokens.now) }
     ensures rest { IfOk result (λ p. length p.1.now ≤ length tokens.now) }
 {
     if !Class::Sign(Symbol::Colon).begins(tokens) {
         let mut items = Vec::new(alloc);
         items.push(first)?;
         let (items, rest) = more_items(alloc, items, tokens, depth)?;
-        return Ok((Expr::List(open.place, items), rest));
+        return Ok((Expr::List(bracket.place, items), rest));
     }
     let first = Box::new(alloc, first)?;
     let (_, rest) = take(Class::Sign(Symbol::Colon), tokens)?;
     let (next, rest) = expr(alloc, rest, depth)?;
     let next = Box::new(alloc, next)?;
     if !Class::Sign(Symbol::Colon).begins(rest) {
-        return Ok((Expr::Range(open.place, first, next), rest));
+        return Ok((Expr::Range(bracket.place, first, next), rest));
     }
     let (_, rest) = take(Class::Sign(Symbol::Colon), rest)?;
     let (to, rest) = expr(alloc, rest, depth)?;
     let to = Box::new(alloc, to)?;
-    Ok((Expr::SteppedRange(open.place, first, next, to), rest))
+    Ok((Expr::SteppedRange(bracket.place, first, next, to), rest))
 }
 
 /// More items of a list, each behind a comma, and maybe a comma behind the last.
@@ -308,7 +322,7 @@ fn more_items<'a>(
     ensures rest { IfOk result (λ p. length p.1.now ≤ length tokens.now) }
 {
     let mut rest = tokens;
-    'items: while is_comma_before(Symbol::CloseBracket, rest) {
+    'commas: while is_comma_before(Symbol::CloseBracket, rest) {
         let (item, after) = expr(alloc, behind_comma(rest), depth)?;
         items.push(item)?;
         rest = after;
@@ -343,7 +357,7 @@ fn more_args<'a>(
     ensures rest { IfOk result (λ p. length p.1.now ≤ length tokens.now) }
 {
     let mut rest = tokens;
-    'args: while is_comma_before(Symbol::CloseParenthesis, rest) {
+    'commas: while is_comma_before(Symbol::CloseParenthesis, rest) {
         let (item, after) = arg(alloc, behind_comma(rest), depth)?;
         items.push(item)?;
         rest = after;

@@ -206,7 +206,7 @@ fn more_params<'a>(
     ensures rest { IfOk result (λ p. length p.1.now ≤ length tokens.now) }
 {
     let mut rest = tokens;
-    'params: while is_comma_and_name(rest) {
+    'commas: while is_comma_and_name(rest) {
         let (item, after) = param(alloc, behind_comma(rest), depth)?;
         items.push(item)?;
         rest = after;
@@ -382,7 +382,7 @@ fn more_binders<'a>(
     ensures rest { IfOk result (λ p. length p.1.now ≤ length tokens.now) }
 {
     let mut rest = tokens;
-    'binders: while is_comma_and_name(rest) {
+    'commas: while is_comma_and_name(rest) {
         let (item, after) = binder(alloc, behind_comma(rest), depth)?;
         items.push(item)?;
         rest = after;
