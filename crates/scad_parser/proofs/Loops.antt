@@ -52,32 +52,6 @@ module _ {A : Type 0} (test : Token → Bool) (r : Reads A) (strict : Strictly r
   pub many_stop : (ts : List Token) (e : SyntaxFault × List Token) → starts test ts ≡ true → r ts ≡ Err e → many test r ts ≡ Err e
   many_stop ts e a b = many_step ts ∙ ap (λ c. cond c (after (r ts) (λ x us. with_front x (many test r us))) (Ok ([], ts))) a ∙ ap (λ q. after q (λ x us. with_front x (many test r us))) b
 
-  left_after : (ts : List Token) (q : Read Token SyntaxFault (List A)) (x : A) (us : List Token) → ((ys : List A) (vs : List Token) → q ≡ Ok (ys, vs) → length vs ≤ length us) → length us < length ts
-      → (xs : List A) (ws : List Token) → with_front x q ≡ Ok (xs, ws) → length ws ≤ length ts
-  left_after ts (Ok p) x us ih less xs ws e =
-      let f : ◌≡◌ {A = List A × List Token} (x ∷ p.0, p.1) (xs, ws) = cc in
-      let same : p.1 ≡ ws = ap (λ (p : List A × List Token). p.1) f in
-      omega (arith, ih p.0 p.1 refl, ap length same)
-  left_after ts (Err y) x us ih less xs ws e = absurd (cc)
-
-  left_times : (n : ℕ) (ts : List Token) (xs : List A) (us : List Token) → many_times n test r ts ≡ Ok (xs, us) → length us ≤ length ts
-  unfolding many_times
-  left_times zero ts xs us e =
-      let f : ◌≡◌ {A = List A × List Token} ([], ts) (xs, us) = cc in
-      omega (arith, ap length (ap (λ (p : List A × List Token). p.1) f))
-  left_times (suc n) ts xs us e = go (starts test ts) (r ts) refl e
-    where
-      go : (b : Bool) (q : Read Token SyntaxFault A) → r ts ≡ q → cond b (after q (λ x us. with_front x (many_times n test r us))) (Ok ([], ts)) ≡ Ok (xs, us) → length us ≤ length ts
-      go true (Ok p) f e = left_after ts (many_times n test r p.1) p.0 p.1 (left_times n p.1) (strict ts p.0 p.1 f) xs us e
-      go true (Err y) f e = absurd (cc)
-      go false q f e =
-          let f : ◌≡◌ {A = List A × List Token} ([], ts) (xs, us) = cc in
-          omega (arith, ap length (ap (λ (p : List A × List Token). p.1) f))
-
-  pub many_shorter : Shorter (many test r)
-  unfolding many
-  many_shorter ts = left_times (length ts) ts
-
 -- items behind commas, and maybe a comma behind the last
 module _ {A : Type 0} (go : Token → Bool) (r : Reads A) (shorter : Shorter r) where
   fewer_after : (n m : ℕ) → ((k : ℕ) (us : List Token) → length us ≤ n → length us ≤ k → trailing_times n (is comma_sign) go r us ≡ trailing_times k (is comma_sign) go r us)

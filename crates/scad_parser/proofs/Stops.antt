@@ -1,30 +1,62 @@
--- A fault of a part goes on, and where nothing may stand that is deeper.
-use Rattle.std.proofs.Common.{◌≡◌, ℕ, zero, suc, ◌≢◌, ◌-◌, List, [], ◌∷◌, Bool, true, false, cond, Result, Ok, Err, refl, sym, ap, ◌∙◌, arith}
+-- A fault of a part goes on to the list that holds it.
+use Rattle.std.proofs.Common.{◌≡◌, List, Result, Ok, Err}
 use Rattle.std.specs.Borrow.{Bor}
 use Rattle.scad_lexer.specs.declared.token.Token.{Token}
+use Rattle.scad_ast.specs.declared.expression.Expr.{Expr}
+use Rattle.scad_ast.specs.declared.expression.Exprs.{Exprs}
+use Rattle.scad_ast.specs.declared.expression.Link.{Link}
+use Rattle.scad_ast.specs.declared.expression.Links.{Links}
+use Rattle.scad_ast.specs.declared.expression.Suffix.{Suffix}
+use Rattle.scad_ast.specs.declared.expression.Suffixes.{Suffixes}
+use Rattle.scad_ast.specs.declared.expression.Arg.{Arg}
+use Rattle.scad_ast.specs.declared.expression.Args.{Args}
+use Rattle.scad_ast.specs.declared.statement.Param.{Param}
+use Rattle.scad_ast.specs.declared.statement.Params.{Params}
+use Rattle.scad_ast.specs.declared.statement.Binder.{Binder}
+use Rattle.scad_ast.specs.declared.statement.Binders.{Binders}
+use Rattle.scad_ast.specs.declared.statement.Mark.{Mark}
+use Rattle.scad_ast.specs.declared.statement.Marks.{Marks}
+use Rattle.scad_ast.specs.declared.statement.Statement.{Statement}
+use Rattle.scad_ast.specs.declared.statement.Statements.{Statements}
+use Rattle.scad_ast.specs.Terms.{Term, ArgTerm, LinkTerm, SuffixTerm, ParamTerm, BinderTerm, MarkTerm, StatementTerm}
+use Rattle.scad_ast.specs.ExprView.{term_of, terms_of, link_of, links_of, suffix_of, suffixes_of, arg_of, args_of}
+use Rattle.scad_ast.specs.StatementView.{param_of, params_of, binder_of, binders_of, mark_of, marks_of, statement_of, statements_of}
 use Rattle.scad_grammar.specs.declared.SyntaxFault.{SyntaxFault}
-use Rattle.scad_grammar.specs.declared.SyntaxFault.TheVariants.{Nested}
-use Rattle.scad_grammar.specs.Classes.{among}
-use Rattle.scad_grammar.specs.Reading.{Read, starts}
-use Rattle.scad_grammar.specs.Reads.{nested, expr_read, operand_read, arg_in, arg_read, primary_read, unary_read, choice_read}
-use Rattle.scad_grammar.specs.StatementReads.{statement_read, statement_over, body_read, body_over, param_in, param_read, binder_in, binder_read, instance_in}
+use Rattle.scad_grammar.specs.Reading.{Read}
 use Rattle.scad_parser.specs.declared.next.Stopped.{Stopped}
 use Rattle.scad_parser.specs.declared.next.Stopped.TheVariants.{Fault, NoMemory}
-use Rattle.scad_parser.specs.Views.{Gives, IsStop, nested_fault, fault_at}
+use Rattle.scad_parser.specs.Views.{Gives}
 
 -- a fault of an item is one of the list
-pub goes_on : {A B X Y : Type 0} (view : A → X × List Token) (list : B → Y × List Token) (s : Stopped) (q : Read Token SyntaxFault X) (r : Read Token SyntaxFault Y)
-    → ((x : SyntaxFault × List Token) → q ≡ Err x → r ≡ Err x) → Gives {A = A} {X = X} view (Err s) q → Gives {A = B} {X = Y} list (Err s) r
-goes_on view list (Fault fault at) q r h e = h (fault, at.now) e
-goes_on view list NoMemory q r h e = tt
+abbrev GoesOn : {A X : Type 0} → (A → X) → {B Y : Type 0} → (B → Y) → Type 0
+GoesOn {A} {X} item {B} {Y} list =
+    (s : Stopped) (q : Read Token SyntaxFault X) (r : Read Token SyntaxFault Y) → ((x : SyntaxFault × List Token) → q ≡ Err x → r ≡ Err x)
+    → Gives (λ (p : A × Bor (List Token)). (item p.0, p.1.now)) (Err s) q → Gives (λ (p : B × Bor (List Token)). (list p.0, p.1.now)) (Err s) r
 
-nested_is : {A : Type 0} (begins classes : List ℕ) (ts : List Token) → nested {A = A} begins classes ts ≡ Err (nested_fault begins classes ts, ts)
-nested_is {A} begins classes ts = go (starts (among begins) ts)
-  where
-    go : (b : Bool) → cond {A = Read Token SyntaxFault A} b (Err (Nested, ts)) (Err (fault_at classes ts, ts)) ≡ Err (cond b Nested (fault_at classes ts), ts)
-    go true = refl
-    go false = refl
+goes_on : {A X B Y : Type 0} (item : A → X) (list : B → Y) → GoesOn item list
+goes_on item list (Fault fault at) q r h e = h (fault, at.now) e
+goes_on item list NoMemory q r h e = tt
 
-pub too_deep : {A X : Type 0} (view : A → X × List Token) (s : Stopped) (begins classes : List ℕ) (ts : List Token) (r : Read Token SyntaxFault X) → r ≡ nested begins classes ts → IsStop s (nested_fault begins classes ts) ts → Gives {A = A} {X = X} view (Err s) r
-too_deep view (Fault fault at) begins classes ts r e h = e ∙ nested_is begins classes ts ∙ ap (λ l. Err (nested_fault begins classes ts, l)) (sym h.1) ∙ ap (λ f. Err (f, at.now)) (sym h.0)
-too_deep view NoMemory begins classes ts r e h = elim h [ ]
+pub item_goes : GoesOn term_of terms_of
+item_goes = goes_on term_of terms_of
+
+pub link_goes : GoesOn link_of links_of
+link_goes = goes_on link_of links_of
+
+pub suffix_goes : GoesOn suffix_of suffixes_of
+suffix_goes = goes_on suffix_of suffixes_of
+
+pub arg_goes : GoesOn arg_of args_of
+arg_goes = goes_on arg_of args_of
+
+pub param_goes : GoesOn param_of params_of
+param_goes = goes_on param_of params_of
+
+pub binder_goes : GoesOn binder_of binders_of
+binder_goes = goes_on binder_of binders_of
+
+pub mark_goes : GoesOn mark_of marks_of
+mark_goes = goes_on mark_of marks_of
+
+pub statement_goes : GoesOn statement_of statements_of
+statement_goes = goes_on statement_of statements_of

@@ -27,7 +27,7 @@ use text_place::Place;
 #[cycle(statement)]
 pub fn statement<'a>(alloc: Global, tokens: &'a [Token], depth: u32) -> Parsed<'a, Statement>
     ensures value { Gives (λ p. (statement_of p.0, p.1.now)) result (statement_read depth tokens.now) }
-    ensures rest { IfOk result (λ p. length p.1.now ≤ length tokens.now) }
+    ensures shorter { IfOk result (λ p. length p.1.now < length tokens.now) }
 {
     if depth == 0 {
         return Err(too_deep(Class::Statement, Class::LeftOut, tokens));
@@ -44,7 +44,7 @@ fn statement_over<'a>(
     inner: u32,
 ) -> Parsed<'a, Statement>
     ensures value { Gives (λ p. (statement_of p.0, p.1.now)) result (statement_from (expr_read depth) (param_in inner (expr_read inner)) (statement_read inner) (body_read inner) (instance_in inner (body_read inner)) tokens.now) }
-    ensures rest { IfOk result (λ p. length p.1.now ≤ length tokens.now) }
+    ensures shorter { IfOk result (λ p. length p.1.now < length tokens.now) }
 {
     if Class::Sign(Symbol::Semicolon).begins(tokens) {
         let (end, rest) = take(Class::Sign(Symbol::Semicolon), tokens)?;
@@ -91,7 +91,7 @@ pub fn statements<'a>(alloc: Global, tokens: &'a [Token], depth: u32) -> Parsed<
 fn assignment<'a>(alloc: Global, tokens: &'a [Token], depth: u32) -> Parsed<'a, Statement>
     requires { names_value tokens.now ≡ true }
     ensures value { (q : Reads StatementTerm) → Gives (λ p. (statement_of p.0, p.1.now)) result (ahead assigned (is name) (is assign_sign) (ended_read (expr_read depth)) q tokens.now) }
-    ensures rest { IfOk result (λ p. length p.1.now ≤ length tokens.now) }
+    ensures shorter { IfOk result (λ p. length p.1.now < length tokens.now) }
 {
     let (name, rest) = take(Class::Name, tokens)?;
     let (_, rest) = take(Class::Sign(Symbol::Assign), rest)?;
@@ -119,7 +119,7 @@ fn definition<'a>(
     inner: u32,
 ) -> Parsed<'a, Statement>
     ensures value { Gives (λ p. (statement_of p.0, p.1.now)) result (definition_read (expr_read depth) (param_in inner (expr_read inner)) (body_read inner) (instance_in inner (body_read inner)) tokens.now) }
-    ensures rest { IfOk result (λ p. length p.1.now ≤ length tokens.now) }
+    ensures shorter { IfOk result (λ p. length p.1.now < length tokens.now) }
 {
     if Class::Word(Reserved::Module).begins(tokens) {
         module(alloc, tokens, inner)
@@ -135,7 +135,7 @@ fn definition<'a>(
 #[cycle(statement)]
 fn module<'a>(alloc: Global, tokens: &'a [Token], depth: u32) -> Parsed<'a, Statement>
     ensures value { Gives (λ p. (statement_of p.0, p.1.now)) result (module_read (param_in depth (expr_read depth)) (body_read depth) tokens.now) }
-    ensures rest { IfOk result (λ p. length p.1.now ≤ length tokens.now) }
+    ensures shorter { IfOk result (λ p. length p.1.now < length tokens.now) }
 {
     let (word, rest) = take(Class::Word(Reserved::Module), tokens)?;
     let (name, rest) = take(Class::Name, rest)?;
@@ -156,7 +156,7 @@ fn function<'a>(
     inner: u32,
 ) -> Parsed<'a, Statement>
     ensures value { Gives (λ p. (statement_of p.0, p.1.now)) result (function_read (expr_read depth) (param_in inner (expr_read inner)) tokens.now) }
-    ensures rest { IfOk result (λ p. length p.1.now ≤ length tokens.now) }
+    ensures shorter { IfOk result (λ p. length p.1.now < length tokens.now) }
 {
     let (word, rest) = take(Class::Word(Reserved::Function), tokens)?;
     let (name, rest) = take(Class::Name, rest)?;
@@ -236,7 +236,7 @@ fn param<'a>(alloc: Global, tokens: &'a [Token], depth: u32) -> Parsed<'a, Param
 #[cycle(statement)]
 fn instance<'a>(alloc: Global, tokens: &'a [Token], depth: u32) -> Parsed<'a, Instance>
     ensures value { Gives (λ p. (instance_of p.0, p.1.now)) result (instance_in depth (body_read depth) tokens.now) }
-    ensures rest { IfOk result (λ p. length p.1.now ≤ length tokens.now) }
+    ensures shorter { IfOk result (λ p. length p.1.now < length tokens.now) }
 {
     let (marks, rest) = marks(alloc, tokens)?;
     let (core, rest) = core(alloc, rest, depth)?;
@@ -299,7 +299,7 @@ fn mark<'a>(tokens: &'a [Token]) -> Parsed<'a, Mark>
 #[cycle(statement)]
 fn core<'a>(alloc: Global, tokens: &'a [Token], depth: u32) -> Parsed<'a, Core>
     ensures value { Gives (λ p. (core_of p.0, p.1.now)) result (core_read (expr_read depth) (arg_in depth (expr_read depth)) (binder_in depth (expr_read depth)) (body_read depth) tokens.now) }
-    ensures rest { IfOk result (λ p. length p.1.now ≤ length tokens.now) }
+    ensures shorter { IfOk result (λ p. length p.1.now < length tokens.now) }
 {
     if Class::Word(Reserved::If).begins(tokens) {
         branch(alloc, tokens, depth)
@@ -314,7 +314,7 @@ fn core<'a>(alloc: Global, tokens: &'a [Token], depth: u32) -> Parsed<'a, Core>
 #[cycle(statement)]
 fn branch<'a>(alloc: Global, tokens: &'a [Token], depth: u32) -> Parsed<'a, Core>
     ensures value { Gives (λ p. (core_of p.0, p.1.now)) result (if_read (expr_read depth) (body_read depth) tokens.now) }
-    ensures rest { IfOk result (λ p. length p.1.now ≤ length tokens.now) }
+    ensures shorter { IfOk result (λ p. length p.1.now < length tokens.now) }
 {
     let (word, rest) = take(Class::Word(Reserved::If), tokens)?;
     let (test, rest) = condition(alloc, rest, depth)?;
@@ -344,7 +344,7 @@ fn condition<'a>(alloc: Global, tokens: &'a [Token], depth: u32) -> Parsed<'a, E
 #[cycle(statement)]
 fn repetition<'a>(alloc: Global, tokens: &'a [Token], depth: u32) -> Parsed<'a, Core>
     ensures value { Gives (λ p. (core_of p.0, p.1.now)) result (loop_read (binder_in depth (expr_read depth)) (body_read depth) tokens.now) }
-    ensures rest { IfOk result (λ p. length p.1.now ≤ length tokens.now) }
+    ensures shorter { IfOk result (λ p. length p.1.now < length tokens.now) }
 {
     let (word, rest) = take(Class::LoopWord, tokens)?;
     let (binders, rest) = binders(alloc, rest, depth)?;
@@ -417,7 +417,7 @@ fn binder<'a>(alloc: Global, tokens: &'a [Token], depth: u32) -> Parsed<'a, Bind
 #[cycle(statement)]
 fn call<'a>(alloc: Global, tokens: &'a [Token], depth: u32) -> Parsed<'a, Core>
     ensures value { Gives (λ p. (core_of p.0, p.1.now)) result (call_read (arg_in depth (expr_read depth)) (body_read depth) tokens.now) }
-    ensures rest { IfOk result (λ p. length p.1.now ≤ length tokens.now) }
+    ensures shorter { IfOk result (λ p. length p.1.now < length tokens.now) }
 {
     let (name, rest) = take(Class::Name, tokens)?;
     let (args, rest) = arguments(alloc, rest, depth)?;
