@@ -1,7 +1,7 @@
-mod Choices
 mod Depths
 mod Lengths
+mod Levels
 mod Loops
+mod Parsed
 mod Stops
-mod Takes
 mod Trees

@@ -6,7 +6,7 @@ ghost use Rattle.scad_grammar.specs.Classes.{comma_sign, close_bracket_sign, clo
 ghost use Rattle.scad_grammar.specs.Faults.{Reads, one};
 ghost use Rattle.scad_grammar.specs.Grammar.{link as link_at, chain_of as chain_at, postfix_of as postfix_at, filled_of};
 ghost use Rattle.scad_grammar.specs.Reading.{starts, both, mapped, many, trailing, in_front};
-ghost use Rattle.scad_grammar.specs.Reads.{expr_read, operand_read, arg_in, args_read, primary_read, unary_read, postfix_read, suffix_read, chain_read, choice_read, name_read, bracket_read, rest_read};
+ghost use Rattle.scad_grammar.specs.Reads.{expr_read, operand_read, arg_in, args_read, primary_read, unary_read, postfix_read, suffix_read, chain_read, choice_read, name_read, paren_read, bracket_read, rest_read};
 ghost use Rattle.scad_parser.specs.TokenClasses.{levels_at, operators_at, levels_below, literals, suffix_signs};
 ghost use Rattle.scad_parser.specs.Views.{Gives};
 
@@ -216,13 +216,22 @@ fn primary<'a>(alloc: Global, tokens: &'a [Token], depth: u32) -> Parsed<'a, Exp
     } else if Class::Name.begins(tokens) {
         named(alloc, tokens, depth)
     } else if Class::Sign(Symbol::OpenParenthesis).begins(tokens) {
-        let (open, rest) = take(Class::Sign(Symbol::OpenParenthesis), tokens)?;
-        let (inner, rest) = expr(alloc, rest, depth)?;
-        let (_, rest) = take(Class::Sign(Symbol::CloseParenthesis), rest)?;
-        Ok((Expr::Paren(open.place, Box::new(alloc, inner)?), rest))
+        paren(alloc, tokens, depth)
     } else {
         bracket(alloc, tokens, depth)
     }
+}
+
+/// An expression in parentheses.
+#[cycle(expression)]
+fn paren<'a>(alloc: Global, tokens: &'a [Token], depth: u32) -> Parsed<'a, Expr>
+    ensures value { Gives (λ p. (term_of p.0, p.1.now)) result (paren_read (expr_read depth) tokens.now) }
+    ensures rest { IfOk result (λ p. length p.1.now ≤ length tokens.now) }
+{
+    let (open, rest) = take(Class::Sign(Symbol::OpenParenthesis), tokens)?;
+    let (inner, rest) = expr(alloc, rest, depth)?;
+    let (_, rest) = take(Class::Sign(Symbol::CloseParenthesis), rest)?;
+    Ok((Expr::Paren(open.place, Box::new(alloc, inner)?), rest))
 }
 
 /// A numeral, a text, a truth, `undef` or `$children`.
@@ -270,8 +279,7 @@ fn bracket<'a>(alloc: Global, tokens: &'a [Token], depth: u32) -> Parsed<'a, Exp
     let (open, rest) = take_first(Class::Sign(Symbol::OpenBracket), tokens)?;
     if !is_before(Symbol::CloseBracket, rest) {
         let (_, rest) = take(Class::Sign(Symbol::CloseBracket), rest)?;
-        let items = Vec::new(alloc);
-        return Ok((Expr::List(open.place, Exprs { items }), rest));
+        return Ok((Expr::List(open.place, no_items(alloc)), rest));
     }
     let (first, rest) = expr(alloc, rest, depth)?;
     let (list, rest) = filled(alloc, open, first, rest, depth)?;
@@ -387,6 +395,15 @@ fn arg<'a>(alloc: Global, tokens: &'a [Token], depth: u32) -> Parsed<'a, Arg>
     let bytes = bytes(alloc, &name.kind)?;
     let (value, rest) = expr(alloc, rest, depth)?;
     Ok((Arg::Named(name.place, bytes, value), rest))
+}
+
+/// A list of nothing.
+fn no_items(alloc: Global) -> Exprs
+    ensures { terms_of result ≡ [] }
+{
+    Exprs {
+        items: Vec::new(alloc),
+    }
 }
 
 /// A chain, or what stands in it alone.

@@ -6,7 +6,5 @@ mod expression;
 mod next;
 mod program;
 mod statement;
-#[cfg(test)]
-mod tests;
 
 pub use program::parse;

@@ -1,24 +1,18 @@
-use Rattle.std.proofs.Common.{rules, ◌≡◌, ◌∙◌, [], ◌∷◌, false, sym, ap, map, arith}
+use Rattle.std.proofs.Common.{rules, ◌≡◌, ◌∙◌, [], ◌∷◌, sym, ap, map, arith}
 use Rattle.std.proofs.lemmas.List.{map-append}
 use Rattle.std.proofs.lemmas.Result.{err_from_is_err_and}
 use Rattle.scad_ast.specs.ExprView.{term_of, link_of, suffix_of, arg_of}
 use Rattle.scad_grammar.specs.Classes.{close_bracket_sign, close_parenthesis_sign, among, other_than}
 use Rattle.scad_grammar.specs.Reads.{expr_read, arg_in}
-use Rattle.scad_grammar.specs.Reading.{starts}
 use Rattle.scad_grammar.proofs.Readers.{loop_more, loop_end, loop_fault}
 use Rattle.scad_parser.specs.TokenClasses.{operators_at, suffix_signs}
-use Rattle.scad_parser.proofs.Choices.{primary_paren, empty_list, below_some}
+use Rattle.scad_parser.proofs.Levels.{below_some}
 use Rattle.scad_parser.proofs.Depths.{expr_none, expr_deeper, operand_none, operand_deeper}
 use Rattle.scad_parser.proofs.Lengths.{link_strict, suffix_strict, expr_shorter, arg_shorter}
 use Rattle.scad_parser.proofs.Loops.{many_more, many_end, many_stop, trailing_more, trailing_end, trailing_stop}
 use Rattle.scad_parser.proofs.Stops.{item_goes, link_goes, suffix_goes, arg_goes}
 use Rattle.scad_parser.proofs.Trees.{terms_roll, links_roll, suffixes_roll, args_roll}
 use Rattle.scad_parser.proofs.expression.+expression.Goals as goal
-
-pub bracket-returns-then-not-is_before-clause-value : goal.bracket-returns-then-not-is_before-clause-value
-bracket-returns-then-not-is_before-clause-value t c =
-    let none : starts (other_than (close_bracket_sign ∷ [])) c.in_ok-open.rest.now ≡ false = search rules in
-    rw (terms_roll (record { items = c.new-items.result }), c.new-items.ensures.items) (empty_list (expr_read c.args.depth) c.args.tokens.now c.in_ok-open.open.now c.in_ok-open.rest.now _ c.in_ok-rest.rest.now c.in_ok-open.ensures.value none c.in_ok-rest.ensures.value)
 
 pub expr-returns-then-depth-eq0-clause-value : goal.expr-returns-then-depth-eq0-clause-value
 expr-returns-then-depth-eq0-clause-value t c = rw (expr_none c.args.depth c.args.tokens.now c.if-depth-eq0.true) (search rules)
@@ -35,14 +29,8 @@ operand-returns-clause-value t c = rw (operand_deeper c.args.depth c.args.tokens
 pub side-returns-in-Some-clause-value : goal.side-returns-in-Some-clause-value
 side-returns-in-Some-clause-value t c = rw (below_some c.args.level c.in-Some.tighter (sym c.tighter.ensures ∙ c.in-Some.is)) c.chain.ensures.value
 
-pub primary-returns-in_err-rest-clause-value : goal.primary-returns-in_err-rest-clause-value
-primary-returns-in_err-rest-clause-value t c = rw (primary_paren (expr_read c.args.depth) (arg_in c.args.depth (expr_read c.args.depth)) c.args.tokens.now (sym c.begins.ensures ∙ c.if-begins.false) (sym c.begins-else-begins.ensures ∙ c.if-begins-2.false) (sym c.begins-else-begins-2.ensures ∙ c.if-begins-3.true)) (search rules)
-
 pub primary-returns-then-begins-clause-value : goal.primary-returns-then-begins-clause-value
 primary-returns-then-begins-clause-value t c = c.literal.ensures.value (expr_read c.args.depth) (arg_in c.args.depth (expr_read c.args.depth))
-
-pub primary-returns-in_ok-new-clause-value : goal.primary-returns-in_ok-new-clause-value
-primary-returns-in_ok-new-clause-value t c = rw (primary_paren (expr_read c.args.depth) (arg_in c.args.depth (expr_read c.args.depth)) c.args.tokens.now (sym c.begins.ensures ∙ c.if-begins.false) (sym c.begins-else-begins.ensures ∙ c.if-begins-2.false) (sym c.begins-else-begins-2.ensures ∙ c.if-begins-3.true)) (search rules)
 
 pub links-returns-in_err-item-clause-value : goal.links-returns-in_err-item-clause-value
 links-returns-in_err-item-clause-value t c =

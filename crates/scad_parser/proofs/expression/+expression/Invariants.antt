@@ -41,6 +41,9 @@ decreases-filled l = 64 * l.depth + 2
 abbrev pub decreases-bracket : goal.decreases-bracket
 decreases-bracket l = 64 * l.depth + 3
 
+abbrev pub decreases-paren : goal.decreases-paren
+decreases-paren l = 64 * l.depth + 1
+
 abbrev pub decreases-primary : goal.decreases-primary
 decreases-primary l = 64 * l.depth + 5
 
