@@ -12,8 +12,8 @@ use Rattle.scad_grammar.specs.Grammar.{Program, Outline}
 abbrev pub BeginsSome : List Token → Type 0
 BeginsSome s = (d : ℕ) × (x : List StatementTerm) × (w : List Token) × Program d x (s ++ w)
 
--- Some program begins with these tokens in which each of them is less deep than so much: an outline does, and outlines
--- show only what is less deep.
+-- Some program begins with these tokens in which each of them is less deep than so much: an outline does,
+-- and an outline shows only what is less deep.
 abbrev pub BeginsWithin : ℕ → List Token → Type 0
 BeginsWithin d s = BeginsSome s × (x : List StatementTerm) × (w : List Token) × Outline d x (s ++ w)
 
@@ -25,14 +25,16 @@ BeforeExpression s = (n : Token) × (is numeral n ≡ true) × BeginsSome (s ++ 
 abbrev pub IsLeftOut : List Token → Token → Type 0
 IsLeftOut s t = (among left_out t ≡ true) ⊎ ((among left_out_of_expressions t ≡ true) × BeforeExpression s)
 
--- Behind these tokens, this one is such a fault. Expected, NotInProfile: no program goes on with it, and it is of a form
--- that isn't left out, or is. Nested: programs go on with it, but only such in which it is too deep.
+-- Behind these tokens, this one is such a fault. Expected and NotInProfile: no program goes on with it, and it is
+-- of a form that isn't left out, or is. Nested: programs go on with it, but only such in which it is too deep.
 abbrev pub IsFault : ℕ → SyntaxFault → List Token → Token → Type 0
 IsFault d Expected s t = (BeginsSome (s ++ t ∷ []) → ⊥) × (IsLeftOut s t → ⊥)
 IsFault d NotInProfile s t = (BeginsSome (s ++ t ∷ []) → ⊥) × IsLeftOut s t
 IsFault d Nested s t = BeginsSome (s ++ t ∷ []) × (BeginsWithin d (s ++ t ∷ []) → ⊥)
 
--- The first fault of `ts` is the first token of `at`: programs begin with all tokens before it, none of them too deep.
+-- The first fault of `ts` is that of the first token of `at`: programs begin with all tokens before it, none of
+-- which is too deep in them.
 abbrev pub IsFirstFault : ℕ → List Token → SyntaxFault → List Token → Type 0
 IsFirstFault d ts fault at =
-    (s : List Token) × (t : Token) × (more : List Token) × (ts ≡ s ++ at) × (at ≡ t ∷ more) × BeginsWithin d s × IsFault d fault s t
+    (s : List Token) × (t : Token) × (more : List Token) × (ts ≡ s ++ at) × (at ≡ t ∷ more) × BeginsWithin d s
+    × IsFault d fault s t

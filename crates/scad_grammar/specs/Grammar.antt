@@ -174,17 +174,19 @@ levels =
 abbrev pub Choice : Language Term → Language (List ArgTerm) → Language Term → Language Term
 Choice E As U = Both choice_of (Chain levels (Unary E As U)) (Maybe (Both pair_of (One (is question_sign)) (Both pair_of E (Behind (is colon_sign) E))))
 
--- A program is written whole, or in outline: in an outline a gap stands for each part that is too deep.
+-- A program is written whole, or in outline. In an outline nothing is too deep: what may be missing is missing there,
+-- and a gap stands for what may not.
 pub data Detail : Type 0 where
   whole : Detail
   outline : Detail
 
--- what is too deep: no whole program has it, and in an outline one token stands for it that no form of the grammar has
+-- What is too deep: no whole program has it. In an outline a gap stands for it: a token that no form of the grammar
+-- has, a special name other than `$children`.
 abbrev pub TooDeep : {A : Type 0} → Detail → (Token → A) → Language A
 TooDeep whole f = Never
 TooDeep outline f = Mapped f (One (is special))
 
--- arguments, parameters and variables of a loop whose tokens are less deep than so much, over an expression as deep
+-- arguments, parameters and variables of a loop whose tokens are less deep than so much; E is an expression as deep
 abbrev pub ArgsIn : ℕ → Language Term → Language (List ArgTerm)
 ArgsIn zero E = Nothing []
 ArgsIn (suc d) E = Args E
@@ -207,7 +209,8 @@ unfoldable mutual
   Operand g zero = TooDeep g (λ t. UndefTerm t.place)
   Operand g (suc d) = Unary (Expr g d) (ArgsIn d (Expr g d)) (Operand g d)
 
--- statements; E is an expression one deeper, and so are As arguments, Ps parameters, Ns variables of a loop, Ss statements and B a body
+-- statements; E is an expression one deeper, and so are As arguments, Ps parameters, Ns variables of a loop,
+-- Ss statements and B a body
 
 abbrev pub mark_of : Token → MarkTerm
 mark_of t = record { at = t.place; modifier = modifier_at (class_of t.kind) }
@@ -300,7 +303,7 @@ StatementOf X Ps I Ss B =
     (EitherOf (Both function_of (One (is function_word)) (Both pair_of (One (is name)) (Both pair_of (InParentheses Ps) (Behind (is assign_sign) (Before X (is semicolon_sign))))))
     (Mapped InstanceStatement I)))))
 
--- statements whose tokens are less deep than so much, over a statement as deep
+-- statements whose tokens are less deep than so much; S is a statement as deep
 abbrev pub StatementsIn : ℕ → Language StatementTerm → Language (List StatementTerm)
 StatementsIn zero S = Nothing []
 StatementsIn (suc d) S = Many S
@@ -327,6 +330,6 @@ ProgramIn g d = Before (Many (Statement g d)) (is end)
 abbrev pub Program : ℕ → Language (List StatementTerm)
 Program = ProgramIn whole
 
--- an outline in which all but the gaps is less deep than so much
+-- an outline whose tokens are less deep than so much, but for the gaps
 abbrev pub Outline : ℕ → Language (List StatementTerm)
 Outline = ProgramIn outline

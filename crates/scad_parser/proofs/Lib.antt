@@ -1,0 +1,7 @@
+mod Depths
+mod Lengths
+mod Levels
+mod Loops
+mod Parsed
+mod Stops
+mod Trees

@@ -1,0 +1,62 @@
+-- A fault of a part goes on to the list that holds it.
+use Rattle.std.proofs.Common.{◌≡◌, List, Result, Ok, Err}
+use Rattle.std.specs.Borrow.{Bor}
+use Rattle.scad_lexer.specs.declared.token.Token.{Token}
+use Rattle.scad_ast.specs.declared.expression.Expr.{Expr}
+use Rattle.scad_ast.specs.declared.expression.Exprs.{Exprs}
+use Rattle.scad_ast.specs.declared.expression.Link.{Link}
+use Rattle.scad_ast.specs.declared.expression.Links.{Links}
+use Rattle.scad_ast.specs.declared.expression.Suffix.{Suffix}
+use Rattle.scad_ast.specs.declared.expression.Suffixes.{Suffixes}
+use Rattle.scad_ast.specs.declared.expression.Arg.{Arg}
+use Rattle.scad_ast.specs.declared.expression.Args.{Args}
+use Rattle.scad_ast.specs.declared.statement.Param.{Param}
+use Rattle.scad_ast.specs.declared.statement.Params.{Params}
+use Rattle.scad_ast.specs.declared.statement.Binder.{Binder}
+use Rattle.scad_ast.specs.declared.statement.Binders.{Binders}
+use Rattle.scad_ast.specs.declared.statement.Mark.{Mark}
+use Rattle.scad_ast.specs.declared.statement.Marks.{Marks}
+use Rattle.scad_ast.specs.declared.statement.Statement.{Statement}
+use Rattle.scad_ast.specs.declared.statement.Statements.{Statements}
+use Rattle.scad_ast.specs.Terms.{Term, ArgTerm, LinkTerm, SuffixTerm, ParamTerm, BinderTerm, MarkTerm, StatementTerm}
+use Rattle.scad_ast.specs.ExprView.{term_of, terms_of, link_of, links_of, suffix_of, suffixes_of, arg_of, args_of}
+use Rattle.scad_ast.specs.StatementView.{param_of, params_of, binder_of, binders_of, mark_of, marks_of, statement_of, statements_of}
+use Rattle.scad_grammar.specs.declared.SyntaxFault.{SyntaxFault}
+use Rattle.scad_grammar.specs.Reading.{Read}
+use Rattle.scad_parser.specs.declared.next.Stopped.{Stopped}
+use Rattle.scad_parser.specs.declared.next.Stopped.TheVariants.{Fault, NoMemory}
+use Rattle.scad_parser.specs.Views.{Gives}
+
+-- a fault of an item is one of the list
+abbrev GoesOn : {A X : Type 0} → (A → X) → {B Y : Type 0} → (B → Y) → Type 0
+GoesOn {A} {X} item {B} {Y} list =
+    (s : Stopped) (q : Read Token SyntaxFault X) (r : Read Token SyntaxFault Y) → ((x : SyntaxFault × List Token) → q ≡ Err x → r ≡ Err x)
+    → Gives (λ (p : A × Bor (List Token)). (item p.0, p.1.now)) (Err s) q → Gives (λ (p : B × Bor (List Token)). (list p.0, p.1.now)) (Err s) r
+
+goes_on : {A X B Y : Type 0} (item : A → X) (list : B → Y) → GoesOn item list
+goes_on item list (Fault fault at) q r h e = h (fault, at.now) e
+goes_on item list NoMemory q r h e = tt
+
+pub item_goes : GoesOn term_of terms_of
+item_goes = goes_on term_of terms_of
+
+pub link_goes : GoesOn link_of links_of
+link_goes = goes_on link_of links_of
+
+pub suffix_goes : GoesOn suffix_of suffixes_of
+suffix_goes = goes_on suffix_of suffixes_of
+
+pub arg_goes : GoesOn arg_of args_of
+arg_goes = goes_on arg_of args_of
+
+pub param_goes : GoesOn param_of params_of
+param_goes = goes_on param_of params_of
+
+pub binder_goes : GoesOn binder_of binders_of
+binder_goes = goes_on binder_of binders_of
+
+pub mark_goes : GoesOn mark_of marks_of
+mark_goes = goes_on mark_of marks_of
+
+pub statement_goes : GoesOn statement_of statements_of
+statement_goes = goes_on statement_of statements_of

@@ -1,0 +1,89 @@
+use Rattle.std.proofs.Common.{rules, ◌≡◌, ◌∙◌, [], ◌∷◌, sym, ap, map, arith}
+use Rattle.std.proofs.lemmas.List.{map-append}
+use Rattle.std.proofs.lemmas.Result.{err_from_is_err_and}
+use Rattle.scad_ast.specs.ExprView.{term_of, link_of, suffix_of, arg_of}
+use Rattle.scad_grammar.specs.Classes.{close_bracket_sign, close_parenthesis_sign, among, other_than}
+use Rattle.scad_grammar.specs.Reads.{expr_read, arg_in}
+use Rattle.scad_grammar.proofs.Readers.{loop_more, loop_end, loop_fault}
+use Rattle.scad_parser.specs.TokenClasses.{operators_at, suffix_signs}
+use Rattle.scad_parser.proofs.Levels.{below_some}
+use Rattle.scad_parser.proofs.Depths.{expr_none, expr_deeper, operand_none, operand_deeper}
+use Rattle.scad_parser.proofs.Lengths.{link_strict, suffix_strict, expr_shorter, arg_shorter}
+use Rattle.scad_parser.proofs.Loops.{many_more, many_end, many_stop, trailing_more, trailing_end, trailing_stop}
+use Rattle.scad_parser.proofs.Stops.{item_goes, link_goes, suffix_goes, arg_goes}
+use Rattle.scad_parser.proofs.Trees.{terms_roll, links_roll, suffixes_roll, args_roll}
+use Rattle.scad_parser.proofs.expression.+expression.Goals as goal
+
+pub expr-returns-then-depth-eq0-clause-value : goal.expr-returns-then-depth-eq0-clause-value
+expr-returns-then-depth-eq0-clause-value t c = rw (expr_none c.args.depth c.args.tokens.now c.if-depth-eq0.true) (search rules)
+
+pub expr-returns-clause-value : goal.expr-returns-clause-value
+expr-returns-clause-value t c = rw (expr_deeper c.args.depth c.args.tokens.now c.if-depth-eq0.false) c.choice.ensures.value
+
+pub operand-returns-then-depth-eq0-clause-value : goal.operand-returns-then-depth-eq0-clause-value
+operand-returns-then-depth-eq0-clause-value t c = rw (operand_none c.args.depth c.args.tokens.now c.if-depth-eq0.true) (search rules)
+
+pub operand-returns-clause-value : goal.operand-returns-clause-value
+operand-returns-clause-value t c = rw (operand_deeper c.args.depth c.args.tokens.now c.if-depth-eq0.false) c.unary.ensures.value
+
+pub side-returns-in-Some-clause-value : goal.side-returns-in-Some-clause-value
+side-returns-in-Some-clause-value t c = rw (below_some c.args.level c.in-Some.tighter (sym c.tighter.ensures ∙ c.in-Some.is)) c.chain.ensures.value
+
+pub primary-returns-then-begins-clause-value : goal.primary-returns-then-begins-clause-value
+primary-returns-then-begins-clause-value t c = c.literal.ensures.value (expr_read c.args.depth) (arg_in c.args.depth (expr_read c.args.depth))
+
+pub links-returns-in_err-item-clause-value : goal.links-returns-in_err-item-clause-value
+links-returns-in_err-item-clause-value t c =
+    let p = err_from_is_err_and c.from_residual.result c.from_residual.ensures.1 in
+    rw (p.1, p.2) (link_goes c.in_err-item.field-0.0 _ _ (λ x e. loop_fault _ _ _ _ c.links.invariant.told (many_stop (among (operators_at c.args.level)) _ (link_strict c.args.level c.args.depth) c.links.rest.now x (sym c.begins.ensures ∙ c.links-test.true) e)) c.in_err-item.ensures.value)
+
+pub links-links-preserved : goal.links-links-preserved
+links-links-preserved t c = record {
+    told = rw (c.in_ok-push.ensures.items, map-append) (loop_more _ _ _ _ _ c.links.invariant.told (many_more (among (operators_at c.args.level)) _ (link_strict c.args.level c.args.depth) c.links.rest.now (link_of c.in_ok-item.item) c.in_ok-item.after.now (sym c.begins.ensures ∙ c.links-test.true) c.in_ok-item.ensures.value));
+    rest = omega (arith, c.in_ok-item.ensures.shorter, c.links.invariant.rest);
+  }
+
+pub links-returns-clause-value : goal.links-returns-clause-value
+links-returns-clause-value t c = rw (links_roll (record { items = c.links.items })) (loop_end _ _ _ _ c.links.invariant.told (many_end (among (operators_at c.args.level)) _ (link_strict c.args.level c.args.depth) c.links.rest.now (sym c.begins.ensures ∙ c.links-test.false)))
+
+pub suffixes-returns-in_err-item-clause-value : goal.suffixes-returns-in_err-item-clause-value
+suffixes-returns-in_err-item-clause-value t c =
+    let p = err_from_is_err_and c.from_residual.result c.from_residual.ensures.1 in
+    rw (p.1, p.2) (suffix_goes c.in_err-item.field-0.0 _ _ (λ x e. loop_fault _ _ _ _ c.suffixes.invariant.told (many_stop (among suffix_signs) _ (suffix_strict c.args.depth) c.suffixes.rest.now x (sym c.begins.ensures ∙ c.suffixes-test.true) e)) c.in_err-item.ensures.value)
+
+pub suffixes-suffixes-preserved : goal.suffixes-suffixes-preserved
+suffixes-suffixes-preserved t c = record {
+    told = rw (c.in_ok-push.ensures.items, map-append) (loop_more _ _ _ _ _ c.suffixes.invariant.told (many_more (among suffix_signs) _ (suffix_strict c.args.depth) c.suffixes.rest.now (suffix_of c.in_ok-item.item) c.in_ok-item.after.now (sym c.begins.ensures ∙ c.suffixes-test.true) c.in_ok-item.ensures.value));
+    rest = omega (arith, c.in_ok-item.ensures.shorter, c.suffixes.invariant.rest);
+  }
+
+pub suffixes-returns-clause-value : goal.suffixes-returns-clause-value
+suffixes-returns-clause-value t c = rw (suffixes_roll (record { items = c.suffixes.items })) (loop_end _ _ _ _ c.suffixes.invariant.told (many_end (among suffix_signs) _ (suffix_strict c.args.depth) c.suffixes.rest.now (sym c.begins.ensures ∙ c.suffixes-test.false)))
+
+pub more_args-returns-in_err-item-clause-value : goal.more_args-returns-in_err-item-clause-value
+more_args-returns-in_err-item-clause-value t c =
+    let p = err_from_is_err_and c.from_residual.result c.from_residual.ensures.1 in
+    rw (p.1, p.2) (arg_goes c.in_err-item.field-0.0 _ _ (λ x e. loop_fault _ _ _ _ c.commas.invariant.told (trailing_stop (other_than (close_parenthesis_sign ∷ [])) _ (arg_shorter c.args.depth) c.commas.rest.now x (sym c.is_comma_before.ensures ∙ c.commas-test.true) (ap (arg_in c.args.depth (expr_read c.args.depth)) (sym c.behind_comma.ensures.rest) ∙ e))) c.in_err-item.ensures.value)
+
+pub more_args-commas-preserved : goal.more_args-commas-preserved
+more_args-commas-preserved t c = record {
+    told = rw (c.in_ok-push.ensures.items, map-append) (loop_more _ _ _ _ _ c.commas.invariant.told (trailing_more (other_than (close_parenthesis_sign ∷ [])) _ (arg_shorter c.args.depth) c.commas.rest.now (arg_of c.in_ok-item.item) c.in_ok-item.after.now (sym c.is_comma_before.ensures ∙ c.commas-test.true) (ap (arg_in c.args.depth (expr_read c.args.depth)) (sym c.behind_comma.ensures.rest) ∙ c.in_ok-item.ensures.value)));
+    rest = omega (arith, c.in_ok-item.ensures.rest, c.behind_comma.ensures.within, c.commas.invariant.rest);
+  }
+
+pub more_args-returns-clause-value : goal.more_args-returns-clause-value
+more_args-returns-clause-value t c = rw (args_roll (record { items = c.commas.items }), c.behind_comma-2.ensures.rest) (loop_end _ _ _ _ c.commas.invariant.told (trailing_end (other_than (close_parenthesis_sign ∷ [])) _ (arg_shorter c.args.depth) c.commas.rest.now (sym c.is_comma_before.ensures ∙ c.commas-test.false)))
+
+pub more_items-returns-in_err-item-clause-value : goal.more_items-returns-in_err-item-clause-value
+more_items-returns-in_err-item-clause-value t c =
+    let p = err_from_is_err_and c.from_residual.result c.from_residual.ensures.1 in
+    rw (p.1, p.2) (item_goes c.in_err-item.field-0.0 _ _ (λ x e. loop_fault _ _ _ _ c.commas.invariant.told (trailing_stop (other_than (close_bracket_sign ∷ [])) _ (expr_shorter c.args.depth) c.commas.rest.now x (sym c.is_comma_before.ensures ∙ c.commas-test.true) (ap (expr_read c.args.depth) (sym c.behind_comma.ensures.rest) ∙ e))) c.in_err-item.ensures.value)
+
+pub more_items-commas-preserved : goal.more_items-commas-preserved
+more_items-commas-preserved t c = record {
+    told = rw (c.in_ok-push.ensures.items, map-append) (loop_more _ _ _ _ _ c.commas.invariant.told (trailing_more (other_than (close_bracket_sign ∷ [])) _ (expr_shorter c.args.depth) c.commas.rest.now (term_of c.in_ok-item.item) c.in_ok-item.after.now (sym c.is_comma_before.ensures ∙ c.commas-test.true) (ap (expr_read c.args.depth) (sym c.behind_comma.ensures.rest) ∙ c.in_ok-item.ensures.value)));
+    rest = omega (arith, c.in_ok-item.ensures.rest, c.behind_comma.ensures.within, c.commas.invariant.rest);
+  }
+
+pub more_items-returns-clause-value : goal.more_items-returns-clause-value
+more_items-returns-clause-value t c = rw (terms_roll (record { items = c.commas.items }), c.behind_comma-2.ensures.rest) (loop_end _ _ _ _ c.commas.invariant.told (trailing_end (other_than (close_bracket_sign ∷ [])) _ (expr_shorter c.args.depth) c.commas.rest.now (sym c.is_comma_before.ensures ∙ c.commas-test.false)))

@@ -1,0 +1,108 @@
+use Rattle.std.proofs.Common.{◌≡◌, ℕ, ◌+◌, ◌*◌, ◌≤◌, [], ◌∷◌, map, length}
+use Rattle.scad_ast.specs.ExprView.{term_of, link_of, suffix_of, arg_of}
+use Rattle.scad_grammar.specs.Classes.{comma_sign, close_bracket_sign, close_parenthesis_sign, among, is, other_than}
+use Rattle.scad_grammar.specs.Faults.{one}
+use Rattle.scad_grammar.specs.Grammar.{link}
+use Rattle.scad_grammar.specs.Reading.{both, many, trailing, in_front}
+use Rattle.scad_grammar.specs.Reads.{expr_read, operand_read, arg_in, primary_read, unary_read, suffix_read, chain_read}
+use Rattle.scad_parser.specs.TokenClasses.{levels_below, operators_at, suffix_signs, tighter_levels}
+use Rattle.scad_parser.proofs.expression.+expression.Given as goal
+
+abbrev pub decreases-expr : goal.decreases-expr
+decreases-expr l = 64 * l.depth
+
+abbrev pub decreases-operand : goal.decreases-operand
+decreases-operand l = 64 * l.depth
+
+abbrev pub decreases-suffix : goal.decreases-suffix
+decreases-suffix l = 64 * l.depth + 1
+
+abbrev pub decreases-suffixes : goal.decreases-suffixes
+decreases-suffixes l = 64 * l.depth + 2
+
+abbrev pub decreases-arg : goal.decreases-arg
+decreases-arg l = 64 * l.depth + 1
+
+abbrev pub decreases-more_args : goal.decreases-more_args
+decreases-more_args l = 64 * l.depth + 2
+
+abbrev pub decreases-args : goal.decreases-args
+decreases-args l = 64 * l.depth + 3
+
+abbrev pub decreases-named : goal.decreases-named
+decreases-named l = 64 * l.depth + 4
+
+abbrev pub decreases-more_items : goal.decreases-more_items
+decreases-more_items l = 64 * l.depth + 1
+
+abbrev pub decreases-filled : goal.decreases-filled
+decreases-filled l = 64 * l.depth + 2
+
+abbrev pub decreases-bracket : goal.decreases-bracket
+decreases-bracket l = 64 * l.depth + 3
+
+abbrev pub decreases-paren : goal.decreases-paren
+decreases-paren l = 64 * l.depth + 1
+
+abbrev pub decreases-primary : goal.decreases-primary
+decreases-primary l = 64 * l.depth + 5
+
+abbrev pub decreases-postfix : goal.decreases-postfix
+decreases-postfix l = 64 * l.depth + 6
+
+abbrev pub decreases-unary : goal.decreases-unary
+decreases-unary l = 64 * l.depth + 7
+
+abbrev pub decreases-side : goal.decreases-side
+decreases-side l = 64 * l.depth + (4 * tighter_levels l.level + 8)
+
+abbrev pub decreases-link : goal.decreases-link
+decreases-link l = 64 * l.depth + (4 * tighter_levels l.level + 9)
+
+abbrev pub decreases-links : goal.decreases-links
+decreases-links l = 64 * l.depth + (4 * tighter_levels l.level + 10)
+
+abbrev pub decreases-chain : goal.decreases-chain
+decreases-chain l = 64 * l.depth + (4 * tighter_levels l.level + 11)
+
+abbrev pub decreases-choice : goal.decreases-choice
+decreases-choice l = 64 * l.depth + 40
+
+abbrev pub invariant-links-links : goal.invariant-links-links
+invariant-links-links l = record {
+    told : many (among (operators_at l.level)) (both link (one (among (operators_at l.level))) (chain_read (levels_below l.level) (unary_read (expr_read l.depth) (operand_read l.depth) (primary_read (expr_read l.depth) (arg_in l.depth (expr_read l.depth)))))) l.tokens
+        ≡ in_front (map link_of l.items.items) (many (among (operators_at l.level)) (both link (one (among (operators_at l.level))) (chain_read (levels_below l.level) (unary_read (expr_read l.depth) (operand_read l.depth) (primary_read (expr_read l.depth) (arg_in l.depth (expr_read l.depth)))))) l.rest);
+    rest : length l.rest ≤ length l.tokens;
+  }
+
+abbrev pub decreases-links-links : goal.decreases-links-links
+decreases-links-links l = length l.rest
+
+abbrev pub invariant-suffixes-suffixes : goal.invariant-suffixes-suffixes
+invariant-suffixes-suffixes l = record {
+    told : many (among suffix_signs) (suffix_read (expr_read l.depth)) l.tokens ≡ in_front (map suffix_of l.items.items) (many (among suffix_signs) (suffix_read (expr_read l.depth)) l.rest);
+    rest : length l.rest ≤ length l.tokens;
+  }
+
+abbrev pub decreases-suffixes-suffixes : goal.decreases-suffixes-suffixes
+decreases-suffixes-suffixes l = length l.rest
+
+abbrev pub invariant-more_items-commas : goal.invariant-more_items-commas
+invariant-more_items-commas l = record {
+    told : in_front (map term_of l.fn.items.items) (trailing (is comma_sign) (other_than (close_bracket_sign ∷ [])) (expr_read l.depth) l.tokens)
+        ≡ in_front (map term_of l.items.items) (trailing (is comma_sign) (other_than (close_bracket_sign ∷ [])) (expr_read l.depth) l.rest);
+    rest : length l.rest ≤ length l.tokens;
+  }
+
+abbrev pub decreases-more_items-commas : goal.decreases-more_items-commas
+decreases-more_items-commas l = length l.rest
+
+abbrev pub invariant-more_args-commas : goal.invariant-more_args-commas
+invariant-more_args-commas l = record {
+    told : in_front (map arg_of l.fn.items.items) (trailing (is comma_sign) (other_than (close_parenthesis_sign ∷ [])) (arg_in l.depth (expr_read l.depth)) l.tokens)
+        ≡ in_front (map arg_of l.items.items) (trailing (is comma_sign) (other_than (close_parenthesis_sign ∷ [])) (arg_in l.depth (expr_read l.depth)) l.rest);
+    rest : length l.rest ≤ length l.tokens;
+  }
+
+abbrev pub decreases-more_args-commas : goal.decreases-more_args-commas
+decreases-more_args-commas l = length l.rest

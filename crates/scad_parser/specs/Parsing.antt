@@ -1,0 +1,54 @@
+-- What the parser answers: the program that tokens write, or their first fault.
+use Rattle.std.specs.Prelude.{◌≡◌, ℕ, List, [], ◌∷◌, Result, Ok, Err}
+use Rattle.text_place.specs.declared.fault.Place.{Place}
+use Rattle.text_place.specs.declared.fault.Fault.{Fault as FaultIn}
+use Rattle.text_place.specs.declared.fault.FaultKind.{FaultKind}
+use Rattle.text_place.specs.declared.fault.FaultKind.TheVariants.{Expected as ExpectedKind, Nested as NestedKind, NotInProfile as NotInProfileKind}
+use Rattle.text_place.specs.declared.fault.Stop.{Stop}
+use Rattle.text_place.specs.declared.fault.Stop.TheVariants.{Fault, NoMemory}
+use Rattle.scad_lexer.specs.declared.token.Token.{Token}
+use Rattle.scad_ast.specs.declared.statement.Program.{Program as ProgramIn}
+use Rattle.scad_ast.specs.Terms.{StatementTerm}
+use Rattle.scad_ast.specs.StatementView.{program_of}
+use Rattle.scad_grammar.specs.declared.SyntaxFault.{SyntaxFault}
+use Rattle.scad_grammar.specs.declared.SyntaxFault.TheVariants.{Expected, Nested, NotInProfile}
+use Rattle.scad_grammar.specs.FirstFault.{IsFirstFault}
+use Rattle.scad_grammar.specs.Reading.{Read}
+
+-- the fault's word
+abbrev pub kind_of : SyntaxFault → FaultKind
+kind_of Expected = ExpectedKind
+kind_of Nested = NestedKind
+kind_of NotInProfile = NotInProfileKind
+
+-- the place of the first token
+abbrev pub place_at : List Token → Place
+place_at [] = record { line = 1; column = 1 }
+place_at (t ∷ ts) = t.place
+
+-- the first fault of these tokens, no token of which may be as deep as the number, with the place of its token
+abbrev pub HasFault : ℕ → List Token → FaultIn → Type 0
+HasFault d tokens f = (fault : SyntaxFault) × (at : List Token) × IsFirstFault d tokens fault at × (f.kind ≡ kind_of fault) × (f.place ≡ place_at at)
+
+-- the stop is that fault, unless memory ran out
+abbrev pub IsStopOf : ℕ → List Token → Stop → Type 0
+IsStopOf d tokens (Fault f) = HasFault d tokens f
+IsStopOf d tokens NoMemory = Unit {0}
+
+-- the answer is this program, unless memory ran out
+abbrev pub AnswersProgram : Result ProgramIn Stop → List StatementTerm → Type 0
+AnswersProgram (Ok p) x = program_of p ≡ x
+AnswersProgram (Err (Fault f)) x = ⊥
+AnswersProgram (Err NoMemory) x = Unit {0}
+
+-- the answer is this fault at the first of these tokens, unless memory ran out
+abbrev pub AnswersFault : Result ProgramIn Stop → SyntaxFault → List Token → Type 0
+AnswersFault (Ok p) fault at = ⊥
+AnswersFault (Err (Fault f)) fault at = (f.kind ≡ kind_of fault) × (f.place ≡ place_at at)
+AnswersFault (Err NoMemory) fault at = Unit {0}
+
+-- the answer is what a reader of the grammar reads, unless memory ran out
+abbrev pub IsRead : Result ProgramIn Stop → Read Token SyntaxFault (List StatementTerm) → Type 0
+IsRead (Ok p) read = (rest : List Token) × (read ≡ Ok (program_of p, rest))
+IsRead (Err (Fault f)) read = (fault : SyntaxFault) × (at : List Token) × (read ≡ Err (fault, at)) × (f.kind ≡ kind_of fault) × (f.place ≡ place_at at)
+IsRead (Err NoMemory) read = Unit {0}

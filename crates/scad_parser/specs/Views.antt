@@ -1,0 +1,46 @@
+-- What the parser's functions give, in the words of the grammar.
+use Rattle.std.specs.Prelude.{◌≡◌, ℕ, List, [], ◌∷◌, Bool, false, cond, Result, Ok, Err, ◌&&◌}
+use Rattle.scad_lexer.specs.declared.token.Token.{Token}
+use Rattle.scad_grammar.specs.declared.SyntaxFault.{SyntaxFault}
+use Rattle.scad_grammar.specs.declared.SyntaxFault.TheVariants.{Nested}
+use Rattle.scad_grammar.specs.Classes.{name, comma_sign, assign_sign, among, is}
+use Rattle.scad_grammar.specs.Faults.{fault_of}
+use Rattle.scad_grammar.specs.Reading.{Read, starts}
+use Rattle.scad_grammar.specs.Reads.{head_of}
+use Rattle.scad_parser.specs.declared.next.Stopped.{Stopped}
+use Rattle.scad_parser.specs.declared.next.Stopped.TheVariants.{Fault, NoMemory}
+
+-- what was read, or the fault and the tokens from where it stands, unless memory ran out
+abbrev pub Gives : {A X : Type 0} → (A → X × List Token) → Result A Stopped → Read Token SyntaxFault X → Type 0
+Gives view (Ok x) read = read ≡ Ok (view x)
+Gives view (Err (Fault fault at)) read = read ≡ Err (fault, at.now)
+Gives view (Err NoMemory) read = Unit {0}
+
+-- this fault at these tokens
+abbrev pub IsStop : Stopped → SyntaxFault → List Token → Type 0
+IsStop (Fault fault at) wanted tokens = (fault ≡ wanted) × (at.now ≡ tokens)
+IsStop NoMemory wanted tokens = ⊥
+
+-- the fault of the next token, by what is left out here
+abbrev pub fault_at : List ℕ → List Token → SyntaxFault
+fault_at classes tokens = fault_of classes (head_of tokens)
+
+-- the same where nothing may stand that is deeper
+abbrev pub nested_fault : List ℕ → List ℕ → List Token → SyntaxFault
+nested_fault begins classes tokens = cond (starts (among begins) tokens) Nested (fault_at classes tokens)
+
+-- a comma, and behind it a token of these
+abbrev pub item_stands : (Token → Bool) → List Token → Bool
+item_stands go [] = false
+item_stands go (t ∷ ts) = is comma_sign t && starts go ts
+
+-- the tokens behind a comma, where one stands
+abbrev pub past_comma : List Token → List Token
+past_comma [] = []
+past_comma (t ∷ ts) = cond (is comma_sign t) ts (t ∷ ts)
+
+-- a name and a `=`
+abbrev pub names_value : List Token → Bool
+names_value [] = false
+names_value (t ∷ []) = false
+names_value (t ∷ u ∷ ts) = is name t && is assign_sign u

@@ -1,0 +1,431 @@
+ghost use Rattle.std.specs.Prelude.{◌≡◌, ◌≤◌, ◌<◌, ◌∷◌, [], true, IfOk, length, map};
+ghost use Rattle.scad_ast.specs.Terms.{Term, ArgTerm};
+ghost use Rattle.scad_ast.specs.ExprView.{term_of, terms_of, links_of, link_of, suffix_of, suffixes_of, arg_of, args_of};
+ghost use Rattle.scad_grammar.specs.Classes.{among, is, other_than};
+ghost use Rattle.scad_grammar.specs.Classes.{comma_sign, close_bracket_sign, close_parenthesis_sign};
+ghost use Rattle.scad_grammar.specs.Faults.{Reads, one};
+ghost use Rattle.scad_grammar.specs.Grammar.{link as link_at, chain_of as chain_at, postfix_of as postfix_at, filled_of};
+ghost use Rattle.scad_grammar.specs.Reading.{starts, both, mapped, many, trailing, in_front};
+ghost use Rattle.scad_grammar.specs.Reads.{expr_read, operand_read, arg_in, args_read, primary_read, unary_read, postfix_read, suffix_read, chain_read, choice_read, name_read, paren_read, bracket_read, rest_read};
+ghost use Rattle.scad_parser.specs.TokenClasses.{levels_at, operators_at, levels_below, literals, suffix_signs};
+ghost use Rattle.scad_parser.specs.Views.{Gives};
+
+use crate::class::{Class, Level};
+use crate::next::{
+    Parsed, behind_comma, binary, bytes, is_before, is_comma_before, is_named, number, take,
+    take_first, too_deep, unary_operator,
+};
+use scad_ast::{Arg, Args, Expr, Exprs, Link, Links, Suffix, Suffixes};
+use scad_lexer::{Reserved, Symbol, Token, TokenKind};
+use std::alloc::{AllocFailed, Global};
+
+/// An expression whose tokens are less deep than so much.
+#[cycle(expression)]
+pub fn expr<'a>(alloc: Global, tokens: &'a [Token], depth: u32) -> Parsed<'a, Expr>
+    ensures value { Gives (λ p. (term_of p.0, p.1.now)) result (expr_read depth tokens.now) }
+    ensures rest { IfOk result (λ p. length p.1.now ≤ length tokens.now) }
+{
+    if depth == 0 {
+        return Err(too_deep(
+            Class::Expression,
+            Class::LeftOutOfExpressions,
+            tokens,
+        ));
+    }
+    choice(alloc, tokens, depth - 1)
+}
+
+/// An expression with its choice, over what is less deep than so much.
+#[cycle(expression)]
+fn choice<'a>(alloc: Global, tokens: &'a [Token], depth: u32) -> Parsed<'a, Expr>
+    ensures value { Gives (λ p. (term_of p.0, p.1.now)) result (choice_read (expr_read depth) (operand_read depth) (primary_read (expr_read depth) (arg_in depth (expr_read depth))) tokens.now) }
+    ensures rest { IfOk result (λ p. length p.1.now ≤ length tokens.now) }
+{
+    let (test, rest) = chain(alloc, tokens, depth, Level::Or)?;
+    if !Class::Sign(Symbol::Question).begins(rest) {
+        return Ok((test, rest));
+    }
+    let (mark, rest) = take(Class::Sign(Symbol::Question), rest)?;
+    let (yes, rest) = expr(alloc, rest, depth)?;
+    let (_, rest) = take(Class::Sign(Symbol::Colon), rest)?;
+    let (no, rest) = expr(alloc, rest, depth)?;
+    let place = test.place();
+    let test = Box::new(alloc, test)?;
+    let yes = Box::new(alloc, yes)?;
+    let no = Box::new(alloc, no)?;
+    Ok((Expr::Choice(place, test, mark.place, yes, no), rest))
+}
+
+/// A chain of the operators of a level.
+#[cycle(expression)]
+fn chain<'a>(
+    alloc: Global,
+    tokens: &'a [Token],
+    depth: u32,
+    level: Level,
+) -> Parsed<'a, Expr>
+    ensures value { Gives (λ p. (term_of p.0, p.1.now)) result (chain_read (levels_at level) (unary_read (expr_read depth) (operand_read depth) (primary_read (expr_read depth) (arg_in depth (expr_read depth)))) tokens.now) }
+    ensures rest { IfOk result (λ p. length p.1.now ≤ length tokens.now) }
+{
+    let (first, rest) = side(alloc, tokens, depth, level)?;
+    let (links, rest) = links(alloc, rest, depth, level)?;
+    Ok((chain_of(alloc, first, links)?, rest))
+}
+
+/// What the operators of a level stand between.
+#[cycle(expression)]
+fn side<'a>(
+    alloc: Global,
+    tokens: &'a [Token],
+    depth: u32,
+    level: Level,
+) -> Parsed<'a, Expr>
+    ensures value { Gives (λ p. (term_of p.0, p.1.now)) result (chain_read (levels_below level) (unary_read (expr_read depth) (operand_read depth) (primary_read (expr_read depth) (arg_in depth (expr_read depth)))) tokens.now) }
+    ensures rest { IfOk result (λ p. length p.1.now ≤ length tokens.now) }
+{
+    match level.tighter() {
+        Some(tighter) => chain(alloc, tokens, depth, tighter),
+        None => unary(alloc, tokens, depth),
+    }
+}
+
+/// The operators of a level and what stands behind each.
+#[cycle(expression)]
+fn links<'a>(
+    alloc: Global,
+    tokens: &'a [Token],
+    depth: u32,
+    level: Level,
+) -> Parsed<'a, Links>
+    ensures value { Gives (λ p. (links_of p.0, p.1.now)) result (many (among (operators_at level)) (both link_at (one (among (operators_at level))) (chain_read (levels_below level) (unary_read (expr_read depth) (operand_read depth) (primary_read (expr_read depth) (arg_in depth (expr_read depth)))))) tokens.now) }
+    ensures rest { IfOk result (λ p. length p.1.now ≤ length tokens.now) }
+{
+    let mut items = Vec::new(alloc);
+    let mut rest = tokens;
+    'links: while Class::Operator(level).begins(rest) {
+        let (item, after) = link(alloc, rest, depth, level)?;
+        items.push(item)?;
+        rest = after;
+    }
+    Ok((Links { items }, rest))
+}
+
+/// An operator of a level and what stands behind it.
+#[cycle(expression)]
+fn link<'a>(
+    alloc: Global,
+    tokens: &'a [Token],
+    depth: u32,
+    level: Level,
+) -> Parsed<'a, Link>
+    ensures value { Gives (λ p. (link_of p.0, p.1.now)) result (both link_at (one (among (operators_at level))) (chain_read (levels_below level) (unary_read (expr_read depth) (operand_read depth) (primary_read (expr_read depth) (arg_in depth (expr_read depth))))) tokens.now) }
+    ensures shorter { IfOk result (λ p. length p.1.now < length tokens.now) }
+{
+    let (operator, rest) = take(Class::Operator(level), tokens)?;
+    let (right, rest) = side(alloc, rest, depth, level)?;
+    let op = binary(&operator.kind);
+    let place = operator.place;
+    Ok((Link { op, place, right }, rest))
+}
+
+/// An operand with its operators before it.
+#[cycle(expression)]
+fn unary<'a>(alloc: Global, tokens: &'a [Token], depth: u32) -> Parsed<'a, Expr>
+    ensures value { Gives (λ p. (term_of p.0, p.1.now)) result (unary_read (expr_read depth) (operand_read depth) (primary_read (expr_read depth) (arg_in depth (expr_read depth))) tokens.now) }
+    ensures rest { IfOk result (λ p. length p.1.now ≤ length tokens.now) }
+{
+    if !Class::UnaryOperator.begins(tokens) {
+        return postfix(alloc, tokens, depth);
+    }
+    let (operator, rest) = take(Class::UnaryOperator, tokens)?;
+    let (of, rest) = operand(alloc, rest, depth)?;
+    let op = unary_operator(&operator.kind);
+    Ok((Expr::Unary(operator.place, op, Box::new(alloc, of)?), rest))
+}
+
+/// An operand of a unary operator, whose tokens are less deep than so much.
+#[cycle(expression)]
+fn operand<'a>(alloc: Global, tokens: &'a [Token], depth: u32) -> Parsed<'a, Expr>
+    ensures value { Gives (λ p. (term_of p.0, p.1.now)) result (operand_read depth tokens.now) }
+    ensures rest { IfOk result (λ p. length p.1.now ≤ length tokens.now) }
+{
+    if depth == 0 {
+        return Err(too_deep(
+            Class::Expression,
+            Class::LeftOutOfExpressions,
+            tokens,
+        ));
+    }
+    unary(alloc, tokens, depth - 1)
+}
+
+/// A primary with its indexes and members.
+#[cycle(expression)]
+fn postfix<'a>(alloc: Global, tokens: &'a [Token], depth: u32) -> Parsed<'a, Expr>
+    ensures value { Gives (λ p. (term_of p.0, p.1.now)) result (postfix_read (expr_read depth) (primary_read (expr_read depth) (arg_in depth (expr_read depth))) tokens.now) }
+    ensures rest { IfOk result (λ p. length p.1.now ≤ length tokens.now) }
+{
+    let (of, rest) = primary(alloc, tokens, depth)?;
+    let (suffixes, rest) = suffixes(alloc, rest, depth)?;
+    Ok((postfix_of(alloc, of, suffixes)?, rest))
+}
+
+/// Indexes and members.
+#[cycle(expression)]
+fn suffixes<'a>(alloc: Global, tokens: &'a [Token], depth: u32) -> Parsed<'a, Suffixes>
+    ensures value { Gives (λ p. (suffixes_of p.0, p.1.now)) result (many (among suffix_signs) (suffix_read (expr_read depth)) tokens.now) }
+    ensures rest { IfOk result (λ p. length p.1.now ≤ length tokens.now) }
+{
+    let mut items = Vec::new(alloc);
+    let mut rest = tokens;
+    'suffixes: while Class::Suffix.begins(rest) {
+        let (item, after) = suffix(alloc, rest, depth)?;
+        items.push(item)?;
+        rest = after;
+    }
+    Ok((Suffixes { items }, rest))
+}
+
+/// An index or a member.
+#[cycle(expression)]
+fn suffix<'a>(alloc: Global, tokens: &'a [Token], depth: u32) -> Parsed<'a, Suffix>
+    ensures value { Gives (λ p. (suffix_of p.0, p.1.now)) result (suffix_read (expr_read depth) tokens.now) }
+    ensures shorter { IfOk result (λ p. length p.1.now < length tokens.now) }
+{
+    if Class::Sign(Symbol::OpenBracket).begins(tokens) {
+        let (open, rest) = take(Class::Sign(Symbol::OpenBracket), tokens)?;
+        let (index, rest) = expr(alloc, rest, depth)?;
+        let (_, rest) = take(Class::Sign(Symbol::CloseBracket), rest)?;
+        Ok((Suffix::Index(open.place, index), rest))
+    } else {
+        let (dot, rest) = take(Class::Sign(Symbol::Dot), tokens)?;
+        let (name, rest) = take(Class::Name, rest)?;
+        let bytes = bytes(alloc, &name.kind)?;
+        Ok((Suffix::Member(dot.place, bytes, name.place), rest))
+    }
+}
+
+/// An expression without operators.
+#[cycle(expression)]
+fn primary<'a>(alloc: Global, tokens: &'a [Token], depth: u32) -> Parsed<'a, Expr>
+    ensures value { Gives (λ p. (term_of p.0, p.1.now)) result (primary_read (expr_read depth) (arg_in depth (expr_read depth)) tokens.now) }
+    ensures rest { IfOk result (λ p. length p.1.now ≤ length tokens.now) }
+{
+    if Class::Literal.begins(tokens) {
+        literal(alloc, tokens)
+    } else if Class::Name.begins(tokens) {
+        named(alloc, tokens, depth)
+    } else if Class::Sign(Symbol::OpenParenthesis).begins(tokens) {
+        paren(alloc, tokens, depth)
+    } else {
+        bracket(alloc, tokens, depth)
+    }
+}
+
+/// An expression in parentheses.
+#[cycle(expression)]
+fn paren<'a>(alloc: Global, tokens: &'a [Token], depth: u32) -> Parsed<'a, Expr>
+    ensures value { Gives (λ p. (term_of p.0, p.1.now)) result (paren_read (expr_read depth) tokens.now) }
+    ensures rest { IfOk result (λ p. length p.1.now ≤ length tokens.now) }
+{
+    let (open, rest) = take(Class::Sign(Symbol::OpenParenthesis), tokens)?;
+    let (inner, rest) = expr(alloc, rest, depth)?;
+    let (_, rest) = take(Class::Sign(Symbol::CloseParenthesis), rest)?;
+    Ok((Expr::Paren(open.place, Box::new(alloc, inner)?), rest))
+}
+
+/// A numeral, a text, a truth, `undef` or `$children`.
+fn literal<'a>(alloc: Global, tokens: &'a [Token]) -> Parsed<'a, Expr>
+    requires { starts (among literals) tokens.now ≡ true }
+    ensures value { (e : Reads Term) (a : Reads ArgTerm) → Gives (λ p. (term_of p.0, p.1.now)) result (primary_read e a tokens.now) }
+    ensures rest { IfOk result (λ p. length p.1.now ≤ length tokens.now) }
+{
+    let (token, rest) = take(Class::Literal, tokens)?;
+    let place = token.place;
+    let value = match &token.kind {
+        TokenKind::Numeral(_) => Expr::Number(place, number(&token.kind)),
+        TokenKind::Text(_) => Expr::Text(place, bytes(alloc, &token.kind)?),
+        TokenKind::Reserved(Reserved::True) => Expr::Truth(place, true),
+        TokenKind::Reserved(Reserved::False) => Expr::Truth(place, false),
+        TokenKind::Reserved(Reserved::Undef) => Expr::Undef(place),
+        _ => Expr::ChildCount(place),
+    };
+    Ok((value, rest))
+}
+
+/// A name, and its arguments where it has some.
+#[cycle(expression)]
+fn named<'a>(alloc: Global, tokens: &'a [Token], depth: u32) -> Parsed<'a, Expr>
+    ensures value { Gives (λ p. (term_of p.0, p.1.now)) result (name_read (arg_in depth (expr_read depth)) tokens.now) }
+    ensures rest { IfOk result (λ p. length p.1.now ≤ length tokens.now) }
+{
+    let (name, rest) = take(Class::Name, tokens)?;
+    let bytes = bytes(alloc, &name.kind)?;
+    if !Class::Sign(Symbol::OpenParenthesis).begins(rest) {
+        return Ok((Expr::Name(name.place, bytes), rest));
+    }
+    let (_, rest) = take(Class::Sign(Symbol::OpenParenthesis), rest)?;
+    let (args, rest) = args(alloc, rest, depth)?;
+    let (_, rest) = take(Class::Sign(Symbol::CloseParenthesis), rest)?;
+    Ok((Expr::Call(name.place, bytes, args), rest))
+}
+
+/// A list or a range.
+#[cycle(expression)]
+fn bracket<'a>(alloc: Global, tokens: &'a [Token], depth: u32) -> Parsed<'a, Expr>
+    ensures value { Gives (λ p. (term_of p.0, p.1.now)) result (bracket_read (expr_read depth) tokens.now) }
+    ensures rest { IfOk result (λ p. length p.1.now ≤ length tokens.now) }
+{
+    let (open, rest) = take_first(Class::Sign(Symbol::OpenBracket), tokens)?;
+    if !is_before(Symbol::CloseBracket, rest) {
+        let (_, rest) = take(Class::Sign(Symbol::CloseBracket), rest)?;
+        return Ok((Expr::List(open.place, no_items(alloc)), rest));
+    }
+    let (first, rest) = expr(alloc, rest, depth)?;
+    let (list, rest) = filled(alloc, open, first, rest, depth)?;
+    let (_, rest) = take(Class::Sign(Symbol::CloseBracket), rest)?;
+    Ok((list, rest))
+}
+
+/// What a bracket and its first expression make with what follows: a list or a range.
+#[cycle(expression)]
+fn filled<'a>(
+    alloc: Global,
+    bracket: &Token,
+    first: Expr,
+    tokens: &'a [Token],
+    depth: u32,
+) -> Parsed<'a, Expr>
+    ensures value { Gives (λ p. (term_of p.0, p.1.now)) result (mapped (filled_of bracket.now (term_of first)) (rest_read (expr_read depth)) tokens.now) }
+    ensures rest { IfOk result (λ p. length p.1.now ≤ length tokens.now) }
+{
+    if !Class::Sign(Symbol::Colon).begins(tokens) {
+        let mut items = Vec::new(alloc);
+        items.push(first)?;
+        let (items, rest) = more_items(alloc, items, tokens, depth)?;
+        return Ok((Expr::List(bracket.place, items), rest));
+    }
+    let first = Box::new(alloc, first)?;
+    let (_, rest) = take(Class::Sign(Symbol::Colon), tokens)?;
+    let (next, rest) = expr(alloc, rest, depth)?;
+    let next = Box::new(alloc, next)?;
+    if !Class::Sign(Symbol::Colon).begins(rest) {
+        return Ok((Expr::Range(bracket.place, first, next), rest));
+    }
+    let (_, rest) = take(Class::Sign(Symbol::Colon), rest)?;
+    let (to, rest) = expr(alloc, rest, depth)?;
+    let to = Box::new(alloc, to)?;
+    Ok((Expr::SteppedRange(bracket.place, first, next, to), rest))
+}
+
+/// More items of a list, each behind a comma, and maybe a comma behind the last.
+#[cycle(expression)]
+fn more_items<'a>(
+    alloc: Global,
+    mut items: Vec<Expr>,
+    tokens: &'a [Token],
+    depth: u32,
+) -> Parsed<'a, Exprs>
+    ensures value { Gives (λ p. (terms_of p.0, p.1.now)) result (in_front (map term_of items.items) (trailing (is comma_sign) (other_than (close_bracket_sign ∷ [])) (expr_read depth) tokens.now)) }
+    ensures rest { IfOk result (λ p. length p.1.now ≤ length tokens.now) }
+{
+    let mut rest = tokens;
+    'commas: while is_comma_before(Symbol::CloseBracket, rest) {
+        let (item, after) = expr(alloc, behind_comma(rest), depth)?;
+        items.push(item)?;
+        rest = after;
+    }
+    Ok((Exprs { items }, behind_comma(rest)))
+}
+
+/// Arguments, and maybe a comma behind the last.
+#[cycle(expression)]
+pub fn args<'a>(alloc: Global, tokens: &'a [Token], depth: u32) -> Parsed<'a, Args>
+    ensures value { Gives (λ p. (args_of p.0, p.1.now)) result (args_read (arg_in depth (expr_read depth)) tokens.now) }
+    ensures rest { IfOk result (λ p. length p.1.now ≤ length tokens.now) }
+{
+    let mut items = Vec::new(alloc);
+    if !is_before(Symbol::CloseParenthesis, tokens) {
+        return Ok((Args { items }, tokens));
+    }
+    let (first, rest) = arg(alloc, tokens, depth)?;
+    items.push(first)?;
+    more_args(alloc, items, rest, depth)
+}
+
+/// More arguments, each behind a comma, and maybe a comma behind the last.
+#[cycle(expression)]
+fn more_args<'a>(
+    alloc: Global,
+    mut items: Vec<Arg>,
+    tokens: &'a [Token],
+    depth: u32,
+) -> Parsed<'a, Args>
+    ensures value { Gives (λ p. (args_of p.0, p.1.now)) result (in_front (map arg_of items.items) (trailing (is comma_sign) (other_than (close_parenthesis_sign ∷ [])) (arg_in depth (expr_read depth)) tokens.now)) }
+    ensures rest { IfOk result (λ p. length p.1.now ≤ length tokens.now) }
+{
+    let mut rest = tokens;
+    'commas: while is_comma_before(Symbol::CloseParenthesis, rest) {
+        let (item, after) = arg(alloc, behind_comma(rest), depth)?;
+        items.push(item)?;
+        rest = after;
+    }
+    Ok((Args { items }, behind_comma(rest)))
+}
+
+/// An argument whose tokens are less deep than so much.
+#[cycle(expression)]
+fn arg<'a>(alloc: Global, tokens: &'a [Token], depth: u32) -> Parsed<'a, Arg>
+    ensures value { Gives (λ p. (arg_of p.0, p.1.now)) result (arg_in depth (expr_read depth) tokens.now) }
+    ensures rest { IfOk result (λ p. length p.1.now ≤ length tokens.now) }
+{
+    if depth == 0 {
+        return Err(too_deep(
+            Class::Expression,
+            Class::LeftOutOfExpressions,
+            tokens,
+        ));
+    }
+    if !is_named(tokens) {
+        let (value, rest) = expr(alloc, tokens, depth)?;
+        return Ok((Arg::Positional(value), rest));
+    }
+    let (name, rest) = take(Class::Name, tokens)?;
+    let (_, rest) = take(Class::Sign(Symbol::Assign), rest)?;
+    let bytes = bytes(alloc, &name.kind)?;
+    let (value, rest) = expr(alloc, rest, depth)?;
+    Ok((Arg::Named(name.place, bytes, value), rest))
+}
+
+/// A list of nothing.
+fn no_items(alloc: Global) -> Exprs
+    ensures { terms_of result ≡ [] }
+{
+    Exprs {
+        items: Vec::new(alloc),
+    }
+}
+
+/// A chain, or what stands in it alone.
+fn chain_of(alloc: Global, first: Expr, links: Links) -> Result<Expr, AllocFailed<Expr>>
+    ensures { IfOk result (λ e. term_of e ≡ chain_at (term_of first) (links_of links)) }
+{
+    if links.items.is_empty() {
+        return Ok(first);
+    }
+    Ok(Expr::Chain(
+        first.place(),
+        Box::new(alloc, first)?,
+        links,
+    ))
+}
+
+/// A primary with its indexes and members, or alone.
+fn postfix_of(alloc: Global, of: Expr, suffixes: Suffixes) -> Result<Expr, AllocFailed<Expr>>
+    ensures { IfOk result (λ e. term_of e ≡ postfix_at (term_of of) (suffixes_of suffixes)) }
+{
+    if suffixes.items.is_empty() {
+        return Ok(of);
+    }
+    Ok(Expr::Postfix(of.place(), Box::new(alloc, of)?, suffixes))
+}

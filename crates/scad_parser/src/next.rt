@@ -1,0 +1,227 @@
+ghost use Rattle.std.specs.Prelude.{◌≡◌, ◌<◌, ◌≤◌, ◌∷◌, [], IfOk, IsTrue, length};
+ghost use Rattle.scad_grammar.specs.Classes.{class_of, number_of, bytes_of, symbol_class, among, is, other_than};
+ghost use Rattle.scad_grammar.specs.Classes.{comma_sign, assign_sign, name};
+ghost use Rattle.scad_grammar.specs.Grammar.{binary_at, unary_at, modifier_at};
+ghost use Rattle.scad_grammar.specs.Faults.{one, first};
+ghost use Rattle.scad_grammar.specs.Reading.{starts};
+ghost use Rattle.scad_parser.specs.TokenClasses.{classes_of};
+ghost use Rattle.scad_parser.specs.Views.{Gives, IsStop, nested_fault, fault_at, item_stands, past_comma, names_value};
+
+use crate::class::Class;
+use scad_ast::{BinaryOp, Modifier, UnaryOp};
+use scad_grammar::SyntaxFault;
+use scad_lexer::{Symbol, Token, TokenKind};
+use std::alloc::{AllocError, AllocFailed, Global};
+use text_place::Bytes;
+
+/// Why nothing was read: a fault and the tokens from where it stands, or want of memory.
+#[derive(Drop)]
+pub enum Stopped<'a> {
+    Fault(SyntaxFault, &'a [Token]),
+    NoMemory,
+}
+
+impl<'a> From<AllocError> for Stopped<'a> {
+    ghost use Rattle.std.specs.Prelude.{◌≡◌};
+    ghost use Rattle.scad_parser.specs.declared.next.Stopped.TheVariants.{NoMemory};
+
+    ghost from_gives = { λ _ stopped. stopped ≡ NoMemory };
+
+    fn from(_refused: AllocError) -> Stopped<'a> {
+        Stopped::NoMemory
+    }
+}
+
+impl<'a, T: Drop> From<AllocFailed<T>> for Stopped<'a> {
+    ghost use Rattle.std.specs.Prelude.{◌≡◌};
+    ghost use Rattle.scad_parser.specs.declared.next.Stopped.TheVariants.{NoMemory};
+
+    ghost from_gives = { λ _ stopped. stopped ≡ NoMemory };
+
+    fn from(_refused: AllocFailed<T>) -> Stopped<'a> {
+        Stopped::NoMemory
+    }
+}
+
+/// A value and the tokens behind it.
+pub type Parsed<'a, T> = Result<(T, &'a [Token]), Stopped<'a>>;
+
+impl Class {
+    /// Whether the next token is of this class.
+    pub fn begins(self, tokens: &[Token]) -> bool
+        ensures { result ≡ starts (among (classes_of self)) tokens.now }
+    {
+        match tokens {
+            [] => false,
+            [token, ..] => self.has(&token.kind),
+        }
+    }
+}
+
+/// Whether a token stands here, and another one than this symbol.
+pub fn is_before(close: Symbol, tokens: &[Token]) -> bool
+    ensures { result ≡ starts (other_than (symbol_class close ∷ [])) tokens.now }
+{
+    match tokens {
+        [] => false,
+        [token, ..] => !Class::Sign(close).has(&token.kind),
+    }
+}
+
+/// Whether a comma stands here, and behind it another token than this symbol.
+pub fn is_comma_before(close: Symbol, tokens: &[Token]) -> bool
+    ensures { result ≡ item_stands (other_than (symbol_class close ∷ [])) tokens.now }
+{
+    match tokens {
+        [] => false,
+        [token, rest @ ..] => Class::Sign(Symbol::Comma).has(&token.kind) && is_before(close, rest),
+    }
+}
+
+/// Whether a comma stands here, and a name behind it.
+pub fn is_comma_and_name(tokens: &[Token]) -> bool
+    ensures { result ≡ item_stands (is name) tokens.now }
+{
+    match tokens {
+        [] => false,
+        [token, rest @ ..] => {
+            Class::Sign(Symbol::Comma).has(&token.kind) && Class::Name.begins(rest)
+        }
+    }
+}
+
+/// The tokens behind a comma, where one stands.
+pub fn behind_comma(tokens: &[Token]) -> &[Token]
+    ensures rest { result.now ≡ past_comma tokens.now }
+    ensures within { length result.now ≤ length tokens.now }
+{
+    match tokens {
+        [token, rest @ ..] if Class::Sign(Symbol::Comma).has(&token.kind) => rest,
+        _ => tokens,
+    }
+}
+
+/// Whether a name and a `=` stand here.
+pub fn is_named(tokens: &[Token]) -> bool
+    ensures { result ≡ names_value tokens.now }
+{
+    match tokens {
+        [token, next, ..] => {
+            Class::Name.has(&token.kind) && Class::Sign(Symbol::Assign).has(&next.kind)
+        }
+        _ => false,
+    }
+}
+
+/// One token of a class.
+pub fn take<'a>(class: Class, tokens: &'a [Token]) -> Parsed<'a, &'a Token>
+    ensures value { Gives (λ p. (p.0.now, p.1.now)) result (one (among (classes_of class)) tokens.now) }
+    ensures shorter { IfOk result (λ p. length p.1.now < length tokens.now) }
+{
+    match tokens {
+        [token, rest @ ..] if class.has(&token.kind) => Ok((token, rest)),
+        _ => Err(Stopped::Fault(fault(Class::LeftOut, tokens), tokens)),
+    }
+}
+
+/// One token of a class, where an expression may begin.
+pub fn take_first<'a>(class: Class, tokens: &'a [Token]) -> Parsed<'a, &'a Token>
+    ensures value { Gives (λ p. (p.0.now, p.1.now)) result (first (among (classes_of class)) tokens.now) }
+    ensures shorter { IfOk result (λ p. length p.1.now < length tokens.now) }
+{
+    match tokens {
+        [token, rest @ ..] if class.has(&token.kind) => Ok((token, rest)),
+        _ => Err(Stopped::Fault(
+            fault(Class::LeftOutOfExpressions, tokens),
+            tokens,
+        )),
+    }
+}
+
+/// The fault of the next token, by what the profile leaves out here.
+fn fault(left_out: Class, tokens: &[Token]) -> SyntaxFault
+    ensures { result ≡ fault_at (classes_of left_out) tokens.now }
+{
+    if left_out.begins(tokens) {
+        SyntaxFault::NotInProfile
+    } else {
+        SyntaxFault::Expected
+    }
+}
+
+/// The fault where nothing may stand that is deeper, by what would begin it.
+pub fn too_deep<'a>(begins: Class, left_out: Class, tokens: &'a [Token]) -> Stopped<'a>
+    ensures { IsStop result (nested_fault (classes_of begins) (classes_of left_out) tokens.now) tokens.now }
+{
+    if begins.begins(tokens) {
+        Stopped::Fault(SyntaxFault::Nested, tokens)
+    } else {
+        Stopped::Fault(fault(left_out, tokens), tokens)
+    }
+}
+
+/// The number of a numeral, and 0 of another token.
+pub fn number(kind: &TokenKind) -> u64
+    ensures { result ≡ number_of kind.now }
+{
+    match kind {
+        TokenKind::Numeral(number) => *number,
+        _ => 0,
+    }
+}
+
+/// A copy of the bytes of a name or a text, and none of another token.
+pub fn bytes(alloc: Global, kind: &TokenKind) -> Result<Bytes, AllocError>
+    ensures { IfOk result (λ bytes. bytes ≡ bytes_of kind.now) }
+{
+    match kind {
+        TokenKind::Name(bytes) | TokenKind::Text(bytes) => {
+            Ok(Bytes::of(bytes.items().to_vec(alloc)?))
+        }
+        _ => Ok(Bytes::of(Vec::new(alloc))),
+    }
+}
+
+/// The operator of two sides that a token is.
+pub fn binary(kind: &TokenKind) -> BinaryOp
+    ensures { result ≡ binary_at (class_of kind.now) }
+{
+    match kind {
+        TokenKind::Symbol(Symbol::Or) => BinaryOp::Or,
+        TokenKind::Symbol(Symbol::And) => BinaryOp::And,
+        TokenKind::Symbol(Symbol::Equal) => BinaryOp::Equal,
+        TokenKind::Symbol(Symbol::NotEqual) => BinaryOp::NotEqual,
+        TokenKind::Symbol(Symbol::Less) => BinaryOp::Less,
+        TokenKind::Symbol(Symbol::LessEqual) => BinaryOp::LessEqual,
+        TokenKind::Symbol(Symbol::Greater) => BinaryOp::Greater,
+        TokenKind::Symbol(Symbol::GreaterEqual) => BinaryOp::GreaterEqual,
+        TokenKind::Symbol(Symbol::Plus) => BinaryOp::Add,
+        TokenKind::Symbol(Symbol::Minus) => BinaryOp::Subtract,
+        TokenKind::Symbol(Symbol::Times) => BinaryOp::Multiply,
+        TokenKind::Symbol(Symbol::Divide) => BinaryOp::Divide,
+        _ => BinaryOp::Remainder,
+    }
+}
+
+/// The operator before an operand that a token is.
+pub fn unary_operator(kind: &TokenKind) -> UnaryOp
+    ensures { result ≡ unary_at (class_of kind.now) }
+{
+    match kind {
+        TokenKind::Symbol(Symbol::Minus) => UnaryOp::Negate,
+        TokenKind::Symbol(Symbol::Plus) => UnaryOp::Keep,
+        _ => UnaryOp::Not,
+    }
+}
+
+/// The modifier that a token is.
+pub fn modifier(kind: &TokenKind) -> Modifier
+    ensures { result ≡ modifier_at (class_of kind.now) }
+{
+    match kind {
+        TokenKind::Symbol(Symbol::Times) => Modifier::Disable,
+        TokenKind::Symbol(Symbol::Remainder) => Modifier::Background,
+        TokenKind::Symbol(Symbol::Hash) => Modifier::Highlight,
+        _ => Modifier::Root,
+    }
+}

@@ -1,0 +1,83 @@
+ghost use Rattle.std.specs.Prelude.{◌≡◌, List, true, IfOk, IfErr};
+ghost use Rattle.scad_lexer.specs.Tokens.{ends_once};
+ghost use Rattle.scad_lexer.specs.declared.token.Token.{Token};
+ghost use Rattle.scad_ast.specs.Terms.{StatementTerm};
+ghost use Rattle.scad_ast.specs.StatementView.{program_of};
+ghost use Rattle.scad_grammar.specs.declared.SyntaxFault.{SyntaxFault};
+ghost use Rattle.scad_grammar.specs.Grammar.{Program as ProgramAt};
+ghost use Rattle.scad_grammar.specs.FirstFault.{IsFirstFault};
+ghost use Rattle.scad_grammar.specs.StatementReads.{program_read};
+ghost use Rattle.scad_parser.specs.Parsing.{IsStopOf, AnswersProgram, AnswersFault, IsRead, kind_of as kind_at, place_at};
+ghost use Rattle.scad_parser.specs.Views.{Gives};
+
+use crate::class::Class;
+use crate::next::{Parsed, Stopped, take};
+use crate::statement::statements;
+use scad_ast::Program;
+use scad_grammar::SyntaxFault;
+use scad_lexer::Token;
+use std::alloc::Global;
+use text_place::{Fault, FaultKind, Place, Stop};
+
+/// One more than the most that a token may be deep.
+const DEPTH: u32 = 65;
+
+/// The program that tokens write, none of which is more than 64 deep, or their first fault:
+/// `Expected`, `Nested` or `NotInProfile`.
+pub fn parse(alloc: Global, tokens: &[Token]) -> Result<Program, Stop>
+    // The last token is the end, and no other is.
+    requires ends { ends_once tokens.now ≡ true }
+    // What is given is a program that the tokens write.
+    ensures found { IfOk result (λ p. ProgramAt 65 (program_of p) tokens.now) }
+    // The program that the tokens write is given, unless memory runs out.
+    ensures program { (x : List StatementTerm) → ProgramAt 65 x tokens.now → AnswersProgram result x }
+    // A fault is the tokens' first one, at its token's place.
+    ensures fault { IfErr result (λ stop. IsStopOf 65 tokens.now stop) }
+    // The tokens' first fault is given, unless memory runs out.
+    ensures only { (fault : SyntaxFault) (at : List Token) → IsFirstFault 65 tokens.now fault at → AnswersFault result fault at }
+{
+    read_program(alloc, tokens)
+}
+
+fn read_program(alloc: Global, tokens: &[Token]) -> Result<Program, Stop>
+    ensures { IsRead result (program_read 65 tokens.now) }
+{
+    match program(alloc, tokens) {
+        Ok((program, _)) => Ok(program),
+        Err(Stopped::Fault(fault, at)) => Err(Stop::Fault(Fault {
+            kind: kind_of(fault),
+            place: place_of(at),
+        })),
+        Err(Stopped::NoMemory) => Err(Stop::NoMemory),
+    }
+}
+
+/// A program and its end.
+fn program<'a>(alloc: Global, tokens: &'a [Token]) -> Parsed<'a, Program>
+    ensures { Gives (λ p. (program_of p.0, p.1.now)) result (program_read 65 tokens.now) }
+{
+    let (statements, rest) = statements(alloc, tokens, DEPTH)?;
+    let (_, rest) = take(Class::End, rest)?;
+    Ok((Program { statements }, rest))
+}
+
+/// The place of the first token.
+fn place_of(tokens: &[Token]) -> Place
+    ensures { result ≡ place_at tokens.now }
+{
+    match tokens {
+        [] => Place { line: 1, column: 1 },
+        [token, ..] => token.place,
+    }
+}
+
+/// The fault's word.
+fn kind_of(fault: SyntaxFault) -> FaultKind
+    ensures { result ≡ kind_at fault }
+{
+    match fault {
+        SyntaxFault::Expected => FaultKind::Expected,
+        SyntaxFault::Nested => FaultKind::Nested,
+        SyntaxFault::NotInProfile => FaultKind::NotInProfile,
+    }
+}

@@ -1,0 +1,470 @@
+ghost use Rattle.std.specs.Prelude.{◌≡◌, ◌≤◌, ◌<◌, ◌∷◌, [], true, IfOk, length, map};
+ghost use Rattle.scad_ast.specs.Terms.{StatementTerm};
+ghost use Rattle.scad_ast.specs.ExprView.{term_of, args_of};
+ghost use Rattle.scad_ast.specs.StatementView.{statement_of, statements_of, instance_of, core_of, body_of, param_of, params_of, binder_of, binders_of, mark_of, marks_of};
+ghost use Rattle.scad_grammar.specs.Classes.{among, is, name, comma_sign, assign_sign};
+ghost use Rattle.scad_grammar.specs.Faults.{Reads, one};
+ghost use Rattle.scad_grammar.specs.Grammar.{mark_of as mark_at, instance_of as instance_at, core_place};
+ghost use Rattle.scad_grammar.specs.Reading.{ahead, many, mapped, trailing, in_front};
+ghost use Rattle.scad_grammar.specs.Reads.{expr_read, arg_in, args_read, in_parentheses};
+ghost use Rattle.scad_grammar.specs.StatementReads.{mark_signs, firsts_of_statement, param_in, params_read, binder_in, binders_read, if_read, loop_read, call_read, core_read, marks_read, instance_in, braces_read, body_read, body_over as body_from, module_read, function_read, ended_read, definition_read, assigned, statement_over as statement_from, statement_read};
+ghost use Rattle.scad_parser.specs.Views.{Gives, names_value};
+
+use crate::class::Class;
+use crate::expression::{args, expr};
+use crate::next::{
+    Parsed, behind_comma, bytes, is_comma_and_name, is_named, modifier, take, too_deep,
+};
+use scad_ast::{
+    Args, Binder, Binders, Body, Core, Expr, Instance, Mark, Marks, Param, Params, Statement,
+    Statements,
+};
+use scad_lexer::{Reserved, Symbol, Token};
+use std::alloc::Global;
+use text_place::Place;
+
+/// A statement whose tokens are less deep than so much.
+#[cycle(statement)]
+pub fn statement<'a>(alloc: Global, tokens: &'a [Token], depth: u32) -> Parsed<'a, Statement>
+    ensures value { Gives (λ p. (statement_of p.0, p.1.now)) result (statement_read depth tokens.now) }
+    ensures shorter { IfOk result (λ p. length p.1.now < length tokens.now) }
+{
+    if depth == 0 {
+        return Err(too_deep(Class::Statement, Class::LeftOut, tokens));
+    }
+    statement_over(alloc, tokens, depth, depth - 1)
+}
+
+/// A statement, by its own depth and that of what it encloses.
+#[cycle(statement)]
+fn statement_over<'a>(
+    alloc: Global,
+    tokens: &'a [Token],
+    depth: u32,
+    inner: u32,
+) -> Parsed<'a, Statement>
+    ensures value { Gives (λ p. (statement_of p.0, p.1.now)) result (statement_from (expr_read depth) (param_in inner (expr_read inner)) (statement_read inner) (body_read inner) (instance_in inner (body_read inner)) tokens.now) }
+    ensures shorter { IfOk result (λ p. length p.1.now < length tokens.now) }
+{
+    if Class::Sign(Symbol::Semicolon).begins(tokens) {
+        let (end, rest) = take(Class::Sign(Symbol::Semicolon), tokens)?;
+        Ok((Statement::Empty(end.place), rest))
+    } else if Class::Sign(Symbol::OpenBrace).begins(tokens) {
+        let (open, rest) = take(Class::Sign(Symbol::OpenBrace), tokens)?;
+        let (statements, rest) = braces(alloc, rest, inner)?;
+        Ok((Statement::Block(open.place, statements), rest))
+    } else if is_named(tokens) {
+        assignment(alloc, tokens, depth)
+    } else {
+        definition(alloc, tokens, depth, inner)
+    }
+}
+
+/// Statements and the brace that closes them.
+#[cycle(statement)]
+fn braces<'a>(alloc: Global, tokens: &'a [Token], depth: u32) -> Parsed<'a, Statements>
+    ensures value { Gives (λ p. (statements_of p.0, p.1.now)) result (braces_read (statement_read depth) tokens.now) }
+    ensures rest { IfOk result (λ p. length p.1.now ≤ length tokens.now) }
+{
+    let (statements, rest) = statements(alloc, tokens, depth)?;
+    let (_, rest) = take(Class::Sign(Symbol::CloseBrace), rest)?;
+    Ok((statements, rest))
+}
+
+/// Statements, as long as one may begin.
+#[cycle(statement)]
+pub fn statements<'a>(alloc: Global, tokens: &'a [Token], depth: u32) -> Parsed<'a, Statements>
+    ensures value { Gives (λ p. (statements_of p.0, p.1.now)) result (many (among firsts_of_statement) (statement_read depth) tokens.now) }
+    ensures rest { IfOk result (λ p. length p.1.now ≤ length tokens.now) }
+{
+    let mut items = Vec::new(alloc);
+    let mut rest = tokens;
+    'statements: while Class::Statement.begins(rest) {
+        let (item, after) = statement(alloc, rest, depth)?;
+        items.push(item)?;
+        rest = after;
+    }
+    Ok((Statements { items }, rest))
+}
+
+/// `name = value;`, where a name and a `=` stand.
+fn assignment<'a>(alloc: Global, tokens: &'a [Token], depth: u32) -> Parsed<'a, Statement>
+    requires { names_value tokens.now ≡ true }
+    ensures value { (q : Reads StatementTerm) → Gives (λ p. (statement_of p.0, p.1.now)) result (ahead assigned (is name) (is assign_sign) (ended_read (expr_read depth)) q tokens.now) }
+    ensures shorter { IfOk result (λ p. length p.1.now < length tokens.now) }
+{
+    let (name, rest) = take(Class::Name, tokens)?;
+    let (_, rest) = take(Class::Sign(Symbol::Assign), rest)?;
+    let bytes = bytes(alloc, &name.kind)?;
+    let (value, rest) = ended(alloc, rest, depth)?;
+    Ok((Statement::Assignment(name.place, bytes, value), rest))
+}
+
+/// An expression and the `;` behind it.
+fn ended<'a>(alloc: Global, tokens: &'a [Token], depth: u32) -> Parsed<'a, Expr>
+    ensures value { Gives (λ p. (term_of p.0, p.1.now)) result (ended_read (expr_read depth) tokens.now) }
+    ensures rest { IfOk result (λ p. length p.1.now ≤ length tokens.now) }
+{
+    let (value, rest) = expr(alloc, tokens, depth)?;
+    let (_, rest) = take(Class::Sign(Symbol::Semicolon), rest)?;
+    Ok((value, rest))
+}
+
+/// A module, a function or an instance.
+#[cycle(statement)]
+fn definition<'a>(
+    alloc: Global,
+    tokens: &'a [Token],
+    depth: u32,
+    inner: u32,
+) -> Parsed<'a, Statement>
+    ensures value { Gives (λ p. (statement_of p.0, p.1.now)) result (definition_read (expr_read depth) (param_in inner (expr_read inner)) (body_read inner) (instance_in inner (body_read inner)) tokens.now) }
+    ensures shorter { IfOk result (λ p. length p.1.now < length tokens.now) }
+{
+    if Class::Word(Reserved::Module).begins(tokens) {
+        module(alloc, tokens, inner)
+    } else if Class::Word(Reserved::Function).begins(tokens) {
+        function(alloc, tokens, depth, inner)
+    } else {
+        let (instance, rest) = instance(alloc, tokens, inner)?;
+        Ok((Statement::Instantiation(instance), rest))
+    }
+}
+
+/// A module.
+#[cycle(statement)]
+fn module<'a>(alloc: Global, tokens: &'a [Token], depth: u32) -> Parsed<'a, Statement>
+    ensures value { Gives (λ p. (statement_of p.0, p.1.now)) result (module_read (param_in depth (expr_read depth)) (body_read depth) tokens.now) }
+    ensures shorter { IfOk result (λ p. length p.1.now < length tokens.now) }
+{
+    let (word, rest) = take(Class::Word(Reserved::Module), tokens)?;
+    let (name, rest) = take(Class::Name, rest)?;
+    let (params, rest) = params(alloc, rest, depth)?;
+    let (body, rest) = body(alloc, rest, depth)?;
+    let bytes = bytes(alloc, &name.kind)?;
+    Ok((
+        Statement::Module(word.place, bytes, name.place, params, body),
+        rest,
+    ))
+}
+
+/// A function, by the depth of its expression and that of its defaults.
+fn function<'a>(
+    alloc: Global,
+    tokens: &'a [Token],
+    depth: u32,
+    inner: u32,
+) -> Parsed<'a, Statement>
+    ensures value { Gives (λ p. (statement_of p.0, p.1.now)) result (function_read (expr_read depth) (param_in inner (expr_read inner)) tokens.now) }
+    ensures shorter { IfOk result (λ p. length p.1.now < length tokens.now) }
+{
+    let (word, rest) = take(Class::Word(Reserved::Function), tokens)?;
+    let (name, rest) = take(Class::Name, rest)?;
+    let (params, rest) = params(alloc, rest, inner)?;
+    let (_, rest) = take(Class::Sign(Symbol::Assign), rest)?;
+    let (value, rest) = ended(alloc, rest, depth)?;
+    let bytes = bytes(alloc, &name.kind)?;
+    Ok((
+        Statement::Function(word.place, bytes, name.place, params, value),
+        rest,
+    ))
+}
+
+/// Parameters in parentheses.
+fn params<'a>(alloc: Global, tokens: &'a [Token], depth: u32) -> Parsed<'a, Params>
+    ensures value { Gives (λ p. (params_of p.0, p.1.now)) result (in_parentheses (params_read (param_in depth (expr_read depth))) tokens.now) }
+    ensures rest { IfOk result (λ p. length p.1.now ≤ length tokens.now) }
+{
+    let (_, rest) = take(Class::Sign(Symbol::OpenParenthesis), tokens)?;
+    let (params, rest) = param_list(alloc, rest, depth)?;
+    let (_, rest) = take(Class::Sign(Symbol::CloseParenthesis), rest)?;
+    Ok((params, rest))
+}
+
+/// Parameters, and maybe a comma behind the last.
+fn param_list<'a>(alloc: Global, tokens: &'a [Token], depth: u32) -> Parsed<'a, Params>
+    ensures value { Gives (λ p. (params_of p.0, p.1.now)) result (params_read (param_in depth (expr_read depth)) tokens.now) }
+    ensures rest { IfOk result (λ p. length p.1.now ≤ length tokens.now) }
+{
+    let mut items = Vec::new(alloc);
+    if !Class::Name.begins(tokens) {
+        return Ok((Params { items }, tokens));
+    }
+    let (first, rest) = param(alloc, tokens, depth)?;
+    items.push(first)?;
+    more_params(alloc, items, rest, depth)
+}
+
+/// More parameters, each behind a comma, and maybe a comma behind the last.
+fn more_params<'a>(
+    alloc: Global,
+    mut items: Vec<Param>,
+    tokens: &'a [Token],
+    depth: u32,
+) -> Parsed<'a, Params>
+    ensures value { Gives (λ p. (params_of p.0, p.1.now)) result (in_front (map param_of items.items) (trailing (is comma_sign) (is name) (param_in depth (expr_read depth)) tokens.now)) }
+    ensures rest { IfOk result (λ p. length p.1.now ≤ length tokens.now) }
+{
+    let mut rest = tokens;
+    'commas: while is_comma_and_name(rest) {
+        let (item, after) = param(alloc, behind_comma(rest), depth)?;
+        items.push(item)?;
+        rest = after;
+    }
+    Ok((Params { items }, behind_comma(rest)))
+}
+
+/// A parameter whose tokens are less deep than so much.
+fn param<'a>(alloc: Global, tokens: &'a [Token], depth: u32) -> Parsed<'a, Param>
+    ensures value { Gives (λ p. (param_of p.0, p.1.now)) result (param_in depth (expr_read depth) tokens.now) }
+    ensures rest { IfOk result (λ p. length p.1.now ≤ length tokens.now) }
+{
+    if depth == 0 {
+        return Err(too_deep(Class::Name, Class::LeftOut, tokens));
+    }
+    let (name, rest) = take(Class::Name, tokens)?;
+    let bytes = bytes(alloc, &name.kind)?;
+    if !Class::Sign(Symbol::Assign).begins(rest) {
+        return Ok((Param::Plain(name.place, bytes), rest));
+    }
+    let (_, rest) = take(Class::Sign(Symbol::Assign), rest)?;
+    let (value, rest) = expr(alloc, rest, depth)?;
+    Ok((Param::WithDefault(name.place, bytes, value), rest))
+}
+
+/// An instance over what is less deep than so much.
+#[cycle(statement)]
+fn instance<'a>(alloc: Global, tokens: &'a [Token], depth: u32) -> Parsed<'a, Instance>
+    ensures value { Gives (λ p. (instance_of p.0, p.1.now)) result (instance_in depth (body_read depth) tokens.now) }
+    ensures shorter { IfOk result (λ p. length p.1.now < length tokens.now) }
+{
+    let (marks, rest) = marks(alloc, tokens)?;
+    let (core, rest) = core(alloc, rest, depth)?;
+    Ok((instance_from(marks, core), rest))
+}
+
+/// An instance, by its marks and its core.
+fn instance_from(marks: Marks, core: Core) -> Instance
+    ensures { instance_of result ≡ instance_at (marks_of marks) (core_of core) }
+{
+    let place = match marks.items.first() {
+        Some(mark) => mark.place,
+        None => core_place(&core),
+    };
+    Instance { place, marks, core }
+}
+
+/// The place of the first token.
+fn core_place(core: &Core) -> Place
+    ensures { result ≡ core_place (core_of core.now) }
+{
+    match core {
+        Core::If(place, _, _)
+        | Core::IfElse(place, _, _, _)
+        | Core::For(place, _, _)
+        | Core::IntersectionFor(place, _, _)
+        | Core::Call(place, _, _, _) => *place,
+    }
+}
+
+/// Modifiers.
+fn marks<'a>(alloc: Global, tokens: &'a [Token]) -> Parsed<'a, Marks>
+    ensures value { Gives (λ p. (marks_of p.0, p.1.now)) result (marks_read tokens.now) }
+    ensures rest { IfOk result (λ p. length p.1.now ≤ length tokens.now) }
+{
+    let mut items = Vec::new(alloc);
+    let mut rest = tokens;
+    'marks: while Class::Mark.begins(rest) {
+        let (item, after) = mark(rest)?;
+        items.push(item)?;
+        rest = after;
+    }
+    Ok((Marks { items }, rest))
+}
+
+/// A modifier.
+fn mark<'a>(tokens: &'a [Token]) -> Parsed<'a, Mark>
+    ensures value { Gives (λ p. (mark_of p.0, p.1.now)) result (mapped mark_at (one (among mark_signs)) tokens.now) }
+    ensures shorter { IfOk result (λ p. length p.1.now < length tokens.now) }
+{
+    let (token, rest) = take(Class::Mark, tokens)?;
+    let mark = Mark {
+        place: token.place,
+        modifier: modifier(&token.kind),
+    };
+    Ok((mark, rest))
+}
+
+/// An instance without its modifiers, over what is less deep than so much.
+#[cycle(statement)]
+fn core<'a>(alloc: Global, tokens: &'a [Token], depth: u32) -> Parsed<'a, Core>
+    ensures value { Gives (λ p. (core_of p.0, p.1.now)) result (core_read (expr_read depth) (arg_in depth (expr_read depth)) (binder_in depth (expr_read depth)) (body_read depth) tokens.now) }
+    ensures shorter { IfOk result (λ p. length p.1.now < length tokens.now) }
+{
+    if Class::Word(Reserved::If).begins(tokens) {
+        branch(alloc, tokens, depth)
+    } else if Class::LoopWord.begins(tokens) {
+        repetition(alloc, tokens, depth)
+    } else {
+        call(alloc, tokens, depth)
+    }
+}
+
+/// An `if`, with its `else` where one stands.
+#[cycle(statement)]
+fn branch<'a>(alloc: Global, tokens: &'a [Token], depth: u32) -> Parsed<'a, Core>
+    ensures value { Gives (λ p. (core_of p.0, p.1.now)) result (if_read (expr_read depth) (body_read depth) tokens.now) }
+    ensures shorter { IfOk result (λ p. length p.1.now < length tokens.now) }
+{
+    let (word, rest) = take(Class::Word(Reserved::If), tokens)?;
+    let (test, rest) = condition(alloc, rest, depth)?;
+    let (then, rest) = body(alloc, rest, depth)?;
+    let then = Box::new(alloc, then)?;
+    if !Class::Word(Reserved::Else).begins(rest) {
+        return Ok((Core::If(word.place, test, then), rest));
+    }
+    let (_, rest) = take(Class::Word(Reserved::Else), rest)?;
+    let (other, rest) = body(alloc, rest, depth)?;
+    let other = Box::new(alloc, other)?;
+    Ok((Core::IfElse(word.place, test, then, other), rest))
+}
+
+/// An expression in parentheses.
+fn condition<'a>(alloc: Global, tokens: &'a [Token], depth: u32) -> Parsed<'a, Expr>
+    ensures value { Gives (λ p. (term_of p.0, p.1.now)) result (in_parentheses (expr_read depth) tokens.now) }
+    ensures rest { IfOk result (λ p. length p.1.now ≤ length tokens.now) }
+{
+    let (_, rest) = take(Class::Sign(Symbol::OpenParenthesis), tokens)?;
+    let (test, rest) = expr(alloc, rest, depth)?;
+    let (_, rest) = take(Class::Sign(Symbol::CloseParenthesis), rest)?;
+    Ok((test, rest))
+}
+
+/// A `for` or an `intersection_for`.
+#[cycle(statement)]
+fn repetition<'a>(alloc: Global, tokens: &'a [Token], depth: u32) -> Parsed<'a, Core>
+    ensures value { Gives (λ p. (core_of p.0, p.1.now)) result (loop_read (binder_in depth (expr_read depth)) (body_read depth) tokens.now) }
+    ensures shorter { IfOk result (λ p. length p.1.now < length tokens.now) }
+{
+    let (word, rest) = take(Class::LoopWord, tokens)?;
+    let (binders, rest) = binders(alloc, rest, depth)?;
+    let (body, rest) = body(alloc, rest, depth)?;
+    let body = Box::new(alloc, body)?;
+    if Class::Word(Reserved::For).has(&word.kind) {
+        Ok((Core::For(word.place, binders, body), rest))
+    } else {
+        Ok((Core::IntersectionFor(word.place, binders, body), rest))
+    }
+}
+
+/// Variables of a loop, in parentheses.
+fn binders<'a>(alloc: Global, tokens: &'a [Token], depth: u32) -> Parsed<'a, Binders>
+    ensures value { Gives (λ p. (binders_of p.0, p.1.now)) result (in_parentheses (binders_read (binder_in depth (expr_read depth))) tokens.now) }
+    ensures rest { IfOk result (λ p. length p.1.now ≤ length tokens.now) }
+{
+    let (_, rest) = take(Class::Sign(Symbol::OpenParenthesis), tokens)?;
+    let (first, rest) = binder(alloc, rest, depth)?;
+    let mut items = Vec::new(alloc);
+    items.push(first)?;
+    let (binders, rest) = more_binders(alloc, items, rest, depth)?;
+    let (_, rest) = take(Class::Sign(Symbol::CloseParenthesis), rest)?;
+    Ok((binders, rest))
+}
+
+/// More variables of a loop, each behind a comma, and maybe a comma behind the last.
+fn more_binders<'a>(
+    alloc: Global,
+    mut items: Vec<Binder>,
+    tokens: &'a [Token],
+    depth: u32,
+) -> Parsed<'a, Binders>
+    ensures value { Gives (λ p. (binders_of p.0, p.1.now)) result (in_front (map binder_of items.items) (trailing (is comma_sign) (is name) (binder_in depth (expr_read depth)) tokens.now)) }
+    ensures rest { IfOk result (λ p. length p.1.now ≤ length tokens.now) }
+{
+    let mut rest = tokens;
+    'commas: while is_comma_and_name(rest) {
+        let (item, after) = binder(alloc, behind_comma(rest), depth)?;
+        items.push(item)?;
+        rest = after;
+    }
+    Ok((Binders { items }, behind_comma(rest)))
+}
+
+/// A variable of a loop, whose tokens are less deep than so much.
+fn binder<'a>(alloc: Global, tokens: &'a [Token], depth: u32) -> Parsed<'a, Binder>
+    ensures value { Gives (λ p. (binder_of p.0, p.1.now)) result (binder_in depth (expr_read depth) tokens.now) }
+    ensures rest { IfOk result (λ p. length p.1.now ≤ length tokens.now) }
+{
+    if depth == 0 {
+        return Err(too_deep(Class::Name, Class::LeftOut, tokens));
+    }
+    let (token, rest) = take(Class::Name, tokens)?;
+    let (_, rest) = take(Class::Sign(Symbol::Assign), rest)?;
+    let (values, rest) = expr(alloc, rest, depth)?;
+    let place = token.place;
+    let name = bytes(alloc, &token.kind)?;
+    Ok((
+        Binder {
+            place,
+            name,
+            values,
+        },
+        rest,
+    ))
+}
+
+/// A call of a module.
+#[cycle(statement)]
+fn call<'a>(alloc: Global, tokens: &'a [Token], depth: u32) -> Parsed<'a, Core>
+    ensures value { Gives (λ p. (core_of p.0, p.1.now)) result (call_read (arg_in depth (expr_read depth)) (body_read depth) tokens.now) }
+    ensures shorter { IfOk result (λ p. length p.1.now < length tokens.now) }
+{
+    let (name, rest) = take(Class::Name, tokens)?;
+    let (args, rest) = arguments(alloc, rest, depth)?;
+    let (body, rest) = body(alloc, rest, depth)?;
+    let bytes = bytes(alloc, &name.kind)?;
+    let body = Box::new(alloc, body)?;
+    Ok((Core::Call(name.place, bytes, args, body), rest))
+}
+
+/// Arguments in parentheses.
+fn arguments<'a>(alloc: Global, tokens: &'a [Token], depth: u32) -> Parsed<'a, Args>
+    ensures value { Gives (λ p. (args_of p.0, p.1.now)) result (in_parentheses (args_read (arg_in depth (expr_read depth))) tokens.now) }
+    ensures rest { IfOk result (λ p. length p.1.now ≤ length tokens.now) }
+{
+    let (_, rest) = take(Class::Sign(Symbol::OpenParenthesis), tokens)?;
+    let (args, rest) = args(alloc, rest, depth)?;
+    let (_, rest) = take(Class::Sign(Symbol::CloseParenthesis), rest)?;
+    Ok((args, rest))
+}
+
+/// A body whose tokens are less deep than so much.
+#[cycle(statement)]
+fn body<'a>(alloc: Global, tokens: &'a [Token], depth: u32) -> Parsed<'a, Body>
+    ensures value { Gives (λ p. (body_of p.0, p.1.now)) result (body_read depth tokens.now) }
+    ensures rest { IfOk result (λ p. length p.1.now ≤ length tokens.now) }
+{
+    if depth == 0 {
+        return Err(too_deep(Class::Body, Class::LeftOut, tokens));
+    }
+    body_over(alloc, tokens, depth - 1)
+}
+
+/// A body over what is less deep than so much.
+#[cycle(statement)]
+fn body_over<'a>(alloc: Global, tokens: &'a [Token], depth: u32) -> Parsed<'a, Body>
+    ensures value { Gives (λ p. (body_of p.0, p.1.now)) result (body_from (statement_read depth) (instance_in depth (body_read depth)) tokens.now) }
+    ensures rest { IfOk result (λ p. length p.1.now ≤ length tokens.now) }
+{
+    if Class::Sign(Symbol::Semicolon).begins(tokens) {
+        let (end, rest) = take(Class::Sign(Symbol::Semicolon), tokens)?;
+        Ok((Body::Semicolon(end.place), rest))
+    } else if Class::Sign(Symbol::OpenBrace).begins(tokens) {
+        let (open, rest) = take(Class::Sign(Symbol::OpenBrace), tokens)?;
+        let (statements, rest) = braces(alloc, rest, depth)?;
+        Ok((Body::Braces(open.place, statements), rest))
+    } else {
+        let (instance, rest) = instance(alloc, tokens, depth)?;
+        Ok((Body::Single(Box::new(alloc, instance)?), rest))
+    }
+}

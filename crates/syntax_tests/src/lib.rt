@@ -1,0 +1,7 @@
+//! Tests of sources that are lexed and parsed.
+#![tactic(auto)]
+
+#[cfg(test)]
+mod show;
+#[cfg(test)]
+mod tests;
