@@ -1,5 +1,5 @@
 -- Small programs, outlines and faults of the grammar, by hand.
-use Rattle.std.proofs.Common.{codes, ◌≡◌, ℕ, zero, suc, List, [], ◌∷◌, ◌++◌, None, Err, inl, inr, refl}
+use Rattle.std.proofs.Common.{codes, ℕ, zero, suc, List, [], ◌∷◌, ◌++◌, None, inl, inr, refl}
 use Rattle.text_place.specs.declared.fault.Place.{Place}
 use Rattle.scad_lexer.specs.declared.token.Token.{Token}
 use Rattle.scad_lexer.specs.declared.token.TokenKind.{TokenKind}
