@@ -11,7 +11,7 @@ use Rattle.bsp_tree.specs.Cells.{IsIn, IsAcross, IsOfCell}
 use Rattle.bsp_tree.proofs.Opposites.{opposite_zero, opposite_back, opposite_above, behind_opposite_above, opposite_twice}
 use Rattle.bsp_tree.proofs.SameNumbers.{same_equal}
 use Rattle.bsp_tree.proofs.SamePoints.{same_of_cell, same_exchanged, same_implied}
-use Rattle.bsp_tree.proofs.PolygonsOfCells.{across_part, across_behind}
+use Rattle.bsp_tree.proofs.PolygonsOfCells.{across_part}
 use Rattle.bsp_tree.proofs.Halves.{lying}
 use Rattle.bsp_tree.proofs.Sides.{LiesBehind, lies_behind, lies_ahead}
 use Rattle.bsp_partition.specs.Partitions.{divide, rows, AreOfHalves}

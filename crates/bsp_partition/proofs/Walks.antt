@@ -11,7 +11,7 @@ use Rattle.bsp_tree.specs.Trees.{Tree, inside, outside, node, same}
 use Rattle.bsp_tree.specs.Cells.{IsIn, IsAcross, IsOfCell, IsOff}
 use Rattle.bsp_tree.proofs.Opposites.{opposite_zero, opposite_back, opposite_above, opposite_below}
 use Rattle.bsp_tree.proofs.SameNumbers.{same_equal}
-use Rattle.bsp_tree.proofs.PolygonsOfCells.{across_part, across_behind}
+use Rattle.bsp_tree.proofs.PolygonsOfCells.{across_part}
 use Rattle.bsp_tree.proofs.Halves.{lying}
 use Rattle.bsp_tree.proofs.Sides.{LiesBehind, lies_behind, lies_ahead}
 use Rattle.bsp_tree.proofs.Walks.{make_walk, walk_behind, walk_ahead}

@@ -1,5 +1,5 @@
 -- A point moved a little keeps its side of each plane of a list or of a solid that it isn't on.
-use Rattle.std.proofs.Common.{◌≡◌, inl, inr, ℕ, suc, ◌+◌, ◌≤◌, List, [], ◌∷◌, refl, sym, ap, subst, arith, ℤ, pos, ◌+ℤ◌, ◌*ℤ◌, ◌<ℤ◌, unsigned_abs}
+use Rattle.std.proofs.Common.{◌≡◌, inl, inr, ℕ, suc, ◌+◌, ◌≤◌, [], refl, sym, ap, subst, arith, ℤ, pos, ◌*ℤ◌, ◌<ℤ◌, unsigned_abs}
 use Rattle.plane_predicate.specs.Space.{Coefficients, Coordinates, value, inner}
 use Rattle.plane_predicate.proofs.Identities.{combine, value_combine}
 use Rattle.plane_predicate.proofs.Polynomials.{num, ring}
