@@ -63,6 +63,13 @@ impl Polygon {
         })
     }
 
+    /// An equal polygon.
+    pub fn copy(&self, alloc: Global) -> Result<Polygon, NoMemory>
+        ensures { IfOk result (λ s. s ≡ self.now) }
+    {
+        Polygon::of(alloc, &self.plane, &self.edges)
+    }
+
     /// The plane that it lies on.
     pub fn plane(&self) -> &Plane
         ensures { result.now ≡ self.now.plane }
