@@ -6,7 +6,7 @@ use Rattle.plane_polygon.specs.declared.classes.Class.{Class}
 use Rattle.plane_polygon.specs.declared.classes.Class.TheVariants.{Behind, Ahead, Across}
 use Rattle.plane_polygon.specs.Parts.{class_of, part_behind, part_ahead}
 use Rattle.bsp_tree.specs.Trees.{Tree, inside, outside, node, walk, make, same}
-use Rattle.bsp_tree.specs.Cells.{IsAcross, IsIn, IsOfCell, IsOff}
+use Rattle.bsp_tree.specs.Cells.{HasPlanesOf, IsAcross, IsIn, IsOfCell, IsOff}
 
 -- the parts of a node with the polygon t and the solids b and a, by how s lies against t's plane and t against s's:
 -- `low` and `high` are the parts of b and of a by s, `low_part` and `high_part` those by the part of s on their side.
@@ -31,10 +31,10 @@ divide (node t b a) s =
     else rows (class_of s t.plane) (class_of t s.plane) s t b a
     (divide b s) (divide a s) (divide b (part_behind s t.plane)) (divide a (part_ahead s t.plane))
 
--- the parts keep the walk of a point that is off the plane m: the part on its side walks as the solid does
-pub record Keeps (t : Tree) (m : Coefficients) (low high : Tree) (p : Coordinates) : Type 0 where
-  pub low_walk : value m p <ℤ pos 0 → walk low p ≡ walk t p
-  pub high_walk : pos 0 <ℤ value m p → walk high p ≡ walk t p
+-- the parts of a solid keep the walk of a point that is off the plane m: the part on its side walks as the solid does
+pub record Keeps (t : Tree) (m : Coefficients) (parts : Tree × Tree) (p : Coordinates) : Type 0 where
+  pub low : value m p <ℤ pos 0 → walk parts.0 p ≡ walk t p
+  pub high : pos 0 <ℤ value m p → walk parts.1 p ≡ walk t p
 
 -- a solid and a polygon are of one cell
 pub record AreOfOneCell (cell : List Coefficients) (t : Tree) (s : Outline) : Type 0 where
@@ -43,13 +43,17 @@ pub record AreOfOneCell (cell : List Coefficients) (t : Tree) (s : Outline) : Ty
 
 -- for each cell that the solid and the polygon are of, and each point of the cell off the solid's planes, the part on
 -- the point's side of the polygon's plane walks as the solid does
-abbrev pub KeepWalks : Tree → Outline → Tree → Tree → Type 0
-KeepWalks t s low high =
+abbrev pub KeepWalks : Tree → Outline → Tree × Tree → Type 0
+KeepWalks t s parts =
     (cell : List Coefficients) → AreOfOneCell cell t s → (p : Coordinates) → IsIn cell p → IsOff t p →
-    Keeps t s.plane low high p
+    Keeps t s.plane parts p
 
 -- for each cell that the solid and the polygon are of, the parts are of its halves behind and ahead of the plane
-abbrev pub AreOfHalves : Tree → Outline → Tree → Tree → Type 0
-AreOfHalves t s low high =
+abbrev pub AreOfHalves : Tree → Outline → Tree × Tree → Type 0
+AreOfHalves t s parts =
     (cell : List Coefficients) → AreOfOneCell cell t s →
-    IsOfCell (s.plane ∷ cell) low × IsOfCell (opposite_of s.plane ∷ cell) high
+    IsOfCell (s.plane ∷ cell) parts.0 × IsOfCell (opposite_of s.plane ∷ cell) parts.1
+
+-- no plane of the parts is new
+abbrev pub HaveNoNewPlane : Tree → Tree × Tree → Type 0
+HaveNoNewPlane t parts = HasPlanesOf parts.0 t × HasPlanesOf parts.1 t

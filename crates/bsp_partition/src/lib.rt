@@ -5,9 +5,8 @@ ghost use Rattle.std.specs.Prelude.{◌≡◌, IfOk};
 ghost use Rattle.plane_predicate.specs.Space.{opposite_of};
 ghost use Rattle.plane_polygon.specs.Parts.{class_of};
 ghost use Rattle.bsp_tree.specs.Trees.{make, same};
-ghost use Rattle.bsp_tree.specs.Cells.{HasPlanesOf};
 ghost use Rattle.bsp_tree.specs.Shapes.{tree_of};
-ghost use Rattle.bsp_partition.specs.Partitions.{divide, rows, AreOfHalves, KeepWalks};
+ghost use Rattle.bsp_partition.specs.Partitions.{divide, rows, AreOfHalves, HaveNoNewPlane, KeepWalks};
 
 use bsp_tree::{Node, Solid};
 use plane_polygon::{Class, Polygon, cut, sort_by};
@@ -19,9 +18,9 @@ use text_place::NoMemory;
 /// are of one cell. The solid is lent.
 pub fn partition(alloc: Global, solid: &Solid, by: &Polygon) -> Result<(Solid, Solid), NoMemory>
     ensures parts { IfOk result (λ r. (tree_of r.0, tree_of r.1) ≡ divide (tree_of solid.now) by.now) }
-    ensures walks { IfOk result (λ r. KeepWalks (tree_of solid.now) by.now (tree_of r.0) (tree_of r.1)) }
-    ensures cells { IfOk result (λ r. AreOfHalves (tree_of solid.now) by.now (tree_of r.0) (tree_of r.1)) }
-    ensures planes { IfOk result (λ r. HasPlanesOf (tree_of r.0) (tree_of solid.now) × HasPlanesOf (tree_of r.1) (tree_of solid.now)) }
+    ensures walks { IfOk result (λ r. KeepWalks (tree_of solid.now) by.now (tree_of r.0, tree_of r.1)) }
+    ensures cells { IfOk result (λ r. AreOfHalves (tree_of solid.now) by.now (tree_of r.0, tree_of r.1)) }
+    ensures planes { IfOk result (λ r. HaveNoNewPlane (tree_of solid.now) (tree_of r.0, tree_of r.1)) }
 {
     split(alloc, solid.copy(alloc)?, by)
 }
@@ -29,9 +28,9 @@ pub fn partition(alloc: Global, solid: &Solid, by: &Polygon) -> Result<(Solid, S
 /// The same, of a solid that is given away: its nodes are moved into the parts, and none is copied.
 pub fn split(alloc: Global, solid: Solid, by: &Polygon) -> Result<(Solid, Solid), NoMemory>
     ensures parts { IfOk result (λ r. (tree_of r.0, tree_of r.1) ≡ divide (tree_of solid) by.now) }
-    ensures walks { IfOk result (λ r. KeepWalks (tree_of solid) by.now (tree_of r.0) (tree_of r.1)) }
-    ensures cells { IfOk result (λ r. AreOfHalves (tree_of solid) by.now (tree_of r.0) (tree_of r.1)) }
-    ensures planes { IfOk result (λ r. HasPlanesOf (tree_of r.0) (tree_of solid) × HasPlanesOf (tree_of r.1) (tree_of solid)) }
+    ensures walks { IfOk result (λ r. KeepWalks (tree_of solid) by.now (tree_of r.0, tree_of r.1)) }
+    ensures cells { IfOk result (λ r. AreOfHalves (tree_of solid) by.now (tree_of r.0, tree_of r.1)) }
+    ensures planes { IfOk result (λ r. HaveNoNewPlane (tree_of solid) (tree_of r.0, tree_of r.1)) }
 {
     parts_of(alloc, solid, by)
 }

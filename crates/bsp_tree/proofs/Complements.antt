@@ -1,9 +1,9 @@
 -- A solid with inside and outside exchanged.
-use Rattle.std.proofs.Common.{◌≡◌, ◌⊎◌, inl, inr, Bool, true, false, not, if◌then◌else◌, List, ◌∷◌, refl}
+use Rattle.std.proofs.Common.{◌≡◌, inl, inr, Bool, true, false, not, if◌then◌else◌, List, ◌∷◌, refl}
 use Rattle.plane_predicate.specs.Space.{Coefficients, Coordinates, opposite_of}
 use Rattle.plane_polygon.specs.Parts.{is_behind}
 use Rattle.bsp_tree.specs.Trees.{Tree, inside, outside, node, walk, complement}
-use Rattle.bsp_tree.specs.Cells.{IsOfCell, IsPlaneOf, HasPlanesOf}
+use Rattle.bsp_tree.specs.Cells.{IsOfCell, HasPlanesOf}
 
 if_not : (c x y u v : Bool) → x ≡ not u → y ≡ not v → (if c then x else y) ≡ not (if c then u else v)
 if_not true x y u v hx hy = hx

@@ -1,12 +1,12 @@
 -- A polygon of a cell, and a plane that it is behind, or that is across it: a polygon of the half of the cell.
-use Rattle.std.proofs.Common.{◌≡◌, ◌↔◌, ℕ, suc, ◌+◌, ◌<◌, List, ◌∷◌, refl, sym, ◌∙◌, subst, arith, ℤ, pos, negsuc, ◌+ℤ◌, ◌*ℤ◌, ◌<ℤ◌, ◌≤ℤ◌, unsigned_abs}
+use Rattle.std.proofs.Common.{◌≡◌, ℕ, suc, ◌<◌, List, ◌∷◌, refl, sym, ◌∙◌, subst, arith, ℤ, pos, negsuc, ◌+ℤ◌, ◌*ℤ◌, ◌<ℤ◌, ◌≤ℤ◌, unsigned_abs}
 use Rattle.std.proofs.Math.IntN.{*ℤ-zero}
 use borrow.Author.Differences.{product_is}
-use Rattle.plane_predicate.specs.Space.{Coefficients, Coordinates, value, IsPlane}
+use Rattle.plane_predicate.specs.Space.{Coefficients, Coordinates, value}
 use Rattle.plane_predicate.proofs.IntegerRing.{sums}
 use Rattle.plane_predicate.proofs.Identities.{combine, value_combine}
 use Rattle.plane_predicate.proofs.Sizes.{size_parts}
-use Rattle.plane_polygon.specs.Polygons.{Outline, sides, edge, corner, IsPolygon, Covers}
+use Rattle.plane_polygon.specs.Polygons.{Outline, sides, corner, IsPolygon, Covers}
 use Rattle.plane_polygon.specs.Parts.{class_of, part_behind}
 use Rattle.plane_polygon.specs.declared.classes.Class.TheVariants.{Across}
 use Rattle.plane_polygon.proofs.Hull.{corner_on, hull}
@@ -14,7 +14,7 @@ use Rattle.plane_polygon.proofs.Rounds.{no_edge_behind}
 use Rattle.plane_polygon.proofs.PartPolygons.{below, part_polygon}
 use Rattle.plane_polygon.proofs.PartPoints.{cut_of}
 use Rattle.plane_polygon.proofs.PartCovers.{part_covers_out, part_covers_in, between_within}
-use Rattle.bsp_tree.specs.Cells.{IsIn, IsInClosed, IsAcross}
+use Rattle.bsp_tree.specs.Cells.{IsIn, IsAcross}
 use Rattle.bsp_tree.proofs.Convexity.{in_combine}
 
 -- a polygon has its corners

@@ -1,5 +1,5 @@
 -- Walks.
-use Rattle.std.proofs.Common.{◌≡◌, Bool, true, false, if◌then◌else◌, refl, sym, ap, arith, ℤ, pos, negsuc, ◌<ℤ◌, int_lt}
+use Rattle.std.proofs.Common.{◌≡◌, Bool, true, false, if◌then◌else◌, refl, sym, ap, arith, pos, ◌<ℤ◌}
 use Rattle.plane_predicate.specs.Space.{Coordinates, value}
 use Rattle.plane_predicate.proofs.IntegerRing.{sums}
 use Rattle.plane_polygon.specs.Polygons.{Outline}

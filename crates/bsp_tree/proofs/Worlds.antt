@@ -1,13 +1,13 @@
 -- The world box as a cell, and half spaces of it.
-use Rattle.std.proofs.Common.{◌≡◌, ◌↔◌, Bool, true, false, not, if◌then◌else◌, refl, sym, subst, ◌∙◌, pos, ◌<ℤ◌, ℤ}
+use Rattle.std.proofs.Common.{◌≡◌, ◌↔◌, Bool, true, false, not, if◌then◌else◌, refl, sym, subst, ◌∙◌, pos}
 use Rattle.std.specs.Ordering.{int_eq}
 use Rattle.plane_predicate.specs.Space.{Coefficients, Coordinates, value, IsPlane, IsInReach, IsInClosedWorld}
-use Rattle.plane_polygon.specs.Polygons.{Outline, Covers}
+use Rattle.plane_polygon.specs.Polygons.{Outline}
 use Rattle.plane_polygon.specs.declared.classes.Class.{Class}
 use Rattle.plane_polygon.specs.declared.classes.Class.TheVariants.{Behind, Ahead, On, Across}
 use Rattle.plane_polygon.specs.Parts.{class_of}
 use Rattle.plane_polygon.specs.Boxes.{high_x, low_x, high_y, low_y, high_z, low_z, turned, box_outline, box_over_x, box_over_y, box_over_z, trimmed, trimmed_to, ComesInReach}
-use Rattle.plane_polygon.proofs.BoxPoints.{IsNotAheadOfBox, in_world, world_in, reach_in, box_polygon_is}
+use Rattle.plane_polygon.proofs.BoxPoints.{in_world, world_in, reach_in, box_polygon_is}
 use Rattle.bsp_tree.specs.Trees.{half_space}
 use Rattle.bsp_tree.specs.Cells.{IsIn, IsInClosed, IsAcross, IsOfWorld, world_box}
 

@@ -1,8 +1,8 @@
 -- Worked rows, computed by the definitions.
-use Rattle.std.proofs.Common.{◌≡◌, refl, pos, negsuc, ℤ, true, false, Bool}
-use Rattle.plane_predicate.specs.Space.{Coefficients, Coordinates}
+use Rattle.std.proofs.Common.{◌≡◌, refl, pos, negsuc, ℤ}
+use Rattle.plane_predicate.specs.Space.{Coefficients}
 use Rattle.plane_polygon.specs.Boxes.{box_outline}
-use Rattle.bsp_tree.specs.Trees.{Tree, inside, outside, node, walk, size, complement, half_space}
+use Rattle.bsp_tree.specs.Trees.{inside, outside, node, size, complement, half_space}
 use Rattle.bsp_partition.specs.Partitions.{divide}
 
 abbrev plane : ℤ → ℤ → ℤ → ℤ → Coefficients
