@@ -32,7 +32,7 @@ lying : (cell : List Coefficients) (s : Outline) (q : Coefficients) → IsAcross
 lying cell s q h l = across_behind cell s q h l.some.index l.some.index_below l.some.strict l.all
 
 -- folding equal leaves keeps the cell
-make_cell : (cell : List Coefficients) (t : Outline) (b a : Tree) → IsAcross cell t → IsOfCell (t.plane ∷ cell) b → IsOfCell (opposite_of t.plane ∷ cell) a → IsOfCell cell (make t b a)
+pub make_cell : (cell : List Coefficients) (t : Outline) (b a : Tree) → IsAcross cell t → IsOfCell (t.plane ∷ cell) b → IsOfCell (opposite_of t.plane ∷ cell) a → IsOfCell cell (make t b a)
 make_cell cell t inside inside h hb ha = tt
 make_cell cell t outside outside h hb ha = tt
 make_cell cell t inside outside h hb ha = (h, hb, ha)
