@@ -1,10 +1,10 @@
 -- Two solids as one: the walks, the cells and the planes of what they give.
-use Rattle.std.proofs.Common.{◌≡◌, ◌⊎◌, inl, inr, Bool, true, false, not, ◌&&◌, ◌||◌, if◌then◌else◌, List, ◌∷◌, refl, sym, ap, ap₂, ◌∙◌, pos, ◌<ℤ◌}
+use Rattle.std.proofs.Common.{◌≡◌, ◌⊎◌, inl, inr, Bool, true, false, ◌&&◌, ◌||◌, if◌then◌else◌, List, ◌∷◌, refl, sym, ap, ◌∙◌, pos, ◌<ℤ◌}
 use Rattle.plane_predicate.specs.Space.{Coefficients, Coordinates, value, opposite_of}
 use Rattle.plane_predicate.proofs.Signs.{signs}
 use Rattle.plane_polygon.specs.Polygons.{Outline}
 use Rattle.bsp_tree.specs.Trees.{Tree, inside, outside, node, walk, make}
-use Rattle.bsp_tree.specs.Cells.{IsAcross, IsIn, IsOfCell, IsOff, IsPlaneOf, HasPlanesOf}
+use Rattle.bsp_tree.specs.Cells.{IsIn, IsOfCell, IsOff, IsPlaneOf}
 use Rattle.bsp_tree.proofs.Opposites.{opposite_below}
 use Rattle.bsp_tree.proofs.Walks.{make_walk, walk_behind, walk_ahead}
 use Rattle.bsp_partition.specs.Partitions.{divide}
@@ -76,11 +76,11 @@ combined_walks d (node s b a) (node t c e) cell hl hr p hp ol or =
     let planes = divide_planes r s in
     on_a_side d s b a (combined d b parts.0) (combined d a parts.1) (walk r p) p (ol s.plane (inl refl))
     (λ h. combined_walks d b parts.0 (s.plane ∷ cell) hl.1 halves.0 p (record { weight = hp.weight; below = (h, hp.below) })
-      (λ m k. ol m (inr (inl k))) (λ m k. or m (planes.0 m k))
-      ∙ ap (either_or_both d (walk b p)) (keeps.low h))
+    (λ m k. ol m (inr (inl k))) (λ m k. or m (planes.0 m k))
+    ∙ ap (either_or_both d (walk b p)) (keeps.low h))
     (λ h. combined_walks d a parts.1 (opposite_of s.plane ∷ cell) hl.2 halves.1 p (record { weight = hp.weight; below = (opposite_below s.plane p h, hp.below) })
-      (λ m k. ol m (inr (inr k))) (λ m k. or m (planes.1 m k))
-      ∙ ap (either_or_both d (walk a p)) (keeps.high h))
+    (λ m k. ol m (inr (inr k))) (λ m k. or m (planes.1 m k))
+    ∙ ap (either_or_both d (walk a p)) (keeps.high h))
 
 either_cell : (d : Bool) (x y : Tree) (cell : List Coefficients) → IsOfCell cell x → IsOfCell cell y → IsOfCell cell (if d then x else y)
 either_cell true x y cell hx hy = hx
@@ -118,7 +118,7 @@ combined_planes d (node s b a) (node t c e) m h =
     let parts = divide r s in
     let planes = divide_planes r s in
     elim (make_planes s (combined d b parts.0) (combined d a parts.1) m h) [
-    | inl e ↦ inl (inl e)
-    | inr (inl k) ↦ elim (combined_planes d b parts.0 m k) [ inl i ↦ inl (inr (inl i)) | inr j ↦ inr (planes.0 m j) ]
-    | inr (inr k) ↦ elim (combined_planes d a parts.1 m k) [ inl i ↦ inl (inr (inr i)) | inr j ↦ inr (planes.1 m j) ]
+      | inl e ↦ inl (inl e)
+      | inr (inl k) ↦ elim (combined_planes d b parts.0 m k) [ inl i ↦ inl (inr (inl i)) | inr j ↦ inr (planes.0 m j) ]
+      | inr (inr k) ↦ elim (combined_planes d a parts.1 m k) [ inl i ↦ inl (inr (inr i)) | inr j ↦ inr (planes.1 m j) ]
     ]

@@ -2,3 +2,4 @@ pub mod TooBig
 pub mod Combined
 pub mod Merged
 pub mod Solids
+mod Examples

@@ -1,5 +1,5 @@
 -- The merge of two solids: its walks, its cells and its planes.
-use Rattle.std.proofs.Common.{◌≡◌, ◌⊎◌, inl, inr, Bool, true, false, not, ◌&&◌, List, refl, sym, ap, subst, ◌∙◌, arith}
+use Rattle.std.proofs.Common.{◌≡◌, ◌⊎◌, inl, inr, Bool, true, false, ◌&&◌, List, refl, sym, ap, subst, ◌∙◌, arith}
 use Rattle.plane_predicate.specs.Space.{Coefficients, Coordinates}
 use Rattle.csg_tree.specs.declared.op.Op.{Op}
 use Rattle.csg_tree.specs.declared.op.Op.TheVariants.{Union, Intersection, Difference}

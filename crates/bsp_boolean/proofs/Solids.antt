@@ -1,17 +1,15 @@
 -- The solids of trees: they are of the world box, and hold where their trees do.
-use Rattle.std.proofs.Common.{◌≡◌, ◌⊎◌, inl, inr, Bool, true, false, ◌&&◌, if◌then◌else◌, List, [], ◌∷◌, refl, sym, ap, ap₂, ◌∙◌, pos, ◌<ℤ◌, All, ℕ, suc, ◌<◌, length, get_or, drop, subst, arith}
+use Rattle.std.proofs.Common.{◌≡◌, inl, inr, Bool, true, false, ◌&&◌, if◌then◌else◌, List, [], ◌∷◌, refl, sym, ap, ap₂, ◌∙◌, All, suc, ◌<◌, length, get_or, drop, subst, arith}
 use Rattle.std.specs.Prelude.{Contains}
-use Rattle.plane_predicate.specs.Space.{Coefficients, Coordinates, value, IsInWorld}
-use Rattle.csg_tree.specs.declared.op.Op.{Op}
-use Rattle.csg_tree.specs.Formulas.{Formula, nothing, leaf, joined, holds, operated, sides_of}
-use Rattle.csg_tree.specs.Formulas as formulas
-use Rattle.csg_tree.specs.ProperTrees.{IsLeafPlane, HasFullLeaves, IsProper}
+use Rattle.plane_predicate.specs.Space.{Coefficients, Coordinates}
+use Rattle.csg_tree.specs.Formulas.{Formula, nothing, leaf, joined, operated, sides_of}
+use Rattle.csg_tree.specs.ProperTrees.{IsLeafPlane, HasFullLeaves}
 use Rattle.plane_polygon.specs.Boxes.{box_outline}
 use Rattle.plane_polygon.specs.Parts.{is_behind}
-use Rattle.bsp_tree.specs.Trees.{Tree, inside, outside, node, walk, half_space}
-use Rattle.bsp_tree.specs.Cells.{world_box, IsIn, IsOfCell, IsOfWorld, IsOff, IsPlaneOf}
+use Rattle.bsp_tree.specs.Trees.{walk, half_space}
+use Rattle.bsp_tree.specs.Cells.{world_box, IsOfWorld, IsPlaneOf}
 use Rattle.bsp_tree.proofs.Worlds.{open_world, half_of_world, box_plane}
-use Rattle.bsp_boolean.specs.Merges.{combined, merged}
+use Rattle.bsp_boolean.specs.Merges.{combined}
 use Rattle.bsp_boolean.specs.Solids.{convex, solid_of, IsSolidOf}
 use Rattle.bsp_boolean.proofs.Combined.{combined_walks, combined_cells, combined_planes}
 use Rattle.bsp_boolean.proofs.Merged.{merge_is}
@@ -57,9 +55,9 @@ one_plane_more m n planes hm h = let rest = n ∷ planes in record {
     | inr j ↦ there m o rest (h.planes o j)
   ]);
   walks = λ p hw off.
-    combined_walks false (half_space m) (convex rest) world_box hm h.world p ((open_world p).1 hw)
-    (λ o i. off o (here m o rest (half_planes m o i))) (λ o j. off o (there m o rest (h.planes o j)))
-    ∙ ap₂ ◌&&◌ (half_walk m p) (h.walks p hw (λ o j. off o (there m o rest j)));
+      combined_walks false (half_space m) (convex rest) world_box hm h.world p ((open_world p).1 hw)
+      (λ o i. off o (here m o rest (half_planes m o i))) (λ o j. off o (there m o rest (h.planes o j)))
+      ∙ ap₂ ◌&&◌ (half_walk m p) (h.walks p hw (λ o j. off o (there m o rest j)));
 }
 
 -- the solid of a leaf
@@ -81,9 +79,9 @@ tree_is_solid (joined op left right) h =
       world = k.cells world_box (record { left_cell = l.world; right_cell = r.world });
       planes = λ m i. (elim (k.planes m i) [ inl i ↦ inl (l.planes m i) | inr j ↦ inr (r.planes m j) ]);
       walks = λ p hw off.
-        k.walks world_box (record { left_cell = l.world; right_cell = r.world }) p ((open_world p).1 hw)
-        (λ m i. off m (inl (l.planes m i))) (λ m j. off m (inr (r.planes m j)))
-        ∙ ap₂ (operated op) (l.walks p hw (λ m i. off m (inl i))) (r.walks p hw (λ m j. off m (inr j)));
+          k.walks world_box (record { left_cell = l.world; right_cell = r.world }) p ((open_world p).1 hw)
+          (λ m i. off m (inl (l.planes m i))) (λ m j. off m (inr (r.planes m j)))
+          ∙ ap₂ (operated op) (l.walks p hw (λ m i. off m (inl i))) (r.walks p hw (λ m j. off m (inr j)));
     }
 
 -- the solid of more than one plane, and of one

@@ -1,5 +1,5 @@
 -- A node is too big where one of its solids is too big for what the node leaves.
-use Rattle.std.proofs.Common.{◌≡◌, ℕ, ◌+◌, ◌-◌, ◌<◌, ◌≤◌, arith, Result, Ok, Err}
+use Rattle.std.proofs.Common.{ℕ, ◌+◌, ◌-◌, ◌<◌, ◌≤◌, arith, Err}
 use Rattle.plane_polygon.specs.Polygons.{Outline, sides}
 use Rattle.bsp_tree.specs.Trees.{Tree, inside, outside, node, make, size}
 use Rattle.bsp_boolean.specs.declared.building.BuildStop.{BuildStop}

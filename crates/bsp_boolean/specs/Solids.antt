@@ -1,6 +1,5 @@
 -- The solids of trees, and when a solid is built.
-use Rattle.std.specs.Prelude.{◌≡◌, ℕ, ◌<◌, ◌≤◌, false, List, [], ◌∷◌, Result, Ok, Err, pos, Contains}
-use Rattle.std.specs.List.{list_all}
+use Rattle.std.specs.Prelude.{◌≡◌, ℕ, ◌<◌, ◌≤◌, false, List, [], ◌∷◌, Result, Ok, Err, pos}
 use Rattle.plane_predicate.specs.Space.{Coefficients, Coordinates, value, IsInWorld}
 use Rattle.csg_tree.specs.Formulas.{Formula, nothing, leaf, joined, holds, sides_of}
 use Rattle.csg_tree.specs.Formulas as formulas

@@ -50,13 +50,7 @@ pub fn combine(
             let spare = most.saturating_sub(node_size(&node.polygon));
             let (behind, ahead) = split(alloc, Solid::Node(inner), &node.polygon)?;
             let behind = combine(alloc, in_decides, &node.behind, behind, spare)?;
-            let ahead = combine(
-                alloc,
-                in_decides,
-                &node.ahead,
-                ahead,
-                spare - behind.size,
-            )?;
+            let ahead = combine(alloc, in_decides, &node.ahead, ahead, spare - behind.size)?;
             node_over(alloc, &node.polygon, behind, ahead, most)
         }
     }

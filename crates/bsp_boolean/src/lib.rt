@@ -13,5 +13,5 @@ pub use laws::{merges_are_operations, solids_are_their_trees};
 pub use leaves::leaf_solid;
 pub use merging::{merge, merge_within};
 
-//#[cfg(test)]
-//mod tests;
+#[cfg(test)]
+mod tests;

@@ -1,4 +1,4 @@
-use Rattle.std.proofs.Common.{◌≡◌, ℕ, ◌-◌, ◌≤◌, false, List, length, take, drop, sym, ap, ap₂, subst, ◌∙◌, Result, Ok, Err, IfOk, IsOkAnd, arith}
+use Rattle.std.proofs.Common.{◌≡◌, ℕ, ◌-◌, false, List, length, take, drop, sym, ap, ap₂, subst, ◌∙◌, Result, Ok, Err, IfOk, IsOkAnd, arith}
 use Rattle.std.proofs.lemmas.List.{take_rest}
 use Rattle.plane_predicate.specs.Space.{Coefficients}
 use Rattle.csg_tree.specs.Formulas.{leaf}
@@ -38,7 +38,7 @@ returns-in_ok-half-in-len1-up-clause-made t c =
     let m = c.first-item.result in
     let others = take (length planes - 1) (drop 1 planes) in
     let part = part_is c.leaf_within.result (convex others) 18446744073709551615 (λ u. IsSolidOf (leaf others) u) c.in_ok-others-in-len1-up.others
-      c.leaf_within.ensures.made c.leaf_within.ensures.solid c.in_ok-others-in-len1-up.ensures in
+    c.leaf_within.ensures.made c.leaf_within.ensures.solid c.in_ok-others-in-len1-up.ensures in
     let rest = part.0 ∙ ap convex (take_rest planes 1) in
     let whole = ap₂ (combined false) c.in_ok-half-in-len1-up.ensures.tree rest ∙ sym (convex_more planes m c.in-len1-up.len_at_least c.first-item.is) in
     subst (λ (u : Tree). IsMade u c.args.most c.combine.result) whole c.combine.ensures
@@ -49,7 +49,7 @@ returns-in_ok-half-in-len1-up-clause-solid t c =
     let m = c.first-item.result in
     let others = take (length planes - 1) (drop 1 planes) in
     let part = part_is c.leaf_within.result (convex others) 18446744073709551615 (λ u. IsSolidOf (leaf others) u) c.in_ok-others-in-len1-up.others
-      c.leaf_within.ensures.made c.leaf_within.ensures.solid c.in_ok-others-in-len1-up.ensures in
+    c.leaf_within.ensures.made c.leaf_within.ensures.solid c.in_ok-others-in-len1-up.ensures in
     let of_others : IsSolidOf (leaf others) (convex others) = subst (λ (u : Tree). IsSolidOf (leaf others) u) part.0 part.1 in
     let of_rest = subst (λ (xs : List Coefficients). IsSolidOf (leaf xs) (convex xs)) (take_rest planes 1) of_others in
     let world = subst IsOfWorld c.in_ok-half-in-len1-up.ensures.tree c.in_ok-half-in-len1-up.ensures.world in
