@@ -8,8 +8,8 @@ use Rattle.bsp_tree.specs.Cells.{IsIn, IsOfCell, IsOff, IsPlaneOf}
 use Rattle.bsp_tree.proofs.Opposites.{opposite_below}
 use Rattle.bsp_tree.proofs.Walks.{make_walk, walk_behind, walk_ahead}
 use Rattle.bsp_partition.specs.Partitions.{divide}
-use Rattle.bsp_partition.proofs.Halves.{divide_halves, make_cell}
-use Rattle.bsp_partition.proofs.Planes.{divide_planes, make_planes}
+use Rattle.bsp_partition.proofs.Halves.{divide_halves}
+use Rattle.bsp_partition.proofs.Planes.{divide_planes}
 use Rattle.bsp_partition.proofs.Walks.{divide_keeps}
 use Rattle.bsp_boolean.specs.Merges.{combined}
 
@@ -82,6 +82,16 @@ combined_walks d (node s b a) (node t c e) cell hl hr p hp ol or =
     (λ m k. ol m (inr (inr k))) (λ m k. or m (planes.1 m k))
     ∙ ap (either_or_both d (walk a p)) (keeps.high h))
 
+-- what holds of the leaves and of a node holds of what is made of the node
+made : (P : Tree → Type 0) (s : Outline) (b a : Tree) → P inside → P outside → P (node s b a) → P (make s b a)
+made P s inside inside hi ho hn = hi
+made P s outside outside hi ho hn = ho
+made P s inside outside hi ho hn = hn
+made P s outside inside hi ho hn = hn
+made P s inside (node t c d) hi ho hn = hn
+made P s outside (node t c d) hi ho hn = hn
+made P s (node t c d) a hi ho hn = hn
+
 either_cell : (d : Bool) (x y : Tree) (cell : List Coefficients) → IsOfCell cell x → IsOfCell cell y → IsOfCell cell (if d then x else y)
 either_cell true x y cell hx hy = hx
 either_cell false x y cell hx hy = hy
@@ -95,9 +105,11 @@ combined_cells d (node s b a) outside cell hl hr = either_cell d (node s b a) ou
 combined_cells d (node s b a) (node t c e) cell hl hr =
     let parts = divide (node t c e) s in
     let halves = divide_halves (node t c e) s cell (record { solid = hr; polygon = hl.0 }) in
-    make_cell cell s (combined d b parts.0) (combined d a parts.1) hl.0
-    (combined_cells d b parts.0 (s.plane ∷ cell) hl.1 halves.0)
-    (combined_cells d a parts.1 (opposite_of s.plane ∷ cell) hl.2 halves.1)
+    made (IsOfCell cell) s (combined d b parts.0) (combined d a parts.1) tt tt (
+      hl.0,
+      combined_cells d b parts.0 (s.plane ∷ cell) hl.1 halves.0,
+      combined_cells d a parts.1 (opposite_of s.plane ∷ cell) hl.2 halves.1,
+    )
 
 either_plane : (d : Bool) (x y : Tree) (m : Coefficients) → IsPlaneOf m (if d then x else y) → IsPlaneOf m x ⊎ IsPlaneOf m y
 either_plane true x y m h = inl h
@@ -117,7 +129,8 @@ combined_planes d (node s b a) (node t c e) m h =
     let r = node t c e in
     let parts = divide r s in
     let planes = divide_planes r s in
-    elim (make_planes s (combined d b parts.0) (combined d a parts.1) m h) [
+    elim (made (λ t. IsPlaneOf m t → IsPlaneOf m (node s (combined d b parts.0) (combined d a parts.1))) s (combined d b parts.0) (combined d a parts.1)
+      (λ k. absurd k) (λ k. absurd k) (λ k. k) h) [
       | inl e ↦ inl (inl e)
       | inr (inl k) ↦ elim (combined_planes d b parts.0 m k) [ inl i ↦ inl (inr (inl i)) | inr j ↦ inr (planes.0 m j) ]
       | inr (inr k) ↦ elim (combined_planes d a parts.1 m k) [ inl i ↦ inl (inr (inr i)) | inr j ↦ inr (planes.1 m j) ]

@@ -10,7 +10,11 @@ use Rattle.bsp_tree.specs.Cells.{HasPlanesOf, IsAcross, IsIn, IsOfCell, IsOff}
 
 -- t and s are across each other's planes: both parts of t, with the parts of the sides by the parts of s
 abbrev pub across_row : Outline → Outline → Tree × Tree → Tree × Tree → Tree × Tree
-across_row s t low high = (make (part_behind t s.plane) low.0 high.0, make (part_ahead t s.plane) low.1 high.1)
+across_row s t low high = (
+  make (part_behind t s.plane) low.0 high.0,
+  make (part_ahead t s.plane) low.1
+      high.1,
+)
 
 -- s lies behind t's plane, and t behind s's, or else ahead of it: t and the side a stay whole
 abbrev pub behind_row : Bool → Outline → Tree × Tree → Tree → Tree × Tree
@@ -25,7 +29,8 @@ ahead_row false t b high = (high.0, make t b high.1)
 -- the parts of a node with the polygon t and the solids b and a, by how s lies against t's plane and t against s's:
 -- `low` and `high` are the parts of b and of a by s, `low_part` and `high_part` those by the part of s on their side.
 -- Polygons of one cell on different planes lie in one of the first five ways
-abbrev pub rows : Class → Class → Outline → Outline → Tree → Tree → Tree × Tree → Tree × Tree → Tree × Tree → Tree × Tree → Tree × Tree
+abbrev pub rows : Class → Class → Outline → Outline → Tree → Tree → Tree × Tree → Tree × Tree → Tree × Tree →
+    Tree × Tree → Tree × Tree
 rows Across Across s t b a low high low_part high_part = across_row s t low_part high_part
 rows Behind Behind s t b a low high low_part high_part = behind_row true t low a
 rows Behind Ahead s t b a low high low_part high_part = behind_row false t low a

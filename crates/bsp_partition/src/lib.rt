@@ -117,11 +117,7 @@ fn turned_sides_of(inner: Box<Node>) -> (Solid, Solid)
 
 /// The parts of a node by a polygon, where each is across the plane of the other.
 #[cycle(parts)]
-fn across_parts(
-    alloc: Global,
-    inner: Box<Node>,
-    by: &Polygon,
-) -> Result<(Solid, Solid), NoMemory>
+fn across_parts(alloc: Global, inner: Box<Node>, by: &Polygon) -> Result<(Solid, Solid), NoMemory>
     requires by_across { class_of by.now inner.value.polygon.plane ≡ Across }
     requires across { class_of inner.value.polygon by.now.plane ≡ Across }
     ensures { IfOk result (λ r. (tree_of r.0, tree_of r.1) ≡ across_row by.now inner.value.polygon (divide (tree_of inner.value.behind) (part_behind by.now inner.value.polygon.plane)) (divide (tree_of inner.value.ahead) (part_ahead by.now inner.value.polygon.plane))) }
