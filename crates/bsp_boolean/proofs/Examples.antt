@@ -21,7 +21,8 @@ cube = cuboid (pos 0) (pos 0) (pos 0) (pos 1) (pos 1) (pos 1)
 
 -- the cube from 0 to 2 without the one from 1 to 3
 abbrev notch : Formula
-notch = joined Difference (cuboid (pos 0) (pos 0) (pos 0) (pos 2) (pos 2) (pos 2)) (cuboid (pos 1) (pos 1) (pos 1) (pos 3) (pos 3) (pos 3))
+notch = joined Difference (cuboid (pos 0) (pos 0) (pos 0) (pos 2) (pos 2) (pos 2))
+    (cuboid (pos 1) (pos 1) (pos 1) (pos 3) (pos 3) (pos 3))
 
 abbrev point : ℤ → Coordinates
 point at = record { x = at; y = at; z = at; w = pos 2 }
@@ -38,7 +39,8 @@ without_itself = refl
 notch_size : size (solid_of notch) ≡ 45
 notch_size = refl
 
-beside_size : size (solid_of (joined Union cube (cuboid (pos 1) (pos 0) (pos 0) (pos 2) (pos 1) (pos 1)))) ≡ 55
+beside_size : size (solid_of (joined Union cube (cuboid (pos 1) (pos 0) (pos 0) (pos 2) (pos 1) (pos 1))))
+    ≡ 55
 beside_size = refl
 
 within_notch : walk (solid_of notch) (point (pos 1)) ≡ true

@@ -27,7 +27,8 @@ itself true = refl
 itself false = refl
 
 half_walk : (m : Coefficients) (p : Coordinates) → walk (half_space m) p ≡ sides_of p m
-half_walk m p = itself (is_behind (box_outline m).plane p) ∙ ap (λ (n : Coefficients). is_behind n p) (box_plane m)
+half_walk m p = itself (is_behind (box_outline m).plane p)
+    ∙ ap (λ (n : Coefficients). is_behind n p) (box_plane m)
 
 half_planes : (m n : Coefficients) → IsPlaneOf n (half_space m) → n ≡ m
 half_planes m n (inl e) = e ∙ box_plane m
@@ -47,7 +48,8 @@ half_is_solid m h = record {
 
 -- one plane more
 pub one_plane_more : (m n : Coefficients) (planes : List Coefficients) → IsOfWorld (half_space m) →
-    IsSolidOf (leaf (n ∷ planes)) (convex (n ∷ planes)) → IsSolidOf (leaf (m ∷ n ∷ planes)) (convex (m ∷ n ∷ planes))
+    IsSolidOf (leaf (n ∷ planes)) (convex (n ∷ planes)) →
+    IsSolidOf (leaf (m ∷ n ∷ planes)) (convex (m ∷ n ∷ planes))
 one_plane_more m n planes hm h = let rest = n ∷ planes in record {
   world = combined_cells false (half_space m) (convex rest) world_box hm h.world;
   planes = λ o k. (elim (combined_planes false (half_space m) (convex rest) o k) [
@@ -61,12 +63,14 @@ one_plane_more m n planes hm h = let rest = n ∷ planes in record {
 }
 
 -- the solid of a leaf
-leaf_is_solid : (planes : List Coefficients) → All IsLeafPlane planes → IsSolidOf (leaf planes) (convex planes)
+leaf_is_solid : (planes : List Coefficients) → All IsLeafPlane planes →
+    IsSolidOf (leaf planes) (convex planes)
 leaf_is_solid [] h = record { world = tt; planes = λ m k. absurd k; walks = λ p hw off. refl }
 leaf_is_solid (m ∷ []) h = let i = h 0 m (omega arith) in half_is_solid m (half_of_world m i.plane i.reach)
 leaf_is_solid (m ∷ n ∷ planes) h =
     let i = h 0 m (omega arith) in
-    one_plane_more m n planes (half_of_world m i.plane i.reach) (leaf_is_solid (n ∷ planes) (λ k d l. h (suc k) d (omega (arith, l))))
+    one_plane_more m n planes (half_of_world m i.plane i.reach)
+    (leaf_is_solid (n ∷ planes) (λ k d l. h (suc k) d (omega (arith, l))))
 
 -- the solid of a tree
 pub tree_is_solid : (f : Formula) → HasFullLeaves f → IsSolidOf f (solid_of f)
@@ -85,20 +89,26 @@ tree_is_solid (joined op left right) h =
     }
 
 -- the solid of more than one plane, and of one
-pub convex_more : (planes : List Coefficients) (m : Coefficients) → 1 < length planes → m ≡ get_or planes 0 m →
+pub convex_more : (planes : List Coefficients) (m : Coefficients) → 1 < length planes →
+    m ≡ get_or planes 0 m →
     convex planes ≡ combined false (half_space m) (convex (drop 1 planes))
 convex_more [] m many e = absurd (omega arith)
 convex_more (n ∷ []) m many e = absurd (omega arith)
-convex_more (n ∷ o ∷ planes) m many e = ap (λ (k : Coefficients). combined false (half_space k) (convex (o ∷ planes))) (sym e)
+convex_more (n ∷ o ∷ planes) m many e =
+    ap (λ (k : Coefficients). combined false (half_space k) (convex (o ∷ planes))) (sym e)
 
-pub more_is_solid : (planes : List Coefficients) (m : Coefficients) → 1 < length planes → m ≡ get_or planes 0 m → IsOfWorld (half_space m) →
+pub more_is_solid : (planes : List Coefficients) (m : Coefficients) → 1 < length planes →
+    m ≡ get_or planes 0 m → IsOfWorld (half_space m) →
     IsSolidOf (leaf (drop 1 planes)) (convex (drop 1 planes)) → IsSolidOf (leaf planes) (convex planes)
 more_is_solid [] m many e hm h = absurd (omega arith)
 more_is_solid (n ∷ []) m many e hm h = absurd (omega arith)
-more_is_solid (n ∷ o ∷ planes) m many e hm h = one_plane_more n o planes (subst (λ (k : Coefficients). IsOfWorld (half_space k)) e hm) h
+more_is_solid (n ∷ o ∷ planes) m many e hm h =
+    one_plane_more n o planes (subst (λ (k : Coefficients). IsOfWorld (half_space k)) e hm) h
 
-pub one_is_solid : (planes : List Coefficients) (m : Coefficients) → length planes ≡ 1 → m ≡ get_or planes 0 m → IsOfWorld (half_space m) →
+pub one_is_solid : (planes : List Coefficients) (m : Coefficients) → length planes ≡ 1 →
+    m ≡ get_or planes 0 m → IsOfWorld (half_space m) →
     IsSolidOf (leaf planes) (half_space m)
 one_is_solid [] m one e hm = absurd (omega arith)
-one_is_solid (n ∷ []) m one e hm = subst (λ (k : Coefficients). IsSolidOf (leaf (k ∷ [])) (half_space m)) e (half_is_solid m hm)
+one_is_solid (n ∷ []) m one e hm =
+    subst (λ (k : Coefficients). IsSolidOf (leaf (k ∷ [])) (half_space m)) e (half_is_solid m hm)
 one_is_solid (n ∷ o ∷ planes) m one e hm = absurd (omega arith)

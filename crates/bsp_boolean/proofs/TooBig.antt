@@ -6,12 +6,14 @@ use Rattle.bsp_boolean.specs.declared.building.BuildStop.{BuildStop}
 use Rattle.bsp_boolean.specs.declared.building.BuildStop.TheVariants.{TooBig, NoMemory}
 use Rattle.bsp_boolean.specs.MadeSolids.{IsMade}
 
-too_big_behind : (most : ℕ) (s : Outline) (b a : Tree) → most - (1 + sides s) < size b → most < size (make s b a)
+too_big_behind : (most : ℕ) (s : Outline) (b a : Tree) → most - (1 + sides s) < size b →
+    most < size (make s b a)
 too_big_behind most s inside a h = absurd (omega arith)
 too_big_behind most s outside a h = absurd (omega arith)
 too_big_behind most s (node t c d) a h = omega arith
 
-too_big_ahead : (most : ℕ) (s : Outline) (b a : Tree) → size b ≤ most - (1 + sides s) → (most - (1 + sides s)) - size b < size a → most < size (make s b a)
+too_big_ahead : (most : ℕ) (s : Outline) (b a : Tree) → size b ≤ most - (1 + sides s) →
+    (most - (1 + sides s)) - size b < size a → most < size (make s b a)
 too_big_ahead most s b inside within h = absurd (omega arith)
 too_big_ahead most s b outside within h = absurd (omega arith)
 too_big_ahead most s inside (node t c d) within h = omega arith
@@ -19,7 +21,8 @@ too_big_ahead most s outside (node t c d) within h = omega arith
 too_big_ahead most s (node u e f) (node t c d) within h = omega arith
 
 -- a solid behind that isn't made stops the node
-pub stop_behind : (most : ℕ) (s : Outline) (b a : Tree) (stop : BuildStop) → IsMade b (most - (1 + sides s)) (Err stop) → IsMade (make s b a) most (Err stop)
+pub stop_behind : (most : ℕ) (s : Outline) (b a : Tree) (stop : BuildStop) →
+    IsMade b (most - (1 + sides s)) (Err stop) → IsMade (make s b a) most (Err stop)
 stop_behind most s b a TooBig h = too_big_behind most s b a h
 stop_behind most s b a NoMemory h = tt
 

@@ -29,10 +29,12 @@ IsBuilt wanted most (Ok solid) = (tree_of solid ≡ wanted) × (size wanted ≤ 
 IsBuilt wanted most (Err TooBig) = most < size wanted
 IsBuilt wanted most (Err NoMemory) = Unit {0}
 
--- a solid is the tree: it is of the world box, has no other planes than those of the tree, and for each point strictly
--- inside the world box and off all planes of the tree its walk is whether the tree holds with the point's sides
+-- a solid is the tree: it is of the world box, has no other planes than those of the tree, and for each point
+-- strictly inside the world box and off all planes of the tree its walk is whether the tree holds with the
+-- point's sides
 pub record IsSolidOf (f : Formula) (t : Tree) : Type 0 where
   pub world : IsOfWorld t
   pub planes : (m : Coefficients) → IsPlaneOf m t → formulas.IsPlaneOf m f
-  pub walks : (p : Coordinates) → IsInWorld p → ((m : Coefficients) → formulas.IsPlaneOf m f → value m p ≡ pos 0 → ⊥) →
+  pub walks : (p : Coordinates) → IsInWorld p →
+      ((m : Coefficients) → formulas.IsPlaneOf m f → value m p ≡ pos 0 → ⊥) →
       walk t p ≡ holds f (sides_of p)

@@ -25,7 +25,8 @@ IsSomething (joined op left right) = Unit {0}
 abbrev pub HasFullJoins : Formula → Type 0
 HasFullJoins nothing = Unit {0}
 HasFullJoins (leaf planes) = Unit {0}
-HasFullJoins (joined op left right) = IsSomething left × IsSomething right × HasFullJoins left × HasFullJoins right
+HasFullJoins (joined op left right) = IsSomething left × IsSomething right × HasFullJoins left
+    × HasFullJoins right
 
 -- how many subtrees a tree has, with itself
 abbrev pub subtrees : Formula → ℕ

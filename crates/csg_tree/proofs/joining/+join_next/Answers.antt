@@ -14,7 +14,9 @@ returns-clause-joined t c =
     let trees = into_iter_items c.args.trees.now in
     let two : 2 ≤ n = omega arith in
     let halves = next_halves formula_of op n trees two c.requires in
-    let next = ap (λ (ys : List CsgTree). balanced_of op (map formula_of (take (n - n / 2) ys))) c.in_ok-first.ensures.rest in
+    let next = ap (λ (ys : List CsgTree). balanced_of op (map formula_of (take (n - n / 2) ys)))
+    c.in_ok-first.ensures.rest in
     IfOk-weaker c.join.result _ _
-    (λ tree e. e ∙ ap₂ (join_of op) c.in_ok-first.ensures.joined (c.in_ok-rest.ensures.joined ∙ next) ∙ sym halves)
+    (λ tree e. e ∙ ap₂ (join_of op) c.in_ok-first.ensures.joined (c.in_ok-rest.ensures.joined ∙ next)
+    ∙ sym halves)
     c.join.ensures
