@@ -1,0 +1,5 @@
+pub mod TooBig
+pub mod Combined
+pub mod Merged
+pub mod Solids
+mod Examples
