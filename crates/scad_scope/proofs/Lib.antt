@@ -1,0 +1,2 @@
+pub mod Envs
+pub mod Bound

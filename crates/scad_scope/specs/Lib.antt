@@ -1,0 +1,4 @@
+pub mod Arguments
+pub mod Names
+pub mod Table
+pub mod View
