@@ -1,5 +1,5 @@
 -- The scope of a number, and what it holds.
-use Rattle.std.proofs.Common.{◌≡◌, ℕ, zero, suc, ◌+◌, ◌<◌, ◌≤◌, List, [], ◌∷◌, ◌++◌, length, map, Bool, true, false, cond, Option, Some, None, refl, sym, ap, subst, ◌∙◌, arith, length-append, get_or, nat_lt}
+use Rattle.std.proofs.Common.{◌≡◌, ℕ, zero, suc, ◌+◌, ◌<◌, ◌≤◌, List, [], ◌∷◌, ◌++◌, length, Bool, true, false, cond, Some, None, refl, sym, ap, subst, ◌∙◌, arith, length-append, get_or, nat_lt}
 use Rattle.std.specs.Prelude.{slice_index_or}
 use Rattle.std.proofs.lemmas.Bool.{ltb-true, ltb-false, lt-ltb, le-ltb}
 use Rattle.std.proofs.lemmas.List.{get_or_past}
@@ -8,33 +8,39 @@ use Rattle.scad_value.specs.Values.{Val}
 use Rattle.scad_scope.specs.declared.table.Scope.{Scope}
 use Rattle.scad_scope.specs.declared.table.Family.{Family}
 use Rattle.scad_scope.specs.declared.table.Family.TheVariants.{Functions, Modules}
-use Rattle.scad_scope.specs.Names.{Row, Env, Outermost, Within, envs_from, env_of, find_in, or_else, standing_in, variable_in, function_in, module_in}
+use Rattle.scad_scope.specs.Names.{Row, Env, Outermost, Within, envs_from, env_of, find_in, or_else, standing_in, variable_in}
 use Rattle.scad_scope.specs.View.{row_of, rows_in, pairs_of, definition_in}
 
 -- a row's scope, behind these
 abbrev scope_in : List Env → Row → Env
 scope_in before r = Within (length before) r (slice_index_or before r.outer Outermost)
 
-pub envs_length : (before : List Env) (rs : List Row) → length (envs_from before rs) ≡ length before + length rs
+pub envs_length : (before : List Env) (rs : List Row) → length (envs_from before rs) ≡ length before + length
+    rs
 envs_length before [] = omega arith
-envs_length before (r ∷ rs) = envs_length (before ++ scope_in before r ∷ []) rs ∙ omega (arith, length-append before (scope_in before r ∷ []))
+envs_length before (r ∷ rs) = envs_length (before ++ scope_in before r ∷ []) rs ∙
+    omega (arith, length-append before (scope_in before r ∷ []))
 
-get_front : {A : Type 0} (xs ys : List A) (k : ℕ) (d : A) → k < length xs → get_or (xs ++ ys) k d ≡ get_or xs k d
+get_front : {A : Type 0} (xs ys : List A) (k : ℕ) (d : A) → k < length xs → get_or (xs ++ ys) k d ≡ get_or xs
+    k d
 get_front [] ys k d h = absurd (omega arith)
 get_front (x ∷ xs) ys zero d h = refl
 get_front (x ∷ xs) ys (suc k) d h = get_front xs ys k d (omega arith)
 
-envs_keep : (before : List Env) (rs : List Row) (k : ℕ) (d : Env) → k < length before → get_or (envs_from before rs) k d ≡ get_or before k d
+envs_keep : (before : List Env) (rs : List Row) (k : ℕ) (d : Env) → k < length before →
+    get_or (envs_from before rs) k d ≡ get_or before k d
 envs_keep before [] k d h = refl
 envs_keep before (r ∷ rs) k d h =
-    envs_keep (before ++ scope_in before r ∷ []) rs k d (omega (arith, length-append before (scope_in before r ∷ [])))
+    envs_keep (before ++ scope_in before r ∷ []) rs k d
+    (omega (arith, length-append before (scope_in before r ∷ [])))
     ∙ get_front before (scope_in before r ∷ []) k d h
 
 outer_same : (before : List Env) (x : Env) (rs : List Row) (o : ℕ) (b : Bool) → nat_lt o (length before) ≡ b
     → get_or before o Outermost ≡ cond b (get_or (envs_from (before ++ x ∷ []) rs) o Outermost) Outermost
 outer_same before x rs o true e =
     let less : o < length before = ltb-true o (length before) e in
-    sym (envs_keep (before ++ x ∷ []) rs o Outermost (omega (arith, length-append before (x ∷ []))) ∙ get_front before (x ∷ []) o Outermost less)
+    sym (envs_keep (before ++ x ∷ []) rs o Outermost (omega (arith, length-append before (x ∷ []))) ∙
+    get_front before (x ∷ []) o Outermost less)
 outer_same before x rs o false e = get_or_past before o Outermost (ltb-false o (length before) e)
 
 -- what stands at a number: its row, inside the scope that the row names where that one comes before
@@ -42,95 +48,115 @@ abbrev Stands : List Env → ℕ → Row → Env → Type 0
 Stands all n r env = env ≡ Within n r (cond (nat_lt r.outer n) (get_or all r.outer Outermost) Outermost)
 
 envs_at : (before : List Env) (rs : List Row) (j : ℕ) (r : Row) → j < length rs → r ≡ get_or rs j r
-    → Stands (envs_from before rs) (length before + j) r (get_or (envs_from before rs) (length before + j) Outermost)
+    → Stands (envs_from before rs) (length before + j) r (get_or (envs_from before rs) (length before + j)
+    Outermost)
 envs_at before [] j r h e = absurd (omega arith)
 envs_at before (q ∷ rs) zero r h e =
     let x = scope_in before q in
     let all = envs_from (before ++ x ∷ []) rs in
     let n : length before ≡ length before + 0 = omega arith in
     let len : length before < length (before ++ x ∷ []) = omega (arith, length-append before (x ∷ [])) in
-    let is_x : x ≡ Within (length before) q (cond (nat_lt q.outer (length before)) (get_or all q.outer Outermost) Outermost)
-      = ap (Within (length before) q) (outer_same before x rs q.outer (nat_lt q.outer (length before)) refl) in
+    let is_x : x ≡ Within (length before) q (cond (nat_lt q.outer (length before))
+    (get_or all q.outer Outermost) Outermost)
+    = ap (Within (length before) q) (outer_same before x rs q.outer (nat_lt q.outer (length before)) refl) in
     subst (λ n. Stands all n r (get_or all n Outermost)) n
-      (envs_keep (before ++ x ∷ []) rs (length before) Outermost len ∙ get_or-append_seam before x [] Outermost
-      ∙ subst (λ (u : Row). Stands all (length before) u x) (sym e) is_x)
+    (envs_keep (before ++ x ∷ []) rs (length before) Outermost len ∙ get_or-append_seam before x [] Outermost
+    ∙ subst (λ (u : Row). Stands all (length before) u x) (sym e) is_x)
 envs_at before (q ∷ rs) (suc j) r h e =
     let next = before ++ scope_in before q ∷ [] in
-    let len : length next + j ≡ length before + suc j = omega (arith, length-append before (scope_in before q ∷ [])) in
-    subst (λ n. Stands (envs_from next rs) n r (get_or (envs_from next rs) n Outermost)) len (envs_at next rs j r (omega arith) e)
+    let len : length next + j ≡ length before + suc j =
+    omega (arith, length-append before (scope_in before q ∷ [])) in
+    subst (λ n. Stands (envs_from next rs) n r (get_or (envs_from next rs) n Outermost)) len
+    (envs_at next rs j r (omega arith) e)
 
 pub rows_length : (ss : List Scope) → length (rows_in ss) ≡ length ss
 rows_length [] = refl
 rows_length (s ∷ ss) = ap suc (rows_length ss)
 
-row_at : (ss : List Scope) (k : ℕ) (s : Scope) → k < length ss → s ≡ get_or ss k s → row_of s ≡ get_or (rows_in ss) k (row_of s)
+row_at : (ss : List Scope) (k : ℕ) (s : Scope) → k < length ss → s ≡ get_or ss k s →
+    row_of s ≡ get_or (rows_in ss) k (row_of s)
 row_at [] k s h e = absurd (omega arith)
 row_at (t ∷ ss) zero s h e = ap row_of e
 row_at (t ∷ ss) (suc k) s h e = row_at ss k s (omega arith) e
 
 pub env_at : (ss : List Scope) (k : ℕ) (s : Scope) → k < length ss → s ≡ get_or ss k s
-    → env_of (rows_in ss) k ≡ Within k (row_of s) (cond (nat_lt s.outer k) (env_of (rows_in ss) s.outer) Outermost)
+    → env_of (rows_in ss) k ≡ Within k (row_of s) (cond (nat_lt s.outer k) (env_of (rows_in ss) s.outer)
+    Outermost)
 unfolding env_of
 env_at ss k s h e =
     let n : 0 + k ≡ k = omega arith in
     let less : k < length (rows_in ss) = omega (arith, rows_length ss) in
-    subst (λ n. Stands (envs_from [] (rows_in ss)) n (row_of s) (get_or (envs_from [] (rows_in ss)) n Outermost)) n
-      (envs_at [] (rows_in ss) k (row_of s) less (row_at ss k s h e))
+    subst (λ n. Stands (envs_from [] (rows_in ss)) n (row_of s) (get_or (envs_from [] (rows_in ss)) n
+    Outermost)) n
+    (envs_at [] (rows_in ss) k (row_of s) less (row_at ss k s h e))
 
-module _ (ss : List Scope) (k : ℕ) (s : Scope) (name : List ℕ) (h : k < length ss) (e : s ≡ get_or ss k s) where
-  outside : Env
-  outside = cond (nat_lt s.outer k) (env_of (rows_in ss) s.outer) Outermost
+module _ (ss : List Scope) (k : ℕ) (s : Scope) (name : List ℕ) (h : k < length ss) (e : s ≡ get_or ss k s)
+  where
+    outside : Env
+    outside = cond (nat_lt s.outer k) (env_of (rows_in ss) s.outer) Outermost
 
-  no_outer : k ≤ s.outer → outside ≡ Outermost
-  unfolding outside
-  no_outer l = ap (λ b. cond b (env_of (rows_in ss) s.outer) Outermost) (le-ltb s.outer k l)
+    no_outer : k ≤ s.outer → outside ≡ Outermost
+    unfolding outside
+    no_outer l = ap (λ b. cond b (env_of (rows_in ss) s.outer) Outermost) (le-ltb s.outer k l)
 
-  an_outer : s.outer < k → outside ≡ env_of (rows_in ss) s.outer
-  unfolding outside
-  an_outer l = ap (λ b. cond b (env_of (rows_in ss) s.outer) Outermost) (lt-ltb s.outer k l)
+    an_outer : s.outer < k → outside ≡ env_of (rows_in ss) s.outer
+    unfolding outside
+    an_outer l = ap (λ b. cond b (env_of (rows_in ss) s.outer) Outermost) (lt-ltb s.outer k l)
 
-  here : variable_in (env_of (rows_in ss) k) name ≡ or_else (find_in (row_of s).variables name) (variable_in outside name)
-  unfolding outside
-  here = ap (λ x. variable_in x name) (env_at ss k s h e)
+    here : variable_in (env_of (rows_in ss) k) name ≡ or_else (find_in (row_of s).variables name)
+        (variable_in outside name)
+    unfolding outside
+    here = ap (λ x. variable_in x name) (env_at ss k s h e)
 
-  pub variable_found : (x : Val) → find_in (row_of s).variables name ≡ Some x → variable_in (env_of (rows_in ss) k) name ≡ Some x
-  variable_found x f = here ∙ ap (λ o. or_else o (variable_in outside name)) f
+    pub variable_found : (x : Val) → find_in (row_of s).variables name ≡ Some x →
+        variable_in (env_of (rows_in ss) k) name ≡ Some x
+    variable_found x f = here ∙ ap (λ o. or_else o (variable_in outside name)) f
 
-  pub variable_none : find_in (row_of s).variables name ≡ None → k ≤ s.outer → variable_in (env_of (rows_in ss) k) name ≡ None
-  variable_none f l = here ∙ ap (λ o. or_else o (variable_in outside name)) f ∙ ap (λ x. variable_in x name) (no_outer l)
+    pub variable_none : find_in (row_of s).variables name ≡ None → k ≤ s.outer →
+        variable_in (env_of (rows_in ss) k) name ≡ None
+    variable_none f l = here ∙ ap (λ o. or_else o (variable_in outside name)) f ∙ ap (λ x. variable_in x name)
+        (no_outer l)
 
-  pub variable_outer : find_in (row_of s).variables name ≡ None → s.outer < k
-      → variable_in (env_of (rows_in ss) k) name ≡ variable_in (env_of (rows_in ss) s.outer) name
-  variable_outer f l = here ∙ ap (λ o. or_else o (variable_in outside name)) f ∙ ap (λ x. variable_in x name) (an_outer l)
+    pub variable_outer : find_in (row_of s).variables name ≡ None → s.outer < k
+        → variable_in (env_of (rows_in ss) k) name ≡ variable_in (env_of (rows_in ss) s.outer) name
+    variable_outer f l = here ∙ ap (λ o. or_else o (variable_in outside name)) f ∙ ap (λ x. variable_in x name)
+        (an_outer l)
 
-  within : (family : Family) (env : Env) → definition_in family (Within k (row_of s) env) name
-      ≡ or_else (standing_in (Within k (row_of s) env) (find_in (pairs_of family (row_of s)) name)) (definition_in family env name)
-  within Functions env = refl
-  within Modules env = refl
+    within : (family : Family) (env : Env) → definition_in family (Within k (row_of s) env) name
+        ≡ or_else (standing_in (Within k (row_of s) env) (find_in (pairs_of family (row_of s)) name))
+        (definition_in family env name)
+    within Functions env = refl
+    within Modules env = refl
 
-  standing : (family : Family) → definition_in family (env_of (rows_in ss) k) name
-      ≡ or_else (standing_in (env_of (rows_in ss) k) (find_in (pairs_of family (row_of s)) name)) (definition_in family outside name)
-  unfolding outside
-  standing family = subst
-      (λ x. definition_in family x name ≡ or_else (standing_in x (find_in (pairs_of family (row_of s)) name)) (definition_in family outside name))
-      (sym (env_at ss k s h e)) (within family outside)
+    standing : (family : Family) → definition_in family (env_of (rows_in ss) k) name
+        ≡ or_else (standing_in (env_of (rows_in ss) k) (find_in (pairs_of family (row_of s)) name))
+        (definition_in family outside name)
+    unfolding outside
+    standing family = subst
+        (λ x. definition_in family x name ≡ or_else (standing_in x (find_in (pairs_of family (row_of s)) name))
+        (definition_in family outside name))
+        (sym (env_at ss k s h e)) (within family outside)
 
-  pub definition_found : (family : Family) (d : ℕ) → find_in (pairs_of family (row_of s)) name ≡ Some d
-      → definition_in family (env_of (rows_in ss) k) name ≡ Some (env_of (rows_in ss) k, d)
-  definition_found family d f = standing family ∙ ap (λ o. or_else (standing_in (env_of (rows_in ss) k) o) (definition_in family outside name)) f
+    pub definition_found : (family : Family) (d : ℕ) → find_in (pairs_of family (row_of s)) name ≡ Some d
+        → definition_in family (env_of (rows_in ss) k) name ≡ Some (env_of (rows_in ss) k, d)
+    definition_found family d f = standing family ∙ ap (λ o. or_else (standing_in (env_of (rows_in ss) k) o)
+        (definition_in family outside name)) f
 
-  nowhere : (family : Family) → definition_in family Outermost name ≡ None
-  nowhere Functions = refl
-  nowhere Modules = refl
+    nowhere : (family : Family) → definition_in family Outermost name ≡ None
+    nowhere Functions = refl
+    nowhere Modules = refl
 
-  passed : (family : Family) → find_in (pairs_of family (row_of s)) name ≡ None
-      → definition_in family (env_of (rows_in ss) k) name ≡ definition_in family outside name
-  passed family f = standing family ∙ ap (λ o. or_else (standing_in (env_of (rows_in ss) k) o) (definition_in family outside name)) f
+    passed : (family : Family) → find_in (pairs_of family (row_of s)) name ≡ None
+        → definition_in family (env_of (rows_in ss) k) name ≡ definition_in family outside name
+    passed family f = standing family ∙ ap (λ o. or_else (standing_in (env_of (rows_in ss) k) o)
+        (definition_in family outside name)) f
 
-  pub definition_none : (family : Family) → find_in (pairs_of family (row_of s)) name ≡ None → k ≤ s.outer
-      → definition_in family (env_of (rows_in ss) k) name ≡ None
-  definition_none family f l = passed family f ∙ ap (λ x. definition_in family x name) (no_outer l) ∙ nowhere family
+    pub definition_none : (family : Family) → find_in (pairs_of family (row_of s)) name ≡ None → k ≤ s.outer
+        → definition_in family (env_of (rows_in ss) k) name ≡ None
+    definition_none family f l = passed family f ∙ ap (λ x. definition_in family x name) (no_outer l) ∙
+        nowhere family
 
-  pub definition_outer : (family : Family) → find_in (pairs_of family (row_of s)) name ≡ None → s.outer < k
-      → definition_in family (env_of (rows_in ss) k) name ≡ definition_in family (env_of (rows_in ss) s.outer) name
-  definition_outer family f l = passed family f ∙ ap (λ x. definition_in family x name) (an_outer l)
+    pub definition_outer : (family : Family) → find_in (pairs_of family (row_of s)) name ≡ None → s.outer < k
+        → definition_in family (env_of (rows_in ss) k) name ≡ definition_in family (env_of (rows_in ss) s.outer)
+        name
+    definition_outer family f l = passed family f ∙ ap (λ x. definition_in family x name) (an_outer l)

@@ -1,11 +1,11 @@
 -- Which argument each parameter of a call gets.
-use Rattle.std.specs.Prelude.{◌≡◌, ℕ, zero, suc, ◌+◌, List, [], ◌∷◌, length, replicate, map, Option, Some, None, is_some, Result, Ok, Err, nat_lt, if◌then◌else◌, slice_index_or, slice_set}
+use Rattle.std.specs.Prelude.{◌≡◌, ℕ, zero, suc, ◌+◌, List, [], ◌∷◌, length, replicate, Option, Some, None, is_some, Result, Ok, Err, nat_lt, if◌then◌else◌, slice_index_or, slice_set}
 use Rattle.std.specs.Str.{bytes_eq}
 use Rattle.text_place.specs.declared.fault.Place.{Place}
 use Rattle.text_place.specs.declared.fault.Stop.{Stop}
 use Rattle.text_place.specs.declared.fault.Stop.TheVariants.{Fault, NoMemory}
 use Rattle.text_place.specs.declared.fault.FaultKind.TheVariants.{BadArgument}
-use Rattle.scad_ast.specs.Terms.{Term, place_of, ParamTerm, PlainTerm, DefaultTerm, ArgTerm, NamedTerm, PositionalTerm}
+use Rattle.scad_ast.specs.Terms.{place_of, ParamTerm, PlainTerm, DefaultTerm, ArgTerm, NamedTerm, PositionalTerm}
 
 abbrev pub name_of : ParamTerm → List ℕ
 name_of (PlainTerm at name) = name
@@ -22,7 +22,8 @@ first_named (p ∷ ps) name = if bytes_eq (name_of p) name then Some zero else n
 
 -- the parameter that an argument takes after so many positional ones, and how many there are then
 abbrev pub taken_by : List ParamTerm → ℕ → ArgTerm → Option ℕ
-taken_by params positional (PositionalTerm value) = if nat_lt positional (length params) then Some positional else None
+taken_by params positional (PositionalTerm value) = if nat_lt positional (length params) then Some positional
+    else None
 taken_by params positional (NamedTerm at name value) = first_named params name
 
 abbrev pub positional_after : ℕ → ArgTerm → ℕ

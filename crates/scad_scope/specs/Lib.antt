@@ -2,3 +2,5 @@ pub mod Arguments
 pub mod Names
 pub mod Table
 pub mod View
+pub mod Blocks
+pub mod Seeking

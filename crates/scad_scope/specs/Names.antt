@@ -1,5 +1,5 @@
 -- Scopes as lists of pairs of a name and what it stands for, searched from the newest.
-use Rattle.std.specs.Prelude.{◌≡◌, ℕ, zero, suc, ◌+◌, ◌-◌, ◌^◌, List, [], ◌∷◌, ◌++◌, length, Bool, true, ◌&&◌, Option, Some, None, slice_index_or, if◌then◌else◌}
+use Rattle.std.specs.Prelude.{ℕ, zero, suc, ◌-◌, ◌^◌, List, [], ◌∷◌, ◌++◌, length, Bool, true, ◌&&◌, Option, Some, None, slice_index_or, if◌then◌else◌}
 use Rattle.std.specs.Str.{bytes_eq}
 use Rattle.scad_value.specs.Values.{Val, is_bounded}
 
@@ -27,7 +27,8 @@ pub data Env : Type 0 where
 -- each scope of a table, which stands inside one that comes before it or inside none
 abbrev pub envs_from : List Env → List Row → List Env
 envs_from before [] = before
-envs_from before (r ∷ rs) = envs_from (before ++ Within (length before) r (slice_index_or before r.outer Outermost) ∷ []) rs
+envs_from before (r ∷ rs) = envs_from (before ++ Within (length before) r (slice_index_or before r.outer
+    Outermost) ∷ []) rs
 
 -- the scope of a number
 unfoldable pub env_of : List Row → ℕ → Env

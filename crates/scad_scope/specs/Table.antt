@@ -1,5 +1,5 @@
 -- What the calls of the table of scopes answer.
-use Rattle.std.specs.Prelude.{◌≡◌, ℕ, ◌<◌, List, length, Option, Some, None, Result, Ok, Err, IsTrue}
+use Rattle.std.specs.Prelude.{◌≡◌, ℕ, ◌<◌, List, length, Option, Some, None, IsTrue}
 use Rattle.text_place.specs.declared.fault.Place.{Place}
 use Rattle.text_place.specs.declared.fault.Fault.{Fault}
 use Rattle.text_place.specs.declared.fault.FaultKind.{FaultKind}
@@ -21,7 +21,8 @@ pub record IsFound (rows : List Row) (wanted : Option (Env × ℕ)) (found : Fou
   pub same : wanted ≡ Some (env_of rows found.scope, found.definition)
 
 -- a fault of this kind at this place, where nothing is found
-pub record IsMissing {A : Type 0} (kind : FaultKind) (place : Place) (wanted : Option A) (fault : Fault) : Type 0 where
+pub record IsMissing {A : Type 0} (kind : FaultKind) (place : Place) (wanted : Option A) (fault : Fault) :
+    Type 0 where
   pub none : wanted ≡ None
   pub same_kind : fault.kind ≡ kind
   pub same_place : fault.place ≡ place

@@ -1,10 +1,7 @@
 -- What the table of scopes in memory stands for.
-use Rattle.std.specs.Prelude.{◌≡◌, ℕ, ◌<◌, ◌+◌, List, length, map, reverse, Option, Some, None, Result, Ok, Err, IsTrue}
+use Rattle.std.specs.Prelude.{◌≡◌, ℕ, List, map, reverse, Option, Some, None}
 use Rattle.std.specs.Borrow.{Bor}
-use Rattle.text_place.specs.declared.fault.Place.{Place}
-use Rattle.text_place.specs.declared.fault.Fault.{Fault}
-use Rattle.text_place.specs.declared.fault.FaultKind.{FaultKind}
-use Rattle.scad_value.specs.Values.{Val, is_bounded}
+use Rattle.scad_value.specs.Values.{Val}
 use Rattle.scad_value.specs.declared.value.Value.{Value}
 use Rattle.scad_value.specs.View.{val_of}
 use Rattle.scad_scope.specs.declared.table.Variable.{Variable}
@@ -29,11 +26,11 @@ definitions_of ds = reverse (map definition_of ds)
 
 abbrev pub row_of : Scope → Row
 row_of s = record {
-    variables = variables_of s.variables.items;
-    functions = definitions_of s.functions.items;
-    modules = definitions_of s.modules.items;
-    outer = s.outer;
-  }
+  variables = variables_of s.variables.items;
+  functions = definitions_of s.functions.items;
+  modules = definitions_of s.modules.items;
+  outer = s.outer;
+}
 
 abbrev pub rows_in : List Scope → List Row
 rows_in ss = map row_of ss

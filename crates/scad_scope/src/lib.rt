@@ -2,6 +2,8 @@
 //! is given to.
 #![tactic(auto)]
 
+mod blocks;
+mod own;
 mod parameters;
 mod scopes;
 mod table;

@@ -23,6 +23,13 @@ impl Model for Matching {
 }
 
 impl Matching {
+    /// The number of parameters. Takes no memory.
+    pub fn count(&self) -> usize
+        ensures { result ≡ length self.now }
+    {
+        self.given.len()
+    }
+
     /// The number of a parameter's argument, from 0, or none. Takes no memory.
     pub fn argument(&self, param: u32) -> Option<u32>
         requires { param < length self.now }

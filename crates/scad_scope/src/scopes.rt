@@ -2,7 +2,9 @@ ghost use Rattle.std.specs.Prelude.{IsTrue};
 ghost use Rattle.scad_scope.specs.Names.{all_bounded};
 ghost use Rattle.scad_scope.specs.View.{rows_in};
 
+use crate::own::scope_of_block;
 use crate::table::{Family, Found, Scope, definitions, find_definition, find_variable};
+use scad_ast::Program;
 use scad_value::Value;
 use std::alloc::Global;
 use text_place::{Bytes, Fault, FaultKind, NoMemory, Place};
@@ -16,11 +18,13 @@ pub struct Scopes {
 }
 
 impl Scopes {
-    ghost use Rattle.std.specs.Prelude.{◌≡◌, ◌<◌, List, [], ◌∷◌, length, IfOk, IfErr, OnOk, OnErr, MatchResult, IsTrue, MatchOption, Some, None, IfSome};
+    ghost use Rattle.std.specs.Prelude.{◌≡◌, ◌<◌, List, [], ◌∷◌, ◌++◌, length, IfOk, IfErr, OnOk, OnErr, MatchResult, IsTrue, MatchOption, Some, None, IfSome};
     ghost use Rattle.text_place.specs.declared.fault.FaultKind.TheVariants.{UnknownName, UnknownFunction, UnknownModule};
     ghost use Rattle.scad_value.specs.Values.{is_bounded};
     ghost use Rattle.scad_value.specs.View.{val_of};
     ghost use Rattle.scad_scope.specs.Names.{env_of, variable_in, function_in, module_in, first_row, bound_in};
+    ghost use Rattle.scad_ast.specs.StatementView.{program_of};
+    ghost use Rattle.scad_scope.specs.Blocks.{entered, block_of};
     ghost use Rattle.scad_scope.specs.View.{definition_in};
     ghost use Rattle.scad_scope.specs.Table.{rows_of, IsFound, IsMissing, IsVariable};
 
@@ -36,6 +40,32 @@ impl Scopes {
             outer: u32::MAX,
         })?;
         Ok(Scopes { scopes })
+    }
+
+    /// A new scope of a block of the program, inside another scope, and its number. Block 0 is the
+    /// program itself; the bodies and the expressions of functions are numbered from 1 in the order
+    /// in which they begin. A block that isn't there has no definitions. `NoMemory` leaves all scopes
+    /// as they were; it also comes where a number would be past 2^32 - 1.
+    pub fn enter(
+        &mut self,
+        alloc: Global,
+        outer: u32,
+        program: &Program,
+        block: u32,
+    ) -> Result<u32, NoMemory>
+        requires { outer < length (rows_of self.old) }
+        ensures number { IfOk result (λ n. n ≡ length (rows_of self.old)) }
+        ensures entered { OnOk result (rows_of self.new ≡
+            rows_of self.old ++ entered outer (block_of (program_of program.now) block) ∷ []) }
+        ensures unchanged { OnErr result (rows_of self.new ≡ rows_of self.old) }
+    {
+        let number = self.scopes.len();
+        if number > u32::MAX as usize {
+            return Err(NoMemory);
+        }
+        let scope = scope_of_block(alloc, outer, program, block)?;
+        self.scopes.push(scope)?;
+        Ok(number as u32)
     }
 
     /// Gives a name a value in a scope, where it is the newest of its name. `NoMemory` leaves all
