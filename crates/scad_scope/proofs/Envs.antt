@@ -8,6 +8,10 @@ use Rattle.scad_value.specs.Values.{Val}
 use Rattle.scad_scope.specs.declared.table.Scope.{Scope}
 use Rattle.scad_scope.specs.declared.table.Family.{Family}
 use Rattle.scad_scope.specs.declared.table.Family.TheVariants.{Functions, Modules}
+use Rattle.scad_scope.specs.Names.{with_variable, with_pair, bound_in}
+use Rattle.std.specs.Prelude.{IfOk, OnOk, OnErr}
+use Rattle.std.proofs.Common.{Result, Ok, Err}
+use Rattle.scad_scope.specs.Blocks.{Scan, Reached, Passed, entered}
 use Rattle.scad_scope.specs.Names.{Row, Env, Outermost, Within, envs_from, env_of, find_in, or_else, standing_in, variable_in}
 use Rattle.scad_scope.specs.View.{row_of, rows_in, pairs_of, definition_in}
 
@@ -160,3 +164,88 @@ module _ (ss : List Scope) (k : ℕ) (s : Scope) (name : List ℕ) (h : k < leng
         → definition_in family (env_of (rows_in ss) k) name ≡ definition_in family (env_of (rows_in ss) s.outer)
         name
     definition_outer family f l = passed family f ∙ ap (λ x. definition_in family x name) (an_outer l)
+
+envs-more : (before : List Env) (rs : List Row) (r : Row) → envs_from before (rs ++ r ∷ []) ≡ envs_from before rs ++ scope_in (envs_from before rs) r ∷ []
+envs-more before [] r = refl
+envs-more before (q ∷ rs) r = envs-more (before ++ scope_in before q ∷ []) rs r
+
+-- a new scope, and the scopes before it
+pub env_new : (rs : List Row) (r : Row) (n : ℕ) → n ≡ length rs → env_of (rs ++ r ∷ []) n ≡ Within n r (env_of rs r.outer)
+unfolding env_of
+env_new rs r n h =
+    let len : length (envs_from [] rs) ≡ n = omega (arith, envs_length [] rs) in
+    ap (λ es. get_or es n Outermost) (envs-more [] rs r)
+    ∙ ap (λ k. get_or (envs_from [] rs ++ scope_in (envs_from [] rs) r ∷ []) k Outermost) (sym len)
+    ∙ get_or-append_seam (envs_from [] rs) (scope_in (envs_from [] rs) r) [] Outermost
+    ∙ ap (λ k. Within k r (get_or (envs_from [] rs) r.outer Outermost)) len
+
+pub env_kept : (rs : List Row) (r : Row) (k : ℕ) → k < length rs → env_of (rs ++ r ∷ []) k ≡ env_of rs k
+unfolding env_of
+env_kept rs r k h = ap (λ es. get_or es k Outermost) (envs-more [] rs r)
+    ∙ get_front (envs_from [] rs) (scope_in (envs_from [] rs) r ∷ []) k Outermost (omega (arith, envs_length [] rs))
+
+-- one more variable leaves the scopes before as they are
+front_kept : (before : List Env) (rs : List Row) (k : ℕ) (name : List ℕ) (value : Val) (j : ℕ) → j < length before + k
+    → get_or (envs_from before (bound_in rs k name value)) j Outermost ≡ get_or (envs_from before rs) j Outermost
+front_kept before [] k name value j h = refl
+front_kept before (r ∷ rs) zero name value j h =
+    let one : j < length before = omega arith in
+    let x = scope_in before (with_variable name value r) in
+    envs_keep (before ++ x ∷ []) rs j Outermost (omega (arith, length-append before (x ∷ [])))
+    ∙ get_front before (x ∷ []) j Outermost one ∙ sym (get_front before (scope_in before r ∷ []) j Outermost one)
+    ∙ sym (envs_keep (before ++ scope_in before r ∷ []) rs j Outermost (omega (arith, length-append before (scope_in before r ∷ []))))
+front_kept before (r ∷ rs) (suc k) name value j h =
+    front_kept (before ++ scope_in before r ∷ []) rs k name value j (omega (arith, length-append before (scope_in before r ∷ [])))
+
+pub binding_kept : (rs : List Row) (k : ℕ) (name : List ℕ) (value : Val) (j : ℕ) → j < k → env_of (bound_in rs k name value) j ≡ env_of rs j
+unfolding env_of
+binding_kept rs k name value j h = front_kept [] rs k name value j (omega arith)
+
+here_bound : (before : List Env) (rs : List Row) (k : ℕ) (name : List ℕ) (value : Val) (n : ℕ) → k < length rs → n ≡ length before + k
+    → get_or (envs_from before (bound_in rs k name value)) n Outermost ≡ with_pair name value (get_or (envs_from before rs) n Outermost)
+here_bound before [] k name value n h e = absurd (omega arith)
+here_bound before (r ∷ rs) zero name value n h e =
+    let x = scope_in before (with_variable name value r) in
+    let y = scope_in before r in
+    let len : n ≡ length before = omega arith in
+    let left : get_or (envs_from (before ++ x ∷ []) rs) (length before) Outermost ≡ x
+    = envs_keep (before ++ x ∷ []) rs (length before) Outermost (omega (arith, length-append before (x ∷ []))) ∙ get_or-append_seam before x [] Outermost in
+    let right : get_or (envs_from (before ++ y ∷ []) rs) (length before) Outermost ≡ y
+    = envs_keep (before ++ y ∷ []) rs (length before) Outermost (omega (arith, length-append before (y ∷ []))) ∙ get_or-append_seam before y [] Outermost in
+    ap (λ m. get_or (envs_from (before ++ x ∷ []) rs) m Outermost) len ∙ left ∙ sym (ap (with_pair name value) right)
+    ∙ ap (λ m. with_pair name value (get_or (envs_from (before ++ y ∷ []) rs) m Outermost)) (sym len)
+here_bound before (r ∷ rs) (suc k) name value n h e =
+    here_bound (before ++ scope_in before r ∷ []) rs k name value n (omega arith) (omega (arith, length-append before (scope_in before r ∷ [])))
+
+-- and the scope itself has it
+pub binding_here : (rs : List Row) (k : ℕ) (name : List ℕ) (value : Val) → k < length rs → env_of (bound_in rs k name value) k ≡ with_pair name value (env_of rs k)
+unfolding env_of
+binding_here rs k name value h = here_bound [] rs k name value k h (omega arith)
+
+entered_outer : (outer : ℕ) (block : Scan) → (entered outer block).outer ≡ outer
+entered_outer outer (Reached block) = refl
+entered_outer outer (Passed b f m) = refl
+
+-- what entering and binding leave of the scopes
+module _ {E : Type 0} (old new : List Row) (outer : ℕ) (block : Scan) where
+  pub entering_told : (r : Result ℕ E) → IfOk r (λ n. n ≡ length old) → OnOk r (new ≡ old ++ entered outer block ∷ [])
+      → IfOk r (λ n. env_of new n ≡ Within n (entered outer block) (env_of old outer))
+  entering_told (Ok n) f g = ap (λ rs. env_of rs n) g ∙ env_new old (entered outer block) n f
+      ∙ ap (λ o. Within n (entered outer block) (env_of old o)) (entered_outer outer block)
+  entering_told (Err e) f g = tt
+
+  pub entering_kept : (r : Result ℕ E) → OnOk r (new ≡ old ++ entered outer block ∷ []) → OnErr r (new ≡ old)
+      → (k : ℕ) → k < length old → env_of new k ≡ env_of old k
+  entering_kept (Ok n) f g k h = ap (λ rs. env_of rs k) f ∙ env_kept old (entered outer block) k h
+  entering_kept (Err e) f g k h = ap (λ rs. env_of rs k) g
+
+module _ {A E : Type 0} (old new : List Row) (scope : ℕ) (name : List ℕ) (value : Val) where
+  pub binding_shown : (r : Result A E) → scope < length old → OnOk r (new ≡ bound_in old scope name value)
+      → OnOk r (env_of new scope ≡ with_pair name value (env_of old scope))
+  binding_shown (Ok x) h f = ap (λ rs. env_of rs scope) f ∙ binding_here old scope name value h
+  binding_shown (Err e) h f = tt
+
+  pub binding_keeps : (r : Result A E) → OnOk r (new ≡ bound_in old scope name value) → OnErr r (new ≡ old)
+      → (k : ℕ) → k < scope → env_of new k ≡ env_of old k
+  binding_keeps (Ok x) f g k h = ap (λ rs. env_of rs k) f ∙ binding_kept old scope name value k h
+  binding_keeps (Err e) f g k h = ap (λ rs. env_of rs k) g

@@ -52,12 +52,12 @@ pub data Scan : Type 0 where
 -- the block behind so many others
 abbrev pub scan : ℕ → ℕ → ℕ → List Mark → Scan
 scan blocks functions modules [] = Passed blocks functions modules
-scan zero functions modules (a_block statements ∷ marks) = Reached (record {
-  statements = statements;
+scan zero functions modules (a_block inner ∷ marks) = Reached (record {
+  statements = inner;
   functions = functions;
   modules = modules;
 })
-scan (suc blocks) functions modules (a_block statements ∷ marks) = scan blocks functions modules marks
+scan (suc blocks) functions modules (a_block inner ∷ marks) = scan blocks functions modules marks
 scan blocks functions modules (a_function ∷ marks) = scan blocks (functions + 1) modules marks
 scan blocks functions modules (a_module ∷ marks) = scan blocks functions (modules + 1) marks
 
@@ -73,13 +73,13 @@ abbrev pub functions_among : List Mark → ℕ
 functions_among [] = 0
 functions_among (a_function ∷ marks) = suc (functions_among marks)
 functions_among (a_module ∷ marks) = functions_among marks
-functions_among (a_block statements ∷ marks) = functions_among marks
+functions_among (a_block inner ∷ marks) = functions_among marks
 
 abbrev pub modules_among : List Mark → ℕ
 modules_among [] = 0
 modules_among (a_function ∷ marks) = modules_among marks
 modules_among (a_module ∷ marks) = suc (modules_among marks)
-modules_among (a_block statements ∷ marks) = modules_among marks
+modules_among (a_block inner ∷ marks) = modules_among marks
 
 -- the functions that stand in a block, with their numbers, behind so many others; a bare block's count as the
 -- block's own

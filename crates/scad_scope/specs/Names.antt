@@ -81,3 +81,8 @@ have_bounded (p ∷ ps) = is_bounded p.1 && have_bounded ps
 abbrev pub all_bounded : List Row → Bool
 all_bounded [] = true
 all_bounded (r ∷ rs) = have_bounded r.variables && all_bounded rs
+
+-- a scope with one more variable, inside the same scopes
+abbrev pub with_pair : List ℕ → Val → Env → Env
+with_pair name value Outermost = Outermost
+with_pair name value (Within number row outer) = Within number (with_variable name value row) outer

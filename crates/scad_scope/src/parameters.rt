@@ -48,7 +48,8 @@ pub fn arguments(
     args: &[Arg],
     _place: Place,
 ) -> Result<Matching, Stop>
-    ensures { TellsMatching result (matching_of (map param_of params.now) (map arg_of args.now)) }
+    ensures size { IfOk result (λ m. length m ≡ length params.now) }
+    ensures value { TellsMatching result (matching_of (map param_of params.now) (map arg_of args.now)) }
 {
     let mut given = none_given(alloc, params.len())?;
     let mut positional: usize = 0;

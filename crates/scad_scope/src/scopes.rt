@@ -18,11 +18,11 @@ pub struct Scopes {
 }
 
 impl Scopes {
-    ghost use Rattle.std.specs.Prelude.{◌≡◌, ◌<◌, List, [], ◌∷◌, ◌++◌, length, IfOk, IfErr, OnOk, OnErr, MatchResult, IsTrue, MatchOption, Some, None, IfSome};
+    ghost use Rattle.std.specs.Prelude.{◌≡◌, ◌<◌, ℕ, List, [], ◌∷◌, ◌++◌, length, IfOk, IfErr, OnOk, OnErr, MatchResult, IsTrue, MatchOption, Some, None, IfSome};
     ghost use Rattle.text_place.specs.declared.fault.FaultKind.TheVariants.{UnknownName, UnknownFunction, UnknownModule};
     ghost use Rattle.scad_value.specs.Values.{is_bounded};
     ghost use Rattle.scad_value.specs.View.{val_of};
-    ghost use Rattle.scad_scope.specs.Names.{env_of, variable_in, function_in, module_in, first_row, bound_in};
+    ghost use Rattle.scad_scope.specs.Names.{env_of, variable_in, function_in, module_in, first_row, bound_in, with_pair, Within};
     ghost use Rattle.scad_ast.specs.StatementView.{program_of};
     ghost use Rattle.scad_scope.specs.Blocks.{entered, block_of};
     ghost use Rattle.scad_scope.specs.View.{definition_in};
@@ -58,6 +58,24 @@ impl Scopes {
         ensures entered { OnOk result (rows_of self.new ≡
             rows_of self.old ++ entered outer (block_of (program_of program.now) block) ∷ []) }
         ensures unchanged { OnErr result (rows_of self.new ≡ rows_of self.old) }
+        ensures inside { IfOk result (λ n. env_of (rows_of self.new) n ≡
+            Within n (entered outer (block_of (program_of program.now) block)) (env_of (rows_of self.old) outer)) }
+        ensures kept { (k : ℕ) → k < length (rows_of self.old) → env_of (rows_of self.new) k ≡ env_of (rows_of self.old) k }
+    {
+        self.add_scope(alloc, outer, program, block)
+    }
+
+    fn add_scope(
+        &mut self,
+        alloc: Global,
+        outer: u32,
+        program: &Program,
+        block: u32,
+    ) -> Result<u32, NoMemory>
+        ensures number { IfOk result (λ n. n ≡ length (rows_of self.old)) }
+        ensures entered { OnOk result (rows_of self.new ≡
+            rows_of self.old ++ entered outer (block_of (program_of program.now) block) ∷ []) }
+        ensures unchanged { OnErr result (rows_of self.new ≡ rows_of self.old) }
     {
         let number = self.scopes.len();
         if number > u32::MAX as usize {
@@ -71,6 +89,24 @@ impl Scopes {
     /// Gives a name a value in a scope, where it is the newest of its name. `NoMemory` leaves all
     /// scopes as they were.
     pub fn bind(
+        &mut self,
+        alloc: Global,
+        scope: u32,
+        name: &[u8],
+        value: Value,
+    ) -> Result<(), NoMemory>
+        requires scope { scope < length (rows_of self.old) }
+        requires bounded { IsTrue (is_bounded (val_of value)) }
+        ensures bound { OnOk result (rows_of self.new ≡ bound_in (rows_of self.old) scope name.now (val_of value)) }
+        ensures unchanged { OnErr result (rows_of self.new ≡ rows_of self.old) }
+        ensures here { OnOk result (env_of (rows_of self.new) scope ≡
+            with_pair name.now (val_of value) (env_of (rows_of self.old) scope)) }
+        ensures kept { (k : ℕ) → k < scope → env_of (rows_of self.new) k ≡ env_of (rows_of self.old) k }
+    {
+        self.add_variable(alloc, scope, name, value)
+    }
+
+    fn add_variable(
         &mut self,
         alloc: Global,
         scope: u32,

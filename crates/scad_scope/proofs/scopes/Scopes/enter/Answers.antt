@@ -1,13 +1,13 @@
-use Rattle.std.proofs.Common.{is_ok}
 use Rattle.scad_ast.specs.StatementView.{program_of}
 use Rattle.scad_scope.specs.Blocks.{block_of}
-use Rattle.scad_scope.proofs.Bound.{entering_bounded}
+use Rattle.scad_scope.specs.Table.{rows_of}
+use Rattle.scad_scope.proofs.Envs.{entering_told, entering_kept}
 use Rattle.scad_scope.proofs.scopes.Scopes.enter.Goals as goal
 
-pub invariant_of-self : goal.invariant_of-self
-invariant_of-self c = record {
-  bounded = entering_bounded (is_ok c.push.result) c.args.self.now.scopes.items c.push.new.self.items
-      c.in_ok-scope.scope c.args.outer
-      (block_of (program_of c.args.program.now) c.args.block) c.push.ensures.items c.in_ok-scope.ensures
-      c.args.self.now.bounded;
-}
+pub returns-clause-inside : goal.returns-clause-inside
+returns-clause-inside c = entering_told (rows_of c.args.self.now) (rows_of c.add_scope.new.self) c.args.outer (block_of (program_of c.args.program.now) c.args.block)
+    c.add_scope.result c.add_scope.ensures.number c.add_scope.ensures.entered
+
+pub returns-clause-kept : goal.returns-clause-kept
+returns-clause-kept c = entering_kept (rows_of c.args.self.now) (rows_of c.add_scope.new.self) c.args.outer (block_of (program_of c.args.program.now) c.args.block)
+    c.add_scope.result c.add_scope.ensures.entered c.add_scope.ensures.unchanged
