@@ -1,0 +1,251 @@
+-- The scope of a number, and what it holds.
+use Rattle.std.proofs.Common.{◌≡◌, ℕ, zero, suc, ◌+◌, ◌<◌, ◌≤◌, List, [], ◌∷◌, ◌++◌, length, Bool, true, false, cond, Some, None, refl, sym, ap, subst, ◌∙◌, arith, length-append, get_or, nat_lt}
+use Rattle.std.specs.Prelude.{slice_index_or}
+use Rattle.std.proofs.lemmas.Bool.{ltb-true, ltb-false, lt-ltb, le-ltb}
+use Rattle.std.proofs.lemmas.List.{get_or_past}
+use Rattle.std.proofs.Math.Seq.{get_or-append_seam}
+use Rattle.scad_value.specs.Values.{Val}
+use Rattle.scad_scope.specs.declared.table.Scope.{Scope}
+use Rattle.scad_scope.specs.declared.table.Family.{Family}
+use Rattle.scad_scope.specs.declared.table.Family.TheVariants.{Functions, Modules}
+use Rattle.scad_scope.specs.Names.{with_variable, with_pair, bound_in}
+use Rattle.std.specs.Prelude.{IfOk, OnOk, OnErr}
+use Rattle.std.proofs.Common.{Result, Ok, Err}
+use Rattle.scad_scope.specs.Blocks.{Scan, Reached, Passed, entered}
+use Rattle.scad_scope.specs.Names.{Row, Env, Outermost, Within, envs_from, env_of, find_in, or_else, standing_in, variable_in}
+use Rattle.scad_scope.specs.View.{row_of, rows_in, pairs_of, definition_in}
+
+-- a row's scope, behind these
+abbrev scope_in : List Env → Row → Env
+scope_in before r = Within (length before) r (slice_index_or before r.outer Outermost)
+
+pub envs_length : (before : List Env) (rs : List Row) → length (envs_from before rs) ≡ length before + length
+    rs
+envs_length before [] = omega arith
+envs_length before (r ∷ rs) = envs_length (before ++ scope_in before r ∷ []) rs ∙
+    omega (arith, length-append before (scope_in before r ∷ []))
+
+get_front : {A : Type 0} (xs ys : List A) (k : ℕ) (d : A) → k < length xs → get_or (xs ++ ys) k d ≡ get_or xs
+    k d
+get_front [] ys k d h = absurd (omega arith)
+get_front (x ∷ xs) ys zero d h = refl
+get_front (x ∷ xs) ys (suc k) d h = get_front xs ys k d (omega arith)
+
+envs_keep : (before : List Env) (rs : List Row) (k : ℕ) (d : Env) → k < length before →
+    get_or (envs_from before rs) k d ≡ get_or before k d
+envs_keep before [] k d h = refl
+envs_keep before (r ∷ rs) k d h =
+    envs_keep (before ++ scope_in before r ∷ []) rs k d
+    (omega (arith, length-append before (scope_in before r ∷ [])))
+    ∙ get_front before (scope_in before r ∷ []) k d h
+
+outer_same : (before : List Env) (x : Env) (rs : List Row) (o : ℕ) (b : Bool) → nat_lt o (length before) ≡ b
+    → get_or before o Outermost ≡ cond b (get_or (envs_from (before ++ x ∷ []) rs) o Outermost) Outermost
+outer_same before x rs o true e =
+    let less : o < length before = ltb-true o (length before) e in
+    sym (envs_keep (before ++ x ∷ []) rs o Outermost (omega (arith, length-append before (x ∷ []))) ∙
+    get_front before (x ∷ []) o Outermost less)
+outer_same before x rs o false e = get_or_past before o Outermost (ltb-false o (length before) e)
+
+-- what stands at a number: its row, inside the scope that the row names where that one comes before
+abbrev Stands : List Env → ℕ → Row → Env → Type 0
+Stands all n r env = env ≡ Within n r (cond (nat_lt r.outer n) (get_or all r.outer Outermost) Outermost)
+
+envs_at : (before : List Env) (rs : List Row) (j : ℕ) (r : Row) → j < length rs → r ≡ get_or rs j r
+    → Stands (envs_from before rs) (length before + j) r (get_or (envs_from before rs) (length before + j)
+    Outermost)
+envs_at before [] j r h e = absurd (omega arith)
+envs_at before (q ∷ rs) zero r h e =
+    let x = scope_in before q in
+    let all = envs_from (before ++ x ∷ []) rs in
+    let n : length before ≡ length before + 0 = omega arith in
+    let len : length before < length (before ++ x ∷ []) = omega (arith, length-append before (x ∷ [])) in
+    let is_x : x ≡ Within (length before) q (cond (nat_lt q.outer (length before))
+    (get_or all q.outer Outermost) Outermost)
+    = ap (Within (length before) q) (outer_same before x rs q.outer (nat_lt q.outer (length before)) refl) in
+    subst (λ n. Stands all n r (get_or all n Outermost)) n
+    (envs_keep (before ++ x ∷ []) rs (length before) Outermost len ∙ get_or-append_seam before x [] Outermost
+    ∙ subst (λ (u : Row). Stands all (length before) u x) (sym e) is_x)
+envs_at before (q ∷ rs) (suc j) r h e =
+    let next = before ++ scope_in before q ∷ [] in
+    let len : length next + j ≡ length before + suc j =
+    omega (arith, length-append before (scope_in before q ∷ [])) in
+    subst (λ n. Stands (envs_from next rs) n r (get_or (envs_from next rs) n Outermost)) len
+    (envs_at next rs j r (omega arith) e)
+
+pub rows_length : (ss : List Scope) → length (rows_in ss) ≡ length ss
+rows_length [] = refl
+rows_length (s ∷ ss) = ap suc (rows_length ss)
+
+row_at : (ss : List Scope) (k : ℕ) (s : Scope) → k < length ss → s ≡ get_or ss k s →
+    row_of s ≡ get_or (rows_in ss) k (row_of s)
+row_at [] k s h e = absurd (omega arith)
+row_at (t ∷ ss) zero s h e = ap row_of e
+row_at (t ∷ ss) (suc k) s h e = row_at ss k s (omega arith) e
+
+pub env_at : (ss : List Scope) (k : ℕ) (s : Scope) → k < length ss → s ≡ get_or ss k s
+    → env_of (rows_in ss) k ≡ Within k (row_of s) (cond (nat_lt s.outer k) (env_of (rows_in ss) s.outer)
+    Outermost)
+unfolding env_of
+env_at ss k s h e =
+    let n : 0 + k ≡ k = omega arith in
+    let less : k < length (rows_in ss) = omega (arith, rows_length ss) in
+    subst (λ n. Stands (envs_from [] (rows_in ss)) n (row_of s) (get_or (envs_from [] (rows_in ss)) n
+    Outermost)) n
+    (envs_at [] (rows_in ss) k (row_of s) less (row_at ss k s h e))
+
+module _ (ss : List Scope) (k : ℕ) (s : Scope) (name : List ℕ) (h : k < length ss) (e : s ≡ get_or ss k s)
+  where
+    outside : Env
+    outside = cond (nat_lt s.outer k) (env_of (rows_in ss) s.outer) Outermost
+
+    no_outer : k ≤ s.outer → outside ≡ Outermost
+    unfolding outside
+    no_outer l = ap (λ b. cond b (env_of (rows_in ss) s.outer) Outermost) (le-ltb s.outer k l)
+
+    an_outer : s.outer < k → outside ≡ env_of (rows_in ss) s.outer
+    unfolding outside
+    an_outer l = ap (λ b. cond b (env_of (rows_in ss) s.outer) Outermost) (lt-ltb s.outer k l)
+
+    here : variable_in (env_of (rows_in ss) k) name ≡ or_else (find_in (row_of s).variables name)
+        (variable_in outside name)
+    unfolding outside
+    here = ap (λ x. variable_in x name) (env_at ss k s h e)
+
+    pub variable_found : (x : Val) → find_in (row_of s).variables name ≡ Some x →
+        variable_in (env_of (rows_in ss) k) name ≡ Some x
+    variable_found x f = here ∙ ap (λ o. or_else o (variable_in outside name)) f
+
+    pub variable_none : find_in (row_of s).variables name ≡ None → k ≤ s.outer →
+        variable_in (env_of (rows_in ss) k) name ≡ None
+    variable_none f l = here ∙ ap (λ o. or_else o (variable_in outside name)) f ∙ ap (λ x. variable_in x name)
+        (no_outer l)
+
+    pub variable_outer : find_in (row_of s).variables name ≡ None → s.outer < k
+        → variable_in (env_of (rows_in ss) k) name ≡ variable_in (env_of (rows_in ss) s.outer) name
+    variable_outer f l = here ∙ ap (λ o. or_else o (variable_in outside name)) f ∙ ap (λ x. variable_in x name)
+        (an_outer l)
+
+    within : (family : Family) (env : Env) → definition_in family (Within k (row_of s) env) name
+        ≡ or_else (standing_in (Within k (row_of s) env) (find_in (pairs_of family (row_of s)) name))
+        (definition_in family env name)
+    within Functions env = refl
+    within Modules env = refl
+
+    standing : (family : Family) → definition_in family (env_of (rows_in ss) k) name
+        ≡ or_else (standing_in (env_of (rows_in ss) k) (find_in (pairs_of family (row_of s)) name))
+        (definition_in family outside name)
+    unfolding outside
+    standing family = subst
+        (λ x. definition_in family x name ≡ or_else (standing_in x (find_in (pairs_of family (row_of s)) name))
+        (definition_in family outside name))
+        (sym (env_at ss k s h e)) (within family outside)
+
+    pub definition_found : (family : Family) (d : ℕ) → find_in (pairs_of family (row_of s)) name ≡ Some d
+        → definition_in family (env_of (rows_in ss) k) name ≡ Some (env_of (rows_in ss) k, d)
+    definition_found family d f = standing family ∙ ap (λ o. or_else (standing_in (env_of (rows_in ss) k) o)
+        (definition_in family outside name)) f
+
+    nowhere : (family : Family) → definition_in family Outermost name ≡ None
+    nowhere Functions = refl
+    nowhere Modules = refl
+
+    passed : (family : Family) → find_in (pairs_of family (row_of s)) name ≡ None
+        → definition_in family (env_of (rows_in ss) k) name ≡ definition_in family outside name
+    passed family f = standing family ∙ ap (λ o. or_else (standing_in (env_of (rows_in ss) k) o)
+        (definition_in family outside name)) f
+
+    pub definition_none : (family : Family) → find_in (pairs_of family (row_of s)) name ≡ None → k ≤ s.outer
+        → definition_in family (env_of (rows_in ss) k) name ≡ None
+    definition_none family f l = passed family f ∙ ap (λ x. definition_in family x name) (no_outer l) ∙
+        nowhere family
+
+    pub definition_outer : (family : Family) → find_in (pairs_of family (row_of s)) name ≡ None → s.outer < k
+        → definition_in family (env_of (rows_in ss) k) name ≡ definition_in family (env_of (rows_in ss) s.outer)
+        name
+    definition_outer family f l = passed family f ∙ ap (λ x. definition_in family x name) (an_outer l)
+
+envs-more : (before : List Env) (rs : List Row) (r : Row) → envs_from before (rs ++ r ∷ []) ≡ envs_from before rs ++ scope_in (envs_from before rs) r ∷ []
+envs-more before [] r = refl
+envs-more before (q ∷ rs) r = envs-more (before ++ scope_in before q ∷ []) rs r
+
+-- a new scope, and the scopes before it
+pub env_new : (rs : List Row) (r : Row) (n : ℕ) → n ≡ length rs → env_of (rs ++ r ∷ []) n ≡ Within n r (env_of rs r.outer)
+unfolding env_of
+env_new rs r n h =
+    let len : length (envs_from [] rs) ≡ n = omega (arith, envs_length [] rs) in
+    ap (λ es. get_or es n Outermost) (envs-more [] rs r)
+    ∙ ap (λ k. get_or (envs_from [] rs ++ scope_in (envs_from [] rs) r ∷ []) k Outermost) (sym len)
+    ∙ get_or-append_seam (envs_from [] rs) (scope_in (envs_from [] rs) r) [] Outermost
+    ∙ ap (λ k. Within k r (get_or (envs_from [] rs) r.outer Outermost)) len
+
+pub env_kept : (rs : List Row) (r : Row) (k : ℕ) → k < length rs → env_of (rs ++ r ∷ []) k ≡ env_of rs k
+unfolding env_of
+env_kept rs r k h = ap (λ es. get_or es k Outermost) (envs-more [] rs r)
+    ∙ get_front (envs_from [] rs) (scope_in (envs_from [] rs) r ∷ []) k Outermost (omega (arith, envs_length [] rs))
+
+-- one more variable leaves the scopes before as they are
+front_kept : (before : List Env) (rs : List Row) (k : ℕ) (name : List ℕ) (value : Val) (j : ℕ) → j < length before + k
+    → get_or (envs_from before (bound_in rs k name value)) j Outermost ≡ get_or (envs_from before rs) j Outermost
+front_kept before [] k name value j h = refl
+front_kept before (r ∷ rs) zero name value j h =
+    let one : j < length before = omega arith in
+    let x = scope_in before (with_variable name value r) in
+    envs_keep (before ++ x ∷ []) rs j Outermost (omega (arith, length-append before (x ∷ [])))
+    ∙ get_front before (x ∷ []) j Outermost one ∙ sym (get_front before (scope_in before r ∷ []) j Outermost one)
+    ∙ sym (envs_keep (before ++ scope_in before r ∷ []) rs j Outermost (omega (arith, length-append before (scope_in before r ∷ []))))
+front_kept before (r ∷ rs) (suc k) name value j h =
+    front_kept (before ++ scope_in before r ∷ []) rs k name value j (omega (arith, length-append before (scope_in before r ∷ [])))
+
+pub binding_kept : (rs : List Row) (k : ℕ) (name : List ℕ) (value : Val) (j : ℕ) → j < k → env_of (bound_in rs k name value) j ≡ env_of rs j
+unfolding env_of
+binding_kept rs k name value j h = front_kept [] rs k name value j (omega arith)
+
+here_bound : (before : List Env) (rs : List Row) (k : ℕ) (name : List ℕ) (value : Val) (n : ℕ) → k < length rs → n ≡ length before + k
+    → get_or (envs_from before (bound_in rs k name value)) n Outermost ≡ with_pair name value (get_or (envs_from before rs) n Outermost)
+here_bound before [] k name value n h e = absurd (omega arith)
+here_bound before (r ∷ rs) zero name value n h e =
+    let x = scope_in before (with_variable name value r) in
+    let y = scope_in before r in
+    let len : n ≡ length before = omega arith in
+    let left : get_or (envs_from (before ++ x ∷ []) rs) (length before) Outermost ≡ x
+    = envs_keep (before ++ x ∷ []) rs (length before) Outermost (omega (arith, length-append before (x ∷ []))) ∙ get_or-append_seam before x [] Outermost in
+    let right : get_or (envs_from (before ++ y ∷ []) rs) (length before) Outermost ≡ y
+    = envs_keep (before ++ y ∷ []) rs (length before) Outermost (omega (arith, length-append before (y ∷ []))) ∙ get_or-append_seam before y [] Outermost in
+    ap (λ m. get_or (envs_from (before ++ x ∷ []) rs) m Outermost) len ∙ left ∙ sym (ap (with_pair name value) right)
+    ∙ ap (λ m. with_pair name value (get_or (envs_from (before ++ y ∷ []) rs) m Outermost)) (sym len)
+here_bound before (r ∷ rs) (suc k) name value n h e =
+    here_bound (before ++ scope_in before r ∷ []) rs k name value n (omega arith) (omega (arith, length-append before (scope_in before r ∷ [])))
+
+-- and the scope itself has it
+pub binding_here : (rs : List Row) (k : ℕ) (name : List ℕ) (value : Val) → k < length rs → env_of (bound_in rs k name value) k ≡ with_pair name value (env_of rs k)
+unfolding env_of
+binding_here rs k name value h = here_bound [] rs k name value k h (omega arith)
+
+entered_outer : (outer : ℕ) (block : Scan) → (entered outer block).outer ≡ outer
+entered_outer outer (Reached block) = refl
+entered_outer outer (Passed b f m) = refl
+
+-- what entering and binding leave of the scopes
+module _ {E : Type 0} (old new : List Row) (outer : ℕ) (block : Scan) where
+  pub entering_told : (r : Result ℕ E) → IfOk r (λ n. n ≡ length old) → OnOk r (new ≡ old ++ entered outer block ∷ [])
+      → IfOk r (λ n. env_of new n ≡ Within n (entered outer block) (env_of old outer))
+  entering_told (Ok n) f g = ap (λ rs. env_of rs n) g ∙ env_new old (entered outer block) n f
+      ∙ ap (λ o. Within n (entered outer block) (env_of old o)) (entered_outer outer block)
+  entering_told (Err e) f g = tt
+
+  pub entering_kept : (r : Result ℕ E) → OnOk r (new ≡ old ++ entered outer block ∷ []) → OnErr r (new ≡ old)
+      → (k : ℕ) → k < length old → env_of new k ≡ env_of old k
+  entering_kept (Ok n) f g k h = ap (λ rs. env_of rs k) f ∙ env_kept old (entered outer block) k h
+  entering_kept (Err e) f g k h = ap (λ rs. env_of rs k) g
+
+module _ {A E : Type 0} (old new : List Row) (scope : ℕ) (name : List ℕ) (value : Val) where
+  pub binding_shown : (r : Result A E) → scope < length old → OnOk r (new ≡ bound_in old scope name value)
+      → OnOk r (env_of new scope ≡ with_pair name value (env_of old scope))
+  binding_shown (Ok x) h f = ap (λ rs. env_of rs scope) f ∙ binding_here old scope name value h
+  binding_shown (Err e) h f = tt
+
+  pub binding_keeps : (r : Result A E) → OnOk r (new ≡ bound_in old scope name value) → OnErr r (new ≡ old)
+      → (k : ℕ) → k < scope → env_of new k ≡ env_of old k
+  binding_keeps (Ok x) f g k h = ap (λ rs. env_of rs k) f ∙ binding_kept old scope name value k h
+  binding_keeps (Err e) f g k h = ap (λ rs. env_of rs k) g

@@ -1,0 +1,3 @@
+pub mod Envs
+pub mod Bound
+pub mod Scans

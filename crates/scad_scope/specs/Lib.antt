@@ -1,0 +1,6 @@
+pub mod Arguments
+pub mod Names
+pub mod Table
+pub mod View
+pub mod Blocks
+pub mod Seeking

@@ -1,0 +1,33 @@
+-- What the calls of the table of scopes answer.
+use Rattle.std.specs.Prelude.{◌≡◌, ℕ, ◌<◌, List, length, Option, Some, None, IsTrue}
+use Rattle.text_place.specs.declared.fault.Place.{Place}
+use Rattle.text_place.specs.declared.fault.Fault.{Fault}
+use Rattle.text_place.specs.declared.fault.FaultKind.{FaultKind}
+use Rattle.scad_value.specs.declared.value.Value.{Value}
+use Rattle.scad_value.specs.Values.{Val, is_bounded}
+use Rattle.scad_value.specs.View.{val_of}
+use Rattle.scad_scope.specs.declared.scopes.Scopes.{Scopes}
+use Rattle.scad_scope.specs.declared.table.Found.{Found}
+use Rattle.scad_scope.specs.Names.{Row, Env, env_of}
+use Rattle.scad_scope.specs.View.{rows_in}
+
+-- the scopes by number
+abbrev pub rows_of : Scopes → List Row
+rows_of s = rows_in s.scopes.items
+
+-- the number of a scope that is there, and of a definition that stands in it
+pub record IsFound (rows : List Row) (wanted : Option (Env × ℕ)) (found : Found) : Type 0 where
+  pub there : found.scope < length rows
+  pub same : wanted ≡ Some (env_of rows found.scope, found.definition)
+
+-- a fault of this kind at this place, where nothing is found
+pub record IsMissing {A : Type 0} (kind : FaultKind) (place : Place) (wanted : Option A) (fault : Fault) :
+    Type 0 where
+  pub none : wanted ≡ None
+  pub same_kind : fault.kind ≡ kind
+  pub same_place : fault.place ≡ place
+
+-- the value of a variable, which is bounded
+pub record IsVariable (wanted : Option Val) (value : Value) : Type 0 where
+  pub same : wanted ≡ Some (val_of value)
+  pub bounded : IsTrue (is_bounded (val_of value))

@@ -1,0 +1,15 @@
+//! Scopes: which variable, function or module a name stands for, and which parameter an argument
+//! is given to.
+#![tactic(auto)]
+
+mod blocks;
+mod own;
+mod parameters;
+mod scopes;
+mod table;
+#[cfg(test)]
+mod tests;
+
+pub use parameters::{Matching, arguments};
+pub use scopes::Scopes;
+pub use table::Found;

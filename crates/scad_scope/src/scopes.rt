@@ -1,0 +1,200 @@
+ghost use Rattle.std.specs.Prelude.{IsTrue};
+ghost use Rattle.scad_scope.specs.Names.{all_bounded};
+ghost use Rattle.scad_scope.specs.View.{rows_in};
+
+use crate::own::scope_of_block;
+use crate::table::{Family, Found, Scope, definitions, find_definition, find_variable};
+use scad_ast::Program;
+use scad_value::Value;
+use std::alloc::Global;
+use text_place::{Bytes, Fault, FaultKind, NoMemory, Place};
+
+/// Scopes by number. The first one, 0, is outside all others; each other one stands in one that
+/// came before it. Each value in it is bounded.
+#[derive(Drop)]
+pub struct Scopes {
+    pub(crate) scopes: Vec<Scope>,
+    ghost bounded: { IsTrue (all_bounded (rows_in scopes.items)) },
+}
+
+impl Scopes {
+    ghost use Rattle.std.specs.Prelude.{◌≡◌, ◌<◌, ℕ, List, [], ◌∷◌, ◌++◌, length, IfOk, IfErr, OnOk, OnErr, MatchResult, IsTrue, MatchOption, Some, None, IfSome};
+    ghost use Rattle.text_place.specs.declared.fault.FaultKind.TheVariants.{UnknownName, UnknownFunction, UnknownModule};
+    ghost use Rattle.scad_value.specs.Values.{is_bounded};
+    ghost use Rattle.scad_value.specs.View.{val_of};
+    ghost use Rattle.scad_scope.specs.Names.{env_of, variable_in, function_in, module_in, first_row, bound_in, with_pair, Within};
+    ghost use Rattle.scad_ast.specs.StatementView.{program_of};
+    ghost use Rattle.scad_scope.specs.Blocks.{entered, block_of};
+    ghost use Rattle.scad_scope.specs.View.{definition_in};
+    ghost use Rattle.scad_scope.specs.Table.{rows_of, IsFound, IsMissing, IsVariable};
+
+    /// One empty scope, number 0, outside all others.
+    pub fn new(alloc: Global) -> Result<Scopes, NoMemory>
+        ensures { IfOk result (λ s. rows_of s ≡ first_row ∷ []) }
+    {
+        let mut scopes = Vec::new(alloc);
+        scopes.push(Scope {
+            variables: Vec::new(alloc),
+            functions: Vec::new(alloc),
+            modules: Vec::new(alloc),
+            outer: u32::MAX,
+        })?;
+        Ok(Scopes { scopes })
+    }
+
+    /// A new scope of a block of the program, inside another scope, and its number. Block 0 is the
+    /// program itself; the bodies and the expressions of functions are numbered from 1 in the order
+    /// in which they begin. A block that isn't there has no definitions. `NoMemory` leaves all scopes
+    /// as they were; it also comes where a number would be past 2^32 - 1.
+    pub fn enter(
+        &mut self,
+        alloc: Global,
+        outer: u32,
+        program: &Program,
+        block: u32,
+    ) -> Result<u32, NoMemory>
+        requires { outer < length (rows_of self.old) }
+        ensures number { IfOk result (λ n. n ≡ length (rows_of self.old)) }
+        ensures entered { OnOk result (rows_of self.new ≡
+            rows_of self.old ++ entered outer (block_of (program_of program.now) block) ∷ []) }
+        ensures unchanged { OnErr result (rows_of self.new ≡ rows_of self.old) }
+        ensures inside { IfOk result (λ n. env_of (rows_of self.new) n ≡
+            Within n (entered outer (block_of (program_of program.now) block)) (env_of (rows_of self.old) outer)) }
+        ensures kept { (k : ℕ) → k < length (rows_of self.old) → env_of (rows_of self.new) k ≡ env_of (rows_of self.old) k }
+    {
+        self.add_scope(alloc, outer, program, block)
+    }
+
+    fn add_scope(
+        &mut self,
+        alloc: Global,
+        outer: u32,
+        program: &Program,
+        block: u32,
+    ) -> Result<u32, NoMemory>
+        ensures number { IfOk result (λ n. n ≡ length (rows_of self.old)) }
+        ensures entered { OnOk result (rows_of self.new ≡
+            rows_of self.old ++ entered outer (block_of (program_of program.now) block) ∷ []) }
+        ensures unchanged { OnErr result (rows_of self.new ≡ rows_of self.old) }
+    {
+        let number = self.scopes.len();
+        if number > u32::MAX as usize {
+            return Err(NoMemory);
+        }
+        let scope = scope_of_block(alloc, outer, program, block)?;
+        self.scopes.push(scope)?;
+        Ok(number as u32)
+    }
+
+    /// Gives a name a value in a scope, where it is the newest of its name. `NoMemory` leaves all
+    /// scopes as they were.
+    pub fn bind(
+        &mut self,
+        alloc: Global,
+        scope: u32,
+        name: &[u8],
+        value: Value,
+    ) -> Result<(), NoMemory>
+        requires scope { scope < length (rows_of self.old) }
+        requires bounded { IsTrue (is_bounded (val_of value)) }
+        ensures bound { OnOk result (rows_of self.new ≡ bound_in (rows_of self.old) scope name.now (val_of value)) }
+        ensures unchanged { OnErr result (rows_of self.new ≡ rows_of self.old) }
+        ensures here { OnOk result (env_of (rows_of self.new) scope ≡
+            with_pair name.now (val_of value) (env_of (rows_of self.old) scope)) }
+        ensures kept { (k : ℕ) → k < scope → env_of (rows_of self.new) k ≡ env_of (rows_of self.old) k }
+    {
+        self.add_variable(alloc, scope, name, value)
+    }
+
+    fn add_variable(
+        &mut self,
+        alloc: Global,
+        scope: u32,
+        name: &[u8],
+        value: Value,
+    ) -> Result<(), NoMemory>
+        requires scope { scope < length (rows_of self.old) }
+        requires bounded { IsTrue (is_bounded (val_of value)) }
+        ensures bound { OnOk result (rows_of self.new ≡ bound_in (rows_of self.old) scope name.now (val_of value)) }
+        ensures unchanged { OnErr result (rows_of self.new ≡ rows_of self.old) }
+    {
+        let name = Bytes::of(Vec::from_slice(alloc, name)?);
+        self.scopes[scope as usize].bind(name, value)
+    }
+
+    /// The value of a name, from a scope outward, which is bounded. UnknownName exactly where no
+    /// scope outward has it. Takes no memory.
+    pub fn variable(&self, scope: u32, name: &[u8], place: Place) -> Result<&Value, Fault>
+        requires { scope < length (rows_of self.now) }
+        ensures { MatchResult result (λ v. IsVariable (variable_in (env_of (rows_of self.now) scope) name.now) v.now)
+            (IsMissing UnknownName place (variable_in (env_of (rows_of self.now) scope) name.now)) }
+    {
+        let mut at = scope;
+        'outward: loop {
+            let here = &self.scopes[at as usize];
+            if let Some(value) = find_variable(&here.variables, name) {
+                return Ok(value);
+            }
+            if here.outer >= at {
+                return Err(Fault {
+                    kind: FaultKind::UnknownName,
+                    place,
+                });
+            }
+            at = here.outer;
+        }
+    }
+
+    /// The function of a name, from a scope outward. UnknownFunction exactly where no scope outward
+    /// has one. Takes no memory.
+    pub fn function(&self, scope: u32, name: &[u8], place: Place) -> Result<Found, Fault>
+        requires { scope < length (rows_of self.now) }
+        ensures { MatchResult result (IsFound (rows_of self.now) (function_in (env_of (rows_of self.now) scope) name.now))
+            (IsMissing UnknownFunction place (function_in (env_of (rows_of self.now) scope) name.now)) }
+    {
+        match self.definition(Family::Functions, scope, name) {
+            Some(found) => Ok(found),
+            None => Err(Fault {
+                kind: FaultKind::UnknownFunction,
+                place,
+            }),
+        }
+    }
+
+    /// The module of a name, from a scope outward. UnknownModule exactly where no scope outward has
+    /// one. Takes no memory.
+    pub fn module(&self, scope: u32, name: &[u8], place: Place) -> Result<Found, Fault>
+        requires { scope < length (rows_of self.now) }
+        ensures { MatchResult result (IsFound (rows_of self.now) (module_in (env_of (rows_of self.now) scope) name.now))
+            (IsMissing UnknownModule place (module_in (env_of (rows_of self.now) scope) name.now)) }
+    {
+        match self.definition(Family::Modules, scope, name) {
+            Some(found) => Ok(found),
+            None => Err(Fault {
+                kind: FaultKind::UnknownModule,
+                place,
+            }),
+        }
+    }
+
+    fn definition(&self, family: Family, scope: u32, name: &[u8]) -> Option<Found>
+        requires { scope < length (rows_of self.now) }
+        ensures { MatchOption result (definition_in family (env_of (rows_of self.now) scope) name.now ≡ None)
+            (IsFound (rows_of self.now) (definition_in family (env_of (rows_of self.now) scope) name.now)) }
+    {
+        let mut at = scope;
+        'outward: loop {
+            let here = &self.scopes[at as usize];
+            if let Some(definition) = find_definition(definitions(family, here), name) {
+                return Some(Found {
+                    scope: at,
+                    definition,
+                });
+            }
+            if here.outer >= at {
+                return None;
+            }
+            at = here.outer;
+        }
+    }
+}

@@ -1,0 +1,223 @@
+-- Lists of values and the plain values that they stand for.
+use Rattle.std.proofs.Common.{◌≡◌, ℕ, zero, suc, ◌+◌, ◌<◌, ◌≤◌, Bool, true, false, not, ◌&&◌, cond, List, [], ◌∷◌, length, refl, sym, ap, subst, ◌∙◌, arith, eqb, drop, get_or, add-one, drop-cons, append_assoc, append-nil, rules, ◌++◌, Ok, Err}
+use Rattle.std.proofs.lemmas.List.{map-append}
+use Rattle.std.proofs.Common.{ℤ}
+use Rattle.std.specs.Prelude.{IsTrue}
+use Rattle.std.proofs.lemmas.Bool.{eq-eqb, ne_eqb, and_parts}
+use Rattle.scad_value.specs.declared.value.Value.{Value}
+use Rattle.scad_value.specs.declared.value.Values.{Values, roll-Values}
+use Rattle.scad_value.specs.declared.value.Value.TheOpen.{Values-F}
+use Rattle.scad_value.specs.declared.value.Value.TheFolds.{fold_out-Values, fold-roll-Values}
+use Rattle.scad_value.specs.Values.{Val, NumberVal, TruthVal, TextVal, ListVal, RangeVal, UndefVal, Vals, no_vals, and_val, vals_from, count_of, parts_in, parts_of, truth_of, are_same, all_same, has_small_numbers, have_small_numbers}
+use Rattle.text_place.specs.declared.fault.FaultKind.{FaultKind}
+use Rattle.text_place.specs.declared.fault.FaultKind.TheVariants.{TypeMismatch}
+use Rattle.scad_value.specs.Operators.{Answer, in_front, if_equal, by_parts, pairs_by_parts, and_then, dot_of, product_at, plus, dot_row, number, sized, item_at, byte_at}
+use Rattle.scad_value.specs.View.{val_of, vals_of, vals_in, value_step, values_step}
+
+-- what a list in memory stands for
+pub vals_out : (vs : Values) → vals_of vs ≡ vals_in vs.items.items
+vals_out vs = fold_out-Values Val (List Val) value_step values_step vs
+
+pub count_in : (vs : List Value) → count_of (vals_from (vals_in vs)) ≡ length vs
+count_in [] = refl
+count_in (v ∷ vs) = ap suc (count_in vs)
+
+pub count_out : (vs : Values) → count_of (vals_from (vals_of vs)) ≡ length vs.items.items
+count_out vs = ap (λ xs. count_of (vals_from xs)) (vals_out vs) ∙ count_in vs.items.items
+
+truth_in : (vs : List Value) (n : ℕ) → n ≡ length vs → not (eqb n 0)
+    ≡ truth_of (ListVal (vals_from (vals_in vs)))
+truth_in [] n h = ap (λ n. not (eqb n 0)) h
+truth_in (v ∷ vs) n h = ap (λ n. not (eqb n 0)) h ∙ is_some (length vs)
+  where
+    is_some : (n : ℕ) → not (eqb (suc n) 0) ≡ true
+    is_some n = search rules
+
+pub truth_out : (vs : Values) (n : ℕ) → n ≡ length vs.items.items → not (eqb n 0)
+    ≡ truth_of (ListVal (vals_from (vals_of vs)))
+truth_out vs n h = truth_in vs.items.items n h
+    ∙ ap (λ xs. truth_of (ListVal (vals_from xs))) (sym (vals_out vs))
+
+and_false : (b : Bool) → (b && false) ≡ false
+and_false true = refl
+and_false false = refl
+
+-- lists of other lengths differ
+apart : (vs ws : List Value) → (length vs ≡ length ws → ⊥)
+    → all_same (vals_from (vals_in vs)) (vals_from (vals_in ws)) ≡ false
+apart [] [] h = absurd (h refl)
+apart [] (w ∷ ws) h = refl
+apart (v ∷ vs) [] h = refl
+apart (v ∷ vs) (w ∷ ws) h =
+    ap (λ b. are_same (val_of v) (val_of w) && b) (apart vs ws (λ e. h (ap suc e)))
+    ∙ and_false (are_same (val_of v) (val_of w))
+
+pub apart_out : (vs ws : Values) → (length vs.items.items ≡ length ws.items.items → ⊥) → false
+    ≡ all_same (vals_from (vals_of vs)) (vals_from (vals_of ws))
+apart_out vs ws h = sym (ap (λ xs. all_same (vals_from xs) (vals_from (vals_of ws))) (vals_out vs)
+    ∙ ap (λ xs. all_same (vals_from (vals_in vs.items.items)) (vals_from xs)) (vals_out ws)
+    ∙ apart vs.items.items ws.items.items h)
+
+pub vals_roll : (vs : Values-F Value Values) → vals_of (roll-Values vs) ≡ vals_in vs.items.items
+vals_roll = fold-roll-Values Val (List Val) value_step values_step
+
+-- the values from one on
+pub from_here : (vs : List Value) (i : ℕ) (v : Value) → i < length vs → v ≡ get_or vs i v
+    → vals_from (vals_in (drop i vs)) ≡ and_val (val_of v) (vals_from (vals_in (drop (i + 1) vs)))
+from_here vs i v h e = ap (λ (l : List Value). vals_from (vals_in l)) (rest vs i v h e)
+  where
+    rest : (vs : List Value) (i : ℕ) (v : Value) → i < length vs → v ≡ get_or vs i v → drop i vs
+        ≡ v ∷ drop (i + 1) vs
+    rest vs i v h e = rw (add-one, drop-cons vs i v h, ← e) refl
+
+pub from_end : (vs : List Value) (i : ℕ) → length vs ≤ i → vals_from (vals_in (drop i vs)) ≡ no_vals
+from_end [] zero h = refl
+from_end [] (suc i) h = refl
+from_end (v ∷ vs) zero h = absurd (omega arith)
+from_end (v ∷ vs) (suc i) h = from_end vs i (omega arith)
+
+front_of_front : (xs : List Val) (y : Val) (answer : Answer (List Val))
+    → in_front xs (in_front (y ∷ []) answer) ≡ in_front (xs ++ y ∷ []) answer
+front_of_front xs y (Ok ys) = ap (λ l. Ok l) (sym (append_assoc xs (y ∷ []) ys))
+front_of_front xs y (Err kind) = refl
+
+-- one more pair
+pub pairs_more : (row : _) (vs ws items : List Value) (i : ℕ) (v w x : Value) → i < length vs
+    → i < length ws → v ≡ get_or vs i v → w ≡ get_or ws i w
+    → by_parts row (val_of v) (val_of w) ≡ Ok (val_of x)
+    → in_front (vals_in items) (pairs_by_parts row (vals_from (vals_in (drop i vs))) (vals_from (vals_in
+    (drop i ws))))
+    ≡ in_front (vals_in (items ++ x ∷ [])) (pairs_by_parts row (vals_from (vals_in (drop (i + 1) vs)))
+    (vals_from (vals_in (drop (i + 1) ws))))
+pairs_more row vs ws items i v w x h k e f g =
+    let tail = pairs_by_parts row (vals_from (vals_in (drop (i + 1) vs))) (vals_from (vals_in (drop
+    (i + 1) ws))) in
+    ap (λ (l : Vals). in_front (vals_in items) (pairs_by_parts row l (vals_from (vals_in (drop i ws)))))
+    (from_here vs i v h e)
+    ∙ ap (λ (l : Vals). in_front (vals_in items) (pairs_by_parts row (and_val (val_of v) (vals_from
+    (vals_in (drop (i + 1) vs)))) l)) (from_here ws i w k f)
+    ∙ ap (λ (a : Answer Val). in_front (vals_in items) (and_then a (λ y. in_front (y ∷ []) tail))) g
+    ∙ front_of_front (vals_in items) (val_of x) tail
+    ∙ ap (λ l. in_front l tail) (sym (map-append val_of items (x ∷ [])))
+
+pub pairs_end : (row : _) (vs items : List Value) (ws : Vals) (i : ℕ) → length vs ≤ i
+    → in_front (vals_in items) (pairs_by_parts row (vals_from (vals_in (drop i vs))) ws)
+    ≡ Ok (vals_in items)
+pairs_end row vs items ws i h =
+    ap (λ (l : Vals). in_front (vals_in items) (pairs_by_parts row l ws)) (from_end vs i h)
+    ∙ ap (λ l. Ok l) (append-nil (vals_in items))
+
+-- lists of one length, and of two
+pub equal_counts : {A : Type 0} (vs ws : Values) (answer : Answer A) → length vs.items.items
+    ≡ length ws.items.items
+    → if_equal (count_of (vals_from (vals_of vs))) (count_of (vals_from (vals_of ws))) answer ≡ answer
+equal_counts vs ws answer h = ap (λ b. cond b answer (Err TypeMismatch)) (eq-eqb _ _ (count_out vs ∙ h
+    ∙ sym (count_out ws)))
+
+pub unequal_counts : {A : Type 0} (vs ws : Values) (answer : Answer A) → (length vs.items.items
+    ≡ length ws.items.items → ⊥)
+    → if_equal (count_of (vals_from (vals_of vs))) (count_of (vals_from (vals_of ws))) answer
+    ≡ Err TypeMismatch
+unequal_counts vs ws answer h =
+    ap (λ b. cond b answer (Err TypeMismatch)) (ne_eqb _ _ (λ e. h (sym (count_out vs) ∙ e ∙ count_out ws)))
+
+-- one more product
+pub dot_more : (vs ws : List Value) (i : ℕ) (v w : Value) (n : ℤ) → i < length vs → i < length ws → v
+    ≡ get_or vs i v → w ≡ get_or ws i w
+    → Ok n ≡ product_at (val_of v) (val_of w)
+    → dot_of (vals_from (vals_in (drop i vs))) (vals_from (vals_in (drop i ws)))
+    ≡ plus n (dot_of (vals_from (vals_in (drop (i + 1) vs))) (vals_from (vals_in (drop (i + 1) ws))))
+dot_more vs ws i v w n h k e f g =
+    let tail = dot_of (vals_from (vals_in (drop (i + 1) vs))) (vals_from (vals_in (drop (i + 1) ws))) in
+    ap (λ (l : Vals). dot_of l (vals_from (vals_in (drop i ws)))) (from_here vs i v h e)
+    ∙ ap (λ (l : Vals). dot_of (and_val (val_of v) (vals_from (vals_in (drop (i + 1) vs)))) l)
+    (from_here ws i w k f)
+    ∙ ap (λ (a : Answer ℤ). and_then a (λ n. plus n tail)) (sym g)
+
+-- a fault of a product
+pub dot_fault : (vs ws : List Value) (i : ℕ) (v w : Value) (kind : FaultKind) → i < length vs
+    → i < length ws → v ≡ get_or vs i v → w ≡ get_or ws i w
+    → Err kind ≡ product_at (val_of v) (val_of w)
+    → dot_of (vals_from (vals_in (drop i vs))) (vals_from (vals_in (drop i ws))) ≡ Err kind
+dot_fault vs ws i v w kind h k e f g =
+    let tail = dot_of (vals_from (vals_in (drop (i + 1) vs))) (vals_from (vals_in (drop (i + 1) ws))) in
+    ap (λ (l : Vals). dot_of l (vals_from (vals_in (drop i ws)))) (from_here vs i v h e)
+    ∙ ap (λ (l : Vals). dot_of (and_val (val_of v) (vals_from (vals_in (drop (i + 1) vs)))) l)
+    (from_here ws i w k f)
+    ∙ ap (λ (a : Answer ℤ). and_then a (λ n. plus n tail)) (sym g)
+
+pub length-le_parts : (vs : List Value) → length vs ≤ parts_in (vals_from (vals_in vs))
+length-le_parts [] = omega arith
+length-le_parts (v ∷ vs) = omega (arith, length-le_parts vs, some_part (val_of v))
+  where
+    some_part : (v : Val) → 1 ≤ parts_of v
+    some_part (NumberVal n) = omega arith
+    some_part (TruthVal b) = omega arith
+    some_part (TextVal bytes) = omega arith
+    some_part (ListVal items) = omega arith
+    some_part (RangeVal from step to) = omega arith
+    some_part UndefVal = omega arith
+
+pub small_here : (vs : List Value) (i : ℕ) (v : Value) → i < length vs → v ≡ get_or vs i v
+    → IsTrue (have_small_numbers (vals_from (vals_in (drop i vs))))
+    → IsTrue (have_small_numbers (vals_from (vals_in (drop (i + 1) vs))))
+small_here vs i v h e small =
+    let both : IsTrue (has_small_numbers (val_of v) && have_small_numbers (vals_from (vals_in (drop
+    (i + 1) vs)))) = subst (λ (l : Vals). IsTrue (have_small_numbers l)) (from_here vs i v h e) small in
+    (and_parts _ _ both).1
+
+-- two lists of numbers of one length above 0
+pub dot_row_is : (vs ws : Values) → (length vs.items.items ≡ 0 → ⊥) → length vs.items.items
+    ≡ length ws.items.items
+    → dot_row (vals_from (vals_of vs)) (vals_from (vals_of ws))
+    ≡ number (and_then (dot_of (vals_from (vals_of vs)) (vals_from (vals_of ws))) sized)
+dot_row_is vs ws n e = filled (vals_from (vals_of vs)) (λ z. n (sym (count_out vs) ∙ z))
+    ∙ equal_counts vs ws _ e
+  where
+    filled : (l : Vals) → (count_of l ≡ 0 → ⊥) → dot_row l (vals_from (vals_of ws))
+        ≡ if_equal (count_of l) (count_of (vals_from (vals_of ws))) (number (and_then (dot_of l (vals_from
+        (vals_of ws))) sized))
+    filled no_vals h = absurd (h refl)
+    filled (and_val v l) h = refl
+
+pub dot_row_empty : (vs ws : Values) → length vs.items.items ≡ 0
+    → dot_row (vals_from (vals_of vs)) (vals_from (vals_of ws)) ≡ Err TypeMismatch
+dot_row_empty vs ws e = none (vals_from (vals_of vs)) (count_out vs ∙ e)
+  where
+    none : (l : Vals) → count_of l ≡ 0 → dot_row l (vals_from (vals_of ws)) ≡ Err TypeMismatch
+    none no_vals h = refl
+    none (and_val v l) h = absurd (omega (arith, h))
+
+pub dot_row_apart : (vs ws : Values) → (length vs.items.items ≡ length ws.items.items → ⊥)
+    → dot_row (vals_from (vals_of vs)) (vals_from (vals_of ws)) ≡ Err TypeMismatch
+dot_row_apart vs ws n = by_count (vals_from (vals_of vs)) (λ e. n (sym (count_out vs) ∙ e ∙ count_out ws))
+  where
+    by_count : (l : Vals) → (count_of l ≡ count_of (vals_from (vals_of ws)) → ⊥)
+        → dot_row l (vals_from (vals_of ws)) ≡ Err TypeMismatch
+    by_count no_vals h = refl
+    by_count (and_val v l) h =
+        ap (λ b. cond b (number (and_then (dot_of (and_val v l) (vals_from (vals_of ws))) sized))
+        (Err TypeMismatch)) (ne_eqb _ _ h)
+
+-- the item at a place
+pub item_here : (vs : List Value) (n : ℕ) (v : Value) → n < length vs → v ≡ get_or vs n v
+    → item_at (vals_from (vals_in vs)) n ≡ val_of v
+item_here [] n v h e = absurd (omega arith)
+item_here (w ∷ vs) zero v h e = ap val_of (sym e)
+item_here (w ∷ vs) (suc n) v h e = item_here vs n v (omega arith) e
+
+pub item_past : (vs : List Value) (n : ℕ) → length vs ≤ n → item_at (vals_from (vals_in vs)) n ≡ UndefVal
+item_past [] n h = refl
+item_past (w ∷ vs) zero h = absurd (omega arith)
+item_past (w ∷ vs) (suc n) h = item_past vs n (omega arith)
+
+pub byte_here : (bytes : List ℕ) (n : ℕ) → n < length bytes → byte_at bytes n
+    ≡ TextVal (get_or bytes n 0 ∷ [])
+byte_here [] n h = absurd (omega arith)
+byte_here (x ∷ bytes) zero h = refl
+byte_here (x ∷ bytes) (suc n) h = byte_here bytes n (omega arith)
+
+pub byte_past : (bytes : List ℕ) (n : ℕ) → length bytes ≤ n → byte_at bytes n ≡ UndefVal
+byte_past [] n h = refl
+byte_past (x ∷ bytes) zero h = absurd (omega arith)
+byte_past (x ∷ bytes) (suc n) h = byte_past bytes n (omega arith)

@@ -1,0 +1,4 @@
+pub mod Values
+pub mod Operators
+pub mod View
+pub mod Rows

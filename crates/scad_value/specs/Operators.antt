@@ -1,0 +1,185 @@
+-- The table of operators, one equation a row (OpenSCAD User Manual, in the profile of this server).
+use Rattle.std.specs.Prelude.{ℕ, zero, suc, ℤ, pos, negsuc, ◌+ℤ◌, ◌-ℤ◌, ◌*ℤ◌, neg_ℤ, Bool, not, ◌&&◌, ◌||◌, List, [], ◌∷◌, ◌++◌, Result, Ok, Err, nat_eq, int_div, int_rem, if◌then◌else◌}
+use Rattle.std.specs.declared.cmp.Ordering.{Ordering}
+use Rattle.std.specs.Ordering.{int_cmp, is_lt, is_le, is_gt, is_ge}
+use Rattle.text_place.specs.declared.fault.FaultKind.{FaultKind}
+use Rattle.text_place.specs.declared.fault.FaultKind.TheVariants.{TypeMismatch, ZeroDivisor, NotWhole, TooLarge, LongList}
+use Rattle.scad_ast.specs.declared.operator.BinaryOp.{BinaryOp}
+use Rattle.scad_ast.specs.declared.operator.BinaryOp.TheVariants.{Or, And, Equal, NotEqual, Less, LessEqual, Greater, GreaterEqual, Add, Subtract, Multiply, Divide, Remainder}
+use Rattle.scad_ast.specs.declared.operator.UnaryOp.{UnaryOp}
+use Rattle.scad_ast.specs.declared.operator.UnaryOp.TheVariants.{Negate, Keep, Not}
+use Rattle.scad_value.specs.Values.{Val, NumberVal, TruthVal, TextVal, ListVal, UndefVal, Vals, no_vals, and_val, vals_from, count_of, is_long, is_small, truth_of, are_same}
+
+-- what an operator gives, or its first fault
+abbrev pub Answer : Type 0 → Type 0
+Answer A = Result A FaultKind
+
+-- goes on with what was given
+abbrev pub and_then : {A B : Type 0} → Answer A → (A → Answer B) → Answer B
+and_then (Ok x) go = go x
+and_then (Err kind) go = Err kind
+
+-- a number that is too large is a fault
+abbrev pub sized : ℤ → Answer ℤ
+sized n = if is_small n then Ok n else Err TooLarge
+
+abbrev pub number : Answer ℤ → Answer Val
+number (Ok n) = Ok (NumberVal n)
+number (Err kind) = Err kind
+
+-- a list that is too long is a fault, after all others
+abbrev pub made : Answer Val → Answer Val
+made (Ok v) = if is_long v then Err LongList else Ok v
+made (Err kind) = Err kind
+
+abbrev pub listed : Answer (List Val) → Answer Val
+listed (Ok vs) = Ok (ListVal (vals_from vs))
+listed (Err kind) = Err kind
+
+abbrev pub in_front : List Val → Answer (List Val) → Answer (List Val)
+in_front vs (Ok ws) = Ok (vs ++ ws)
+in_front vs (Err kind) = Err kind
+
+-- what needs two equal lengths
+abbrev pub if_equal : {A : Type 0} → ℕ → ℕ → Answer A → Answer A
+if_equal m n answer = if nat_eq m n then answer else Err TypeMismatch
+
+-- two numbers, or two lists of one length by parts, from the first on
+abbrev mutual
+  pub by_parts : (ℤ → ℤ → Answer ℤ) → Val → Val → Answer Val
+  by_parts row (NumberVal a) (NumberVal b) = number (row a b)
+  by_parts row (ListVal vs) (ListVal ws) =
+      listed (if_equal (count_of vs) (count_of ws) (pairs_by_parts row vs ws))
+  by_parts row v w = Err TypeMismatch
+
+  pub pairs_by_parts : (ℤ → ℤ → Answer ℤ) → Vals → Vals → Answer (List Val)
+  pairs_by_parts row (and_val v vs) (and_val w ws) =
+      and_then (by_parts row v w) (λ x. in_front (x ∷ []) (pairs_by_parts row vs ws))
+  pairs_by_parts row vs ws = Ok []
+
+-- a number, or each part of a list, from the first on
+abbrev mutual
+  pub each_part : (ℤ → Answer ℤ) → Val → Answer Val
+  each_part row (NumberVal a) = number (row a)
+  each_part row (ListVal vs) = listed (each_of_parts row vs)
+  each_part row v = Err TypeMismatch
+
+  pub each_of_parts : (ℤ → Answer ℤ) → Vals → Answer (List Val)
+  each_of_parts row no_vals = Ok []
+  each_of_parts row (and_val v vs) =
+      and_then (each_part row v) (λ x. in_front (x ∷ []) (each_of_parts row vs))
+
+-- two numbers
+abbrev pub sum_row : ℤ → ℤ → Answer ℤ
+sum_row a b = sized (a +ℤ b)
+
+abbrev pub difference_row : ℤ → ℤ → Answer ℤ
+difference_row a b = sized (a -ℤ b)
+
+abbrev pub product_row : ℤ → ℤ → Answer ℤ
+product_row a b = sized (a *ℤ b)
+
+-- a divisor, and what is done where it isn't 0
+abbrev pub unless_zero : ℤ → Answer ℤ → Answer ℤ
+unless_zero (pos zero) answer = Err ZeroDivisor
+unless_zero (pos (suc n)) answer = answer
+unless_zero (negsuc n) answer = answer
+
+-- the exact quotient
+abbrev pub exact : ℤ → ℤ → Answer ℤ
+exact (pos zero) quotient = sized quotient
+exact (pos (suc n)) quotient = Err NotWhole
+exact (negsuc n) quotient = Err NotWhole
+
+abbrev pub quotient_row : ℤ → ℤ → Answer ℤ
+quotient_row a b = unless_zero b (exact (int_rem a b) (int_div a b))
+
+-- the remainder, with the sign of the dividend
+abbrev pub remainder_row : ℤ → ℤ → Answer ℤ
+remainder_row a b = unless_zero b (sized (int_rem a b))
+
+-- the sum of the products of numbers, place by place
+abbrev pub plus : ℤ → Answer ℤ → Answer ℤ
+plus n (Ok m) = Ok (n +ℤ m)
+plus n (Err kind) = Err kind
+
+abbrev pub product_at : Val → Val → Answer ℤ
+product_at (NumberVal a) (NumberVal b) = Ok (a *ℤ b)
+product_at v w = Err TypeMismatch
+
+abbrev pub dot_of : Vals → Vals → Answer ℤ
+dot_of (and_val v vs) (and_val w ws) = and_then (product_at v w) (λ n. plus n (dot_of vs ws))
+dot_of vs ws = Ok (pos 0)
+
+-- two lists of numbers of one length above 0
+abbrev pub dot_row : Vals → Vals → Answer Val
+dot_row no_vals ws = Err TypeMismatch
+dot_row (and_val v vs) ws =
+    if_equal (count_of (and_val v vs)) (count_of ws) (number (and_then (dot_of (and_val v vs) ws) sized))
+
+-- two numbers; a number and a list in either order, each part; two lists of numbers
+abbrev pub product_of : Val → Val → Answer Val
+product_of (NumberVal a) (NumberVal b) = number (product_row a b)
+product_of (NumberVal a) (ListVal ws) = each_part (λ b. product_row b a) (ListVal ws)
+product_of (ListVal vs) (NumberVal b) = each_part (λ a. product_row a b) (ListVal vs)
+product_of (ListVal vs) (ListVal ws) = dot_row vs ws
+product_of v w = Err TypeMismatch
+
+-- a number or each part of a list, by a number
+abbrev pub quotient_of : Val → Val → Answer Val
+quotient_of v (NumberVal b) = each_part (λ a. quotient_row a b) v
+quotient_of v w = Err TypeMismatch
+
+abbrev pub remainder_of : Val → Val → Answer Val
+remainder_of (NumberVal a) (NumberVal b) = number (remainder_row a b)
+remainder_of v w = Err TypeMismatch
+
+-- the order of two numbers
+abbrev pub order_of : Val → Val → Answer Ordering
+order_of (NumberVal a) (NumberVal b) = Ok (int_cmp a b)
+order_of v w = Err TypeMismatch
+
+abbrev pub tested : (Ordering → Bool) → Answer Ordering → Answer Val
+tested test (Ok order) = Ok (TruthVal (test order))
+tested test (Err kind) = Err kind
+
+-- the table
+abbrev pub binary_of : BinaryOp → Val → Val → Answer Val
+binary_of Or v w = Ok (TruthVal (truth_of v || truth_of w))
+binary_of And v w = Ok (TruthVal (truth_of v && truth_of w))
+binary_of Equal v w = Ok (TruthVal (are_same v w))
+binary_of NotEqual v w = Ok (TruthVal (not (are_same v w)))
+binary_of Less v w = tested is_lt (order_of v w)
+binary_of LessEqual v w = tested is_le (order_of v w)
+binary_of Greater v w = tested is_gt (order_of v w)
+binary_of GreaterEqual v w = tested is_ge (order_of v w)
+binary_of Add v w = made (by_parts sum_row v w)
+binary_of Subtract v w = made (by_parts difference_row v w)
+binary_of Multiply v w = made (product_of v w)
+binary_of Divide v w = made (quotient_of v w)
+binary_of Remainder v w = remainder_of v w
+
+abbrev pub unary_of : UnaryOp → Val → Answer Val
+unary_of Negate v = made (each_part (λ n. sized (neg_ℤ n)) v)
+unary_of Keep v = made (each_part sized v)
+unary_of Not v = Ok (TruthVal (not (truth_of v)))
+
+-- the item at a place from 0, or undef
+abbrev pub item_at : Vals → ℕ → Val
+item_at no_vals n = UndefVal
+item_at (and_val v vs) zero = v
+item_at (and_val v vs) (suc n) = item_at vs n
+
+-- the byte at a place from 0 as a text, or undef
+abbrev pub byte_at : List ℕ → ℕ → Val
+byte_at [] n = UndefVal
+byte_at (byte ∷ bytes) zero = TextVal (byte ∷ [])
+byte_at (byte ∷ bytes) (suc n) = byte_at bytes n
+
+-- an item of a list, a byte of a text, or undef where there is none
+abbrev pub index_of : Val → Val → Answer Val
+index_of (ListVal vs) (NumberVal (pos n)) = Ok (item_at vs n)
+index_of (ListVal vs) (NumberVal (negsuc n)) = Ok UndefVal
+index_of (TextVal bytes) (NumberVal (pos n)) = Ok (byte_at bytes n)
+index_of (TextVal bytes) (NumberVal (negsuc n)) = Ok UndefVal
+index_of v w = Err TypeMismatch

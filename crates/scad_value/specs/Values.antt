@@ -1,0 +1,102 @@
+-- Values as plain trees, without memory (OpenSCAD User Manual, in the profile of this server).
+use Rattle.std.specs.Prelude.{ℕ, suc, ◌+◌, ◌^◌, max, ℤ, Bool, true, false, not, ◌&&◌, ◌||◌, List, [], ◌∷◌, nat_lt, unsigned_abs}
+use Rattle.std.specs.Ordering.{int_eq}
+use Rattle.std.specs.Str.{bytes_eq}
+
+mutual
+  pub data Val : Type 0 where
+    NumberVal : (n : ℤ) → Val
+    TruthVal : (truth : Bool) → Val
+    TextVal : (bytes : List ℕ) → Val
+    ListVal : (items : Vals) → Val
+    RangeVal : (from step to : ℤ) → Val
+    UndefVal : Val
+
+  pub data Vals : Type 0 where
+    no_vals : Vals
+    and_val : (first : Val) → (rest : Vals) → Vals
+
+-- the values of a list
+abbrev pub vals_from : List Val → Vals
+vals_from [] = no_vals
+vals_from (v ∷ vs) = and_val v (vals_from vs)
+
+-- how many items there are
+abbrev pub count_of : Vals → ℕ
+count_of no_vals = 0
+count_of (and_val v vs) = suc (count_of vs)
+
+-- a value that is no list has 1 part; a list has 1 and those of its items
+abbrev mutual
+  pub parts_of : Val → ℕ
+  parts_of (ListVal items) = suc (parts_in items)
+  parts_of v = 1
+
+  pub parts_in : Vals → ℕ
+  parts_in no_vals = 0
+  parts_in (and_val v vs) = parts_of v + parts_in vs
+
+-- how many lists are in one another
+abbrev mutual
+  pub nesting_of : Val → ℕ
+  nesting_of (ListVal items) = suc (nesting_in items)
+  nesting_of v = 0
+
+  pub nesting_in : Vals → ℕ
+  nesting_in no_vals = 0
+  nesting_in (and_val v vs) = max (nesting_of v) (nesting_in vs)
+
+-- a list that no operator, call or bracket may make: more than 4,096 parts, or more than 64 deep
+abbrev pub is_long : Val → Bool
+is_long v = nat_lt 4096 (parts_of v) || nat_lt 64 (nesting_of v)
+
+-- a number of the profile: at most 2^53 - 1 in size
+abbrev pub is_small : ℤ → Bool
+is_small n = nat_lt (unsigned_abs n) (2 ^ 53)
+
+-- each number in it is one of the profile
+abbrev mutual
+  pub has_small_numbers : Val → Bool
+  has_small_numbers (NumberVal n) = is_small n
+  has_small_numbers (RangeVal from step to) = is_small from && (is_small step && is_small to)
+  has_small_numbers (ListVal items) = have_small_numbers items
+  has_small_numbers v = true
+
+  pub have_small_numbers : Vals → Bool
+  have_small_numbers no_vals = true
+  have_small_numbers (and_val v vs) = has_small_numbers v && have_small_numbers vs
+
+-- numbers of the profile and fewer than 2^20 parts
+abbrev pub is_bounded : Val → Bool
+is_bounded v = has_small_numbers v && nat_lt (parts_of v) (2 ^ 20)
+
+-- what counts as true: all but false, 0, the empty text, the empty list and undef
+abbrev pub truth_of : Val → Bool
+truth_of (NumberVal n) = nat_lt 0 (unsigned_abs n)
+truth_of (TruthVal truth) = truth
+truth_of (TextVal []) = false
+truth_of (TextVal (byte ∷ bytes)) = true
+truth_of (ListVal no_vals) = false
+truth_of (ListVal (and_val v vs)) = true
+truth_of (RangeVal from step to) = true
+truth_of UndefVal = false
+
+-- equal kind and parts
+abbrev pub same_truth : Bool → Bool → Bool
+same_truth true b = b
+same_truth false b = not b
+
+abbrev mutual
+  pub are_same : Val → Val → Bool
+  are_same (NumberVal a) (NumberVal b) = int_eq a b
+  are_same (TruthVal a) (TruthVal b) = same_truth a b
+  are_same (TextVal a) (TextVal b) = bytes_eq a b
+  are_same (ListVal as_) (ListVal bs) = all_same as_ bs
+  are_same (RangeVal a b c) (RangeVal d e f) = int_eq a d && (int_eq b e && int_eq c f)
+  are_same UndefVal UndefVal = true
+  are_same v w = false
+
+  pub all_same : Vals → Vals → Bool
+  all_same no_vals no_vals = true
+  all_same (and_val v vs) (and_val w ws) = are_same v w && all_same vs ws
+  all_same vs ws = false

@@ -1,0 +1,47 @@
+-- The plain value that a value in memory stands for.
+use Rattle.std.specs.Prelude.{◌≡◌, List, map, Result, Ok, Err, IsTrue}
+use Rattle.scad_value.specs.declared.value.Value.{Value}
+use Rattle.scad_value.specs.declared.value.Values.{Values}
+use Rattle.scad_value.specs.declared.value.Value.TheOpen.{Value-F, Values-F, Number, Truth, Text, List as ListIn, Range, Undef}
+use Rattle.scad_value.specs.declared.value.Value.TheFolds.{fold-Value, fold-Values}
+use Rattle.scad_value.specs.declared.stop.ValueStop.{ValueStop}
+use Rattle.scad_value.specs.declared.stop.ValueStop.TheVariants.{Kind, NoMemory}
+use Rattle.scad_value.specs.Values.{Val, NumberVal, TruthVal, TextVal, ListVal, RangeVal, UndefVal, vals_from, is_bounded}
+use Rattle.scad_value.specs.Operators.{Answer}
+
+-- one layer, with its parts seen already
+abbrev pub value_step : Value-F Val (List Val) → Val
+value_step (Number n) = NumberVal n
+value_step (Truth truth) = TruthVal truth
+value_step (Text bytes) = TextVal bytes
+value_step (ListIn items) = ListVal (vals_from items)
+value_step (Range from step to) = RangeVal from step to
+value_step Undef = UndefVal
+
+abbrev pub values_step : Values-F Val (List Val) → List Val
+values_step vs = vs.items.items
+
+abbrev pub val_of : Value → Val
+val_of = fold-Value Val (List Val) value_step values_step
+
+abbrev pub vals_of : Values → List Val
+vals_of = fold-Values Val (List Val) value_step values_step
+
+abbrev pub vals_in : List Value → List Val
+vals_in vs = map val_of vs
+
+-- what was given is the answer, unless memory ran out
+abbrev pub Tells : Result Value ValueStop → Answer Val → Type 0
+Tells (Ok v) answer = answer ≡ Ok (val_of v)
+Tells (Err (Kind kind)) answer = answer ≡ Err kind
+Tells (Err NoMemory) answer = Unit {0}
+
+abbrev pub TellsAll : Result Values ValueStop → Answer (List Val) → Type 0
+TellsAll (Ok vs) answer = answer ≡ Ok (vals_of vs)
+TellsAll (Err (Kind kind)) answer = answer ≡ Err kind
+TellsAll (Err NoMemory) answer = Unit {0}
+
+-- the value that was given is bounded
+abbrev pub GivesBounded : Result Value ValueStop → Type 0
+GivesBounded (Ok v) = IsTrue (is_bounded (val_of v))
+GivesBounded (Err stop) = Unit {0}

@@ -1,0 +1,195 @@
+ghost use Rattle.std.specs.Prelude.{◌≡◌, ◌<◌, ◌≤◌, ◌^◌, ◌*ℤ◌, length, IsTrue, IfOk, unsigned_abs};
+ghost use Rattle.scad_value.specs.Values.{count_of, parts_in, vals_from, is_small, has_small_numbers, have_small_numbers};
+ghost use Rattle.scad_value.specs.Operators.{sized as sized_at, by_parts as by_parts_at, pairs_by_parts, if_equal, each_part as each_part_at, each_of_parts, dot_of, product_at, product_row, remainder_row, quotient_row};
+ghost use Rattle.scad_value.specs.View.{val_of, vals_of, Tells, TellsAll};
+ghost use Rattle.scad_value.specs.Rows.{pair_row, part_row};
+
+use crate::stop::ValueStop;
+use crate::value::{Value, Values};
+use std::alloc::Global;
+use text_place::FaultKind;
+
+/// What is done with two numbers.
+#[derive(Clone, Copy, Debug, PartialEq, Eq)]
+pub(crate) enum PairRow {
+    Sum,
+    Difference,
+}
+
+/// What is done with one number.
+#[derive(Clone, Copy, Debug, PartialEq, Eq)]
+pub(crate) enum PartRow {
+    Times(i64),
+    Over(i64),
+    Negate,
+    Keep,
+}
+
+/// The number, if it isn't too large.
+pub(crate) fn sized(n: i128) -> Result<i64, FaultKind>
+    ensures { result ≡ sized_at n }
+{
+    if n.unsigned_abs() < 1 << 53 {
+        Ok(n as i64)
+    } else {
+        Err(FaultKind::TooLarge)
+    }
+}
+
+fn pair(row: PairRow, left: i64, right: i64) -> Result<i64, FaultKind>
+    ensures { result ≡ pair_row row left right }
+{
+    match row {
+        PairRow::Sum => sized(left as i128 + right as i128),
+        PairRow::Difference => sized(left as i128 - right as i128),
+    }
+}
+
+/// The product, if it isn't too large.
+pub(crate) fn product_of_two(left: i64, right: i64) -> Result<i64, FaultKind>
+    ensures { result ≡ product_row left right }
+{
+    sized(left as i128 * right as i128)
+}
+
+fn part(row: PartRow, n: i64) -> Result<i64, FaultKind>
+    ensures { result ≡ part_row row n }
+{
+    match row {
+        PartRow::Times(by) => product_of_two(n, by),
+        PartRow::Over(by) => quotient(n, by),
+        PartRow::Negate => sized(-(n as i128)),
+        PartRow::Keep => sized(n as i128),
+    }
+}
+
+fn quotient(left: i64, right: i64) -> Result<i64, FaultKind>
+    ensures { result ≡ quotient_row left right }
+{
+    if right == 0 {
+        return Err(FaultKind::ZeroDivisor);
+    }
+    if left as i128 % right as i128 != 0 {
+        return Err(FaultKind::NotWhole);
+    }
+    sized(left as i128 / right as i128)
+}
+
+/// The remainder, with the sign of the dividend.
+pub(crate) fn remainder(left: i64, right: i64) -> Result<i64, FaultKind>
+    ensures { result ≡ remainder_row left right }
+{
+    if right == 0 {
+        return Err(FaultKind::ZeroDivisor);
+    }
+    sized(left as i128 % right as i128)
+}
+
+/// Two numbers, or two lists of one length by parts.
+#[cycle(pairs)]
+pub(crate) fn by_parts(
+    alloc: Global,
+    row: PairRow,
+    left: &Value,
+    right: &Value,
+) -> Result<Value, ValueStop>
+    ensures { Tells result (by_parts_at (pair_row row) (val_of left.now) (val_of right.now)) }
+{
+    match (left, right) {
+        (Value::Number(a), Value::Number(b)) => Ok(Value::Number(pair(row, *a, *b)?)),
+        (Value::List(a), Value::List(b)) => Ok(Value::List(equal_lists(alloc, row, a, b)?)),
+        _ => Err(ValueStop::Kind(FaultKind::TypeMismatch)),
+    }
+}
+
+#[cycle(pairs)]
+fn equal_lists(
+    alloc: Global,
+    row: PairRow,
+    left: &Values,
+    right: &Values,
+) -> Result<Values, ValueStop>
+    ensures { TellsAll result (if_equal (count_of (vals_from (vals_of left.now))) (count_of (vals_from (vals_of right.now)))
+        (pairs_by_parts (pair_row row) (vals_from (vals_of left.now)) (vals_from (vals_of right.now)))) }
+{
+    if left.items.len() != right.items.len() {
+        return Err(ValueStop::Kind(FaultKind::TypeMismatch));
+    }
+    each_pair(alloc, row, left, right)
+}
+
+#[cycle(pairs)]
+fn each_pair(
+    alloc: Global,
+    row: PairRow,
+    left: &Values,
+    right: &Values,
+) -> Result<Values, ValueStop>
+    requires { length left.now.items.items ≡ length right.now.items.items }
+    ensures { TellsAll result (pairs_by_parts (pair_row row) (vals_from (vals_of left.now)) (vals_from (vals_of right.now))) }
+{
+    let mut items = Vec::new(alloc);
+    for (i, value) in left.items.iter().enumerate() {
+        items.push(by_parts(alloc, row, value, &right.items[i])?)?;
+    }
+    Ok(Values { items })
+}
+
+/// A number, or each part of a list.
+#[cycle(parts)]
+pub(crate) fn each_part(alloc: Global, row: PartRow, of: &Value) -> Result<Value, ValueStop>
+    ensures { Tells result (each_part_at (part_row row) (val_of of.now)) }
+{
+    match of {
+        Value::Number(n) => Ok(Value::Number(part(row, *n)?)),
+        Value::List(values) => Ok(Value::List(each_of(alloc, row, values)?)),
+        _ => Err(ValueStop::Kind(FaultKind::TypeMismatch)),
+    }
+}
+
+#[cycle(parts)]
+fn each_of(alloc: Global, row: PartRow, of: &Values) -> Result<Values, ValueStop>
+    ensures { TellsAll result (each_of_parts (part_row row) (vals_from (vals_of of.now))) }
+{
+    let mut items = Vec::new(alloc);
+    for value in &of.items {
+        items.push(each_part(alloc, row, value)?)?;
+    }
+    Ok(Values { items })
+}
+
+/// The sum of the products of two lists of numbers of one length.
+pub(crate) fn dot(left: &Values, right: &Values) -> Result<i128, FaultKind>
+    requires left { IsTrue (have_small_numbers (vals_from (vals_of left.now))) }
+    requires right { IsTrue (have_small_numbers (vals_from (vals_of right.now))) }
+    requires few { parts_in (vals_from (vals_of left.now)) < 2 ^ 20 }
+    requires equal { length left.now.items.items ≡ length right.now.items.items }
+    ensures { result ≡ dot_of (vals_from (vals_of left.now)) (vals_from (vals_of right.now)) }
+{
+    let mut sum: i128 = 0;
+    for (i, value) in left.items.iter().enumerate() {
+        sum += product(value, &right.items[i])?;
+    }
+    Ok(sum)
+}
+
+fn product(left: &Value, right: &Value) -> Result<i128, FaultKind>
+    requires left { IsTrue (has_small_numbers (val_of left.now)) }
+    requires right { IsTrue (has_small_numbers (val_of right.now)) }
+    ensures value { result ≡ product_at (val_of left.now) (val_of right.now) }
+    ensures size { IfOk result (λ n. unsigned_abs n ≤ 2 ^ 106) }
+{
+    match (left, right) {
+        (Value::Number(a), Value::Number(b)) => Ok(multiply(*a, *b)),
+        _ => Err(FaultKind::TypeMismatch),
+    }
+}
+
+fn multiply(left: i64, right: i64) -> i128
+    requires left { IsTrue (is_small left) }
+    requires right { IsTrue (is_small right) }
+    ensures value { result ≡ left *ℤ right }
+    ensures size { unsigned_abs result ≤ 2 ^ 106 }
+{
+    left as i128 * right as i128
+}

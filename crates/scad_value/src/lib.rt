@@ -1,0 +1,14 @@
+//! Values of the modelling language, and its operators.
+#![tactic(auto)]
+
+mod arithmetic;
+mod compare;
+mod operator;
+mod stop;
+#[cfg(test)]
+mod tests;
+mod value;
+
+pub use operator::{binary, index, unary};
+pub use stop::ValueStop;
+pub use value::{Value, Values, truth};

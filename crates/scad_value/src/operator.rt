@@ -1,0 +1,219 @@
+ghost use Rattle.std.specs.Prelude.{◌≡◌, ◌<◌, ◌^◌, IsTrue, IfOk, Ok, length};
+ghost use Rattle.scad_value.specs.Values.{is_bounded, vals_from, have_small_numbers, parts_in, NumberVal, TextVal, ListVal, UndefVal};
+ghost use Rattle.scad_value.specs.Operators.{binary_of, unary_of, index_of, made as made_at, product_of, quotient_of, remainder_of, dot_row, dot_of, and_then, sized as sized_at, number as number_at, order_of, item_at, byte_at};
+ghost use Rattle.scad_value.specs.View.{val_of, vals_of, Tells, GivesBounded};
+
+use crate::arithmetic::{
+    PairRow, PartRow, by_parts, dot, each_part, product_of_two, remainder, sized,
+};
+use crate::compare::same;
+use crate::stop::ValueStop;
+use crate::value::{Value, Values, truth};
+use scad_ast::{BinaryOp, UnaryOp};
+use std::alloc::Global;
+use std::cmp::Ordering;
+use text_place::{Bytes, FaultKind, NoMemory};
+
+/// The value of an operator of two sides, or its first fault: of the types of the sides, then of
+/// their parts in order, then LongList. Of `&&` and `||` both sides are given here.
+pub fn binary(alloc: Global, op: BinaryOp, left: &Value, right: &Value) -> Result<Value, ValueStop>
+    requires left { IsTrue (is_bounded (val_of left.now)) }
+    requires right { IsTrue (is_bounded (val_of right.now)) }
+    ensures value { Tells result (binary_of op (val_of left.now) (val_of right.now)) }
+    ensures bounded { GivesBounded result }
+{
+    operate(alloc, op, left, right)
+}
+
+fn operate(alloc: Global, op: BinaryOp, left: &Value, right: &Value) -> Result<Value, ValueStop>
+    requires left { IsTrue (is_bounded (val_of left.now)) }
+    requires right { IsTrue (is_bounded (val_of right.now)) }
+    ensures { Tells result (binary_of op (val_of left.now) (val_of right.now)) }
+{
+    match op {
+        BinaryOp::Or => Ok(Value::Truth(truth(left) || truth(right))),
+        BinaryOp::And => Ok(Value::Truth(truth(left) && truth(right))),
+        BinaryOp::Equal => Ok(Value::Truth(same(left, right))),
+        BinaryOp::NotEqual => Ok(Value::Truth(!same(left, right))),
+        BinaryOp::Less => Ok(Value::Truth(order(left, right)?.is_lt())),
+        BinaryOp::LessEqual => Ok(Value::Truth(order(left, right)?.is_le())),
+        BinaryOp::Greater => Ok(Value::Truth(order(left, right)?.is_gt())),
+        BinaryOp::GreaterEqual => Ok(Value::Truth(order(left, right)?.is_ge())),
+        BinaryOp::Add => made(by_parts(alloc, PairRow::Sum, left, right)?),
+        BinaryOp::Subtract => made(by_parts(alloc, PairRow::Difference, left, right)?),
+        BinaryOp::Multiply => made(product(alloc, left, right)?),
+        BinaryOp::Divide => made(quotient(alloc, left, right)?),
+        BinaryOp::Remainder => remainder_of_two(left, right),
+    }
+}
+
+/// The value of an operator before its operand, or its first fault.
+pub fn unary(alloc: Global, op: UnaryOp, of: &Value) -> Result<Value, ValueStop>
+    requires { IsTrue (is_bounded (val_of of.now)) }
+    ensures value { Tells result (unary_of op (val_of of.now)) }
+    ensures bounded { GivesBounded result }
+{
+    operate_on(alloc, op, of)
+}
+
+fn operate_on(alloc: Global, op: UnaryOp, of: &Value) -> Result<Value, ValueStop>
+    ensures { Tells result (unary_of op (val_of of.now)) }
+{
+    match op {
+        UnaryOp::Negate => made(each_part(alloc, PartRow::Negate, of)?),
+        UnaryOp::Keep => made(each_part(alloc, PartRow::Keep, of)?),
+        UnaryOp::Not => Ok(Value::Truth(!truth(of))),
+    }
+}
+
+/// An item of a list, or a text of one byte of a text, by its number from 0; undef where there is
+/// none. Other types are TypeMismatch.
+pub fn index(alloc: Global, of: &Value, at: &Value) -> Result<Value, ValueStop>
+    requires of { IsTrue (is_bounded (val_of of.now)) }
+    requires at { IsTrue (is_bounded (val_of at.now)) }
+    ensures value { Tells result (index_of (val_of of.now) (val_of at.now)) }
+    ensures bounded { GivesBounded result }
+{
+    part(alloc, of, at)
+}
+
+fn part(alloc: Global, of: &Value, at: &Value) -> Result<Value, ValueStop>
+    ensures { Tells result (index_of (val_of of.now) (val_of at.now)) }
+{
+    match (of, at) {
+        (Value::List(values), Value::Number(n)) => item(alloc, values, *n),
+        (Value::Text(bytes), Value::Number(n)) => byte(alloc, bytes, *n),
+        _ => Err(ValueStop::Kind(FaultKind::TypeMismatch)),
+    }
+}
+
+fn item(alloc: Global, values: &Values, n: i64) -> Result<Value, ValueStop>
+    ensures { Tells result (index_of (ListVal (vals_from (vals_of values.now))) (NumberVal n)) }
+{
+    if n < 0 {
+        return Ok(Value::Undef);
+    }
+    Ok(item_from_start(alloc, values, n as usize)?)
+}
+
+fn item_from_start(alloc: Global, values: &Values, n: usize) -> Result<Value, NoMemory>
+    ensures { IfOk result (λ v. val_of v ≡ item_at (vals_from (vals_of values.now)) n) }
+{
+    let items = values.items();
+    if n >= items.len() {
+        return Ok(undef());
+    }
+    items[n].copy(alloc)
+}
+
+fn byte(alloc: Global, bytes: &Bytes, n: i64) -> Result<Value, ValueStop>
+    ensures { Tells result (index_of (TextVal bytes.now) (NumberVal n)) }
+{
+    if n < 0 {
+        return Ok(Value::Undef);
+    }
+    Ok(byte_from_start(alloc, bytes.items(), n as usize)?)
+}
+
+fn byte_from_start(alloc: Global, bytes: &[u8], n: usize) -> Result<Value, NoMemory>
+    ensures { IfOk result (λ v. val_of v ≡ byte_at bytes.now n) }
+{
+    if n >= bytes.len() {
+        return Ok(undef());
+    }
+    Ok(text(vec![in alloc; bytes[n]]?))
+}
+
+fn undef() -> Value
+    ensures { val_of result ≡ UndefVal }
+{
+    Value::Undef
+}
+
+fn text(bytes: Vec<u8>) -> Value
+    ensures { val_of result ≡ TextVal bytes.items }
+{
+    Value::Text(Bytes::of(bytes))
+}
+
+/// A value that an operator makes.
+fn made(value: Value) -> Result<Value, ValueStop>
+    ensures { Tells result (made_at (Ok (val_of value))) }
+{
+    if value.parts() > 4096 || value.nesting() > 64 {
+        return Err(ValueStop::Kind(FaultKind::LongList));
+    }
+    Ok(value)
+}
+
+fn order(left: &Value, right: &Value) -> Result<Ordering, FaultKind>
+    ensures { result ≡ order_of (val_of left.now) (val_of right.now) }
+{
+    match (left, right) {
+        (Value::Number(a), Value::Number(b)) => Ok(a.cmp(b)),
+        _ => Err(FaultKind::TypeMismatch),
+    }
+}
+
+fn product(alloc: Global, left: &Value, right: &Value) -> Result<Value, ValueStop>
+    requires left { IsTrue (is_bounded (val_of left.now)) }
+    requires right { IsTrue (is_bounded (val_of right.now)) }
+    ensures { Tells result (product_of (val_of left.now) (val_of right.now)) }
+{
+    match (left, right) {
+        (Value::Number(a), Value::Number(b)) => Ok(Value::Number(product_of_two(*a, *b)?)),
+        (Value::Number(a), Value::List(_)) => each_part(alloc, PartRow::Times(*a), right),
+        (Value::List(_), Value::Number(b)) => each_part(alloc, PartRow::Times(*b), left),
+        (Value::List(a), Value::List(b)) => dot_product(a, b),
+        _ => Err(ValueStop::Kind(FaultKind::TypeMismatch)),
+    }
+}
+
+fn dot_product(left: &Values, right: &Values) -> Result<Value, ValueStop>
+    requires left { IsTrue (have_small_numbers (vals_from (vals_of left.now))) }
+    requires right { IsTrue (have_small_numbers (vals_from (vals_of right.now))) }
+    requires few { parts_in (vals_from (vals_of left.now)) < 2 ^ 20 }
+    ensures { Tells result (dot_row (vals_from (vals_of left.now)) (vals_from (vals_of right.now))) }
+{
+    if left.items.len() == 0 {
+        return Err(ValueStop::Kind(FaultKind::TypeMismatch));
+    }
+    if left.items.len() != right.items.len() {
+        return Err(ValueStop::Kind(FaultKind::TypeMismatch));
+    }
+    number(sized_dot(left, right))
+}
+
+fn sized_dot(left: &Values, right: &Values) -> Result<i64, FaultKind>
+    requires left { IsTrue (have_small_numbers (vals_from (vals_of left.now))) }
+    requires right { IsTrue (have_small_numbers (vals_from (vals_of right.now))) }
+    requires few { parts_in (vals_from (vals_of left.now)) < 2 ^ 20 }
+    requires equal { length left.now.items.items ≡ length right.now.items.items }
+    ensures { result ≡ and_then (dot_of (vals_from (vals_of left.now)) (vals_from (vals_of right.now))) sized_at }
+{
+    sized(dot(left, right)?)
+}
+
+fn number(answer: Result<i64, FaultKind>) -> Result<Value, ValueStop>
+    ensures { Tells result (number_at answer) }
+{
+    Ok(Value::Number(answer?))
+}
+
+fn quotient(alloc: Global, left: &Value, right: &Value) -> Result<Value, ValueStop>
+    ensures { Tells result (quotient_of (val_of left.now) (val_of right.now)) }
+{
+    match right {
+        Value::Number(by) => each_part(alloc, PartRow::Over(*by), left),
+        _ => Err(ValueStop::Kind(FaultKind::TypeMismatch)),
+    }
+}
+
+fn remainder_of_two(left: &Value, right: &Value) -> Result<Value, ValueStop>
+    ensures { Tells result (remainder_of (val_of left.now) (val_of right.now)) }
+{
+    match (left, right) {
+        (Value::Number(a), Value::Number(b)) => Ok(Value::Number(remainder(*a, *b)?)),
+        _ => Err(ValueStop::Kind(FaultKind::TypeMismatch)),
+    }
+}
