@@ -1,5 +1,5 @@
 -- What the parser's loops read leaves no more tokens than there were, or fewer.
-use Rattle.std.proofs.Common.{◌≡◌, ℕ, zero, suc, ◌<◌, ◌≤◌, List, [], ◌∷◌, ◌++◌, length, Bool, true, false, cond, Ok, Err, Some, None, refl, sym, ap, ◌∙◌, subst, arith, length-append}
+use Rattle.std.proofs.Common.{◌≡◌, ℕ, zero, suc, ◌<◌, ◌≤◌, List, [], ◌∷◌, ◌++◌, length, Bool, true, false, cond, Ok, Err, Some, None, refl, ap, arith, length-append}
 use Rattle.scad_lexer.specs.declared.token.Token.{Token}
 use Rattle.scad_ast.specs.Terms.{Term, PositionalTerm}
 use Rattle.scad_grammar.specs.declared.SyntaxFault.{SyntaxFault}
@@ -8,7 +8,7 @@ use Rattle.scad_grammar.specs.Classes.{name, open_bracket_sign, close_bracket_si
 use Rattle.scad_grammar.specs.Languages.{Language, first_of, second_of}
 use Rattle.scad_grammar.specs.Grammar.{whole, Statement, link, chain_of, index_of, member_of, mark_of, param_of, binder_of}
 use Rattle.scad_grammar.specs.Faults.{Reads, one, fault_of, left_out, left_out_of_expressions}
-use Rattle.scad_grammar.specs.Reading.{Read, after, starts, mapped, nothing, both, choice, maybe, many}
+use Rattle.scad_grammar.specs.Reading.{Read, after, starts, mapped, nothing, both, maybe, many}
 use Rattle.scad_grammar.specs.Reads.{firsts_of_expression, nested, head_of, named, suffix_read, unary_read, primary_read, chain_read, arg_in, expr_read, operand_read}
 use Rattle.scad_grammar.specs.StatementReads.{mark_signs, param_in, binder_in, firsts_of_statement, statement_read}
 use Rattle.scad_grammar.proofs.Readers.{Told, IsReader, Opens}

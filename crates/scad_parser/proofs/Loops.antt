@@ -1,5 +1,5 @@
 -- The steps of the parser's loops, over readers that leave fewer tokens.
-use Rattle.std.proofs.Common.{◌≡◌, ℕ, zero, suc, ◌<◌, ◌≤◌, List, [], ◌∷◌, length, Bool, true, false, cond, Ok, Err, refl, sym, ap, ◌∙◌, arith, ◌&&◌}
+use Rattle.std.proofs.Common.{◌≡◌, ℕ, zero, suc, ◌<◌, ◌≤◌, List, [], ◌∷◌, length, Bool, true, false, cond, Ok, Err, refl, ap, ◌∙◌, arith, ◌&&◌}
 use Rattle.scad_lexer.specs.declared.token.Token.{Token}
 use Rattle.scad_grammar.specs.declared.SyntaxFault.{SyntaxFault}
 use Rattle.scad_grammar.specs.Classes.{comma_sign, is}

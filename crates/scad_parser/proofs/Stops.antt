@@ -1,24 +1,7 @@
 -- A fault of a part goes on to the list that holds it.
-use Rattle.std.proofs.Common.{◌≡◌, List, Result, Ok, Err}
+use Rattle.std.proofs.Common.{◌≡◌, List, Err}
 use Rattle.std.specs.Borrow.{Bor}
 use Rattle.scad_lexer.specs.declared.token.Token.{Token}
-use Rattle.scad_ast.specs.declared.expression.Expr.{Expr}
-use Rattle.scad_ast.specs.declared.expression.Exprs.{Exprs}
-use Rattle.scad_ast.specs.declared.expression.Link.{Link}
-use Rattle.scad_ast.specs.declared.expression.Links.{Links}
-use Rattle.scad_ast.specs.declared.expression.Suffix.{Suffix}
-use Rattle.scad_ast.specs.declared.expression.Suffixes.{Suffixes}
-use Rattle.scad_ast.specs.declared.expression.Arg.{Arg}
-use Rattle.scad_ast.specs.declared.expression.Args.{Args}
-use Rattle.scad_ast.specs.declared.statement.Param.{Param}
-use Rattle.scad_ast.specs.declared.statement.Params.{Params}
-use Rattle.scad_ast.specs.declared.statement.Binder.{Binder}
-use Rattle.scad_ast.specs.declared.statement.Binders.{Binders}
-use Rattle.scad_ast.specs.declared.statement.Mark.{Mark}
-use Rattle.scad_ast.specs.declared.statement.Marks.{Marks}
-use Rattle.scad_ast.specs.declared.statement.Statement.{Statement}
-use Rattle.scad_ast.specs.declared.statement.Statements.{Statements}
-use Rattle.scad_ast.specs.Terms.{Term, ArgTerm, LinkTerm, SuffixTerm, ParamTerm, BinderTerm, MarkTerm, StatementTerm}
 use Rattle.scad_ast.specs.ExprView.{term_of, terms_of, link_of, links_of, suffix_of, suffixes_of, arg_of, args_of}
 use Rattle.scad_ast.specs.StatementView.{param_of, params_of, binder_of, binders_of, mark_of, marks_of, statement_of, statements_of}
 use Rattle.scad_grammar.specs.declared.SyntaxFault.{SyntaxFault}

@@ -2,7 +2,7 @@
 use Rattle.std.proofs.Common.{◌≡◌, List, map}
 use Rattle.scad_ast.specs.declared.expression.Expr.{Expr}
 use Rattle.scad_ast.specs.declared.expression.Exprs.{Exprs, roll-Exprs}
-use Rattle.scad_ast.specs.declared.expression.Link.{Link, roll-Link}
+use Rattle.scad_ast.specs.declared.expression.Link.{Link}
 use Rattle.scad_ast.specs.declared.expression.Links.{Links, roll-Links}
 use Rattle.scad_ast.specs.declared.expression.Suffix.{Suffix}
 use Rattle.scad_ast.specs.declared.expression.Suffixes.{Suffixes, roll-Suffixes}

@@ -26,11 +26,7 @@ pub fn expr<'a>(alloc: Global, tokens: &'a [Token], depth: u32) -> Parsed<'a, Ex
     ensures rest { IfOk result (λ p. length p.1.now ≤ length tokens.now) }
 {
     if depth == 0 {
-        return Err(too_deep(
-            Class::Expression,
-            Class::LeftOutOfExpressions,
-            tokens,
-        ));
+        return Err(too_deep(Class::Expression, Class::LeftOutOfExpressions, tokens));
     }
     choice(alloc, tokens, depth - 1)
 }
@@ -58,12 +54,7 @@ fn choice<'a>(alloc: Global, tokens: &'a [Token], depth: u32) -> Parsed<'a, Expr
 
 /// A chain of the operators of a level.
 #[cycle(expression)]
-fn chain<'a>(
-    alloc: Global,
-    tokens: &'a [Token],
-    depth: u32,
-    level: Level,
-) -> Parsed<'a, Expr>
+fn chain<'a>(alloc: Global, tokens: &'a [Token], depth: u32, level: Level) -> Parsed<'a, Expr>
     ensures value { Gives (λ p. (term_of p.0, p.1.now)) result (chain_read (levels_at level) (unary_read (expr_read depth) (operand_read depth) (primary_read (expr_read depth) (arg_in depth (expr_read depth)))) tokens.now) }
     ensures rest { IfOk result (λ p. length p.1.now ≤ length tokens.now) }
 {
@@ -74,12 +65,7 @@ fn chain<'a>(
 
 /// What the operators of a level stand between.
 #[cycle(expression)]
-fn side<'a>(
-    alloc: Global,
-    tokens: &'a [Token],
-    depth: u32,
-    level: Level,
-) -> Parsed<'a, Expr>
+fn side<'a>(alloc: Global, tokens: &'a [Token], depth: u32, level: Level) -> Parsed<'a, Expr>
     ensures value { Gives (λ p. (term_of p.0, p.1.now)) result (chain_read (levels_below level) (unary_read (expr_read depth) (operand_read depth) (primary_read (expr_read depth) (arg_in depth (expr_read depth)))) tokens.now) }
     ensures rest { IfOk result (λ p. length p.1.now ≤ length tokens.now) }
 {
@@ -91,12 +77,7 @@ fn side<'a>(
 
 /// The operators of a level and what stands behind each.
 #[cycle(expression)]
-fn links<'a>(
-    alloc: Global,
-    tokens: &'a [Token],
-    depth: u32,
-    level: Level,
-) -> Parsed<'a, Links>
+fn links<'a>(alloc: Global, tokens: &'a [Token], depth: u32, level: Level) -> Parsed<'a, Links>
     ensures value { Gives (λ p. (links_of p.0, p.1.now)) result (many (among (operators_at level)) (both link_at (one (among (operators_at level))) (chain_read (levels_below level) (unary_read (expr_read depth) (operand_read depth) (primary_read (expr_read depth) (arg_in depth (expr_read depth)))))) tokens.now) }
     ensures rest { IfOk result (λ p. length p.1.now ≤ length tokens.now) }
 {
@@ -112,12 +93,7 @@ fn links<'a>(
 
 /// An operator of a level and what stands behind it.
 #[cycle(expression)]
-fn link<'a>(
-    alloc: Global,
-    tokens: &'a [Token],
-    depth: u32,
-    level: Level,
-) -> Parsed<'a, Link>
+fn link<'a>(alloc: Global, tokens: &'a [Token], depth: u32, level: Level) -> Parsed<'a, Link>
     ensures value { Gives (λ p. (link_of p.0, p.1.now)) result (both link_at (one (among (operators_at level))) (chain_read (levels_below level) (unary_read (expr_read depth) (operand_read depth) (primary_read (expr_read depth) (arg_in depth (expr_read depth))))) tokens.now) }
     ensures shorter { IfOk result (λ p. length p.1.now < length tokens.now) }
 {
@@ -150,11 +126,7 @@ fn operand<'a>(alloc: Global, tokens: &'a [Token], depth: u32) -> Parsed<'a, Exp
     ensures rest { IfOk result (λ p. length p.1.now ≤ length tokens.now) }
 {
     if depth == 0 {
-        return Err(too_deep(
-            Class::Expression,
-            Class::LeftOutOfExpressions,
-            tokens,
-        ));
+        return Err(too_deep(Class::Expression, Class::LeftOutOfExpressions, tokens));
     }
     unary(alloc, tokens, depth - 1)
 }
@@ -380,11 +352,7 @@ fn arg<'a>(alloc: Global, tokens: &'a [Token], depth: u32) -> Parsed<'a, Arg>
     ensures rest { IfOk result (λ p. length p.1.now ≤ length tokens.now) }
 {
     if depth == 0 {
-        return Err(too_deep(
-            Class::Expression,
-            Class::LeftOutOfExpressions,
-            tokens,
-        ));
+        return Err(too_deep(Class::Expression, Class::LeftOutOfExpressions, tokens));
     }
     if !is_named(tokens) {
         let (value, rest) = expr(alloc, tokens, depth)?;
@@ -413,11 +381,7 @@ fn chain_of(alloc: Global, first: Expr, links: Links) -> Result<Expr, AllocFaile
     if links.items.is_empty() {
         return Ok(first);
     }
-    Ok(Expr::Chain(
-        first.place(),
-        Box::new(alloc, first)?,
-        links,
-    ))
+    Ok(Expr::Chain(first.place(), Box::new(alloc, first)?, links))
 }
 
 /// A primary with its indexes and members, or alone.

@@ -131,10 +131,7 @@ pub fn take_first<'a>(class: Class, tokens: &'a [Token]) -> Parsed<'a, &'a Token
 {
     match tokens {
         [token, rest @ ..] if class.has(&token.kind) => Ok((token, rest)),
-        _ => Err(Stopped::Fault(
-            fault(Class::LeftOutOfExpressions, tokens),
-            tokens,
-        )),
+        _ => Err(Stopped::Fault(fault(Class::LeftOutOfExpressions, tokens), tokens)),
     }
 }
 

@@ -149,12 +149,7 @@ fn module<'a>(alloc: Global, tokens: &'a [Token], depth: u32) -> Parsed<'a, Stat
 }
 
 /// A function, by the depth of its expression and that of its defaults.
-fn function<'a>(
-    alloc: Global,
-    tokens: &'a [Token],
-    depth: u32,
-    inner: u32,
-) -> Parsed<'a, Statement>
+fn function<'a>(alloc: Global, tokens: &'a [Token], depth: u32, inner: u32) -> Parsed<'a, Statement>
     ensures value { Gives (λ p. (statement_of p.0, p.1.now)) result (function_read (expr_read depth) (param_in inner (expr_read inner)) tokens.now) }
     ensures shorter { IfOk result (λ p. length p.1.now < length tokens.now) }
 {

@@ -79,18 +79,12 @@ fn reads_small_programs(rt: HostRuntime) -> Result<(), Fail> {
             b"{<@1 cube@1 ((list@6 1@7 2@11 3@13 ));@16 >}",
         ),
         (b"cube(2);\n", b"{<@1 cube@1 (2@6 );@8 >}"),
-        (
-            b"x=1-2-3;\n",
-            b"{set x@1 (chain@3 1@3 -@4 2@5 -@6 3@7 )}",
-        ),
+        (b"x=1-2-3;\n", b"{set x@1 (chain@3 1@3 -@4 2@5 -@6 3@7 )}"),
         (
             b"x=1+2*3;\n",
             b"{set x@1 (chain@3 1@3 +@4 (chain@5 2@5 *@6 3@7 ))}",
         ),
-        (
-            b"x=1%2/3;\n",
-            b"{set x@1 (chain@3 1@3 %@4 2@5 /@6 3@7 )}",
-        ),
+        (b"x=1%2/3;\n", b"{set x@1 (chain@3 1@3 %@4 2@5 /@6 3@7 )}"),
         (
             b"x=a||b&&c==d<e+f*g;\n",
             b"{set x@1 (chain@3 a@3 ||@4 (chain@6 b@6 &&@7 (chain@9 c@9 ==@10 (chain@12 d@12 <@13 (chain@14 e@14 +@15 (chain@16 f@16 *@17 g@18 ))))))}",
@@ -99,10 +93,7 @@ fn reads_small_programs(rt: HostRuntime) -> Result<(), Fail> {
             b"x=a!=b;y=c<=d;z=e>f>=g;\n",
             b"{set x@1 (chain@3 a@3 !=@4 b@6 )set y@8 (chain@10 c@10 <=@11 d@13 )set z@15 (chain@17 e@17 >@18 f@19 >=@20 g@22 )}",
         ),
-        (
-            b"x=-!+1;\n",
-            b"{set x@1 (neg@3 (not@4 (keep@5 1@6 )))}",
-        ),
+        (b"x=-!+1;\n", b"{set x@1 (neg@3 (not@4 (keep@5 1@6 )))}"),
         (
             b"x=-a.x[1];\n",
             b"{set x@1 (neg@3 (postfix@4 a@4 .@5 x@6 []@7 1@8 ))}",
@@ -116,10 +107,7 @@ fn reads_small_programs(rt: HostRuntime) -> Result<(), Fail> {
         (b"x=[1:2:3];\n", b"{set x@1 (range@3 1@4 2@6 3@8 )}"),
         (b"x=(1);\n", b"{set x@1 (paren@3 1@4 )}"),
         (b"x=f();\n", b"{set x@1 (call f@3 )}"),
-        (
-            b"x=f(a=1,2);\n",
-            b"{set x@1 (call f@3 a@5 = 1@7 2@9 )}",
-        ),
+        (b"x=f(a=1,2);\n", b"{set x@1 (call f@3 a@5 = 1@7 2@9 )}"),
         (
             b"x=f(a,a==1);\n",
             b"{set x@1 (call f@3 a@5 (chain@7 a@7 ==@8 1@10 ))}",
@@ -131,18 +119,12 @@ fn reads_small_programs(rt: HostRuntime) -> Result<(), Fail> {
         (b"x=\"ab\";\n", b"{set x@1 'ab@3 }"),
         (b"x=$children;\n", b"{set x@1 $children@3 }"),
         (b";{;}\n", b"{;@1 block@2 {;@3 }}"),
-        (
-            b"*%#!m();\n",
-            b"{<@1 *@1 %@2 #@3 !@4 m@5 ();@8 >}",
-        ),
+        (b"*%#!m();\n", b"{<@1 *@1 %@2 #@3 !@4 m@5 ();@8 >}"),
         (
             b"module m(a,b=1)n();\n",
             b"{module@1 m@8 [a@10 b@12 = 1@14 ]<@16 n@16 ();@19 >}",
         ),
-        (
-            b"function f(a)=a;\n",
-            b"{function@1 f@10 [a@12 ]a@15 }",
-        ),
+        (b"function f(a)=a;\n", b"{function@1 f@10 [a@12 ]a@15 }"),
         (
             b"for(i=[1:2],j=k)m();\n",
             b"{<@1 for@1 i@5 = (range@7 1@8 2@10 )j@13 = k@15 <@17 m@17 ();@20 >>}",
@@ -152,15 +134,12 @@ fn reads_small_programs(rt: HostRuntime) -> Result<(), Fail> {
             b"{<@1 intersection_for@1 i@18 = 1@20 ;@22 >}",
         ),
         (b"m(){n();}\n", b"{<@1 m@1 ()body@4 {<@5 n@5 ();@8 >}>}"),
+        (b"m()n()\n;\n", b"{<@1 m@1 ()<@4 n@4 ();@1 >>}"),
+        (b"f(x)[1];\n", b"1:5 Expected"),
         (
-            b"m()n()\n;\n",
-            b"{<@1 m@1 ()<@4 n@4 ();@1 >>}",
+            b"x=f(1)[2].y;\n",
+            b"{set x@1 (postfix@3 (call f@3 1@5 )[]@7 2@8 .@10 y@11 )}",
         ),
-        (
-            b"f(x)[1];\n",
-            b"1:5 Expected",
-        ),
-        (b"x=f(1)[2].y;\n", b"{set x@1 (postfix@3 (call f@3 1@5 )[]@7 2@8 .@10 y@11 )}"),
     ];
     for (source, program) in cases {
         assert_eq!(rt; told(rt.alloc(), source)?.as_slice(), program);
@@ -315,24 +294,34 @@ fn reads_reserved_names_elsewhere(rt: HostRuntime) -> Result<(), Fail> {
         (b"if", b"NotInProfile", b"1:3 Expected", b""),
         (b"else", b"Expected", b"1:1 Expected", b"Expected"),
         (b"for", b"NotInProfile", b"1:4 Expected", b""),
-        (
-            b"intersection_for",
-            b"Expected",
-            b"1:17 Expected",
-            b"",
-        ),
+        (b"intersection_for", b"Expected", b"1:17 Expected", b""),
         (b"true", b"", b"1:1 Expected", b"Expected"),
         (b"false", b"", b"1:1 Expected", b"Expected"),
         (b"undef", b"", b"1:1 Expected", b"Expected"),
-        (b"use", b"NotInProfile", b"1:1 NotInProfile", b"NotInProfile"),
+        (
+            b"use",
+            b"NotInProfile",
+            b"1:1 NotInProfile",
+            b"NotInProfile",
+        ),
         (
             b"include",
             b"NotInProfile",
             b"1:1 NotInProfile",
             b"NotInProfile",
         ),
-        (b"let", b"NotInProfile", b"1:1 NotInProfile", b"NotInProfile"),
-        (b"each", b"NotInProfile", b"1:1 NotInProfile", b"NotInProfile"),
+        (
+            b"let",
+            b"NotInProfile",
+            b"1:1 NotInProfile",
+            b"NotInProfile",
+        ),
+        (
+            b"each",
+            b"NotInProfile",
+            b"1:1 NotInProfile",
+            b"NotInProfile",
+        ),
     ];
     for (name, in_expression, in_statement, in_body) in cases {
         let expressions: [(&[u8], &[u8]); 5] = [
@@ -432,11 +421,15 @@ fn refuses_symbols(rt: HostRuntime) -> Result<(), Fail> {
     let marks: [&[u8]; 4] = [b"*", b"%", b"#", b"!"];
     for symbol in marks {
         let source = joined(rt.alloc(), &[symbol, b" ;\n"])?;
-        assert_eq!(rt; told(rt.alloc(), &source)?.as_slice(), b"1:3 Expected".as_slice());
+        assert_eq!(rt;
+            told(rt.alloc(), &source)?.as_slice(),
+            b"1:3 Expected".as_slice()
+        );
     }
     Ok(())
 }
 
+#[derive(Drop)]
 struct Nesting {
     before: &'static [u8],
     open: &'static [u8],
@@ -465,23 +458,159 @@ fn nested(alloc: Global, nesting: &Nesting, times: usize) -> Result<Vec<u8>, Fai
 #[test]
 fn counts_depth(rt: HostRuntime) -> Result<(), Fail> {
     let cases: [Nesting; 17] = [
-        Nesting { before: b"x=", open: b"(", inside: b"1", close: b")", after: b";\n", most: 64, fault: b"1:68 Nested" },
-        Nesting { before: b"x=", open: b"[", inside: b"1", close: b"]", after: b";\n", most: 64, fault: b"1:68 Nested" },
-        Nesting { before: b"x=", open: b"[", inside: b"", close: b"]", after: b";\n", most: 65, fault: b"1:68 Nested" },
-        Nesting { before: b"x=", open: b"f(", inside: b"1", close: b")", after: b";\n", most: 64, fault: b"1:133 Nested" },
-        Nesting { before: b"x=", open: b"f(", inside: b"a=1", close: b")", after: b";\n", most: 64, fault: b"1:133 Nested" },
-        Nesting { before: b"x=", open: b"f(", inside: b"", close: b")", after: b";\n", most: 65, fault: b"1:133 Nested" },
-        Nesting { before: b"x=", open: b"a[", inside: b"1", close: b"]", after: b";\n", most: 64, fault: b"1:133 Nested" },
-        Nesting { before: b"x=", open: b"-", inside: b"1", close: b"", after: b";\n", most: 64, fault: b"1:68 Nested" },
-        Nesting { before: b"x=", open: b"1?1:", inside: b"1", close: b"", after: b";\n", most: 64, fault: b"1:261 Nested" },
-        Nesting { before: b"", open: b"m()", inside: b";", close: b"", after: b"\n", most: 64, fault: b"1:196 Nested" },
-        Nesting { before: b"", open: b"m(){", inside: b";", close: b"}", after: b"\n", most: 32, fault: b"1:132 Nested" },
-        Nesting { before: b"", open: b"{", inside: b";", close: b"}", after: b"\n", most: 64, fault: b"1:66 Nested" },
-        Nesting { before: b"", open: b"{", inside: b"", close: b"}", after: b"\n", most: 65, fault: b"1:66 Nested" },
-        Nesting { before: b"", open: b"if(1)", inside: b";", close: b"", after: b"\n", most: 64, fault: b"1:324 Nested" },
-        Nesting { before: b"", open: b"if(1);else ", inside: b";", close: b"", after: b"\n", most: 64, fault: b"1:708 Nested" },
-        Nesting { before: b"", open: b"for(i=1)", inside: b";", close: b"", after: b"\n", most: 64, fault: b"1:517 Nested" },
-        Nesting { before: b"", open: b"module m(){", inside: b"", close: b"}", after: b"\n", most: 32, fault: b"1:363 Nested" },
+        Nesting {
+            before: b"x=",
+            open: b"(",
+            inside: b"1",
+            close: b")",
+            after: b";\n",
+            most: 64,
+            fault: b"1:68 Nested",
+        },
+        Nesting {
+            before: b"x=",
+            open: b"[",
+            inside: b"1",
+            close: b"]",
+            after: b";\n",
+            most: 64,
+            fault: b"1:68 Nested",
+        },
+        Nesting {
+            before: b"x=",
+            open: b"[",
+            inside: b"",
+            close: b"]",
+            after: b";\n",
+            most: 65,
+            fault: b"1:68 Nested",
+        },
+        Nesting {
+            before: b"x=",
+            open: b"f(",
+            inside: b"1",
+            close: b")",
+            after: b";\n",
+            most: 64,
+            fault: b"1:133 Nested",
+        },
+        Nesting {
+            before: b"x=",
+            open: b"f(",
+            inside: b"a=1",
+            close: b")",
+            after: b";\n",
+            most: 64,
+            fault: b"1:133 Nested",
+        },
+        Nesting {
+            before: b"x=",
+            open: b"f(",
+            inside: b"",
+            close: b")",
+            after: b";\n",
+            most: 65,
+            fault: b"1:133 Nested",
+        },
+        Nesting {
+            before: b"x=",
+            open: b"a[",
+            inside: b"1",
+            close: b"]",
+            after: b";\n",
+            most: 64,
+            fault: b"1:133 Nested",
+        },
+        Nesting {
+            before: b"x=",
+            open: b"-",
+            inside: b"1",
+            close: b"",
+            after: b";\n",
+            most: 64,
+            fault: b"1:68 Nested",
+        },
+        Nesting {
+            before: b"x=",
+            open: b"1?1:",
+            inside: b"1",
+            close: b"",
+            after: b";\n",
+            most: 64,
+            fault: b"1:261 Nested",
+        },
+        Nesting {
+            before: b"",
+            open: b"m()",
+            inside: b";",
+            close: b"",
+            after: b"\n",
+            most: 64,
+            fault: b"1:196 Nested",
+        },
+        Nesting {
+            before: b"",
+            open: b"m(){",
+            inside: b";",
+            close: b"}",
+            after: b"\n",
+            most: 32,
+            fault: b"1:132 Nested",
+        },
+        Nesting {
+            before: b"",
+            open: b"{",
+            inside: b";",
+            close: b"}",
+            after: b"\n",
+            most: 64,
+            fault: b"1:66 Nested",
+        },
+        Nesting {
+            before: b"",
+            open: b"{",
+            inside: b"",
+            close: b"}",
+            after: b"\n",
+            most: 65,
+            fault: b"1:66 Nested",
+        },
+        Nesting {
+            before: b"",
+            open: b"if(1)",
+            inside: b";",
+            close: b"",
+            after: b"\n",
+            most: 64,
+            fault: b"1:324 Nested",
+        },
+        Nesting {
+            before: b"",
+            open: b"if(1);else ",
+            inside: b";",
+            close: b"",
+            after: b"\n",
+            most: 64,
+            fault: b"1:708 Nested",
+        },
+        Nesting {
+            before: b"",
+            open: b"for(i=1)",
+            inside: b";",
+            close: b"",
+            after: b"\n",
+            most: 64,
+            fault: b"1:517 Nested",
+        },
+        Nesting {
+            before: b"",
+            open: b"module m(){",
+            inside: b"",
+            close: b"}",
+            after: b"\n",
+            most: 32,
+            fault: b"1:363 Nested",
+        },
     ];
     for nesting in &cases {
         let within = nested(rt.alloc(), nesting, nesting.most)?;

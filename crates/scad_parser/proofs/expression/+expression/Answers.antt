@@ -1,4 +1,4 @@
-use Rattle.std.proofs.Common.{rules, ◌≡◌, ◌∙◌, [], ◌∷◌, sym, ap, map, arith}
+use Rattle.std.proofs.Common.{rules, ◌∙◌, [], ◌∷◌, sym, ap, arith}
 use Rattle.std.proofs.lemmas.List.{map-append}
 use Rattle.std.proofs.lemmas.Result.{err_from_is_err_and}
 use Rattle.scad_ast.specs.ExprView.{term_of, link_of, suffix_of, arg_of}
@@ -39,9 +39,9 @@ links-returns-in_err-item-clause-value t c =
 
 pub links-links-preserved : goal.links-links-preserved
 links-links-preserved t c = record {
-    told = rw (c.in_ok-push.ensures.items, map-append) (loop_more _ _ _ _ _ c.links.invariant.told (many_more (among (operators_at c.args.level)) _ (link_strict c.args.level c.args.depth) c.links.rest.now (link_of c.in_ok-item.item) c.in_ok-item.after.now (sym c.begins.ensures ∙ c.links-test.true) c.in_ok-item.ensures.value));
-    rest = omega (arith, c.in_ok-item.ensures.shorter, c.links.invariant.rest);
-  }
+  told = rw (c.in_ok-push.ensures.items, map-append) (loop_more _ _ _ _ _ c.links.invariant.told (many_more (among (operators_at c.args.level)) _ (link_strict c.args.level c.args.depth) c.links.rest.now (link_of c.in_ok-item.item) c.in_ok-item.after.now (sym c.begins.ensures ∙ c.links-test.true) c.in_ok-item.ensures.value));
+  rest = omega (arith, c.in_ok-item.ensures.shorter, c.links.invariant.rest);
+}
 
 pub links-returns-clause-value : goal.links-returns-clause-value
 links-returns-clause-value t c = rw (links_roll (record { items = c.links.items })) (loop_end _ _ _ _ c.links.invariant.told (many_end (among (operators_at c.args.level)) _ (link_strict c.args.level c.args.depth) c.links.rest.now (sym c.begins.ensures ∙ c.links-test.false)))
@@ -53,9 +53,9 @@ suffixes-returns-in_err-item-clause-value t c =
 
 pub suffixes-suffixes-preserved : goal.suffixes-suffixes-preserved
 suffixes-suffixes-preserved t c = record {
-    told = rw (c.in_ok-push.ensures.items, map-append) (loop_more _ _ _ _ _ c.suffixes.invariant.told (many_more (among suffix_signs) _ (suffix_strict c.args.depth) c.suffixes.rest.now (suffix_of c.in_ok-item.item) c.in_ok-item.after.now (sym c.begins.ensures ∙ c.suffixes-test.true) c.in_ok-item.ensures.value));
-    rest = omega (arith, c.in_ok-item.ensures.shorter, c.suffixes.invariant.rest);
-  }
+  told = rw (c.in_ok-push.ensures.items, map-append) (loop_more _ _ _ _ _ c.suffixes.invariant.told (many_more (among suffix_signs) _ (suffix_strict c.args.depth) c.suffixes.rest.now (suffix_of c.in_ok-item.item) c.in_ok-item.after.now (sym c.begins.ensures ∙ c.suffixes-test.true) c.in_ok-item.ensures.value));
+  rest = omega (arith, c.in_ok-item.ensures.shorter, c.suffixes.invariant.rest);
+}
 
 pub suffixes-returns-clause-value : goal.suffixes-returns-clause-value
 suffixes-returns-clause-value t c = rw (suffixes_roll (record { items = c.suffixes.items })) (loop_end _ _ _ _ c.suffixes.invariant.told (many_end (among suffix_signs) _ (suffix_strict c.args.depth) c.suffixes.rest.now (sym c.begins.ensures ∙ c.suffixes-test.false)))
@@ -67,9 +67,9 @@ more_args-returns-in_err-item-clause-value t c =
 
 pub more_args-commas-preserved : goal.more_args-commas-preserved
 more_args-commas-preserved t c = record {
-    told = rw (c.in_ok-push.ensures.items, map-append) (loop_more _ _ _ _ _ c.commas.invariant.told (trailing_more (other_than (close_parenthesis_sign ∷ [])) _ (arg_shorter c.args.depth) c.commas.rest.now (arg_of c.in_ok-item.item) c.in_ok-item.after.now (sym c.is_comma_before.ensures ∙ c.commas-test.true) (ap (arg_in c.args.depth (expr_read c.args.depth)) (sym c.behind_comma.ensures.rest) ∙ c.in_ok-item.ensures.value)));
-    rest = omega (arith, c.in_ok-item.ensures.rest, c.behind_comma.ensures.within, c.commas.invariant.rest);
-  }
+  told = rw (c.in_ok-push.ensures.items, map-append) (loop_more _ _ _ _ _ c.commas.invariant.told (trailing_more (other_than (close_parenthesis_sign ∷ [])) _ (arg_shorter c.args.depth) c.commas.rest.now (arg_of c.in_ok-item.item) c.in_ok-item.after.now (sym c.is_comma_before.ensures ∙ c.commas-test.true) (ap (arg_in c.args.depth (expr_read c.args.depth)) (sym c.behind_comma.ensures.rest) ∙ c.in_ok-item.ensures.value)));
+  rest = omega (arith, c.in_ok-item.ensures.rest, c.behind_comma.ensures.within, c.commas.invariant.rest);
+}
 
 pub more_args-returns-clause-value : goal.more_args-returns-clause-value
 more_args-returns-clause-value t c = rw (args_roll (record { items = c.commas.items }), c.behind_comma-2.ensures.rest) (loop_end _ _ _ _ c.commas.invariant.told (trailing_end (other_than (close_parenthesis_sign ∷ [])) _ (arg_shorter c.args.depth) c.commas.rest.now (sym c.is_comma_before.ensures ∙ c.commas-test.false)))
@@ -81,9 +81,9 @@ more_items-returns-in_err-item-clause-value t c =
 
 pub more_items-commas-preserved : goal.more_items-commas-preserved
 more_items-commas-preserved t c = record {
-    told = rw (c.in_ok-push.ensures.items, map-append) (loop_more _ _ _ _ _ c.commas.invariant.told (trailing_more (other_than (close_bracket_sign ∷ [])) _ (expr_shorter c.args.depth) c.commas.rest.now (term_of c.in_ok-item.item) c.in_ok-item.after.now (sym c.is_comma_before.ensures ∙ c.commas-test.true) (ap (expr_read c.args.depth) (sym c.behind_comma.ensures.rest) ∙ c.in_ok-item.ensures.value)));
-    rest = omega (arith, c.in_ok-item.ensures.rest, c.behind_comma.ensures.within, c.commas.invariant.rest);
-  }
+  told = rw (c.in_ok-push.ensures.items, map-append) (loop_more _ _ _ _ _ c.commas.invariant.told (trailing_more (other_than (close_bracket_sign ∷ [])) _ (expr_shorter c.args.depth) c.commas.rest.now (term_of c.in_ok-item.item) c.in_ok-item.after.now (sym c.is_comma_before.ensures ∙ c.commas-test.true) (ap (expr_read c.args.depth) (sym c.behind_comma.ensures.rest) ∙ c.in_ok-item.ensures.value)));
+  rest = omega (arith, c.in_ok-item.ensures.rest, c.behind_comma.ensures.within, c.commas.invariant.rest);
+}
 
 pub more_items-returns-clause-value : goal.more_items-returns-clause-value
 more_items-returns-clause-value t c = rw (terms_roll (record { items = c.commas.items }), c.behind_comma-2.ensures.rest) (loop_end _ _ _ _ c.commas.invariant.told (trailing_end (other_than (close_bracket_sign ∷ [])) _ (expr_shorter c.args.depth) c.commas.rest.now (sym c.is_comma_before.ensures ∙ c.commas-test.false)))

@@ -1,4 +1,4 @@
-use Rattle.std.proofs.Common.{◌≡◌, ℕ, ◌+◌, ◌*◌, ◌≤◌, [], ◌∷◌, map, length}
+use Rattle.std.proofs.Common.{◌≡◌, ◌+◌, ◌*◌, ◌≤◌, [], ◌∷◌, map, length}
 use Rattle.scad_ast.specs.ExprView.{term_of, link_of, suffix_of, arg_of}
 use Rattle.scad_grammar.specs.Classes.{comma_sign, close_bracket_sign, close_parenthesis_sign, among, is, other_than}
 use Rattle.scad_grammar.specs.Faults.{one}
@@ -70,39 +70,39 @@ decreases-choice l = 64 * l.depth + 40
 
 abbrev pub invariant-links-links : goal.invariant-links-links
 invariant-links-links l = record {
-    told : many (among (operators_at l.level)) (both link (one (among (operators_at l.level))) (chain_read (levels_below l.level) (unary_read (expr_read l.depth) (operand_read l.depth) (primary_read (expr_read l.depth) (arg_in l.depth (expr_read l.depth)))))) l.tokens
-        ≡ in_front (map link_of l.items.items) (many (among (operators_at l.level)) (both link (one (among (operators_at l.level))) (chain_read (levels_below l.level) (unary_read (expr_read l.depth) (operand_read l.depth) (primary_read (expr_read l.depth) (arg_in l.depth (expr_read l.depth)))))) l.rest);
-    rest : length l.rest ≤ length l.tokens;
-  }
+  told : many (among (operators_at l.level)) (both link (one (among (operators_at l.level))) (chain_read (levels_below l.level) (unary_read (expr_read l.depth) (operand_read l.depth) (primary_read (expr_read l.depth) (arg_in l.depth (expr_read l.depth)))))) l.tokens
+      ≡ in_front (map link_of l.items.items) (many (among (operators_at l.level)) (both link (one (among (operators_at l.level))) (chain_read (levels_below l.level) (unary_read (expr_read l.depth) (operand_read l.depth) (primary_read (expr_read l.depth) (arg_in l.depth (expr_read l.depth)))))) l.rest);
+  rest : length l.rest ≤ length l.tokens;
+}
 
 abbrev pub decreases-links-links : goal.decreases-links-links
 decreases-links-links l = length l.rest
 
 abbrev pub invariant-suffixes-suffixes : goal.invariant-suffixes-suffixes
 invariant-suffixes-suffixes l = record {
-    told : many (among suffix_signs) (suffix_read (expr_read l.depth)) l.tokens ≡ in_front (map suffix_of l.items.items) (many (among suffix_signs) (suffix_read (expr_read l.depth)) l.rest);
-    rest : length l.rest ≤ length l.tokens;
-  }
+  told : many (among suffix_signs) (suffix_read (expr_read l.depth)) l.tokens ≡ in_front (map suffix_of l.items.items) (many (among suffix_signs) (suffix_read (expr_read l.depth)) l.rest);
+  rest : length l.rest ≤ length l.tokens;
+}
 
 abbrev pub decreases-suffixes-suffixes : goal.decreases-suffixes-suffixes
 decreases-suffixes-suffixes l = length l.rest
 
 abbrev pub invariant-more_items-commas : goal.invariant-more_items-commas
 invariant-more_items-commas l = record {
-    told : in_front (map term_of l.fn.items.items) (trailing (is comma_sign) (other_than (close_bracket_sign ∷ [])) (expr_read l.depth) l.tokens)
-        ≡ in_front (map term_of l.items.items) (trailing (is comma_sign) (other_than (close_bracket_sign ∷ [])) (expr_read l.depth) l.rest);
-    rest : length l.rest ≤ length l.tokens;
-  }
+  told : in_front (map term_of l.fn.items.items) (trailing (is comma_sign) (other_than (close_bracket_sign ∷ [])) (expr_read l.depth) l.tokens)
+      ≡ in_front (map term_of l.items.items) (trailing (is comma_sign) (other_than (close_bracket_sign ∷ [])) (expr_read l.depth) l.rest);
+  rest : length l.rest ≤ length l.tokens;
+}
 
 abbrev pub decreases-more_items-commas : goal.decreases-more_items-commas
 decreases-more_items-commas l = length l.rest
 
 abbrev pub invariant-more_args-commas : goal.invariant-more_args-commas
 invariant-more_args-commas l = record {
-    told : in_front (map arg_of l.fn.items.items) (trailing (is comma_sign) (other_than (close_parenthesis_sign ∷ [])) (arg_in l.depth (expr_read l.depth)) l.tokens)
-        ≡ in_front (map arg_of l.items.items) (trailing (is comma_sign) (other_than (close_parenthesis_sign ∷ [])) (arg_in l.depth (expr_read l.depth)) l.rest);
-    rest : length l.rest ≤ length l.tokens;
-  }
+  told : in_front (map arg_of l.fn.items.items) (trailing (is comma_sign) (other_than (close_parenthesis_sign ∷ [])) (arg_in l.depth (expr_read l.depth)) l.tokens)
+      ≡ in_front (map arg_of l.items.items) (trailing (is comma_sign) (other_than (close_parenthesis_sign ∷ [])) (arg_in l.depth (expr_read l.depth)) l.rest);
+  rest : length l.rest ≤ length l.tokens;
+}
 
 abbrev pub decreases-more_args-commas : goal.decreases-more_args-commas
 decreases-more_args-commas l = length l.rest

@@ -1,4 +1,4 @@
-use Rattle.std.proofs.Common.{rules, ◌≡◌, ◌∙◌, sym, ap, map, arith}
+use Rattle.std.proofs.Common.{rules, ◌∙◌, sym, arith}
 use Rattle.std.proofs.lemmas.List.{map-append}
 use Rattle.std.proofs.lemmas.Result.{err_from_is_err_and}
 use Rattle.scad_ast.specs.StatementView.{statement_of}
@@ -31,9 +31,9 @@ statements-returns-in_err-item-clause-value t c =
 
 pub statements-statements-preserved : goal.statements-statements-preserved
 statements-statements-preserved t c = record {
-    told = rw (c.in_ok-push.ensures.items, map-append) (loop_more _ _ _ _ _ c.statements.invariant.told (many_more (among firsts_of_statement) _ (statement_strict c.args.depth) c.statements.rest.now (statement_of c.in_ok-item.item) c.in_ok-item.after.now (sym c.begins.ensures ∙ c.statements-test.true) c.in_ok-item.ensures.value));
-    rest = omega (arith, c.in_ok-item.ensures.shorter, c.statements.invariant.rest);
-  }
+  told = rw (c.in_ok-push.ensures.items, map-append) (loop_more _ _ _ _ _ c.statements.invariant.told (many_more (among firsts_of_statement) _ (statement_strict c.args.depth) c.statements.rest.now (statement_of c.in_ok-item.item) c.in_ok-item.after.now (sym c.begins.ensures ∙ c.statements-test.true) c.in_ok-item.ensures.value));
+  rest = omega (arith, c.in_ok-item.ensures.shorter, c.statements.invariant.rest);
+}
 
 pub statements-returns-clause-value : goal.statements-returns-clause-value
 statements-returns-clause-value t c = rw (statements_roll (record { items = c.statements.items })) (loop_end _ _ _ _ c.statements.invariant.told (many_end (among firsts_of_statement) _ (statement_strict c.args.depth) c.statements.rest.now (sym c.begins.ensures ∙ c.statements-test.false)))

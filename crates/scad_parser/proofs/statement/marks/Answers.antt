@@ -1,4 +1,4 @@
-use Rattle.std.proofs.Common.{◌≡◌, ◌∙◌, sym, map, arith}
+use Rattle.std.proofs.Common.{◌∙◌, sym, arith}
 use Rattle.std.proofs.lemmas.List.{map-append}
 use Rattle.std.proofs.lemmas.Result.{err_from_is_err_and}
 use Rattle.scad_ast.specs.StatementView.{mark_of}
@@ -17,9 +17,9 @@ returns-in_err-item-clause-value c =
 
 pub marks-preserved : goal.marks-preserved
 marks-preserved c = record {
-    told = rw (c.in_ok-push.ensures.items, map-append) (loop_more _ _ _ _ _ c.marks.invariant.told (many_more (among mark_signs) _ mark_strict c.marks.rest.now (mark_of c.in_ok-item.item) c.in_ok-item.after.now (sym c.begins.ensures ∙ c.marks-test.true) c.in_ok-item.ensures.value));
-    rest = omega (arith, c.in_ok-item.ensures.shorter, c.marks.invariant.rest);
-  }
+  told = rw (c.in_ok-push.ensures.items, map-append) (loop_more _ _ _ _ _ c.marks.invariant.told (many_more (among mark_signs) _ mark_strict c.marks.rest.now (mark_of c.in_ok-item.item) c.in_ok-item.after.now (sym c.begins.ensures ∙ c.marks-test.true) c.in_ok-item.ensures.value));
+  rest = omega (arith, c.in_ok-item.ensures.shorter, c.marks.invariant.rest);
+}
 
 pub returns-clause-value : goal.returns-clause-value
 returns-clause-value c = loop_end _ _ _ _ c.marks.invariant.told (many_end (among mark_signs) _ mark_strict c.marks.rest.now (sym c.begins.ensures ∙ c.marks-test.false))

@@ -1,4 +1,4 @@
-use Rattle.std.proofs.Common.{◌≡◌, ◌∙◌, sym, ap, map, arith}
+use Rattle.std.proofs.Common.{◌∙◌, sym, ap, arith}
 use Rattle.std.proofs.lemmas.List.{map-append}
 use Rattle.std.proofs.lemmas.Result.{err_from_is_err_and}
 use Rattle.scad_ast.specs.StatementView.{binder_of}
@@ -18,9 +18,9 @@ returns-in_err-item-clause-value c =
 
 pub commas-preserved : goal.commas-preserved
 commas-preserved c = record {
-    told = rw (c.in_ok-push.ensures.items, map-append) (loop_more _ _ _ _ _ c.commas.invariant.told (trailing_more (is name) _ (binder_shorter c.args.depth) c.commas.rest.now (binder_of c.in_ok-item.item) c.in_ok-item.after.now (sym c.is_comma_and_name.ensures ∙ c.commas-test.true) (ap (binder_in c.args.depth (expr_read c.args.depth)) (sym c.behind_comma.ensures.rest) ∙ c.in_ok-item.ensures.value)));
-    rest = omega (arith, c.in_ok-item.ensures.rest, c.behind_comma.ensures.within, c.commas.invariant.rest);
-  }
+  told = rw (c.in_ok-push.ensures.items, map-append) (loop_more _ _ _ _ _ c.commas.invariant.told (trailing_more (is name) _ (binder_shorter c.args.depth) c.commas.rest.now (binder_of c.in_ok-item.item) c.in_ok-item.after.now (sym c.is_comma_and_name.ensures ∙ c.commas-test.true) (ap (binder_in c.args.depth (expr_read c.args.depth)) (sym c.behind_comma.ensures.rest) ∙ c.in_ok-item.ensures.value)));
+  rest = omega (arith, c.in_ok-item.ensures.rest, c.behind_comma.ensures.within, c.commas.invariant.rest);
+}
 
 pub returns-clause-value : goal.returns-clause-value
 returns-clause-value c = rw c.behind_comma-2.ensures.rest (loop_end _ _ _ _ c.commas.invariant.told (trailing_end (is name) _ (binder_shorter c.args.depth) c.commas.rest.now (sym c.is_comma_and_name.ensures ∙ c.commas-test.false)))

@@ -8,10 +8,10 @@ use Rattle.scad_parser.proofs.statement.more_binders.Given as goal
 
 abbrev pub invariant-commas : goal.invariant-commas
 invariant-commas l = record {
-    told : in_front (map binder_of l.fn.items.items) (trailing (is comma_sign) (is name) (binder_in l.depth (expr_read l.depth)) l.tokens)
-        ≡ in_front (map binder_of l.items.items) (trailing (is comma_sign) (is name) (binder_in l.depth (expr_read l.depth)) l.rest);
-    rest : length l.rest ≤ length l.tokens;
-  }
+  told : in_front (map binder_of l.fn.items.items) (trailing (is comma_sign) (is name) (binder_in l.depth (expr_read l.depth)) l.tokens)
+      ≡ in_front (map binder_of l.items.items) (trailing (is comma_sign) (is name) (binder_in l.depth (expr_read l.depth)) l.rest);
+  rest : length l.rest ≤ length l.tokens;
+}
 
 abbrev pub decreases-commas : goal.decreases-commas
 decreases-commas l = length l.rest
