@@ -1,12 +1,7 @@
-pub mod Turns
-pub mod Beside
-pub mod Convex
-pub mod BoxBody
-pub mod BoxBoundary
 pub mod ScriptForm
-pub mod OneReading
+pub mod BoxPrograms
+pub mod BoxPlanes
+pub mod OneSource
+pub mod OneAnswer
 pub mod OneReply
-pub mod Texts
-pub mod Sides
-pub mod LineCounts
 pub mod Served

@@ -1,9 +1,6 @@
 -- An export has one reply, and printed replies one reading.
-use Rattle.std.proofs.Common.{◌≡◌, ◌≢◌, ⊎_elim, ℕ, List, [], ◌∷◌, ◌++◌, refl, sym, ap, ◌∙◌, codes}
-use Rattle.std.specs.Str.Parse.{digits_value}
-use Rattle.std.proofs.lemmas.List.{append_cancel_left, append_cancel_right}
-use Rattle.text_place.specs.Decimals.{numeral}
-use Rattle.text_place.proofs.Numerals.{digits_value-numeral}
+use Rattle.std.proofs.Common.{◌≡◌, ◌≢◌, inl, inr, ℕ, List, [], ◌∷◌, refl, sym, ap, ◌∙◌, subst}
+use Rattle.scad_ast.specs.Terms.{StatementTerm}
 use Rattle.script_reader.specs.declared.script.ClientScript.{ClientScript}
 use Rattle.script_reader.specs.declared.script.Script.{Script}
 use Rattle.reply_text.specs.declared.reply.Reply.{Reply}
@@ -12,41 +9,63 @@ use Rattle.reply_text.specs.Texts.{output}
 use Rattle.reply_text.specs.Answers.{AllFit, IsExport}
 use Rattle.reply_text.proofs.OneOutput.{same_output}
 use Rattle.script_server.specs.declared.meaning.Sides.{Sides}
-use Rattle.script_server.specs.Meaning.OffTexts.{newline}
-use Rattle.script_server.specs.Meaning.Boxes.{IsBoxSource, cube_text, box_text}
+use Rattle.edit_session.specs.declared.fault.SessionFault.{SessionFault}
+use Rattle.csg_tree.specs.Formulas.{leaf}
+use Rattle.script_server.specs.Meaning.Sources.{Writes}
+use Rattle.script_server.specs.Meaning.Boxes.{IsBoxProgram, box_planes}
+use Rattle.script_server.specs.Meaning.Solids.{IsAnswerTo, Bounds}
+use Rattle.script_server.specs.Answers.{AnswersProgram}
 use Rattle.script_server.specs.Meaning.Scripts.{AllServed}
-use Rattle.script_server.specs.Meaning.Exports.{Exports}
-use Rattle.script_reader.proofs.CutLaws.{one_cut}
-use Rattle.script_server.proofs.Sides.{inner_text, cube_text-inner, no_comma}
+use Rattle.script_server.specs.Meaning.Exports.{Builds, Exports, IsBounded}
+use Rattle.script_server.proofs.OneAnswer.{one_answer, answer_reply, IsExportReply, not_no_memory, not_refusal}
+use Rattle.script_server.proofs.BoxPrograms.{one_box}
+use Rattle.script_server.proofs.OneSource.{one_fault, one_program, no_program}
 
-same_number : (m n : ℕ) → numeral m ≡ numeral n → m ≡ n
-same_number m n e = sym (digits_value-numeral m) ∙ ap (digits_value 10) e ∙ digits_value-numeral n
-
-three_numbers : (x y z x' y' z' : ℕ) → x ≡ x' → y ≡ y' → z ≡ z' → (let sides : ℕ → ℕ → ℕ → Sides = λ a b c. record { x = a; y = b; z = c } in sides x y z ≡ sides x' y' z')
-three_numbers x y z x' y' z' hx hy hz = rw (hx, hy, hz) refl
-
-same_sides : (s t : Sides) → inner_text s ≡ inner_text t → s ≡ t
-same_sides s t e =
-    let first = one_cut 44 (numeral s.x) (numeral t.x) (numeral s.y ++ 44 ∷ numeral s.z) (numeral t.y ++ 44 ∷ numeral t.z) (no_comma s.x) (no_comma t.x) e in
-    let second = one_cut 44 (numeral s.y) (numeral t.y) (numeral s.z) (numeral t.z) (no_comma s.y) (no_comma t.y) first.1 in
-    three_numbers s.x s.y s.z t.x t.y t.z (same_number s.x t.x first.0) (same_number s.y t.y second.0) (same_number s.z t.z second.1)
-
-one_box : (source : List ℕ) (s t : Sides) → IsBoxSource source s → IsBoxSource source t → s ≡ t
-one_box source s t h g =
-    same_sides s t
-    (append_cancel_right (inner_text s) (inner_text t) (codes "]);")
-    (append_cancel_left (codes "cube([") (inner_text s ++ codes "]);") (inner_text t ++ codes "]);")
-    (sym (cube_text-inner s) ∙ append_cancel_right (cube_text s) (cube_text t) newline (sym h.spelled ∙ g.spelled) ∙ cube_text-inner t)))
+-- a program is answered in one way
+one_building : (program : List StatementTerm) (r q : Reply) → Builds program r → Builds program q → r ≡ q
+one_building program r q (inl a) (inl b) = one_answer (leaf (box_planes a.0)) r q a.2 (subst (λ (s : Sides). IsAnswerTo (leaf (box_planes s)) q) (one_box program b.0 a.0 b.1 a.1) b.2)
+one_building program r q (inl a) (inr b) = absurd (b.0 a.0 a.1)
+one_building program r q (inr a) (inl b) = absurd (a.0 b.0 b.1)
+one_building program r q (inr a) (inr b) = a.1 ∙ sym b.1
 
 pub one_reply : (source : List ℕ) (r q : Reply) → Exports source r → Exports source q → r ≡ q
-one_reply source r q h g =
-    ⊎_elim
-    (λ a. ⊎_elim (λ b. a.2 ∙ ap (λ (s : Sides). reply.Solid (box_text s)) (one_box source a.0 b.0 a.1 b.1) ∙ sym b.2) (λ b. absurd (b.0 a.0 a.1)) g)
-    (λ a. ⊎_elim (λ b. absurd (a.0 b.0 b.1)) (λ b. a.1 ∙ sym b.1) g)
-    h
+one_reply source r q (inl a) (inl b) = a.2 ∙ ap reply.Faulted (one_fault source a.0 b.0 a.1 b.1) ∙ sym b.2
+one_reply source r q (inl a) (inr b) = absurd (no_program source a.0 b.0 a.1 b.1)
+one_reply source r q (inr a) (inl b) = absurd (no_program source b.0 a.0 b.1 a.1)
+one_reply source r q (inr a) (inr b) = one_building a.0 r q a.2 (subst (λ (p : List StatementTerm). Builds p q) (one_program source b.0 a.0 b.1 a.1) b.2)
+
+-- an export is answered by a solid, a limit or a fault
+building_reply : (program : List StatementTerm) (r : Reply) → Builds program r → IsExportReply r
+building_reply program r (inl a) = answer_reply (leaf (box_planes a.0)) r a.2
+building_reply program r (inr a) = subst IsExportReply (sym a.1) tt
+
+pub export_reply : (source : List ℕ) (r : Reply) → Exports source r → IsExportReply r
+export_reply source r (inl a) = subst IsExportReply (sym a.2) tt
+export_reply source r (inr a) = building_reply a.0 r a.2
 
 has_memory : (source : List ℕ) (r : Reply) → Exports source r → r ≢ reply.NoMem
-has_memory source r h e = ⊎_elim (λ a. (let f = a.2 in cc (f, e))) (λ a. (let f = a.1 in cc (f, e))) h
+has_memory source r h = not_no_memory r (export_reply source r h)
+
+pub not_refused : (source : List ℕ) (r : Reply) (why : SessionFault) → Exports source r → r ≢ reply.Refused why
+not_refused source r why h = not_refusal r why (export_reply source r h)
+
+-- what was built is answered, and where it is a solid, it is the boundary of what the source means
+pub built : (program : List StatementTerm) (r : Reply) → AnswersProgram program r → Builds program r
+built program r (inl a) = inl (a.0, a.1, a.2.0)
+built program r (inr a) = inr a
+
+box_bounded : (source : List ℕ) (program : List StatementTerm) (s : Sides) (r : Reply) → Writes source program → IsBoxProgram program s → Bounds (leaf (box_planes s)) r → IsBounded source r
+box_bounded source program s (reply.Solid bytes) w h b = (leaf (box_planes s), (program, s, w, h, refl), b)
+box_bounded source program s (reply.Complex limit) w h b = tt
+box_bounded source program s (reply.Faulted fault) w h b = tt
+box_bounded source program s (reply.Lines n) w h b = tt
+box_bounded source program s (reply.Refused why) w h b = tt
+box_bounded source program s reply.NoMem w h b = tt
+box_bounded source program s (reply.Text lines) w h b = tt
+
+pub program_bounded : (source : List ℕ) (program : List StatementTerm) (r : Reply) → Writes source program → AnswersProgram program r → IsBounded source r
+program_bounded source program r w (inl a) = box_bounded source program a.0 r w a.1 a.2.1
+program_bounded source program r w (inr a) = subst (IsBounded source) (sym a.1) tt
 
 pub exports_are : IsExport Exports
 exports_are = record { one = one_reply; has_memory = has_memory }

@@ -5,7 +5,7 @@ use Rattle.std.proofs.lemmas.List.{append_cancel_left}
 use Rattle.std.proofs.lemmas.List.Elements.{All-head, All-tail, All-append, All-cons, All-nil, All-weaker, All-same, All-from_recursion}
 use Rattle.script_reader.proofs.CutLaws.{one_cut, no_cut}
 use Rattle.script_reader.proofs.OneLine.{one_text}
-use Rattle.script_server.specs.Meaning.OffTexts.{newline}
+use Rattle.script_reader.specs.Lines.{newline}
 use Rattle.script_reader.specs.declared.script.Command.TheVariants.{Put, Export}
 use Rattle.script_reader.specs.declared.script.Script.{Script}
 use Rattle.script_reader.specs.Spelling.{IsNameByte, IsName, IsTail}

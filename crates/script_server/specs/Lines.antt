@@ -1,6 +1,6 @@
 -- The parts of two lines, one that puts a text and one that exports.
 use Rattle.std.specs.Prelude.{◌≡◌, ◌≢◌, ℕ, ◌≤◌, List, ◌++◌, length, All, codes, ◌⊎◌}
-use Rattle.script_server.specs.Meaning.OffTexts.{newline}
+use Rattle.script_reader.specs.Lines.{newline}
 use Rattle.script_reader.specs.Spelling.{IsName}
 
 -- the end of the second line, with its newline or without

@@ -1,7 +1,6 @@
 -- What the program promises, in words that name no code of its own.
-pub mod Formulas
-pub mod OffTexts
-pub mod Boundaries
+pub mod Sources
 pub mod Boxes
+pub mod Solids
 pub mod Exports
 pub mod Scripts

@@ -2,14 +2,13 @@
 -- sink that doesn't, `Consumes`, `IsAtEnd` and `Appends` say nothing.
 use Rattle.std.specs.Prelude.{◌≡◌, ℕ, ◌<◌, List, [], ◌∷◌, ◌++◌, length, codes, ◌⊎◌, Option}
 use Rattle.std.specs.Io.KnownBytes.{Appends, Consumes, IsAtEnd}
-use Rattle.text_place.specs.Decimals.{numeral}
 use Rattle.outside_io.specs.Moves.{AppendsProperPrefix}
 use Rattle.script_reader.specs.declared.script.Script.{Script}
 use Rattle.reply_text.specs.declared.reply.Reply.{Reply}
-use Rattle.script_server.specs.Meaning.OffTexts.{newline}
+use Rattle.script_reader.specs.Lines.{newline}
 use Rattle.reply_text.specs.declared.reply.Reply.TheVariants as reply
 use Rattle.script_server.specs.Meaning.Exports.{Exports, IsBounded}
-use Rattle.reply_text.specs.Texts.{reply_body, client_text, output}
+use Rattle.reply_text.specs.Texts.{client_text, output}
 use Rattle.script_server.specs.Meaning.Scripts.{IsScript, AllServed}
 
 -- the words are the one word `run`
@@ -66,8 +65,3 @@ BreaksOff left left' held held' =
 abbrev pub IsAnswered : List ℕ → List ℕ → List ℕ → Type 0
 IsAnswered name line out =
     (r : Reply) × Exports (line ++ newline) r × IsBounded (line ++ newline) r × (out ≡ client_text name (reply.Lines 1 ∷ r ∷ []))
-
--- the reply to an export of a line was appended, as the client's second one
-abbrev pub AppendsExport : List ℕ → List ℕ → List ℕ → Type 0
-AppendsExport line old new =
-    (r : Reply) × Exports (line ++ newline) r × IsBounded (line ++ newline) r × (new ≡ old ++ (numeral 2 ++ reply_body r))

@@ -2,10 +2,11 @@
 #![tactic(auto)]
 
 mod answers;
-mod box_text;
 mod cube;
+mod export;
+mod planes;
+mod solids;
 pub mod meaning;
-mod numbers;
 mod script;
 mod server;
 mod slices;

@@ -1,10 +1,8 @@
-//! What an export means: formulas, the boundary of a solid, and boxes (`specs/Meaning`), and the laws
-//! that their words leave nothing open.
+//! What an export means: sources, boxes and what their solids are answered (`specs/Meaning`), and the
+//! laws that their words leave nothing open.
 
 ghost use Rattle.std.specs.Prelude.{◌≡◌, ℕ, List};
-ghost use Rattle.plane_predicate.specs.Space.{Coordinates};
 ghost use Rattle.script_reader.specs.declared.script.Command.{Command};
-ghost use Rattle.script_server.specs.Meaning.OffTexts.{off_text};
 ghost use Rattle.reply_text.specs.declared.reply.Reply.{Reply};
 ghost use Rattle.script_reader.specs.declared.script.Script.{Script};
 ghost use Rattle.edit_session.specs.Sessions.{State};
@@ -24,12 +22,6 @@ pub struct Sides {
 /// Bytes are one script at most.
 pub fn one_script()
     ensures { (bytes : List ℕ) (s t : Script) → IsScript bytes s → IsScript bytes t → s ≡ t }
-{}
-
-/// A 4OFF text has one list of vertices and one list of faces.
-pub fn one_reading()
-    ensures { (vertices vertices' : List Coordinates) (faces faces' : List (List ℕ)) →
-        off_text vertices faces ≡ off_text vertices' faces' → (vertices ≡ vertices') × (faces ≡ faces') }
 {}
 
 /// A source has one reply to its export.

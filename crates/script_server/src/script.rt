@@ -1,7 +1,7 @@
 //! The one form of script that is read so far: a client puts one line and exports it.
 
 ghost use Rattle.std.specs.Prelude.{◌≡◌, ℕ, ◌≤◌, ◌↔◌, ◌⊎◌, List, ◌++◌, length, codes, IsTrue, IfSome, IfNone, IfOk, OnErr};
-ghost use Rattle.script_server.specs.Meaning.OffTexts.{newline};
+ghost use Rattle.script_reader.specs.Lines.{newline};
 ghost use Rattle.script_reader.specs.Spelling.{IsName, IsTail};
 ghost use Rattle.script_server.specs.Meaning.Scripts.{IsOneExport};
 ghost use Rattle.script_server.specs.Lines.{AreOneClient, IsExportWord};

@@ -61,17 +61,6 @@ fn scripts_are_answered(rt: HostRuntime) -> Result<(), Fail> {
             Status::Done,
             GREAT_BOX,
         ),
-        // Lines that ask for no box.
-        ("a put 1 cube(2);\na export\n", Status::Done, NO_BOX),
-        (
-            "a put 1 cube([1,2,4096]);\na export\n",
-            Status::Done,
-            NO_BOX,
-        ),
-        ("a put 1 cube([0,2,3]);\na export\n", Status::Done, NO_BOX),
-        ("a put 1 cube([01,2,3]);\na export\n", Status::Done, NO_BOX),
-        ("a put 1 cube([1, 2,3]);\na export\n", Status::Done, NO_BOX),
-        ("a put 1 cube([1,2,3]); \na export\n", Status::Done, NO_BOX),
         ("a put 1 \na export\n", Status::Done, NO_BOX),
         ("a put 1\na export\n", Status::Done, NO_BOX),
         // Scripts of no form that is read so far.
@@ -91,6 +80,68 @@ fn scripts_are_answered(rt: HostRuntime) -> Result<(), Fail> {
         let (ended, held) = check(&rt, rt.alloc(), &["run"], script, (0, 0), 1000)?;
         assert_eq!(rt; ended, status, "at {script:?}");
         assert_eq!(rt; held.as_slice(), output.as_bytes(), "at {script:?}");
+    }
+    Ok(())
+}
+
+// What one line is answered when it is exported.
+fn exported<R: Threads + Wait + Sync>(rt: &R, alloc: Global, line: &str) -> Result<Vec<u8>, Fail> {
+    let mut script = String::from_str(alloc, "a put 1 ")?;
+    script.push_str(line)?;
+    script.push_str("\na export\n")?;
+    let (_, held) = check(rt, alloc, &["run"], script.as_str(), (0, 0), 4096)?;
+    Ok(held)
+}
+
+#[test]
+fn boxes_are_built_however_they_are_spaced(rt: HostRuntime) -> Result<(), Fail> {
+    for line in [
+        "cube( [1, 2, 3] ) ; // box",
+        "cube([1.0,2,3]);",
+        "/* a box */ cube([01,2,3,],);",
+    ] {
+        let held = exported(&rt, rt.alloc(), line)?;
+        assert_eq!(rt; held.as_slice(), FIRST_BOX.as_bytes(), "at {line:?}");
+    }
+    Ok(())
+}
+
+#[test]
+fn other_sources_are_told_their_fault(rt: HostRuntime) -> Result<(), Fail> {
+    for (line, fault) in [
+        // Faults of the bytes.
+        ("cube([1.5,2,3]);", "1:7 NotWhole"),
+        ("cube(1.5);", "1:6 NotWhole"),
+        ("x = \"abc;", "1:5 OpenText"),
+        ("x = 3a;", "1:6 BadCharacter"),
+        ("/* open", "1:1 OpenComment"),
+        ("x = 9007199254740992;", "1:5 TooLarge"),
+        // Faults of the tokens.
+        ("x=2^3;", "1:4 NotInProfile"),
+        ("use <a>", "1:1 NotInProfile"),
+        ("if (1) cube(1); else", "2:1 Expected"),
+        ("cube(1)", "2:1 Expected"),
+        ("cube([1,2,3]),", "1:14 Expected"),
+        // The bytes' first.
+        ("cube(1] 3a", "1:10 BadCharacter"),
+        // Programs of no box.
+        ("cube(2);", "1:1 NotYet"),
+        ("cube([1,2,4096]);", "1:1 NotYet"),
+        ("cube([0,2,3]);", "1:1 NotYet"),
+        ("cube([1,2]);", "1:1 NotYet"),
+        ("cube([1,2,3,4]);", "1:1 NotYet"),
+        ("cube([1,2,-3]);", "1:1 NotYet"),
+        ("cube([1,2,3],1);", "1:1 NotYet"),
+        ("cube(size=[1,2,3]);", "1:1 NotYet"),
+        ("cube([1,2,3]) { }", "1:1 NotYet"),
+        ("#cube([1,2,3]);", "1:1 NotYet"),
+        ("cubes([1,2,3]);", "1:1 NotYet"),
+        ("cube([1,2,3]);;", "1:1 NotYet"),
+        ("{cube([1,2,3]);}", "1:1 NotYet"),
+    ] {
+        let held = exported(&rt, rt.alloc(), line)?;
+        let told = format!(in rt.alloc(); "== a\n1 ok 1\n2 fault {fault}\n")?;
+        assert_eq!(rt; held.as_slice(), told.as_bytes(), "at {line:?}");
     }
     Ok(())
 }

@@ -1,12 +1,13 @@
--- The one form of source that is read so far: a box from the origin, `cube([X,Y,Z]);`.
-use Rattle.std.specs.Prelude.{◌≡◌, ℕ, ◌≤◌, List, [], ◌∷◌, ◌++◌, ℤ, pos, negsuc, codes}
-use Rattle.text_place.specs.Decimals.{numeral}
-use Rattle.plane_predicate.specs.Space.{Coefficients, Coordinates}
+-- The one form of program that is built so far: a box from the origin, `cube([X,Y,Z]);`.
+use Rattle.std.specs.Prelude.{◌≡◌, ℕ, ◌≤◌, List, [], ◌∷◌, ℤ, pos, negsuc, codes}
+use Rattle.text_place.specs.declared.fault.Place.{Place}
+use Rattle.plane_predicate.specs.Space.{Coefficients}
+use Rattle.scad_ast.specs.Terms.{Terms, no_terms, and_term, NumberTerm, ListTerm, ArgTerm, PositionalTerm, StatementTerm, InstanceStatement, AnInstance, CoreTerm, ModuleCallTerm, EmptyBody}
 use Rattle.script_server.specs.declared.meaning.Sides.{Sides}
-use Rattle.script_server.specs.Meaning.Formulas.{Formula, leaf}
-use Rattle.script_server.specs.Meaning.OffTexts.{newline, off_text}
+use Rattle.csg_tree.specs.Formulas.{Formula, leaf}
+use Rattle.script_server.specs.Meaning.Sources.{Writes}
 
--- the sides of a box that a source may ask for
+-- the sides of a box that a program may ask for
 pub record IsBox (s : Sides) : Type 0 where
   pub x_low : 1 ≤ s.x
   pub x_high : s.x ≤ 4095
@@ -15,13 +16,29 @@ pub record IsBox (s : Sides) : Type 0 where
   pub z_low : 1 ≤ s.z
   pub z_high : s.z ≤ 4095
 
-abbrev pub cube_text : Sides → List ℕ
-cube_text s = codes "cube([" ++ numeral s.x ++ codes "," ++ numeral s.y ++ codes "," ++ numeral s.z ++ codes "]);"
+-- the numerals of the three sides
+abbrev pub AreNumerals : Sides → Terms → Type 0
+AreNumerals s items =
+    (x : Place) × (y : Place) × (z : Place)
+    × (items ≡ and_term (NumberTerm x s.x) (and_term (NumberTerm y s.y) (and_term (NumberTerm z s.z) no_terms)))
 
--- the source is the one line that asks for a box with these sides
-pub record IsBoxSource (source : List ℕ) (s : Sides) : Type 0 where
+-- one argument without a name, the list of these numerals
+abbrev pub IsSize : Sides → List ArgTerm → Type 0
+IsSize s args = (at : Place) × (items : Terms) × AreNumerals s items × (args ≡ PositionalTerm (ListTerm at items) ∷ [])
+
+-- `cube` with this argument and the body `;`
+abbrev pub IsCube : Sides → CoreTerm → Type 0
+IsCube s core =
+    (at : Place) × (end : Place) × (args : List ArgTerm)
+    × IsSize s args × (core ≡ ModuleCallTerm at (codes "cube") args (EmptyBody end))
+
+-- the program is this one instance, without modifiers
+pub record IsBoxProgram (program : List StatementTerm) (s : Sides) : Type 0 where
   pub sides : IsBox s
-  pub spelled : source ≡ cube_text s ++ newline
+  pub at : Place
+  pub core : CoreTerm
+  pub cube : IsCube s core
+  pub only : program ≡ InstanceStatement (AnInstance at [] core) ∷ []
 
 abbrev pub plane : ℤ → ℤ → ℤ → ℤ → Coefficients
 plane a b c d = record { a = a; b = b; c = c; d = d }
@@ -39,35 +56,4 @@ box_planes s =
 
 -- the source means this formula
 abbrev pub Means : List ℕ → Formula → Type 0
-Means source f = (s : Sides) × IsBoxSource source s × (f ≡ leaf (box_planes s))
-
-abbrev pub point : ℕ → ℕ → ℕ → Coordinates
-point x y z = record { x = pos x; y = pos y; z = pos z; w = pos 1 }
-
--- the corners of a box by first appearance in its faces, each face from its least corner on
-abbrev pub box_vertices : Sides → List Coordinates
-box_vertices s =
-    point 0 0 0
-    ∷ point 0 0 s.z
-    ∷ point 0 s.y s.z
-    ∷ point 0 s.y 0
-    ∷ point s.x 0 0
-    ∷ point s.x s.y 0
-    ∷ point s.x s.y s.z
-    ∷ point s.x 0 s.z
-    ∷ []
-
--- the faces on low x, high x, low y, high y, low z, high z, counterclockwise seen from outside
-abbrev pub box_faces : List (List ℕ)
-box_faces =
-    (0 ∷ 1 ∷ 2 ∷ 3 ∷ [])
-    ∷ (4 ∷ 5 ∷ 6 ∷ 7 ∷ [])
-    ∷ (0 ∷ 4 ∷ 7 ∷ 1 ∷ [])
-    ∷ (3 ∷ 2 ∷ 6 ∷ 5 ∷ [])
-    ∷ (0 ∷ 3 ∷ 5 ∷ 4 ∷ [])
-    ∷ (1 ∷ 7 ∷ 6 ∷ 2 ∷ [])
-    ∷ []
-
--- the 4OFF text of a box
-abbrev pub box_text : Sides → List ℕ
-box_text s = off_text (box_vertices s) box_faces
+Means source f = (program : List StatementTerm) × (s : Sides) × Writes source program × IsBoxProgram program s × (f ≡ leaf (box_planes s))

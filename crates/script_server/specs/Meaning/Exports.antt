@@ -1,21 +1,35 @@
 -- What an export is answered, and what its solid is.
 use Rattle.std.specs.Prelude.{◌≡◌, ℕ, List, ◌∷◌, ◌⊎◌}
+use Rattle.text_place.specs.declared.fault.Fault.{Fault}
 use Rattle.text_place.specs.declared.fault.FaultKind.TheVariants.{NotYet}
+use Rattle.scad_ast.specs.Terms.{StatementTerm}
 use Rattle.script_reader.specs.declared.script.Command.{Command}
 use Rattle.edit_session.specs.Sessions.{State, source_of}
 use Rattle.reply_text.specs.declared.reply.Reply.{Reply}
 use Rattle.reply_text.specs.declared.reply.Reply.TheVariants as reply
 use Rattle.reply_text.specs.Answers.{state_after}
-use Rattle.script_server.specs.Meaning.Formulas.{Formula}
-use Rattle.script_server.specs.Meaning.Boundaries.{IsBoundary}
+use Rattle.csg_tree.specs.Formulas.{Formula, leaf}
+use Rattle.off_text.specs.Bounding.{IsBoundary}
+use Rattle.script_server.specs.Meaning.Sources.{Writes, HasFault}
 use Rattle.script_server.specs.declared.meaning.Sides.{Sides}
-use Rattle.script_server.specs.Meaning.Boxes.{IsBoxSource, Means, box_text}
+use Rattle.script_server.specs.Meaning.Boxes.{IsBoxProgram, Means, box_planes}
+use Rattle.script_server.specs.Meaning.Solids.{IsAnswerTo}
 
--- what an export of a source is answered: the box, or that the source is not of the form that is read so far
+-- the answer to a program that is not of the form that is built so far
+abbrev pub not_yet : Reply
+not_yet = reply.Faulted (record { kind = NotYet; place = record { line = 1; column = 1 } })
+
+-- what a program is answered: what its box is, or that it asks for something else
+abbrev pub Builds : List StatementTerm → Reply → Type 0
+Builds program r =
+    ((s : Sides) × IsBoxProgram program s × IsAnswerTo (leaf (box_planes s)) r)
+    ⊎ (((s : Sides) → IsBoxProgram program s → ⊥) × (r ≡ not_yet))
+
+-- what an export of a source is answered: its first fault, or what its program is answered
 abbrev pub Exports : List ℕ → Reply → Type 0
 Exports source r =
-    ((s : Sides) × IsBoxSource source s × (r ≡ reply.Solid (box_text s)))
-    ⊎ (((s : Sides) → IsBoxSource source s → ⊥) × (r ≡ reply.Faulted (record { kind = NotYet; place = record { line = 1; column = 1 } })))
+    ((fault : Fault) × HasFault source fault × (r ≡ reply.Faulted fault))
+    ⊎ ((program : List StatementTerm) × Writes source program × Builds program r)
 
 -- a solid's bytes are the boundary of what the source means
 abbrev pub IsBounded : List ℕ → Reply → Type 0

@@ -4,7 +4,7 @@ use Rattle.script_reader.specs.declared.script.Command.TheVariants.{Put, Export}
 use Rattle.script_reader.specs.declared.script.ClientScript.{ClientScript}
 use Rattle.script_reader.specs.declared.script.Script.{Script}
 use Rattle.reply_text.specs.declared.reply.Reply.{Reply}
-use Rattle.script_server.specs.Meaning.OffTexts.{newline}
+use Rattle.script_reader.specs.Lines.{newline}
 use Rattle.script_reader.specs.Spelling.{IsName, IsTail}
 use Rattle.edit_session.specs.Sessions.{start}
 use Rattle.reply_text.specs.Answers.{Fits}

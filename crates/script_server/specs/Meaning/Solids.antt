@@ -1,0 +1,41 @@
+-- What a solid is answered: the first limit that it passes, or its text.
+use Rattle.std.specs.Prelude.{◌≡◌, ℕ, ◌<◌, ◌≤◌, List, length, ◌⊎◌}
+use Rattle.plane_polygon.specs.Polygons.{Outline}
+use Rattle.csg_tree.specs.Formulas.{Formula}
+use Rattle.bsp_tree.specs.Trees.{Tree, size}
+use Rattle.bsp_boolean.specs.Solids.{solid_of}
+use Rattle.facet_cut.specs.Facets.{facets_of}
+use Rattle.off_text.specs.Texts.{corner_count, HasVertices, IsTextOf}
+use Rattle.off_text.specs.Bounding.{IsBoundary}
+use Rattle.reply_text.specs.declared.reply.Reply.{Reply}
+use Rattle.reply_text.specs.declared.reply.Reply.TheVariants as reply
+use Rattle.reply_text.specs.declared.reply.Complex.TheVariants as limit
+
+-- more than 200,000 corners, or more than 60,000 vertices, or the text
+abbrev pub IsWritten : List Outline → Reply → Type 0
+IsWritten facets r =
+    ((200000 < corner_count facets) × (r ≡ reply.Complex limit.Corners))
+    ⊎ ((corner_count facets ≤ 200000) ×
+    ((HasVertices (λ n. 60000 < n) facets × (r ≡ reply.Complex limit.Vertices))
+    ⊎ (HasVertices (λ n. n ≤ 60000) facets × ((bytes : List ℕ) × IsTextOf facets bytes × (r ≡ reply.Solid bytes)))))
+
+-- more than 20,000 facets, or what they are answered
+abbrev pub IsCut : List Outline → Reply → Type 0
+IsCut facets r =
+    ((20000 < length facets) × (r ≡ reply.Complex limit.Facets))
+    ⊎ ((length facets ≤ 20000) × IsWritten facets r)
+
+-- a size of more than 50,000 at its one node, or what its facets are answered
+abbrev pub IsBuilt : Tree → Reply → Type 0
+IsBuilt t r =
+    ((50000 < size t) × (r ≡ reply.Complex (limit.Solid 1)))
+    ⊎ ((size t ≤ 50000) × IsCut (facets_of t) r)
+
+-- what a tree of one node is answered
+abbrev pub IsAnswerTo : Formula → Reply → Type 0
+IsAnswerTo f r = IsBuilt (solid_of f) r
+
+-- a solid's bytes are the boundary of the tree
+abbrev pub Bounds : Formula → Reply → Type 0
+Bounds f (reply.Solid bytes) = IsBoundary bytes f
+Bounds f _ = Unit {0}
