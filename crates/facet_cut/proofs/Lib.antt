@@ -1,3 +1,4 @@
 pub mod Examples
 pub mod Reversals
 pub mod Counts
+pub mod Pieces

@@ -46,6 +46,7 @@ pub fn facing_ahead(polygon: Polygon) -> Facet
 pub fn facing_back(alloc: Global, polygon: &Polygon) -> Result<Facet, NoMemory>
     ensures { IfOk result (λ f. f ≡ reversed polygon.now) }
 {
+    polygon.keeps();
     let mut edges = Vec::new(alloc);
     edges.extend_from_slice(polygon.edges())?;
     edges.reverse();
