@@ -5,7 +5,7 @@ use Rattle.plane_predicate.specs.Space.{Coefficients, Coordinates, value, cramer
 use Rattle.plane_predicate.proofs.Polynomials.{num, minus, ring}
 use Rattle.plane_predicate.proofs.Vectors.{Form, form, of_plane, cramerP}
 use Rattle.plane_predicate.proofs.Opposites.{from_zero, same_plane, same_point}
-use Rattle.plane_polygon.specs.Polygons.{Outline, after, edge, sides, corner, IsPolygon, IsStrictlyWithin, nowhere}
+use Rattle.plane_polygon.specs.Polygons.{Outline, after, edge, sides, corner, Covers, IsPolygon, IsStrictlyWithin, nowhere}
 use Rattle.plane_polygon.proofs.Hull.{after_is, after_below}
 use Rattle.bsp_tree.proofs.Opposites.{opposite_zero, opposite_back}
 use Rattle.facet_cut.specs.Facets.{reversed}
@@ -97,12 +97,17 @@ within_reversed s p h =
           subst (λ (e : Coefficients). value e p <ℤ pos 0) (sym (reversed_edge s j b)) (h.behind (k - 1 - j) (mirrored k j b)));
     }
 
+-- what holds of the other side's edges holds of the polygon's
+edges_back : (s : Outline) (P : Coefficients → Type 0) → ((j : ℕ) → j < sides (reversed s) → P (edge (reversed s) j)) → (j : ℕ) → j < sides s → P (edge s j)
+edges_back s P h j l =
+    let i = sides s - 1 - j in
+    let b = mirrored (sides s) j l in
+    subst (λ (k : ℕ). P (edge s k)) (mirrored_twice (sides s) j l)
+    (subst P (reversed_edge s i b) (h i (subst (λ (c : ℕ). i < c) (sym (reversed_sides s)) b)))
+
 pub within_back : (s : Outline) (p : Coordinates) → IsStrictlyWithin (reversed s) p → IsStrictlyWithin s p
-within_back s p h =
-    let k = sides s in record {
-      on = opposite_back s.plane p h.on;
-      behind = λ j l. (let b = mirrored k j l in
-          subst (λ (i : ℕ). value (edge s i) p <ℤ pos 0) (mirrored_twice k j l)
-          (subst (λ (e : Coefficients). value e p <ℤ pos 0) (reversed_edge s (k - 1 - j) b)
-          (h.behind (k - 1 - j) (subst (λ (c : ℕ). k - 1 - j < c) (sym (reversed_sides s)) b))));
-    }
+within_back s p h = record { on = opposite_back s.plane p h.on; behind = edges_back s (λ (e : Coefficients). value e p <ℤ pos 0) h.behind }
+
+-- its points are the polygon's
+pub covers_back : (s : Outline) (p : Coordinates) → Covers (reversed s) p → Covers s p
+covers_back s p h = record { weight = h.weight; on = opposite_back s.plane p h.on; within = edges_back s (λ (e : Coefficients). value e p ≤ℤ pos 0) h.within }

@@ -1,10 +1,10 @@
 -- The sides of a solid's planes as a point on one of them has them just behind it and just ahead, and the facets there.
 use Rattle.std.specs.Prelude.{◌≡◌, ◌≢◌, ◌⊎◌, Bool, true, false, if◌then◌else◌, List, [], ◌∷◌, pos}
 use Rattle.plane_predicate.specs.Space.{Coefficients, Coordinates, value, opposite_of}
-use Rattle.plane_polygon.specs.Polygons.{Outline, IsStrictlyWithin}
+use Rattle.plane_polygon.specs.Polygons.{Outline, Covers, IsPolygon, IsStrictlyWithin}
 use Rattle.plane_polygon.specs.Parts.{is_behind}
 use Rattle.bsp_tree.specs.Trees.{Tree, inside, outside, node}
-use Rattle.bsp_tree.specs.Cells.{IsPlaneOf}
+use Rattle.bsp_tree.specs.Cells.{IsInClosed, IsPlaneOf}
 
 -- the walk that takes, at each node, the side that its plane is given (true: behind): whether it ends in a leaf inside
 abbrev pub walk_by : Tree → (Coefficients → Bool) → Bool
@@ -33,6 +33,13 @@ pub record IsOnNoOther (t : Tree) (n : Coefficients) (p : Coordinates) : Type 0 
 pub record CoversFacing (n : Coefficients) (p : Coordinates) (s : Outline) : Type 0 where
   pub faces : s.plane ≡ n
   pub within : IsStrictlyWithin s p
+
+-- what each facet of a solid of a cell is: a polygon, of the plane of some node or its opposite, whose points are points
+-- of the closed cell
+pub record IsFacetOf (cell : List Coefficients) (t : Tree) (s : Outline) : Type 0 where
+  pub polygon : IsPolygon s
+  pub plane : IsPlaneOf s.plane t ⊎ IsPlaneOf (opposite_of s.plane) t
+  pub closed : (p : Coordinates) → Covers s p → IsInClosed cell p
 
 -- no item has P
 abbrev pub HasNone : {A : Type 0} → (A → Type 0) → List A → Type 0
