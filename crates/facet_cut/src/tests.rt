@@ -153,8 +153,15 @@ fn goes_on_from(found: &[Point], from: usize, wanted: &[[i128; 4]]) -> bool {
     found.len() == wanted.len()
 }
 
-// Whether the corners of a facet are these, in this order round it.
-fn has_corners(rt: &impl Abort, alloc: Global, facet: &Facet, wanted: &[[i128; 4]]) -> bool {
+// Whether the corners of facet `at` are these, in this order round it.
+fn has_corners(
+    rt: &impl Abort,
+    alloc: Global,
+    facets: &[Facet],
+    at: usize,
+    wanted: &[[i128; 4]],
+) -> bool {
+    let facet = facets.get(at).expect(rt, "a facet");
     let found = corners(alloc, &facet.polygon).expect(rt, "memory");
     for from in 0..found.len() {
         if goes_on_from(&found, from, wanted) {
@@ -188,9 +195,9 @@ fn a_box_has_six_facets(rt: HostRuntime) {
     ];
     assert!(rt; on_planes(&found, &planes));
     let first = [[0, 0, 0, 1], [0, 0, 3, 1], [0, 2, 3, 1], [0, 2, 0, 1]];
-    assert!(rt; has_corners(&rt, alloc, &found[0], &first));
+    assert!(rt; has_corners(&rt, alloc, &found, 0, &first));
     let last = [[0, 0, 3, 1], [1, 0, 3, 1], [1, 2, 3, 1], [0, 2, 3, 1]];
-    assert!(rt; has_corners(&rt, alloc, &found[5], &last));
+    assert!(rt; has_corners(&rt, alloc, &found, 5, &last));
 }
 
 #[test]
@@ -244,9 +251,9 @@ fn a_notch_has_fifteen_facets(rt: HostRuntime) {
     ];
     assert!(rt; on_planes(&found, &planes));
     let facing_x = [[1, 1, 1, 1], [1, 2, 1, 1], [1, 2, 2, 1], [1, 1, 2, 1]];
-    assert!(rt; has_corners(&rt, alloc, &found[12], &facing_x));
+    assert!(rt; has_corners(&rt, alloc, &found, 12, &facing_x));
     let facing_z = [[1, 1, 1, 1], [2, 1, 1, 1], [2, 2, 1, 1], [1, 2, 1, 1]];
-    assert!(rt; has_corners(&rt, alloc, &found[14], &facing_z));
+    assert!(rt; has_corners(&rt, alloc, &found, 14, &facing_z));
 }
 
 #[test]
