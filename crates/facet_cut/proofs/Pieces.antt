@@ -12,7 +12,6 @@ use Rattle.plane_polygon.specs.Polygons.{Outline, after, sides, edge, corner, Co
 use Rattle.plane_polygon.specs.declared.classes.Class.{Class}
 use Rattle.plane_polygon.specs.declared.classes.Class.TheVariants.{Behind, Ahead, On, Across}
 use Rattle.plane_polygon.specs.Parts.{class_of, part_behind, part_ahead}
-use Rattle.plane_polygon.proofs.CornerSides.{across_opposite}
 use Rattle.plane_polygon.proofs.Hull.{hull, corner_on, after_below, after_other, after_twice}
 use Rattle.plane_polygon.proofs.Parts.{behind_polygon, ahead_polygon, behind_points, ahead_points}
 use Rattle.bsp_tree.specs.Trees.{Tree, inside, outside, node, walk}
@@ -20,7 +19,7 @@ use Rattle.bsp_tree.specs.Cells.{IsIn, IsAcross, IsOff}
 use Rattle.bsp_tree.proofs.Convexity.{in_closed}
 use Rattle.bsp_tree.proofs.Openness.{often, in_near}
 use Rattle.bsp_tree.proofs.Opposites.{opposite_zero, opposite_above, opposite_below}
-use Rattle.bsp_tree.proofs.PolygonsOfCells.{across_part, across_behind}
+use Rattle.bsp_tree.proofs.Halves.{lying, low_half, high_half}
 use Rattle.bsp_tree.proofs.Sides.{LiesBehind, lies_behind, lies_ahead, lies_on, none_ahead}
 use Rattle.bsp_tree.proofs.Walks.{walk_behind, walk_ahead}
 use Rattle.facet_cut.specs.Facets.{Piece, on_sides, pieces}
@@ -178,10 +177,6 @@ one_ahead c P f cell s p m Behind low high low_part high_part e h hp on b k kn k
 one_ahead c P f cell s p m On low high low_part high_part e h hp on b k kn kp =
     absurd (not_both (value m p) b (zero_most (value m p) (on_plane cell s p m h hp on e)))
 
--- a polygon that lies behind a plane is of the half of the cell
-lying : (cell : List Coefficients) (s : Outline) (m : Coefficients) → IsAcross cell s → LiesBehind s m → IsAcross (m ∷ cell) s
-lying cell s m h l = across_behind cell s m h l.some.index l.some.index_below l.some.strict l.all
-
 at_leaf : (t u : Tree) (s r : Outline) (p : Coordinates) (q : Piece) → r.plane ≡ s.plane → walk u p ≡ walk t p → IsAt u r p q → IsAt t s p q
 at_leaf t u s r p q e w h = record { cell = h.cell; across = h.across; point_in = h.point_in; plane = h.plane ∙ e; leaf = h.leaf ∙ w }
 
@@ -202,7 +197,7 @@ one_piece (node t b a) c P f cell s p h hp on off k kn =
           let w = sym (walk_behind t b a p v) in
           one_behind c P f cell s p m (class_of s m) (pieces b s) (pieces a s) (pieces b (part_behind s m)) (pieces a (part_ahead s m)) refl h hp on v
           (λ l. one_piece b c P f (m ∷ cell) s p (lying cell s m h l) i on off_b (λ q g. k q (at_leaf (node t b a) b s s p q refl w g)) kn)
-          (λ e. one_piece b c P f (m ∷ cell) (part_behind s m) p (across_part cell s m h e) i on off_b (λ q g. k q (at_leaf (node t b a) b s (part_behind s m) p q refl w g)) kn)
+          (λ e. one_piece b c P f (m ∷ cell) (part_behind s m) p (low_half cell s m h e) i on off_b (λ q g. k q (at_leaf (node t b a) b s (part_behind s m) p q refl w g)) kn)
           (λ e. none_pieces a P f p (part_ahead s m) (ahead_polygon s m h.polygon e) (λ g. not_two (value m p) v ((ahead_points s m h.polygon e p).0 g).1) kn))
       | inr (inl v) ↦ absurd (off m (inl refl) v)
       | inr (inr v) ↦ (let i : IsIn (o ∷ cell) p = record { weight = hp.weight; below = (opposite_below m p v, hp.below) } in
@@ -210,5 +205,5 @@ one_piece (node t b a) c P f cell s p h hp on off k kn =
           one_ahead c P f cell s p m (class_of s m) (pieces b s) (pieces a s) (pieces b (part_behind s m)) (pieces a (part_ahead s m)) refl h hp on v
           (λ l. one_piece a c P f (o ∷ cell) s p (lying cell s o h l) i on off_a (λ q g. k q (at_leaf (node t b a) a s s p q refl w g)) kn)
           (λ e. none_pieces b P f p (part_behind s m) (behind_polygon s m h.polygon e) (λ g. not_both (value m p) v ((behind_points s m h.polygon e p).0 g).1) kn)
-          (λ e. one_piece a c P f (o ∷ cell) (part_ahead s m) p (across_part cell s o h (across_opposite s m e)) i on off_a (λ q g. k q (at_leaf (node t b a) a s (part_ahead s m) p q refl w g)) kn))
+          (λ e. one_piece a c P f (o ∷ cell) (part_ahead s m) p (high_half cell s m h e) i on off_a (λ q g. k q (at_leaf (node t b a) a s (part_ahead s m) p q refl w g)) kn))
     ]

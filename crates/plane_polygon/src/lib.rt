@@ -70,13 +70,6 @@ impl Polygon {
         Polygon::of(alloc, &self.plane, &self.edges)
     }
 
-    /// Shows a caller's proof what a polygon keeps. It does nothing when it runs.
-    pub fn keeps(&self)
-        ensures { IsPolygon self.now }
-    {
-        let _ = &self.plane;
-    }
-
     /// The plane that it lies on.
     pub fn plane(&self) -> &Plane
         ensures { result.now ≡ self.now.plane }
