@@ -1,0 +1,2 @@
+//! The 4OFF text of the faces of a solid (Geomview manual, "OFF Files").
+#![tactic(auto)]
