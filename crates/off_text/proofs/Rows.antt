@@ -1,5 +1,5 @@
 -- Worked rows, computed by the definitions: the faces of a box of 1 by 2 by 3, and of a cube from which a cube is cut at a corner.
-use Rattle.std.proofs.Common.{◌≡◌, ℕ, List, [], ◌∷◌, map, refl, ℤ, pos, negsuc}
+use Rattle.std.proofs.Common.{◌≡◌, List, [], ◌∷◌, map, refl, ℤ, pos, negsuc}
 use Rattle.plane_predicate.specs.Space.{Coefficients, Coordinates}
 use Rattle.plane_polygon.specs.Polygons.{Outline}
 use Rattle.plane_polygon.specs.Parts.{corners}

@@ -1,5 +1,5 @@
 -- What the faces of a 4OFF text face and cover, and how many of them.
-use Rattle.std.specs.Prelude.{◌≡◌, ◌≢◌, ℕ, suc, ◌<◌, Bool, true, false, ◌==◌, if◌then◌else◌, List, [], length, slice_index, slice_index_or, ℤ, pos, ◌<ℤ◌}
+use Rattle.std.specs.Prelude.{◌≡◌, ◌≢◌, ℕ, suc, ◌<◌, Bool, true, false, ◌==◌, if◌then◌else◌, List, [], length, slice_index, slice_index_or, pos, ◌<ℤ◌}
 use Rattle.plane_predicate.specs.Space.{Coefficients, Coordinates, value, turn}
 
 -- the place that follows place i round a list of this length

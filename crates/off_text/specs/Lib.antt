@@ -1,3 +1,4 @@
 pub mod Reading
 pub mod Boundaries
 pub mod Texts
+pub mod Numbering

@@ -1,2 +1,12 @@
 //! The 4OFF text of the faces of a solid (Geomview manual, "OFF Files").
 #![tactic(auto)]
+
+mod vertex;
+mod laws;
+mod numbering;
+mod writing;
+mod text;
+
+pub use laws::one_reading;
+pub use text::{OffStop, off_bytes};
+
