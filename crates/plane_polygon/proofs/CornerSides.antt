@@ -25,7 +25,7 @@ positive_apart x h e = omega (arith, sums)
 pub not_less : (x y : ℤ) → y ≤ℤ x → int_lt x y ≡ false
 not_less x y h = elim (int_lt x y) as (λ b. int_lt x y ≡ b → b ≡ false) [ true ↦ λ e. absurd (omega (arith, ints)) | false ↦ λ e. refl ] refl
 
-less : (x y : ℤ) → x <ℤ y → int_lt x y ≡ true
+pub less : (x y : ℤ) → x <ℤ y → int_lt x y ≡ true
 less x y h = elim (int_lt x y) as (λ b. int_lt x y ≡ b → b ≡ true) [ true ↦ λ e. refl | false ↦ λ e. absurd (omega (arith, ints)) ] refl
 
 pub side_behind : (v : ℤ) → is_side_behind (side_of v) ≡ int_lt v (pos 0)

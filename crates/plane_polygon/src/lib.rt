@@ -63,6 +63,20 @@ impl Polygon {
         })
     }
 
+    /// An equal polygon.
+    pub fn copy(&self, alloc: Global) -> Result<Polygon, NoMemory>
+        ensures { IfOk result (λ s. s ≡ self.now) }
+    {
+        Polygon::of(alloc, &self.plane, &self.edges)
+    }
+
+    /// Shows a caller's proof what a polygon keeps. It does nothing when it runs.
+    pub fn keeps(&self)
+        ensures { IsPolygon self.now }
+    {
+        let _ = &self.plane;
+    }
+
     /// The plane that it lies on.
     pub fn plane(&self) -> &Plane
         ensures { result.now ≡ self.now.plane }

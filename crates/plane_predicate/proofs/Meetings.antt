@@ -69,3 +69,8 @@ meeting_on p q r =
       value_signed c.w q c ∙ turned_zero c.w (value q c) (cramer_on_second p q r),
       value_signed c.w r c ∙ turned_zero c.w (value r c) (cramer_on_third p q r),
     )
+
+-- a point whose w is above 0 keeps the value's sign
+pub turned_above : (w v : ℤ) → pos 0 <ℤ w → turned_by w v ≡ v
+turned_above (pos n) v h = refl
+turned_above (negsuc n) v h = absurd (omega (arith, sums))

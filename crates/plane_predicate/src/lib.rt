@@ -9,7 +9,7 @@ mod sides;
 mod through;
 
 pub use laws::planes_with_the_same_points;
-pub use meeting::{meet, opposite, side};
+pub use meeting::{meet, opposite, point_side, side};
 pub use reduction::reduce;
 pub use sides::Side;
 use std::marker::Model;

@@ -42,6 +42,19 @@ pub fn side(p: &Plane, q: &Plane, r: &Plane, s: &Plane) -> Side
     side_by(at.w, value_at(s, &at))
 }
 
+/// The side of `m` on which a point lies.
+pub fn point_side(m: &Plane, point: &Point) -> Side
+    ensures { result ≡ side_of (value m.now point.now) }
+{
+    let at = Cramer {
+        x: point.x,
+        y: point.y,
+        z: point.z,
+        w: point.w,
+    };
+    side_by(at.w, value_at(m, &at))
+}
+
 /// The cross product of two directions.
 #[derive(Clone, Copy)]
 struct Cross {

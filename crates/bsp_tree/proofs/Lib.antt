@@ -1,0 +1,10 @@
+pub mod Opposites
+pub mod SameNumbers
+pub mod Convexity
+pub mod Openness
+pub mod SamePoints
+pub mod PolygonsOfCells
+pub mod Sides
+pub mod Walks
+pub mod Complements
+pub mod Worlds

@@ -1,0 +1,45 @@
+-- Solids as binary space partitions (Bernstein and Fussell).
+use Rattle.std.specs.Prelude.{ℕ, ◌+◌, Bool, true, false, ◌&&◌, if◌then◌else◌}
+use Rattle.std.specs.Ordering.{int_eq}
+use Rattle.plane_predicate.specs.Space.{Coefficients, Coordinates}
+use Rattle.plane_polygon.specs.Polygons.{Outline, sides}
+use Rattle.plane_polygon.specs.Parts.{is_behind}
+use Rattle.plane_polygon.specs.Boxes.{box_outline}
+
+-- a solid: a leaf inside or outside it, or a node with a polygon, on whose plane the node divides space, and with the
+-- solids behind and ahead of that plane
+pub data Tree : Type 0 where
+  inside outside : Tree
+  node : Outline → Tree → Tree → Tree
+
+-- the side of each node's plane on which the point lies, down to a leaf: whether that leaf is inside
+abbrev pub walk : Tree → Coordinates → Bool
+walk inside p = true
+walk outside p = false
+walk (node t b a) p = if is_behind t.plane p then walk b p else walk a p
+
+-- one for each node, and one for each edge of its polygon
+abbrev pub size : Tree → ℕ
+size inside = 0
+size outside = 0
+size (node t b a) = 1 + sides t + size b + size a
+
+-- inside and outside exchanged
+abbrev pub complement : Tree → Tree
+complement inside = outside
+complement outside = inside
+complement (node t b a) = node t (complement b) (complement a)
+
+-- a node, or the leaf where both sides are the same leaf
+abbrev pub make : Outline → Tree → Tree → Tree
+make t inside inside = inside
+make t outside outside = outside
+make t b a = node t b a
+
+-- the points behind a plane, in the world box
+abbrev pub half_space : Coefficients → Tree
+half_space m = node (box_outline m) inside outside
+
+-- the same four numbers
+abbrev pub same : Coefficients → Coefficients → Bool
+same m n = int_eq m.a n.a && int_eq m.b n.b && int_eq m.c n.c && int_eq m.d n.d
