@@ -2,3 +2,4 @@ pub mod Reading
 pub mod Boundaries
 pub mod Texts
 pub mod Numbering
+pub mod Prints
