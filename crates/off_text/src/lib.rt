@@ -10,3 +10,6 @@ mod text;
 pub use laws::one_reading;
 pub use text::{OffStop, off_bytes};
 
+
+#[cfg(test)]
+mod tests;
