@@ -27,10 +27,10 @@ more_all : {X : Type 0} (P : X → Type 0) (x : X) (xs : List X) → P x → All
 more_all P x xs h hs zero d l = h
 more_all P x xs h hs (suc k) d l = hs k d (omega arith)
 
-first_of : {X : Type 0} (P : X → Type 0) (x : X) (xs : List X) → All P (x ∷ xs) → P x
+pub first_of : {X : Type 0} (P : X → Type 0) (x : X) (xs : List X) → All P (x ∷ xs) → P x
 first_of P x xs h = h 0 x (omega arith)
 
-rest_of : {X : Type 0} (P : X → Type 0) (x : X) (xs : List X) → All P (x ∷ xs) → All P xs
+pub rest_of : {X : Type 0} (P : X → Type 0) (x : X) (xs : List X) → All P (x ∷ xs) → All P xs
 rest_of P x xs h k d l = h (suc k) d (omega arith)
 
 -- ---- numbered points

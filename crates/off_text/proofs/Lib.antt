@@ -10,3 +10,4 @@ pub mod Scaled
 pub mod Rounded
 pub mod Cornered
 pub mod Drawn
+pub mod Covered

@@ -7,7 +7,7 @@ mod numbering;
 mod writing;
 mod text;
 
-pub use laws::one_reading;
+pub use laws::{faces_cover_as_facets, one_reading};
 pub use text::{OffStop, off_bytes};
 
 
