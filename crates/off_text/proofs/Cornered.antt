@@ -1,6 +1,6 @@
 -- The corners of a polygon as they are printed: reduced, and from the least one on.
-use Rattle.std.proofs.Common.{◌≡◌, ◌⊎◌, inl, inr, ⊎_elim, ℕ, zero, suc, ◌+◌, ◌-◌, ◌<◌, ◌≤◌, Bool, true, false, List, [], ◌∷◌, ◌++◌, map, length, get_or, take, drop, refl, sym, ap, ◌∙◌, subst, arith, length-append, All, ℤ, pos, ◌<ℤ◌}
-use Rattle.std.proofs.lemmas.List.{map-append, get_or_append_left, get_or-append_right, get_or-drop, get_or-take, length-drop, length-take-le, length-map}
+use Rattle.std.proofs.Common.{◌≡◌, ⊎_elim, ℕ, zero, suc, ◌-◌, ◌<◌, ◌≤◌, Bool, true, false, List, [], ◌∷◌, ◌++◌, map, length, get_or, take, drop, refl, sym, ap, ◌∙◌, subst, arith, length-append, All, ℤ, pos, ◌<ℤ◌}
+use Rattle.std.proofs.lemmas.List.{map-append, get_or_append_left, get_or-append_right, get_or-drop, get_or-take, length-drop, length-take-le}
 use Rattle.std.proofs.lemmas.List.Elements.{All-from_get_or, All-append, All-take, All-drop}
 use Rattle.plane_predicate.specs.Space.{Coordinates, IsPointTimes, IsReduced}
 use Rattle.plane_predicate.proofs.Signs.{pos_cancel}
@@ -23,7 +23,7 @@ map-up_to f (suc n) i h =
     ap (λ (l : List Coordinates). get_or l i origin) (map-append f (up_to n) (n ∷ []))
     ∙ ⊎_elim
     (λ e. get_or-append_right (map f (up_to n)) (f n ∷ []) n i origin (map-up_to-length f n) (omega arith)
-      ∙ (let z : i - n ≡ 0 = omega arith in ap (λ (j : ℕ). get_or (f n ∷ []) j origin) z) ∙ ap f (sym e))
+    ∙ (let z : i - n ≡ 0 = omega arith in ap (λ (j : ℕ). get_or (f n ∷ []) j origin) z) ∙ ap f (sym e))
     (λ b. get_or_append_left (map f (up_to n)) (f n ∷ []) origin i (omega (arith, map-up_to-length f n)) ∙ map-up_to f n i b)
     (at_most i n (omega arith))
 
@@ -53,12 +53,12 @@ module _ (s : Outline) (found : List Coordinates) (h : AreReducedFrom (corners s
   pub found_are_vertices : IsPolygon s → All IsVertex found
   found_are_vertices polygon =
       All-from_get_or IsVertex found origin (λ i l.
-        let b : i < sides s = omega (arith, found-length) in
-        let at = found-at i b in
-        record {
-          weight = pos_cancel at.0.by (get_or found i origin).w at.0.above (subst (λ (w : ℤ). pos 0 <ℤ w) at.0.w (polygon.turns_left i b));
-          reduced = at.1.reduced;
-        })
+      let b : i < sides s = omega (arith, found-length) in
+      let at = found-at i b in
+      record {
+        weight = pos_cancel at.0.by (get_or found i origin).w at.0.above (subst (λ (w : ℤ). pos 0 <ℤ w) at.0.w (polygon.turns_left i b));
+        reduced = at.1.reduced;
+      })
 
 -- ---- the least corner
 next_least : (corners : List Coordinates) (i least : ℕ) → IsLeastOf corners i least → i < length corners → (b : Bool) → comes_before (get_or corners i origin) (get_or corners least origin) ≡ b →
@@ -87,10 +87,10 @@ turned-at : (points : List Coordinates) (a i : ℕ) → a < length points → i 
 turned-at points a i h l =
     ⊎_elim
     (λ p. get_or_append_left (drop a points) (take a points) origin i (omega (arith, length-drop a points, p.1))
-      ∙ get_or-drop a points i origin ∙ ap (λ (n : ℕ). get_or points n origin) (sym p.0))
+    ∙ get_or-drop a points i origin ∙ ap (λ (n : ℕ). get_or points n origin) (sym p.0))
     (λ p. get_or-append_right (drop a points) (take a points) (length points - a) i origin (length-drop a points) (omega (arith, p))
-      ∙ get_or-take a points (i - (length points - a)) origin (omega (arith, p, l))
-      ∙ (let e : i - (length points - a) ≡ step (length points) a i = omega (arith, p, h) in ap (λ (n : ℕ). get_or points n origin) e))
+    ∙ get_or-take a points (i - (length points - a)) origin (omega (arith, p, l))
+    ∙ (let e : i - (length points - a) ≡ step (length points) a i = omega (arith, p, h) in ap (λ (n : ℕ). get_or points n origin) e))
     (step_is (length points) a i h l)
 
 -- points that are a polygon's corners, from one of them on

@@ -1,5 +1,5 @@
 -- The faces of a text cover a point as its facets do.
-use Rattle.std.proofs.Common.{◌≡◌, ◌⊎◌, inl, inr, ℕ, zero, suc, ◌<◌, Bool, true, false, List, [], ◌∷◌, length, refl, ap, arith, All}
+use Rattle.std.proofs.Common.{◌≡◌, inl, inr, ℕ, zero, suc, ◌<◌, Bool, true, false, List, [], ◌∷◌, length, refl, ap, arith, All}
 use Rattle.std.specs.Prelude.{slice_index_or}
 use Rattle.plane_predicate.specs.Space.{Coefficients, Coordinates, IsPlane}
 use Rattle.plane_polygon.specs.Polygons.{Outline}

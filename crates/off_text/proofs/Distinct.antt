@@ -76,8 +76,8 @@ grown_step p vertices rest false e =
     ∙ ap (λ (l : List Coordinates). vertices ++ p ∷ l)
     (filter_both (is_new (vertices ++ p ∷ [])) (is_new vertices) (λ q. not (same_point p q))
     (λ q. ap not (list_any-append (same_point q) vertices (p ∷ []))
-      ∙ ap (λ (b : Bool). not (list_any (same_point q) vertices || (b || false))) (same_alike q p)
-      ∙ neither (list_any (same_point q) vertices) (same_point p q)) rest)
+    ∙ ap (λ (b : Bool). not (list_any (same_point q) vertices || (b || false))) (same_alike q p)
+    ∙ neither (list_any (same_point q) vertices) (same_point p q)) rest)
 
 grown-distinct : (points vertices : List Coordinates) → grown vertices points ≡ vertices ++ filter (is_new vertices) (distinct points)
 grown-distinct [] vertices = sym (append-nil vertices)

@@ -1,18 +1,16 @@
 -- The faces of a text are the polygons.
-use Rattle.std.proofs.Common.{◌≡◌, ◌≢◌, ◌↔◌, ℕ, zero, suc, ◌+◌, ◌<◌, ◌≤◌, Bool, true, not, List, filter, [], ◌∷◌, ◌++◌, map, flat_map, length, get_or, refl, sym, ap, ◌∙◌, subst, arith, All, ℤ, pos, ◌<ℤ◌}
-use Rattle.std.specs.List.{list_any, position_or_len}
-use Rattle.std.proofs.lemmas.List.{length-map, get_or-map, get_or_default}
+use Rattle.std.proofs.Common.{◌≡◌, ◌≢◌, ℕ, zero, suc, ◌<◌, ◌≤◌, not, List, filter, [], ◌∷◌, map, length, get_or, sym, ap, ◌∙◌, subst, arith, All, pos, ◌<ℤ◌}
+use Rattle.std.proofs.lemmas.List.{length-map}
 use Rattle.std.proofs.lemmas.List.Elements.{All-append, All-filter, All-map, All-from_get_or}
 use Rattle.std.proofs.lemmas.List.Sums.{passes_at_first}
 use Rattle.plane_predicate.specs.Space.{Coefficients, Coordinates, value, turn, IsPlane, IsPointTimes}
-use Rattle.plane_polygon.specs.Polygons.{Outline, sides, IsPolygon, IsStrictlyWithin, AreReducedFrom, after as after_of, corner as corner_of}
-use Rattle.plane_polygon.specs.Parts.{corners}
+use Rattle.plane_polygon.specs.Polygons.{Outline, sides, IsPolygon, IsStrictlyWithin, corner as corner_of}
 use Rattle.plane_polygon.proofs.Rounds.{step, step_below}
 use Rattle.off_text.specs.Reading.{IsVertex, IsFace, off_text}
 use Rattle.off_text.specs.Boundaries.{origin, corner, after, Faces, Covers}
 use Rattle.off_text.specs.Texts.{same_point, distinct, number_among, from_least, printed_corners, vertices_of, faces_of, AreCornersOf}
 use Rattle.off_text.specs.Numbering.{AreNumbered}
-use Rattle.off_text.specs.Prints.{IsCornerOf, IsFaceOf, AreFacesOf, Prints}
+use Rattle.off_text.specs.Prints.{IsFaceOf, AreFacesOf, Prints}
 use Rattle.off_text.proofs.Numbers.{Known, AllKnown, place_below, same_equal, grown_knows}
 use Rattle.off_text.proofs.Distinct.{grown_from_none}
 use Rattle.off_text.proofs.Gathered.{joined, known_parts}
@@ -94,8 +92,9 @@ module _ (s : Outline) (polygon : IsPolygon s) (vertices points : List Coordinat
         record { place = step (sides s) printed.start i; within = step_below (sides s) printed.start i printed.starts; times = is i b });
     facing = facing;
     covering = λ n p hs hn. (
-        (λ c. let e = faced_plane n hs hn c.faces in (e, covering-out p (subst (λ (m : Coefficients). Covers vertices m p face) (sym e) c))),
-        (λ w. subst (λ (m : Coefficients). Covers vertices m p face) w.0 (covering-in p w.1)));
+      (λ c. let e = faced_plane n hs hn c.faces in (e, covering-out p (subst (λ (m : Coefficients). Covers vertices m p face) (sym e) c))),
+      (λ w. subst (λ (m : Coefficients). Covers vertices m p face) w.0 (covering-in p w.1)),
+    );
   }
 
   known_indices : All (λ i. i < length vertices) face
@@ -116,9 +115,10 @@ faces_drawn (s ∷ polygons) (f ∷ found) vertices h c k =
     let parts = known_parts (from_least f) (joined (printed_corners found)) vertices k in
     let polygon = first_of IsPolygon s polygons h in
     let points = printed s f polygon c.0 in
-    let rest = faces_drawn polygons found vertices (rest_of IsPolygon s polygons h) c.1 parts.1 in
-    ((drawn s polygon vertices (from_least f) points parts.0, rest.0),
-     more_all (IsFace (length vertices)) (map (number_among vertices) (from_least f)) (map (map (number_among vertices)) (printed_corners found)) (is_face s polygon vertices (from_least f) points parts.0) rest.1)
+    let rest = faces_drawn polygons found vertices (rest_of IsPolygon s polygons h) c.1 parts.1 in (
+      (drawn s polygon vertices (from_least f) points parts.0, rest.0),
+      more_all (IsFace (length vertices)) (map (number_among vertices) (from_least f)) (map (map (number_among vertices)) (printed_corners found)) (is_face s polygon vertices (from_least f) points parts.0) rest.1,
+    )
 
 -- ---- all vertices
 distinct_all : (points : List Coordinates) → All IsVertex points → All IsVertex (distinct points)

@@ -44,7 +44,7 @@ least_new corners i least h l e = record {
   others = λ j b. before-others (get_or corners i origin) (get_or corners least origin) (get_or corners j origin) e (h.none j b);
 }
 
-pub least_kept : (corners : List Coordinates) (i least : ℕ) → IsLeastOf corners i least → 
+pub least_kept : (corners : List Coordinates) (i least : ℕ) → IsLeastOf corners i least →
     comes_before (get_or corners i origin) (get_or corners least origin) ≡ false → IsLeastOf corners (suc i) least
 least_kept corners i least h e = record {
   first = h.first;
@@ -60,7 +60,7 @@ least_found (c ∷ corners) i least h l =
     sym (position_or_len_is (is_least (c ∷ corners)) (c ∷ corners) least origin (omega (arith, h.within (omega arith)))
     (λ k b. ap not (list_any_at (λ q. comes_before q (get_or (c ∷ corners) k origin)) (c ∷ corners) least origin (h.within (omega arith)) (h.others k b)))
     (λ b. ap not (list_any_none (λ q. comes_before q (get_or (c ∷ corners) least origin)) (c ∷ corners)
-      (All-from_get_or (λ q. comes_before q (get_or (c ∷ corners) least origin) ≡ false) (c ∷ corners) origin (λ j d. h.none j (omega arith))))))
+    (All-from_get_or (λ q. comes_before q (get_or (c ∷ corners) least origin) ≡ false) (c ∷ corners) origin (λ j d. h.none j (omega arith))))))
 
 -- an element, whatever stands for what is past the end
 pub item_is : (corners : List Coordinates) (i : ℕ) (p : Coordinates) → i < length corners → p ≡ get_or corners i p → p ≡ get_or corners i origin

@@ -11,3 +11,5 @@ pub mod Rounded
 pub mod Cornered
 pub mod Drawn
 pub mod Covered
+pub mod Unique
+pub mod Boxed

@@ -77,11 +77,12 @@ eqb-equal n m e = grind (arith, e)
 own_step : (p : Coordinates) (vertices : List Coordinates) (b : Bool) → list_any (same_point p) vertices ≡ b →
     Known (cond b vertices (vertices ++ p ∷ [])) p × (number_among (cond b vertices (vertices ++ p ∷ [])) p ≡ number_among vertices p)
 own_step p vertices true e = (e, refl)
-own_step p vertices false e =
-    (list_any-append (same_point p) vertices (p ∷ []) ∙ or_right (list_any (same_point p) vertices) _ (or_left (same_point p p) false (same_itself p)),
-     position_or_len_push (same_point p) vertices p
-     ∙ ap (λ (b : Bool). cond (eqb (number_among vertices p) (length vertices)) (length vertices + cond b 0 1) (number_among vertices p)) (same_itself p)
-     ∙ last_place (eqb (number_among vertices p) (length vertices)) (number_among vertices p) (length vertices) (λ e. eqb-equal (number_among vertices p) (length vertices) e))
+own_step p vertices false e = (
+  list_any-append (same_point p) vertices (p ∷ []) ∙ or_right (list_any (same_point p) vertices) _ (or_left (same_point p p) false (same_itself p)),
+  position_or_len_push (same_point p) vertices p
+      ∙ ap (λ (b : Bool). cond (eqb (number_among vertices p) (length vertices)) (length vertices + cond b 0 1) (number_among vertices p)) (same_itself p)
+      ∙ last_place (eqb (number_among vertices p) (length vertices)) (number_among vertices p) (length vertices) (λ e. eqb-equal (number_among vertices p) (length vertices) e),
+)
 
 -- a point has its number once it is numbered
 pub inserted_itself : (p : Coordinates) (vertices : List Coordinates) →

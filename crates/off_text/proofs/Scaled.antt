@@ -1,10 +1,10 @@
 -- Planes and turns see a point as its numbers times one above 0.
-use Rattle.std.proofs.Common.{◌≡◌, List, [], ◌∷◌, refl, sym, ap, ◌∙◌, subst, arith, ℤ, pos, ◌*ℤ◌, ◌<ℤ◌, ◌+ℤ◌, ◌-ℤ◌, neg_ℤ}
+use Rattle.std.proofs.Common.{◌≡◌, [], ◌∷◌, refl, sym, ap, ◌∙◌, subst, arith, ℤ, pos, ◌*ℤ◌, ◌<ℤ◌, ◌+ℤ◌, ◌-ℤ◌, neg_ℤ}
 use Rattle.std.proofs.Math.IntN.{*ℤ-zero}
 use Rattle.plane_predicate.specs.Space.{Coefficients, Coordinates, value, turn, product_with, opposite_of, IsPointTimes}
 use Rattle.plane_predicate.proofs.IntegerRing.{sums, mul_neg_left, mul_comm_ℤ}
 use Rattle.plane_predicate.proofs.Polynomials.{Poly, var, times, ring}
-use Rattle.plane_predicate.proofs.Vectors.{Form, Place, form, place, of_plane, of_point, valueP, turnP}
+use Rattle.plane_predicate.proofs.Vectors.{Place, form, place, of_plane, of_point, valueP, turnP}
 use Rattle.plane_predicate.proofs.Identities.{turn_round}
 use Rattle.plane_predicate.proofs.Opposites.{same_point}
 use Rattle.plane_predicate.proofs.Signs.{pos_pos, pos_cancel, zero_cancel}

@@ -1,7 +1,7 @@
 -- Texts whose faces are polygons.
-use Rattle.std.specs.Prelude.{◌≡◌, ◌↔◌, ℕ, ◌<◌, List, [], ◌∷◌, length, All}
+use Rattle.std.specs.Prelude.{◌≡◌, ◌↔◌, ℕ, ◌<◌, List, [], ◌∷◌, length}
 use Rattle.plane_predicate.specs.Space.{Coefficients, Coordinates, IsPlane, IsPointTimes}
-use Rattle.plane_polygon.specs.Polygons.{Outline, sides, corner as corner_of, IsPolygon, IsStrictlyWithin}
+use Rattle.plane_polygon.specs.Polygons.{Outline, sides, corner as corner_of, IsStrictlyWithin}
 use Rattle.off_text.specs.Reading.{Reads}
 use Rattle.off_text.specs.Boundaries.{corner, Faces, Covers}
 

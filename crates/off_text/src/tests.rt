@@ -46,12 +46,7 @@ fn trimmed(rt: &impl Abort, alloc: Global, polygon: &Polygon, plane: &Plane) -> 
 }
 
 // The facet on the plane through three points, behind the planes through others.
-fn face(
-    rt: &impl Abort,
-    alloc: Global,
-    points: [[i64; 3]; 3],
-    others: &[[[i64; 3]; 3]],
-) -> Facet {
+fn face(rt: &impl Abort, alloc: Global, points: [[i64; 3]; 3], others: &[[[i64; 3]; 3]]) -> Facet {
     let mut polygon = box_polygon(alloc, &through(rt, points)).expect(rt, "memory");
     for other in others {
         if *other != points {
@@ -103,11 +98,20 @@ fn text(rt: &impl Abort, alloc: Global, planes: &[[[i64; 3]; 3]]) -> Vec<u8> {
 #[test]
 fn writes_boxes(rt: HostRuntime) {
     let alloc = rt.alloc();
-    assert_eq!(rt; text(&rt, alloc, &box_planes([0, 0, 0], [1, 2, 3])).as_slice(), b"4OFF\n8 6 0\n0 0 0 1\n0 0 3 1\n0 2 3 1\n0 2 0 1\n1 0 0 1\n1 2 0 1\n1 2 3 1\n1 0 3 1\n4 0 1 2 3\n4 4 5 6 7\n4 0 4 7 1\n4 3 2 6 5\n4 0 3 5 4\n4 1 7 6 2\n".as_slice());
+    assert_eq!(rt;
+        text(&rt, alloc, &box_planes([0, 0, 0], [1, 2, 3])).as_slice(),
+        b"4OFF\n8 6 0\n0 0 0 1\n0 0 3 1\n0 2 3 1\n0 2 0 1\n1 0 0 1\n1 2 0 1\n1 2 3 1\n1 0 3 1\n4 0 1 2 3\n4 4 5 6 7\n4 0 4 7 1\n4 3 2 6 5\n4 0 3 5 4\n4 1 7 6 2\n".as_slice()
+    );
     let [low_x, high_x, low_y, high_y, low_z, high_z] = box_planes([0, 0, 0], [3, 1, 2]);
-    assert_eq!(rt; text(&rt, alloc, &[low_y, high_y, low_z, high_z, low_x, high_x]).as_slice(), b"4OFF\n8 6 0\n0 0 0 1\n3 0 0 1\n3 0 2 1\n0 0 2 1\n0 1 0 1\n0 1 2 1\n3 1 2 1\n3 1 0 1\n4 0 1 2 3\n4 4 5 6 7\n4 0 4 7 1\n4 3 2 6 5\n4 0 3 5 4\n4 1 7 6 2\n".as_slice());
+    assert_eq!(rt;
+        text(&rt, alloc, &[low_y, high_y, low_z, high_z, low_x, high_x]).as_slice(),
+        b"4OFF\n8 6 0\n0 0 0 1\n3 0 0 1\n3 0 2 1\n0 0 2 1\n0 1 0 1\n0 1 2 1\n3 1 2 1\n3 1 0 1\n4 0 1 2 3\n4 4 5 6 7\n4 0 4 7 1\n4 3 2 6 5\n4 0 3 5 4\n4 1 7 6 2\n".as_slice()
+    );
     let [low_x, high_x, low_y, high_y, low_z, high_z] = box_planes([0, 0, 0], [10, 7, 5]);
-    assert_eq!(rt; text(&rt, alloc, &[low_z, low_y, high_z, high_x, high_y, low_x]).as_slice(), b"4OFF\n8 6 0\n0 0 0 1\n0 7 0 1\n10 7 0 1\n10 0 0 1\n10 0 5 1\n0 0 5 1\n10 7 5 1\n0 7 5 1\n4 0 1 2 3\n4 0 3 4 5\n4 5 4 6 7\n4 3 2 6 4\n4 1 7 6 2\n4 0 5 7 1\n".as_slice());
+    assert_eq!(rt;
+        text(&rt, alloc, &[low_z, low_y, high_z, high_x, high_y, low_x]).as_slice(),
+        b"4OFF\n8 6 0\n0 0 0 1\n0 7 0 1\n10 7 0 1\n10 0 0 1\n10 0 5 1\n0 0 5 1\n10 7 5 1\n0 7 5 1\n4 0 1 2 3\n4 0 3 4 5\n4 5 4 6 7\n4 3 2 6 4\n4 1 7 6 2\n4 0 5 7 1\n".as_slice()
+    );
 }
 
 #[test]
@@ -117,17 +121,44 @@ fn writes_other_bodies(rt: HostRuntime) {
     let b = [-4094, 4095, 4095];
     let c = [4095, 4095, -4094];
     let d = [4095, -4095, 4095];
-    assert_eq!(rt; text(&rt, alloc, &[[a, b, c], [a, c, d], [a, d, b], [b, d, c]]).as_slice(), b"4OFF\n4 4 0\n-4095 -4095 -4095 1\n-4094 4095 4095 1\n4095 4095 -4094 1\n4095 -4095 4095 1\n3 0 1 2\n3 0 2 3\n3 0 3 1\n3 1 3 2\n".as_slice());
+    assert_eq!(rt;
+        text(&rt, alloc, &[[a, b, c], [a, c, d], [a, d, b], [b, d, c]]).as_slice(),
+        b"4OFF\n4 4 0\n-4095 -4095 -4095 1\n-4094 4095 4095 1\n4095 4095 -4094 1\n4095 -4095 4095 1\n3 0 1 2\n3 0 2 3\n3 0 3 1\n3 1 3 2\n".as_slice()
+    );
     let [low_x, high_x, low_y, high_y, low_z, high_z] = box_planes([0, 0, 0], [1, 1, 1]);
     let slanted = [[3, 0, 0], [0, 2, 0], [0, 0, 2]];
-    assert_eq!(rt; text(&rt, alloc, &[low_z, low_y, low_x, slanted, high_x, high_y, high_z]).as_slice(), b"4OFF\n9 7 0\n0 0 0 1\n0 1 0 1\n1 1 0 1\n1 0 0 1\n1 0 1 1\n0 0 1 1\n0 1 1 1\n3 1 3 3\n3 3 1 3\n4 0 1 2 3\n4 0 3 4 5\n4 0 5 6 1\n3 6 7 8\n5 3 2 8 7 4\n4 1 6 8 2\n4 5 4 7 6\n".as_slice());
+    assert_eq!(rt;
+        text(
+            &rt,
+            alloc,
+            &[low_z, low_y, low_x, slanted, high_x, high_y, high_z]
+        )
+        .as_slice(),
+        b"4OFF\n9 7 0\n0 0 0 1\n0 1 0 1\n1 1 0 1\n1 0 0 1\n1 0 1 1\n0 0 1 1\n0 1 1 1\n3 1 3 3\n3 3 1 3\n4 0 1 2 3\n4 0 3 4 5\n4 0 5 6 1\n3 6 7 8\n5 3 2 8 7 4\n4 1 6 8 2\n4 5 4 7 6\n".as_slice()
+    );
     let first = box_planes([0, 0, 0], [1, 1, 1]);
     let second = box_planes([1, 0, 0], [2, 1, 1]);
     let mut facets = Vec::new(alloc);
-    add_faces(&rt, alloc, &mut facets, &first, &[low_x, low_y, high_y, low_z, high_z]);
+    add_faces(
+        &rt,
+        alloc,
+        &mut facets,
+        &first,
+        &[low_x, low_y, high_y, low_z, high_z],
+    );
     add_faces(&rt, alloc, &mut facets, &second, &second[1..]);
-    assert_eq!(rt; off_bytes(alloc, &facets).expect(&rt, "within the limits").as_slice(), b"4OFF\n12 10 0\n0 0 0 1\n0 0 1 1\n0 1 1 1\n0 1 0 1\n1 0 0 1\n1 0 1 1\n1 1 1 1\n1 1 0 1\n2 0 0 1\n2 1 0 1\n2 1 1 1\n2 0 1 1\n4 0 1 2 3\n4 0 4 5 1\n4 3 2 6 7\n4 0 3 7 4\n4 1 5 6 2\n4 8 9 10 11\n4 4 8 11 5\n4 7 6 10 9\n4 4 7 9 8\n4 5 11 10 6\n".as_slice());
-    assert_eq!(rt; off_bytes(alloc, &[]).expect(&rt, "within the limits").as_slice(), b"4OFF\n0 0 0\n".as_slice());
+    assert_eq!(rt;
+        off_bytes(alloc, &facets)
+            .expect(&rt, "within the limits")
+            .as_slice(),
+        b"4OFF\n12 10 0\n0 0 0 1\n0 0 1 1\n0 1 1 1\n0 1 0 1\n1 0 0 1\n1 0 1 1\n1 1 1 1\n1 1 0 1\n2 0 0 1\n2 1 0 1\n2 1 1 1\n2 0 1 1\n4 0 1 2 3\n4 0 4 5 1\n4 3 2 6 7\n4 0 3 7 4\n4 1 5 6 2\n4 8 9 10 11\n4 4 8 11 5\n4 7 6 10 9\n4 4 7 9 8\n4 5 11 10 6\n".as_slice()
+    );
+    assert_eq!(rt;
+        off_bytes(alloc, &[])
+            .expect(&rt, "within the limits")
+            .as_slice(),
+        b"4OFF\n0 0 0\n".as_slice()
+    );
 }
 
 // Adds a square on z = 0, so many times.
@@ -152,7 +183,11 @@ fn counts_corners(rt: HostRuntime) {
     let mut facets = Vec::new(alloc);
     add_square(&rt, alloc, &mut facets, 0, 0, 50_000);
     let text = off_bytes(alloc, &facets).expect(&rt, "within the limits");
-    assert!(rt; text.as_slice().starts_with(b"4OFF\n4 50000 0\n0 0 0 1\n0 1 0 1\n1 1 0 1\n1 0 0 1\n4 0 1 2 3\n4 0 1 2 3\n"));
+    assert!(rt;
+        text.as_slice().starts_with(
+            b"4OFF\n4 50000 0\n0 0 0 1\n0 1 0 1\n1 1 0 1\n1 0 0 1\n4 0 1 2 3\n4 0 1 2 3\n"
+        )
+    );
     add_square(&rt, alloc, &mut facets, 0, 0, 1);
     assert!(rt; matches!(off_bytes(alloc, &facets), Err(OffStop::TooManyCorners)));
 }
@@ -167,7 +202,11 @@ fn counts_vertices(rt: HostRuntime) {
         }
     }
     let text = off_bytes(alloc, &facets).expect(&rt, "within the limits");
-    assert!(rt; text.as_slice().starts_with(b"4OFF\n60000 15000 0\n0 0 0 1\n0 1 0 1\n1 1 0 1\n1 0 0 1\n0 2 0 1\n"));
+    assert!(rt;
+        text.as_slice().starts_with(
+            b"4OFF\n60000 15000 0\n0 0 0 1\n0 1 0 1\n1 1 0 1\n1 0 0 1\n0 2 0 1\n"
+        )
+    );
     add_square(&rt, alloc, &mut facets, 1000, 1000, 1);
     assert!(rt; matches!(off_bytes(alloc, &facets), Err(OffStop::TooManyVertices)));
 }

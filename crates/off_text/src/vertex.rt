@@ -45,8 +45,7 @@ impl Vertex {
 fn comes_before(p: &Point, q: &Point) -> bool
     ensures { result ≡ comes_before p.now q.now }
 {
-    p.x < q.x
-        || p.x == q.x && (p.y < q.y || p.y == q.y && (p.z < q.z || p.z == q.z && p.w < q.w))
+    p.x < q.x || p.x == q.x && (p.y < q.y || p.y == q.y && (p.z < q.z || p.z == q.z && p.w < q.w))
 }
 
 /// The place of the least corner, from 0.

@@ -44,7 +44,12 @@ fn push_face(alloc: Global, out: &mut Vec<u8>, face: &[usize]) -> Result<(), NoM
 }
 
 /// Appends the line of the counts, with a 0 for the edges.
-fn push_counts(alloc: Global, out: &mut Vec<u8>, vertices: usize, faces: usize) -> Result<(), NoMemory>
+fn push_counts(
+    alloc: Global,
+    out: &mut Vec<u8>,
+    vertices: usize,
+    faces: usize,
+) -> Result<(), NoMemory>
     ensures { OnOk result (out.new.items ≡ out.old.items ++ numeral vertices ++ 32 ∷ numeral faces ++ codes " 0\n") }
 {
     push_count(alloc, out, vertices)?;
@@ -55,7 +60,11 @@ fn push_counts(alloc: Global, out: &mut Vec<u8>, vertices: usize, faces: usize) 
 }
 
 /// The text of these vertices and these faces, whose corners are indices of vertices.
-pub fn written(alloc: Global, vertices: &[Vertex], faces: &[Vec<usize>]) -> Result<Vec<u8>, NoMemory>
+pub fn written(
+    alloc: Global,
+    vertices: &[Vertex],
+    faces: &[Vec<usize>],
+) -> Result<Vec<u8>, NoMemory>
     ensures { IfOk result (λ text. text.items ≡ off_text vertices.now (map (λ face. face.items) faces.now)) }
 {
     let mut text = Vec::from_slice(alloc, b"4OFF\n")?;

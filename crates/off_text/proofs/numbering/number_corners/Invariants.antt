@@ -7,4 +7,5 @@ abbrev pub invariant-loop-corner : goal.invariant-loop-corner
 invariant-loop-corner l = record {
   vertices : grown l.vertices.keys (drop l.corner-index l.corners) ≡ grown l.initial.vertices.keys l.corners;
   indices : l.indices.items ++ map (number_among (grown l.vertices.keys (drop l.corner-index l.corners))) (drop l.corner-index l.corners)
-      ≡ l.initial.indices.items ++ map (number_among (grown l.initial.vertices.keys l.corners)) l.corners }
+      ≡ l.initial.indices.items ++ map (number_among (grown l.initial.vertices.keys l.corners)) l.corners;
+}

@@ -1,4 +1,4 @@
-use Rattle.std.proofs.Common.{List, ℕ, ap, ap₂, ◌∙◌, map, Vec, Global}
+use Rattle.std.proofs.Common.{List, ℕ, ap₂, ◌∙◌, map, Vec, Global}
 use Rattle.plane_predicate.specs.Space.{Coordinates}
 use Rattle.off_text.specs.Reading.{off_text}
 use Rattle.off_text.proofs.Drawn.{prints}

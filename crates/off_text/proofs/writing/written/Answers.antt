@@ -18,5 +18,5 @@ returns c =
     (all_written vertex_line c.args.vertices.now c.loop-vertex.vertex-index _ _ c.loop-vertex-test.false c.loop-vertex.invariant
     ∙ ap (λ (l : List ℕ). l ++ flat_map vertex_line c.args.vertices.now)
     (c.in_ok-push_counts.ensures ∙ ap (counted (length c.args.vertices.now) (length c.args.faces.now)) c.in_ok-text.ensures.items
-      ∙ ap (λ (n : ℕ). counted (length c.args.vertices.now) n (codes "4OFF\n")) (sym (length-map c.args.faces.now items))))
+    ∙ ap (λ (n : ℕ). counted (length c.args.vertices.now) n (codes "4OFF\n")) (sym (length-map c.args.faces.now items))))
     ∙ text-written c.args.vertices.now (map items c.args.faces.now) (flat_map (λ face. face_line face.items) c.args.faces.now) (lines-map items c.args.faces.now)
