@@ -29,20 +29,26 @@ crossed_high : size (divide (half_space (x_at (pos 1))) (box_outline (y_at (pos 
 crossed_high = refl
 
 -- x below 1, parted by x at 2: all of it is behind, and what is ahead is outside
-beside_low : divide (half_space (x_at (pos 1))) (box_outline (x_at (pos 2))) ≡ (half_space (x_at (pos 1)), outside)
+beside_low : divide (half_space (x_at (pos 1))) (box_outline (x_at (pos 2))) ≡ (
+  half_space (x_at (pos 1)),
+  outside,
+)
 beside_low = refl
 
 -- x below 2, parted by x at 1: what is behind is inside
-beside_high : divide (half_space (x_at (pos 2))) (box_outline (x_at (pos 1))) ≡ (inside, half_space (x_at (pos 2)))
+beside_high : divide (half_space (x_at (pos 2))) (box_outline (x_at (pos 1))) ≡
+    (inside, half_space (x_at (pos 2)))
 beside_high = refl
 
 -- parted by the opposite of x at 2
-turned_low : divide (half_space (x_at (pos 1))) (box_outline (plane (negsuc 0) (pos 0) (pos 0) (negsuc 1))) ≡ (outside, half_space (x_at (pos 1)))
+turned_low : divide (half_space (x_at (pos 1))) (box_outline (plane (negsuc 0) (pos 0) (pos 0) (negsuc 1))) ≡
+    (outside, half_space (x_at (pos 1)))
 turned_low = refl
 
 -- by its own plane, and by the opposite of it
 same_plane : divide (half_space (x_at (pos 1))) (box_outline (x_at (pos 1))) ≡ (inside, outside)
 same_plane = refl
 
-opposite_plane : divide (half_space (x_at (pos 1))) (box_outline (plane (negsuc 0) (pos 0) (pos 0) (negsuc 0))) ≡ (outside, inside)
+opposite_plane : divide (half_space (x_at (pos 1))) (box_outline (plane (negsuc 0) (pos 0) (pos 0)
+    (negsuc 0))) ≡ (outside, inside)
 opposite_plane = refl

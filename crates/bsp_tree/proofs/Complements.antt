@@ -13,7 +13,8 @@ if_not false x y u v hx hy = hy
 pub complement_walks : (t : Tree) (p : Coordinates) → walk (complement t) p ≡ not (walk t p)
 complement_walks inside p = refl
 complement_walks outside p = refl
-complement_walks (node t b a) p = if_not (is_behind t.plane p) (walk (complement b) p) (walk (complement a) p) (walk b p) (walk a p) (complement_walks b p) (complement_walks a p)
+complement_walks (node t b a) p = if_not (is_behind t.plane p) (walk (complement b) p) (walk (complement a) p)
+    (walk b p) (walk a p) (complement_walks b p) (complement_walks a p)
 
 -- no plane is new
 pub complement_planes : (t : Tree) → HasPlanesOf (complement t) t
@@ -27,4 +28,9 @@ complement_planes (node t b a) m (inr (inr h)) = inr (inr (complement_planes a m
 pub complement_cells : (t : Tree) (cell : List Coefficients) → IsOfCell cell t → IsOfCell cell (complement t)
 complement_cells inside cell h = tt
 complement_cells outside cell h = tt
-complement_cells (node t b a) cell h = (h.0, complement_cells b (t.plane ∷ cell) h.1, complement_cells a (opposite_of t.plane ∷ cell) h.2)
+complement_cells (node t b a) cell h = (
+  h.0,
+  complement_cells b (t.plane ∷ cell) h.1,
+  complement_cells a
+      (opposite_of t.plane ∷ cell) h.2,
+)

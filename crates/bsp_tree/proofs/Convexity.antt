@@ -18,11 +18,13 @@ sum_above x y h k = omega (arith, sums)
 sum_below : (x y : ℤ) → x <ℤ pos 0 → y ≤ℤ pos 0 → (x +ℤ y) <ℤ pos 0
 sum_below x y h k = omega (arith, sums)
 
-all_combine : (cell : List Coefficients) (u : ℤ) (p : Coordinates) (v : ℤ) (q : Coordinates) → pos 0 <ℤ u → pos 0 ≤ℤ v →
+all_combine : (cell : List Coefficients) (u : ℤ) (p : Coordinates) (v : ℤ) (q : Coordinates) → pos 0 <ℤ u →
+    pos 0 ≤ℤ v →
     AllBehind cell p → NoneAhead cell q → AllBehind cell (combine u p v q)
 all_combine [] u p v q hu hv hp hq = tt
 all_combine (m ∷ cell) u p v q hu hv hp hq = (
-  subst (λ (x : ℤ). x <ℤ pos 0) (sym (value_combine m u p v q)) (sum_below (u *ℤ value m p) (v *ℤ value m q) (pos_neg u (value m p) hu hp.0) (least_most v (value m q) hv hq.0)),
+  subst (λ (x : ℤ). x <ℤ pos 0) (sym (value_combine m u p v q)) (sum_below (u *ℤ value m p) (v *ℤ value m q)
+      (pos_neg u (value m p) hu hp.0) (least_most v (value m q) hv hq.0)),
   all_combine cell u p v q hu hv hp.1 hq.1,
 )
 
@@ -36,9 +38,11 @@ pub in_closed : (cell : List Coefficients) (p : Coordinates) → IsIn cell p →
 in_closed cell p h = record { weight = h.weight; below = not_ahead cell p h.below }
 
 -- a point of the cell combined with one of the closed cell
-pub in_combine : (cell : List Coefficients) (u : ℤ) (p : Coordinates) (v : ℤ) (q : Coordinates) → pos 0 <ℤ u → pos 0 ≤ℤ v →
+pub in_combine : (cell : List Coefficients) (u : ℤ) (p : Coordinates) (v : ℤ) (q : Coordinates) → pos 0 <ℤ u →
+    pos 0 ≤ℤ v →
     IsIn cell p → IsInClosed cell q → IsIn cell (combine u p v q)
 in_combine cell u p v q hu hv hp hq = record {
-  weight = sum_above (u *ℤ p.w) (v *ℤ q.w) (pos_pos u p.w hu hp.weight) (least_least v q.w hv (lt_least q.w hq.weight));
+  weight = sum_above (u *ℤ p.w) (v *ℤ q.w) (pos_pos u p.w hu hp.weight) (least_least v q.w hv
+      (lt_least q.w hq.weight));
   below = all_combine cell u p v q hu hv hp.below hq.below;
 }

@@ -24,15 +24,18 @@ pub opposite_back : (m : Coefficients) (p : Coordinates) → value (opposite_of 
 opposite_back m p e = neg_zero (value m p) (value (opposite_of m) p) (value-opposite m p) e
 
 -- behind the plane, ahead of its opposite
-pub opposite_above : (m : Coefficients) (p : Coordinates) → value m p <ℤ pos 0 → pos 0 <ℤ value (opposite_of m) p
+pub opposite_above : (m : Coefficients) (p : Coordinates) → value m p <ℤ pos 0 →
+    pos 0 <ℤ value (opposite_of m) p
 opposite_above m p h = neg_above (value m p) (value (opposite_of m) p) (value-opposite m p) h
 
 -- ahead of the plane, behind its opposite
-pub opposite_below : (m : Coefficients) (p : Coordinates) → pos 0 <ℤ value m p → value (opposite_of m) p <ℤ pos 0
+pub opposite_below : (m : Coefficients) (p : Coordinates) → pos 0 <ℤ value m p → value (opposite_of m) p <ℤ
+    pos 0
 opposite_below m p h = neg_below (value m p) (value (opposite_of m) p) (value-opposite m p) h
 
 -- behind the opposite, ahead of the plane
-pub behind_opposite_above : (m : Coefficients) (p : Coordinates) → value (opposite_of m) p <ℤ pos 0 → pos 0 <ℤ value m p
+pub behind_opposite_above : (m : Coefficients) (p : Coordinates) → value (opposite_of m) p <ℤ pos 0 →
+    pos 0 <ℤ value m p
 behind_opposite_above m p h = above_back (value m p) (value (opposite_of m) p) (value-opposite m p) h
 
 -- the opposite of the opposite is the plane
@@ -41,5 +44,12 @@ neg_twice x = omega (arith, sums)
 
 pub opposite_twice : (m : Coefficients) → opposite_of (opposite_of m) ≡ m
 opposite_twice m =
-    ap₂ (λ (a b : ℤ). let k : Coefficients = record { a = a; b = b; c = neg_ℤ (neg_ℤ m.c); d = neg_ℤ (neg_ℤ m.d) } in k) (neg_twice m.a) (neg_twice m.b)
-    ∙ ap₂ (λ (c d : ℤ). let k : Coefficients = record { a = m.a; b = m.b; c = c; d = d } in k) (neg_twice m.c) (neg_twice m.d)
+    ap₂ (λ (a b : ℤ). let k : Coefficients = record {
+      a = a;
+      b = b;
+      c = neg_ℤ (neg_ℤ m.c);
+      d =
+          neg_ℤ (neg_ℤ m.d);
+    } in k) (neg_twice m.a) (neg_twice m.b)
+    ∙ ap₂ (λ (c d : ℤ). let k : Coefficients = record { a = m.a; b = m.b; c = c; d = d } in k) (neg_twice m.c)
+    (neg_twice m.d)

@@ -17,26 +17,39 @@ HaveOnePoints c d = (p : Coordinates) → IsIn c p ↔ IsIn d p
 
 -- ---- the closed cell is told by the points of the cell
 pushed : (x w : ℤ) → pos 0 <ℤ w → (pos 1 *ℤ x +ℤ pos (suc (unsigned_abs x)) *ℤ w) <ℤ pos 0 → ⊥
-pushed x (pos (suc n)) h k = omega (arith, sums, size_parts x, product_is (pos 1) x, product_is (pos (suc (unsigned_abs x))) (pos (suc n)))
+pushed x (pos (suc n)) h k = omega (
+  arith,
+  sums,
+  size_parts x,
+  product_is (pos 1) x,
+  product_is
+      (pos (suc (unsigned_abs x))) (pos (suc n)),
+)
 pushed x (pos zero) h k = omega (arith, sums)
 pushed x (negsuc n) h k = omega (arith, sums)
 
 -- a plane that a point is behind, however often p is added to it, isn't behind p
-limit : (m : Coefficients) (z p : Coordinates) → ((k : ℕ) → value m (combine (pos 1) z (pos k) p) <ℤ pos 0) → value m p ≤ℤ pos 0
+limit : (m : Coefficients) (z p : Coordinates) → ((k : ℕ) → value m (combine (pos 1) z (pos k) p) <ℤ pos 0) →
+    value m p ≤ℤ pos 0
 limit m z p h = elim (signs (value m p)) [
   | inl k ↦ omega (arith, sums)
   | inr (inl k) ↦ omega (arith, sums)
-  | inr (inr k) ↦ absurd (pushed (value m z) (value m p) k (subst (λ (x : ℤ). x <ℤ pos 0) (value_combine m (pos 1) z (pos (suc (unsigned_abs (value m z)))) p) (h (suc (unsigned_abs (value m z))))))
+  | inr (inr k) ↦ absurd (pushed (value m z) (value m p) k (subst (λ (x : ℤ). x <ℤ pos 0)
+      (value_combine m (pos 1) z (pos (suc (unsigned_abs (value m z)))) p)
+      (h (suc (unsigned_abs (value m z))))))
 ]
 
-all_limits : (d : List Coefficients) (z p : Coordinates) → ((k : ℕ) → AllBehind d (combine (pos 1) z (pos k) p)) → NoneAhead d p
+all_limits : (d : List Coefficients) (z p : Coordinates) →
+    ((k : ℕ) → AllBehind d (combine (pos 1) z (pos k) p)) → NoneAhead d p
 all_limits [] z p h = tt
 all_limits (m ∷ d) z p h = (limit m z p (λ k. (h k).0), all_limits d z p (λ k. (h k).1))
 
-pub closed_within : (c d : List Coefficients) → ((p : Coordinates) → IsIn c p → IsIn d p) → (z : Coordinates) → IsIn c z → (p : Coordinates) → IsInClosed c p → IsInClosed d p
+pub closed_within : (c d : List Coefficients) → ((p : Coordinates) → IsIn c p → IsIn d p) →
+    (z : Coordinates) → IsIn c z → (p : Coordinates) → IsInClosed c p → IsInClosed d p
 closed_within c d h z hz p hp = record {
   weight = hp.weight;
-  below = all_limits d z p (λ k. (h (combine (pos 1) z (pos k) p) (in_combine c (pos 1) z (pos k) p (omega (arith, sums)) (omega (arith, sums)) hz hp)).below);
+  below = all_limits d z p (λ k. (h (combine (pos 1) z (pos k) p) (in_combine c (pos 1) z (pos k) p
+      (omega (arith, sums)) (omega (arith, sums)) hz hp)).below);
 }
 
 -- ---- polygons and solids
@@ -55,10 +68,19 @@ same_across c d s e h =
     }
 
 -- one more plane
-pub same_more : (m : Coefficients) (c d : List Coefficients) → HaveOnePoints c d → HaveOnePoints (m ∷ c) (m ∷ d)
+pub same_more : (m : Coefficients) (c d : List Coefficients) → HaveOnePoints c d →
+    HaveOnePoints (m ∷ c) (m ∷ d)
 same_more m c d e p = (
-  λ h. record { weight = h.weight; below = (h.below.0, ((e p).0 (record { weight = h.weight; below = h.below.1 })).below) },
-  λ h. record { weight = h.weight; below = (h.below.0, ((e p).1 (record { weight = h.weight; below = h.below.1 })).below) },
+  λ h. record {
+    weight = h.weight;
+    below =
+        (h.below.0, ((e p).0 (record { weight = h.weight; below = h.below.1 })).below);
+  },
+  λ h. record {
+    weight = h.weight;
+    below =
+        (h.below.0, ((e p).1 (record { weight = h.weight; below = h.below.1 })).below);
+  },
 )
 
 pub same_of_cell : (t : Tree) (c d : List Coefficients) → HaveOnePoints c d → IsOfCell c t → IsOfCell d t
@@ -67,7 +89,8 @@ same_of_cell outside c d e h = tt
 same_of_cell (node s b a) c d e h = (
   same_across c d s e h.0,
   same_of_cell b (s.plane ∷ c) (s.plane ∷ d) (same_more s.plane c d e) h.1,
-  same_of_cell a (opposite_of s.plane ∷ c) (opposite_of s.plane ∷ d) (same_more (opposite_of s.plane) c d e) h.2,
+  same_of_cell a (opposite_of s.plane ∷ c) (opposite_of s.plane ∷ d) (same_more (opposite_of s.plane) c d e)
+      h.2,
 )
 
 -- two planes exchanged
@@ -78,8 +101,19 @@ same_exchanged m n c p = (
 )
 
 -- a plane that all points of the cell behind n are behind
-pub same_implied : (m n : Coefficients) (c : List Coefficients) → ((p : Coordinates) → IsIn c p → value n p <ℤ pos 0 → value m p <ℤ pos 0) → HaveOnePoints (n ∷ c) (n ∷ m ∷ c)
+pub same_implied : (m n : Coefficients) (c : List Coefficients) → ((p : Coordinates) → IsIn c p →
+    value n p <ℤ pos 0 → value m p <ℤ pos 0) → HaveOnePoints (n ∷ c) (n ∷ m ∷ c)
 same_implied m n c f p = (
-  λ h. record { weight = h.weight; below = (h.below.0, (f p (record { weight = h.weight; below = h.below.1 }) h.below.0, h.below.1)) },
+  λ h. record {
+    weight = h.weight;
+    below = (
+      h.below.0,
+      (
+        f p (record { weight = h.weight; below = h.below.1 })
+            h.below.0,
+        h.below.1,
+      ),
+    );
+  },
   λ h. record { weight = h.weight; below = (h.below.0, h.below.1.1) },
 )

@@ -17,22 +17,31 @@ or_left : (x y : Bool) → (x || y) ≡ false → (x ≡ false) × (y ≡ false)
 or_left true y h = absurd (true≢false h)
 or_left false y h = (refl, h)
 
-none_case : {P : Type 0} (x r s y : Bool) → (x || r) ≡ false → (r ≡ false → (s ≡ false) × P) → ((x || s) ≡ false) × P
+none_case : {P : Type 0} (x r s y : Bool) → (x || r) ≡ false → (r ≡ false → (s ≡ false) × P) →
+    ((x || s) ≡ false) × P
 none_case true r s y h f = absurd (true≢false h)
 none_case false r s y h f = f h
 
 at_most_now : (m n : ℕ) → m ≤ n → (m ≡ n) ⊎ (m < n)
 at_most_now m n h = grind arith
 
-none_append : {A : Type 0} (f : A → Bool) (xs : List A) (y : A) → some_of f (xs ++ y ∷ []) ≡ false → (some_of f xs ≡ false) × (f y ≡ false)
+none_append : {A : Type 0} (f : A → Bool) (xs : List A) (y : A) → some_of f (xs ++ y ∷ []) ≡ false →
+    (some_of f xs ≡ false) × (f y ≡ false)
 none_append f [] y h = (refl, (or_left (f y) false h).0)
-none_append f (x ∷ xs) y h = none_case (f x) (some_of f (xs ++ y ∷ [])) (some_of f xs) (f y) h (none_append f xs y)
+none_append f (x ∷ xs) y h = none_case (f x) (some_of f (xs ++ y ∷ [])) (some_of f xs) (f y) h
+    (none_append f xs y)
 
-none_index : (f : Coordinates → Bool) (g : ℕ → Coordinates) (n : ℕ) → some_of f (map g (up_to n)) ≡ false → (i : ℕ) → i < n → f (g i) ≡ false
+none_index : (f : Coordinates → Bool) (g : ℕ → Coordinates) (n : ℕ) → some_of f (map g (up_to n)) ≡ false →
+    (i : ℕ) → i < n → f (g i) ≡ false
 none_index f g zero h i l = absurd (omega arith)
 none_index f g (suc n) h i l =
-    let r = none_append f (map g (up_to n)) (g n) (ap (some_of f) (sym (map-append g (up_to n) (n ∷ []))) ∙ h) in
-    elim (at_most_now i n (omega arith)) [ inl e ↦ ap (λ (k : ℕ). f (g k)) e ∙ r.1 | inr b ↦ none_index f g n r.0 i b ]
+    let r = none_append f (map g (up_to n)) (g n) (ap (some_of f) (sym (map-append g (up_to n) (n ∷ []))) ∙
+    h) in
+    elim (at_most_now i n (omega arith)) [
+      | inl e ↦ ap (λ (k : ℕ). f (g k)) e ∙ r.1
+      | inr b ↦ none_index f g n
+          r.0 i b
+    ]
 
 -- ---- the tests by their signs
 negative_now : (x : ℤ) → int_lt x (pos 0) ≡ true → x <ℤ pos 0
@@ -91,10 +100,16 @@ found_behind s q e =
     let i = some_index (is_behind q) (corner s) (sides s) e in
     record { index = i.0; index_below = i.1; strict = negative_now (value q (corner s i.0)) i.2 }
 
-found_ahead : (s : Outline) (q : Coefficients) → some_of (is_ahead q) (corners s) ≡ true → HasBehind s (opposite_of q)
+found_ahead : (s : Outline) (q : Coefficients) → some_of (is_ahead q) (corners s) ≡ true →
+    HasBehind s (opposite_of q)
 found_ahead s q e =
     let i = some_index (is_ahead q) (corner s) (sides s) e in
-    record { index = i.0; index_below = i.1; strict = turned_negative (value q (corner s i.0)) (value (opposite_of q) (corner s i.0)) (value-opposite q (corner s i.0)) i.2 }
+    record {
+      index = i.0;
+      index_below = i.1;
+      strict = turned_negative (value q (corner s i.0))
+          (value (opposite_of q) (corner s i.0)) (value-opposite q (corner s i.0)) i.2;
+    }
 
 pub lies_behind : (s : Outline) (q : Coefficients) → class_of s q ≡ Behind → LiesBehind s q
 lies_behind s q e =
@@ -107,21 +122,27 @@ pub lies_ahead : (s : Outline) (q : Coefficients) → class_of s q ≡ Ahead →
 lies_ahead s q e =
     let b = of_ahead (some_of (is_behind q) (corners s)) (some_of (is_ahead q) (corners s)) e in record {
       some = found_ahead s q b.1;
-      all = λ j l. turned_most (value q (corner s j)) (value (opposite_of q) (corner s j)) (value-opposite q (corner s j)) (none_index (is_behind q) (corner s) (sides s) b.0 j l);
+      all = λ j l. turned_most (value q (corner s j)) (value (opposite_of q) (corner s j))
+          (value-opposite q (corner s j)) (none_index (is_behind q) (corner s) (sides s) b.0 j l);
     }
 
-pub lies_on : (s : Outline) (q : Coefficients) → class_of s q ≡ On → (j : ℕ) → j < sides s → value q (corner s j) ≡ pos 0
+pub lies_on : (s : Outline) (q : Coefficients) → class_of s q ≡ On → (j : ℕ) → j < sides s →
+    value q (corner s j) ≡ pos 0
 lies_on s q e j l =
     let b = of_on (some_of (is_behind q) (corners s)) (some_of (is_ahead q) (corners s)) e in
-    zero_now (value q (corner s j)) (none_index (is_behind q) (corner s) (sides s) b.0 j l) (none_index (is_ahead q) (corner s) (sides s) b.1 j l)
+    zero_now (value q (corner s j)) (none_index (is_behind q) (corner s) (sides s) b.0 j l)
+    (none_index (is_ahead q) (corner s) (sides s) b.1 j l)
 
-pub lies_across : (s : Outline) (q : Coefficients) → class_of s q ≡ Across → HasBehind s q × HasBehind s (opposite_of q)
+pub lies_across : (s : Outline) (q : Coefficients) → class_of s q ≡ Across → HasBehind s q × HasBehind s
+    (opposite_of q)
 lies_across s q e =
     let b = of_across (some_of (is_behind q) (corners s)) (some_of (is_ahead q) (corners s)) e in
     (found_behind s q b.0, found_ahead s q b.1)
 
 -- no point of a polygon of the cell is ahead of what its corners aren't ahead of
-pub none_ahead : (cell : List Coefficients) (t : Outline) (m : Coefficients) → IsAcross cell t → LiesBehind t m → (z : Coordinates) → IsInClosed cell z → value t.plane z ≡ pos 0 → value m z ≤ℤ pos 0
+pub none_ahead : (cell : List Coefficients) (t : Outline) (m : Coefficients) → IsAcross cell t →
+    LiesBehind t m → (z : Coordinates) → IsInClosed cell z → value t.plane z ≡ pos 0 → value m z ≤ℤ pos 0
 none_ahead cell t m h b z c e =
     let o = hull t h.polygon z ((h.covers z).1 (c, e)) in
-    between_within (corner t 0) (corner t o.0) (corner t (suc o.0)) z m o.2 (b.all 0 (omega (arith, o.1))) (b.all o.0 (omega (arith, o.1))) (b.all (suc o.0) o.1)
+    between_within (corner t 0) (corner t o.0) (corner t (suc o.0)) z m o.2 (b.all 0 (omega (arith, o.1)))
+    (b.all o.0 (omega (arith, o.1))) (b.all (suc o.0) o.1)

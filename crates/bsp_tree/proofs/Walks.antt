@@ -22,9 +22,12 @@ make_walk t outside (node s c d) p = refl
 make_walk t (node s c d) a p = refl
 
 -- a point behind the node's plane walks on behind it
-pub walk_behind : (t : Outline) (b a : Tree) (p : Coordinates) → value t.plane p <ℤ pos 0 → walk (node t b a) p ≡ walk b p
+pub walk_behind : (t : Outline) (b a : Tree) (p : Coordinates) → value t.plane p <ℤ pos 0 →
+    walk (node t b a) p ≡ walk b p
 walk_behind t b a p h = ap (λ (x : Bool). if x then walk b p else walk a p) (less (value t.plane p) (pos 0) h)
 
 -- a point ahead of it walks on ahead of it
-pub walk_ahead : (t : Outline) (b a : Tree) (p : Coordinates) → pos 0 <ℤ value t.plane p → walk (node t b a) p ≡ walk a p
-walk_ahead t b a p h = ap (λ (x : Bool). if x then walk b p else walk a p) (not_less (value t.plane p) (pos 0) (omega (arith, sums)))
+pub walk_ahead : (t : Outline) (b a : Tree) (p : Coordinates) → pos 0 <ℤ value t.plane p →
+    walk (node t b a) p ≡ walk a p
+walk_ahead t b a p h = ap (λ (x : Bool). if x then walk b p else walk a p) (not_less (value t.plane p) (pos 0)
+    (omega (arith, sums)))

@@ -42,7 +42,8 @@ pub record IsAcross (cell : List Coefficients) (s : Outline) : Type 0 where
 abbrev pub IsOfCell : List Coefficients → Tree → Type 0
 IsOfCell cell inside = Unit {0}
 IsOfCell cell outside = Unit {0}
-IsOfCell cell (node s b a) = IsAcross cell s × IsOfCell (s.plane ∷ cell) b × IsOfCell (opposite_of s.plane ∷ cell) a
+IsOfCell cell (node s b a) = IsAcross cell s × IsOfCell (s.plane ∷ cell) b × IsOfCell (opposite_of s.plane ∷
+    cell) a
 
 -- a solid of the world box
 abbrev pub IsOfWorld : Tree → Type 0

@@ -1,4 +1,5 @@
--- The facets of a solid: the parts of its nodes' polygons with the solid on one side alone (Bernstein and Fussell).
+-- The facets of a solid: the parts of its nodes' polygons with the solid on one side alone (Bernstein and
+-- Fussell).
 use Rattle.std.specs.Prelude.{Bool, true, false, List, [], ◌∷◌, ◌++◌, flat_map, reverse}
 use Rattle.plane_predicate.specs.Space.{opposite_of}
 use Rattle.plane_polygon.specs.Polygons.{Outline}
@@ -19,19 +20,21 @@ on_sides On low high low_part high_part = low
 on_sides Ahead low high low_part high_part = high
 on_sides Across low high low_part high_part = low_part ++ high_part
 
--- the pieces of a polygon in a solid: in a leaf the polygon, and in a node those of its parts on the sides of the plane
+-- the pieces of a polygon in a solid: in a leaf the polygon, and in a node those of its parts on the sides
+-- of the plane
 abbrev pub pieces : Tree → Outline → List Piece
 pieces inside s = (record { part = s; is_inside = true }) ∷ []
 pieces outside s = (record { part = s; is_inside = false }) ∷ []
 pieces (node t b a) s =
-    on_sides (class_of s t.plane) (pieces b s) (pieces a s) (pieces b (part_behind s t.plane)) (pieces a (part_ahead s t.plane))
+    on_sides (class_of s t.plane) (pieces b s) (pieces a s) (pieces b (part_behind s t.plane))
+    (pieces a (part_ahead s t.plane))
 
 -- the same polygon, seen from the other side: counterclockwise from there
 abbrev pub reversed : Outline → Outline
 reversed s = record { plane = opposite_of s.plane; edges = reverse s.edges }
 
--- what a polygon between two leaves gives, by whether the leaf just behind it and the one just ahead are inside: itself
--- where the solid is just behind alone, reversed where it is just ahead alone
+-- what a polygon between two leaves gives, by whether the leaf just behind it and the one just ahead are
+-- inside: itself where the solid is just behind alone, reversed where it is just ahead alone
 abbrev pub facing : Bool → Bool → Outline → List Outline
 facing true false s = s ∷ []
 facing false true s = reversed s ∷ []

@@ -25,7 +25,7 @@ pub fn push_facing(
     match (behind, ahead) {
         (true, true) | (false, false) => Ok(()),
         (true, false) => push_one(facing_ahead(polygon), most, found),
-        (false, true) => push_one(facing_back(alloc, &polygon)?, most, found),
+        (false, true) => push_one(facing_back(alloc, polygon)?, most, found),
     }
 }
 

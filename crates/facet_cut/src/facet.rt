@@ -43,10 +43,9 @@ pub fn facing_ahead(polygon: Polygon) -> Facet
 }
 
 /// The facet on a polygon that faces the opposite of the polygon's plane.
-pub fn facing_back(alloc: Global, polygon: &Polygon) -> Result<Facet, NoMemory>
-    ensures { IfOk result (λ f. f ≡ reversed polygon.now) }
+pub fn facing_back(alloc: Global, polygon: Polygon) -> Result<Facet, NoMemory>
+    ensures { IfOk result (λ f. f ≡ reversed polygon) }
 {
-    polygon.keeps();
     let mut edges = Vec::new(alloc);
     edges.extend_from_slice(polygon.edges())?;
     edges.reverse();

@@ -33,7 +33,7 @@ behind_from_left s h i l q e t =
     (far_behind s h i l) (plane_directed s h) (subst (λ (x : ℤ). pos 0 <ℤ x) (turn_is s i q e) t)
 
 -- each index follows one
-earlier : (k j : ℕ) → j < k → (i : ℕ) × (i < k) × (after k i ≡ j)
+pub earlier : (k j : ℕ) → j < k → (i : ℕ) × (i < k) × (after k i ≡ j)
 earlier k zero h = (k - 1, omega arith, after_last k (k - 1) (omega arith))
 earlier k (suc j) h = (j, omega arith, after_inside k j h)
 
@@ -43,7 +43,7 @@ within_by_turns s h q e t j l = let w = earlier (sides s) j l in subst (λ (n : 
 pub turns_by_within : (s : Outline) → IsPolygon s → (q : Coordinates) → value s.plane q ≡ pos 0 → ((j : ℕ) → j < sides s → value (edge s j) q <ℤ pos 0) → (i : ℕ) → i < sides s → pos 0 <ℤ turn s.plane (corner s i) (corner s (after (sides s) i)) q
 turns_by_within s h q e b i l = strictly_left s h i l q e (b (after (sides s) i) (after_below (sides s) i l))
 
-after_injective : (k i j : ℕ) → i < k → j < k → after k i ≡ after k j → i ≡ j
+pub after_injective : (k i j : ℕ) → i < k → j < k → after k i ≡ after k j → i ≡ j
 after_injective k i j l m e =
     elim (after_is k i) [
       | inl p ↦ elim (after_is k j) [ inl q ↦ omega arith | inr q ↦ omega arith ]

@@ -22,14 +22,17 @@ no_square x h = elim (signs x) [ inl k ↦ absurd (omega (arith, sums, neg_neg x
 no_turn : (a b c p q r : ℤ) → a ≡ pos 0 → b ≡ pos 0 → c ≡ pos 0 → a *ℤ p +ℤ b *ℤ q +ℤ c *ℤ r ≡ pos 0
 no_turn a b c p q r ha hb hc = rw (ha, hb, hc, zero-*ℤ p, zero-*ℤ q, zero-*ℤ r) refl
 
-pub directed : (n e f : Coefficients) → pos 0 <ℤ (cramer n e f).w → pos 0 <ℤ inner n n
-directed n e f h =
+pub directed_apart : (n e f : Coefficients) → (cramer n e f).w ≢ pos 0 → pos 0 <ℤ inner n n
+directed_apart n e f h =
     let a = square n.a in let b = square n.b in let c = square n.c in
     elim (signs (inner n n)) [
       | inl k ↦ absurd (omega (arith, sums))
-      | inr (inl k) ↦ absurd (let z : (cramer n e f).w ≡ pos 0 = no_turn n.a n.b n.c _ _ _ (no_square n.a (omega (arith, sums))) (no_square n.b (omega (arith, sums))) (no_square n.c (omega (arith, sums))) in omega (arith, sums, subst (λ (x : ℤ). pos 0 <ℤ x) z h))
+      | inr (inl k) ↦ absurd (h (no_turn n.a n.b n.c _ _ _ (no_square n.a (omega (arith, sums))) (no_square n.b (omega (arith, sums))) (no_square n.c (omega (arith, sums)))))
       | inr (inr k) ↦ k
     ]
+
+pub directed : (n e f : Coefficients) → pos 0 <ℤ (cramer n e f).w → pos 0 <ℤ inner n n
+directed n e f h = directed_apart n e f (λ z. omega (arith, sums, h, z))
 
 -- ---- indexes round a list
 -- the next index is one more, or 0 at the end

@@ -9,7 +9,9 @@ pub mod PartPoints
 pub mod PartCovers
 pub mod Faces
 pub mod CornerSides
+pub mod ByCorners
 pub mod Parts
 pub mod BoxStarts
 pub mod Trims
 pub mod BoxPoints
+mod Rows

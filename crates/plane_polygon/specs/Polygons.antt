@@ -1,6 +1,6 @@
 -- Convex polygons of space, as planes bounded by planes (Bernstein and Fussell).
 use Rattle.std.specs.Prelude.{◌≡◌, ◌≢◌, ℕ, suc, ◌≤◌, ◌<◌, cond, eqb, List, [], ◌∷◌, length, get_or, ℤ, pos, ◌+ℤ◌, ◌*ℤ◌, ◌<ℤ◌, ◌≤ℤ◌}
-use Rattle.plane_predicate.specs.Space.{Coefficients, Coordinates, value, cramer, turn, IsPointTimes, IsReduced}
+use Rattle.plane_predicate.specs.Space.{Coefficients, Coordinates, value, cramer, meeting, turn, IsPointTimes, IsReduced}
 
 -- a plane with a cyclic list of edge planes, counterclockwise seen from ahead of it
 pub record Outline : Type 0 where
@@ -34,6 +34,18 @@ pub record IsPolygon (s : Outline) : Type 0 where
   pub three : 3 ≤ sides s
   pub turns_left : (i : ℕ) → i < sides s → pos 0 <ℤ (corner s i).w
   pub behind : (i j : ℕ) → i < sides s → j < sides s → j ≢ i → j ≢ after (sides s) i → value (edge s j) (corner s i) <ℤ pos 0
+
+-- corner i as a point, with its w above 0 where it exists
+abbrev pub corner_point : Outline → ℕ → Coordinates
+corner_point s i = meeting s.plane (edge s i) (edge s (after (sides s) i))
+
+-- the same said of the corners as points: at least three edges; each corner exists, it is strictly behind every edge other
+-- than its own two, and each other corner lies strictly left of the way from a corner to the next, seen from ahead
+pub record HasConvexCorners (s : Outline) : Type 0 where
+  pub three : 3 ≤ sides s
+  pub exist : (i : ℕ) → i < sides s → (corner s i).w ≢ pos 0
+  pub behind : (i j : ℕ) → i < sides s → j < sides s → j ≢ i → j ≢ after (sides s) i → value (edge s j) (corner_point s i) <ℤ pos 0
+  pub left : (i j : ℕ) → i < sides s → j < sides s → j ≢ i → j ≢ after (sides s) i → pos 0 <ℤ turn s.plane (corner_point s i) (corner_point s (after (sides s) i)) (corner_point s j)
 
 -- the points of a polygon: on its plane, and not ahead of any edge
 pub record Covers (s : Outline) (p : Coordinates) : Type 0 where

@@ -2,10 +2,16 @@
 
 ghost use Rattle.std.specs.Prelude.{◌≡◌, ◌≢◌, ◌↔◌, ◌<◌, ◌≤ℤ◌, ◌<ℤ◌, ℕ, pos};
 ghost use Rattle.plane_predicate.specs.Space.{Coefficients, Coordinates, turn, value, IsInClosedWorld, IsPlane};
-ghost use Rattle.plane_polygon.specs.Polygons.{after, corner, sides, Covers, IsInFan, IsPolygon, IsStrictlyLeft, IsStrictlyWithin, Outline};
+ghost use Rattle.plane_polygon.specs.Polygons.{after, corner, sides, Covers, HasConvexCorners, IsInFan, IsPolygon, IsStrictlyLeft, IsStrictlyWithin, Outline};
 ghost use Rattle.plane_polygon.specs.Parts.{class_of, part_ahead, part_behind};
 ghost use Rattle.plane_polygon.specs.Boxes.{box_outline, ComesInReach};
 ghost use Rattle.plane_polygon.specs.declared.classes.Class.TheVariants.{Across};
+
+/// At least three edges make a polygon exactly where each corner exists, it is strictly behind every
+/// edge other than its own two, and the corners go counterclockwise, seen from ahead.
+pub fn polygons_by_their_corners()
+    ensures { (s : Outline) → IsPolygon s ↔ HasConvexCorners s }
+{}
 
 /// Each point of a polygon is a combination, with weights of at least 0, of three of its corners:
 /// corner 0 and two neighbouring ones.

@@ -18,7 +18,7 @@ pub use classes::Class;
 pub use cutting::cut;
 pub use laws::{
     box_polygons_are_polygons, corners_go_counterclockwise, parts_are_polygons,
-    points_lie_in_the_fan, within_is_left,
+    points_lie_in_the_fan, polygons_by_their_corners, within_is_left,
 };
 pub use listing::corners;
 use plane_predicate::Plane;
@@ -68,13 +68,6 @@ impl Polygon {
         ensures { IfOk result (λ s. s ≡ self.now) }
     {
         Polygon::of(alloc, &self.plane, &self.edges)
-    }
-
-    /// Shows a caller's proof what a polygon keeps. It does nothing when it runs.
-    pub fn keeps(&self)
-        ensures { IsPolygon self.now }
-    {
-        let _ = &self.plane;
     }
 
     /// The plane that it lies on.

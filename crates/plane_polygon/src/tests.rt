@@ -64,6 +64,14 @@ fn has_corners(rt: &impl Abort, alloc: Global, polygon: &Polygon, wanted: &[[i12
 const GROUND: [[i64; 3]; 3] = [[0, 0, 0], [1, 0, 0], [0, 1, 0]];
 
 #[test]
+fn a_polygon_is_its_plane_and_edges(rt: HostRuntime) {
+    let whole = boxed(&rt, rt.alloc(), [[0, 0, 0], [1, 0, 0], [0, 1, 0]]);
+    let same = Polygon::of(rt.alloc(), whole.plane(), whole.edges()).expect(&rt, "memory");
+    assert_eq!(rt; same.plane(), whole.plane());
+    assert_eq!(rt; same.edges(), whole.edges());
+}
+
+#[test]
 fn a_box_polygon_lies_against_planes(rt: HostRuntime) {
     let ground = boxed(&rt, rt.alloc(), GROUND);
     let rows = [
@@ -139,4 +147,11 @@ fn a_square_is_cut_at_its_corners(rt: HostRuntime) {
     let (half, _other) = parts(&rt, alloc, &ground, &middle);
     let touching = through(&rt, [[2048, 2048, 0], [2048, 2048, 1], [2049, 2047, 0]]);
     assert_eq!(rt; sort_by(&half, &touching), Class::Behind);
+}
+
+#[test]
+fn a_polygon_is_copied(rt: HostRuntime) {
+    let ground = boxed(&rt, rt.alloc(), GROUND);
+    let copied = ground.copy(rt.alloc()).expect(&rt, "memory");
+    assert!(rt; copied.plane().c == 1 && copied.edges().len() == 4);
 }

@@ -11,3 +11,4 @@ pub mod Divisions
 pub mod ThroughPoints
 pub mod Coprime
 pub mod SamePlanes
+mod Rows

@@ -1,5 +1,5 @@
 use crate::through::plane_of;
-use crate::{Plane, Point, Side, meet, opposite, plane_through, reduce, side};
+use crate::{Plane, Point, Side, meet, opposite, plane_through, point_side, reduce, side};
 use std::process::Abort;
 
 const MOST: i64 = 134_152_200;
@@ -101,6 +101,23 @@ fn a_meeting_lies_on_a_side(rt: HostRuntime) {
     }
 }
 
+#[test]
+fn a_point_lies_on_a_side(rt: HostRuntime) {
+    let wall = plane(&rt, [1, 0, 0, 1]);
+    let near = Point {
+        x: 1,
+        y: 5,
+        z: -7,
+        w: 2,
+    };
+    let on = Point { x: 2, ..near };
+    let past = Point { x: 3, ..near };
+    assert_eq!(rt; point_side(&wall, &near), Side::Behind);
+    assert_eq!(rt; point_side(&wall, &on), Side::On);
+    assert_eq!(rt; point_side(&wall, &past), Side::Ahead);
+    assert_eq!(rt; point_side(&opposite(&wall), &past), Side::Behind);
+}
+
 // Planes whose numbers are as great as they may be, with all signs of the last one. The sides were
 // computed with whole numbers of any size.
 #[test]
@@ -174,6 +191,8 @@ fn sides_of_meetings(rt: &impl Abort, by: &Plane) -> (u32, u32, u32) {
 
 // The numbers were computed with whole numbers of any size. They are the same for each direction of
 // the fourth plane, since the three take all signs.
+// Planes whose numbers are as great as they may be, with all signs of the last one. The sides were
+// computed with whole numbers of any size.
 #[test]
 fn sums_are_exact_at_their_limits_with_all_signs(rt: HostRuntime) {
     for signs in 0..16 {

@@ -1,2 +1,3 @@
 pub mod OneAnswer
 pub mod OneOutput
+mod Rows

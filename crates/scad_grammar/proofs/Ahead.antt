@@ -25,7 +25,7 @@ abbrev pub rest_of : {T A : Type 0} → Read T Kind A → List T
 rest_of (Ok p) = p.1
 rest_of (Err e) = e.1
 
-both_true : (b c : Bool) → (b && c) ≡ true → (b ≡ true) × (c ≡ true)
+pub both_true : (b c : Bool) → (b && c) ≡ true → (b ≡ true) × (c ≡ true)
 both_true true c e = (refl, e)
 both_true false c e = absurd (cc)
 

@@ -5,20 +5,20 @@ use Rattle.scad_lexer.specs.declared.token.TokenKind.TheVariants.{Name, Reserved
 use Rattle.scad_lexer.specs.declared.token.Reserved.TheVariants.{If, Else, For}
 use Rattle.scad_lexer.specs.declared.token.Symbol.TheVariants.{OpenParenthesis, CloseParenthesis, Assign, Times}
 use Rattle.scad_ast.specs.Terms.{Term, ArgTerm, ParamTerm, BinderTerm, MarkTerm, InstanceStatement, InstanceTerm, CoreTerm, ForTerm, IntersectionForTerm, BodyTerm}
-use Rattle.scad_grammar.specs.Classes.{name, if_word, else_word, for_word, intersection_for_word, open_parenthesis_sign, close_parenthesis_sign, close_bracket_sign, comma_sign, assign_sign, among, is, other_than}
+use Rattle.scad_grammar.specs.Classes.{name, if_word, else_word, for_word, intersection_for_word, open_parenthesis_sign, close_parenthesis_sign, comma_sign, assign_sign, among, is, other_than}
 use Rattle.scad_grammar.specs.Languages.{Language, One, Mapped, Both, BothIf, EitherOf, Nothing, Many, Maybe, Behind, Separated, first_of, second_of, pair_of, cons}
-use Rattle.scad_grammar.specs.Grammar.{InParentheses, Arg, Args, Param, Params, Binder, Binders, Core, Instance, binder_of, param_of, mark_of, if_of, loop_of, call_of, instance_of, IsNearest, ends_open, instance_open, core_open}
+use Rattle.scad_grammar.specs.Grammar.{InParentheses, Param, Params, Binder, Binders, Core, Instance, binder_of, param_of, mark_of, if_of, loop_of, call_of, instance_of, IsNearest, ends_open, instance_open, core_open}
 use Rattle.scad_grammar.specs.Reading.{Read, after, starts, mapped, nothing, both, choice, maybe, trailing}
 use Rattle.scad_grammar.specs.Faults.{Reads, one, fault_of, left_out}
-use Rattle.scad_grammar.specs.Reads.{firsts_of_expression, in_parentheses, args_read}
-use Rattle.scad_grammar.specs.StatementReads.{mark_signs, loop_words, firsts_of_core, firsts_of_instance, param_read, binder_read, params_read, binders_read, if_read, loop_read, call_read, core_read, marks_read, instance_read}
+use Rattle.scad_grammar.specs.Reads.{in_parentheses, args_read}
+use Rattle.scad_grammar.specs.StatementReads.{mark_signs, loop_words, firsts_of_core, firsts_of_instance, param_read, binder_read, params_read, binders_read, if_read, call_read, marks_read, instance_read}
 use Rattle.scad_grammar.proofs.Readers.{IsReader, Opens, both_reads, choice_reads, mapped_reads, many_reads, nothing_reads, both_opens, either_opens, mapped_opens, one_opens, never_starts}
 use Rattle.scad_grammar.proofs.Greedy.{Stops, both_if_reads, both_stops, choice_stops, or_first, maybe_ends, maybe_reads, maybe_stops}
 use Rattle.scad_grammar.proofs.Separated.{separated_reads}
-use Rattle.scad_grammar.proofs.Tests.{OneReads, one_at, then, apart, next_apart, next_within, next_less, next_other, no_close, close_ends}
+use Rattle.scad_grammar.proofs.Tests.{OneReads, one_at, then, apart, next_apart, next_within, next_less, no_close, close_ends}
 use Rattle.scad_grammar.proofs.Operands.{token, name_one}
-use Rattle.scad_grammar.proofs.Primary.{Some_of, in_parentheses_reads, args_reads}
-use Rattle.scad_grammar.proofs.Expressions.{expression_more, arg_more, arg_opens, two_not, two_name}
+use Rattle.scad_grammar.proofs.Primary.{Some_of, in_parentheses_reads}
+use Rattle.scad_grammar.proofs.Expressions.{expression_more, arg_more, two_not, two_name}
 use Rattle.scad_grammar.proofs.Ahead.{two, rest_of}
 use Rattle.scad_grammar.specs.declared.SyntaxFault.{SyntaxFault}
 
@@ -96,7 +96,7 @@ params_reads m P Q im op =
 pub some_params : (Q : Language ParamTerm) → Some_of (Params Q)
 some_params Q = ([], [], inr (refl, refl))
 
-binders_reads : (n : Reads BinderTerm) (E F : Language Term) → IsReader n (Binder E) (Binder F) (λ x. among expression_more) → IsReader (binders_read n) (Binders E) (Binders F) (λ x. other_than closes)
+pub binders_reads : (n : Reads BinderTerm) (E F : Language Term) → IsReader n (Binder E) (Binder F) (λ x. among expression_more) → IsReader (binders_read n) (Binders E) (Binders F) (λ x. other_than closes)
 binders_reads n E F im = separated_reads (is comma_sign) (is name) n (Binder E) (Binder F) (λ x. among expression_more) (other_than closes) im (binder_opens E) (λ x. next_apart (comma_sign ∷ []) expression_more refl) (λ x. no_close closes expression_more refl) (no_close closes (comma_sign ∷ []) refl) (no_close closes (name ∷ []) refl)
 
 pub some_binders : (F : Language Term) → Some_of F → Some_of (Binders F)
@@ -114,34 +114,34 @@ Other B = Behind (is else_word) B
 abbrev Test : Language Term → Language BodyTerm → Language (Token × (Term × BodyTerm))
 Test E B = Both pair_of (One (is if_word)) (Both pair_of (InParentheses E) B)
 
-abbrev Loop : Language Term → Language BodyTerm → Language CoreTerm
-Loop E B = Both loop_of (One (among loop_words)) (Both pair_of (InParentheses (Binders E)) B)
+abbrev Loop : Language (List BinderTerm) → Language BodyTerm → Language CoreTerm
+Loop Ns B = Both loop_of (One (among loop_words)) (Both pair_of (InParentheses Ns) B)
 
-abbrev Call : Language Term → Language BodyTerm → Language CoreTerm
-Call E B = Both call_of (One (is name)) (Both pair_of (InParentheses (Args E)) B)
+abbrev Call : Language (List ArgTerm) → Language BodyTerm → Language CoreTerm
+Call As B = Both call_of (One (is name)) (Both pair_of (InParentheses As) B)
 
 other_opens : (B : Language BodyTerm) → Opens (Other B) (is else_word)
 other_opens B = both_opens second_of (One (is else_word)) B (is else_word) (one_opens (is else_word))
 
-module _ (E : Language Term) (B : Language BodyTerm) where
-  loop_opens : Opens (Loop E B) (among loop_words)
+module _ (E : Language Term) (As : Language (List ArgTerm)) (Ns : Language (List BinderTerm)) (B : Language BodyTerm) where
+  loop_opens : Opens (Loop Ns B) (among loop_words)
   loop_opens = both_opens loop_of (One (among loop_words)) _ (among loop_words) (one_opens (among loop_words))
 
-  call_opens : Opens (Call E B) (is name)
+  call_opens : Opens (Call As B) (is name)
   call_opens = both_opens call_of (One (is name)) _ (is name) (one_opens (is name))
 
   if_opens : Opens (BothIf if_of IsNearest (Test E B) (Maybe (Other B))) (is if_word)
   if_opens c s rest h = ap (λ l. starts (is if_word) (l ++ rest)) h.8 ∙ ap (starts (is if_word)) (append_assoc h.2 h.3 rest) ∙ both_opens pair_of (One (is if_word)) _ (is if_word) (one_opens (is if_word)) h.0 h.2 (h.3 ++ rest) h.4
 
-  loop_or_call_opens : Opens (EitherOf (Loop E B) (Call E B)) (among (for_word ∷ intersection_for_word ∷ name ∷ []))
+  loop_or_call_opens : Opens (EitherOf (Loop Ns B) (Call As B)) (among (for_word ∷ intersection_for_word ∷ name ∷ []))
   loop_or_call_opens =
-      either_opens (Loop E B) (Call E B) (among (for_word ∷ intersection_for_word ∷ name ∷ []))
+      either_opens (Loop Ns B) (Call As B) (among (for_word ∷ intersection_for_word ∷ name ∷ []))
       (λ x s rest h. next_within loop_words (for_word ∷ intersection_for_word ∷ name ∷ []) refl (s ++ rest) (loop_opens x s rest h))
       (λ x s rest h. next_within (name ∷ []) (for_word ∷ intersection_for_word ∷ name ∷ []) refl (s ++ rest) (call_opens x s rest h))
 
-  pub core_opens : Opens (Core E B) (among firsts_of_core)
+  pub core_opens : Opens (Core E As Ns B) (among firsts_of_core)
   core_opens =
-      either_opens (BothIf if_of IsNearest (Test E B) (Maybe (Other B))) (EitherOf (Loop E B) (Call E B)) (among firsts_of_core)
+      either_opens (BothIf if_of IsNearest (Test E B) (Maybe (Other B))) (EitherOf (Loop Ns B) (Call As B)) (among firsts_of_core)
       (λ x s rest h. next_within (if_word ∷ []) firsts_of_core refl (s ++ rest) (if_opens x s rest h))
       (λ x s rest h. next_within (for_word ∷ intersection_for_word ∷ name ∷ []) firsts_of_core refl (s ++ rest) (loop_or_call_opens x s rest h))
 
@@ -158,8 +158,8 @@ start_many (m ∷ ms) p q rest k e =
     ∙ next_within mark_signs firsts_of_instance refl (k.0 ++ ((k.1 ++ q) ++ rest)) (mark_opens m k.0 ((k.1 ++ q) ++ rest) k.2)
 
 -- what an instance begins with
-pub instance_opens : (E : Language Term) (B : Language BodyTerm) → Opens (Instance E B) (among firsts_of_instance)
-instance_opens E B i s rest h = ap (λ l. starts (among firsts_of_instance) (l ++ rest)) h.7 ∙ start_many h.0 h.2 h.3 rest h.4 (core_opens E B h.1 h.3 rest h.5)
+pub instance_opens : (E : Language Term) (As : Language (List ArgTerm)) (Ns : Language (List BinderTerm)) (B : Language BodyTerm) → Opens (Instance E As Ns B) (among firsts_of_instance)
+instance_opens E As Ns B i s rest h = ap (λ l. starts (among firsts_of_instance) (l ++ rest)) h.7 ∙ start_many h.0 h.2 h.3 rest h.4 (core_opens E As Ns B h.1 h.3 rest h.5)
 
 pub marks_reads : IsReader marks_read Marks Marks (λ x. among mark_signs)
 marks_reads =
@@ -173,10 +173,20 @@ some_headed C W some_b some =
     let l : List Token = opening ∷ (some.0 ++ closing ∷ []) in
     (l ++ some_b.0, (some.1, some_b.1), (some.1, some_b.1, l, some_b.0, (opening, some.1, opening ∷ [], some.0 ++ closing ∷ [], (refl, refl), (some.1, closing, some.0, closing ∷ [], some.2, (refl, refl), refl, refl), refl, refl), some_b.2, refl, refl))
 
-pub some_core : (F : Language Term) (C : Language BodyTerm) → Some_of C → Some_of (Core F C)
-some_core F C some_b =
-    let h = some_headed C (Args F) some_b ([], [], inr (refl, refl)) in
+pub some_core : (F : Language Term) (Aw : Language (List ArgTerm)) (Nw : Language (List BinderTerm)) (C : Language BodyTerm) → Some_of Aw → Some_of C → Some_of (Core F Aw Nw C)
+some_core F Aw Nw C some_as some_b =
+    let h = some_headed C Aw some_b some_as in
     (token (Name []) ∷ h.0, call_of (token (Name [])) h.1, inr (inr (token (Name []), h.1, token (Name []) ∷ [], h.0, (refl, refl), h.2, refl, refl)))
+
+-- a loop, a core and an instance over what reads the variables of a loop
+abbrev pub loop_over : Reads (List BinderTerm) → Reads BodyTerm → Reads CoreTerm
+loop_over ns b = both loop_of (one (among loop_words)) (both pair_of (in_parentheses ns) b)
+
+abbrev pub core_over : Reads Term → Reads ArgTerm → Reads (List BinderTerm) → Reads BodyTerm → Reads CoreTerm
+core_over e a ns b = choice (is if_word) (if_read e b) (choice (among loop_words) (loop_over ns b) (call_read a b))
+
+abbrev pub instance_over : Reads Term → Reads ArgTerm → Reads (List BinderTerm) → Reads BodyTerm → Reads InstanceTerm
+instance_over e a ns b = instance_read (core_over e a ns b)
 
 -- where a name stands alone, an instance lacks its arguments
 rest_mapped : {A B : Type 0} (f : A → B) (q : Read Token SyntaxFault A) → rest_of (after q (λ x us. Ok (f x, us))) ≡ rest_of q
@@ -189,30 +199,30 @@ choice_second test r q ts e = ap (λ v. cond v (r ts) (q ts)) e
 call_moves : (a : Reads ArgTerm) (b : Reads BodyTerm) (t : Token) → is name t ≡ true → rest_of (call_read a b (t ∷ [])) ≡ []
 call_moves a b t h = ap (λ v. rest_of (after (cond v (Ok (t, [])) (Err (fault_of left_out (Some t), t ∷ []))) (λ t ts. after (both pair_of (in_parentheses (args_read a)) b ts) (λ p us. Ok (call_of t p, us))))) h
 
-core_moves : (e : Reads Term) (a : Reads ArgTerm) (n : Reads BinderTerm) (b : Reads BodyTerm) (t : Token) → is name t ≡ true → rest_of (core_read e a n b (t ∷ [])) ≡ []
-core_moves e a n b t h =
-    ap rest_of (choice_second (is if_word) (if_read e b) (choice (among loop_words) (loop_read n b) (call_read a b)) (t ∷ []) (next_apart (name ∷ []) (if_word ∷ []) refl (t ∷ []) h))
-    ∙ ap rest_of (choice_second (among loop_words) (loop_read n b) (call_read a b) (t ∷ []) (next_apart (name ∷ []) loop_words refl (t ∷ []) h))
+core_moves : (e : Reads Term) (a : Reads ArgTerm) (ns : Reads (List BinderTerm)) (b : Reads BodyTerm) (t : Token) → is name t ≡ true → rest_of (core_over e a ns b (t ∷ [])) ≡ []
+core_moves e a ns b t h =
+    ap rest_of (choice_second (is if_word) (if_read e b) (choice (among loop_words) (loop_over ns b) (call_read a b)) (t ∷ []) (next_apart (name ∷ []) (if_word ∷ []) refl (t ∷ []) h))
+    ∙ ap rest_of (choice_second (among loop_words) (loop_over ns b) (call_read a b) (t ∷ []) (next_apart (name ∷ []) loop_words refl (t ∷ []) h))
     ∙ call_moves a b t h
 
-instance_moves : (e : Reads Term) (a : Reads ArgTerm) (n : Reads BinderTerm) (b : Reads BodyTerm) (t : Token) → is name t ≡ true → rest_of (instance_read (core_read e a n b) (t ∷ [])) ≡ []
-instance_moves e a n b t h =
-    ap (λ q. rest_of (after q (λ ms us. after (core_read e a n b us) (λ c vs. Ok (instance_of ms c, vs))))) (marks_reads.complete [] [] (t ∷ []) refl (next_apart (name ∷ []) mark_signs refl (t ∷ []) h))
-    ∙ rest_mapped (instance_of []) (core_read e a n b (t ∷ [])) ∙ core_moves e a n b t h
+instance_moves : (e : Reads Term) (a : Reads ArgTerm) (ns : Reads (List BinderTerm)) (b : Reads BodyTerm) (t : Token) → is name t ≡ true → rest_of (instance_over e a ns b (t ∷ [])) ≡ []
+instance_moves e a ns b t h =
+    ap (λ q. rest_of (after q (λ ms us. after (core_over e a ns b us) (λ c vs. Ok (instance_of ms c, vs))))) (marks_reads.complete [] [] (t ∷ []) refl (next_apart (name ∷ []) mark_signs refl (t ∷ []) h))
+    ∙ rest_mapped (instance_of []) (core_over e a ns b (t ∷ [])) ∙ core_moves e a ns b t h
 
-pub statement_moves : (e : Reads Term) (a : Reads ArgTerm) (n : Reads BinderTerm) (b : Reads BodyTerm) (t : Token) → is name t ≡ true → rest_of (mapped InstanceStatement (instance_read (core_read e a n b)) (t ∷ [])) ≡ []
-statement_moves e a n b t h = rest_mapped InstanceStatement (instance_read (core_read e a n b) (t ∷ [])) ∙ instance_moves e a n b t h
+pub statement_moves : (e : Reads Term) (a : Reads ArgTerm) (ns : Reads (List BinderTerm)) (b : Reads BodyTerm) (t : Token) → is name t ≡ true → rest_of (mapped InstanceStatement (instance_over e a ns b) (t ∷ [])) ≡ []
+statement_moves e a ns b t h = rest_mapped InstanceStatement (instance_over e a ns b (t ∷ [])) ∙ instance_moves e a ns b t h
 
 -- no instance begins with a name and an `=`
-call_unlike : (E : Language Term) (B : Language BodyTerm) (c : CoreTerm) (s rest : List Token) → Call E B c s → two (is name) (is assign_sign) (s ++ rest) ≡ false
-call_unlike E B c s rest h =
+call_unlike : (As : Language (List ArgTerm)) (B : Language BodyTerm) (c : CoreTerm) (s rest : List Token) → Call As B c s → two (is name) (is assign_sign) (s ++ rest) ≡ false
+call_unlike As B c s rest h =
     ap (λ l. two (is name) (is assign_sign) (l ++ rest)) h.7 ∙ ap (λ l. two (is name) (is assign_sign) ((l ++ h.3) ++ rest)) h.4.1
-    ∙ two_name h.0 (h.3 ++ rest) (next_apart (open_parenthesis_sign ∷ []) (assign_sign ∷ []) refl (h.3 ++ rest) (both_opens pair_of (InParentheses (Args E)) B (is open_parenthesis_sign) (both_opens second_of (One (is open_parenthesis_sign)) _ (is open_parenthesis_sign) (one_opens (is open_parenthesis_sign))) h.1 h.3 rest h.5))
+    ∙ two_name h.0 (h.3 ++ rest) (next_apart (open_parenthesis_sign ∷ []) (assign_sign ∷ []) refl (h.3 ++ rest) (both_opens pair_of (InParentheses As) B (is open_parenthesis_sign) (both_opens second_of (One (is open_parenthesis_sign)) _ (is open_parenthesis_sign) (one_opens (is open_parenthesis_sign))) h.1 h.3 rest h.5))
 
-core_unlike : (E : Language Term) (B : Language BodyTerm) (c : CoreTerm) (s rest : List Token) → Core E B c s → two (is name) (is assign_sign) (s ++ rest) ≡ false
-core_unlike E B c s rest (inl h) = two_not (s ++ rest) (next_apart (if_word ∷ []) (name ∷ []) refl (s ++ rest) (if_opens E B c s rest h))
-core_unlike E B c s rest (inr (inl h)) = two_not (s ++ rest) (next_apart loop_words (name ∷ []) refl (s ++ rest) (loop_opens E B c s rest h))
-core_unlike E B c s rest (inr (inr h)) = call_unlike E B c s rest h
+core_unlike : (E : Language Term) (As : Language (List ArgTerm)) (Ns : Language (List BinderTerm)) (B : Language BodyTerm) (c : CoreTerm) (s rest : List Token) → Core E As Ns B c s → two (is name) (is assign_sign) (s ++ rest) ≡ false
+core_unlike E As Ns B c s rest (inl h) = two_not (s ++ rest) (next_apart (if_word ∷ []) (name ∷ []) refl (s ++ rest) (if_opens E As Ns B c s rest h))
+core_unlike E As Ns B c s rest (inr (inl h)) = two_not (s ++ rest) (next_apart loop_words (name ∷ []) refl (s ++ rest) (loop_opens E As Ns B c s rest h))
+core_unlike E As Ns B c s rest (inr (inr h)) = call_unlike As B c s rest h
 
 marks_unlike : (ms : List MarkTerm) (p q rest : List Token) → Marks ms p → two (is name) (is assign_sign) (q ++ rest) ≡ false → two (is name) (is assign_sign) ((p ++ q) ++ rest) ≡ false
 marks_unlike [] p q rest k e = ap (λ l. two (is name) (is assign_sign) ((l ++ q) ++ rest)) k ∙ e
@@ -220,8 +230,8 @@ marks_unlike (m ∷ ms) p q rest k e =
     ap (λ l. two (is name) (is assign_sign) ((l ++ q) ++ rest)) k.4 ∙ ap (λ l. two (is name) (is assign_sign) (l ++ rest)) (append_assoc k.0 k.1 q) ∙ ap (two (is name) (is assign_sign)) (append_assoc k.0 (k.1 ++ q) rest)
     ∙ two_not (k.0 ++ ((k.1 ++ q) ++ rest)) (next_apart mark_signs (name ∷ []) refl (k.0 ++ ((k.1 ++ q) ++ rest)) (mark_opens m k.0 ((k.1 ++ q) ++ rest) k.2))
 
-pub instance_unlike : (E : Language Term) (B : Language BodyTerm) (i : InstanceTerm) (s rest : List Token) → Instance E B i s → two (is name) (is assign_sign) (s ++ rest) ≡ false
-instance_unlike E B i s rest h = ap (λ l. two (is name) (is assign_sign) (l ++ rest)) h.7 ∙ marks_unlike h.0 h.2 h.3 rest h.4 (core_unlike E B h.1 h.3 rest h.5)
+pub instance_unlike : (E : Language Term) (As : Language (List ArgTerm)) (Ns : Language (List BinderTerm)) (B : Language BodyTerm) (i : InstanceTerm) (s rest : List Token) → Instance E As Ns B i s → two (is name) (is assign_sign) (s ++ rest) ≡ false
+instance_unlike E As Ns B i s rest h = ap (λ l. two (is name) (is assign_sign) (l ++ rest)) h.7 ∙ marks_unlike h.0 h.2 h.3 rest h.4 (core_unlike E As Ns B h.1 h.3 rest h.5)
 
 -- b reads a body
 module _ (b : Reads BodyTerm) (B C : Language BodyTerm) (ib : IsReader b B C body_more) (sb : Stops b body_more) (some_b : Some_of C) where
@@ -245,8 +255,8 @@ module _ (b : Reads BodyTerm) (B C : Language BodyTerm) (ib : IsReader b B C bod
   other_stops : Stops (maybe (is else_word) other_read) (or_first (is else_word) body_more)
   other_stops = maybe_stops (is else_word) other_read body_more (both_stops second_of (one (is else_word)) b body_more body_more sb (λ x y rest h. h))
 
-  module _ (e : Reads Term) (a : Reads ArgTerm) (n : Reads BinderTerm) (E F : Language Term) (ie : IsReader e E F (λ x. among expression_more)) (ia : IsReader a (Arg E) (Arg F) (λ x. among arg_more)) (iv : IsReader n (Binder E) (Binder F) (λ x. among expression_more))
-      (oe : Opens E (among firsts_of_expression)) (some_e : Some_of F) where
+  module _ (e : Reads Term) (a : Reads ArgTerm) (ns : Reads (List BinderTerm)) (E F : Language Term) (As Aw : Language (List ArgTerm)) (Ns Nw : Language (List BinderTerm))
+      (ie : IsReader e E F (λ x. among expression_more)) (ias : IsReader (args_read a) As Aw (λ x. other_than closes)) (ins : IsReader ns Ns Nw (λ x. other_than closes)) (some_e : Some_of F) (some_as : Some_of Aw) (some_ns : Some_of Nw) where
     abbrev test_read : Reads (Token × (Term × BodyTerm))
     test_read = both pair_of (one (is if_word)) (both pair_of (in_parentheses e) b)
 
@@ -294,48 +304,43 @@ module _ (b : Reads BodyTerm) (B C : Language BodyTerm) (ib : IsReader b B C bod
         go true = refl
         go false = refl
 
-    loop_reads : IsReader (loop_read n b) (Loop E B) (Loop F C) core_more
+    loop_reads : IsReader (loop_over ns b) (Loop Ns B) (Loop Nw C) core_more
     loop_reads =
-        then (both pair_of (in_parentheses (binders_read n)) b) (Both pair_of (InParentheses (Binders E)) B) (Both pair_of (InParentheses (Binders F)) C) (among loop_words) (λ p. body_more p.1) core_more loop_of loop_one
-        (headed_reads (binders_read n) (Binders E) (Binders F) (λ x. other_than closes) (binders_reads n E F iv) (some_binders F some_e) (λ x. close_ends closes)) (some_headed C (Binders F) some_b (some_binders F some_e))
+        then (both pair_of (in_parentheses ns) b) (Both pair_of (InParentheses Ns) B) (Both pair_of (InParentheses Nw) C) (among loop_words) (λ p. body_more p.1) core_more loop_of loop_one
+        (headed_reads ns Ns Nw (λ x. other_than closes) ins some_ns (λ x. close_ends closes)) (some_headed C Nw some_b some_ns)
         (λ t y rest h. ap (λ v. starts (else_open v) rest) (sym (loop_open t y)) ∙ h)
 
-    loop_stops : Stops (loop_read n b) core_more
-    loop_stops = both_stops loop_of (one (among loop_words)) (both pair_of (in_parentheses (binders_read n)) b) (λ p. body_more p.1) core_more (headed_stops (binders_read n)) (λ t y rest h. ap (λ v. starts (else_open v) rest) (loop_open t y) ∙ h)
+    loop_stops : Stops (loop_over ns b) core_more
+    loop_stops = both_stops loop_of (one (among loop_words)) (both pair_of (in_parentheses ns) b) (λ p. body_more p.1) core_more (headed_stops ns) (λ t y rest h. ap (λ v. starts (else_open v) rest) (loop_open t y) ∙ h)
 
-    args : IsReader (args_read a) (Args E) (Args F) (λ x. other_than closes)
-    args =
-        args_reads e a E F expression_more arg_more ie ia (λ x s rest h. next_other firsts_of_expression (close_bracket_sign ∷ []) refl (s ++ rest) (oe x s rest h))
-        (λ x s rest h. next_other firsts_of_expression closes refl (s ++ rest) (arg_opens E oe x s rest h)) some_e refl refl refl refl refl refl
-
-    call_reads : IsReader (call_read a b) (Call E B) (Call F C) core_more
+    call_reads : IsReader (call_read a b) (Call As B) (Call Aw C) core_more
     call_reads =
-        then (both pair_of (in_parentheses (args_read a)) b) (Both pair_of (InParentheses (Args E)) B) (Both pair_of (InParentheses (Args F)) C) (is name) (λ p. body_more p.1) core_more call_of name_one
-        (headed_reads (args_read a) (Args E) (Args F) (λ x. other_than closes) args ([], [], inr (refl, refl)) (λ x. close_ends closes)) (some_headed C (Args F) some_b ([], [], inr (refl, refl))) (λ t y rest h. h)
+        then (both pair_of (in_parentheses (args_read a)) b) (Both pair_of (InParentheses As) B) (Both pair_of (InParentheses Aw) C) (is name) (λ p. body_more p.1) core_more call_of name_one
+        (headed_reads (args_read a) As Aw (λ x. other_than closes) ias some_as (λ x. close_ends closes)) (some_headed C Aw some_b some_as) (λ t y rest h. h)
 
     call_stops : Stops (call_read a b) core_more
     call_stops = both_stops call_of (one (is name)) (both pair_of (in_parentheses (args_read a)) b) (λ p. body_more p.1) core_more (headed_stops (args_read a)) (λ t y rest h. h)
 
-    core_reads : IsReader (core_read e a n b) (Core E B) (Core F C) core_more
+    core_reads : IsReader (core_over e a ns b) (Core E As Ns B) (Core F Aw Nw C) core_more
     core_reads =
-        choice_reads (is if_word) (if_read e b) (choice (among loop_words) (loop_read n b) (call_read a b)) (BothIf if_of IsNearest (Test E B) (Maybe (Other B))) (BothIf if_of IsNearest (Test F C) (Maybe (Other C))) (EitherOf (Loop E B) (Call E B)) (EitherOf (Loop F C) (Call F C)) core_more
+        choice_reads (is if_word) (if_read e b) (choice (among loop_words) (loop_over ns b) (call_read a b)) (BothIf if_of IsNearest (Test E B) (Maybe (Other B))) (BothIf if_of IsNearest (Test F C) (Maybe (Other C))) (EitherOf (Loop Ns B) (Call As B)) (EitherOf (Loop Nw C) (Call Aw C)) core_more
         if_reads
-        (choice_reads (among loop_words) (loop_read n b) (call_read a b) (Loop E B) (Loop F C) (Call E B) (Call F C) core_more loop_reads call_reads (loop_opens E B) (λ x s rest h k. next_apart (name ∷ []) loop_words refl (s ++ rest) (call_opens E B x s rest h)))
-        (if_opens E B)
-        (λ x s rest h k. next_apart (for_word ∷ intersection_for_word ∷ name ∷ []) (if_word ∷ []) refl (s ++ rest) (loop_or_call_opens E B x s rest h))
+        (choice_reads (among loop_words) (loop_over ns b) (call_read a b) (Loop Ns B) (Loop Nw C) (Call As B) (Call Aw C) core_more loop_reads call_reads (loop_opens E As Ns B) (λ x s rest h k. next_apart (name ∷ []) loop_words refl (s ++ rest) (call_opens E As Ns B x s rest h)))
+        (if_opens E As Ns B)
+        (λ x s rest h k. next_apart (for_word ∷ intersection_for_word ∷ name ∷ []) (if_word ∷ []) refl (s ++ rest) (loop_or_call_opens E As Ns B x s rest h))
 
-    core_stops : Stops (core_read e a n b) core_more
-    core_stops = choice_stops (is if_word) (if_read e b) (choice (among loop_words) (loop_read n b) (call_read a b)) core_more if_stops (choice_stops (among loop_words) (loop_read n b) (call_read a b) core_more loop_stops call_stops)
+    core_stops : Stops (core_over e a ns b) core_more
+    core_stops = choice_stops (is if_word) (if_read e b) (choice (among loop_words) (loop_over ns b) (call_read a b)) core_more if_stops (choice_stops (among loop_words) (loop_over ns b) (call_read a b) core_more loop_stops call_stops)
 
     instance_core : (ms : List MarkTerm) (c : CoreTerm) → instance_open (instance_of ms c) ≡ core_open c
     instance_core [] c = refl
     instance_core (m ∷ ms) c = refl
 
-    pub instance_reads : IsReader (instance_read (core_read e a n b)) (Instance E B) (Instance F C) instance_more
+    pub instance_reads : IsReader (instance_over e a ns b) (Instance E As Ns B) (Instance F Aw Nw C) instance_more
     instance_reads =
-        both_reads instance_of marks_read (core_read e a n b) Marks Marks (Core E B) (Core F C) (λ x. among mark_signs) core_more instance_more marks_reads core_reads (some_core F C some_b)
-        (λ x y s rest h k. next_apart firsts_of_core mark_signs refl (s ++ rest) (core_opens E B y s rest h))
+        both_reads instance_of marks_read (core_over e a ns b) Marks Marks (Core E As Ns B) (Core F Aw Nw C) (λ x. among mark_signs) core_more instance_more marks_reads core_reads (some_core F Aw Nw C some_as some_b)
+        (λ x y s rest h k. next_apart firsts_of_core mark_signs refl (s ++ rest) (core_opens E As Ns B y s rest h))
         (λ x y rest k. ap (λ v. starts (else_open v) rest) (sym (instance_core x y)) ∙ k)
 
-    pub instance_stops : Stops (instance_read (core_read e a n b)) instance_more
-    instance_stops = both_stops instance_of marks_read (core_read e a n b) core_more instance_more core_stops (λ x y rest k. ap (λ v. starts (else_open v) rest) (instance_core x y) ∙ k)
+    pub instance_stops : Stops (instance_over e a ns b) instance_more
+    instance_stops = both_stops instance_of marks_read (core_over e a ns b) core_more instance_more core_stops (λ x y rest k. ap (λ v. starts (else_open v) rest) (instance_core x y) ∙ k)

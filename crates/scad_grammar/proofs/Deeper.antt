@@ -4,15 +4,16 @@ use Rattle.scad_lexer.specs.declared.token.Token.{Token}
 use Rattle.scad_ast.specs.Terms.{Term, ArgTerm, ParamTerm, BinderTerm, StatementTerm, InstanceStatement, BodyTerm, InstanceBody, PositionalTerm}
 use Rattle.scad_grammar.specs.declared.SyntaxFault.{SyntaxFault}
 use Rattle.scad_grammar.specs.declared.SyntaxFault.TheVariants.{Nested}
-use Rattle.scad_grammar.specs.Classes.{numeral, text, true_word, false_word, undef_word, child_count, name, end, if_word, else_word, module_word, function_word, open_parenthesis_sign, close_parenthesis_sign, open_bracket_sign, close_bracket_sign, open_brace_sign, close_brace_sign, comma_sign, semicolon_sign, assign_sign, colon_sign, question_sign, dot_sign, minus_sign, plus_sign, not_sign, among, is, other_than}
-use Rattle.scad_grammar.specs.Languages.{first_of, second_of, pair_of, cons}
-use Rattle.scad_grammar.specs.Grammar.{items, link, chain_of, unary_of, postfix_of, index_of, levels, choice_of, named_of, paren_of, bracket_of, range_of, binder_of, param_of, if_of, loop_of, call_of, instance_of, block_of, bare_block_of, module_of, function_of}
+use Rattle.scad_grammar.specs.Classes.{numeral, text, true_word, false_word, undef_word, child_count, name, end, if_word, module_word, function_word, open_parenthesis_sign, open_bracket_sign, open_brace_sign, comma_sign, semicolon_sign, assign_sign, minus_sign, plus_sign, not_sign, among, is}
+use Rattle.scad_grammar.specs.Languages.{first_of}
+use Rattle.scad_grammar.specs.Grammar.{chain_of, postfix_of, levels, choice_of, bracket_of, binder_of, param_of, call_of, instance_of}
 use Rattle.scad_grammar.specs.Reading.{Read, after, starts, one_of, mapped, nothing, both, choice, maybe, ahead, with_front, many_times, many, trailing_times, trailing}
 use Rattle.scad_grammar.specs.Faults.{Reads, one, first, fault_of, left_out, left_out_of_expressions}
-use Rattle.scad_grammar.specs.Reads.{head_of, nested, firsts_of_expression, suffix_read, unary_read, chain_read, named, arg_read, args_read, in_parentheses, range_read, rest_read, bracket_read, name_read, paren_read, primary_read, choice_read, arg_in, expr_read, operand_read}
-use Rattle.scad_grammar.specs.StatementReads.{mark_signs, loop_words, firsts_of_core, firsts_of_instance, firsts_of_body, firsts_of_statement, param_read, binder_read, params_read, binders_read, if_read, core_read, marks_read, instance_read, braces_read, body_over, ended_read, definition_read, assigned, statement_over, param_in, binder_in, statement_read, body_read, program_read}
+use Rattle.scad_grammar.specs.Reads.{head_of, nested, firsts_of_expression, unary_read, chain_read, named, arg_read, primary_read, choice_read, arg_in, expr_read, operand_read}
+use Rattle.scad_grammar.specs.StatementReads.{mark_signs, loop_words, firsts_of_core, firsts_of_instance, firsts_of_body, firsts_of_statement, param_read, binder_read, binders_read, core_read, instance_read, body_over, ended_read, definition_read, assigned, statement_over, param_in, binder_in, statement_read, body_read, program_read}
 use Rattle.scad_grammar.proofs.Tests.{next_less}
 use Rattle.scad_grammar.proofs.Cores.{marks_reads}
+use Rattle.scad_grammar.proofs.Alike.{Keeps, Free, arg_keeps, param_keeps, binder_keeps, binders_keep, unary_keeps, expression_keeps, primary_keeps, instance_keeps, body_keeps, statement_keeps}
 
 abbrev pub Alike : {A : Type 0} → Read Token SyntaxFault A → Read Token SyntaxFault A → Type 0
 Alike r q = (r ≡ q) ⊎ ((at : List Token) × (r ≡ Err (Nested, at)))
@@ -84,67 +85,23 @@ trailing_agrees : {A : Type 0} (mark go : Token → Bool) (r q : Reads A) → Ag
 unfolding trailing
 trailing_agrees mark go r q h = record { at = λ ts. trailing_alike (length ts) mark go r q h ts }
 
--- a token of some class before and behind
-behind_agrees : {A B : Type 0} (f : Token → A → B) (test : Reads Token) (r q : Reads A) → Agrees r q → Agrees (both f test r) (both f test q)
-behind_agrees f test r q h = both_agrees f test test r q (same test) h
+-- each way of building a reader keeps it
+abbrev Agree : (A : Type 0) → Reads A → Reads A → Type 0
+Agree A r q = Agrees r q
 
-before_agrees : {A : Type 0} (c : ℕ) (r q : Reads A) → Agrees r q → Agrees (both first_of r (one (is c))) (both first_of q (one (is c)))
-before_agrees c r q h = both_agrees first_of r q (one (is c)) (one (is c)) h (same (one (is c)))
-
-parentheses_agree : {A : Type 0} (r q : Reads A) → Agrees r q → Agrees (in_parentheses r) (in_parentheses q)
-parentheses_agree r q h = behind_agrees second_of (one (is open_parenthesis_sign)) (both first_of r (one (is close_parenthesis_sign))) (both first_of q (one (is close_parenthesis_sign))) (before_agrees close_parenthesis_sign r q h)
-
-module _ (e f u v : Reads Term) (a b : Reads ArgTerm) (he : Agrees e f) (hu : Agrees u v) (ha : Agrees a b) where
-  args_agree : Agrees (args_read a) (args_read b)
-  args_agree =
-      choice_agrees (other_than (close_parenthesis_sign ∷ [])) _ _ _ _
-      (both_agrees cons a b _ _ ha (trailing_agrees (is comma_sign) (other_than (close_parenthesis_sign ∷ [])) a b ha)) (same (nothing []))
-
-  behind_colon : Agrees (both second_of (one (is colon_sign)) e) (both second_of (one (is colon_sign)) f)
-  behind_colon = behind_agrees second_of (one (is colon_sign)) e f he
-
-  rest_agrees : Agrees (rest_read e) (rest_read f)
-  rest_agrees =
-      choice_agrees (is colon_sign) (range_read e) (range_read f) _ _
-      (behind_agrees second_of (one (is colon_sign)) _ _ (both_agrees range_of e f _ _ he (maybe_agrees (is colon_sign) _ _ behind_colon)))
-      (mapped_agrees items _ _ (trailing_agrees (is comma_sign) (other_than (close_bracket_sign ∷ [])) e f he))
-
-  bracket_agrees : Agrees (bracket_read e) (bracket_read f)
-  bracket_agrees =
-      behind_agrees bracket_of (first (is open_bracket_sign)) _ _
-      (before_agrees close_bracket_sign _ _ (maybe_agrees (other_than (close_bracket_sign ∷ [])) _ _ (both_agrees pair_of e f (rest_read e) (rest_read f) he rest_agrees)))
-
-  name_agrees : Agrees (name_read a) (name_read b)
-  name_agrees = behind_agrees named_of (one (is name)) _ _ (maybe_agrees (is open_parenthesis_sign) _ _ (parentheses_agree (args_read a) (args_read b) args_agree))
-
-  paren_agrees : Agrees (paren_read e) (paren_read f)
-  paren_agrees = behind_agrees paren_of (one (is open_parenthesis_sign)) _ _ (before_agrees close_parenthesis_sign e f he)
-
-  primary_agrees : Agrees (primary_read e a) (primary_read f b)
-  primary_agrees =
-      choice_agrees (is numeral) _ _ _ _ (same _) (choice_agrees (is text) _ _ _ _ (same _) (choice_agrees (is true_word) _ _ _ _ (same _) (choice_agrees (is false_word) _ _ _ _ (same _)
-      (choice_agrees (is undef_word) _ _ _ _ (same _) (choice_agrees (is child_count) _ _ _ _ (same _)
-      (choice_agrees (is name) (name_read a) (name_read b) _ _ name_agrees (choice_agrees (is open_parenthesis_sign) (paren_read e) (paren_read f) (bracket_read e) (bracket_read f) paren_agrees bracket_agrees)))))))
-
-  suffix_agrees : Agrees (suffix_read e) (suffix_read f)
-  suffix_agrees = choice_agrees (is open_bracket_sign) _ _ _ _ (behind_agrees index_of (one (is open_bracket_sign)) _ _ (before_agrees close_bracket_sign e f he)) (same _)
-
-  unary_agrees : Agrees (unary_read e u (primary_read e a)) (unary_read f v (primary_read f b))
-  unary_agrees =
-      choice_agrees (among (minus_sign ∷ plus_sign ∷ not_sign ∷ [])) _ _ _ _ (behind_agrees unary_of (one (among (minus_sign ∷ plus_sign ∷ not_sign ∷ []))) u v hu)
-      (both_agrees postfix_of (primary_read e a) (primary_read f b) _ _ primary_agrees (many_agrees (among (open_bracket_sign ∷ dot_sign ∷ [])) (suffix_read e) (suffix_read f) suffix_agrees))
-
-  chain_agrees : (below : List (List ℕ)) (r q : Reads Term) → Agrees r q → Agrees (chain_read below r) (chain_read below q)
-  chain_agrees [] r q h = h
-  chain_agrees (ops ∷ below) r q h = both_agrees chain_of (chain_read below r) (chain_read below q) _ _ (chain_agrees below r q h) (many_agrees (among ops) _ _ (behind_agrees link (one (among ops)) (chain_read below r) (chain_read below q) (chain_agrees below r q h)))
-
-  choice_read_agrees : Agrees (choice_read e u (primary_read e a)) (choice_read f v (primary_read f b))
-  choice_read_agrees =
-      both_agrees choice_of _ _ _ _ (chain_agrees levels _ _ unary_agrees)
-      (maybe_agrees (is question_sign) _ _ (behind_agrees pair_of (one (is question_sign)) _ _ (both_agrees pair_of e f _ _ he behind_colon)))
-
-arg_agrees : (e f : Reads Term) → Agrees e f → Agrees (arg_read e) (arg_read f)
-arg_agrees e f he = ahead_agrees named (is name) (is assign_sign) e f _ _ he (mapped_agrees PositionalTerm e f he)
+agreement : Keeps Agree Free
+agreement = record {
+  nothing_keeps = λ a. same (nothing a);
+  one_keeps = λ cs e. same (one (among cs));
+  mapped_keeps = mapped_agrees;
+  both_keeps = both_agrees;
+  choice_keeps = λ test r q s p e. choice_agrees test r q s p;
+  taken_keeps = λ cs r q s p e t. choice_agrees (among cs) r q s p;
+  ahead_keeps = λ f. ahead_agrees f (is name) (is assign_sign);
+  many_keeps = λ test r q e. many_agrees test r q;
+  many_taken_keeps = λ cs r q e t. many_agrees (among cs) r q;
+  trailing_keeps = λ go r q e. trailing_agrees (is comma_sign) go r q;
+}
 
 -- what begins no expression is refused in the same way at each depth
 abbrev refusal : {A : Type 0} → List ℕ → List Token → Read Token SyntaxFault A
@@ -163,7 +120,7 @@ both_refuses classes f r q ts h = ap (λ x. after x (λ a us. after (q us) (λ b
 mapped_refuses : {A B : Type 0} (classes : List ℕ) (f : A → B) (r : Reads A) (ts : List Token) → r ts ≡ refusal classes ts → mapped f r ts ≡ refusal classes ts
 mapped_refuses classes f r ts h = ap (λ x. after x (λ a us. Ok (f a, us))) h
 
-primary_refuses : (e : Reads Term) (a : Reads ArgTerm) (ts : List Token) → starts (among firsts_of_expression) ts ≡ false → primary_read e a ts ≡ refusal left_out_of_expressions ts
+pub primary_refuses : (e : Reads Term) (a : Reads ArgTerm) (ts : List Token) → starts (among firsts_of_expression) ts ≡ false → primary_read e a ts ≡ refusal left_out_of_expressions ts
 primary_refuses e a ts h =
     skip (starts (is numeral) ts) _ _ (next_less (numeral ∷ []) firsts_of_expression refl ts h)
     ∙ skip (starts (is text) ts) _ _ (next_less (text ∷ []) firsts_of_expression refl ts h)
@@ -206,6 +163,9 @@ expr_refuses : (d : ℕ) (ts : List Token) → starts (among firsts_of_expressio
 unfolding expr_read operand_read
 expr_refuses d ts h = choice_refuses (expr_read d) (operand_read d) (arg_in d (expr_read d)) ts h
 
+primary_agrees : (e f : Reads Term) (a b : Reads ArgTerm) → Agrees e f → Agrees a b → Agrees (primary_read e a) (primary_read f b)
+primary_agrees = primary_keeps Agree Free agreement (λ c f h. same (mapped f (one (is c)))) (same (first (is open_bracket_sign))) (λ r q s p. choice_agrees (is numeral) r q s p)
+
 -- at each greater depth
 deeper_expressions : (d : ℕ) → Agrees (expr_read d) (expr_read (suc d)) × Agrees (operand_read d) (operand_read (suc d)) × Agrees (arg_in d (expr_read d)) (arg_in (suc d) (expr_read (suc d)))
 unfolding expr_read operand_read
@@ -216,71 +176,17 @@ deeper_expressions zero = (
 )
 deeper_expressions (suc d) =
     let k = deeper_expressions d in
-    let one : Agrees (expr_read (suc d)) (expr_read (suc (suc d))) = choice_read_agrees (expr_read d) (expr_read (suc d)) (operand_read d) (operand_read (suc d)) (arg_in d (expr_read d)) (arg_in (suc d) (expr_read (suc d))) k.0 k.1 k.2 in (
-      one,
-      unary_agrees (expr_read d) (expr_read (suc d)) (operand_read d) (operand_read (suc d)) (arg_in d (expr_read d)) (arg_in (suc d) (expr_read (suc d))) k.0 k.1 k.2,
-      arg_agrees (expr_read (suc d)) (expr_read (suc (suc d))) one,
-    )
-
-param_agrees : (e f : Reads Term) → Agrees e f → Agrees (param_read e) (param_read f)
-param_agrees e f h = behind_agrees param_of (one (is name)) _ _ (maybe_agrees (is assign_sign) _ _ (behind_agrees second_of (one (is assign_sign)) e f h))
-
-binder_agrees : (e f : Reads Term) → Agrees e f → Agrees (binder_read e) (binder_read f)
-binder_agrees e f h = behind_agrees binder_of (one (is name)) _ _ (behind_agrees second_of (one (is assign_sign)) e f h)
+    let p = primary_agrees (expr_read d) (expr_read (suc d)) (arg_in d (expr_read d)) (arg_in (suc d) (expr_read (suc d))) k.0 k.2 in
+    let one : Agrees (expr_read (suc d)) (expr_read (suc (suc d))) = expression_keeps Agree Free agreement (expr_read d) (expr_read (suc d)) k.0 (operand_read d) (operand_read (suc d)) _ _ k.1 p in
+    (one, unary_keeps Agree Free agreement (expr_read d) (expr_read (suc d)) k.0 (operand_read d) (operand_read (suc d)) _ _ k.1 p, arg_keeps Agree Free agreement (expr_read (suc d)) (expr_read (suc (suc d))) one)
 
 deeper_params : (d : ℕ) → Agrees (param_in d (expr_read d)) (param_in (suc d) (expr_read (suc d)))
 deeper_params zero = nested_agrees (name ∷ []) left_out (param_read (expr_read 1)) (λ ts h. both_refuses left_out param_of (one (is name)) _ ts (one_refuses left_out (is name) ts h))
-deeper_params (suc d) = param_agrees (expr_read (suc d)) (expr_read (suc (suc d))) (deeper_expressions (suc d)).0
+deeper_params (suc d) = param_keeps Agree Free agreement (expr_read (suc d)) (expr_read (suc (suc d))) (deeper_expressions (suc d)).0
 
 deeper_binders : (d : ℕ) → Agrees (binder_in d (expr_read d)) (binder_in (suc d) (expr_read (suc d)))
 deeper_binders zero = nested_agrees (name ∷ []) left_out (binder_read (expr_read 1)) (λ ts h. both_refuses left_out binder_of (one (is name)) _ ts (one_refuses left_out (is name) ts h))
-deeper_binders (suc d) = binder_agrees (expr_read (suc d)) (expr_read (suc (suc d))) (deeper_expressions (suc d)).0
-
-module _ (e f : Reads Term) (a c : Reads ArgTerm) (n l : Reads BinderTerm) (b w : Reads BodyTerm) (he : Agrees e f) (ha : Agrees a c) (hn : Agrees n l) (hb : Agrees b w) where
-  headed_agrees : {A : Type 0} (r q : Reads A) → Agrees r q → Agrees (both pair_of (in_parentheses r) b) (both pair_of (in_parentheses q) w)
-  headed_agrees r q h = both_agrees pair_of (in_parentheses r) (in_parentheses q) b w (parentheses_agree r q h) hb
-
-  if_agrees : Agrees (if_read e b) (if_read f w)
-  if_agrees =
-      both_agrees if_of _ _ _ _ (behind_agrees pair_of (one (is if_word)) _ _ (headed_agrees e f he))
-      (maybe_agrees (is else_word) _ _ (behind_agrees second_of (one (is else_word)) b w hb))
-
-  core_agrees : Agrees (core_read e a n b) (core_read f c l w)
-  core_agrees =
-      choice_agrees (is if_word) (if_read e b) (if_read f w) _ _ if_agrees
-      (choice_agrees (among loop_words) _ _ _ _
-      (behind_agrees loop_of (one (among loop_words)) _ _ (headed_agrees (binders_read n) (binders_read l) (both_agrees cons n l _ _ hn (trailing_agrees (is comma_sign) (is name) n l hn))))
-      (behind_agrees call_of (one (is name)) _ _ (headed_agrees (args_read a) (args_read c) (args_agree e f e f a c he he ha))))
-
-  instance_agrees : Agrees (instance_read (core_read e a n b)) (instance_read (core_read f c l w))
-  instance_agrees = both_agrees instance_of marks_read marks_read _ _ (same marks_read) core_agrees
-
-  module _ (s t : Reads StatementTerm) (hs : Agrees s t) where
-    braces_agree : Agrees (braces_read s) (braces_read t)
-    braces_agree = before_agrees close_brace_sign _ _ (many_agrees (among firsts_of_statement) s t hs)
-
-    body_agrees : Agrees (body_over s (instance_read (core_read e a n b))) (body_over t (instance_read (core_read f c l w)))
-    body_agrees =
-        choice_agrees (is semicolon_sign) _ _ _ _ (same _)
-        (choice_agrees (is open_brace_sign) _ _ _ _ (behind_agrees block_of (one (is open_brace_sign)) (braces_read s) (braces_read t) braces_agree) (mapped_agrees InstanceBody _ _ instance_agrees))
-
-    module _ (x y : Reads Term) (m p : Reads ParamTerm) (hx : Agrees x y) (hm : Agrees m p) where
-      params_agree : Agrees (params_read m) (params_read p)
-      params_agree = choice_agrees (is name) _ _ _ _ (both_agrees cons m p _ _ hm (trailing_agrees (is comma_sign) (is name) m p hm)) (same (nothing []))
-
-      ended_agrees : Agrees (ended_read x) (ended_read y)
-      ended_agrees = before_agrees semicolon_sign x y hx
-
-      statement_agrees : Agrees (statement_over x m s b (instance_read (core_read e a n b))) (statement_over y p t w (instance_read (core_read f c l w)))
-      statement_agrees =
-          choice_agrees (is semicolon_sign) _ _ _ _ (same _)
-          (choice_agrees (is open_brace_sign) _ _ _ _ (behind_agrees bare_block_of (one (is open_brace_sign)) (braces_read s) (braces_read t) braces_agree)
-          (ahead_agrees assigned (is name) (is assign_sign) (ended_read x) (ended_read y) _ _ ended_agrees
-          (choice_agrees (is module_word) _ _ _ _
-          (behind_agrees module_of (one (is module_word)) _ _ (behind_agrees pair_of (one (is name)) _ _ (both_agrees pair_of (in_parentheses (params_read m)) (in_parentheses (params_read p)) b w (parentheses_agree (params_read m) (params_read p) params_agree) hb)))
-          (choice_agrees (is function_word) _ _ _ _
-          (behind_agrees function_of (one (is function_word)) _ _ (behind_agrees pair_of (one (is name)) _ _ (both_agrees pair_of (in_parentheses (params_read m)) (in_parentheses (params_read p)) _ _ (parentheses_agree (params_read m) (params_read p) params_agree) (behind_agrees second_of (one (is assign_sign)) (ended_read x) (ended_read y) ended_agrees))))
-          (mapped_agrees InstanceStatement _ _ instance_agrees)))))
+deeper_binders (suc d) = binder_keeps Agree Free agreement (expr_read (suc d)) (expr_read (suc (suc d))) (deeper_expressions (suc d)).0
 
 -- what begins no statement is refused in the same way at each depth
 module _ (e : Reads Term) (a : Reads ArgTerm) (n : Reads BinderTerm) (b : Reads BodyTerm) where
@@ -329,12 +235,13 @@ deeper_statements zero = (
 )
 deeper_statements (suc d) =
     let k = deeper_statements d in
-    let e = deeper_expressions d in (
-      statement_agrees (expr_read d) (expr_read (suc d)) (arg_in d (expr_read d)) (arg_in (suc d) (expr_read (suc d))) (binder_in d (expr_read d)) (binder_in (suc d) (expr_read (suc d))) (body_read d) (body_read (suc d)) e.0 e.2 (deeper_binders d) k.1
-          (statement_read d) (statement_read (suc d)) k.0 (expr_read (suc d)) (expr_read (suc (suc d))) (param_in d (expr_read d)) (param_in (suc d) (expr_read (suc d))) (deeper_expressions (suc d)).0 (deeper_params d),
-      body_agrees (expr_read d) (expr_read (suc d)) (arg_in d (expr_read d)) (arg_in (suc d) (expr_read (suc d))) (binder_in d (expr_read d)) (binder_in (suc d) (expr_read (suc d))) (body_read d) (body_read (suc d)) e.0 e.2 (deeper_binders d) k.1
-          (statement_read d) (statement_read (suc d)) k.0,
+    let e = deeper_expressions d in
+    let n = binders_keep Agree Free agreement (binder_in d (expr_read d)) (binder_in (suc d) (expr_read (suc d))) (deeper_binders d) in
+    let i = instance_keeps Agree Free agreement (expr_read d) (expr_read (suc d)) (arg_in d (expr_read d)) (arg_in (suc d) (expr_read (suc d))) (binders_read (binder_in d (expr_read d))) (binders_read (binder_in (suc d) (expr_read (suc d)))) (body_read d) (body_read (suc d)) e.0 e.2 n k.1 tt tt in
+    let s = many_agrees (among firsts_of_statement) (statement_read d) (statement_read (suc d)) k.0 in (
+      statement_keeps Agree Free agreement (statement_read d) (statement_read (suc d)) _ _ s i (expr_read (suc d)) (expr_read (suc (suc d))) (param_in d (expr_read d)) (param_in (suc d) (expr_read (suc d))) (body_read d) (body_read (suc d)) (deeper_expressions (suc d)).0 (deeper_params d) k.1 tt,
+      body_keeps Agree Free agreement (statement_read d) (statement_read (suc d)) _ _ s i,
     )
 
 pub program_agrees : (d : ℕ) → Agrees (program_read d) (program_read (suc d))
-program_agrees d = before_agrees end _ _ (many_agrees (among firsts_of_statement) (statement_read d) (statement_read (suc d)) (deeper_statements d).0)
+program_agrees d = both_agrees first_of _ _ (one (is end)) (one (is end)) (many_agrees (among firsts_of_statement) (statement_read d) (statement_read (suc d)) (deeper_statements d).0) (same (one (is end)))

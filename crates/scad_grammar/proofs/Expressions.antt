@@ -4,12 +4,12 @@ use Rattle.scad_lexer.specs.declared.token.Token.{Token}
 use Rattle.scad_lexer.specs.declared.token.TokenKind.TheVariants.{Numeral, Symbol}
 use Rattle.scad_lexer.specs.declared.token.Symbol.TheVariants.{CloseParenthesis, CloseBracket, Question, Colon, Or, And, Equal, Less, Plus, Times}
 use Rattle.scad_ast.specs.Terms.{Term, NumberTerm, TextTerm, TruthTerm, UndefTerm, ChildCountTerm, ArgTerm, NamedTerm, PositionalTerm}
-use Rattle.scad_grammar.specs.Classes.{numeral, text, true_word, false_word, undef_word, child_count, name, open_parenthesis_sign, close_parenthesis_sign, open_bracket_sign, close_bracket_sign, assign_sign, colon_sign, question_sign, minus_sign, plus_sign, times_sign, divide_sign, remainder_sign, less_sign, greater_sign, less_equal_sign, greater_equal_sign, equal_sign, not_equal_sign, and_sign, or_sign, among, is, class_of, number_of, bytes_of}
-use Rattle.scad_grammar.specs.Languages.{Language, One, Mapped, Both, EitherOf, Many, Maybe, Never, Before, Behind, second_of, pair_of}
-use Rattle.scad_grammar.specs.Grammar.{InParentheses, Arg, Args, Primary, Bracket, Suffix, Postfix, Unary, Chain, Choice, Expr, Operand, levels, chain_of, choice_of, unary_of, postfix_of, named_of, paren_of, bracket_of, link}
+use Rattle.scad_grammar.specs.Classes.{numeral, special, text, true_word, false_word, undef_word, child_count, name, open_parenthesis_sign, close_parenthesis_sign, open_bracket_sign, close_bracket_sign, assign_sign, colon_sign, question_sign, minus_sign, plus_sign, times_sign, divide_sign, remainder_sign, less_sign, greater_sign, less_equal_sign, greater_equal_sign, equal_sign, not_equal_sign, and_sign, or_sign, among, is, other_than, class_of, number_of, bytes_of}
+use Rattle.scad_grammar.specs.Languages.{Language, One, Mapped, Both, EitherOf, Nothing, Many, Maybe, Never, Before, Behind, second_of, pair_of}
+use Rattle.scad_grammar.specs.Grammar.{InParentheses, Arg, Args, Primary, Bracket, Suffix, Postfix, Unary, Chain, Choice, Detail, whole, outline, ArgsIn, Expr, Operand, levels, chain_of, choice_of, unary_of, postfix_of, named_of, paren_of, bracket_of, link}
 use Rattle.scad_grammar.specs.Reading.{after, starts, mapped, both, maybe}
 use Rattle.scad_grammar.specs.Faults.{Reads, one, left_out_of_expressions}
-use Rattle.scad_grammar.specs.Reads.{firsts_of_primary, firsts_of_expression, named, arg_read, primary_read, unary_read, chain_read, choice_read, arg_in, expr_read, operand_read}
+use Rattle.scad_grammar.specs.Reads.{firsts_of_primary, firsts_of_expression, named, arg_read, args_read, nested, primary_read, unary_read, chain_read, choice_read, arg_in, expr_read, operand_read}
 use Rattle.scad_grammar.proofs.Readers.{Begins, IsReader, Opens, both_reads, mapped_reads, same_reads, both_opens, either_opens, mapped_opens, one_opens}
 use Rattle.scad_grammar.proofs.Greedy.{or_first, maybe_ends, maybe_reads}
 use Rattle.scad_grammar.proofs.Ahead.{Two, Ahead, two, rest_of, ahead_reads}
@@ -17,7 +17,7 @@ use Rattle.scad_grammar.proofs.Tests.{OneReads, either_listed, one_at, then, apa
 use Rattle.scad_grammar.proofs.Nested.{nested_reads}
 use Rattle.scad_grammar.proofs.Levels.{goes_on, AllOne, chain_reads}
 use Rattle.scad_grammar.proofs.Operands.{token, here, operand_more, unary_signs, suffix_signs, suffix_opens, unary_reads}
-use Rattle.scad_grammar.proofs.Primary.{Some_of, colon_one, primary_opens, primary_reads}
+use Rattle.scad_grammar.proofs.Primary.{Some_of, colon_one, args_reads, primary_opens, primary_reads}
 
 -- what may go on an expression, and an argument
 abbrev pub chain_more : List ℕ
@@ -33,29 +33,34 @@ question_one : OneReads (is question_sign)
 question_one = one_at (is question_sign) (token (Symbol Question), refl)
 
 -- what begins an operand, a chain, an expression, an argument
-pub unary_opens : (E U : Language Term) → Opens (Unary E U) (among firsts_of_expression)
-unary_opens E U =
-    either_opens (Both unary_of (One (among unary_signs)) U) (Postfix E) (among firsts_of_expression)
+pub unary_opens : (E : Language Term) (As : Language (List ArgTerm)) (U : Language Term) → Opens (Unary E As U) (among firsts_of_expression)
+unary_opens E As U =
+    either_opens (Both unary_of (One (among unary_signs)) U) (Postfix E As) (among firsts_of_expression)
     (λ x s rest h. next_within unary_signs firsts_of_expression refl (s ++ rest) (both_opens unary_of (One (among unary_signs)) U (among unary_signs) (one_opens (among unary_signs)) x s rest h))
-    (λ x s rest h. next_within firsts_of_primary firsts_of_expression refl (s ++ rest) (both_opens postfix_of (Primary E) (Many (Suffix E)) (among firsts_of_primary) (primary_opens E) x s rest h))
+    (λ x s rest h. next_within firsts_of_primary firsts_of_expression refl (s ++ rest) (both_opens postfix_of (Primary E As) (Many (Suffix E)) (among firsts_of_primary) (primary_opens E As) x s rest h))
 
 chain_opens : (levels : List (List ℕ)) (X : Language Term) (test : Token → Bool) → Opens X test → Opens (Chain levels X) test
 chain_opens [] X test o = o
 chain_opens (ops ∷ levels) X test o = both_opens chain_of (Chain levels X) (Many (Both link (One (among ops)) (Chain levels X))) test (chain_opens levels X test o)
 
-pub choice_opens : (E U : Language Term) → Opens (Choice E U) (among firsts_of_expression)
-choice_opens E U = both_opens choice_of (Chain levels (Unary E U)) _ (among firsts_of_expression) (chain_opens levels (Unary E U) (among firsts_of_expression) (unary_opens E U))
+pub choice_opens : (E : Language Term) (As : Language (List ArgTerm)) (U : Language Term) → Opens (Choice E As U) (among firsts_of_expression)
+choice_opens E As U = both_opens choice_of (Chain levels (Unary E As U)) _ (among firsts_of_expression) (chain_opens levels (Unary E As U) (among firsts_of_expression) (unary_opens E As U))
 
-pub expr_opens : (d : ℕ) → Opens (Expr d) (among firsts_of_expression)
+-- the same, or a gap
+abbrev pub open_firsts_of_expression : List ℕ
+open_firsts_of_expression = special ∷ firsts_of_expression
+
+pub expr_opens : (g : Detail) (d : ℕ) → Opens (Expr g d) (among open_firsts_of_expression)
 unfolding Expr Operand
-expr_opens zero x s rest h = elim h [ ]
-expr_opens (suc d) x s rest h = choice_opens (Expr d) (Operand d) x s rest h
+expr_opens whole zero x s rest h = elim h [ ]
+expr_opens outline zero x s rest h = next_within (special ∷ []) open_firsts_of_expression refl (s ++ rest) (mapped_opens (λ t. UndefTerm t.place) (One (is special)) (is special) (one_opens (is special)) x s rest h)
+expr_opens g (suc d) x s rest h = next_within firsts_of_expression open_firsts_of_expression refl (s ++ rest) (choice_opens (Expr g d) (ArgsIn d (Expr g d)) (Operand g d) x s rest h)
 
-pub arg_opens : (E : Language Term) → Opens E (among firsts_of_expression) → Opens (Arg E) (among firsts_of_expression)
+pub arg_opens : (E : Language Term) → Opens E (among open_firsts_of_expression) → Opens (Arg E) (among open_firsts_of_expression)
 arg_opens E o =
-    either_opens _ (Mapped PositionalTerm E) (among firsts_of_expression)
-    (λ x s rest h. next_within (name ∷ []) firsts_of_expression refl (s ++ rest) (both_opens _ (One (is name)) (Behind (is assign_sign) E) (is name) (one_opens (is name)) x s rest h))
-    (mapped_opens PositionalTerm E (among firsts_of_expression) o)
+    either_opens _ (Mapped PositionalTerm E) (among open_firsts_of_expression)
+    (λ x s rest h. next_within (name ∷ []) open_firsts_of_expression refl (s ++ rest) (both_opens _ (One (is name)) (Behind (is assign_sign) E) (is name) (one_opens (is name)) x s rest h))
+    (mapped_opens PositionalTerm E (among open_firsts_of_expression) o)
 
 -- a numeral alone
 abbrev pub zero_token : Token
@@ -65,24 +70,24 @@ abbrev pub zero_term : Term
 zero_term = NumberTerm here 0
 
 -- a primary alone
-alone_unary : (E U : Language Term) (x : Term) (s : List Token) → Primary E x s → Unary E U x s
-alone_unary E U x s h = inr (x, [], s, [], h, refl, refl, sym (append-nil s))
+alone_unary : (E : Language Term) (As : Language (List ArgTerm)) (U : Language Term) (x : Term) (s : List Token) → Primary E As x s → Unary E As U x s
+alone_unary E As U x s h = inr (x, [], s, [], h, refl, refl, sym (append-nil s))
 
 alone_chain : (levels : List (List ℕ)) (X : Language Term) (x : Term) (s : List Token) → X x s → Chain levels X x s
 alone_chain [] X x s h = h
 alone_chain (ops ∷ levels) X x s h = (x, [], s, [], alone_chain levels X x s h, refl, refl, sym (append-nil s))
 
-alone_choice : (E U : Language Term) (x : Term) (s : List Token) → Unary E U x s → Choice E U x s
-alone_choice E U x s h = (x, None, s, [], alone_chain levels (Unary E U) x s h, refl, refl, sym (append-nil s))
+alone_choice : (E : Language Term) (As : Language (List ArgTerm)) (U : Language Term) (x : Term) (s : List Token) → Unary E As U x s → Choice E As U x s
+alone_choice E As U x s h = (x, None, s, [], alone_chain levels (Unary E As U) x s h, refl, refl, sym (append-nil s))
 
-zero_unary : (E U : Language Term) → Unary E U zero_term (zero_token ∷ [])
-zero_unary E U = alone_unary E U zero_term (zero_token ∷ []) (inl (zero_token, (refl, refl), refl))
+zero_unary : (E : Language Term) (As : Language (List ArgTerm)) (U : Language Term) → Unary E As U zero_term (zero_token ∷ [])
+zero_unary E As U = alone_unary E As U zero_term (zero_token ∷ []) (inl (zero_token, (refl, refl), refl))
 
-zero_choice : (E U : Language Term) → Choice E U zero_term (zero_token ∷ [])
-zero_choice E U = alone_choice E U zero_term (zero_token ∷ []) (zero_unary E U)
+zero_choice : (E : Language Term) (As : Language (List ArgTerm)) (U : Language Term) → Choice E As U zero_term (zero_token ∷ [])
+zero_choice E As U = alone_choice E As U zero_term (zero_token ∷ []) (zero_unary E As U)
 
 -- no expression begins with a name and an `=`
-abbrev Unlike : {A : Type 0} → Language A → Type 0
+abbrev pub Unlike : {A : Type 0} → Language A → Type 0
 Unlike {A} L = (x : A) (s rest : List Token) → L x s → starts (is assign_sign) rest ≡ false → two (is name) (is assign_sign) (s ++ rest) ≡ false
 
 pub two_not : (l : List Token) → starts (is name) l ≡ false → two (is name) (is assign_sign) l ≡ false
@@ -122,24 +127,24 @@ maybe_keeps L cs a o (Some y) s rest h e = next_apart cs (assign_sign ∷ []) a 
 name_unlike : Unlike (One (is name))
 name_unlike t s rest h e = ap (λ l. two (is name) (is assign_sign) (l ++ rest)) h.1 ∙ two_name t rest e
 
-primary_unlike : (E : Language Term) → Unlike (Primary E)
-primary_unlike E =
+primary_unlike : (E : Language Term) (As : Language (List ArgTerm)) → Unlike (Primary E As)
+primary_unlike E As =
     either_unlike _ _ (single_unlike numeral (λ t. NumberTerm t.place (number_of t.kind)) refl)
     (either_unlike _ _ (single_unlike text (λ t. TextTerm t.place (bytes_of t.kind)) refl)
     (either_unlike _ _ (single_unlike true_word (λ t. TruthTerm t.place true) refl)
     (either_unlike _ _ (single_unlike false_word (λ t. TruthTerm t.place false) refl)
     (either_unlike _ _ (single_unlike undef_word (λ t. UndefTerm t.place) refl)
     (either_unlike _ _ (single_unlike child_count (λ t. ChildCountTerm t.place) refl)
-    (either_unlike _ _ (both_unlike named_of (One (is name)) (Maybe (InParentheses (Args E))) name_unlike
-    (maybe_keeps (InParentheses (Args E)) (open_parenthesis_sign ∷ []) refl (both_opens second_of (One (is open_parenthesis_sign)) _ (is open_parenthesis_sign) (one_opens (is open_parenthesis_sign)))))
+    (either_unlike _ _ (both_unlike named_of (One (is name)) (Maybe (InParentheses As)) name_unlike
+    (maybe_keeps (InParentheses As) (open_parenthesis_sign ∷ []) refl (both_opens second_of (One (is open_parenthesis_sign)) _ (is open_parenthesis_sign) (one_opens (is open_parenthesis_sign)))))
     (either_unlike _ _ (opens_unlike _ (open_parenthesis_sign ∷ []) refl (both_opens paren_of (One (is open_parenthesis_sign)) (Before E (is close_parenthesis_sign)) (is open_parenthesis_sign) (one_opens (is open_parenthesis_sign))))
     (opens_unlike (Bracket E) (open_bracket_sign ∷ []) refl (both_opens bracket_of (One (is open_bracket_sign)) _ (is open_bracket_sign) (one_opens (is open_bracket_sign)))))))))))
 
-unary_unlike : (E U : Language Term) → Unlike (Unary E U)
-unary_unlike E U =
-    either_unlike (Both unary_of (One (among unary_signs)) U) (Postfix E)
+unary_unlike : (E : Language Term) (As : Language (List ArgTerm)) (U : Language Term) → Unlike (Unary E As U)
+unary_unlike E As U =
+    either_unlike (Both unary_of (One (among unary_signs)) U) (Postfix E As)
     (opens_unlike _ unary_signs refl (both_opens unary_of (One (among unary_signs)) U (among unary_signs) (one_opens (among unary_signs))))
-    (both_unlike postfix_of (Primary E) (Many (Suffix E)) (primary_unlike E) (many_keeps (Suffix E) suffix_signs refl (suffix_opens E)))
+    (both_unlike postfix_of (Primary E As) (Many (Suffix E)) (primary_unlike E As) (many_keeps (Suffix E) suffix_signs refl (suffix_opens E)))
 
 -- no operator of these levels is an `=`
 abbrev no_assign : List (List ℕ) → Bool
@@ -164,8 +169,8 @@ Sides E = Both pair_of (One (is question_sign)) (Both pair_of E (Behind (is colo
 sides_open : (E : Language Term) → Opens (Sides E) (is question_sign)
 sides_open E = both_opens pair_of (One (is question_sign)) _ (is question_sign) (one_opens (is question_sign))
 
-choice_unlike : (E U : Language Term) → Unlike (Choice E U)
-choice_unlike E U = both_unlike choice_of (Chain levels (Unary E U)) (Maybe (Sides E)) (chain_unlike levels (Unary E U) refl (unary_unlike E U)) (maybe_keeps (Sides E) (question_sign ∷ []) refl (sides_open E))
+pub choice_unlike : (E : Language Term) (As : Language (List ArgTerm)) (U : Language Term) → Unlike (Choice E As U)
+choice_unlike E As U = both_unlike choice_of (Chain levels (Unary E As U)) (Maybe (Sides E)) (chain_unlike levels (Unary E As U) refl (unary_unlike E As U)) (maybe_keeps (Sides E) (question_sign ∷ []) refl (sides_open E))
 
 -- two tokens and something are a token, and something behind a token
 module _ {A C : Type 0} (f : Token → A → C) (a b : Token → Bool) (L : Language A) where
@@ -216,17 +221,23 @@ levels_one = (
   ),
 )
 
+abbrev closes : List ℕ
+closes = close_parenthesis_sign ∷ []
+
+-- arguments over an expression
+pub args_over : (a : Reads ArgTerm) (E F : Language Term) → IsReader a (Arg E) (Arg F) (λ x. among arg_more) → Opens E (among open_firsts_of_expression) → IsReader (args_read a) (Args E) (Args F) (λ x. other_than closes)
+args_over a E F ia oe = args_reads a E F arg_more ia (λ x s rest h. next_other open_firsts_of_expression closes refl (s ++ rest) (arg_opens E oe x s rest h)) refl refl
+
 -- an expression over the expressions, arguments and operands one deeper
-module _ (e : Reads Term) (a : Reads ArgTerm) (u : Reads Term) (E F U V : Language Term)
-    (ie : IsReader e E F (λ x. among expression_more)) (ia : IsReader a (Arg E) (Arg F) (λ x. among arg_more)) (iu : IsReader u U V (λ x. among operand_more))
-    (oe : Opens E (among firsts_of_expression)) (some_e : Some_of F) (some_u : Some_of V) where
-  operand_reads : IsReader (unary_read e u (primary_read e a)) (Unary E U) (Unary F V) (λ x. among operand_more)
+module _ (e : Reads Term) (a : Reads ArgTerm) (u : Reads Term) (E F U V : Language Term) (As Aw : Language (List ArgTerm))
+    (ie : IsReader e E F (λ x. among expression_more)) (ias : IsReader (args_read a) As Aw (λ x. other_than closes)) (iu : IsReader u U V (λ x. among operand_more))
+    (oe : Opens E (among open_firsts_of_expression)) (some_e : Some_of F) (some_as : Some_of Aw) (some_u : Some_of V) where
+  pub operand_reads : IsReader (unary_read e u (primary_read e a)) (Unary E As U) (Unary F Aw V) (λ x. among operand_more)
   operand_reads =
       unary_reads e E F expression_more ie (λ t s rest h. next_apart (close_bracket_sign ∷ []) expression_more refl (s ++ rest) (one_opens (is close_bracket_sign) t s rest h)) some_e
-      (primary_read e a) (Primary E) (Primary F)
-      (primary_reads e a E F expression_more arg_more ie ia (λ x s rest h. next_other firsts_of_expression (close_bracket_sign ∷ []) refl (s ++ rest) (oe x s rest h))
-      (λ x s rest h. next_other firsts_of_expression (close_parenthesis_sign ∷ []) refl (s ++ rest) (arg_opens E oe x s rest h)) some_e refl refl refl refl refl refl)
-      u U V iu some_u (primary_opens E)
+      (primary_read e a) (Primary E As) (Primary F Aw)
+      (primary_reads e a E F As Aw expression_more ie ias (λ x s rest h. next_other open_firsts_of_expression (close_bracket_sign ∷ []) refl (s ++ rest) (oe x s rest h)) some_e some_as refl refl refl refl)
+      u U V iu some_u (primary_opens E As)
 
   behind_colon : IsReader (both second_of (one (is colon_sign)) e) (Behind (is colon_sign) E) (Behind (is colon_sign) F) (λ x. among expression_more)
   behind_colon = then e E F (is colon_sign) (λ x. among expression_more) (λ x. among expression_more) second_of colon_one ie some_e (λ t y rest h. h)
@@ -247,25 +258,25 @@ module _ (e : Reads Term) (a : Reads ArgTerm) (u : Reads Term) (E F U V : Langua
   sides_follow x None s rest h k = ap (λ l. starts (among chain_more) (l ++ rest)) h ∙ next_less chain_more expression_more refl rest k
   sides_follow x (Some y) s rest h k = next_apart (question_sign ∷ []) chain_more refl (s ++ rest) (sides_open E y s rest h)
 
-  choice_read_reads : IsReader (choice_read e u (primary_read e a)) (Choice E U) (Choice F V) (λ x. among expression_more)
+  pub choice_read_reads : IsReader (choice_read e u (primary_read e a)) (Choice E As U) (Choice F Aw V) (λ x. among expression_more)
   choice_read_reads =
       both_reads choice_of (chain_read levels (unary_read e u (primary_read e a))) (maybe (is question_sign) (both pair_of (one (is question_sign)) (both pair_of e (both second_of (one (is colon_sign)) e))))
-      (Chain levels (Unary E U)) (Chain levels (Unary F V)) (Maybe (Sides E)) (Maybe (Sides F)) (λ x. among chain_more) (or_first (is question_sign) (λ x. among expression_more)) (λ x. among expression_more)
-      (chain_reads levels operand_more (unary_read e u (primary_read e a)) (Unary E U) (Unary F V) refl levels_one operand_reads (zero_token ∷ [], zero_term, zero_unary F V))
+      (Chain levels (Unary E As U)) (Chain levels (Unary F Aw V)) (Maybe (Sides E)) (Maybe (Sides F)) (λ x. among chain_more) (or_first (is question_sign) (λ x. among expression_more)) (λ x. among expression_more)
+      (chain_reads levels operand_more (unary_read e u (primary_read e a)) (Unary E As U) (Unary F Aw V) refl levels_one operand_reads (zero_token ∷ [], zero_term, zero_unary F Aw V))
       (maybe_reads (is question_sign) (both pair_of (one (is question_sign)) (both pair_of e (both second_of (one (is colon_sign)) e))) (Sides E) (Sides F) (λ x. among expression_more) sides_reads (sides_open E))
       ([], None, refl)
       sides_follow
       (λ x y rest k. maybe_ends (is question_sign) (λ x. among expression_more) y rest (next_less (question_sign ∷ []) expression_more refl rest k) (λ y. k))
 
 -- a token that may begin an expression begins one, where a numeral stands one deeper
-module _ (E U : Language Term) (e : E zero_term (zero_token ∷ [])) (u : U zero_term (zero_token ∷ [])) where
+module _ (E : Language Term) (As : Language (List ArgTerm)) (U : Language Term) (e : E zero_term (zero_token ∷ [])) (u : U zero_term (zero_token ∷ [])) where
   abbrev close : Token
   close = token (Symbol CloseParenthesis)
 
   abbrev close_bracket : Token
   close_bracket = token (Symbol CloseBracket)
 
-  begins_primary : (t : Token) → among firsts_of_primary t ≡ true → Begins (Primary E) (t ∷ [])
+  begins_primary : (t : Token) → among firsts_of_primary t ≡ true → Begins (Primary E As) (t ∷ [])
   begins_primary t h =
       elim (either_listed (numeral ∷ []) (text ∷ true_word ∷ false_word ∷ undef_word ∷ child_count ∷ name ∷ open_parenthesis_sign ∷ open_bracket_sign ∷ []) (class_of t.kind) h) [
         | inl a ↦ ([], NumberTerm t.place (number_of t.kind), inl (t, (a, refl), refl))
@@ -293,15 +304,15 @@ module _ (E U : Language Term) (e : E zero_term (zero_token ∷ [])) (u : U zero
         ]
       ]
 
-  begins_unary : (t : Token) → among firsts_of_expression t ≡ true → Begins (Unary E U) (t ∷ [])
+  begins_unary : (t : Token) → among firsts_of_expression t ≡ true → Begins (Unary E As U) (t ∷ [])
   begins_unary t h =
       elim (either_listed unary_signs firsts_of_primary (class_of t.kind) h) [
         | inl a ↦ (zero_token ∷ [], unary_of t zero_term, inl (t, zero_term, t ∷ [], zero_token ∷ [], (a, refl), u, refl, refl))
-        | inr a ↦ let b = begins_primary t a in (b.0, b.1, alone_unary E U b.1 (t ∷ b.0) b.2)
+        | inr a ↦ let b = begins_primary t a in (b.0, b.1, alone_unary E As U b.1 (t ∷ b.0) b.2)
       ]
 
-  begins_choice : (t : Token) → among firsts_of_expression t ≡ true → Begins (Choice E U) (t ∷ [])
-  begins_choice t h = let b = begins_unary t h in (b.0, b.1, alone_choice E U b.1 (t ∷ b.0) b.2)
+  begins_choice : (t : Token) → among firsts_of_expression t ≡ true → Begins (Choice E As U) (t ∷ [])
+  begins_choice t h = let b = begins_unary t h in (b.0, b.1, alone_choice E As U b.1 (t ∷ b.0) b.2)
 
 no_arg : (c : ArgTerm) (s : List Token) → Arg Never c s → ⊥
 no_arg c s (inl h) = elim h.5.5 [ ]
@@ -310,26 +321,50 @@ no_arg c s (inr h) = elim h.1 [ ]
 begins_arg : (F : Language Term) (l : List Token) → Begins F l → Begins (Arg F) l
 begins_arg F l b = (b.0, PositionalTerm b.1, inr (b.1, b.2, refl))
 
-alone_name : (E U : Language Term) (t : Token) → is name t ≡ true → (x : Term) × Choice E U x (t ∷ [])
-alone_name E U t h = (named_of t None, alone_choice E U (named_of t None) (t ∷ []) (alone_unary E U (named_of t None) (t ∷ []) (inr (inr (inr (inr (inr (inr (inl (t, None, t ∷ [], [], (h, refl), refl, refl, refl))))))))))
+pub alone_name : (E : Language Term) (As : Language (List ArgTerm)) (U : Language Term) (t : Token) → is name t ≡ true → (x : Term) × Choice E As U x (t ∷ [])
+alone_name E As U t h = (named_of t None, alone_choice E As U (named_of t None) (t ∷ []) (alone_unary E As U (named_of t None) (t ∷ []) (inr (inr (inr (inr (inr (inr (inl (t, None, t ∷ [], [], (h, refl), refl, refl, refl))))))))))
 
-pub some_expr : (d : ℕ) → Some_of (Expr (suc d))
+abbrev pub ExprIn : ℕ → Language Term
+ExprIn = Expr whole
+
+abbrev pub ArgsAt : Detail → ℕ → Language (List ArgTerm)
+ArgsAt g d = ArgsIn d (Expr g d)
+
+pub some_expr : (g : Detail) (d : ℕ) → Some_of (Expr g (suc d))
 unfolding Expr Operand
-some_expr d = (zero_token ∷ [], zero_term, zero_choice (Expr d) (Operand d))
+some_expr g d = (zero_token ∷ [], zero_term, zero_choice (Expr g d) (ArgsAt g d) (Operand g d))
+
+pub some_operand : (g : Detail) (d : ℕ) → Some_of (Operand g (suc d))
+unfolding Expr Operand
+some_operand g d = (zero_token ∷ [], zero_term, zero_unary (Expr g d) (ArgsAt g d) (Operand g d))
+
+pub some_args : (g : Detail) (d : ℕ) → Some_of (ArgsAt g d)
+some_args g zero = ([], [], (refl, refl))
+some_args g (suc d) = ([], [], inr (refl, refl))
+
+no_args : (F : Language Term) → IsReader (args_read (nested firsts_of_expression left_out_of_expressions)) (Args Never) (Args F) (λ x. other_than closes) → IsReader (args_read (nested firsts_of_expression left_out_of_expressions)) (Nothing []) (Args F) (λ x. other_than closes)
+no_args F i = same_reads (args_read (nested firsts_of_expression left_out_of_expressions)) (Args Never) (Args F) (Nothing []) (Args F) (λ x. other_than closes) i none (λ x s h. inr h) (λ x s h. h)
+  where
+    none : (x : List ArgTerm) (s : List Token) → Args Never x s → Nothing [] x s
+    none x s (inl h) = elim (no_arg h.4.0 h.4.2 h.4.4) [ ]
+    none x s (inr h) = h
 
 -- What is read at a depth is in the grammar of that depth, and what is taken before a fault begins something that is at most two deeper.
-pub depth_reads : (d : ℕ) → IsReader (expr_read d) (Expr d) (Expr (suc (suc d))) (λ x. among expression_more) × IsReader (operand_read d) (Operand d) (Operand (suc (suc d))) (λ x. among operand_more) × IsReader (arg_in d (expr_read d)) (Arg (Expr d)) (Arg (Expr (suc (suc d)))) (λ x. among arg_more)
+pub depth_reads : (d : ℕ) → IsReader (expr_read d) (ExprIn d) (ExprIn (suc (suc d))) (λ x. among expression_more) × IsReader (operand_read d) (Operand whole d) (Operand whole (suc (suc d))) (λ x. among operand_more) × IsReader (args_read (arg_in d (expr_read d))) (ArgsAt whole d) (ArgsAt whole (suc (suc d))) (λ x. other_than closes)
 unfolding Expr Operand expr_read operand_read
-depth_reads zero = (
-  nested_reads firsts_of_expression left_out_of_expressions Never (Expr 2) (λ x. among expression_more) (λ x s h. h) (begins_choice (Expr 1) (Operand 1) (zero_choice Never Never) (zero_unary Never Never)) (zero_token ∷ [], zero_term, zero_choice (Expr 1) (Operand 1)),
-  nested_reads firsts_of_expression left_out_of_expressions Never (Operand 2) (λ x. among operand_more) (λ x s h. h) (begins_unary (Expr 1) (Operand 1) (zero_choice Never Never) (zero_unary Never Never)) (zero_token ∷ [], zero_term, zero_unary (Expr 1) (Operand 1)),
-  nested_reads firsts_of_expression left_out_of_expressions (Arg Never) (Arg (Expr 2)) (λ x. among arg_more) no_arg (λ t h. begins_arg (Expr 2) (t ∷ []) (begins_choice (Expr 1) (Operand 1) (zero_choice Never Never) (zero_unary Never Never) t h)) (begins_arg (Expr 2) [] (zero_token ∷ [], zero_term, zero_choice (Expr 1) (Operand 1))),
-)
+depth_reads zero =
+    let begun = begins_choice (ExprIn 1) (ArgsAt whole 1) (Operand whole 1) (zero_choice Never (Nothing []) Never) (zero_unary Never (Nothing []) Never) in (
+      nested_reads firsts_of_expression left_out_of_expressions Never (ExprIn 2) (λ x. among expression_more) (λ x s h. h) begun (some_expr whole 1),
+      nested_reads firsts_of_expression left_out_of_expressions Never (Operand whole 2) (λ x. among operand_more) (λ x s h. h) (begins_unary (ExprIn 1) (ArgsAt whole 1) (Operand whole 1) (zero_choice Never (Nothing []) Never) (zero_unary Never (Nothing []) Never)) (some_operand whole 1),
+      no_args (ExprIn 2)
+          (args_over (nested firsts_of_expression left_out_of_expressions) Never (ExprIn 2)
+          (nested_reads firsts_of_expression left_out_of_expressions (Arg Never) (Arg (ExprIn 2)) (λ x. among arg_more) no_arg (λ t h. begins_arg (ExprIn 2) (t ∷ []) (begun t h)) (begins_arg (ExprIn 2) [] (some_expr whole 1))) (λ x s rest h. elim h [ ])),
+    )
 depth_reads (suc d) =
     let below = depth_reads d in
-    let some : Some_of (Expr (suc (suc d))) = (zero_token ∷ [], zero_term, zero_choice (Expr (suc d)) (Operand (suc d))) in
-    let one = choice_read_reads (expr_read d) (arg_in d (expr_read d)) (operand_read d) (Expr d) (Expr (suc (suc d))) (Operand d) (Operand (suc (suc d))) below.0 below.2 below.1 (expr_opens d) some (zero_token ∷ [], zero_term, zero_unary (Expr (suc d)) (Operand (suc d))) in (
+    let one = choice_read_reads (expr_read d) (arg_in d (expr_read d)) (operand_read d) (ExprIn d) (ExprIn (suc (suc d))) (Operand whole d) (Operand whole (suc (suc d))) (ArgsAt whole d) (ArgsAt whole (suc (suc d))) below.0 below.2 below.1 (expr_opens whole d) (some_expr whole (suc d)) (some_args whole (suc (suc d))) (some_operand whole (suc d)) in (
       one,
-      operand_reads (expr_read d) (arg_in d (expr_read d)) (operand_read d) (Expr d) (Expr (suc (suc d))) (Operand d) (Operand (suc (suc d))) below.0 below.2 below.1 (expr_opens d) some (zero_token ∷ [], zero_term, zero_unary (Expr (suc d)) (Operand (suc d))),
-      arg_reads (expr_read (suc d)) (Expr (suc d)) (Expr (suc (suc (suc d)))) one (alone_name (Expr d) (Operand d)) (choice_unlike (Expr d) (Operand d)),
+      operand_reads (expr_read d) (arg_in d (expr_read d)) (operand_read d) (ExprIn d) (ExprIn (suc (suc d))) (Operand whole d) (Operand whole (suc (suc d))) (ArgsAt whole d) (ArgsAt whole (suc (suc d))) below.0 below.2 below.1 (expr_opens whole d) (some_expr whole (suc d)) (some_args whole (suc (suc d))) (some_operand whole (suc d)),
+      args_over (arg_read (expr_read (suc d))) (ExprIn (suc d)) (ExprIn (suc (suc (suc d))))
+          (arg_reads (expr_read (suc d)) (ExprIn (suc d)) (ExprIn (suc (suc (suc d)))) one (alone_name (ExprIn d) (ArgsAt whole d) (Operand whole d)) (choice_unlike (ExprIn d) (ArgsAt whole d) (Operand whole d))) (expr_opens whole (suc d)),
     )

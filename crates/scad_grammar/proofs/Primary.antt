@@ -83,8 +83,8 @@ true_firsts = true_word ∷ false_firsts
 abbrev text_firsts : List ℕ
 text_firsts = text ∷ true_firsts
 
-abbrev NameForm : Language Term → Language Term
-NameForm E = Both named_of (One (is name)) (Maybe (InParentheses (Args E)))
+abbrev NameForm : Language (List ArgTerm) → Language Term
+NameForm As = Both named_of (One (is name)) (Maybe (InParentheses As))
 
 abbrev ParenForm : Language Term → Language Term
 ParenForm E = Both paren_of (One (is open_parenthesis_sign)) (Before E (is close_parenthesis_sign))
@@ -93,23 +93,23 @@ ParenForm E = Both paren_of (One (is open_parenthesis_sign)) (Before E (is close
 abbrev FromParen : Language Term → Language Term
 FromParen E = EitherOf (ParenForm E) (Bracket E)
 
-abbrev FromName : Language Term → Language Term
-FromName E = EitherOf (NameForm E) (FromParen E)
+abbrev FromName : Language Term → Language (List ArgTerm) → Language Term
+FromName E As = EitherOf (NameForm As) (FromParen E)
 
-abbrev FromChild : Language Term → Language Term
-FromChild E = EitherOf (Mapped (λ t. ChildCountTerm t.place) (One (is child_count))) (FromName E)
+abbrev FromChild : Language Term → Language (List ArgTerm) → Language Term
+FromChild E As = EitherOf (Mapped (λ t. ChildCountTerm t.place) (One (is child_count))) (FromName E As)
 
-abbrev FromUndef : Language Term → Language Term
-FromUndef E = EitherOf (Mapped (λ t. UndefTerm t.place) (One (is undef_word))) (FromChild E)
+abbrev FromUndef : Language Term → Language (List ArgTerm) → Language Term
+FromUndef E As = EitherOf (Mapped (λ t. UndefTerm t.place) (One (is undef_word))) (FromChild E As)
 
-abbrev FromFalse : Language Term → Language Term
-FromFalse E = EitherOf (Mapped (λ t. TruthTerm t.place false) (One (is false_word))) (FromUndef E)
+abbrev FromFalse : Language Term → Language (List ArgTerm) → Language Term
+FromFalse E As = EitherOf (Mapped (λ t. TruthTerm t.place false) (One (is false_word))) (FromUndef E As)
 
-abbrev FromTrue : Language Term → Language Term
-FromTrue E = EitherOf (Mapped (λ t. TruthTerm t.place true) (One (is true_word))) (FromFalse E)
+abbrev FromTrue : Language Term → Language (List ArgTerm) → Language Term
+FromTrue E As = EitherOf (Mapped (λ t. TruthTerm t.place true) (One (is true_word))) (FromFalse E As)
 
-abbrev FromText : Language Term → Language Term
-FromText E = EitherOf (Mapped (λ t. TextTerm t.place (bytes_of t.kind)) (One (is text))) (FromTrue E)
+abbrev FromText : Language Term → Language (List ArgTerm) → Language Term
+FromText E As = EitherOf (Mapped (λ t. TextTerm t.place (bytes_of t.kind)) (One (is text))) (FromTrue E As)
 
 bracket_opens : (E : Language Term) → Opens (Bracket E) (among bracket_firsts)
 bracket_opens E = both_opens bracket_of (One (is open_bracket_sign)) _ (is open_bracket_sign) (one_opens (is open_bracket_sign))
@@ -120,42 +120,36 @@ from_paren_opens E =
     (λ x s rest h. next_within (open_parenthesis_sign ∷ []) paren_firsts refl (s ++ rest) (both_opens paren_of (One (is open_parenthesis_sign)) _ (is open_parenthesis_sign) (one_opens (is open_parenthesis_sign)) x s rest h))
     (λ x s rest h. next_within bracket_firsts paren_firsts refl (s ++ rest) (bracket_opens E x s rest h))
 
-from_name_opens : (E : Language Term) → Opens (FromName E) (among name_firsts)
-from_name_opens E =
-    either_opens (NameForm E) (FromParen E) (among name_firsts)
+from_name_opens : (E : Language Term) (As : Language (List ArgTerm)) → Opens (FromName E As) (among name_firsts)
+from_name_opens E As =
+    either_opens (NameForm As) (FromParen E) (among name_firsts)
     (λ x s rest h. next_within (name ∷ []) name_firsts refl (s ++ rest) (both_opens named_of (One (is name)) _ (is name) (one_opens (is name)) x s rest h))
     (λ x s rest h. next_within paren_firsts name_firsts refl (s ++ rest) (from_paren_opens E x s rest h))
 
-from_child_opens : (E : Language Term) → Opens (FromChild E) (among child_firsts)
-from_child_opens E = single_opens child_count name_firsts child_firsts (λ t. ChildCountTerm t.place) (FromName E) refl refl (from_name_opens E)
+from_child_opens : (E : Language Term) (As : Language (List ArgTerm)) → Opens (FromChild E As) (among child_firsts)
+from_child_opens E As = single_opens child_count name_firsts child_firsts (λ t. ChildCountTerm t.place) (FromName E As) refl refl (from_name_opens E As)
 
-from_undef_opens : (E : Language Term) → Opens (FromUndef E) (among undef_firsts)
-from_undef_opens E = single_opens undef_word child_firsts undef_firsts (λ t. UndefTerm t.place) (FromChild E) refl refl (from_child_opens E)
+from_undef_opens : (E : Language Term) (As : Language (List ArgTerm)) → Opens (FromUndef E As) (among undef_firsts)
+from_undef_opens E As = single_opens undef_word child_firsts undef_firsts (λ t. UndefTerm t.place) (FromChild E As) refl refl (from_child_opens E As)
 
-from_false_opens : (E : Language Term) → Opens (FromFalse E) (among false_firsts)
-from_false_opens E = single_opens false_word undef_firsts false_firsts (λ t. TruthTerm t.place false) (FromUndef E) refl refl (from_undef_opens E)
+from_false_opens : (E : Language Term) (As : Language (List ArgTerm)) → Opens (FromFalse E As) (among false_firsts)
+from_false_opens E As = single_opens false_word undef_firsts false_firsts (λ t. TruthTerm t.place false) (FromUndef E As) refl refl (from_undef_opens E As)
 
-from_true_opens : (E : Language Term) → Opens (FromTrue E) (among true_firsts)
-from_true_opens E = single_opens true_word false_firsts true_firsts (λ t. TruthTerm t.place true) (FromFalse E) refl refl (from_false_opens E)
+from_true_opens : (E : Language Term) (As : Language (List ArgTerm)) → Opens (FromTrue E As) (among true_firsts)
+from_true_opens E As = single_opens true_word false_firsts true_firsts (λ t. TruthTerm t.place true) (FromFalse E As) refl refl (from_false_opens E As)
 
-from_text_opens : (E : Language Term) → Opens (FromText E) (among text_firsts)
-from_text_opens E = single_opens text true_firsts text_firsts (λ t. TextTerm t.place (bytes_of t.kind)) (FromTrue E) refl refl (from_true_opens E)
+from_text_opens : (E : Language Term) (As : Language (List ArgTerm)) → Opens (FromText E As) (among text_firsts)
+from_text_opens E As = single_opens text true_firsts text_firsts (λ t. TextTerm t.place (bytes_of t.kind)) (FromTrue E As) refl refl (from_true_opens E As)
 
-pub primary_opens : (E : Language Term) → Opens (Primary E) (among firsts_of_primary)
-primary_opens E = single_opens numeral text_firsts firsts_of_primary (λ t. NumberTerm t.place (number_of t.kind)) (FromText E) refl refl (from_text_opens E)
+pub primary_opens : (E : Language Term) (As : Language (List ArgTerm)) → Opens (Primary E As) (among firsts_of_primary)
+primary_opens E As = single_opens numeral text_firsts firsts_of_primary (λ t. NumberTerm t.place (number_of t.kind)) (FromText E As) refl refl (from_text_opens E As)
 
--- a list in which nothing stands
-abbrev pub some_args : (E : Language Term) → Some_of (Args E)
-some_args E = ([], [], inr (refl, refl))
+abbrev closes : List ℕ
+closes = close_parenthesis_sign ∷ []
 
--- E and F hold expressions one deeper; more may go on an expression, and more_arg an argument
-module _ (e : Reads Term) (a : Reads ArgTerm) (E F : Language Term) (more more_arg : List ℕ) (ie : IsReader e E F (λ x. among more)) (ia : IsReader a (Arg E) (Arg F) (λ x. among more_arg))
-    (oe : Opens E (other_than (close_bracket_sign ∷ []))) (oa : Opens (Arg E) (other_than (close_parenthesis_sign ∷ []))) (some_e : Some_of F)
-    (no_parenthesis : apart (close_parenthesis_sign ∷ []) more ≡ true) (no_bracket : apart (close_bracket_sign ∷ []) more ≡ true) (no_comma : apart (comma_sign ∷ []) more ≡ true) (no_colon : apart (colon_sign ∷ []) more ≡ true)
+-- a reads an argument, and more_arg may go on it
+module _ (a : Reads ArgTerm) (E F : Language Term) (more_arg : List ℕ) (ia : IsReader a (Arg E) (Arg F) (λ x. among more_arg)) (oa : Opens (Arg E) (other_than (close_parenthesis_sign ∷ [])))
     (no_parenthesis_arg : apart (close_parenthesis_sign ∷ []) more_arg ≡ true) (no_comma_arg : apart (comma_sign ∷ []) more_arg ≡ true) where
-  abbrev closes : List ℕ
-  closes = close_parenthesis_sign ∷ []
-
   pub args_reads : IsReader (args_read a) (Args E) (Args F) (λ x. other_than closes)
   args_reads =
       choice_reads (other_than closes) (both cons a (trailing (is comma_sign) (other_than closes) a)) (nothing []) (Separated (is comma_sign) (Arg E)) (Separated (is comma_sign) (Arg F)) (Nothing []) (Nothing []) (λ x. other_than closes)
@@ -165,6 +159,10 @@ module _ (e : Reads Term) (a : Reads ArgTerm) (E F : Language Term) (more more_a
       (both_opens first_of _ _ (other_than closes) (both_opens cons (Arg E) _ (other_than closes) oa))
       (λ x s rest h k. ap (λ l. starts (other_than closes) (l ++ rest)) h.1 ∙ k)
 
+-- E and F hold expressions one deeper, As and Aw arguments; more may go on an expression
+module _ (e : Reads Term) (a : Reads ArgTerm) (E F : Language Term) (As Aw : Language (List ArgTerm)) (more : List ℕ) (ie : IsReader e E F (λ x. among more)) (ias : IsReader (args_read a) As Aw (λ x. other_than closes))
+    (oe : Opens E (other_than (close_bracket_sign ∷ []))) (some_e : Some_of F) (some_as : Some_of Aw)
+    (no_parenthesis : apart (close_parenthesis_sign ∷ []) more ≡ true) (no_bracket : apart (close_bracket_sign ∷ []) more ≡ true) (no_comma : apart (comma_sign ∷ []) more ≡ true) (no_colon : apart (colon_sign ∷ []) more ≡ true) where
   range_reads : IsReader (range_read e) (Behind (is colon_sign) (Both range_of E (Maybe (Behind (is colon_sign) E)))) (Behind (is colon_sign) (Both range_of F (Maybe (Behind (is colon_sign) F)))) (λ x. other_than (close_bracket_sign ∷ []))
   range_reads =
       then (both range_of e (maybe (is colon_sign) (both second_of (one (is colon_sign)) e))) (Both range_of E (Maybe (Behind (is colon_sign) E))) (Both range_of F (Maybe (Behind (is colon_sign) F))) (is colon_sign) (λ x. other_than (close_bracket_sign ∷ [])) (λ x. other_than (close_bracket_sign ∷ [])) second_of colon_one
@@ -248,11 +246,11 @@ module _ (e : Reads Term) (a : Reads ArgTerm) (E F : Language Term) (more more_a
   abbrev paren_more : Term → Token → Bool
   paren_more x = among (open_parenthesis_sign ∷ [])
 
-  name_reads : IsReader (name_read a) (NameForm E) (NameForm F) paren_more
+  name_reads : IsReader (name_read a) (NameForm As) (NameForm Aw) paren_more
   name_reads =
-      then (maybe (is open_parenthesis_sign) (in_parentheses (args_read a))) (Maybe (InParentheses (Args E))) (Maybe (InParentheses (Args F))) (is name) (or_first (is open_parenthesis_sign) (λ x t. false)) paren_more named_of name_one
-      (maybe_reads (is open_parenthesis_sign) (in_parentheses (args_read a)) (InParentheses (Args E)) (InParentheses (Args F)) (λ x t. false)
-      (in_parentheses_reads (args_read a) (Args E) (Args F) (λ x. other_than closes) args_reads (some_args F) (λ x. close_ends closes))
+      then (maybe (is open_parenthesis_sign) (in_parentheses (args_read a))) (Maybe (InParentheses As)) (Maybe (InParentheses Aw)) (is name) (or_first (is open_parenthesis_sign) (λ x t. false)) paren_more named_of name_one
+      (maybe_reads (is open_parenthesis_sign) (in_parentheses (args_read a)) (InParentheses As) (InParentheses Aw) (λ x t. false)
+      (in_parentheses_reads (args_read a) As Aw (λ x. other_than closes) ias some_as (λ x. close_ends closes))
       (both_opens second_of (One (is open_parenthesis_sign)) _ (is open_parenthesis_sign) (one_opens (is open_parenthesis_sign))))
       ([], None, refl)
       (λ t y rest h. maybe_ends (is open_parenthesis_sign) (λ x t. false) y rest h (λ x. never_starts rest))
@@ -270,22 +268,22 @@ module _ (e : Reads Term) (a : Reads ArgTerm) (E F : Language Term) (more more_a
       (both_opens paren_of (One (is open_parenthesis_sign)) _ (is open_parenthesis_sign) (one_opens (is open_parenthesis_sign)))
       (λ x s rest h k. next_apart bracket_firsts (open_parenthesis_sign ∷ []) refl (s ++ rest) (bracket_opens E x s rest h))
 
-  from_name : IsReader (choice (is name) (name_read a) (choice (is open_parenthesis_sign) (paren_read e) (bracket_read e))) (FromName E) (FromName F) paren_more
+  from_name : IsReader (choice (is name) (name_read a) (choice (is open_parenthesis_sign) (paren_read e) (bracket_read e))) (FromName E As) (FromName F Aw) paren_more
   from_name =
-      choice_reads (is name) (name_read a) (choice (is open_parenthesis_sign) (paren_read e) (bracket_read e)) (NameForm E) (NameForm F) (FromParen E) (FromParen F) paren_more name_reads from_paren
+      choice_reads (is name) (name_read a) (choice (is open_parenthesis_sign) (paren_read e) (bracket_read e)) (NameForm As) (NameForm Aw) (FromParen E) (FromParen F) paren_more name_reads from_paren
       (both_opens named_of (One (is name)) _ (is name) (one_opens (is name)))
       (λ x s rest h k. next_apart paren_firsts (name ∷ []) refl (s ++ rest) (from_paren_opens E x s rest h))
 
-  pub primary_reads : IsReader (primary_read e a) (Primary E) (Primary F) paren_more
+  pub primary_reads : IsReader (primary_read e a) (Primary E As) (Primary F Aw) paren_more
   primary_reads =
-      single_reads numeral text_firsts (λ t. NumberTerm t.place (number_of t.kind)) (one_at (is numeral) (token (Numeral 0), refl)) _ (FromText E) (FromText F) paren_more
-      (single_reads text true_firsts (λ t. TextTerm t.place (bytes_of t.kind)) (one_at (is text) (token (Text []), refl)) _ (FromTrue E) (FromTrue F) paren_more
-      (single_reads true_word false_firsts (λ t. TruthTerm t.place true) (one_at (is true_word) (token (Reserved True), refl)) _ (FromFalse E) (FromFalse F) paren_more
-      (single_reads false_word undef_firsts (λ t. TruthTerm t.place false) (one_at (is false_word) (token (Reserved False), refl)) _ (FromUndef E) (FromUndef F) paren_more
-      (single_reads undef_word child_firsts (λ t. UndefTerm t.place) (one_at (is undef_word) (token (Reserved Undef), refl)) _ (FromChild E) (FromChild F) paren_more
-      (single_reads child_count name_firsts (λ t. ChildCountTerm t.place) (one_at (is child_count) (token (Special (codes "children")), refl)) _ (FromName E) (FromName F) paren_more from_name (from_name_opens E) refl)
-      (from_child_opens E) refl)
-      (from_undef_opens E) refl)
-      (from_false_opens E) refl)
-      (from_true_opens E) refl)
-      (from_text_opens E) refl
+      single_reads numeral text_firsts (λ t. NumberTerm t.place (number_of t.kind)) (one_at (is numeral) (token (Numeral 0), refl)) _ (FromText E As) (FromText F Aw) paren_more
+      (single_reads text true_firsts (λ t. TextTerm t.place (bytes_of t.kind)) (one_at (is text) (token (Text []), refl)) _ (FromTrue E As) (FromTrue F Aw) paren_more
+      (single_reads true_word false_firsts (λ t. TruthTerm t.place true) (one_at (is true_word) (token (Reserved True), refl)) _ (FromFalse E As) (FromFalse F Aw) paren_more
+      (single_reads false_word undef_firsts (λ t. TruthTerm t.place false) (one_at (is false_word) (token (Reserved False), refl)) _ (FromUndef E As) (FromUndef F Aw) paren_more
+      (single_reads undef_word child_firsts (λ t. UndefTerm t.place) (one_at (is undef_word) (token (Reserved Undef), refl)) _ (FromChild E As) (FromChild F Aw) paren_more
+      (single_reads child_count name_firsts (λ t. ChildCountTerm t.place) (one_at (is child_count) (token (Special (codes "children")), refl)) _ (FromName E As) (FromName F Aw) paren_more from_name (from_name_opens E As) refl)
+      (from_child_opens E As) refl)
+      (from_undef_opens E As) refl)
+      (from_false_opens E As) refl)
+      (from_true_opens E As) refl)
+      (from_text_opens E As) refl

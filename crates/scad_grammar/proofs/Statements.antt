@@ -4,16 +4,16 @@ use Rattle.scad_lexer.specs.declared.token.Token.{Token}
 use Rattle.scad_lexer.specs.declared.token.TokenKind.TheVariants.{Name, Reserved, Symbol, End}
 use Rattle.scad_lexer.specs.declared.token.Reserved.TheVariants.{Module, Function}
 use Rattle.scad_lexer.specs.declared.token.Symbol.TheVariants.{OpenParenthesis, CloseParenthesis, OpenBrace, CloseBrace, Semicolon, Assign}
-use Rattle.scad_ast.specs.Terms.{Term, ParamTerm, BinderTerm, StatementTerm, EmptyStatement, BlockStatement, AssignmentTerm, ModuleTerm, FunctionTerm, InstanceStatement, InstanceTerm, BodyTerm, EmptyBody, InstanceBody}
+use Rattle.scad_ast.specs.Terms.{Term, ArgTerm, ParamTerm, BinderTerm, StatementTerm, EmptyStatement, BlockStatement, AssignmentTerm, ModuleTerm, FunctionTerm, InstanceStatement, InstanceTerm, BodyTerm, EmptyBody, InstanceBody}
 use Rattle.scad_grammar.specs.Classes.{name, end, module_word, function_word, if_word, else_word, for_word, intersection_for_word, close_parenthesis_sign, open_brace_sign, close_brace_sign, semicolon_sign, assign_sign, among, is, other_than, class_of}
-use Rattle.scad_grammar.specs.Languages.{Language, One, Mapped, Both, EitherOf, Many, Never, Behind, Before, second_of, pair_of}
-use Rattle.scad_grammar.specs.Grammar.{binder_of, param_of, mark_of, if_of, loop_of, call_of, instance_of, Binders, InParentheses, Args, Param, Params, Binder, Core, Instance, BodyOf, StatementOf, Expr, Operand, ParamIn, Statement, Body, Program, block_of, bare_block_of, assignment_of, module_of, function_of, ends_open, instance_open}
+use Rattle.scad_grammar.specs.Languages.{Language, One, Mapped, Both, EitherOf, Nothing, Many, Never, Behind, Before, second_of, pair_of}
+use Rattle.scad_grammar.specs.Grammar.{binder_of, param_of, mark_of, if_of, loop_of, call_of, instance_of, Binders, InParentheses, Param, Params, Binder, Core, Instance, BodyOf, StatementOf, Detail, whole, BindersIn, ParamsIn, StatementsIn, InstanceIn, Expr, Statement, Body, Program, block_of, bare_block_of, assignment_of, module_of, function_of, ends_open, instance_open}
 use Rattle.scad_grammar.specs.Reading.{Read, starts, mapped, both, choice, ahead, many}
 use Rattle.scad_grammar.specs.declared.SyntaxFault.{SyntaxFault}
 use Rattle.scad_grammar.specs.Faults.{Reads, one, fault_of, left_out}
 use Rattle.scad_grammar.specs.declared.SyntaxFault.TheVariants.{Nested}
 use Rattle.scad_grammar.specs.Reads.{nested, head_of, in_parentheses, arg_in, expr_read}
-use Rattle.scad_grammar.specs.StatementReads.{mark_signs, loop_words, firsts_of_core, firsts_of_instance, firsts_of_body, firsts_of_statement, params_read, braces_read, body_over, module_read, ended_read, function_read, definition_read, assigned, statement_over, param_in, binder_in, instance_in, statement_read, body_read, program_read}
+use Rattle.scad_grammar.specs.StatementReads.{mark_signs, loop_words, firsts_of_core, firsts_of_instance, firsts_of_body, firsts_of_statement, param_read, binder_read, params_read, binders_read, braces_read, body_over, module_read, ended_read, function_read, definition_read, assigned, statement_over, param_in, binder_in, instance_in, statement_read, body_read, program_read}
 use Rattle.scad_grammar.proofs.Readers.{IsReader, Opens, Begins, both_reads, choice_reads, mapped_reads, same_reads, many_reads, both_opens, either_opens, mapped_opens, one_opens, never_starts}
 use Rattle.scad_grammar.proofs.Greedy.{Stops, both_stops, mapped_stops, choice_stops}
 use Rattle.scad_grammar.proofs.Ahead.{Ahead, two, rest_of, ahead_reads}
@@ -21,8 +21,8 @@ use Rattle.scad_grammar.proofs.Tests.{OneReads, either_listed, one_at, then, nex
 use Rattle.scad_grammar.proofs.Nested.{nested_reads}
 use Rattle.scad_grammar.proofs.Operands.{token, name_one}
 use Rattle.scad_grammar.proofs.Primary.{Some_of, some_before, before_reads, in_parentheses_reads}
-use Rattle.scad_grammar.proofs.Expressions.{expression_more, arg_more, two_to, two_from, two_not, depth_reads, expr_opens, some_expr}
-use Rattle.scad_grammar.proofs.Cores.{assign_one, else_open, body_more, instance_more, open_less, not_else, params_reads, some_params, param_reads, param_opens, binder_reads, some_headed, some_core, some_binders, instance_opens, instance_reads, instance_stops, instance_unlike, statement_moves, choice_second}
+use Rattle.scad_grammar.proofs.Expressions.{ExprIn, ArgsAt, expression_more, arg_more, two_to, two_from, two_not, depth_reads, some_expr, some_args}
+use Rattle.scad_grammar.proofs.Cores.{assign_one, else_open, body_more, instance_more, open_less, not_else, params_reads, param_reads, param_opens, binder_reads, binders_reads, some_headed, some_core, some_binders, instance_opens, instance_reads, instance_stops, instance_unlike, statement_moves, choice_second}
 
 abbrev closes : List ℕ
 closes = close_parenthesis_sign ∷ []
@@ -42,7 +42,7 @@ module_one = one_at (is module_word) (token (Reserved Module), refl)
 function_one : OneReads (is function_word)
 function_one = one_at (is function_word) (token (Reserved Function), refl)
 
-end_one : OneReads (is end)
+pub end_one : OneReads (is end)
 end_one = one_at (is end) (token End, refl)
 
 -- an `else` behind this statement would be its own
@@ -65,59 +65,60 @@ statements_more = else_word ∷ firsts_of_statement
 abbrev Ended : Language Term → Language Term
 Ended X = Before X (is semicolon_sign)
 
-abbrev Braces : Language StatementTerm → Language (List StatementTerm)
-Braces S = Before (Many S) (is close_brace_sign)
+abbrev Braces : Language (List StatementTerm) → Language (List StatementTerm)
+Braces Ss = Before Ss (is close_brace_sign)
 
-abbrev ModuleForm : Language ParamTerm → Language BodyTerm → Language StatementTerm
-ModuleForm P B = Both module_of (One (is module_word)) (Both pair_of (One (is name)) (Both pair_of (InParentheses (Params P)) B))
+abbrev ModuleForm : Language (List ParamTerm) → Language BodyTerm → Language StatementTerm
+ModuleForm Ps B = Both module_of (One (is module_word)) (Both pair_of (One (is name)) (Both pair_of (InParentheses Ps) B))
 
-abbrev FunctionForm : Language Term → Language ParamTerm → Language StatementTerm
-FunctionForm X P = Both function_of (One (is function_word)) (Both pair_of (One (is name)) (Both pair_of (InParentheses (Params P)) (Behind (is assign_sign) (Ended X))))
+abbrev FunctionForm : Language Term → Language (List ParamTerm) → Language StatementTerm
+FunctionForm X Ps = Both function_of (One (is function_word)) (Both pair_of (One (is name)) (Both pair_of (InParentheses Ps) (Behind (is assign_sign) (Ended X))))
 
-abbrev Definition : Language Term → Language ParamTerm → Language BodyTerm → Language InstanceTerm → Language StatementTerm
-Definition X P B I = EitherOf (ModuleForm P B) (EitherOf (FunctionForm X P) (Mapped InstanceStatement I))
+abbrev Definition : Language Term → Language (List ParamTerm) → Language BodyTerm → Language InstanceTerm → Language StatementTerm
+Definition X Ps B I = EitherOf (ModuleForm Ps B) (EitherOf (FunctionForm X Ps) (Mapped InstanceStatement I))
 
 abbrev Assigned : Language Term → Language StatementTerm
 Assigned X = Both assignment_of (One (is name)) (Behind (is assign_sign) (Ended X))
 
 -- parameters in parentheses, and something behind them
-abbrev Signed : {A : Type 0} → Language ParamTerm → Language A → Language (List ParamTerm × A)
-Signed P L = Both pair_of (InParentheses (Params P)) L
+abbrev Signed : {A : Type 0} → Language (List ParamTerm) → Language A → Language (List ParamTerm × A)
+Signed Ps L = Both pair_of (InParentheses Ps) L
 
-some_signed : {A : Type 0} (Q : Language ParamTerm) (W : Language A) → Some_of W → Some_of (Signed Q W)
-some_signed Q W some =
+some_signed : {A : Type 0} (Qs : Language (List ParamTerm)) (W : Language A) → Some_of Qs → Some_of W → Some_of (Signed Qs W)
+some_signed Qs W qs some =
     let opening : Token = token (Symbol OpenParenthesis) in
     let closing : Token = token (Symbol CloseParenthesis) in
-    (opening ∷ closing ∷ some.0, ([], some.1), ([], some.1, opening ∷ closing ∷ [], some.0, (opening, [], opening ∷ [], closing ∷ [], (refl, refl), ([], closing, [], closing ∷ [], inr (refl, refl), (refl, refl), refl, refl), refl, refl), some.2, refl, refl))
+    let l : List Token = opening ∷ (qs.0 ++ closing ∷ []) in
+    (l ++ some.0, (qs.1, some.1), (qs.1, some.1, l, some.0, (opening, qs.1, opening ∷ [], qs.0 ++ closing ∷ [], (refl, refl), (qs.1, closing, qs.0, closing ∷ [], qs.2, (refl, refl), refl, refl), refl, refl), some.2, refl, refl))
 
 some_called : {A : Type 0} (W : Language A) → Some_of W → Some_of (Both pair_of (One (is name)) W)
 some_called W some = (token (Name []) ∷ some.0, (token (Name []), some.1), (token (Name []), some.1, token (Name []) ∷ [], some.0, (refl, refl), some.2, refl, refl))
 
-module_opens : (P : Language ParamTerm) (B : Language BodyTerm) → Opens (ModuleForm P B) (is module_word)
-module_opens P B = both_opens module_of (One (is module_word)) _ (is module_word) (one_opens (is module_word))
+module_opens : (Ps : Language (List ParamTerm)) (B : Language BodyTerm) → Opens (ModuleForm Ps B) (is module_word)
+module_opens Ps B = both_opens module_of (One (is module_word)) _ (is module_word) (one_opens (is module_word))
 
-function_opens : (X : Language Term) (P : Language ParamTerm) → Opens (FunctionForm X P) (is function_word)
-function_opens X P = both_opens function_of (One (is function_word)) _ (is function_word) (one_opens (is function_word))
+function_opens : (X : Language Term) (Ps : Language (List ParamTerm)) → Opens (FunctionForm X Ps) (is function_word)
+function_opens X Ps = both_opens function_of (One (is function_word)) _ (is function_word) (one_opens (is function_word))
 
 abbrev bare_firsts : List ℕ
 bare_firsts = name ∷ module_word ∷ function_word ∷ firsts_of_instance
 
-definition_opens : (X : Language Term) (P : Language ParamTerm) (B : Language BodyTerm) (I : Language InstanceTerm) → Opens I (among firsts_of_instance) → Opens (Definition X P B I) (among bare_firsts)
-definition_opens X P B I o =
-    either_opens (ModuleForm P B) (EitherOf (FunctionForm X P) (Mapped InstanceStatement I)) (among bare_firsts)
-    (λ x s rest h. next_within (module_word ∷ []) bare_firsts refl (s ++ rest) (module_opens P B x s rest h))
-    (either_opens (FunctionForm X P) (Mapped InstanceStatement I) (among bare_firsts)
-    (λ x s rest h. next_within (function_word ∷ []) bare_firsts refl (s ++ rest) (function_opens X P x s rest h))
+definition_opens : (X : Language Term) (Ps : Language (List ParamTerm)) (B : Language BodyTerm) (I : Language InstanceTerm) → Opens I (among firsts_of_instance) → Opens (Definition X Ps B I) (among bare_firsts)
+definition_opens X Ps B I o =
+    either_opens (ModuleForm Ps B) (EitherOf (FunctionForm X Ps) (Mapped InstanceStatement I)) (among bare_firsts)
+    (λ x s rest h. next_within (module_word ∷ []) bare_firsts refl (s ++ rest) (module_opens Ps B x s rest h))
+    (either_opens (FunctionForm X Ps) (Mapped InstanceStatement I) (among bare_firsts)
+    (λ x s rest h. next_within (function_word ∷ []) bare_firsts refl (s ++ rest) (function_opens X Ps x s rest h))
     (λ x s rest h. next_within firsts_of_instance bare_firsts refl (s ++ rest) (mapped_opens InstanceStatement I (among firsts_of_instance) o x s rest h)))
 
-named_opens : (X : Language Term) (P : Language ParamTerm) (B : Language BodyTerm) (I : Language InstanceTerm) → Opens I (among firsts_of_instance) → Opens (EitherOf (Assigned X) (Definition X P B I)) (among bare_firsts)
-named_opens X P B I o =
-    either_opens (Assigned X) (Definition X P B I) (among bare_firsts)
+named_opens : (X : Language Term) (Ps : Language (List ParamTerm)) (B : Language BodyTerm) (I : Language InstanceTerm) → Opens I (among firsts_of_instance) → Opens (EitherOf (Assigned X) (Definition X Ps B I)) (among bare_firsts)
+named_opens X Ps B I o =
+    either_opens (Assigned X) (Definition X Ps B I) (among bare_firsts)
     (λ x s rest h. next_within (name ∷ []) bare_firsts refl (s ++ rest) (both_opens assignment_of (One (is name)) _ (is name) (one_opens (is name)) x s rest h))
-    (definition_opens X P B I o)
+    (definition_opens X Ps B I o)
 
-abbrev BareBlock : Language StatementTerm → Language StatementTerm
-BareBlock S = Both bare_block_of (One (is open_brace_sign)) (Braces S)
+abbrev BareBlock : Language (List StatementTerm) → Language StatementTerm
+BareBlock Ss = Both bare_block_of (One (is open_brace_sign)) (Braces Ss)
 
 abbrev Empty : Language StatementTerm
 Empty = Mapped (λ t. EmptyStatement t.place) (One (is semicolon_sign))
@@ -125,71 +126,81 @@ Empty = Mapped (λ t. EmptyStatement t.place) (One (is semicolon_sign))
 empty_opens : Opens Empty (is semicolon_sign)
 empty_opens = mapped_opens (λ t. EmptyStatement t.place) (One (is semicolon_sign)) (is semicolon_sign) (one_opens (is semicolon_sign))
 
-bare_opens : (S : Language StatementTerm) → Opens (BareBlock S) (is open_brace_sign)
-bare_opens S = both_opens bare_block_of (One (is open_brace_sign)) (Braces S) (is open_brace_sign) (one_opens (is open_brace_sign))
+bare_opens : (Ss : Language (List StatementTerm)) → Opens (BareBlock Ss) (is open_brace_sign)
+bare_opens Ss = both_opens bare_block_of (One (is open_brace_sign)) (Braces Ss) (is open_brace_sign) (one_opens (is open_brace_sign))
 
 abbrev block_firsts : List ℕ
 block_firsts = open_brace_sign ∷ bare_firsts
 
-block_opens : (X : Language Term) (P : Language ParamTerm) (S : Language StatementTerm) (B : Language BodyTerm) (I : Language InstanceTerm) → Opens I (among firsts_of_instance) → Opens (EitherOf (BareBlock S) (EitherOf (Assigned X) (Definition X P B I))) (among block_firsts)
-block_opens X P S B I o =
-    either_opens (BareBlock S) (EitherOf (Assigned X) (Definition X P B I)) (among block_firsts)
-    (λ x s rest h. next_within (open_brace_sign ∷ []) block_firsts refl (s ++ rest) (bare_opens S x s rest h))
-    (λ x s rest h. next_within bare_firsts block_firsts refl (s ++ rest) (named_opens X P B I o x s rest h))
+block_opens : (X : Language Term) (Ps : Language (List ParamTerm)) (Ss : Language (List StatementTerm)) (B : Language BodyTerm) (I : Language InstanceTerm) → Opens I (among firsts_of_instance) → Opens (EitherOf (BareBlock Ss) (EitherOf (Assigned X) (Definition X Ps B I))) (among block_firsts)
+block_opens X Ps Ss B I o =
+    either_opens (BareBlock Ss) (EitherOf (Assigned X) (Definition X Ps B I)) (among block_firsts)
+    (λ x s rest h. next_within (open_brace_sign ∷ []) block_firsts refl (s ++ rest) (bare_opens Ss x s rest h))
+    (λ x s rest h. next_within bare_firsts block_firsts refl (s ++ rest) (named_opens X Ps B I o x s rest h))
 
-pub statement_opens : (X E : Language Term) (P : Language ParamTerm) (S : Language StatementTerm) (B : Language BodyTerm) → Opens (StatementOf X E P S B) (among firsts_of_statement)
-statement_opens X E P S B =
-    either_opens Empty (EitherOf (BareBlock S) (EitherOf (Assigned X) (Definition X P B (Instance E B)))) (among firsts_of_statement)
+pub statement_opens : (X : Language Term) (Ps : Language (List ParamTerm)) (I : Language InstanceTerm) (Ss : Language (List StatementTerm)) (B : Language BodyTerm) → Opens I (among firsts_of_instance) → Opens (StatementOf X Ps I Ss B) (among firsts_of_statement)
+statement_opens X Ps I Ss B o =
+    either_opens Empty (EitherOf (BareBlock Ss) (EitherOf (Assigned X) (Definition X Ps B I))) (among firsts_of_statement)
     (λ x s rest h. next_within (semicolon_sign ∷ []) firsts_of_statement refl (s ++ rest) (empty_opens x s rest h))
-    (λ x s rest h. next_within block_firsts firsts_of_statement refl (s ++ rest) (block_opens X P S B (Instance E B) (instance_opens E B) x s rest h))
+    (λ x s rest h. next_within block_firsts firsts_of_statement refl (s ++ rest) (block_opens X Ps Ss B I o x s rest h))
 
-pub statement_depth_opens : (d : ℕ) → Opens (Statement d) (among firsts_of_statement)
+abbrev pub InstanceAt : Detail → ℕ → Language InstanceTerm
+InstanceAt g d = InstanceIn g d (Body g d)
+
+pub instance_depth_opens : (g : Detail) (d : ℕ) → Opens (InstanceAt g d) (among firsts_of_instance)
+instance_depth_opens g d = instance_opens (Expr g d) (ArgsAt g d) (BindersIn g d (Expr g d)) (Body g d)
+
+pub statement_at_opens : (g : Detail) (d : ℕ) → Opens (Statement g d) (among firsts_of_statement)
 unfolding Statement Body
-statement_depth_opens zero x s rest h = elim h [ ]
-statement_depth_opens (suc d) x s rest h = statement_opens (Expr (suc d)) (Expr d) (ParamIn d) (Statement d) (Body d) x s rest h
+statement_at_opens g zero x s rest h = elim h [ ]
+statement_at_opens g (suc d) x s rest h = statement_opens (Expr g (suc d)) (ParamsIn d (Expr g d)) (InstanceAt g d) (StatementsIn d (Statement g d)) (Body g d) (instance_depth_opens g d) x s rest h
 
--- s reads a statement one deeper
-module _ (s : Reads StatementTerm) (S R : Language StatementTerm) (is_s : IsReader s S R statement_more) (os : Opens S (among firsts_of_statement)) where
-  pub statements_reads : IsReader (many (among firsts_of_statement) s) (Many S) (Many R) (λ xs. among statements_more)
-  statements_reads =
-      many_reads (among firsts_of_statement) s S R statement_more (among statements_more) is_s os (λ x. not_else (statement_open x) firsts_of_statement refl)
-      (λ x rest h. open_less (statement_open x) rest (next_less (else_word ∷ []) statements_more refl rest h)) (next_less firsts_of_statement statements_more refl)
+pub statement_depth_opens : (d : ℕ) → Opens (Statement whole d) (among firsts_of_statement)
+statement_depth_opens = statement_at_opens whole
 
-  braces_reads : IsReader (braces_read s) (Braces S) (Braces R) (λ x t. false)
-  braces_reads = before_reads (many (among firsts_of_statement) s) (Many S) (Many R) close_brace_sign (λ xs. among statements_more) close_brace_one (token (Symbol CloseBrace)) refl statements_reads (λ x. next_apart (close_brace_sign ∷ []) statements_more refl)
+-- s reads a statement
+pub statements_reads : (s : Reads StatementTerm) (S R : Language StatementTerm) → IsReader s S R statement_more → Opens S (among firsts_of_statement) → IsReader (many (among firsts_of_statement) s) (Many S) (Many R) (λ xs. among statements_more)
+statements_reads s S R is_s os =
+    many_reads (among firsts_of_statement) s S R statement_more (among statements_more) is_s os (λ x. not_else (statement_open x) firsts_of_statement refl)
+    (λ x rest h. open_less (statement_open x) rest (next_less (else_word ∷ []) statements_more refl rest h)) (next_less firsts_of_statement statements_more refl)
 
-  some_braces : Some_of (Braces R)
-  some_braces = some_before (Many R) close_brace_sign (token (Symbol CloseBrace)) refl ([], [], refl)
+-- as many as there are
+module _ (s : Reads StatementTerm) (Ss Sw : Language (List StatementTerm)) (iss : IsReader (many (among firsts_of_statement) s) Ss Sw (λ xs. among statements_more)) (some_ss : Some_of Sw) where
+  braces_reads : IsReader (braces_read s) (Braces Ss) (Braces Sw) (λ x t. false)
+  braces_reads = before_reads (many (among firsts_of_statement) s) Ss Sw close_brace_sign (λ xs. among statements_more) close_brace_one (token (Symbol CloseBrace)) refl iss (λ x. next_apart (close_brace_sign ∷ []) statements_more refl)
+
+  some_braces : Some_of (Braces Sw)
+  some_braces = some_before Sw close_brace_sign (token (Symbol CloseBrace)) refl some_ss
 
   -- i reads an instance
   module _ (i : Reads InstanceTerm) (I J : Language InstanceTerm) (ii : IsReader i I J instance_more) (si : Stops i instance_more) (oi : Opens I (among firsts_of_instance)) where
     abbrev EmptyOne : Language BodyTerm
     EmptyOne = Mapped (λ t. EmptyBody t.place) (One (is semicolon_sign))
 
-    abbrev BlockOne : Language StatementTerm → Language BodyTerm
-    BlockOne S = Both block_of (One (is open_brace_sign)) (Braces S)
+    abbrev BlockOne : Language (List StatementTerm) → Language BodyTerm
+    BlockOne Ss = Both block_of (One (is open_brace_sign)) (Braces Ss)
 
-    instance_body_opens : Opens (EitherOf (BlockOne S) (Mapped InstanceBody I)) (among (open_brace_sign ∷ firsts_of_instance))
+    instance_body_opens : Opens (EitherOf (BlockOne Ss) (Mapped InstanceBody I)) (among (open_brace_sign ∷ firsts_of_instance))
     instance_body_opens =
-        either_opens (BlockOne S) (Mapped InstanceBody I) (among (open_brace_sign ∷ firsts_of_instance))
-        (λ x s rest h. next_within (open_brace_sign ∷ []) (open_brace_sign ∷ firsts_of_instance) refl (s ++ rest) (both_opens block_of (One (is open_brace_sign)) (Braces S) (is open_brace_sign) (one_opens (is open_brace_sign)) x s rest h))
+        either_opens (BlockOne Ss) (Mapped InstanceBody I) (among (open_brace_sign ∷ firsts_of_instance))
+        (λ x s rest h. next_within (open_brace_sign ∷ []) (open_brace_sign ∷ firsts_of_instance) refl (s ++ rest) (both_opens block_of (One (is open_brace_sign)) (Braces Ss) (is open_brace_sign) (one_opens (is open_brace_sign)) x s rest h))
         (λ x s rest h. next_within firsts_of_instance (open_brace_sign ∷ firsts_of_instance) refl (s ++ rest) (mapped_opens InstanceBody I (among firsts_of_instance) oi x s rest h))
 
-    block_reads : IsReader (both block_of (one (is open_brace_sign)) (braces_read s)) (BlockOne S) (BlockOne R) body_more
-    block_reads = then (braces_read s) (Braces S) (Braces R) (is open_brace_sign) (λ x t. false) body_more block_of open_brace_one braces_reads some_braces (λ t y rest h. h)
+    block_reads : IsReader (both block_of (one (is open_brace_sign)) (braces_read s)) (BlockOne Ss) (BlockOne Sw) body_more
+    block_reads = then (braces_read s) (Braces Ss) (Braces Sw) (is open_brace_sign) (λ x t. false) body_more block_of open_brace_one braces_reads some_braces (λ t y rest h. h)
 
-    body_reads : IsReader (body_over s i) (EitherOf EmptyOne (EitherOf (BlockOne S) (Mapped InstanceBody I))) (EitherOf EmptyOne (EitherOf (BlockOne R) (Mapped InstanceBody J))) body_more
+    pub body_reads : IsReader (body_over s i) (EitherOf EmptyOne (EitherOf (BlockOne Ss) (Mapped InstanceBody I))) (EitherOf EmptyOne (EitherOf (BlockOne Sw) (Mapped InstanceBody J))) body_more
     body_reads =
-        choice_reads (is semicolon_sign) (mapped (λ t. EmptyBody t.place) (one (is semicolon_sign))) (choice (is open_brace_sign) (both block_of (one (is open_brace_sign)) (braces_read s)) (mapped InstanceBody i)) EmptyOne EmptyOne (EitherOf (BlockOne S) (Mapped InstanceBody I)) (EitherOf (BlockOne R) (Mapped InstanceBody J)) body_more
+        choice_reads (is semicolon_sign) (mapped (λ t. EmptyBody t.place) (one (is semicolon_sign))) (choice (is open_brace_sign) (both block_of (one (is open_brace_sign)) (braces_read s)) (mapped InstanceBody i)) EmptyOne EmptyOne (EitherOf (BlockOne Ss) (Mapped InstanceBody I)) (EitherOf (BlockOne Sw) (Mapped InstanceBody J)) body_more
         (mapped_reads (λ t. EmptyBody t.place) (one (is semicolon_sign)) (One (is semicolon_sign)) (One (is semicolon_sign)) (λ x t. false) body_more semicolon_one (λ x rest h. never_starts rest))
-        (choice_reads (is open_brace_sign) (both block_of (one (is open_brace_sign)) (braces_read s)) (mapped InstanceBody i) (BlockOne S) (BlockOne R) (Mapped InstanceBody I) (Mapped InstanceBody J) body_more block_reads
+        (choice_reads (is open_brace_sign) (both block_of (one (is open_brace_sign)) (braces_read s)) (mapped InstanceBody i) (BlockOne Ss) (BlockOne Sw) (Mapped InstanceBody I) (Mapped InstanceBody J) body_more block_reads
         (mapped_reads InstanceBody i I J instance_more body_more ii (λ x rest h. h))
-        (both_opens block_of (One (is open_brace_sign)) (Braces S) (is open_brace_sign) (one_opens (is open_brace_sign)))
+        (both_opens block_of (One (is open_brace_sign)) (Braces Ss) (is open_brace_sign) (one_opens (is open_brace_sign)))
         (λ x s rest h k. next_apart firsts_of_instance (open_brace_sign ∷ []) refl (s ++ rest) (mapped_opens InstanceBody I (among firsts_of_instance) oi x s rest h)))
         (mapped_opens (λ t. EmptyBody t.place) (One (is semicolon_sign)) (is semicolon_sign) (one_opens (is semicolon_sign)))
         (λ x s rest h k. next_apart (open_brace_sign ∷ firsts_of_instance) (semicolon_sign ∷ []) refl (s ++ rest) (instance_body_opens x s rest h))
 
-    body_stops : Stops (body_over s i) body_more
+    pub body_stops : Stops (body_over s i) body_more
     body_stops =
         choice_stops (is semicolon_sign) (mapped (λ t. EmptyBody t.place) (one (is semicolon_sign))) (choice (is open_brace_sign) (both block_of (one (is open_brace_sign)) (braces_read s)) (mapped InstanceBody i)) body_more
         (mapped_stops (λ t. EmptyBody t.place) (one (is semicolon_sign)) (λ x t. false) body_more (λ ts x rest h. never_starts rest) (λ x rest h. h))
@@ -198,8 +209,8 @@ module _ (s : Reads StatementTerm) (S R : Language StatementTerm) (is_s : IsRead
         (mapped_stops InstanceBody i instance_more body_more si (λ x rest h. h)))
 
     -- x reads an expression, m a parameter and b a body
-    module _ (x : Reads Term) (m : Reads ParamTerm) (b : Reads BodyTerm) (X Y : Language Term) (P Q : Language ParamTerm) (B C : Language BodyTerm)
-        (ix : IsReader x X Y (λ x. among expression_more)) (im : IsReader m P Q (λ x. among arg_more)) (op : Opens P (is name)) (ib : IsReader b B C body_more) (sb : Stops b body_more) (some_x : Some_of Y) (some_b : Some_of C)
+    module _ (x : Reads Term) (m : Reads ParamTerm) (b : Reads BodyTerm) (X Y : Language Term) (Ps Pw : Language (List ParamTerm)) (B C : Language BodyTerm)
+        (ix : IsReader x X Y (λ x. among expression_more)) (ips : IsReader (params_read m) Ps Pw (λ x. other_than closes)) (some_ps : Some_of Pw) (ib : IsReader b B C body_more) (sb : Stops b body_more) (some_x : Some_of Y) (some_b : Some_of C)
         (unlike : (c : InstanceTerm) (s rest : List Token) → I c s → two (is name) (is assign_sign) (s ++ rest) ≡ false) (moves : (t : Token) → is name t ≡ true → rest_of (mapped InstanceStatement i (t ∷ [])) ≡ []) where
       ended_reads : IsReader (ended_read x) (Ended X) (Ended Y) (λ x t. false)
       ended_reads = before_reads x X Y semicolon_sign (λ x. among expression_more) semicolon_one (token (Symbol Semicolon)) refl ix (λ x. next_apart (semicolon_sign ∷ []) expression_more refl)
@@ -213,50 +224,50 @@ module _ (s : Reads StatementTerm) (S R : Language StatementTerm) (is_s : IsRead
       some_valued : Some_of (Behind (is assign_sign) (Ended Y))
       some_valued = (token (Symbol Assign) ∷ some_ended.0, some_ended.1, (token (Symbol Assign), some_ended.1, token (Symbol Assign) ∷ [], some_ended.0, (refl, refl), some_ended.2, refl, refl))
 
-      in_reads : IsReader (in_parentheses (params_read m)) (InParentheses (Params P)) (InParentheses (Params Q)) (λ x t. false)
-      in_reads = in_parentheses_reads (params_read m) (Params P) (Params Q) (λ x. other_than closes) (params_reads m P Q im op) (some_params Q) (λ x. close_ends closes)
+      in_reads : IsReader (in_parentheses (params_read m)) (InParentheses Ps) (InParentheses Pw) (λ x t. false)
+      in_reads = in_parentheses_reads (params_read m) Ps Pw (λ x. other_than closes) ips some_ps (λ x. close_ends closes)
 
-      signed_reads : {A : Type 0} (r : Reads A) (L W : Language A) (more : A → Token → Bool) → IsReader r L W more → Some_of W → IsReader (both pair_of (in_parentheses (params_read m)) r) (Signed P L) (Signed Q W) (λ p. more p.1)
-      signed_reads r L W more ir some = both_reads pair_of (in_parentheses (params_read m)) r (InParentheses (Params P)) (InParentheses (Params Q)) L W (λ x t. false) more (λ p. more p.1) in_reads ir some (λ x y s rest h k. never_starts (s ++ rest)) (λ x y rest h. h)
+      signed_reads : {A : Type 0} (r : Reads A) (L W : Language A) (more : A → Token → Bool) → IsReader r L W more → Some_of W → IsReader (both pair_of (in_parentheses (params_read m)) r) (Signed Ps L) (Signed Pw W) (λ p. more p.1)
+      signed_reads r L W more ir some = both_reads pair_of (in_parentheses (params_read m)) r (InParentheses Ps) (InParentheses Pw) L W (λ x t. false) more (λ p. more p.1) in_reads ir some (λ x y s rest h k. never_starts (s ++ rest)) (λ x y rest h. h)
 
       called_reads : {A : Type 0} (r : Reads A) (L W : Language A) (more : A → Token → Bool) → IsReader r L W more → Some_of W → IsReader (both pair_of (one (is name)) r) (Both pair_of (One (is name)) L) (Both pair_of (One (is name)) W) (λ p. more p.1)
       called_reads r L W more ir some = then r L W (is name) more (λ p. more p.1) pair_of name_one ir some (λ t y rest h. h)
 
-      module_reads : IsReader (module_read m b) (ModuleForm P B) (ModuleForm Q C) statement_more
+      module_reads : IsReader (module_read m b) (ModuleForm Ps B) (ModuleForm Pw C) statement_more
       module_reads =
-          then (both pair_of (one (is name)) (both pair_of (in_parentheses (params_read m)) b)) (Both pair_of (One (is name)) (Signed P B)) (Both pair_of (One (is name)) (Signed Q C)) (is module_word) (λ p. body_more p.1.1) statement_more module_of module_one
-          (called_reads (both pair_of (in_parentheses (params_read m)) b) (Signed P B) (Signed Q C) (λ p. body_more p.1) (signed_reads b B C body_more ib some_b) (some_signed Q C some_b))
-          (some_called (Signed Q C) (some_signed Q C some_b)) (λ t y rest h. h)
+          then (both pair_of (one (is name)) (both pair_of (in_parentheses (params_read m)) b)) (Both pair_of (One (is name)) (Signed Ps B)) (Both pair_of (One (is name)) (Signed Pw C)) (is module_word) (λ p. body_more p.1.1) statement_more module_of module_one
+          (called_reads (both pair_of (in_parentheses (params_read m)) b) (Signed Ps B) (Signed Pw C) (λ p. body_more p.1) (signed_reads b B C body_more ib some_b) (some_signed Pw C some_ps some_b))
+          (some_called (Signed Pw C) (some_signed Pw C some_ps some_b)) (λ t y rest h. h)
 
-      function_reads : IsReader (function_read x m) (FunctionForm X P) (FunctionForm Y Q) statement_more
+      function_reads : IsReader (function_read x m) (FunctionForm X Ps) (FunctionForm Y Pw) statement_more
       function_reads =
-          then (both pair_of (one (is name)) (both pair_of (in_parentheses (params_read m)) (both second_of (one (is assign_sign)) (ended_read x)))) (Both pair_of (One (is name)) (Signed P (Behind (is assign_sign) (Ended X)))) (Both pair_of (One (is name)) (Signed Q (Behind (is assign_sign) (Ended Y)))) (is function_word) (λ p t. false) statement_more function_of function_one
-          (called_reads (both pair_of (in_parentheses (params_read m)) (both second_of (one (is assign_sign)) (ended_read x))) (Signed P (Behind (is assign_sign) (Ended X))) (Signed Q (Behind (is assign_sign) (Ended Y))) (λ p t. false)
-          (signed_reads (both second_of (one (is assign_sign)) (ended_read x)) (Behind (is assign_sign) (Ended X)) (Behind (is assign_sign) (Ended Y)) (λ x t. false) valued_reads some_valued) (some_signed Q (Behind (is assign_sign) (Ended Y)) some_valued))
-          (some_called (Signed Q (Behind (is assign_sign) (Ended Y))) (some_signed Q (Behind (is assign_sign) (Ended Y)) some_valued)) (λ t y rest h. h)
+          then (both pair_of (one (is name)) (both pair_of (in_parentheses (params_read m)) (both second_of (one (is assign_sign)) (ended_read x)))) (Both pair_of (One (is name)) (Signed Ps (Behind (is assign_sign) (Ended X)))) (Both pair_of (One (is name)) (Signed Pw (Behind (is assign_sign) (Ended Y)))) (is function_word) (λ p t. false) statement_more function_of function_one
+          (called_reads (both pair_of (in_parentheses (params_read m)) (both second_of (one (is assign_sign)) (ended_read x))) (Signed Ps (Behind (is assign_sign) (Ended X))) (Signed Pw (Behind (is assign_sign) (Ended Y))) (λ p t. false)
+          (signed_reads (both second_of (one (is assign_sign)) (ended_read x)) (Behind (is assign_sign) (Ended X)) (Behind (is assign_sign) (Ended Y)) (λ x t. false) valued_reads some_valued) (some_signed Pw (Behind (is assign_sign) (Ended Y)) some_ps some_valued))
+          (some_called (Signed Pw (Behind (is assign_sign) (Ended Y))) (some_signed Pw (Behind (is assign_sign) (Ended Y)) some_ps some_valued)) (λ t y rest h. h)
 
       instance_statement : IsReader (mapped InstanceStatement i) (Mapped InstanceStatement I) (Mapped InstanceStatement J) statement_more
       instance_statement = mapped_reads InstanceStatement i I J instance_more statement_more ii (λ x rest h. h)
 
-      function_or_instance : Opens (EitherOf (FunctionForm X P) (Mapped InstanceStatement I)) (among (function_word ∷ firsts_of_instance))
+      function_or_instance : Opens (EitherOf (FunctionForm X Ps) (Mapped InstanceStatement I)) (among (function_word ∷ firsts_of_instance))
       function_or_instance =
-          either_opens (FunctionForm X P) (Mapped InstanceStatement I) (among (function_word ∷ firsts_of_instance))
-          (λ x s rest h. next_within (function_word ∷ []) (function_word ∷ firsts_of_instance) refl (s ++ rest) (function_opens X P x s rest h))
+          either_opens (FunctionForm X Ps) (Mapped InstanceStatement I) (among (function_word ∷ firsts_of_instance))
+          (λ x s rest h. next_within (function_word ∷ []) (function_word ∷ firsts_of_instance) refl (s ++ rest) (function_opens X Ps x s rest h))
           (λ x s rest h. next_within firsts_of_instance (function_word ∷ firsts_of_instance) refl (s ++ rest) (mapped_opens InstanceStatement I (among firsts_of_instance) oi x s rest h))
 
-      definition_reads : IsReader (definition_read x m b i) (Definition X P B I) (Definition Y Q C J) statement_more
+      definition_reads : IsReader (definition_read x m b i) (Definition X Ps B I) (Definition Y Pw C J) statement_more
       definition_reads =
-          choice_reads (is module_word) (module_read m b) (choice (is function_word) (function_read x m) (mapped InstanceStatement i)) (ModuleForm P B) (ModuleForm Q C) (EitherOf (FunctionForm X P) (Mapped InstanceStatement I)) (EitherOf (FunctionForm Y Q) (Mapped InstanceStatement J)) statement_more
+          choice_reads (is module_word) (module_read m b) (choice (is function_word) (function_read x m) (mapped InstanceStatement i)) (ModuleForm Ps B) (ModuleForm Pw C) (EitherOf (FunctionForm X Ps) (Mapped InstanceStatement I)) (EitherOf (FunctionForm Y Pw) (Mapped InstanceStatement J)) statement_more
           module_reads
-          (choice_reads (is function_word) (function_read x m) (mapped InstanceStatement i) (FunctionForm X P) (FunctionForm Y Q) (Mapped InstanceStatement I) (Mapped InstanceStatement J) statement_more function_reads instance_statement
-          (function_opens X P)
+          (choice_reads (is function_word) (function_read x m) (mapped InstanceStatement i) (FunctionForm X Ps) (FunctionForm Y Pw) (Mapped InstanceStatement I) (Mapped InstanceStatement J) statement_more function_reads instance_statement
+          (function_opens X Ps)
           (λ x s rest h k. next_apart firsts_of_instance (function_word ∷ []) refl (s ++ rest) (mapped_opens InstanceStatement I (among firsts_of_instance) oi x s rest h)))
-          (module_opens P B)
+          (module_opens Ps B)
           (λ x s rest h k. next_apart (function_word ∷ firsts_of_instance) (module_word ∷ []) refl (s ++ rest) (function_or_instance x s rest h))
 
-      definition_unlike : (c : StatementTerm) (s rest : List Token) → Definition X P B I c s → two (is name) (is assign_sign) (s ++ rest) ≡ false
-      definition_unlike c s rest (inl h) = two_not (s ++ rest) (next_apart (module_word ∷ []) (name ∷ []) refl (s ++ rest) (module_opens P B c s rest h))
-      definition_unlike c s rest (inr (inl h)) = two_not (s ++ rest) (next_apart (function_word ∷ []) (name ∷ []) refl (s ++ rest) (function_opens X P c s rest h))
+      definition_unlike : (c : StatementTerm) (s rest : List Token) → Definition X Ps B I c s → two (is name) (is assign_sign) (s ++ rest) ≡ false
+      definition_unlike c s rest (inl h) = two_not (s ++ rest) (next_apart (module_word ∷ []) (name ∷ []) refl (s ++ rest) (module_opens Ps B c s rest h))
+      definition_unlike c s rest (inr (inl h)) = two_not (s ++ rest) (next_apart (function_word ∷ []) (name ∷ []) refl (s ++ rest) (function_opens X Ps c s rest h))
       definition_unlike c s rest (inr (inr h)) = unlike h.0 s rest h.1
 
       definition_moves : (t : Token) → is name t ≡ true → rest_of (definition_read x m b i (t ∷ [])) ≡ []
@@ -273,137 +284,184 @@ module _ (s : Reads StatementTerm) (S R : Language StatementTerm) (is_s : IsRead
       named_from Z D c s (inl h) = inl (two_from assignment_of (is name) (is assign_sign) (Ended Z) c s h)
       named_from Z D c s (inr h) = inr h
 
-      named_reads : IsReader (ahead assigned (is name) (is assign_sign) (ended_read x) (definition_read x m b i)) (EitherOf (Assigned X) (Definition X P B I)) (EitherOf (Assigned Y) (Definition Y Q C J)) statement_more
+      named_reads : IsReader (ahead assigned (is name) (is assign_sign) (ended_read x) (definition_read x m b i)) (EitherOf (Assigned X) (Definition X Ps B I)) (EitherOf (Assigned Y) (Definition Y Pw C J)) statement_more
       named_reads =
-          same_reads (ahead assigned (is name) (is assign_sign) (ended_read x) (definition_read x m b i)) (Ahead assigned (is name) (is assign_sign) (Ended X) (Definition X P B I)) (Ahead assigned (is name) (is assign_sign) (Ended Y) (Definition Y Q C J)) (EitherOf (Assigned X) (Definition X P B I)) (EitherOf (Assigned Y) (Definition Y Q C J)) statement_more
-          (ahead_reads assigned (is name) (is assign_sign) (ended_read x) (definition_read x m b i) (Ended X) (Ended Y) (Definition X P B I) (Definition Y Q C J) (λ x t. false) statement_more ended_reads definition_reads
+          same_reads (ahead assigned (is name) (is assign_sign) (ended_read x) (definition_read x m b i)) (Ahead assigned (is name) (is assign_sign) (Ended X) (Definition X Ps B I)) (Ahead assigned (is name) (is assign_sign) (Ended Y) (Definition Y Pw C J)) (EitherOf (Assigned X) (Definition X Ps B I)) (EitherOf (Assigned Y) (Definition Y Pw C J)) statement_more
+          (ahead_reads assigned (is name) (is assign_sign) (ended_read x) (definition_read x m b i) (Ended X) (Ended Y) (Definition X Ps B I) (Definition Y Pw C J) (λ x t. false) statement_more ended_reads definition_reads
           (λ t u x rest h. h) definition_moves (λ c s rest h k. definition_unlike c s rest h))
-          (named_to X (Definition X P B I)) (named_from X (Definition X P B I)) (named_to Y (Definition Y Q C J))
+          (named_to X (Definition X Ps B I)) (named_from X (Definition X Ps B I)) (named_to Y (Definition Y Pw C J))
 
-      bare_reads : IsReader (both bare_block_of (one (is open_brace_sign)) (braces_read s)) (BareBlock S) (BareBlock R) statement_more
-      bare_reads = then (braces_read s) (Braces S) (Braces R) (is open_brace_sign) (λ x t. false) statement_more bare_block_of open_brace_one braces_reads some_braces (λ t y rest h. h)
+      bare_reads : IsReader (both bare_block_of (one (is open_brace_sign)) (braces_read s)) (BareBlock Ss) (BareBlock Sw) statement_more
+      bare_reads = then (braces_read s) (Braces Ss) (Braces Sw) (is open_brace_sign) (λ x t. false) statement_more bare_block_of open_brace_one braces_reads some_braces (λ t y rest h. h)
 
-      statement_reads : IsReader (statement_over x m s b i) (EitherOf Empty (EitherOf (BareBlock S) (EitherOf (Assigned X) (Definition X P B I)))) (EitherOf Empty (EitherOf (BareBlock R) (EitherOf (Assigned Y) (Definition Y Q C J)))) statement_more
+      pub statement_reads : IsReader (statement_over x m s b i) (EitherOf Empty (EitherOf (BareBlock Ss) (EitherOf (Assigned X) (Definition X Ps B I)))) (EitherOf Empty (EitherOf (BareBlock Sw) (EitherOf (Assigned Y) (Definition Y Pw C J)))) statement_more
       statement_reads =
           choice_reads (is semicolon_sign) (mapped (λ t. EmptyStatement t.place) (one (is semicolon_sign))) (choice (is open_brace_sign) (both bare_block_of (one (is open_brace_sign)) (braces_read s)) (ahead assigned (is name) (is assign_sign) (ended_read x) (definition_read x m b i)))
-          Empty Empty (EitherOf (BareBlock S) (EitherOf (Assigned X) (Definition X P B I))) (EitherOf (BareBlock R) (EitherOf (Assigned Y) (Definition Y Q C J))) statement_more
+          Empty Empty (EitherOf (BareBlock Ss) (EitherOf (Assigned X) (Definition X Ps B I))) (EitherOf (BareBlock Sw) (EitherOf (Assigned Y) (Definition Y Pw C J))) statement_more
           (mapped_reads (λ t. EmptyStatement t.place) (one (is semicolon_sign)) (One (is semicolon_sign)) (One (is semicolon_sign)) (λ x t. false) statement_more semicolon_one (λ x rest h. h))
-          (choice_reads (is open_brace_sign) (both bare_block_of (one (is open_brace_sign)) (braces_read s)) (ahead assigned (is name) (is assign_sign) (ended_read x) (definition_read x m b i)) (BareBlock S) (BareBlock R) (EitherOf (Assigned X) (Definition X P B I)) (EitherOf (Assigned Y) (Definition Y Q C J)) statement_more
-          bare_reads named_reads (bare_opens S)
-          (λ x s rest h k. next_apart bare_firsts (open_brace_sign ∷ []) refl (s ++ rest) (named_opens X P B I oi x s rest h)))
+          (choice_reads (is open_brace_sign) (both bare_block_of (one (is open_brace_sign)) (braces_read s)) (ahead assigned (is name) (is assign_sign) (ended_read x) (definition_read x m b i)) (BareBlock Ss) (BareBlock Sw) (EitherOf (Assigned X) (Definition X Ps B I)) (EitherOf (Assigned Y) (Definition Y Pw C J)) statement_more
+          bare_reads named_reads (bare_opens Ss)
+          (λ x s rest h k. next_apart bare_firsts (open_brace_sign ∷ []) refl (s ++ rest) (named_opens X Ps B I oi x s rest h)))
           empty_opens
-          (λ x s rest h k. next_apart block_firsts (semicolon_sign ∷ []) refl (s ++ rest) (block_opens X P S B I oi x s rest h))
+          (λ x s rest h k. next_apart block_firsts (semicolon_sign ∷ []) refl (s ++ rest) (block_opens X Ps Ss B I oi x s rest h))
 
 -- a token that may begin something begins it, where an expression and a body stand one deeper
-module _ (E : Language Term) (B : Language BodyTerm) (some_e : Some_of E) (some_b : Some_of B) where
-  begins_core : (t : Token) → among firsts_of_core t ≡ true → Begins (Core E B) (t ∷ [])
+module _ (E : Language Term) (As : Language (List ArgTerm)) (Ns : Language (List BinderTerm)) (B : Language BodyTerm) (some_e : Some_of E) (some_as : Some_of As) (some_ns : Some_of Ns) (some_b : Some_of B) where
+  pub begins_core : (t : Token) → among firsts_of_core t ≡ true → Begins (Core E As Ns B) (t ∷ [])
   begins_core t h =
       elim (either_listed (if_word ∷ []) (for_word ∷ intersection_for_word ∷ name ∷ []) (class_of t.kind) h) [
         | inl a ↦ let k = some_headed B E some_b some_e in
             (k.0, if_of (t, k.1) None, inl ((t, k.1), None, t ∷ k.0, [], (t, k.1, t ∷ [], k.0, (a, refl), k.2, refl, refl), refl, tt, refl, sym (append-nil (t ∷ k.0))))
         | inr h ↦ elim (either_listed loop_words (name ∷ []) (class_of t.kind) h) [
-          | inl a ↦ let k = some_headed B (Binders E) some_b (some_binders E some_e) in (k.0, loop_of t k.1, inr (inl (t, k.1, t ∷ [], k.0, (a, refl), k.2, refl, refl)))
-          | inr a ↦ let k = some_headed B (Args E) some_b ([], [], inr (refl, refl)) in (k.0, call_of t k.1, inr (inr (t, k.1, t ∷ [], k.0, (a, refl), k.2, refl, refl)))
+          | inl a ↦ let k = some_headed B Ns some_b some_ns in (k.0, loop_of t k.1, inr (inl (t, k.1, t ∷ [], k.0, (a, refl), k.2, refl, refl)))
+          | inr a ↦ let k = some_headed B As some_b some_as in (k.0, call_of t k.1, inr (inr (t, k.1, t ∷ [], k.0, (a, refl), k.2, refl, refl)))
         ]
       ]
 
-  begins_instance : (t : Token) → among firsts_of_instance t ≡ true → Begins (Instance E B) (t ∷ [])
+  pub begins_instance : (t : Token) → among firsts_of_instance t ≡ true → Begins (Instance E As Ns B) (t ∷ [])
   begins_instance t h =
       elim (either_listed mark_signs firsts_of_core (class_of t.kind) h) [
-        | inl a ↦ let k = some_core E B some_b in (k.0, instance_of (mark_of t ∷ []) k.1, (mark_of t ∷ [], k.1, t ∷ [], k.0, (t ∷ [], [], (t, (a, refl), refl), refl, refl), k.2, refl, refl))
+        | inl a ↦ let k = some_core E As Ns B some_as some_b in (k.0, instance_of (mark_of t ∷ []) k.1, (mark_of t ∷ [], k.1, t ∷ [], k.0, (t ∷ [], [], (t, (a, refl), refl), refl, refl), k.2, refl, refl))
         | inr a ↦ let k = begins_core t a in (k.0, instance_of [] k.1, ([], k.1, [], t ∷ k.0, refl, k.2, refl, refl))
       ]
 
-  module _ (S : Language StatementTerm) where
-    abbrev end_brace : Token
-    end_brace = token (Symbol CloseBrace)
+  module _ (Ss : Language (List StatementTerm)) (some_ss : Some_of Ss) where
+    braces : Some_of (Braces Ss)
+    braces = some_before Ss close_brace_sign (token (Symbol CloseBrace)) refl some_ss
 
-    begins_body : (t : Token) → among firsts_of_body t ≡ true → Begins (BodyOf E S B) (t ∷ [])
+    pub begins_body : (t : Token) → among firsts_of_body t ≡ true → Begins (BodyOf (Instance E As Ns B) Ss) (t ∷ [])
     begins_body t h =
         elim (either_listed (semicolon_sign ∷ []) (open_brace_sign ∷ firsts_of_instance) (class_of t.kind) h) [
           | inl a ↦ ([], EmptyBody t.place, inl (t, (a, refl), refl))
           | inr h ↦ elim (either_listed (open_brace_sign ∷ []) firsts_of_instance (class_of t.kind) h) [
-            | inl a ↦ (end_brace ∷ [], block_of t [], inr (inl (t, [], t ∷ [], end_brace ∷ [], (a, refl), ([], end_brace, [], end_brace ∷ [], refl, (refl, refl), refl, refl), refl, refl)))
+            | inl a ↦ (braces.0, block_of t braces.1, inr (inl (t, braces.1, t ∷ [], braces.0, (a, refl), braces.2, refl, refl)))
             | inr a ↦ let k = begins_instance t a in (k.0, InstanceBody k.1, inr (inr (k.1, k.2, refl)))
           ]
         ]
 
-    module _ (X : Language Term) (P : Language ParamTerm) (some_x : Some_of X) where
+    module _ (X : Language Term) (Ps : Language (List ParamTerm)) (some_x : Some_of X) (some_ps : Some_of Ps) where
       some_value : Some_of (Behind (is assign_sign) (Ended X))
       some_value =
           let k = some_before X semicolon_sign (token (Symbol Semicolon)) refl some_x in
           (token (Symbol Assign) ∷ k.0, k.1, (token (Symbol Assign), k.1, token (Symbol Assign) ∷ [], k.0, (refl, refl), k.2, refl, refl))
 
-      begins_statement : (t : Token) → among firsts_of_statement t ≡ true → Begins (StatementOf X E P S B) (t ∷ [])
+      pub begins_statement : (t : Token) → among firsts_of_statement t ≡ true → Begins (StatementOf X Ps (Instance E As Ns B) Ss B) (t ∷ [])
       begins_statement t h =
           elim (either_listed (module_word ∷ []) (function_word ∷ firsts_of_body) (class_of t.kind) h) [
-            | inl a ↦ let k = some_called (Signed P B) (some_signed P B some_b) in (k.0, module_of t k.1, inr (inr (inr (inl (t, k.1, t ∷ [], k.0, (a, refl), k.2, refl, refl)))))
+            | inl a ↦ let k = some_called (Signed Ps B) (some_signed Ps B some_ps some_b) in (k.0, module_of t k.1, inr (inr (inr (inl (t, k.1, t ∷ [], k.0, (a, refl), k.2, refl, refl)))))
             | inr h ↦ elim (either_listed (function_word ∷ []) firsts_of_body (class_of t.kind) h) [
-              | inl a ↦ let k = some_called (Signed P (Behind (is assign_sign) (Ended X))) (some_signed P (Behind (is assign_sign) (Ended X)) some_value) in (k.0, function_of t k.1, inr (inr (inr (inr (inl (t, k.1, t ∷ [], k.0, (a, refl), k.2, refl, refl))))))
+              | inl a ↦ let k = some_called (Signed Ps (Behind (is assign_sign) (Ended X))) (some_signed Ps (Behind (is assign_sign) (Ended X)) some_ps some_value) in (k.0, function_of t k.1, inr (inr (inr (inr (inl (t, k.1, t ∷ [], k.0, (a, refl), k.2, refl, refl))))))
               | inr h ↦ elim (either_listed (semicolon_sign ∷ []) (open_brace_sign ∷ firsts_of_instance) (class_of t.kind) h) [
                 | inl a ↦ ([], EmptyStatement t.place, inl (t, (a, refl), refl))
                 | inr h ↦ elim (either_listed (open_brace_sign ∷ []) firsts_of_instance (class_of t.kind) h) [
-                  | inl a ↦ (end_brace ∷ [], bare_block_of t [], inr (inl (t, [], t ∷ [], end_brace ∷ [], (a, refl), ([], end_brace, [], end_brace ∷ [], refl, (refl, refl), refl, refl), refl, refl)))
+                  | inl a ↦ (braces.0, bare_block_of t braces.1, inr (inl (t, braces.1, t ∷ [], braces.0, (a, refl), braces.2, refl, refl)))
                   | inr a ↦ let k = begins_instance t a in (k.0, InstanceStatement k.1, inr (inr (inr (inr (inr (k.1, k.2, refl))))))
                 ]
               ]
             ]
           ]
 
--- a `;`, and a numeral, at each depth
+-- the parts of a statement at each depth
+abbrev pub BindersAt : Detail → ℕ → Language (List BinderTerm)
+BindersAt g d = BindersIn g d (Expr g d)
+
+abbrev pub ParamsAt : Detail → ℕ → Language (List ParamTerm)
+ParamsAt g d = ParamsIn d (Expr g d)
+
+abbrev pub StatementsAt : Detail → ℕ → Language (List StatementTerm)
+StatementsAt g d = StatementsIn d (Statement g d)
+
 abbrev semicolon : Token
 semicolon = token (Symbol Semicolon)
 
-some_empty_body : (d : ℕ) → Some_of (Body (suc d))
+pub some_body : (g : Detail) (d : ℕ) → Some_of (Body g (suc d))
 unfolding Statement Body
-some_empty_body d = (semicolon ∷ [], EmptyBody semicolon.place, inl (semicolon, (refl, refl), refl))
+some_body g d = (semicolon ∷ [], EmptyBody semicolon.place, inl (semicolon, (refl, refl), refl))
 
-some_empty_statement : (d : ℕ) → Some_of (Statement (suc d))
+some_statement : (g : Detail) (d : ℕ) → Some_of (Statement g (suc d))
 unfolding Statement Body
-some_empty_statement d = (semicolon ∷ [], EmptyStatement semicolon.place, inl (semicolon, (refl, refl), refl))
+some_statement g d = (semicolon ∷ [], EmptyStatement semicolon.place, inl (semicolon, (refl, refl), refl))
 
-param_in_reads : (d : ℕ) → IsReader (param_in d (expr_read d)) (ParamIn d) (ParamIn (suc (suc d))) (λ x. among arg_more)
-param_in_reads zero =
-    nested_reads (name ∷ []) left_out Never (Param (Expr 2)) (λ x. among arg_more) (λ x s h. h)
+pub some_params_at : (g : Detail) (d : ℕ) → Some_of (ParamsAt g d)
+some_params_at g zero = ([], [], (refl, refl))
+some_params_at g (suc d) = ([], [], inr (refl, refl))
+
+pub some_binders_at : (g : Detail) (d : ℕ) → Some_of (BindersAt g (suc d))
+some_binders_at g d = some_binders (Expr g (suc d)) (some_expr g d)
+
+pub some_statements : (g : Detail) (d : ℕ) → Some_of (StatementsAt g d)
+some_statements g zero = ([], [], (refl, refl))
+some_statements g (suc d) = ([], [], refl)
+
+-- where no parameter, variable or statement fits any more
+no_params : (Q : Language (List ParamTerm)) → IsReader (params_read (nested (name ∷ []) left_out)) (Params Never) Q (λ x. other_than closes) → IsReader (params_read (nested (name ∷ []) left_out)) (Nothing []) Q (λ x. other_than closes)
+no_params Q i = same_reads (params_read (nested (name ∷ []) left_out)) (Params Never) Q (Nothing []) Q (λ x. other_than closes) i none (λ x s h. inr h) (λ x s h. h)
+  where
+    none : (x : List ParamTerm) (s : List Token) → Params Never x s → Nothing [] x s
+    none x s (inl h) = elim h.4.4 [ ]
+    none x s (inr h) = h
+
+no_binders : (Q : Language (List BinderTerm)) → IsReader (binders_read (nested (name ∷ []) left_out)) (Binders Never) Q (λ x. other_than closes) → IsReader (binders_read (nested (name ∷ []) left_out)) Never Q (λ x. other_than closes)
+no_binders Q i = same_reads (binders_read (nested (name ∷ []) left_out)) (Binders Never) Q Never Q (λ x. other_than closes) i (λ x s h. elim h.4.4.5.5 [ ]) (λ x s h. elim h [ ]) (λ x s h. h)
+
+no_statements : (r : Reads StatementTerm) (Q : Language (List StatementTerm)) → IsReader (many (among firsts_of_statement) r) (Many Never) Q (λ xs. among statements_more) → IsReader (many (among firsts_of_statement) r) (Nothing []) Q (λ xs. among statements_more)
+no_statements r Q i = same_reads (many (among firsts_of_statement) r) (Many Never) Q (Nothing []) Q (λ xs. among statements_more) i none some (λ x s h. h)
+  where
+    none : (x : List StatementTerm) (s : List Token) → Many Never x s → Nothing [] x s
+    none [] s h = (refl, h)
+    none (x ∷ xs) s h = elim h.2 [ ]
+
+    some : (x : List StatementTerm) (s : List Token) → Nothing [] x s → Many Never x s
+    some [] s h = h.1
+    some (x ∷ xs) s h = absurd (let e = h.0 in cc)
+
+statements_in_reads : (d : ℕ) (s : Reads StatementTerm) (R : Language StatementTerm) → IsReader s (Statement whole d) R statement_more → IsReader (many (among firsts_of_statement) s) (StatementsAt whole d) (Many R) (λ xs. among statements_more)
+unfolding Statement Body
+statements_in_reads zero s R i = no_statements s (Many R) (statements_reads s (Statement whole zero) R i (statement_at_opens whole zero))
+statements_in_reads (suc d) s R i = statements_reads s (Statement whole (suc d)) R i (statement_at_opens whole (suc d))
+
+params_in_reads : (d : ℕ) → IsReader (params_read (param_in d (expr_read d))) (ParamsAt whole d) (ParamsAt whole (suc (suc d))) (λ x. other_than closes)
+params_in_reads zero =
+    no_params (ParamsAt whole 2)
+    (params_reads (nested (name ∷ []) left_out) Never (Param (ExprIn 2))
+    (nested_reads (name ∷ []) left_out Never (Param (ExprIn 2)) (λ x. among arg_more) (λ x s h. h)
     (λ t h. ([], param_of t None, (t, None, t ∷ [], [], (h, refl), refl, refl, refl)))
-    (token (Name []) ∷ [], param_of (token (Name [])) None, (token (Name []), None, token (Name []) ∷ [], [], (refl, refl), refl, refl, refl))
-param_in_reads (suc d) = param_reads (expr_read (suc d)) (Expr (suc d)) (Expr (suc (suc (suc d)))) (depth_reads (suc d)).0 (some_expr (suc (suc d)))
-
-param_in_opens : (d : ℕ) → Opens (ParamIn d) (is name)
-param_in_opens zero x s rest h = elim h [ ]
-param_in_opens (suc d) x s rest h = param_opens (Expr (suc d)) x s rest h
-
-no_binder : (c : BinderTerm) (s : List Token) → Binder (Expr zero) c s → ⊥
-unfolding Expr Operand
-no_binder c s h = elim h.5.5 [ ]
+    (token (Name []) ∷ [], param_of (token (Name [])) None, (token (Name []), None, token (Name []) ∷ [], [], (refl, refl), refl, refl, refl))) (λ x s rest h. elim h [ ]))
+params_in_reads (suc d) = params_reads (param_read (expr_read (suc d))) (Param (ExprIn (suc d))) (Param (ExprIn (suc (suc (suc d))))) (param_reads (expr_read (suc d)) (ExprIn (suc d)) (ExprIn (suc (suc (suc d)))) (depth_reads (suc d)).0 (some_expr whole (suc (suc d)))) (param_opens (ExprIn (suc d)))
 
 begun_binder : (F : Language Term) → Some_of F → (t : Token) → is name t ≡ true → Begins (Binder F) (t ∷ [])
 begun_binder F some t h =
     let u : Token = token (Symbol Assign) in
     (u ∷ some.0, binder_of t some.1, (t, some.1, t ∷ [], u ∷ some.0, (h, refl), (u, some.1, u ∷ [], some.0, (refl, refl), some.2, refl, refl), refl, refl))
 
-binder_in_reads : (d : ℕ) → IsReader (binder_in d (expr_read d)) (Binder (Expr d)) (Binder (Expr (suc (suc d)))) (λ x. among expression_more)
-binder_in_reads zero =
-    let k = begun_binder (Expr 2) (some_expr 1) (token (Name [])) refl in
-    nested_reads (name ∷ []) left_out (Binder (Expr zero)) (Binder (Expr 2)) (λ x. among expression_more) no_binder (begun_binder (Expr 2) (some_expr 1)) (token (Name []) ∷ k.0, k.1, k.2)
-binder_in_reads (suc d) = binder_reads (expr_read (suc d)) (Expr (suc d)) (Expr (suc (suc (suc d)))) (depth_reads (suc d)).0 (some_expr (suc (suc d)))
+binders_in_reads : (d : ℕ) → IsReader (binders_read (binder_in d (expr_read d))) (BindersAt whole d) (BindersAt whole (suc (suc d))) (λ x. other_than closes)
+binders_in_reads zero =
+    let k = begun_binder (ExprIn 2) (some_expr whole 1) (token (Name [])) refl in
+    no_binders (BindersAt whole 2)
+    (binders_reads (nested (name ∷ []) left_out) Never (ExprIn 2)
+    (nested_reads (name ∷ []) left_out (Binder Never) (Binder (ExprIn 2)) (λ x. among expression_more) (λ x s h. h.5.5) (begun_binder (ExprIn 2) (some_expr whole 1)) (token (Name []) ∷ k.0, k.1, k.2)))
+binders_in_reads (suc d) = binders_reads (binder_read (expr_read (suc d))) (ExprIn (suc d)) (ExprIn (suc (suc (suc d)))) (binder_reads (expr_read (suc d)) (ExprIn (suc d)) (ExprIn (suc (suc (suc d)))) (depth_reads (suc d)).0 (some_expr whole (suc (suc d))))
 
-instance_in_reads : (d : ℕ) (b : Reads BodyTerm) (B C : Language BodyTerm) → IsReader b B C body_more → Stops b body_more → Some_of C → IsReader (instance_in d b) (Instance (Expr d) B) (Instance (Expr (suc (suc d))) C) instance_more
-instance_in_reads d b B C ib sb some = instance_reads b B C ib sb some (expr_read d) (arg_in d (expr_read d)) (binder_in d (expr_read d)) (Expr d) (Expr (suc (suc d))) (depth_reads d).0 (depth_reads d).2 (binder_in_reads d) (expr_opens d) (some_expr (suc d))
+instance_in_reads : (d : ℕ) (b : Reads BodyTerm) (B C : Language BodyTerm) → IsReader b B C body_more → Stops b body_more → Some_of C → IsReader (instance_in d b) (InstanceIn whole d B) (InstanceIn whole (suc (suc d)) C) instance_more
+instance_in_reads d b B C ib sb some =
+    instance_reads b B C ib sb some (expr_read d) (arg_in d (expr_read d)) (binders_read (binder_in d (expr_read d))) (ExprIn d) (ExprIn (suc (suc d))) (ArgsAt whole d) (ArgsAt whole (suc (suc d))) (BindersAt whole d) (BindersAt whole (suc (suc d)))
+    (depth_reads d).0 (depth_reads d).2 (binders_in_reads d) (some_expr whole (suc d)) (some_args whole (suc (suc d))) (some_binders_at whole (suc d))
 
 instance_in_stops : (d : ℕ) (b : Reads BodyTerm) (B C : Language BodyTerm) → IsReader b B C body_more → Stops b body_more → Some_of C → Stops (instance_in d b) instance_more
-instance_in_stops d b B C ib sb some = instance_stops b B C ib sb some (expr_read d) (arg_in d (expr_read d)) (binder_in d (expr_read d)) (Expr d) (Expr (suc (suc d))) (depth_reads d).0 (depth_reads d).2 (binder_in_reads d) (expr_opens d) (some_expr (suc d))
+instance_in_stops d b B C ib sb some =
+    instance_stops b B C ib sb some (expr_read d) (arg_in d (expr_read d)) (binders_read (binder_in d (expr_read d))) (ExprIn d) (ExprIn (suc (suc d))) (ArgsAt whole d) (ArgsAt whole (suc (suc d))) (BindersAt whole d) (BindersAt whole (suc (suc d)))
+    (depth_reads d).0 (depth_reads d).2 (binders_in_reads d) (some_expr whole (suc d)) (some_args whole (suc (suc d))) (some_binders_at whole (suc d))
 
 -- What is read at a depth is in the grammar of that depth, and what is taken before a fault begins something that is at most two deeper.
-pub statement_depth_reads : (d : ℕ) → IsReader (statement_read d) (Statement d) (Statement (suc (suc d))) statement_more × IsReader (body_read d) (Body d) (Body (suc (suc d))) body_more × Stops (body_read d) body_more
+pub statement_depth_reads : (d : ℕ) → IsReader (statement_read d) (Statement whole d) (Statement whole (suc (suc d))) statement_more × IsReader (body_read d) (Body whole d) (Body whole (suc (suc d))) body_more × Stops (body_read d) body_more
 unfolding Statement Body statement_read body_read
-statement_depth_reads zero =
-    let begun = some_empty_statement 1 in
-    let body = some_empty_body 1 in (
-      nested_reads firsts_of_statement left_out Never (Statement 2) statement_more (λ x s h. h) (begins_statement (Expr 1) (Body 1) (some_expr 0) (some_empty_body 0) (Statement 1) (Expr 2) (ParamIn 1) (some_expr 1)) begun,
-      nested_reads firsts_of_body left_out Never (Body 2) body_more (λ x s h. h) (begins_body (Expr 1) (Body 1) (some_expr 0) (some_empty_body 0) (Statement 1)) body,
-      nested_stops,
-    )
+statement_depth_reads zero = (
+  nested_reads firsts_of_statement left_out Never (Statement whole 2) statement_more (λ x s h. h)
+      (begins_statement (ExprIn 1) (ArgsAt whole 1) (BindersAt whole 1) (Body whole 1) (some_expr whole 0) (some_args whole 1) (some_binders_at whole 0) (some_body whole 0) (StatementsAt whole 1) (some_statements whole 1) (ExprIn 2) (ParamsAt whole 1) (some_expr whole 1) (some_params_at whole 1)) (some_statement whole 1),
+  nested_reads firsts_of_body left_out Never (Body whole 2) body_more (λ x s h. h)
+      (begins_body (ExprIn 1) (ArgsAt whole 1) (BindersAt whole 1) (Body whole 1) (some_expr whole 0) (some_args whole 1) (some_binders_at whole 0) (some_body whole 0) (StatementsAt whole 1) (some_statements whole 1)) (some_body whole 1),
+  nested_stops,
+)
   where
     nested_stops : Stops (nested {A = BodyTerm} firsts_of_body left_out) body_more
     nested_stops ts x rest e = never (starts (among firsts_of_body) ts) e
@@ -413,18 +471,19 @@ statement_depth_reads zero =
         never false e = absurd (cc)
 statement_depth_reads (suc d) =
     let below = statement_depth_reads d in
-    let some : Some_of (Body (suc (suc d))) = some_empty_body (suc d) in
-    let ii = instance_in_reads d (body_read d) (Body d) (Body (suc (suc d))) below.1 below.2 some in
-    let si = instance_in_stops d (body_read d) (Body d) (Body (suc (suc d))) below.1 below.2 some in (
-      statement_reads (statement_read d) (Statement d) (Statement (suc (suc d))) below.0 (statement_depth_opens d) (instance_in d (body_read d)) (Instance (Expr d) (Body d)) (Instance (Expr (suc (suc d))) (Body (suc (suc d)))) ii si (instance_opens (Expr d) (Body d))
-          (expr_read (suc d)) (param_in d (expr_read d)) (body_read d) (Expr (suc d)) (Expr (suc (suc (suc d)))) (ParamIn d) (ParamIn (suc (suc d))) (Body d) (Body (suc (suc d)))
-          (depth_reads (suc d)).0 (param_in_reads d) (param_in_opens d) below.1 below.2 (some_expr (suc (suc d))) some (instance_unlike (Expr d) (Body d)) (statement_moves (expr_read d) (arg_in d (expr_read d)) (binder_in d (expr_read d)) (body_read d)),
-      body_reads (statement_read d) (Statement d) (Statement (suc (suc d))) below.0 (statement_depth_opens d) (instance_in d (body_read d)) (Instance (Expr d) (Body d)) (Instance (Expr (suc (suc d))) (Body (suc (suc d)))) ii si (instance_opens (Expr d) (Body d)),
-      body_stops (statement_read d) (Statement d) (Statement (suc (suc d))) below.0 (statement_depth_opens d) (instance_in d (body_read d)) (Instance (Expr d) (Body d)) (Instance (Expr (suc (suc d))) (Body (suc (suc d)))) ii si (instance_opens (Expr d) (Body d)),
+    let some : Some_of (Body whole (suc (suc d))) = some_body whole (suc d) in
+    let ii = instance_in_reads d (body_read d) (Body whole d) (Body whole (suc (suc d))) below.1 below.2 some in
+    let si = instance_in_stops d (body_read d) (Body whole d) (Body whole (suc (suc d))) below.1 below.2 some in
+    let inner = statements_in_reads d (statement_read d) (Statement whole (suc (suc d))) below.0 in (
+      statement_reads (statement_read d) (StatementsAt whole d) (StatementsAt whole (suc (suc d))) inner (some_statements whole (suc (suc d))) (instance_in d (body_read d)) (InstanceAt whole d) (InstanceAt whole (suc (suc d))) ii si (instance_depth_opens whole d)
+          (expr_read (suc d)) (param_in d (expr_read d)) (body_read d) (ExprIn (suc d)) (ExprIn (suc (suc (suc d)))) (ParamsAt whole d) (ParamsAt whole (suc (suc d))) (Body whole d) (Body whole (suc (suc d)))
+          (depth_reads (suc d)).0 (params_in_reads d) (some_params_at whole (suc (suc d))) below.1 below.2 (some_expr whole (suc (suc d))) some (instance_unlike (ExprIn d) (ArgsAt whole d) (BindersAt whole d) (Body whole d)) (statement_moves (expr_read d) (arg_in d (expr_read d)) (binders_read (binder_in d (expr_read d))) (body_read d)),
+      body_reads (statement_read d) (StatementsAt whole d) (StatementsAt whole (suc (suc d))) inner (some_statements whole (suc (suc d))) (instance_in d (body_read d)) (InstanceAt whole d) (InstanceAt whole (suc (suc d))) ii si (instance_depth_opens whole d),
+      body_stops (statement_read d) (StatementsAt whole d) (StatementsAt whole (suc (suc d))) inner (some_statements whole (suc (suc d))) (instance_in d (body_read d)) (InstanceAt whole d) (InstanceAt whole (suc (suc d))) ii si (instance_depth_opens whole d),
     )
 
 -- a program is read
 pub program_reads : (d : ℕ) → IsReader (program_read d) (Program d) (Program (suc (suc d))) (λ x t. false)
 program_reads d =
-    before_reads (many (among firsts_of_statement) (statement_read d)) (Many (Statement d)) (Many (Statement (suc (suc d)))) end (λ x. among statements_more) end_one (token End) refl
-    (statements_reads (statement_read d) (Statement d) (Statement (suc (suc d))) (statement_depth_reads d).0 (statement_depth_opens d)) (λ x. next_apart (end ∷ []) statements_more refl)
+    before_reads (many (among firsts_of_statement) (statement_read d)) (Many (Statement whole d)) (Many (Statement whole (suc (suc d)))) end (λ x. among statements_more) end_one (token End) refl
+    (statements_reads (statement_read d) (Statement whole d) (Statement whole (suc (suc d))) (statement_depth_reads d).0 (statement_at_opens whole d)) (λ x. next_apart (end ∷ []) statements_more refl)

@@ -1,10 +1,10 @@
--- What is in the grammar of a depth is in that of each greater depth.
-use Rattle.std.proofs.Common.{◌≡◌, ℕ, zero, suc, ◌+◌, List, [], ◌∷◌, Bool, Option, Some, None, inl, inr, arith}
+-- What is in the grammar of a depth is in that of each greater depth, and in outline.
+use Rattle.std.proofs.Common.{ℕ, zero, suc, ◌+◌, ◌≤◌, List, [], ◌∷◌, Bool, Option, Some, None, inl, inr, arith}
 use Rattle.scad_lexer.specs.declared.token.Token.{Token}
-use Rattle.scad_ast.specs.Terms.{Term, StatementTerm, InstanceStatement, ParamTerm, BodyTerm, InstanceBody, PositionalTerm}
+use Rattle.scad_ast.specs.Terms.{Term, ArgTerm, StatementTerm, InstanceStatement, InstanceTerm, ParamTerm, BinderTerm, BodyTerm, InstanceBody, PositionalTerm}
 use Rattle.scad_grammar.specs.Classes.{open_parenthesis_sign, close_parenthesis_sign, close_bracket_sign, open_brace_sign, close_brace_sign, comma_sign, semicolon_sign, assign_sign, colon_sign, question_sign, open_bracket_sign, name, end, if_word, else_word, is, among}
-use Rattle.scad_grammar.specs.Languages.{Language, One, Mapped, Both, BothIf, EitherOf, Nothing, Many, Maybe, Behind, Before, Separated, first_of, second_of, pair_of, cons}
-use Rattle.scad_grammar.specs.Grammar.{InParentheses, Arg, Args, Param, Params, Binders, Bracket, Primary, Suffix, Unary, Chain, Choice, Expr, Operand, ParamIn, Core, Instance, BodyOf, StatementOf, Statement, Body, Program, levels, link, chain_of, items, if_of, IsNearest}
+use Rattle.scad_grammar.specs.Languages.{Language, One, Mapped, Both, BothIf, EitherOf, Nothing, Many, Maybe, Never, Behind, Before, Separated, first_of, second_of, pair_of, cons}
+use Rattle.scad_grammar.specs.Grammar.{InParentheses, Arg, Args, Param, Params, Binders, Bracket, Primary, Suffix, Unary, Chain, Choice, Detail, whole, outline, ArgsIn, ParamsIn, BindersIn, StatementsIn, InstanceIn, Expr, Operand, Instance, BodyOf, StatementOf, Statement, Body, ProgramIn, Program, Outline, levels, link, chain_of, items, if_of, IsNearest}
 
 record Within {A : Type 0} (L M : Language A) : Type 0 where
   at : (x : A) (s : List Token) → L x s → M x s
@@ -50,7 +50,7 @@ parentheses_within h = behind_within (is open_parenthesis_sign) (before_within (
 separated_within : {A : Type 0} (mark : Token → Bool) {L M : Language A} → Within L M → Within (Separated mark L) (Separated mark M)
 separated_within mark h = both_within first_of (both_within cons h (many_within (behind_within mark h))) (same_within (Maybe (One mark)))
 
-module _ (E F U V : Language Term) (e : Within E F) (u : Within U V) where
+module _ (E F : Language Term) (e : Within E F) where
   arg_within : Within (Arg E) (Arg F)
   arg_within = either_within (both_within _ (same_within (One (is name))) (behind_within (is assign_sign) e)) (mapped_within PositionalTerm e)
 
@@ -59,6 +59,9 @@ module _ (E F U V : Language Term) (e : Within E F) (u : Within U V) where
 
   param_within : Within (Param E) (Param F)
   param_within = both_within _ (same_within (One (is name))) (maybe_within (behind_within (is assign_sign) e))
+
+  params_within : Within (Params (Param E)) (Params (Param F))
+  params_within = either_within (separated_within (is comma_sign) param_within) (same_within (Nothing []))
 
   binders_within : Within (Binders E) (Binders F)
   binders_within = separated_within (is comma_sign) (both_within _ (same_within (One (is name))) (behind_within (is assign_sign) e))
@@ -71,78 +74,126 @@ module _ (E F U V : Language Term) (e : Within E F) (u : Within U V) where
       (either_within (behind_within (is colon_sign) (both_within _ e (maybe_within (behind_within (is colon_sign) e))))
       (mapped_within items (both_within first_of (many_within (behind_within (is comma_sign) e)) (same_within (Maybe (One (is comma_sign))))))))))
 
-  primary_within : Within (Primary E) (Primary F)
-  primary_within =
-      either_within (same_within _) (either_within (same_within _) (either_within (same_within _) (either_within (same_within _) (either_within (same_within _) (either_within (same_within _)
-      (either_within (both_within _ (same_within (One (is name))) (maybe_within (parentheses_within args_within)))
-      (either_within (both_within _ (same_within (One (is open_parenthesis_sign))) (before_within (is close_parenthesis_sign) e)) bracket_within)))))))
-
   suffix_within : Within (Suffix E) (Suffix F)
   suffix_within = either_within (both_within _ (same_within (One (is open_bracket_sign))) (before_within (is close_bracket_sign) e)) (same_within _)
 
-  unary_within : Within (Unary E U) (Unary F V)
-  unary_within = either_within (both_within _ (same_within _) u) (both_within _ primary_within (many_within suffix_within))
+module _ (E F U V : Language Term) (As Bs : Language (List ArgTerm)) (e : Within E F) (a : Within As Bs) (u : Within U V) where
+  primary_within : Within (Primary E As) (Primary F Bs)
+  primary_within =
+      either_within (same_within _) (either_within (same_within _) (either_within (same_within _) (either_within (same_within _) (either_within (same_within _) (either_within (same_within _)
+      (either_within (both_within _ (same_within (One (is name))) (maybe_within (parentheses_within a)))
+      (either_within (both_within _ (same_within (One (is open_parenthesis_sign))) (before_within (is close_parenthesis_sign) e)) (bracket_within E F e))))))))
+
+  unary_within : Within (Unary E As U) (Unary F Bs V)
+  unary_within = either_within (both_within _ (same_within _) u) (both_within _ primary_within (many_within (suffix_within E F e)))
 
   chain_within : (below : List (List ℕ)) {X Y : Language Term} → Within X Y → Within (Chain below X) (Chain below Y)
   chain_within [] h = h
   chain_within (ops ∷ below) h = both_within chain_of (chain_within below h) (many_within (both_within link (same_within (One (among ops))) (chain_within below h)))
 
-  choice_within : Within (Choice E U) (Choice F V)
+  choice_within : Within (Choice E As U) (Choice F Bs V)
   choice_within = both_within _ (chain_within levels unary_within) (maybe_within (both_within pair_of (same_within (One (is question_sign))) (both_within pair_of e (behind_within (is colon_sign) e))))
 
-module _ (E F : Language Term) (B C : Language BodyTerm) (e : Within E F) (b : Within B C) where
-  core_within : Within (Core E B) (Core F C)
-  core_within =
-      either_within (both_if_within if_of IsNearest (both_within pair_of (same_within (One (is if_word))) (both_within pair_of (parentheses_within e) b)) (maybe_within (behind_within (is else_word) b)))
-      (either_within (both_within _ (same_within _) (both_within pair_of (parentheses_within (binders_within E F E F e e)) b))
-      (both_within _ (same_within _) (both_within pair_of (parentheses_within (args_within E F E F e e)) b)))
+instance_within : (E F : Language Term) (As Bs : Language (List ArgTerm)) (Ns Ms : Language (List BinderTerm)) (B C : Language BodyTerm) → Within E F → Within As Bs → Within Ns Ms → Within B C → Within (Instance E As Ns B) (Instance F Bs Ms C)
+instance_within E F As Bs Ns Ms B C e a n b =
+    both_within _ (same_within _)
+    (either_within (both_if_within if_of IsNearest (both_within pair_of (same_within (One (is if_word))) (both_within pair_of (parentheses_within e) b)) (maybe_within (behind_within (is else_word) b)))
+    (either_within (both_within _ (same_within _) (both_within pair_of (parentheses_within n) b))
+    (both_within _ (same_within _) (both_within pair_of (parentheses_within a) b))))
 
-  instance_within : Within (Instance E B) (Instance F C)
-  instance_within = both_within _ (same_within _) core_within
+module _ (I J : Language InstanceTerm) (i : Within I J) (Ss Rs : Language (List StatementTerm)) (s : Within Ss Rs) where
+  body_within : Within (BodyOf I Ss) (BodyOf J Rs)
+  body_within =
+      either_within (same_within _)
+      (either_within (both_within _ (same_within (One (is open_brace_sign))) (before_within (is close_brace_sign) s))
+      (mapped_within InstanceBody i))
 
-  module _ (S R : Language StatementTerm) (s : Within S R) where
-    body_within : Within (BodyOf E S B) (BodyOf F R C)
-    body_within =
-        either_within (same_within _)
-        (either_within (both_within _ (same_within (One (is open_brace_sign))) (before_within (is close_brace_sign) (many_within s)))
-        (mapped_within InstanceBody instance_within))
+  statement_within : (X Y : Language Term) (Ps Qs : Language (List ParamTerm)) (B C : Language BodyTerm) → Within X Y → Within Ps Qs → Within B C → Within (StatementOf X Ps I Ss B) (StatementOf Y Qs J Rs C)
+  statement_within X Y Ps Qs B C x p b =
+      either_within (same_within _)
+      (either_within (both_within _ (same_within (One (is open_brace_sign))) (before_within (is close_brace_sign) s))
+      (either_within (both_within _ (same_within (One (is name))) (behind_within (is assign_sign) (before_within (is semicolon_sign) x)))
+      (either_within (both_within _ (same_within _) (both_within pair_of (same_within (One (is name))) (both_within pair_of (parentheses_within p) b)))
+      (either_within (both_within _ (same_within _) (both_within pair_of (same_within (One (is name))) (both_within pair_of (parentheses_within p) (behind_within (is assign_sign) (before_within (is semicolon_sign) x)))))
+      (mapped_within InstanceStatement i)))))
 
-    statement_within : (X Y : Language Term) (P Q : Language ParamTerm) → Within X Y → Within P Q → Within (StatementOf X E P S B) (StatementOf Y F Q R C)
-    statement_within X Y P Q x p =
-        either_within (same_within _)
-        (either_within (both_within _ (same_within (One (is open_brace_sign))) (before_within (is close_brace_sign) (many_within s)))
-        (either_within (both_within _ (same_within (One (is name))) (behind_within (is assign_sign) (before_within (is semicolon_sign) x)))
-        (either_within (both_within _ (same_within _) (both_within pair_of (same_within (One (is name))) (both_within pair_of (parentheses_within (params_within p)) b)))
-        (either_within (both_within _ (same_within _) (both_within pair_of (same_within (One (is name))) (both_within pair_of (parentheses_within (params_within p)) (behind_within (is assign_sign) (before_within (is semicolon_sign) x)))))
-        (mapped_within InstanceStatement instance_within)))))
-      where
-        params_within : Within P Q → Within (Params P) (Params Q)
-        params_within p = either_within (separated_within (is comma_sign) p) (same_within (Nothing []))
+-- whatever holds of no token at all
+never_within : {A : Type 0} (L : Language A) → Within Never L
+never_within L = record { at = λ x s h. elim h [ ] }
 
-expr_wider : (d : ℕ) → Within (Expr d) (Expr (suc d)) × Within (Operand d) (Operand (suc d))
-unfolding Expr Operand
-expr_wider zero = (record { at = λ x s h. elim h [ ] }, record { at = λ x s h. elim h [ ] })
-expr_wider (suc d) =
-    let k = expr_wider d in
-    (choice_within (Expr d) (Expr (suc d)) (Operand d) (Operand (suc d)) k.0 k.1, unary_within (Expr d) (Expr (suc d)) (Operand d) (Operand (suc d)) k.0 k.1)
+nothing_args : (k : ℕ) (E : Language Term) → Within (Nothing []) (ArgsIn k E)
+nothing_args zero E = same_within _
+nothing_args (suc k) E = record { at = λ x s h. inr h }
 
-param_wider : (d : ℕ) → Within (ParamIn d) (ParamIn (suc d))
-param_wider zero = record { at = λ x s h. elim h [ ] }
-param_wider (suc d) = param_within (Expr (suc d)) (Expr (suc (suc d))) (Expr (suc d)) (Expr (suc (suc d))) (expr_wider (suc d)).0 (expr_wider (suc d)).0
+nothing_params : (k : ℕ) (E : Language Term) → Within (Nothing []) (ParamsIn k E)
+nothing_params zero E = same_within _
+nothing_params (suc k) E = record { at = λ x s h. inr h }
 
-statement_wider : (d : ℕ) → Within (Statement d) (Statement (suc d)) × Within (Body d) (Body (suc d))
-unfolding Statement Body
-statement_wider zero = (record { at = λ x s h. elim h [ ] }, record { at = λ x s h. elim h [ ] })
-statement_wider (suc d) =
-    let k = statement_wider d in
-    let e = (expr_wider d).0 in (
-      statement_within (Expr d) (Expr (suc d)) (Body d) (Body (suc d)) e k.1 (Statement d) (Statement (suc d)) k.0 (Expr (suc d)) (Expr (suc (suc d))) (ParamIn d) (ParamIn (suc d)) (expr_wider (suc d)).0 (param_wider d),
-      body_within (Expr d) (Expr (suc d)) (Body d) (Body (suc d)) e k.1 (Statement d) (Statement (suc d)) k.0,
-    )
+pub none_many : {A : Type 0} (L : Language A) (x : List A) (s : List Token) → Nothing [] x s → Many L x s
+none_many L [] s h = h.1
+none_many L (y ∷ ys) s h = absurd (let e = h.0 in cc)
 
-pub wider : (d : ℕ) (x : List StatementTerm) (s : List Token) → Program d x s → Program (suc d) x s
-wider d = (before_within (is end) (many_within (statement_wider d).0)).at
+nothing_statements : (k : ℕ) (S : Language StatementTerm) → Within (Nothing []) (StatementsIn k S)
+nothing_statements zero S = same_within _
+nothing_statements (suc k) S = record { at = none_many S }
+
+-- what is whole at a depth is in the grammar of each greater depth, and so are its parts
+module _ (g : Detail) where
+  args_in_within : (d k : ℕ) → d ≤ k → Within (Expr whole d) (Expr g k) → Within (ArgsIn d (Expr whole d)) (ArgsIn k (Expr g k))
+  args_in_within zero k l e = nothing_args k (Expr g k)
+  args_in_within (suc d) zero l e = absurd (omega arith)
+  args_in_within (suc d) (suc k) l e = args_within (Expr whole (suc d)) (Expr g (suc k)) e
+
+  params_in_within : (d k : ℕ) → d ≤ k → Within (Expr whole d) (Expr g k) → Within (ParamsIn d (Expr whole d)) (ParamsIn k (Expr g k))
+  params_in_within zero k l e = nothing_params k (Expr g k)
+  params_in_within (suc d) zero l e = absurd (omega arith)
+  params_in_within (suc d) (suc k) l e = params_within (Expr whole (suc d)) (Expr g (suc k)) e
+
+  binders_in_within : (d k : ℕ) → d ≤ k → Within (Expr whole d) (Expr g k) → Within (BindersIn whole d (Expr whole d)) (BindersIn g k (Expr g k))
+  binders_in_within zero k l e = never_within _
+  binders_in_within (suc d) zero l e = absurd (omega arith)
+  binders_in_within (suc d) (suc k) l e = binders_within (Expr whole (suc d)) (Expr g (suc k)) e
+
+  statements_in_within : (d k : ℕ) → d ≤ k → Within (Statement whole d) (Statement g k) → Within (StatementsIn d (Statement whole d)) (StatementsIn k (Statement g k))
+  statements_in_within zero k l s = nothing_statements k (Statement g k)
+  statements_in_within (suc d) zero l s = absurd (omega arith)
+  statements_in_within (suc d) (suc k) l s = many_within s
+
+  expr_within : (d k : ℕ) → d ≤ k → Within (Expr whole d) (Expr g k) × Within (Operand whole d) (Operand g k)
+  unfolding Expr Operand
+  expr_within zero k l = (never_within _, never_within _)
+  expr_within (suc d) zero l = absurd (omega arith)
+  expr_within (suc d) (suc k) l =
+      let less : d ≤ k = omega arith in
+      let e = expr_within d k less in
+      let a = args_in_within d k less e.0 in (
+        choice_within (Expr whole d) (Expr g k) (Operand whole d) (Operand g k) (ArgsIn d (Expr whole d)) (ArgsIn k (Expr g k)) e.0 a e.1,
+        unary_within (Expr whole d) (Expr g k) (Operand whole d) (Operand g k) (ArgsIn d (Expr whole d)) (ArgsIn k (Expr g k)) e.0 a e.1,
+      )
+
+  statement_in_within : (d k : ℕ) → d ≤ k → Within (Statement whole d) (Statement g k) × Within (Body whole d) (Body g k)
+  unfolding Statement Body
+  statement_in_within zero k l = (never_within _, never_within _)
+  statement_in_within (suc d) zero l = absurd (omega arith)
+  statement_in_within (suc d) (suc k) l =
+      let less : d ≤ k = omega arith in
+      let b = statement_in_within d k less in
+      let e = (expr_within d k less).0 in
+      let i =
+      instance_within (Expr whole d) (Expr g k) (ArgsIn d (Expr whole d)) (ArgsIn k (Expr g k)) (BindersIn whole d (Expr whole d)) (BindersIn g k (Expr g k)) (Body whole d) (Body g k)
+      e (args_in_within d k less e) (binders_in_within d k less e) b.1 in
+      let s = statements_in_within d k less b.0 in (
+        statement_within (InstanceIn whole d (Body whole d)) (InstanceIn g k (Body g k)) i (StatementsIn d (Statement whole d)) (StatementsIn k (Statement g k)) s
+            (Expr whole (suc d)) (Expr g (suc k)) (ParamsIn d (Expr whole d)) (ParamsIn k (Expr g k)) (Body whole d) (Body g k) (expr_within (suc d) (suc k) l).0 (params_in_within d k less e) b.1,
+        body_within (InstanceIn whole d (Body whole d)) (InstanceIn g k (Body g k)) i (StatementsIn d (Statement whole d)) (StatementsIn k (Statement g k)) s,
+      )
+
+  pub program_within : (d k : ℕ) → d ≤ k → (x : List StatementTerm) (s : List Token) → Program d x s → ProgramIn g k x s
+  program_within d k l = (before_within (is end) (many_within (statement_in_within d k l).0)).at
 
 pub lift : (n d : ℕ) (x : List StatementTerm) (s : List Token) → Program d x s → Program (n + d) x s
-lift zero d x s h = let e : 0 + d ≡ d = omega arith in rw e h
-lift (suc n) d x s h = let e : suc n + d ≡ suc (n + d) = omega arith in rw e (wider (n + d) x s (lift n d x s h))
+lift n d = program_within whole d (n + d) (omega arith)
+
+-- a program is its own outline
+pub is_outline : (d : ℕ) (x : List StatementTerm) (s : List Token) → Program d x s → Outline d x s
+is_outline d = program_within outline d d (omega arith)

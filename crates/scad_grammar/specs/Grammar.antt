@@ -10,7 +10,7 @@ use Rattle.scad_ast.specs.declared.operator.UnaryOp.TheVariants.{Negate, Keep, N
 use Rattle.scad_ast.specs.declared.operator.Modifier.{Modifier}
 use Rattle.scad_ast.specs.declared.operator.Modifier.TheVariants.{Disable, Background, Highlight, Root}
 use Rattle.scad_ast.specs.Terms.{Term, NumberTerm, TextTerm, TruthTerm, UndefTerm, ChildCountTerm, NameTerm, CallTerm, ParenTerm, ListTerm, RangeTerm, SteppedRangeTerm, PostfixTerm, UnaryTerm, ChainTerm, ChoiceTerm, LinkTerm, SuffixTerm, IndexTerm, MemberTerm, ArgTerm, NamedTerm, PositionalTerm, terms_from, links_from, suffixes_from, args_from, place_of, ParamTerm, PlainTerm, DefaultTerm, BinderTerm, MarkTerm, StatementTerm, EmptyStatement, BlockStatement, AssignmentTerm, ModuleTerm, FunctionTerm, InstanceStatement, InstanceTerm, AnInstance, CoreTerm, IfTerm, IfElseTerm, ForTerm, IntersectionForTerm, ModuleCallTerm, BodyTerm, EmptyBody, BlockBody, InstanceBody, statements_from}
-use Rattle.scad_grammar.specs.Classes.{numeral, name, child_count, text, end, module_word, function_word, if_word, else_word, for_word, intersection_for_word, true_word, false_word, undef_word, open_parenthesis_sign, close_parenthesis_sign, open_bracket_sign, close_bracket_sign, open_brace_sign, close_brace_sign, comma_sign, semicolon_sign, assign_sign, colon_sign, question_sign, dot_sign, plus_sign, minus_sign, times_sign, divide_sign, remainder_sign, less_sign, greater_sign, less_equal_sign, greater_equal_sign, equal_sign, not_equal_sign, and_sign, or_sign, not_sign, hash_sign, class_of, among, is, number_of, bytes_of}
+use Rattle.scad_grammar.specs.Classes.{numeral, name, child_count, special, text, end, module_word, function_word, if_word, else_word, for_word, intersection_for_word, true_word, false_word, undef_word, open_parenthesis_sign, close_parenthesis_sign, open_bracket_sign, close_bracket_sign, open_brace_sign, close_brace_sign, comma_sign, semicolon_sign, assign_sign, colon_sign, question_sign, dot_sign, plus_sign, minus_sign, times_sign, divide_sign, remainder_sign, less_sign, greater_sign, less_equal_sign, greater_equal_sign, equal_sign, not_equal_sign, and_sign, or_sign, not_sign, hash_sign, class_of, among, is, number_of, bytes_of}
 use Rattle.scad_grammar.specs.Languages.{Language, One, Mapped, Both, BothIf, EitherOf, Nothing, Many, Maybe, Never, first_of, pair_of, Behind, Before, Separated}
 
 -- something in parentheses, brackets or braces
@@ -120,7 +120,7 @@ Binder E = Both binder_of (One (is name)) (Behind (is assign_sign) E)
 abbrev pub Binders : Language Term → Language (List BinderTerm)
 Binders E = Separated (is comma_sign) (Binder E)
 
--- expressions; E is an expression one deeper, and U an operand of a unary operator
+-- expressions; E is an expression one deeper, As arguments one deeper, and U an operand of a unary operator
 
 -- "[" "]" | "[" expr { "," expr } [","] "]" | "[" expr ":" expr [ ":" expr ] "]"
 abbrev pub Bracket : Language Term → Language Term
@@ -133,15 +133,15 @@ Bracket E =
     (is close_bracket_sign))
 
 -- primary = NUMERAL | TEXT | "true" | "false" | "undef" | "$children" | NAME | NAME "(" args ")" | "(" expr ")" | lists and ranges
-abbrev pub Primary : Language Term → Language Term
-Primary E =
+abbrev pub Primary : Language Term → Language (List ArgTerm) → Language Term
+Primary E As =
     EitherOf (Mapped (λ t. NumberTerm t.place (number_of t.kind)) (One (is numeral)))
     (EitherOf (Mapped (λ t. TextTerm t.place (bytes_of t.kind)) (One (is text)))
     (EitherOf (Mapped (λ t. TruthTerm t.place true) (One (is true_word)))
     (EitherOf (Mapped (λ t. TruthTerm t.place false) (One (is false_word)))
     (EitherOf (Mapped (λ t. UndefTerm t.place) (One (is undef_word)))
     (EitherOf (Mapped (λ t. ChildCountTerm t.place) (One (is child_count)))
-    (EitherOf (Both named_of (One (is name)) (Maybe (InParentheses (Args E))))
+    (EitherOf (Both named_of (One (is name)) (Maybe (InParentheses As)))
     (EitherOf (Both paren_of (One (is open_parenthesis_sign)) (Before E (is close_parenthesis_sign)))
     (Bracket E))))))))
 
@@ -151,12 +151,12 @@ Suffix E =
     EitherOf (Both index_of (One (is open_bracket_sign)) (Before E (is close_bracket_sign)))
     (Both member_of (One (is dot_sign)) (One (is name)))
 
-abbrev pub Postfix : Language Term → Language Term
-Postfix E = Both postfix_of (Primary E) (Many (Suffix E))
+abbrev pub Postfix : Language Term → Language (List ArgTerm) → Language Term
+Postfix E As = Both postfix_of (Primary E As) (Many (Suffix E))
 
 -- unary = ("-" | "+" | "!") unary | postfix
-abbrev pub Unary : Language Term → Language Term → Language Term
-Unary E U = EitherOf (Both unary_of (One (among (minus_sign ∷ plus_sign ∷ not_sign ∷ []))) U) (Postfix E)
+abbrev pub Unary : Language Term → Language (List ArgTerm) → Language Term → Language Term
+Unary E As U = EitherOf (Both unary_of (One (among (minus_sign ∷ plus_sign ∷ not_sign ∷ []))) U) (Postfix E As)
 
 -- a chain of the operators of some levels, the loosest first
 abbrev pub Chain : List (List ℕ) → Language Term → Language Term
@@ -171,25 +171,43 @@ levels =
     ∷ (plus_sign ∷ minus_sign ∷ []) ∷ (times_sign ∷ divide_sign ∷ remainder_sign ∷ []) ∷ []
 
 -- expr = or [ "?" expr ":" expr ]
-abbrev pub Choice : Language Term → Language Term → Language Term
-Choice E U = Both choice_of (Chain levels (Unary E U)) (Maybe (Both pair_of (One (is question_sign)) (Both pair_of E (Behind (is colon_sign) E))))
+abbrev pub Choice : Language Term → Language (List ArgTerm) → Language Term → Language Term
+Choice E As U = Both choice_of (Chain levels (Unary E As U)) (Maybe (Both pair_of (One (is question_sign)) (Both pair_of E (Behind (is colon_sign) E))))
+
+-- A program is written whole, or in outline: in an outline a gap stands for each part that is too deep.
+pub data Detail : Type 0 where
+  whole : Detail
+  outline : Detail
+
+-- what is too deep: no whole program has it, and in an outline one token stands for it that no form of the grammar has
+abbrev pub TooDeep : {A : Type 0} → Detail → (Token → A) → Language A
+TooDeep whole f = Never
+TooDeep outline f = Mapped f (One (is special))
+
+-- arguments, parameters and variables of a loop whose tokens are less deep than so much, over an expression as deep
+abbrev pub ArgsIn : ℕ → Language Term → Language (List ArgTerm)
+ArgsIn zero E = Nothing []
+ArgsIn (suc d) E = Args E
+
+abbrev pub ParamsIn : ℕ → Language Term → Language (List ParamTerm)
+ParamsIn zero E = Nothing []
+ParamsIn (suc d) E = Params (Param E)
+
+abbrev pub BindersIn : Detail → ℕ → Language Term → Language (List BinderTerm)
+BindersIn g zero E = TooDeep g (λ t. [])
+BindersIn g (suc d) E = Binders E
 
 -- an expression, and an operand, whose tokens are less deep than so much
 unfoldable mutual
-  pub Expr : ℕ → Language Term
-  Expr zero = Never
-  Expr (suc d) = Choice (Expr d) (Operand d)
+  pub Expr : Detail → ℕ → Language Term
+  Expr g zero = TooDeep g (λ t. UndefTerm t.place)
+  Expr g (suc d) = Choice (Expr g d) (ArgsIn d (Expr g d)) (Operand g d)
 
-  pub Operand : ℕ → Language Term
-  Operand zero = Never
-  Operand (suc d) = Unary (Expr d) (Operand d)
+  pub Operand : Detail → ℕ → Language Term
+  Operand g zero = TooDeep g (λ t. UndefTerm t.place)
+  Operand g (suc d) = Unary (Expr g d) (ArgsIn d (Expr g d)) (Operand g d)
 
--- a parameter whose tokens are less deep than so much
-abbrev pub ParamIn : ℕ → Language ParamTerm
-ParamIn zero = Never
-ParamIn (suc d) = Param (Expr (suc d))
-
--- statements; E is an expression one deeper, P a parameter, S a statement and B a body one deeper
+-- statements; E is an expression one deeper, and so are As arguments, Ps parameters, Ns variables of a loop, Ss statements and B a body
 
 abbrev pub mark_of : Token → MarkTerm
 mark_of t = record { at = t.place; modifier = modifier_at (class_of t.kind) }
@@ -238,25 +256,25 @@ abbrev pub call_of : Token → (List ArgTerm × BodyTerm) → CoreTerm
 call_of t p = ModuleCallTerm t.place (bytes_of t.kind) p.0 p.1
 
 -- core = "if" "(" expr ")" body [ "else" body ] | ("for" | "intersection_for") "(" binders ")" body | NAME "(" args ")" body
-abbrev pub Core : Language Term → Language BodyTerm → Language CoreTerm
-Core E B =
+abbrev pub Core : Language Term → Language (List ArgTerm) → Language (List BinderTerm) → Language BodyTerm → Language CoreTerm
+Core E As Ns B =
     EitherOf (BothIf if_of IsNearest (Both pair_of (One (is if_word)) (Both pair_of (InParentheses E) B)) (Maybe (Behind (is else_word) B)))
-    (EitherOf (Both loop_of (One (among (for_word ∷ intersection_for_word ∷ []))) (Both pair_of (InParentheses (Binders E)) B))
-    (Both call_of (One (is name)) (Both pair_of (InParentheses (Args E)) B)))
+    (EitherOf (Both loop_of (One (among (for_word ∷ intersection_for_word ∷ []))) (Both pair_of (InParentheses Ns) B))
+    (Both call_of (One (is name)) (Both pair_of (InParentheses As) B)))
 
 -- instance = { "*" | "%" | "#" | "!" } core
-abbrev pub Instance : Language Term → Language BodyTerm → Language InstanceTerm
-Instance E B = Both instance_of (Many (Mapped mark_of (One (among (times_sign ∷ remainder_sign ∷ hash_sign ∷ not_sign ∷ []))))) (Core E B)
+abbrev pub Instance : Language Term → Language (List ArgTerm) → Language (List BinderTerm) → Language BodyTerm → Language InstanceTerm
+Instance E As Ns B = Both instance_of (Many (Mapped mark_of (One (among (times_sign ∷ remainder_sign ∷ hash_sign ∷ not_sign ∷ []))))) (Core E As Ns B)
 
 abbrev pub block_of : Token → List StatementTerm → BodyTerm
 block_of t ss = BlockBody t.place (statements_from ss)
 
 -- body = ";" | "{" { statement } "}" | instance
-abbrev pub BodyOf : Language Term → Language StatementTerm → Language BodyTerm → Language BodyTerm
-BodyOf E S B =
+abbrev pub BodyOf : Language InstanceTerm → Language (List StatementTerm) → Language BodyTerm
+BodyOf I Ss =
     EitherOf (Mapped (λ t. EmptyBody t.place) (One (is semicolon_sign)))
-    (EitherOf (Both block_of (One (is open_brace_sign)) (Before (Many S) (is close_brace_sign)))
-    (Mapped InstanceBody (Instance E B)))
+    (EitherOf (Both block_of (One (is open_brace_sign)) (Before Ss (is close_brace_sign)))
+    (Mapped InstanceBody I))
 
 abbrev pub bare_block_of : Token → List StatementTerm → StatementTerm
 bare_block_of t ss = BlockStatement t.place (statements_from ss)
@@ -272,26 +290,43 @@ function_of t p = FunctionTerm t.place (bytes_of p.0.kind) p.0.place p.1.0 p.1.1
 
 -- statement = ";" | "{" { statement } "}" | NAME "=" expr ";" | "module" NAME "(" params ")" body
 --           | "function" NAME "(" params ")" "=" expr ";" | instance
--- X is an expression as deep as the statement
-abbrev pub StatementOf : Language Term → Language Term → Language ParamTerm → Language StatementTerm → Language BodyTerm → Language StatementTerm
-StatementOf X E P S B =
+-- X is an expression as deep as the statement, and I an instance
+abbrev pub StatementOf : Language Term → Language (List ParamTerm) → Language InstanceTerm → Language (List StatementTerm) → Language BodyTerm → Language StatementTerm
+StatementOf X Ps I Ss B =
     EitherOf (Mapped (λ t. EmptyStatement t.place) (One (is semicolon_sign)))
-    (EitherOf (Both bare_block_of (One (is open_brace_sign)) (Before (Many S) (is close_brace_sign)))
+    (EitherOf (Both bare_block_of (One (is open_brace_sign)) (Before Ss (is close_brace_sign)))
     (EitherOf (Both assignment_of (One (is name)) (Behind (is assign_sign) (Before X (is semicolon_sign))))
-    (EitherOf (Both module_of (One (is module_word)) (Both pair_of (One (is name)) (Both pair_of (InParentheses (Params P)) B)))
-    (EitherOf (Both function_of (One (is function_word)) (Both pair_of (One (is name)) (Both pair_of (InParentheses (Params P)) (Behind (is assign_sign) (Before X (is semicolon_sign))))))
-    (Mapped InstanceStatement (Instance E B))))))
+    (EitherOf (Both module_of (One (is module_word)) (Both pair_of (One (is name)) (Both pair_of (InParentheses Ps) B)))
+    (EitherOf (Both function_of (One (is function_word)) (Both pair_of (One (is name)) (Both pair_of (InParentheses Ps) (Behind (is assign_sign) (Before X (is semicolon_sign))))))
+    (Mapped InstanceStatement I)))))
+
+-- statements whose tokens are less deep than so much, over a statement as deep
+abbrev pub StatementsIn : ℕ → Language StatementTerm → Language (List StatementTerm)
+StatementsIn zero S = Nothing []
+StatementsIn (suc d) S = Many S
+
+-- an instance over a body one deeper
+abbrev pub InstanceIn : Detail → ℕ → Language BodyTerm → Language InstanceTerm
+InstanceIn g d B = Instance (Expr g d) (ArgsIn d (Expr g d)) (BindersIn g d (Expr g d)) B
 
 -- a statement, and a body, whose tokens are less deep than so much
 unfoldable mutual
-  pub Statement : ℕ → Language StatementTerm
-  Statement zero = Never
-  Statement (suc d) = StatementOf (Expr (suc d)) (Expr d) (ParamIn d) (Statement d) (Body d)
+  pub Statement : Detail → ℕ → Language StatementTerm
+  Statement g zero = Never
+  Statement g (suc d) = StatementOf (Expr g (suc d)) (ParamsIn d (Expr g d)) (InstanceIn g d (Body g d)) (StatementsIn d (Statement g d)) (Body g d)
 
-  pub Body : ℕ → Language BodyTerm
-  Body zero = Never
-  Body (suc d) = BodyOf (Expr d) (Statement d) (Body d)
+  pub Body : Detail → ℕ → Language BodyTerm
+  Body g zero = TooDeep g (λ t. EmptyBody t.place)
+  Body g (suc d) = BodyOf (InstanceIn g d (Body g d)) (StatementsIn d (Statement g d))
 
--- program = { statement }, and the end
+-- { statement }, and the end
+abbrev pub ProgramIn : Detail → ℕ → Language (List StatementTerm)
+ProgramIn g d = Before (Many (Statement g d)) (is end)
+
+-- a program whose tokens are less deep than so much
 abbrev pub Program : ℕ → Language (List StatementTerm)
-Program d = Before (Many (Statement d)) (is end)
+Program = ProgramIn whole
+
+-- an outline in which all but the gaps is less deep than so much
+abbrev pub Outline : ℕ → Language (List StatementTerm)
+Outline = ProgramIn outline

@@ -74,6 +74,10 @@ reads_once (x ∷ xs) (y ∷ ys) p text o q a b =
     a.2.2 ∙ ap (in_front (tokens_at p (meaning_of x.word (take x.bytes text)))) rest
     ∙ ap (λ n. in_front (tokens_at p (meaning_of x.word (take n text))) b.2.0) one.0 ∙ ap (λ w. in_front (tokens_at p (meaning_of w (take y.bytes text))) b.2.0) one.1 ∙ sym b.2.2
 
+-- a whole text gives one thing
+pub one_outcome : (text : List ℕ) (o q : Outcome) → Lexes text o → Lexes text q → o ≡ q
+one_outcome text o q h g = reads_once h.0 g.0 (record { line = 1; column = 1 }) text o q h.1 g.1
+
 -- the first thing that was found is the only one
 pub agrees : (text : List ℕ) (r : Result (Vec TokenIn) Stop) → IfOk r (λ ts. Lexes text (Gives ts.items)) → IfErr r (λ stop. IsFault text stop) → (o : Outcome) → Lexes text o → Agrees r o
 agrees text (Ok ts) f e o h = reads_once h.0 f.0 _ text o (Gives ts.items) h.1 f.1

@@ -1,3 +1,5 @@
+mod EndsOnce
+mod Rows
 pub mod Lexing
 pub mod Longest
 pub mod Meanings

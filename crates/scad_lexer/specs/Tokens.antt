@@ -1,5 +1,5 @@
 -- What a word of a source stands for, and the tokens of a whole source.
-use Rattle.std.specs.Prelude.{◌≡◌, ℕ, suc, ◌+◌, ◌-◌, ◌*◌, ◌≤◌, ◌^◌, List, [], ◌∷◌, ◌++◌, length, take, drop, Bool, true, cond, ◌&&◌, nat_eq, Option, Some, None, codes}
+use Rattle.std.specs.Prelude.{◌≡◌, ℕ, suc, ◌+◌, ◌-◌, ◌*◌, ◌≤◌, ◌^◌, List, [], ◌∷◌, ◌++◌, length, take, drop, Bool, true, false, not, cond, ◌&&◌, nat_eq, Option, Some, None, codes}
 use Rattle.std.specs.Str.{bytes_eq}
 use Rattle.scad_lexer.specs.declared.token.Reserved.{Reserved}
 use Rattle.scad_lexer.specs.declared.token.Reserved.TheVariants.{Module, Function, If, Else, For, IntersectionFor, True, False, Undef, Use, Include, Let, Each}
@@ -217,3 +217,19 @@ abbrev pub IsWithin : ℕ → Meaning → Type 0
 IsWithin n (Fault k at) = at ≤ n
 IsWithin n Blank = Unit {0}
 IsWithin n (Token k) = Unit {0}
+
+-- the end of a source
+abbrev pub is_end : TokenKind → Bool
+is_end (NumeralToken n) = false
+is_end (NameToken bytes) = false
+is_end (SpecialToken bytes) = false
+is_end (TextToken bytes) = false
+is_end (ReservedToken r) = false
+is_end (SymbolToken s) = false
+is_end End = true
+
+-- the last token is an end, and no other is
+abbrev pub ends_once : List TokenIn → Bool
+ends_once [] = false
+ends_once (t ∷ []) = is_end t.kind
+ends_once (t ∷ u ∷ ts) = not (is_end t.kind) && ends_once (u ∷ ts)

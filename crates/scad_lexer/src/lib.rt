@@ -12,4 +12,4 @@ mod tokens;
 mod word;
 
 pub use token::{Reserved, Symbol, Token, TokenKind};
-pub use tokens::lex;
+pub use tokens::{lex, one_outcome};

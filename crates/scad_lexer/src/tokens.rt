@@ -1,6 +1,6 @@
-ghost use Rattle.std.specs.Prelude.{◌≡◌, ◌+◌, ◌-◌, ◌^◌, ◌<◌, ◌≤◌, ◌++◌, length, take, IfOk, IfErr, OnOk};
+ghost use Rattle.std.specs.Prelude.{◌≡◌, ℕ, List, true, ◌+◌, ◌-◌, ◌^◌, ◌<◌, ◌≤◌, ◌++◌, length, take, IfOk, IfErr, OnOk};
 ghost use Rattle.scad_lexer.specs.Words.{IsLongest};
-ghost use Rattle.scad_lexer.specs.Tokens.{Outcome, Gives, Lexes, Agrees, IsFault, IsFaultFrom, moved, IsNext, made};
+ghost use Rattle.scad_lexer.specs.Tokens.{Outcome, Gives, Lexes, Agrees, IsFault, IsFaultFrom, moved, IsNext, made, ends_once};
 
 use crate::meaning::{Meaning, meant};
 use crate::scan::longest_word;
@@ -18,9 +18,16 @@ pub fn lex(alloc: Global, text: &[u8]) -> Result<Vec<Token>, Stop>
     ensures fault { IfErr result (λ stop. IsFault text.now stop) }
     // What the source gives is answered, unless memory runs out.
     ensures only { (o : Outcome) → Lexes text.now o → Agrees result o }
+    // The last token is the end, and no other is.
+    ensures ends { IfOk result (λ ts. ends_once ts.items ≡ true) }
 {
     read_tokens(alloc, text)
 }
+
+/// A source gives one thing: its tokens, or its first fault.
+pub fn one_outcome()
+    ensures { (text : List ℕ) (o q : Outcome) → Lexes text o → Lexes text q → o ≡ q }
+{}
 
 fn read_tokens(alloc: Global, text: &[u8]) -> Result<Vec<Token>, Stop>
     requires { length text.now < 2 ^ 32 - 1 }

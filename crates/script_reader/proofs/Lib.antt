@@ -7,3 +7,4 @@ pub mod Told
 pub mod OneLine
 pub mod OneScript
 pub mod WithinLimits
+mod Rows

@@ -3,3 +3,4 @@ pub mod Nodes
 pub mod Sound
 pub mod Clients
 pub mod Whole
+mod Rows

@@ -1,0 +1,73 @@
+-- Replies and outputs that are written out.
+use Rattle.std.proofs.Common.{◌≡◌, ℕ, List, [], ◌∷◌, refl, codes, inl, inr}
+use Rattle.text_place.specs.declared.fault.FaultKind.TheVariants.{UnknownName}
+use Rattle.text_place.specs.Decimals.{numeral}
+use Rattle.script_reader.specs.declared.script.Command.{Command}
+use Rattle.script_reader.specs.declared.script.Command.TheVariants.{Put, Set, Cut, Show, Export, Bad}
+use Rattle.script_reader.specs.declared.script.ClientScript.{ClientScript}
+use Rattle.edit_session.specs.declared.fault.SessionFault.TheVariants.{NoSuchLine, TooManyExports, BadCommand}
+use Rattle.edit_session.specs.Sessions.{State, start}
+use Rattle.reply_text.specs.declared.reply.Complex.TheVariants as limit
+use Rattle.reply_text.specs.declared.reply.Reply.{Reply}
+use Rattle.reply_text.specs.declared.reply.Reply.TheVariants as reply
+use Rattle.reply_text.specs.Texts.{replies_text, output}
+use Rattle.reply_text.specs.Answers.{Fits}
+
+-- an export gives its source back
+abbrev GivesBack : List ℕ → Reply → Type 0
+GivesBack source r = r ≡ reply.Solid source
+
+abbrev commands : List Command
+commands =
+    Put 1 (codes "cube(1);") ∷ Put 1 (codes "// one") ∷ Put 3 (codes "cube(2);") ∷ Set 2 (codes "cube(3);")
+    ∷ Cut 9 9 ∷ Show ∷ Cut 1 1 ∷ Export ∷ Bad ∷ []
+
+abbrev replies : List Reply
+replies =
+    reply.Lines 1 ∷ reply.Lines 2 ∷ reply.Lines 3 ∷ reply.Lines 3 ∷ reply.Refused NoSuchLine
+    ∷ reply.Text (codes "// one" ∷ codes "cube(3);" ∷ codes "cube(2);" ∷ [])
+    ∷ reply.Lines 2 ∷ reply.Solid (codes "cube(3);\ncube(2);\n") ∷ reply.Refused BadCommand ∷ []
+
+replies_fit : Fits GivesBack start commands replies
+replies_fit = inr (refl, inr (refl, inr (refl, inr (refl, inr (refl, inr (refl, inr (refl, inr (refl, inr (refl, tt)))))))))
+
+abbrev client : ClientScript
+client = record { name = codes "a"; commands = commands }
+
+output_is : output (client ∷ []) (replies ∷ []) ≡ codes "== a\n1 ok 1\n2 ok 2\n3 ok 3\n4 ok 3\n5 refused NoSuchLine\n6 text 3\n// one\ncube(3);\ncube(2);\n7 ok 2\n8 solid 2\ncube(3);\ncube(2);\n9 refused BadCommand\n"
+unfolding numeral
+output_is = refl
+
+no_clients : output [] [] ≡ []
+no_clients = refl
+
+-- the export of an empty source is the empty text
+abbrev GivesNothing : List ℕ → Reply → Type 0
+GivesNothing source r = (source ≡ []) × (r ≡ reply.Solid (codes "4OFF\n0 0 0\n"))
+
+empty_export_fits : Fits GivesNothing start (Export ∷ []) (reply.Solid (codes "4OFF\n0 0 0\n") ∷ [])
+empty_export_fits = inr ((refl, refl), tt)
+
+abbrev exporting : ClientScript
+exporting = record { name = codes "a"; commands = Export ∷ [] }
+
+empty_output_is : output (exporting ∷ []) ((reply.Solid (codes "4OFF\n0 0 0\n") ∷ []) ∷ []) ≡ codes "== a\n1 solid 2\n4OFF\n0 0 0\n"
+unfolding numeral
+empty_output_is = refl
+
+-- ---- want of memory
+-- a command that is answered so counts as not given
+not_given_fits : Fits GivesBack start (Put 1 (codes "x") ∷ Put 2 (codes "y") ∷ Put 1 (codes "z") ∷ []) (reply.NoMem ∷ reply.Refused NoSuchLine ∷ reply.Lines 1 ∷ [])
+not_given_fits = inl (refl, inr (refl, inr (refl, tt)))
+
+abbrev nearly_exported : State
+nearly_exported = record { lines = []; shows = 0; exports = 15 }
+
+-- it raises no number of exports
+exports_fit : Fits GivesBack nearly_exported (Export ∷ Export ∷ Export ∷ []) (reply.NoMem ∷ reply.Solid [] ∷ reply.Refused TooManyExports ∷ [])
+exports_fit = inl (refl, inr (refl, inr (refl, tt)))
+
+-- ---- lines
+lines_are : replies_text 9 (reply.Faulted (record { kind = UnknownName; place = record { line = 1; column = 23 } }) ∷ reply.NoMem ∷ reply.Complex (limit.Solid 7) ∷ reply.Complex (limit.Sum 12) ∷ reply.Complex limit.Facets ∷ reply.Complex limit.Corners ∷ reply.Complex limit.Vertices ∷ reply.Text [] ∷ []) ≡ codes "9 fault 1:23 UnknownName\n10 nomem\n11 complex solid 7\n12 complex sum 12\n13 complex facets\n14 complex corners\n15 complex vertices\n16 text 0\n"
+unfolding numeral
+lines_are = refl

@@ -1,0 +1,204 @@
+-- Outlines are read as programs are, but where a program's reader runs out of depth a gap is read.
+use Rattle.std.proofs.Common.{◌≡◌, ℕ, zero, suc, List, [], ◌∷◌, ◌++◌, Bool, true, false, cond, Ok, Err, Some, refl, sym, ap, ◌∙◌, subst}
+use Rattle.scad_lexer.specs.declared.token.Token.{Token}
+use Rattle.scad_lexer.specs.declared.token.TokenKind.TheVariants.{Special, End}
+use Rattle.scad_ast.specs.Terms.{Term, ArgTerm, ParamTerm, BinderTerm, StatementTerm, InstanceTerm, BodyTerm, EmptyBody, UndefTerm}
+use Rattle.scad_grammar.specs.Classes.{special, name, end, close_parenthesis_sign, among, is, other_than}
+use Rattle.scad_grammar.specs.Languages.{One, Nothing, Many, first_of}
+use Rattle.scad_grammar.specs.Grammar.{outline, TooDeep, Expr, Operand, Statement, Body, Outline, Param}
+use Rattle.scad_grammar.specs.Reading.{starts, one_of, mapped, both, many, many_times}
+use Rattle.scad_grammar.specs.Faults.{Reads, one, fault_of, left_out, left_out_of_expressions}
+use Rattle.scad_grammar.specs.Reads.{head_of, arg_read, args_read, primary_read, unary_read, choice_read}
+use Rattle.scad_grammar.specs.StatementReads.{firsts_of_statement, param_read, binder_read, params_read, binders_read, statement_over, body_over}
+use Rattle.scad_grammar.proofs.Readers.{same_reads, SameHead, Told, IsReader, same_start, plain_seen, seen, one_reads, mapped_reads, never_starts}
+use Rattle.scad_grammar.proofs.Wider.{none_many}
+use Rattle.scad_grammar.proofs.Greedy.{Stops, mapped_stops}
+use Rattle.scad_grammar.proofs.Tests.{fault_plain, next_apart, next_less, no_close}
+use Rattle.scad_grammar.proofs.Operands.{token, operand_more}
+use Rattle.scad_grammar.proofs.Primary.{Some_of, before_reads}
+use Rattle.scad_grammar.proofs.Expressions.{ArgsAt, expression_more, expr_opens, some_expr, some_operand, some_args, choice_read_reads, operand_reads, arg_reads, args_over, alone_name, choice_unlike}
+use Rattle.scad_grammar.proofs.Cores.{body_more, instance_more, instance_over, instance_reads, instance_stops, instance_unlike, params_reads, param_reads, param_opens, binder_reads, binders_reads, statement_moves}
+use Rattle.scad_grammar.proofs.Statements.{InstanceAt, BindersAt, ParamsAt, StatementsAt, statements_more, end_one, some_body, some_params_at, some_binders_at, some_statements, instance_depth_opens, statement_at_opens, statements_reads, statement_reads, body_reads, body_stops}
+
+-- nothing is read: the next token is refused
+abbrev pub refusal : {A : Type 0} → List ℕ → Reads A
+refusal classes ts = Err (fault_of classes (head_of ts), ts)
+
+-- a gap
+abbrev pub gap : {A : Type 0} → (Token → A) → List ℕ → Reads A
+gap f classes = mapped f (one_of (is special) (fault_of classes))
+
+-- what outlines are read by; each as deep as the program's reader of its name
+abbrev pub open_arg : ℕ → Reads Term → Reads ArgTerm
+open_arg zero e = refusal left_out_of_expressions
+open_arg (suc d) e = arg_read e
+
+abbrev pub open_param : ℕ → Reads Term → Reads ParamTerm
+open_param zero e = refusal left_out
+open_param (suc d) e = param_read e
+
+abbrev pub open_binders : ℕ → Reads Term → Reads (List BinderTerm)
+open_binders zero e = gap (λ t. []) left_out
+open_binders (suc d) e = binders_read (binder_read e)
+
+unfoldable mutual
+  pub open_expr : ℕ → Reads Term
+  open_expr zero = gap (λ t. UndefTerm t.place) left_out_of_expressions
+  open_expr (suc d) = choice_read (open_expr d) (open_operand d) (primary_read (open_expr d) (open_arg d (open_expr d)))
+
+  pub open_operand : ℕ → Reads Term
+  open_operand zero = gap (λ t. UndefTerm t.place) left_out_of_expressions
+  open_operand (suc d) = unary_read (open_expr d) (open_operand d) (primary_read (open_expr d) (open_arg d (open_expr d)))
+
+abbrev pub open_instance : ℕ → Reads BodyTerm → Reads InstanceTerm
+open_instance d b = instance_over (open_expr d) (open_arg d (open_expr d)) (open_binders d (open_expr d)) b
+
+unfoldable mutual
+  pub open_statement : ℕ → Reads StatementTerm
+  open_statement zero = refusal left_out
+  open_statement (suc d) = statement_over (open_expr (suc d)) (open_param d (open_expr d)) (open_statement d) (open_body d) (open_instance d (open_body d))
+
+  pub open_body : ℕ → Reads BodyTerm
+  open_body zero = gap (λ t. EmptyBody t.place) left_out
+  open_body (suc d) = body_over (open_statement d) (open_instance d (open_body d))
+
+abbrev pub outline_read : ℕ → Reads (List StatementTerm)
+outline_read d = both first_of (many (among firsts_of_statement) (open_statement d)) (one (is end))
+
+-- a gap is read
+abbrev gap_token : Token
+gap_token = token (Special [])
+
+gap_reads : {A : Type 0} (f : Token → A) (classes : List ℕ) (more : A → Token → Bool) → IsReader (gap f classes) (TooDeep outline f) (TooDeep outline f) more
+gap_reads f classes more = mapped_reads f (one_of (is special) (fault_of classes)) (One (is special)) (One (is special)) (λ x t. false) more (one_reads (is special) (fault_of classes) (fault_plain classes) (token (Special []), refl)) (λ x rest h. never_starts rest)
+
+same_first : (a b : List Token) → SameHead a b → head_of a ≡ head_of b
+same_first [] [] h = refl
+same_first [] (u ∷ us) h = elim h [ ]
+same_first (t ∷ ts) [] h = elim h [ ]
+same_first (t ∷ ts) (u ∷ us) h = ap Some h
+
+-- a list that may have nothing, and whose items are refused
+module _ {A : Type 0} (classes : List ℕ) (test : Token → Bool) (stop : Token → Bool) (r : Reads (List A)) (is_r : (ts : List Token) → r ts ≡ cond (starts test ts) (refusal classes ts) (Ok ([], ts)))
+    (stops : (rest : List Token) → starts stop rest ≡ false → starts test rest ≡ false) where
+  refused : (ts : List Token) → starts test ts ≡ true → r ts ≡ refusal classes ts
+  refused ts e = is_r ts ∙ ap (λ b. cond b (refusal classes ts) (Ok ([], ts))) e
+
+  passed : (ts : List Token) → starts test ts ≡ false → r ts ≡ Ok ([], ts)
+  passed ts e = is_r ts ∙ ap (λ b. cond b (refusal classes ts) (Ok ([], ts))) e
+
+  told_at : (ts : List Token) (b : Bool) → starts test ts ≡ b → Told r (Nothing []) (Nothing []) ts (r ts)
+  told_at ts true e =
+      let none : seen (fault_of classes (head_of ts)) ts ≡ [] = plain_seen (fault_of classes (head_of ts)) ts (fault_plain classes (head_of ts)) in
+      subst (Told r (Nothing []) (Nothing []) ts) (sym (refused ts e))
+      ([], refl, ([], [], (refl, ap (λ l. l ++ []) none)), λ rest h. refused rest (same_start test ts rest h ∙ e) ∙ ap (λ k. Err (fault_of classes k, rest)) (sym (same_first ts rest h)))
+  told_at ts false e = subst (Told r (Nothing []) (Nothing []) ts) (sym (passed ts e)) ([], refl, (refl, refl), λ rest h. passed rest (same_start test ts rest h ∙ e))
+
+  nothing_fits : IsReader r (Nothing []) (Nothing []) (λ x. stop)
+  nothing_fits = record {
+    told = λ ts. told_at ts (starts test ts) refl;
+    wide = λ x s h. h;
+    complete = λ x s rest h e. ap (λ l. r (l ++ rest)) h.1 ∙ passed rest (stops rest e) ∙ ap (λ x. Ok (x, rest)) (sym h.0);
+  }
+
+many_refused : (classes : List ℕ) (test : Token → Bool) (ts : List Token) → many test (refusal {A = StatementTerm} classes) ts ≡ cond (starts test ts) (refusal classes ts) (Ok ([], ts))
+unfolding many many_times
+many_refused classes test [] = refl
+many_refused classes test (t ∷ ts) = refl
+
+abbrev closes : List ℕ
+closes = close_parenthesis_sign ∷ []
+
+some_outline : (d : ℕ) → Some_of (Expr outline d)
+unfolding Expr Operand
+some_outline zero = (gap_token ∷ [], UndefTerm gap_token.place, (gap_token, (refl, refl), refl))
+some_outline (suc d) = some_expr outline d
+
+some_outline_operand : (d : ℕ) → Some_of (Operand outline d)
+unfolding Expr Operand
+some_outline_operand zero = (gap_token ∷ [], UndefTerm gap_token.place, (gap_token, (refl, refl), refl))
+some_outline_operand (suc d) = some_operand outline d
+
+some_outline_binders : (d : ℕ) → Some_of (BindersAt outline d)
+some_outline_binders zero = (gap_token ∷ [], [], (gap_token, (refl, refl), refl))
+some_outline_binders (suc d) = some_binders_at outline d
+
+some_outline_body : (d : ℕ) → Some_of (Body outline d)
+unfolding Statement Body
+some_outline_body zero = (gap_token ∷ [], EmptyBody gap_token.place, (gap_token, (refl, refl), refl))
+some_outline_body (suc d) = some_body outline d
+
+-- What is read of an outline is in the grammar, and what is taken before a fault begins an outline.
+open_reads : (d : ℕ) → IsReader (open_expr d) (Expr outline d) (Expr outline d) (λ x. among expression_more) × IsReader (open_operand d) (Operand outline d) (Operand outline d) (λ x. among operand_more) × IsReader (args_read (open_arg d (open_expr d))) (ArgsAt outline d) (ArgsAt outline d) (λ x. other_than closes)
+unfolding Expr Operand open_expr open_operand
+open_reads zero = (
+  gap_reads (λ t. UndefTerm t.place) left_out_of_expressions (λ x. among expression_more),
+  gap_reads (λ t. UndefTerm t.place) left_out_of_expressions (λ x. among operand_more),
+  nothing_fits left_out_of_expressions (other_than closes) (other_than closes) (args_read (refusal left_out_of_expressions)) (λ ts. refl) (λ rest h. h),
+)
+open_reads (suc d) =
+    let below = open_reads d in
+    let one = choice_read_reads (open_expr d) (open_arg d (open_expr d)) (open_operand d) (Expr outline d) (Expr outline d) (Operand outline d) (Operand outline d) (ArgsAt outline d) (ArgsAt outline d) below.0 below.2 below.1 (expr_opens outline d) (some_outline d) (some_args outline d) (some_outline_operand d) in (
+      one,
+      operand_reads (open_expr d) (open_arg d (open_expr d)) (open_operand d) (Expr outline d) (Expr outline d) (Operand outline d) (Operand outline d) (ArgsAt outline d) (ArgsAt outline d) below.0 below.2 below.1 (expr_opens outline d) (some_outline d) (some_args outline d) (some_outline_operand d),
+      args_over (arg_read (open_expr (suc d))) (Expr outline (suc d)) (Expr outline (suc d))
+          (arg_reads (open_expr (suc d)) (Expr outline (suc d)) (Expr outline (suc d)) one (alone_name (Expr outline d) (ArgsAt outline d) (Operand outline d)) (choice_unlike (Expr outline d) (ArgsAt outline d) (Operand outline d))) (expr_opens outline (suc d)),
+    )
+
+open_params_reads : (d : ℕ) → IsReader (params_read (open_param d (open_expr d))) (ParamsAt outline d) (ParamsAt outline d) (λ x. other_than closes)
+open_params_reads zero = nothing_fits left_out (is name) (other_than closes) (params_read (refusal left_out)) (λ ts. refl) (no_close closes (name ∷ []) refl)
+open_params_reads (suc d) =
+    params_reads (param_read (open_expr (suc d))) (Param (Expr outline (suc d))) (Param (Expr outline (suc d))) (param_reads (open_expr (suc d)) (Expr outline (suc d)) (Expr outline (suc d)) (open_reads (suc d)).0 (some_outline (suc d))) (param_opens (Expr outline (suc d)))
+
+open_binders_reads : (d : ℕ) → IsReader (open_binders d (open_expr d)) (BindersAt outline d) (BindersAt outline d) (λ x. other_than closes)
+open_binders_reads zero = gap_reads (λ t. []) left_out (λ x. other_than closes)
+open_binders_reads (suc d) =
+    binders_reads (binder_read (open_expr (suc d))) (Expr outline (suc d)) (Expr outline (suc d)) (binder_reads (open_expr (suc d)) (Expr outline (suc d)) (Expr outline (suc d)) (open_reads (suc d)).0 (some_outline (suc d)))
+
+open_instance_reads : (d : ℕ) → IsReader (open_body d) (Body outline d) (Body outline d) body_more → Stops (open_body d) body_more → IsReader (open_instance d (open_body d)) (InstanceAt outline d) (InstanceAt outline d) instance_more
+open_instance_reads d ib sb =
+    instance_reads (open_body d) (Body outline d) (Body outline d) ib sb (some_outline_body d) (open_expr d) (open_arg d (open_expr d)) (open_binders d (open_expr d)) (Expr outline d) (Expr outline d) (ArgsAt outline d) (ArgsAt outline d) (BindersAt outline d) (BindersAt outline d)
+    (open_reads d).0 (open_reads d).2 (open_binders_reads d) (some_outline d) (some_args outline d) (some_outline_binders d)
+
+open_instance_stops : (d : ℕ) → IsReader (open_body d) (Body outline d) (Body outline d) body_more → Stops (open_body d) body_more → Stops (open_instance d (open_body d)) instance_more
+open_instance_stops d ib sb =
+    instance_stops (open_body d) (Body outline d) (Body outline d) ib sb (some_outline_body d) (open_expr d) (open_arg d (open_expr d)) (open_binders d (open_expr d)) (Expr outline d) (Expr outline d) (ArgsAt outline d) (ArgsAt outline d) (BindersAt outline d) (BindersAt outline d)
+    (open_reads d).0 (open_reads d).2 (open_binders_reads d) (some_outline d) (some_args outline d) (some_outline_binders d)
+
+-- a statement that doesn't fit any more is in a list that has none; else it is read
+open_statement_reads : (d : ℕ) → IsReader (many (among firsts_of_statement) (open_statement d)) (StatementsAt outline d) (StatementsAt outline d) (λ xs. among statements_more) × IsReader (open_body d) (Body outline d) (Body outline d) body_more × Stops (open_body d) body_more
+unfolding Statement Body open_statement open_body
+open_statement_reads zero = (
+  nothing_fits left_out (among firsts_of_statement) (among statements_more) (many (among firsts_of_statement) (refusal left_out)) (many_refused left_out (among firsts_of_statement)) (next_less firsts_of_statement statements_more refl),
+  gap_reads (λ t. EmptyBody t.place) left_out body_more,
+  mapped_stops (λ t. EmptyBody t.place) (one_of (is special) (fault_of left_out)) (λ x t. false) body_more (λ ts x rest h. never_starts rest) (λ x rest h. never_starts rest),
+)
+open_statement_reads (suc d) =
+    let below = open_statement_reads d in
+    let ii = open_instance_reads d below.1 below.2 in
+    let si = open_instance_stops d below.1 below.2 in
+    let one =
+    statement_reads (open_statement d) (StatementsAt outline d) (StatementsAt outline d) below.0 (some_statements outline d) (open_instance d (open_body d)) (InstanceAt outline d) (InstanceAt outline d) ii si (instance_depth_opens outline d)
+    (open_expr (suc d)) (open_param d (open_expr d)) (open_body d) (Expr outline (suc d)) (Expr outline (suc d)) (ParamsAt outline d) (ParamsAt outline d) (Body outline d) (Body outline d)
+    (open_reads (suc d)).0 (open_params_reads d) (some_params_at outline d) below.1 below.2 (some_outline (suc d)) (some_outline_body d) (instance_unlike (Expr outline d) (ArgsAt outline d) (BindersAt outline d) (Body outline d)) (statement_moves (open_expr d) (open_arg d (open_expr d)) (open_binders d (open_expr d)) (open_body d)) in (
+      statements_reads (open_statement (suc d)) (Statement outline (suc d)) (Statement outline (suc d)) one (statement_at_opens outline (suc d)),
+      body_reads (open_statement d) (StatementsAt outline d) (StatementsAt outline d) below.0 (some_statements outline d) (open_instance d (open_body d)) (InstanceAt outline d) (InstanceAt outline d) ii si (instance_depth_opens outline d),
+      body_stops (open_statement d) (StatementsAt outline d) (StatementsAt outline d) below.0 (some_statements outline d) (open_instance d (open_body d)) (InstanceAt outline d) (InstanceAt outline d) ii si (instance_depth_opens outline d),
+    )
+
+statements_at : (d : ℕ) → IsReader (many (among firsts_of_statement) (open_statement d)) (Many (Statement outline d)) (Many (Statement outline d)) (λ xs. among statements_more)
+unfolding Statement Body
+statements_at zero =
+    same_reads (many (among firsts_of_statement) (open_statement zero)) (Nothing []) (Nothing []) (Many (Statement outline zero)) (Many (Statement outline zero)) (λ xs. among statements_more) (open_statement_reads zero).0
+    (none_many (Statement outline zero)) nothing (none_many (Statement outline zero))
+  where
+    nothing : (x : List StatementTerm) (s : List Token) → Many (Statement outline zero) x s → Nothing [] x s
+    nothing [] s h = (refl, h)
+    nothing (x ∷ xs) s h = elim h.2 [ ]
+statements_at (suc d) = (open_statement_reads (suc d)).0
+
+-- an outline is read
+pub outline_reads : (d : ℕ) → IsReader (outline_read d) (Outline d) (Outline d) (λ x t. false)
+outline_reads d =
+    before_reads (many (among firsts_of_statement) (open_statement d)) (Many (Statement outline d)) (Many (Statement outline d)) end (λ x. among statements_more) end_one (token End) refl
+    (statements_at d) (λ x. next_apart (end ∷ []) statements_more refl)

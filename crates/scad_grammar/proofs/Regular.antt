@@ -1,0 +1,260 @@
+-- No reader takes the end, and each fault is of one of three kinds.
+use Rattle.std.proofs.Common.{codes, not, ◌≡◌, ℕ, zero, suc, List, [], ◌∷◌, length, Bool, true, false, cond, Ok, Err, Option, Some, ◌⊎◌, inl, inr, refl, sym, ◌∙◌, ◌&&◌}
+use Rattle.scad_lexer.specs.declared.token.Token.{Token}
+use Rattle.scad_lexer.specs.declared.token.TokenKind.{TokenKind}
+use Rattle.scad_lexer.specs.declared.token.TokenKind.TheVariants.{Numeral, Name, Special, Text, Reserved as ReservedToken, Symbol as SymbolToken, End}
+use Rattle.scad_lexer.specs.declared.token.Reserved.TheVariants.{Module, Function, If, Else, For, IntersectionFor, True, False, Undef, Use, Include, Let, Each}
+use Rattle.scad_lexer.specs.declared.token.Symbol.TheVariants.{OpenParenthesis, CloseParenthesis, OpenBracket, CloseBracket, OpenBrace, CloseBrace, Comma, Semicolon, Assign, Colon, Question, Dot, Plus, Minus, Times, Divide, Remainder, Less, Greater, LessEqual, GreaterEqual, Equal, NotEqual, And, Or, Not, Hash, Caret}
+use Rattle.scad_lexer.specs.Tokens.{is_end, ends_once}
+use Rattle.std.specs.Str.{bytes_eq}
+use Rattle.scad_ast.specs.Terms.{Term, ArgTerm}
+use Rattle.scad_grammar.specs.declared.SyntaxFault.{SyntaxFault}
+use Rattle.scad_grammar.specs.declared.SyntaxFault.TheVariants.{Nested}
+use Rattle.scad_grammar.specs.Classes.{numeral, name, special, child_count, end, assign_sign, comma_sign, open_bracket_sign, listed, among, is, class_of}
+use Rattle.scad_grammar.specs.Reading.{Read, after, starts, one_of, mapped, both, choice, ahead, with_front, many_times, many, trailing_times, trailing}
+use Rattle.scad_grammar.specs.Faults.{Reads, one, fault_of, left_out, left_out_of_expressions}
+use Rattle.scad_grammar.specs.Reads.{head_of, nested, firsts_of_expression, primary_read, arg_in, expr_read, operand_read}
+use Rattle.scad_grammar.specs.StatementReads.{firsts_of_body, firsts_of_statement, param_in, binder_in, binders_read, instance_in, statement_read, body_read}
+use Rattle.scad_grammar.proofs.Tests.{apart, classes_apart}
+use Rattle.scad_grammar.proofs.Ahead.{both_true}
+use Rattle.scad_grammar.proofs.Alike.{Keeps, Free, arg_keeps, param_keeps, binder_keeps, binders_keep, unary_keeps, expression_keeps, primary_keeps, instance_keeps, body_keeps, statement_keeps}
+
+-- the last token is the end, and no other is
+abbrev pub EndsOnce : List Token → Type 0
+EndsOnce [] = ⊥
+EndsOnce (t ∷ []) = is end t ≡ true
+EndsOnce (t ∷ u ∷ us) = (is end t ≡ false) × EndsOnce (u ∷ us)
+
+-- the end's class is its own
+end_class : (k : TokenKind) → listed (end ∷ []) (class_of k) ≡ is_end k
+end_class (Numeral n) = refl
+end_class (Name bytes) = refl
+end_class (Special bytes) = go (bytes_eq bytes (codes "children"))
+  where
+    go : (b : Bool) → listed (end ∷ []) (cond b child_count special) ≡ false
+    go true = refl
+    go false = refl
+end_class (Text bytes) = refl
+end_class (ReservedToken Module) = refl
+end_class (ReservedToken Function) = refl
+end_class (ReservedToken If) = refl
+end_class (ReservedToken Else) = refl
+end_class (ReservedToken For) = refl
+end_class (ReservedToken IntersectionFor) = refl
+end_class (ReservedToken True) = refl
+end_class (ReservedToken False) = refl
+end_class (ReservedToken Undef) = refl
+end_class (ReservedToken Use) = refl
+end_class (ReservedToken Include) = refl
+end_class (ReservedToken Let) = refl
+end_class (ReservedToken Each) = refl
+end_class (SymbolToken OpenParenthesis) = refl
+end_class (SymbolToken CloseParenthesis) = refl
+end_class (SymbolToken OpenBracket) = refl
+end_class (SymbolToken CloseBracket) = refl
+end_class (SymbolToken OpenBrace) = refl
+end_class (SymbolToken CloseBrace) = refl
+end_class (SymbolToken Comma) = refl
+end_class (SymbolToken Semicolon) = refl
+end_class (SymbolToken Assign) = refl
+end_class (SymbolToken Colon) = refl
+end_class (SymbolToken Question) = refl
+end_class (SymbolToken Dot) = refl
+end_class (SymbolToken Plus) = refl
+end_class (SymbolToken Minus) = refl
+end_class (SymbolToken Times) = refl
+end_class (SymbolToken Divide) = refl
+end_class (SymbolToken Remainder) = refl
+end_class (SymbolToken Less) = refl
+end_class (SymbolToken Greater) = refl
+end_class (SymbolToken LessEqual) = refl
+end_class (SymbolToken GreaterEqual) = refl
+end_class (SymbolToken Equal) = refl
+end_class (SymbolToken NotEqual) = refl
+end_class (SymbolToken And) = refl
+end_class (SymbolToken Or) = refl
+end_class (SymbolToken Not) = refl
+end_class (SymbolToken Hash) = refl
+end_class (SymbolToken Caret) = refl
+end_class End = refl
+
+both_are : (b c : Bool) → (not b && c) ≡ true → (b ≡ false) × (c ≡ true)
+both_are true c e = absurd (cc)
+both_are false c e = (refl, e)
+
+pub ends_once_is : (ts : List Token) → ends_once ts ≡ true → EndsOnce ts
+ends_once_is [] e = absurd (cc)
+ends_once_is (t ∷ []) e = end_class t.kind ∙ e
+ends_once_is (t ∷ u ∷ us) e = let k = both_are (is_end t.kind) (ends_once (u ∷ us)) e in (end_class t.kind ∙ k.0, ends_once_is (u ∷ us) k.1)
+
+-- want of depth, or the fault of what is left out, everywhere or of expressions
+abbrev pub OfKind : SyntaxFault × List Token → Type 0
+OfKind e = (e.0 ≡ Nested) ⊎ ((e.0 ≡ fault_of left_out (head_of e.1)) ⊎ (e.0 ≡ fault_of left_out_of_expressions (head_of e.1)))
+
+-- the end is left where it stands
+abbrev pub Fair : {A : Type 0} → List Token → Read Token SyntaxFault A → Type 0
+Fair ts (Ok p) = EndsOnce ts → EndsOnce p.1
+Fair ts (Err e) = OfKind e × (EndsOnce ts → EndsOnce e.1)
+
+pub record Regular {A : Type 0} (r : Reads A) : Type 0 where
+  pub at : (ts : List Token) → Fair ts (r ts)
+
+from : {A : Type 0} (ts us : List Token) (q : Read Token SyntaxFault A) → (EndsOnce ts → EndsOnce us) → Fair us q → Fair ts q
+from ts us (Ok p) h f = λ e. f (h e)
+from ts us (Err e) h f = (f.0, λ x. f.1 (h x))
+
+after_fair : {A B : Type 0} (ts : List Token) (q : Read Token SyntaxFault A) (g : A → List Token → Read Token SyntaxFault B) → Fair ts q → ((x : A) (us : List Token) → Fair us (g x us)) → Fair ts (after q g)
+after_fair ts (Ok p) g f h = from ts p.1 (g p.0 p.1) f (h p.0 p.1)
+after_fair ts (Err e) g f h = f
+
+cond_fair : {A : Type 0} (ts : List Token) (b : Bool) (q p : Read Token SyntaxFault A) → Fair ts q → Fair ts p → Fair ts (cond b q p)
+cond_fair ts true q p f g = f
+cond_fair ts false q p f g = g
+
+-- behind a token that isn't the end
+behind : (t : Token) (ts : List Token) → is end t ≡ false → EndsOnce (t ∷ ts) → EndsOnce ts
+behind t [] n e = absurd (let f : true ≡ false = sym e ∙ n in cc)
+behind t (u ∷ us) n e = e.1
+
+no_end : (cs : List ℕ) → apart (end ∷ []) cs ≡ true → (t : Token) → among cs t ≡ true → is end t ≡ false
+no_end cs a t h = go (is end t) refl
+  where
+    go : (b : Bool) → is end t ≡ b → b ≡ false
+    go false e = refl
+    go true e = absurd (let f : true ≡ false = sym h ∙ classes_apart (end ∷ []) cs a (class_of t.kind) e in cc)
+
+-- the fault of a class of forms that are left out
+abbrev IsOfKind : List ℕ → Type 0
+IsOfKind classes = (t : Option Token) → (fault_of classes t ≡ fault_of left_out t) ⊎ (fault_of classes t ≡ fault_of left_out_of_expressions t)
+
+kind_of : (classes : List ℕ) → IsOfKind classes → (ts : List Token) → OfKind (fault_of classes (head_of ts), ts)
+kind_of classes k ts = inr (k (head_of ts))
+
+everywhere : IsOfKind left_out
+everywhere t = inl refl
+
+in_expressions : IsOfKind left_out_of_expressions
+in_expressions t = inr refl
+
+one_fair : (cs classes : List ℕ) → apart (end ∷ []) cs ≡ true → IsOfKind classes → (ts : List Token) → Fair ts (one_of (among cs) (fault_of classes) ts)
+one_fair cs classes a k [] = (kind_of classes k [], λ e. e)
+one_fair cs classes a k (t ∷ ts) = go (among cs t) refl
+  where
+    go : (b : Bool) → among cs t ≡ b → Fair (t ∷ ts) (cond b (Ok (t, ts)) (Err (fault_of classes (Some t), t ∷ ts)))
+    go true e = behind t ts (no_end cs a t e)
+    go false e = (kind_of classes k (t ∷ ts), λ e. e)
+
+mapped_fair : {A B : Type 0} (f : A → B) (r q : Reads A) → Regular r → Regular (mapped f r)
+mapped_fair f r q h = record { at = λ ts. after_fair ts (r ts) (λ a us. Ok (f a, us)) (h.at ts) (λ a us e. e) }
+
+both_fair : {A B C : Type 0} (f : A → B → C) (r q : Reads A) (s p : Reads B) → Regular r → Regular s → Regular (both f r s)
+both_fair f r q s p h k = record { at = λ ts. after_fair ts (r ts) (λ a us. after (s us) (λ b vs. Ok (f a b, vs))) (h.at ts) (λ a us. after_fair us (s us) (λ b vs. Ok (f a b, vs)) (k.at us) (λ b vs e. e)) }
+
+choice_fair : {A : Type 0} (test : Token → Bool) (r q s p : Reads A) → Regular r → Regular s → Regular (choice test r s)
+choice_fair test r q s p h k = record { at = λ ts. cond_fair ts (starts test ts) (r ts) (s ts) (h.at ts) (k.at ts) }
+
+ahead_at : {A C : Type 0} (f : Token → Token → A → C) (r : Reads A) (s : Reads C) → Regular r → Regular s → (ts : List Token) → Fair ts (ahead f (is name) (is assign_sign) r s ts)
+ahead_at f r s h k [] = k.at []
+ahead_at f r s h k (t ∷ []) = k.at (t ∷ [])
+ahead_at f r s h k (t ∷ u ∷ ts) = go (is name t && is assign_sign u) refl
+  where
+    go : (b : Bool) → (is name t && is assign_sign u) ≡ b → Fair (t ∷ u ∷ ts) (cond b (after (r ts) (λ x us. Ok (f t u x, us))) (s (t ∷ u ∷ ts)))
+    go true e =
+        let n = both_true (is name t) (is assign_sign u) e in
+        from (t ∷ u ∷ ts) ts _ (λ x. behind u ts (no_end (assign_sign ∷ []) refl u n.1) (behind t (u ∷ ts) (no_end (name ∷ []) refl t n.0) x)) (after_fair ts (r ts) (λ x us. Ok (f t u x, us)) (h.at ts) (λ x us e. e))
+    go false e = k.at (t ∷ u ∷ ts)
+
+front_fair : {A : Type 0} (x : A) (ts : List Token) (q : Read Token SyntaxFault (List A)) → Fair ts q → Fair ts (with_front x q)
+front_fair x ts (Ok p) h = h
+front_fair x ts (Err e) h = h
+
+times_fair : {A : Type 0} (n : ℕ) (test : Token → Bool) (r : Reads A) → Regular r → (ts : List Token) → Fair ts (many_times n test r ts)
+unfolding many_times
+times_fair zero test r h ts = λ e. e
+times_fair (suc n) test r h ts =
+    cond_fair ts (starts test ts) (after (r ts) (λ x us. with_front x (many_times n test r us))) (Ok ([], ts))
+    (after_fair ts (r ts) (λ x us. with_front x (many_times n test r us)) (h.at ts) (λ x us. front_fair x us (many_times n test r us) (times_fair n test r h us))) (λ e. e)
+
+pub many_fair : {A : Type 0} (test : Token → Bool) (r : Reads A) → Regular r → Regular (many test r)
+unfolding many
+many_fair test r h = record { at = λ ts. times_fair (length ts) test r h ts }
+
+trailing_at : {A : Type 0} (n : ℕ) (go : Token → Bool) (r : Reads A) → Regular r → (ts : List Token) → Fair ts (trailing_times n (is comma_sign) go r ts)
+unfolding trailing_times
+trailing_at zero go r h ts = λ e. e
+trailing_at (suc n) go r h [] = λ e. e
+trailing_at {A} (suc n) go r h (t ∷ ts) = step (is comma_sign t) refl (trailing_at n go r h)
+  where
+    step : (b : Bool) → is comma_sign t ≡ b → ((us : List Token) → Fair us (trailing_times n (is comma_sign) go r us)) → Fair (t ∷ ts) (cond {A = Read Token SyntaxFault (List A)} b (cond (starts go ts) (after (r ts) (λ x us. with_front x (trailing_times n (is comma_sign) go r us))) (Ok ([], ts))) (Ok ([], t ∷ ts)))
+    step true e k =
+        from (t ∷ ts) ts _ (behind t ts (no_end (comma_sign ∷ []) refl t e))
+        (cond_fair ts (starts go ts) (after (r ts) (λ x us. with_front x (trailing_times n (is comma_sign) go r us))) (Ok ([], ts))
+        (after_fair ts (r ts) (λ x us. with_front x (trailing_times n (is comma_sign) go r us)) (h.at ts) (λ x us. front_fair x us (trailing_times n (is comma_sign) go r us) (k us))) (λ e. e))
+    step false e k = λ e. e
+
+trailing_fair : {A : Type 0} (go : Token → Bool) (r : Reads A) → Regular r → Regular (trailing (is comma_sign) go r)
+unfolding trailing
+trailing_fair go r h = record { at = λ ts. trailing_at (length ts) go r h ts }
+
+nested_fair : {A : Type 0} (begins classes : List ℕ) → IsOfKind classes → Regular (nested {A = A} begins classes)
+nested_fair {A} begins classes k = record { at = λ ts. cond_fair ts (starts (among begins) ts) (Err (Nested, ts)) (Err (fault_of classes (head_of ts), ts)) (inl refl, λ e. e) (kind_of classes k ts, λ e. e) }
+
+abbrev Law : (A : Type 0) → Reads A → Reads A → Type 0
+Law A r q = Regular r
+
+less_end : (cs : List ℕ) → apart (numeral ∷ end ∷ []) cs ≡ true → apart (end ∷ []) cs ≡ true
+less_end cs e = go (listed cs numeral) (listed cs end) e
+  where
+    go : (a b : Bool) → cond a false (cond b false true) ≡ true → cond b false true ≡ true
+    go true b e = absurd (cc)
+    go false b e = e
+
+fairness : Keeps Law Free
+fairness = record {
+  nothing_keeps = λ a. record { at = λ ts e. e };
+  one_keeps = λ cs e. record { at = one_fair cs left_out (less_end cs e) everywhere };
+  mapped_keeps = mapped_fair;
+  both_keeps = both_fair;
+  choice_keeps = λ test r q s p e. choice_fair test r q s p;
+  taken_keeps = λ cs r q s p e t. choice_fair (among cs) r q s p;
+  ahead_keeps = λ f r q s p h k. record { at = ahead_at f r s h k };
+  many_keeps = λ test r q e. many_fair test r;
+  many_taken_keeps = λ cs r q e t. many_fair (among cs) r;
+  trailing_keeps = λ go r q e. trailing_fair go r;
+}
+
+primary_fair : (e : Reads Term) (a : Reads ArgTerm) → Regular e → Regular a → Regular (primary_read e a)
+primary_fair e a =
+    primary_keeps Law Free fairness (λ c f h. mapped_fair f (one (is c)) (one (is c)) (record { at = one_fair (c ∷ []) left_out h everywhere }))
+    (record { at = one_fair (open_bracket_sign ∷ []) left_out_of_expressions refl in_expressions }) (λ r q s p. choice_fair (is numeral) r q s p) e e a a
+
+expressions : (d : ℕ) → Regular (expr_read d) × Regular (operand_read d) × Regular (arg_in d (expr_read d))
+unfolding expr_read operand_read
+expressions zero = (nested_fair firsts_of_expression left_out_of_expressions in_expressions, nested_fair firsts_of_expression left_out_of_expressions in_expressions, nested_fair firsts_of_expression left_out_of_expressions in_expressions)
+expressions (suc d) =
+    let k = expressions d in
+    let p = primary_fair (expr_read d) (arg_in d (expr_read d)) k.0 k.2 in
+    let one : Regular (expr_read (suc d)) = expression_keeps Law Free fairness (expr_read d) (expr_read d) k.0 (operand_read d) (operand_read d) (primary_read (expr_read d) (arg_in d (expr_read d))) (primary_read (expr_read d) (arg_in d (expr_read d))) k.1 p in
+    (one, unary_keeps Law Free fairness (expr_read d) (expr_read d) k.0 (operand_read d) (operand_read d) (primary_read (expr_read d) (arg_in d (expr_read d))) (primary_read (expr_read d) (arg_in d (expr_read d))) k.1 p, arg_keeps Law Free fairness (expr_read (suc d)) (expr_read (suc d)) one)
+
+params : (d : ℕ) → Regular (param_in d (expr_read d))
+params zero = nested_fair (name ∷ []) left_out everywhere
+params (suc d) = param_keeps Law Free fairness (expr_read (suc d)) (expr_read (suc d)) (expressions (suc d)).0
+
+binders : (d : ℕ) → Regular (binder_in d (expr_read d))
+binders zero = nested_fair (name ∷ []) left_out everywhere
+binders (suc d) = binder_keeps Law Free fairness (expr_read (suc d)) (expr_read (suc d)) (expressions (suc d)).0
+
+pub regular_statements : (d : ℕ) → Regular (statement_read d) × Regular (body_read d)
+unfolding statement_read body_read
+regular_statements zero = (nested_fair firsts_of_statement left_out everywhere, nested_fair firsts_of_body left_out everywhere)
+regular_statements (suc d) =
+    let k = regular_statements d in
+    let e = expressions d in
+    let n = binders_keep Law Free fairness (binder_in d (expr_read d)) (binder_in d (expr_read d)) (binders d) in
+    let ns = binders_read (binder_in d (expr_read d)) in
+    let i = instance_keeps Law Free fairness (expr_read d) (expr_read d) (arg_in d (expr_read d)) (arg_in d (expr_read d)) ns ns (body_read d) (body_read d) e.0 e.2 n k.1 tt tt in
+    let s = many_fair (among firsts_of_statement) (statement_read d) k.0 in (
+      statement_keeps Law Free fairness (statement_read d) (statement_read d) (instance_in d (body_read d)) (instance_in d (body_read d)) s i (expr_read (suc d)) (expr_read (suc d)) (param_in d (expr_read d)) (param_in d (expr_read d)) (body_read d) (body_read d) (expressions (suc d)).0 (params d) k.1 tt,
+      body_keeps Law Free fairness (statement_read d) (statement_read d) (instance_in d (body_read d)) (instance_in d (body_read d)) s i,
+    )

@@ -1,0 +1,5 @@
+use Rattle.scad_grammar.proofs.FirstFaults.{program_or_fault}
+use Rattle.scad_grammar.proofs.program_or_fault.Goals as goal
+
+pub returns : goal.returns
+returns c = program_or_fault
