@@ -1,0 +1,5 @@
+pub mod Reading
+pub mod Boundaries
+pub mod Texts
+pub mod Numbering
+pub mod Prints
