@@ -12,6 +12,7 @@ use Rattle.bsp_tree.proofs.Opposites.{opposite_zero, opposite_back, opposite_abo
 use Rattle.bsp_tree.proofs.SameNumbers.{same_equal}
 use Rattle.bsp_tree.proofs.SamePoints.{same_of_cell, same_exchanged, same_implied}
 use Rattle.bsp_tree.proofs.PolygonsOfCells.{across_part, across_behind}
+use Rattle.bsp_tree.proofs.Halves.{lying}
 use Rattle.bsp_tree.proofs.Sides.{LiesBehind, lies_behind, lies_ahead}
 use Rattle.bsp_partition.specs.Partitions.{divide, rows, AreOfHalves}
 use Rattle.bsp_partition.proofs.Apart.{apart}
@@ -27,12 +28,8 @@ with_plane t m n cell f h = same_of_cell t (n ∷ cell) (n ∷ m ∷ cell) (same
 without_plane : (t : Tree) (m n : Coefficients) (cell : List Coefficients) → ((p : Coordinates) → IsIn cell p → value n p <ℤ pos 0 → value m p <ℤ pos 0) → IsOfCell (n ∷ m ∷ cell) t → IsOfCell (n ∷ cell) t
 without_plane t m n cell f h = same_of_cell t (n ∷ m ∷ cell) (n ∷ cell) (λ p. (let e = same_implied m n cell f p in (e.1, e.0))) h
 
--- a polygon that lies behind a plane is of the half of the cell
-lying : (cell : List Coefficients) (s : Outline) (q : Coefficients) → IsAcross cell s → LiesBehind s q → IsAcross (q ∷ cell) s
-lying cell s q h l = across_behind cell s q h l.some.index l.some.index_below l.some.strict l.all
-
 -- folding equal leaves keeps the cell
-make_cell : (cell : List Coefficients) (t : Outline) (b a : Tree) → IsAcross cell t → IsOfCell (t.plane ∷ cell) b → IsOfCell (opposite_of t.plane ∷ cell) a → IsOfCell cell (make t b a)
+pub make_cell : (cell : List Coefficients) (t : Outline) (b a : Tree) → IsAcross cell t → IsOfCell (t.plane ∷ cell) b → IsOfCell (opposite_of t.plane ∷ cell) a → IsOfCell cell (make t b a)
 make_cell cell t inside inside h hb ha = tt
 make_cell cell t outside outside h hb ha = tt
 make_cell cell t inside outside h hb ha = (h, hb, ha)

@@ -10,7 +10,7 @@ use Rattle.bsp_tree.specs.Cells.{HasPlanesOf}
 use Rattle.bsp_partition.specs.Partitions.{divide, rows, HaveNoNewPlane}
 
 -- folding equal leaves adds no plane
-make_planes : (t : Outline) (b a : Tree) → HasPlanesOf (make t b a) (node t b a)
+pub make_planes : (t : Outline) (b a : Tree) → HasPlanesOf (make t b a) (node t b a)
 make_planes t inside inside m h = absurd h
 make_planes t outside outside m h = absurd h
 make_planes t inside outside m h = h

@@ -12,6 +12,7 @@ use Rattle.bsp_tree.specs.Cells.{IsIn, IsAcross, IsOfCell, IsOff}
 use Rattle.bsp_tree.proofs.Opposites.{opposite_zero, opposite_back, opposite_above, opposite_below}
 use Rattle.bsp_tree.proofs.SameNumbers.{same_equal}
 use Rattle.bsp_tree.proofs.PolygonsOfCells.{across_part, across_behind}
+use Rattle.bsp_tree.proofs.Halves.{lying}
 use Rattle.bsp_tree.proofs.Sides.{LiesBehind, lies_behind, lies_ahead}
 use Rattle.bsp_tree.proofs.Walks.{make_walk, walk_behind, walk_ahead}
 use Rattle.bsp_partition.specs.Partitions.{divide, rows, Keeps, KeepWalks}
@@ -122,12 +123,12 @@ keeps (node t b a) cell s h hs p hp off =
     (λ ex ey. elim (signs (value q p)) [
       | inl k ↦ (let inside_b : IsIn (q ∷ cell) p = record { weight = hp.weight; below = (k, hp.below) } in
           row_behind cell s t b a (divide b s) (divide a s) (divide b (part_behind s q)) (divide a (part_ahead s q)) p (class_of s q) (class_of t s.plane) refl refl (way_of cell s t hs h.0 ex ey) hs h.0 hp k
-          (λ l. keeps b (q ∷ cell) s h.1 (across_behind cell s q hs l.some.index l.some.index_below l.some.strict l.all) p inside_b (λ m o. off m (inr (inl o))))
+          (λ l. keeps b (q ∷ cell) s h.1 (lying cell s q hs l) p inside_b (λ m o. off m (inr (inl o))))
           (λ e. keeps b (q ∷ cell) (part_behind s q) h.1 (across_part cell s q hs e) p inside_b (λ m o. off m (inr (inl o)))))
       | inr (inl k) ↦ absurd (off q (inl refl) k)
       | inr (inr k) ↦ (let inside_a : IsIn (opposite_of q ∷ cell) p = record { weight = hp.weight; below = (opposite_below q p k, hp.below) } in
           row_ahead cell s t b a (divide b s) (divide a s) (divide b (part_behind s q)) (divide a (part_ahead s q)) p (class_of s q) (class_of t s.plane) refl refl (way_of cell s t hs h.0 ex ey) hs h.0 hp k
-          (λ l. keeps a (opposite_of q ∷ cell) s h.2 (across_behind cell s (opposite_of q) hs l.some.index l.some.index_below l.some.strict l.all) p inside_a (λ m o. off m (inr (inr o))))
+          (λ l. keeps a (opposite_of q ∷ cell) s h.2 (lying cell s (opposite_of q) hs l) p inside_a (λ m o. off m (inr (inr o))))
           (λ e. keeps a (opposite_of q ∷ cell) (part_ahead s q) h.2 (across_part cell s (opposite_of q) hs (across_opposite s q e)) p inside_a (λ m o. off m (inr (inr o)))))
     ])
 

@@ -3,12 +3,13 @@
 
 ghost use Rattle.std.specs.Prelude.{◌≡◌, IfOk};
 ghost use Rattle.plane_predicate.specs.Space.{opposite_of};
-ghost use Rattle.plane_polygon.specs.Parts.{class_of};
+ghost use Rattle.plane_polygon.specs.declared.classes.Class.TheVariants.{Across};
+ghost use Rattle.plane_polygon.specs.Parts.{class_of, part_ahead, part_behind};
 ghost use Rattle.bsp_tree.specs.Trees.{make, same};
 ghost use Rattle.bsp_tree.specs.Shapes.{tree_of};
-ghost use Rattle.bsp_partition.specs.Partitions.{divide, rows, AreOfHalves, HaveNoNewPlane, KeepWalks};
+ghost use Rattle.bsp_partition.specs.Partitions.{across_row, ahead_row, behind_row, divide, AreOfHalves, HaveNoNewPlane, KeepWalks};
 
-use bsp_tree::{Node, Solid};
+use bsp_tree::{Node, Solid, new_node};
 use plane_polygon::{Class, Polygon, cut, sort_by};
 use plane_predicate::{Plane, opposite};
 use std::alloc::Global;
@@ -49,14 +50,7 @@ pub fn make_node(
         (Solid::Out, Solid::Out) => return Ok(Solid::Out),
         _ => {}
     }
-    Ok(Solid::Node(Box::new(
-        alloc,
-        Node {
-            polygon,
-            behind,
-            ahead,
-        },
-    )?))
+    new_node(alloc, polygon, behind, ahead)
 }
 
 /// Whether two planes have the same numbers.
@@ -66,7 +60,16 @@ fn is_same(m: &Plane, n: &Plane) -> bool
     m.a == n.a && m.b == n.b && m.c == n.c && m.d == n.d
 }
 
-/// The parts of a solid, by the definition.
+/// Whether two planes have opposite numbers.
+fn is_opposite(m: &Plane, n: &Plane) -> bool
+    ensures { result ≡ same m.now (opposite_of n.now) }
+{
+    is_same(m, &opposite(n))
+}
+
+/// The parts of a solid, by the definition. A level of the recursion keeps little on the stack:
+/// what is done before it and after it stands in functions of its own.
+#[cycle(parts)]
 fn parts_of(alloc: Global, solid: Solid, by: &Polygon) -> Result<(Solid, Solid), NoMemory>
     ensures { IfOk result (λ r. (tree_of r.0, tree_of r.1) ≡ divide (tree_of solid) by.now) }
 {
@@ -74,46 +77,149 @@ fn parts_of(alloc: Global, solid: Solid, by: &Polygon) -> Result<(Solid, Solid),
         Solid::In => Ok((Solid::In, Solid::In)),
         Solid::Out => Ok((Solid::Out, Solid::Out)),
         Solid::Node(inner) => {
-            let Node {
-                polygon,
-                behind,
-                ahead,
-            } = Box::into_inner(inner);
-            if is_same(polygon.plane(), by.plane()) {
-                return Ok((behind, ahead));
+            if is_same(inner.polygon.plane(), by.plane()) {
+                return Ok(sides_of(inner));
             }
-            if is_same(polygon.plane(), &opposite(by.plane())) {
-                return Ok((ahead, behind));
+            if is_opposite(inner.polygon.plane(), by.plane()) {
+                return Ok(turned_sides_of(inner));
             }
-            match (sort_by(by, polygon.plane()), sort_by(&polygon, by.plane())) {
-                (Class::Across, Class::Across) => {
-                    let (by_low, by_high) = cut(alloc, by, polygon.plane())?;
-                    let (low, high) = cut(alloc, &polygon, by.plane())?;
-                    let (b1, b2) = parts_of(alloc, behind, &by_low)?;
-                    let (a1, a2) = parts_of(alloc, ahead, &by_high)?;
-                    Ok((
-                        make_node(alloc, low, b1, a1)?,
-                        make_node(alloc, high, b2, a2)?,
-                    ))
-                }
-                (Class::Behind, Class::Behind) => {
-                    let (b1, b2) = parts_of(alloc, behind, by)?;
-                    Ok((make_node(alloc, polygon, b1, ahead)?, b2))
-                }
-                (Class::Behind, Class::Ahead) => {
-                    let (b1, b2) = parts_of(alloc, behind, by)?;
-                    Ok((b1, make_node(alloc, polygon, b2, ahead)?))
-                }
-                (Class::Ahead, Class::Behind) => {
-                    let (a1, a2) = parts_of(alloc, ahead, by)?;
-                    Ok((make_node(alloc, polygon, behind, a1)?, a2))
-                }
-                (Class::Ahead, Class::Ahead) => {
-                    let (a1, a2) = parts_of(alloc, ahead, by)?;
-                    Ok((a1, make_node(alloc, polygon, behind, a2)?))
-                }
-                _ => Ok((behind, ahead)),
+            let first = sort_by(by, inner.polygon.plane());
+            let second = sort_by(&inner.polygon, by.plane());
+            match (first, second) {
+                (Class::Across, Class::Across) => across_parts(alloc, inner, by),
+                (Class::Behind, Class::Behind) => behind_parts(alloc, inner, by, true),
+                (Class::Behind, Class::Ahead) => behind_parts(alloc, inner, by, false),
+                (Class::Ahead, Class::Behind) => ahead_parts(alloc, inner, by, true),
+                (Class::Ahead, Class::Ahead) => ahead_parts(alloc, inner, by, false),
+                _ => Ok(sides_of(inner)),
             }
         }
     }
 }
+
+/// The two sides of a node.
+fn sides_of(inner: Box<Node>) -> (Solid, Solid)
+    ensures low { tree_of result.0 ≡ tree_of inner.value.behind }
+    ensures high { tree_of result.1 ≡ tree_of inner.value.ahead }
+{
+    let node = Box::into_inner(inner);
+    (node.behind, node.ahead)
+}
+
+/// The two sides of a node, exchanged.
+fn turned_sides_of(inner: Box<Node>) -> (Solid, Solid)
+    ensures low { tree_of result.0 ≡ tree_of inner.value.ahead }
+    ensures high { tree_of result.1 ≡ tree_of inner.value.behind }
+{
+    let node = Box::into_inner(inner);
+    (node.ahead, node.behind)
+}
+
+/// The parts of a node by a polygon, where each is across the plane of the other.
+#[cycle(parts)]
+fn across_parts(
+    alloc: Global,
+    inner: Box<Node>,
+    by: &Polygon,
+) -> Result<(Solid, Solid), NoMemory>
+    requires by_across { class_of by.now inner.value.polygon.plane ≡ Across }
+    requires across { class_of inner.value.polygon by.now.plane ≡ Across }
+    ensures { IfOk result (λ r. (tree_of r.0, tree_of r.1) ≡ across_row by.now inner.value.polygon (divide (tree_of inner.value.behind) (part_behind by.now inner.value.polygon.plane)) (divide (tree_of inner.value.ahead) (part_ahead by.now inner.value.polygon.plane))) }
+{
+    let node = Box::into_inner(inner);
+    let (by_low, by_high) = cut(alloc, by, node.polygon.plane())?;
+    let low = parts_of(alloc, node.behind, &by_low)?;
+    let high = parts_of(alloc, node.ahead, &by_high)?;
+    made_across(alloc, &node.polygon, by, low, high)
+}
+
+/// The two parts of a node's polygon, with the parts of its sides.
+fn made_across(
+    alloc: Global,
+    polygon: &Polygon,
+    by: &Polygon,
+    low: (Solid, Solid),
+    high: (Solid, Solid),
+) -> Result<(Solid, Solid), NoMemory>
+    requires { class_of polygon.now by.now.plane ≡ Across }
+    ensures { IfOk result (λ r. (tree_of r.0, tree_of r.1) ≡ across_row by.now polygon.now (tree_of low.0, tree_of low.1) (tree_of high.0, tree_of high.1)) }
+{
+    let (b1, b2) = low;
+    let (a1, a2) = high;
+    let (behind, ahead) = cut(alloc, polygon, by.plane())?;
+    Ok((
+        make_node(alloc, behind, b1, a1)?,
+        make_node(alloc, ahead, b2, a2)?,
+    ))
+}
+
+/// The parts of a node by a polygon that lies behind its plane, where its own polygon lies behind
+/// the other's plane, or else ahead of it.
+#[cycle(parts)]
+fn behind_parts(
+    alloc: Global,
+    inner: Box<Node>,
+    by: &Polygon,
+    is_behind: bool,
+) -> Result<(Solid, Solid), NoMemory>
+    ensures { IfOk result (λ r. (tree_of r.0, tree_of r.1) ≡ behind_row is_behind inner.value.polygon (divide (tree_of inner.value.behind) by.now) (tree_of inner.value.ahead)) }
+{
+    let node = Box::into_inner(inner);
+    let parts = parts_of(alloc, node.behind, by)?;
+    made_behind(alloc, node.polygon, parts, node.ahead, is_behind)
+}
+
+/// The parts of what lies behind a node's plane, one of them in a node with what lies ahead.
+fn made_behind(
+    alloc: Global,
+    polygon: Polygon,
+    parts: (Solid, Solid),
+    ahead: Solid,
+    is_behind: bool,
+) -> Result<(Solid, Solid), NoMemory>
+    ensures { IfOk result (λ r. (tree_of r.0, tree_of r.1) ≡ behind_row is_behind polygon (tree_of parts.0, tree_of parts.1) (tree_of ahead)) }
+{
+    let (b1, b2) = parts;
+    if is_behind {
+        Ok((make_node(alloc, polygon, b1, ahead)?, b2))
+    } else {
+        Ok((b1, make_node(alloc, polygon, b2, ahead)?))
+    }
+}
+
+/// The parts of a node by a polygon that lies ahead of its plane, where its own polygon lies behind
+/// the other's plane, or else ahead of it.
+#[cycle(parts)]
+fn ahead_parts(
+    alloc: Global,
+    inner: Box<Node>,
+    by: &Polygon,
+    is_behind: bool,
+) -> Result<(Solid, Solid), NoMemory>
+    ensures { IfOk result (λ r. (tree_of r.0, tree_of r.1) ≡ ahead_row is_behind inner.value.polygon (tree_of inner.value.behind) (divide (tree_of inner.value.ahead) by.now)) }
+{
+    let node = Box::into_inner(inner);
+    let parts = parts_of(alloc, node.ahead, by)?;
+    made_ahead(alloc, node.polygon, node.behind, parts, is_behind)
+}
+
+/// The parts of what lies ahead of a node's plane, one of them in a node with what lies behind.
+fn made_ahead(
+    alloc: Global,
+    polygon: Polygon,
+    behind: Solid,
+    parts: (Solid, Solid),
+    is_behind: bool,
+) -> Result<(Solid, Solid), NoMemory>
+    ensures { IfOk result (λ r. (tree_of r.0, tree_of r.1) ≡ ahead_row is_behind polygon (tree_of behind) (tree_of parts.0, tree_of parts.1)) }
+{
+    let (a1, a2) = parts;
+    if is_behind {
+        Ok((make_node(alloc, polygon, behind, a1)?, a2))
+    } else {
+        Ok((a1, make_node(alloc, polygon, behind, a2)?))
+    }
+}
+
+#[cfg(test)]
+mod tests;

@@ -8,3 +8,5 @@ pub mod Sides
 pub mod Walks
 pub mod Complements
 pub mod Worlds
+pub mod Halves
+pub mod NearPoints

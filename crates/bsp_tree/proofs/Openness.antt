@@ -12,11 +12,11 @@ abbrev pub often : List Coefficients → ℤ → Coordinates → ℕ
 often [] v u = unsigned_abs (v *ℤ u.w)
 often (m ∷ cell) v u = unsigned_abs (v *ℤ value m u) + often cell v u
 
-more_below : (k : ℕ) (x y : ℤ) → x <ℤ pos 0 → unsigned_abs y ≤ k → (pos (suc k) *ℤ x +ℤ y) <ℤ pos 0
+pub more_below : (k : ℕ) (x y : ℤ) → x <ℤ pos 0 → unsigned_abs y ≤ k → (pos (suc k) *ℤ x +ℤ y) <ℤ pos 0
 more_below k (pos n) y h b = absurd (omega (arith, sums))
 more_below k (negsuc n) y h b = omega (arith, sums, size_parts y, product_is (pos (suc k)) (negsuc n))
 
-more_above : (k : ℕ) (x y : ℤ) → pos 0 <ℤ x → unsigned_abs y ≤ k → pos 0 <ℤ (pos (suc k) *ℤ x +ℤ y)
+pub more_above : (k : ℕ) (x y : ℤ) → pos 0 <ℤ x → unsigned_abs y ≤ k → pos 0 <ℤ (pos (suc k) *ℤ x +ℤ y)
 more_above k (pos (suc n)) y h b = omega (arith, sums, size_parts y, product_is (pos (suc k)) (pos (suc n)))
 more_above k (pos zero) y h b = absurd (omega (arith, sums))
 more_above k (negsuc n) y h b = absurd (omega (arith, sums))

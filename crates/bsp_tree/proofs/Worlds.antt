@@ -1,13 +1,14 @@
 -- The world box as a cell, and half spaces of it.
-use Rattle.std.proofs.Common.{◌≡◌, ◌↔◌, Bool, true, false, not, if◌then◌else◌, refl, sym, subst, ◌∙◌, pos}
+use Rattle.std.proofs.Common.{arith, ℤ, ◌<ℤ◌,  negsuc, ◌*◌, ◌<◌, ◌-ℤ◌, ◌*ℤ◌, unsigned_abs, ◌≡◌, ◌↔◌, Bool, true, false, not, if◌then◌else◌, refl, sym, subst, ◌∙◌, pos}
+use Rattle.plane_predicate.proofs.IntegerRing.{sums}
 use Rattle.std.specs.Ordering.{int_eq}
-use Rattle.plane_predicate.specs.Space.{Coefficients, Coordinates, value, IsPlane, IsInReach, IsInClosedWorld}
+use Rattle.plane_predicate.specs.Space.{Coefficients, Coordinates, value, IsPlane, IsInReach, IsInWorld, IsInClosedWorld}
 use Rattle.plane_polygon.specs.Polygons.{Outline}
 use Rattle.plane_polygon.specs.declared.classes.Class.{Class}
 use Rattle.plane_polygon.specs.declared.classes.Class.TheVariants.{Behind, Ahead, On, Across}
 use Rattle.plane_polygon.specs.Parts.{class_of}
 use Rattle.plane_polygon.specs.Boxes.{high_x, low_x, high_y, low_y, high_z, low_z, turned, box_outline, box_over_x, box_over_y, box_over_z, trimmed, trimmed_to, ComesInReach}
-use Rattle.plane_polygon.proofs.BoxPoints.{in_world, world_in, reach_in, box_polygon_is}
+use Rattle.plane_polygon.proofs.BoxPoints.{value_high_x, value_low_x, value_high_y, value_low_y, value_high_z, value_low_z, in_world, world_in, reach_in, box_polygon_is}
 use Rattle.bsp_tree.specs.Trees.{half_space}
 use Rattle.bsp_tree.specs.Cells.{IsIn, IsInClosed, IsAcross, IsOfWorld, world_box}
 
@@ -23,6 +24,41 @@ closed_world p = (
     low_z_side = h.below.1.1.1.1.1.0;
   }),
   λ h. (let k = world_in p h in record { weight = h.weight; below = (k.high_x_side, (k.low_x_side, (k.high_y_side, (k.low_y_side, (k.high_z_side, (k.low_z_side, tt)))))) }),
+)
+
+-- a number against 4096 w, w above 0
+size_strict : (x w : ℤ) → pos 0 <ℤ w → (x -ℤ pos 4096 *ℤ w) <ℤ pos 0 → ((pos 0 -ℤ x) -ℤ pos 4096 *ℤ w) <ℤ pos 0 → unsigned_abs x < 4096 * unsigned_abs w
+size_strict (pos n) (pos k) above hh hl = omega (arith, sums)
+size_strict (negsuc n) (pos k) above hh hl = omega (arith, sums)
+size_strict x (negsuc k) above hh hl = absurd (omega (arith, sums))
+
+strict_size : (x w : ℤ) → pos 0 <ℤ w → unsigned_abs x < 4096 * unsigned_abs w → ((x -ℤ pos 4096 *ℤ w) <ℤ pos 0) × (((pos 0 -ℤ x) -ℤ pos 4096 *ℤ w) <ℤ pos 0)
+strict_size (pos n) (pos k) above s = (omega (arith, sums), omega (arith, sums))
+strict_size (negsuc n) (pos k) above s = (omega (arith, sums), omega (arith, sums))
+strict_size x (negsuc k) above s = absurd (omega (arith, sums))
+
+below_by : (x y : ℤ) → x ≡ y → x <ℤ pos 0 → y <ℤ pos 0
+below_by x y e h = subst (λ (z : ℤ). z <ℤ pos 0) e h
+
+pub open_world : (p : Coordinates) → IsIn world_box p ↔ IsInWorld p
+open_world p = (
+  λ h. (let b = h.below in record {
+    weight = h.weight;
+    x_size = size_strict p.x p.w h.weight (below_by _ _ (value_high_x p) b.0) (below_by _ _ (value_low_x p) b.1.0);
+    y_size = size_strict p.y p.w h.weight (below_by _ _ (value_high_y p) b.1.1.0) (below_by _ _ (value_low_y p) b.1.1.1.0);
+    z_size = size_strict p.z p.w h.weight (below_by _ _ (value_high_z p) b.1.1.1.1.0) (below_by _ _ (value_low_z p) b.1.1.1.1.1.0);
+  }),
+  λ h. (let x = strict_size p.x p.w h.weight h.x_size in let y = strict_size p.y p.w h.weight h.y_size in let z = strict_size p.z p.w h.weight h.z_size in record {
+    weight = h.weight;
+    below = (
+      below_by _ _ (sym (value_high_x p)) x.0,
+      (below_by _ _ (sym (value_low_x p)) x.1,
+      (below_by _ _ (sym (value_high_y p)) y.0,
+      (below_by _ _ (sym (value_low_y p)) y.1,
+      (below_by _ _ (sym (value_high_z p)) z.0,
+      (below_by _ _ (sym (value_low_z p)) z.1, tt))))),
+    );
+  }),
 )
 
 -- a point in reach is a point of the world box

@@ -5,10 +5,13 @@ ghost use Rattle.std.specs.Prelude.{◌≡◌, ◌-◌, ◌^◌, min, not, IfOk}
 ghost use Rattle.plane_predicate.specs.Space.{Coefficients, Coordinates};
 ghost use Rattle.plane_polygon.specs.Boxes.{ComesInReach};
 ghost use Rattle.plane_polygon.specs.Parts.{is_behind, is_side_behind};
-ghost use Rattle.bsp_tree.specs.Trees.{complement, half_space, size, walk};
+ghost use Rattle.bsp_tree.specs.Trees.{complement, half_space, node, size, walk};
 ghost use Rattle.bsp_tree.specs.Cells.{HasPlanesOf, IsOfCell, IsOfWorld};
 ghost use Rattle.bsp_tree.specs.Shapes.{tree_of};
 
+mod laws;
+
+pub use laws::{parts_are_of_halves, world_box_is_a_cell};
 use plane_polygon::{Polygon, box_polygon};
 use plane_predicate::{Plane, Point, Side, point_side};
 use std::alloc::Global;
@@ -43,15 +46,48 @@ impl Solid {
     pub fn copy(&self, alloc: Global) -> Result<Solid, NoMemory>
         ensures { IfOk result (λ s. tree_of s ≡ tree_of self.now) }
     {
-        copy_of(alloc, self)
+        match self {
+            Solid::In => Ok(Solid::In),
+            Solid::Out => Ok(Solid::Out),
+            Solid::Node(inner) => {
+                let polygon = inner.polygon.copy(alloc)?;
+                let behind = inner.behind.copy(alloc)?;
+                let ahead = inner.ahead.copy(alloc)?;
+                new_node(alloc, polygon, behind, ahead)
+            }
+        }
     }
 
     /// The number of nodes and of their polygons' edges, which stops at the greatest number.
     pub fn count(&self) -> u64
         ensures { result ≡ min (size (tree_of self.now)) (2 ^ 64 - 1) }
     {
-        count_of(self)
+        match self {
+            Solid::In | Solid::Out => 0,
+            Solid::Node(inner) => {
+                let edges = inner.polygon.edges().len() as u64;
+                let below = inner.behind.count().saturating_add(inner.ahead.count());
+                below.saturating_add(edges).saturating_add(1)
+            }
+        }
     }
+}
+
+/// The node with this polygon and these sides, also where both are the same leaf.
+pub fn new_node(
+    alloc: Global,
+    polygon: Polygon,
+    behind: Solid,
+    ahead: Solid,
+) -> Result<Solid, NoMemory>
+    ensures { IfOk result (λ s. tree_of s ≡ node polygon (tree_of behind) (tree_of ahead)) }
+{
+    let inner = Node {
+        polygon,
+        behind,
+        ahead,
+    };
+    Ok(Solid::Node(Box::new(alloc, inner)?))
 }
 
 /// The points behind a plane, in the world box. The plane has a point with coordinates at most
@@ -117,51 +153,10 @@ fn half_of(alloc: Global, plane: &Plane) -> Result<Solid, NoMemory>
     ensures { IfOk result (λ s. tree_of s ≡ half_space plane.now) }
 {
     let polygon = box_polygon(alloc, plane)?;
-    Ok(Solid::Node(Box::new(
-        alloc,
-        Node {
-            polygon,
-            behind: Solid::In,
-            ahead: Solid::Out,
-        },
-    )?))
+    new_node(alloc, polygon, Solid::In, Solid::Out)
 }
 
-fn copy_of(alloc: Global, solid: &Solid) -> Result<Solid, NoMemory>
-    ensures { IfOk result (λ s. tree_of s ≡ tree_of solid.now) }
-{
-    match solid {
-        Solid::In => Ok(Solid::In),
-        Solid::Out => Ok(Solid::Out),
-        Solid::Node(inner) => {
-            let polygon = inner.polygon.copy(alloc)?;
-            let behind = copy_of(alloc, &inner.behind)?;
-            let ahead = copy_of(alloc, &inner.ahead)?;
-            Ok(Solid::Node(Box::new(
-                alloc,
-                Node {
-                    polygon,
-                    behind,
-                    ahead,
-                },
-            )?))
-        }
-    }
-}
-
-fn count_of(solid: &Solid) -> u64
-    ensures { result ≡ min (size (tree_of solid.now)) (2 ^ 64 - 1) }
-{
-    match solid {
-        Solid::In | Solid::Out => 0,
-        Solid::Node(inner) => {
-            let edges = inner.polygon.edges().len() as u64;
-            let below = count_of(&inner.behind).saturating_add(count_of(&inner.ahead));
-            below.saturating_add(edges).saturating_add(1)
-        }
-    }
-}
-
+/// A solid with In and Out exchanged.
 fn exchanged(alloc: Global, solid: &Solid) -> Result<Solid, NoMemory>
     ensures { IfOk result (λ s. tree_of s ≡ complement (tree_of solid.now)) }
 {
@@ -172,14 +167,10 @@ fn exchanged(alloc: Global, solid: &Solid) -> Result<Solid, NoMemory>
             let polygon = inner.polygon.copy(alloc)?;
             let behind = exchanged(alloc, &inner.behind)?;
             let ahead = exchanged(alloc, &inner.ahead)?;
-            Ok(Solid::Node(Box::new(
-                alloc,
-                Node {
-                    polygon,
-                    behind,
-                    ahead,
-                },
-            )?))
+            new_node(alloc, polygon, behind, ahead)
         }
     }
 }
+
+#[cfg(test)]
+mod tests;

@@ -29,22 +29,22 @@ pub record IsBehindBox (p : Coordinates) : Type 0 where
   pub high_z_side : value high_z p <ℤ pos 0
   pub low_z_side : value low_z p <ℤ pos 0
 
-value_high_x : (p : Coordinates) → value high_x p ≡ p.x -ℤ pos 4096 *ℤ p.w
+pub value_high_x : (p : Coordinates) → value high_x p ≡ p.x -ℤ pos 4096 *ℤ p.w
 value_high_x p = ring (of_point p []) (valueP HX (place 0)) (minus (var 0) (times (num (pos 4096)) (var 3))) refl
 
-value_low_x : (p : Coordinates) → value low_x p ≡ (pos 0 -ℤ p.x) -ℤ pos 4096 *ℤ p.w
+pub value_low_x : (p : Coordinates) → value low_x p ≡ (pos 0 -ℤ p.x) -ℤ pos 4096 *ℤ p.w
 value_low_x p = ring (of_point p []) (valueP LX (place 0)) (minus (minus (num (pos 0)) (var 0)) (times (num (pos 4096)) (var 3))) refl
 
-value_high_y : (p : Coordinates) → value high_y p ≡ p.y -ℤ pos 4096 *ℤ p.w
+pub value_high_y : (p : Coordinates) → value high_y p ≡ p.y -ℤ pos 4096 *ℤ p.w
 value_high_y p = ring (of_point p []) (valueP HY (place 0)) (minus (var 1) (times (num (pos 4096)) (var 3))) refl
 
-value_low_y : (p : Coordinates) → value low_y p ≡ (pos 0 -ℤ p.y) -ℤ pos 4096 *ℤ p.w
+pub value_low_y : (p : Coordinates) → value low_y p ≡ (pos 0 -ℤ p.y) -ℤ pos 4096 *ℤ p.w
 value_low_y p = ring (of_point p []) (valueP LY (place 0)) (minus (minus (num (pos 0)) (var 1)) (times (num (pos 4096)) (var 3))) refl
 
-value_high_z : (p : Coordinates) → value high_z p ≡ p.z -ℤ pos 4096 *ℤ p.w
+pub value_high_z : (p : Coordinates) → value high_z p ≡ p.z -ℤ pos 4096 *ℤ p.w
 value_high_z p = ring (of_point p []) (valueP HZ (place 0)) (minus (var 2) (times (num (pos 4096)) (var 3))) refl
 
-value_low_z : (p : Coordinates) → value low_z p ≡ (pos 0 -ℤ p.z) -ℤ pos 4096 *ℤ p.w
+pub value_low_z : (p : Coordinates) → value low_z p ≡ (pos 0 -ℤ p.z) -ℤ pos 4096 *ℤ p.w
 value_low_z p = ring (of_point p []) (valueP LZ (place 0)) (minus (minus (num (pos 0)) (var 2)) (times (num (pos 4096)) (var 3))) refl
 
 -- a number against 4096 w, w above 0

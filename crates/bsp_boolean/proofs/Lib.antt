@@ -1,0 +1,4 @@
+pub mod TooBig
+pub mod Combined
+pub mod Merged
+pub mod Solids

@@ -1,0 +1,106 @@
+-- The solids of trees: they are of the world box, and hold where their trees do.
+use Rattle.std.proofs.Common.{◌≡◌, ◌⊎◌, inl, inr, Bool, true, false, ◌&&◌, if◌then◌else◌, List, [], ◌∷◌, refl, sym, ap, ap₂, ◌∙◌, pos, ◌<ℤ◌, All, ℕ, suc, ◌<◌, length, get_or, drop, subst, arith}
+use Rattle.std.specs.Prelude.{Contains}
+use Rattle.plane_predicate.specs.Space.{Coefficients, Coordinates, value, IsInWorld}
+use Rattle.csg_tree.specs.declared.op.Op.{Op}
+use Rattle.csg_tree.specs.Formulas.{Formula, nothing, leaf, joined, holds, operated, sides_of}
+use Rattle.csg_tree.specs.Formulas as formulas
+use Rattle.csg_tree.specs.ProperTrees.{IsLeafPlane, HasFullLeaves, IsProper}
+use Rattle.plane_polygon.specs.Boxes.{box_outline}
+use Rattle.plane_polygon.specs.Parts.{is_behind}
+use Rattle.bsp_tree.specs.Trees.{Tree, inside, outside, node, walk, half_space}
+use Rattle.bsp_tree.specs.Cells.{world_box, IsIn, IsOfCell, IsOfWorld, IsOff, IsPlaneOf}
+use Rattle.bsp_tree.proofs.Worlds.{open_world, half_of_world, box_plane}
+use Rattle.bsp_boolean.specs.Merges.{combined, merged}
+use Rattle.bsp_boolean.specs.Solids.{convex, solid_of, IsSolidOf}
+use Rattle.bsp_boolean.proofs.Combined.{combined_walks, combined_cells, combined_planes}
+use Rattle.bsp_boolean.proofs.Merged.{merge_is}
+
+-- the first of some planes, and one of the others
+here : (m n : Coefficients) (planes : List Coefficients) → n ≡ m → Contains (m ∷ planes) n
+here m n planes e = (0, omega arith, sym e)
+
+there : (m n : Coefficients) (planes : List Coefficients) → Contains planes n → Contains (m ∷ planes) n
+there m n planes h = (suc h.0, omega (arith, h.1), h.2)
+
+-- the half space behind a plane
+itself : (x : Bool) → (if x then true else false) ≡ x
+itself true = refl
+itself false = refl
+
+half_walk : (m : Coefficients) (p : Coordinates) → walk (half_space m) p ≡ sides_of p m
+half_walk m p = itself (is_behind (box_outline m).plane p) ∙ ap (λ (n : Coefficients). is_behind n p) (box_plane m)
+
+half_planes : (m n : Coefficients) → IsPlaneOf n (half_space m) → n ≡ m
+half_planes m n (inl e) = e ∙ box_plane m
+half_planes m n (inr (inl k)) = absurd k
+half_planes m n (inr (inr k)) = absurd k
+
+alone : (x : Bool) → x ≡ (x && true)
+alone true = refl
+alone false = refl
+
+pub half_is_solid : (m : Coefficients) → IsOfWorld (half_space m) → IsSolidOf (leaf (m ∷ [])) (half_space m)
+half_is_solid m h = record {
+  world = h;
+  planes = λ n k. here m n [] (half_planes m n k);
+  walks = λ p hw off. half_walk m p ∙ alone (sides_of p m);
+}
+
+-- one plane more
+pub one_plane_more : (m n : Coefficients) (planes : List Coefficients) → IsOfWorld (half_space m) →
+    IsSolidOf (leaf (n ∷ planes)) (convex (n ∷ planes)) → IsSolidOf (leaf (m ∷ n ∷ planes)) (convex (m ∷ n ∷ planes))
+one_plane_more m n planes hm h = let rest = n ∷ planes in record {
+  world = combined_cells false (half_space m) (convex rest) world_box hm h.world;
+  planes = λ o k. (elim (combined_planes false (half_space m) (convex rest) o k) [
+    | inl i ↦ here m o rest (half_planes m o i)
+    | inr j ↦ there m o rest (h.planes o j)
+  ]);
+  walks = λ p hw off.
+    combined_walks false (half_space m) (convex rest) world_box hm h.world p ((open_world p).1 hw)
+    (λ o i. off o (here m o rest (half_planes m o i))) (λ o j. off o (there m o rest (h.planes o j)))
+    ∙ ap₂ ◌&&◌ (half_walk m p) (h.walks p hw (λ o j. off o (there m o rest j)));
+}
+
+-- the solid of a leaf
+leaf_is_solid : (planes : List Coefficients) → All IsLeafPlane planes → IsSolidOf (leaf planes) (convex planes)
+leaf_is_solid [] h = record { world = tt; planes = λ m k. absurd k; walks = λ p hw off. refl }
+leaf_is_solid (m ∷ []) h = let i = h 0 m (omega arith) in half_is_solid m (half_of_world m i.plane i.reach)
+leaf_is_solid (m ∷ n ∷ planes) h =
+    let i = h 0 m (omega arith) in
+    one_plane_more m n planes (half_of_world m i.plane i.reach) (leaf_is_solid (n ∷ planes) (λ k d l. h (suc k) d (omega (arith, l))))
+
+-- the solid of a tree
+pub tree_is_solid : (f : Formula) → HasFullLeaves f → IsSolidOf f (solid_of f)
+tree_is_solid nothing h = record { world = tt; planes = λ m k. absurd k; walks = λ p hw off. refl }
+tree_is_solid (leaf planes) h = leaf_is_solid planes h.1
+tree_is_solid (joined op left right) h =
+    let l = tree_is_solid left h.0 in
+    let r = tree_is_solid right h.1 in
+    let k = merge_is op (solid_of left) (solid_of right) in record {
+      world = k.cells world_box (record { left_cell = l.world; right_cell = r.world });
+      planes = λ m i. (elim (k.planes m i) [ inl i ↦ inl (l.planes m i) | inr j ↦ inr (r.planes m j) ]);
+      walks = λ p hw off.
+        k.walks world_box (record { left_cell = l.world; right_cell = r.world }) p ((open_world p).1 hw)
+        (λ m i. off m (inl (l.planes m i))) (λ m j. off m (inr (r.planes m j)))
+        ∙ ap₂ (operated op) (l.walks p hw (λ m i. off m (inl i))) (r.walks p hw (λ m j. off m (inr j)));
+    }
+
+-- the solid of more than one plane, and of one
+pub convex_more : (planes : List Coefficients) (m : Coefficients) → 1 < length planes → m ≡ get_or planes 0 m →
+    convex planes ≡ combined false (half_space m) (convex (drop 1 planes))
+convex_more [] m many e = absurd (omega arith)
+convex_more (n ∷ []) m many e = absurd (omega arith)
+convex_more (n ∷ o ∷ planes) m many e = ap (λ (k : Coefficients). combined false (half_space k) (convex (o ∷ planes))) (sym e)
+
+pub more_is_solid : (planes : List Coefficients) (m : Coefficients) → 1 < length planes → m ≡ get_or planes 0 m → IsOfWorld (half_space m) →
+    IsSolidOf (leaf (drop 1 planes)) (convex (drop 1 planes)) → IsSolidOf (leaf planes) (convex planes)
+more_is_solid [] m many e hm h = absurd (omega arith)
+more_is_solid (n ∷ []) m many e hm h = absurd (omega arith)
+more_is_solid (n ∷ o ∷ planes) m many e hm h = one_plane_more n o planes (subst (λ (k : Coefficients). IsOfWorld (half_space k)) e hm) h
+
+pub one_is_solid : (planes : List Coefficients) (m : Coefficients) → length planes ≡ 1 → m ≡ get_or planes 0 m → IsOfWorld (half_space m) →
+    IsSolidOf (leaf planes) (half_space m)
+one_is_solid [] m one e hm = absurd (omega arith)
+one_is_solid (n ∷ []) m one e hm = subst (λ (k : Coefficients). IsSolidOf (leaf (k ∷ [])) (half_space m)) e (half_is_solid m hm)
+one_is_solid (n ∷ o ∷ planes) m one e hm = absurd (omega arith)

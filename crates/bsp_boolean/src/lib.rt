@@ -1,0 +1,17 @@
+//! Booleans of solids, by merging their BSP trees (Bernstein and Fussell).
+#![tactic(auto)]
+
+mod building;
+mod combining;
+mod laws;
+mod leaves;
+mod merging;
+mod sizes;
+
+pub use building::{BuildStop, Builder, PlainBuilder};
+pub use laws::{merges_are_operations, solids_are_their_trees};
+pub use leaves::leaf_solid;
+pub use merging::{merge, merge_within};
+
+//#[cfg(test)]
+//mod tests;

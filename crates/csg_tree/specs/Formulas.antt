@@ -1,0 +1,38 @@
+-- Constructive solid geometry over half spaces (OpenSCAD User Manual, "CSG Modelling").
+use Rattle.std.specs.Prelude.{Bool, false, not, ◌&&◌, ◌||◌, List, ◌⊎◌, pos, int_lt, Contains}
+use Rattle.std.specs.List.{list_all}
+use Rattle.plane_predicate.specs.Space.{Coefficients, Coordinates, value}
+use Rattle.csg_tree.specs.declared.op.Op.{Op}
+use Rattle.csg_tree.specs.declared.op.Op.TheVariants.{Union, Intersection, Difference}
+
+-- a leaf is the set of points behind all of its planes
+pub data Formula : Type 0 where
+  nothing : Formula
+  leaf : List Coefficients → Formula
+  joined : Op → Formula → Formula → Formula
+
+-- for each plane, whether the side behind it is taken; else the side ahead is
+abbrev pub Assignment : Type 0
+Assignment = Coefficients → Bool
+
+-- an operation on two truths: one of them, both, or the first without the second
+abbrev pub operated : Op → Bool → Bool → Bool
+operated Union left right = left || right
+operated Intersection left right = left && right
+operated Difference left right = left && not right
+
+-- whether the formula holds under an assignment of sides to its planes
+abbrev pub holds : Formula → Assignment → Bool
+holds nothing sides = false
+holds (leaf planes) sides = list_all sides planes
+holds (joined op left right) sides = operated op (holds left sides) (holds right sides)
+
+-- the sides of a point: whether it is strictly behind each plane
+abbrev pub sides_of : Coordinates → Assignment
+sides_of p m = int_lt (value m p) (pos 0)
+
+-- the plane is a plane of some leaf
+abbrev pub IsPlaneOf : Coefficients → Formula → Type 0
+IsPlaneOf m nothing = ⊥
+IsPlaneOf m (leaf planes) = Contains planes m
+IsPlaneOf m (joined op left right) = IsPlaneOf m left ⊎ IsPlaneOf m right

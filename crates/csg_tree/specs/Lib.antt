@@ -1,0 +1,4 @@
+pub mod Formulas
+pub mod Joins
+pub mod ProperTrees
+pub mod Trees

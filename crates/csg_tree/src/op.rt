@@ -1,0 +1,10 @@
+/// An operation on two solids.
+#[derive(Clone, Copy, Debug, PartialEq, Eq)]
+pub enum Op {
+    /// What lies in one of them.
+    Union,
+    /// What lies in both.
+    Intersection,
+    /// What lies in the first and not in the second.
+    Difference,
+}
