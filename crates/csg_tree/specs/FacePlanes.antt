@@ -1,0 +1,32 @@
+-- The face planes of a formula, and what it is just behind and just ahead of a point that lies on one of them.
+use Rattle.std.specs.Prelude.{◌≡◌, Bool, true, false, not, ◌&&◌, if◌then◌else◌, ◌⊎◌, pos}
+use Rattle.std.specs.Ordering.{int_eq}
+use Rattle.plane_predicate.specs.Space.{Coefficients, Coordinates, value, opposite_of, IsInWorld}
+use Rattle.csg_tree.specs.Formulas.{Formula, Assignment, holds, sides_of, IsPlaneOf}
+
+-- a face plane, in one of its two orientations
+abbrev pub IsFacePlane : Coefficients → Formula → Type 0
+IsFacePlane n f = IsPlaneOf n f ⊎ IsPlaneOf (opposite_of n) f
+
+-- the point is strictly inside the world box and on exactly one face plane, of which n is an orientation.
+-- Face planes have no common factor, so two of them are one set of points where they are equal or opposite
+pub record IsOnOneFacePlane (f : Formula) (n : Coefficients) (p : Coordinates) : Type 0 where
+  pub world : IsInWorld p
+  pub face_plane : IsFacePlane n f
+  pub on : value n p ≡ pos 0
+  pub alone : (m : Coefficients) → IsPlaneOf m f → value m p ≡ pos 0 → (m ≡ n) ⊎ (m ≡ opposite_of n)
+
+abbrev pub is_same : Coefficients → Coefficients → Bool
+is_same m n = int_eq m.a n.a && int_eq m.b n.b && int_eq m.c n.c && int_eq m.d n.d
+
+-- the sides of a point on the plane n that is moved a little to behind n: every other plane keeps its side
+abbrev pub just_behind : Coefficients → Coordinates → Assignment
+just_behind n p m = if is_same m n then true else if is_same m (opposite_of n) then false else sides_of p m
+
+-- the same for the point moved a little to ahead of n
+abbrev pub just_ahead : Coefficients → Coordinates → Assignment
+just_ahead n p m = if is_same m n then false else if is_same m (opposite_of n) then true else sides_of p m
+
+-- solid just behind the point, seen from n, and empty just ahead of it
+abbrev pub bounds : Formula → Coefficients → Coordinates → Bool
+bounds f n p = holds f (just_behind n p) && not (holds f (just_ahead n p))
