@@ -6,3 +6,4 @@ pub mod Numbers
 pub mod Distinct
 pub mod Gathered
 pub mod Pieces
+pub mod FacesOfFacets

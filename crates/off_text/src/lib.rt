@@ -7,6 +7,6 @@ mod numbering;
 mod writing;
 mod text;
 
-pub use laws::one_reading;
+pub use laws::{one_reading, texts_are_boundaries_from};
 pub use text::{OffStop, off_bytes};
 

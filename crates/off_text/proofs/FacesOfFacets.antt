@@ -1,0 +1,193 @@
+-- The text of the facets of a formula's solid is the boundary of the formula, where the solid's walk just beside a point
+-- on one face plane is the formula.
+use Rattle.std.proofs.Common.{◌≡◌, ◌⊎◌, inl, inr, ℕ, zero, suc, ◌+◌, ◌*◌, ◌<◌, ◌≤◌, Bool, true, false, not, ◌&&◌, List, [], ◌∷◌, length, slice_index_or, sym, refl, ap, ap₂, ◌∙◌, subst, arith, ℤ, pos, ◌*ℤ◌, ◌<ℤ◌, unsigned_abs, le_of_mul-le-mul_right}
+use Rattle.std.specs.List.{All}
+use Rattle.std.proofs.lemmas.Int.{unsigned_abs-mul}
+use Rattle.std.proofs.lemmas.List.Elements.{All-nil, All-cons, All-head, All-tail, All-contains, All-weaker}
+use Rattle.plane_predicate.specs.Space.{Coefficients, Coordinates, opposite_of, IsPlane, IsPointTimes, IsInClosedWorld}
+use Rattle.plane_predicate.proofs.IntegerRing.{sums}
+use Rattle.plane_predicate.proofs.Signs.{pos_cancel}
+use Rattle.plane_predicate.proofs.Opposites.{opposite_is_plane}
+use Rattle.plane_polygon.specs.Polygons.{Outline, sides, corner as corner_of}
+use Rattle.csg_tree.specs.Formulas.{Formula, nothing, leaf, joined, holds}
+use Rattle.csg_tree.specs.Formulas as formulas
+use Rattle.csg_tree.specs.FacePlanes.{IsFacePlane, IsOnOneFacePlane, just_behind, just_ahead}
+use Rattle.csg_tree.specs.ProperTrees.{IsLeafPlane, HasFullLeaves, IsProper}
+use Rattle.bsp_tree.specs.Cells.{world_box, IsPlaneOf}
+use Rattle.bsp_tree.proofs.Opposites.{opposite_twice}
+use Rattle.bsp_tree.proofs.Worlds.{open_world}
+use Rattle.bsp_boolean.specs.Solids.{solid_of, IsSolidOf}
+use Rattle.bsp_boolean.proofs.Solids.{tree_is_solid}
+use Rattle.facet_cut.specs.Facets.{facets_of}
+use Rattle.facet_cut.specs.Sides.{walk_by, AreJustBehind, AreJustAhead, CoversFacing, HasNone, HasOne, HasOneWhere}
+use Rattle.facet_cut.proofs.FacetPolygons.{all_facets, world_corners}
+use Rattle.facet_cut.proofs.Boundaries.{facets_bound}
+use Rattle.off_text.specs.Boundaries.{corner, Covers, ExactlyOne, NoneHas, OneExactlyWhere}
+use Rattle.off_text.specs.Prints.{IsFaceOf, AreFacesOf, Prints}
+use Rattle.off_text.specs.Bounding.{IsBoundaryFace, IsBoundary}
+
+-- beside a point on one face plane, the formula's sides are the solid's, and the solid's walk by them is the formula
+abbrev pub BesideLeaves : Formula → Type 0
+BesideLeaves f =
+    (n : Coefficients) (p : Coordinates) → IsOnOneFacePlane f n p →
+    AreJustBehind n p (just_behind n p) × AreJustAhead n p (just_ahead n p)
+    × (walk_by (solid_of f) (just_behind n p) ≡ holds f (just_behind n p))
+    × (walk_by (solid_of f) (just_ahead n p) ≡ holds f (just_ahead n p))
+
+-- ---- a point with a multiple in the closed world box is in it
+cancelled : (k x w y v : ℕ) → 0 < k → y ≡ k * x → v ≡ k * w → y ≤ 4096 * v → x ≤ 4096 * w
+cancelled k x w y v h ey ev s = let most : x * k ≤ (4096 * w) * k = omega (arith, ey, ev, s) in le_of_mul-le-mul_right {k = k} most h
+
+above_size : (k : ℤ) → pos 0 <ℤ k → 0 < unsigned_abs k
+above_size k h = omega (arith, sums)
+
+size_down : (k x w y v : ℤ) → pos 0 <ℤ k → y ≡ k *ℤ x → v ≡ k *ℤ w → unsigned_abs y ≤ 4096 * unsigned_abs v →
+    unsigned_abs x ≤ 4096 * unsigned_abs w
+size_down k x w y v h ey ev s =
+    cancelled (unsigned_abs k) (unsigned_abs x) (unsigned_abs w) (unsigned_abs y) (unsigned_abs v) (above_size k h)
+    (ap unsigned_abs ey ∙ unsigned_abs-mul k x) (ap unsigned_abs ev ∙ unsigned_abs-mul k w) s
+
+closed_down : (p q : Coordinates) → IsPointTimes p q → IsInClosedWorld p → IsInClosedWorld q
+closed_down p q t h = record {
+  weight = pos_cancel t.by q.w t.above (subst (λ (w : ℤ). pos 0 <ℤ w) t.w h.weight);
+  x_size = size_down t.by q.x q.w p.x p.w t.above t.x t.w h.x_size;
+  y_size = size_down t.by q.y q.w p.y p.w t.above t.y t.w h.y_size;
+  z_size = size_down t.by q.z q.w p.z p.w t.above t.z t.w h.z_size;
+}
+
+-- ---- face planes of a formula with full leaves are planes
+leaf_plane : (f : Formula) (m : Coefficients) → HasFullLeaves f → formulas.IsPlaneOf m f → IsPlane m
+leaf_plane nothing m h k = absurd k
+leaf_plane (leaf planes) m h k = (All-contains IsLeafPlane planes m h.1 k).plane
+leaf_plane (joined op left right) m h (inl k) = leaf_plane left m h.0 k
+leaf_plane (joined op left right) m h (inr k) = leaf_plane right m h.1 k
+
+face_plane : (f : Formula) (m : Coefficients) → HasFullLeaves f → IsFacePlane m f → IsPlane m
+face_plane f m h (inl k) = leaf_plane f m h k
+face_plane f m h (inr k) =
+    subst IsPlane (opposite_twice m) (opposite_is_plane (opposite_of m) (leaf_plane f (opposite_of m) h k))
+
+-- ---- the facets of a formula's solid
+record IsFacetOfFormula (f : Formula) (s : Outline) : Type 0 where
+  pub plane : IsFacePlane s.plane f
+  pub boxed : (i : ℕ) → i < sides s → IsInClosedWorld (corner_of s i)
+
+facet_plane : (f : Formula) (m : Coefficients) → IsSolidOf f (solid_of f) →
+    IsPlaneOf m (solid_of f) ⊎ IsPlaneOf (opposite_of m) (solid_of f) → IsFacePlane m f
+facet_plane f m h (inl k) = inl (h.planes m k)
+facet_plane f m h (inr k) = inr (h.planes (opposite_of m) k)
+
+formula_facets : (f : Formula) → IsSolidOf f (solid_of f) → All (IsFacetOfFormula f) (facets_of (solid_of f))
+formula_facets f h k d l =
+    let s = slice_index_or (facets_of (solid_of f)) k d in record {
+      plane = facet_plane f s.plane h (all_facets (solid_of f) world_box h.world k d l).plane;
+      boxed = world_corners (solid_of f) h.world k d l;
+    }
+
+-- ---- each printed face is a face of the boundary
+face_bounds : (f : Formula) (vertices : List Coordinates) (s : Outline) (face : List ℕ) → IsFaceOf vertices s face → IsFacetOfFormula f s →
+    IsBoundaryFace f vertices face
+face_bounds f vertices s face h k = record {
+  plane = s.plane;
+  of_formula = k.plane;
+  faces = h.facing;
+  boxed = λ i l. (let c = h.corners i l in closed_down (corner_of s c.place) (corner vertices face i) c.times (k.boxed c.place c.within));
+}
+
+faces_bound : (f : Formula) (vertices : List Coordinates) (polygons : List Outline) (faces : List (List ℕ)) →
+    AreFacesOf vertices polygons faces → All (IsFacetOfFormula f) polygons → All (IsBoundaryFace f vertices) faces
+faces_bound f vertices [] [] h k = All-nil (IsBoundaryFace f vertices)
+faces_bound f vertices [] (face ∷ faces) h k = absurd h
+faces_bound f vertices (s ∷ polygons) [] h k = absurd h
+faces_bound f vertices (s ∷ polygons) (face ∷ faces) h k =
+    All-cons (IsBoundaryFace f vertices) face faces
+    (face_bounds f vertices s face h.0 (All-head (IsFacetOfFormula f) s polygons k))
+    (faces_bound f vertices polygons faces h.1 (All-tail (IsFacetOfFormula f) s polygons k))
+
+-- ---- a printed face covers what its polygon does
+abbrev HasPlane : Outline → Type 0
+HasPlane s = IsPlane s.plane
+
+to_face : (vertices : List Coordinates) (n : Coefficients) (p : Coordinates) (s : Outline) (face : List ℕ) → IsFaceOf vertices s face →
+    IsPlane s.plane → IsPlane n → CoversFacing n p s → Covers vertices n p face
+to_face vertices n p s face h hs hn c = (h.covering n p hs hn).1 (c.faces, c.within)
+
+from_face : (vertices : List Coordinates) (n : Coefficients) (p : Coordinates) (s : Outline) (face : List ℕ) → IsFaceOf vertices s face →
+    IsPlane s.plane → IsPlane n → Covers vertices n p face → CoversFacing n p s
+from_face vertices n p s face h hs hn c = let k = (h.covering n p hs hn).0 c in record { faces = k.0; within = k.1 }
+
+none_covers : (vertices : List Coordinates) (n : Coefficients) (p : Coordinates) (polygons : List Outline) (faces : List (List ℕ)) → IsPlane n →
+    AreFacesOf vertices polygons faces → All HasPlane polygons → HasNone (CoversFacing n p) polygons → HasNone (Covers vertices n p) faces
+none_covers vertices n p [] [] hn h k none = tt
+none_covers vertices n p [] (face ∷ faces) hn h k none = absurd h
+none_covers vertices n p (s ∷ polygons) [] hn h k none = absurd h
+none_covers vertices n p (s ∷ polygons) (face ∷ faces) hn h k none = (
+  λ c. none.0 (from_face vertices n p s face h.0 (All-head HasPlane s polygons k) hn c),
+  none_covers vertices n p polygons faces hn h.1 (All-tail HasPlane s polygons k) none.1,
+)
+
+one_covers : (vertices : List Coordinates) (n : Coefficients) (p : Coordinates) (polygons : List Outline) (faces : List (List ℕ)) → IsPlane n →
+    AreFacesOf vertices polygons faces → All HasPlane polygons → HasOne (CoversFacing n p) polygons → HasOne (Covers vertices n p) faces
+one_covers vertices n p [] faces hn h k one = absurd one
+one_covers vertices n p (s ∷ polygons) [] hn h k one = absurd h
+one_covers vertices n p (s ∷ polygons) (face ∷ faces) hn h k (inl one) = inl (
+  to_face vertices n p s face h.0 (All-head HasPlane s polygons k) hn one.0,
+  none_covers vertices n p polygons faces hn h.1 (All-tail HasPlane s polygons k) one.1,
+)
+one_covers vertices n p (s ∷ polygons) (face ∷ faces) hn h k (inr one) = inr (
+  λ c. one.0 (from_face vertices n p s face h.0 (All-head HasPlane s polygons k) hn c),
+  one_covers vertices n p polygons faces hn h.1 (All-tail HasPlane s polygons k) one.1,
+)
+
+-- ---- exactly one, by its place
+none_at : (P : List ℕ → Type 0) (faces : List (List ℕ)) → HasNone P faces → NoneHas P faces
+none_at P [] h i l has = absurd (omega (arith, l))
+none_at P (face ∷ faces) h zero l has = h.0 has
+none_at P (face ∷ faces) h (suc i) l has = none_at P faces h.1 i (omega (arith, l)) has
+
+only_first : (P : List ℕ → Type 0) (face : List ℕ) (faces : List (List ℕ)) → HasNone P faces → (i : ℕ) → i < length (face ∷ faces) →
+    P (slice_index_or (face ∷ faces) i []) → i ≡ 0
+only_first P face faces h zero l has = refl
+only_first P face faces h (suc i) l has = absurd (none_at P faces h i (omega (arith, l)) has)
+
+only_later : (P : List ℕ → Type 0) (face : List ℕ) (faces : List (List ℕ)) → (P face → ⊥) → (k : ExactlyOne P faces) → (i : ℕ) →
+    i < length (face ∷ faces) → P (slice_index_or (face ∷ faces) i []) → i ≡ suc k.index
+only_later P face faces h k zero l has = absurd (h has)
+only_later P face faces h k (suc i) l has = ap suc (k.only i (omega (arith, l)) has)
+
+one_at : (P : List ℕ → Type 0) (faces : List (List ℕ)) → HasOne P faces → ExactlyOne P faces
+one_at P [] h = absurd h
+one_at P (face ∷ faces) (inl h) = record { index = 0; within = omega arith; has = h.0; only = only_first P face faces h.1 }
+one_at P (face ∷ faces) (inr h) =
+    let k = one_at P faces h.1 in record {
+      index = suc k.index;
+      within = omega (arith, k.within);
+      has = k.has;
+      only = only_later P face faces h.0 k;
+    }
+
+where_covers : (c : Bool) (vertices : List Coordinates) (n : Coefficients) (p : Coordinates) (polygons : List Outline) (faces : List (List ℕ)) → IsPlane n →
+    AreFacesOf vertices polygons faces → All HasPlane polygons → HasOneWhere c (CoversFacing n p) polygons →
+    OneExactlyWhere c (Covers vertices n p) faces
+where_covers true vertices n p polygons faces hn h k one = one_at (Covers vertices n p) faces (one_covers vertices n p polygons faces hn h k one)
+where_covers false vertices n p polygons faces hn h k none = none_at (Covers vertices n p) faces (none_covers vertices n p polygons faces hn h k none)
+
+-- ---- the text is the boundary
+pub boundary_from : (f : Formula) (bytes : List ℕ) → IsProper f → Prints (facets_of (solid_of f)) bytes → BesideLeaves f → IsBoundary bytes f
+boundary_from f bytes h text beside =
+    let t = solid_of f in
+    let solid = tree_is_solid f h.leaves in
+    let facets = formula_facets f solid in record {
+      vertices = text.vertices;
+      faces = text.faces;
+      read = text.read;
+      bounding = faces_bound f text.vertices (facets_of t) text.faces text.drawn facets;
+      covered = λ n p o. (let b = beside n p o in
+        subst (λ (c : Bool). OneExactlyWhere c (Covers text.vertices n p) text.faces) (ap₂ (λ (i j : Bool). i && not j) b.2 b.3)
+        (where_covers (walk_by t (just_behind n p) && not (walk_by t (just_ahead n p))) text.vertices n p (facets_of t) text.faces
+          (face_plane f n h.leaves o.face_plane) text.drawn
+          (All-weaker (IsFacetOfFormula f) HasPlane (λ s k. face_plane f s.plane h.leaves k.plane) (facets_of t) facets)
+          (facets_bound world_box t solid.world n p
+            (record { point_in = (open_world p).1 o.world; on = o.on; alone = λ m k e. o.alone m (solid.planes m k) e })
+            (just_behind n p) (just_ahead n p) b.0 b.1)));
+    }
