@@ -1,6 +1,6 @@
 -- The text of the facets of a formula's solid is the boundary of the formula, where the solid's walk just beside a point
 -- on one face plane is the formula.
-use Rattle.std.proofs.Common.{◌≡◌, ◌⊎◌, inl, inr, ℕ, zero, suc, ◌+◌, ◌*◌, ◌<◌, ◌≤◌, Bool, true, false, not, ◌&&◌, List, [], ◌∷◌, length, slice_index_or, sym, refl, ap, ap₂, ◌∙◌, subst, arith, ℤ, pos, ◌*ℤ◌, ◌<ℤ◌, unsigned_abs, le_of_mul-le-mul_right}
+use Rattle.std.proofs.Common.{◌≡◌, ◌⊎◌, inl, inr, ℕ, zero, suc, ◌+◌, ◌*◌, ◌<◌, ◌≤◌, Bool, true, false, not, ◌&&◌, List, [], ◌∷◌, length, slice_index_or, sym, refl, ap, ap₂, ◌∙◌, subst, arith, ℤ, pos, negsuc, ◌*ℤ◌, ◌<ℤ◌, unsigned_abs, le_of_mul-le-mul_right}
 use Rattle.std.specs.List.{All}
 use Rattle.std.proofs.lemmas.Int.{unsigned_abs-mul}
 use Rattle.std.proofs.lemmas.List.Elements.{All-nil, All-cons, All-head, All-tail, All-contains, All-weaker}
@@ -39,7 +39,8 @@ cancelled : (k x w y v : ℕ) → 0 < k → y ≡ k * x → v ≡ k * w → y �
 cancelled k x w y v h ey ev s = let most : x * k ≤ (4096 * w) * k = omega (arith, ey, ev, s) in le_of_mul-le-mul_right {k = k} most h
 
 above_size : (k : ℤ) → pos 0 <ℤ k → 0 < unsigned_abs k
-above_size k h = omega (arith, sums)
+above_size (pos k) h = omega (arith, sums)
+above_size (negsuc k) h = absurd (omega (arith, sums))
 
 size_down : (k x w y v : ℤ) → pos 0 <ℤ k → y ≡ k *ℤ x → v ≡ k *ℤ w → unsigned_abs y ≤ 4096 * unsigned_abs v →
     unsigned_abs x ≤ 4096 * unsigned_abs w
