@@ -1,17 +1,17 @@
--- The text of the facets of a formula's solid is the boundary of the formula, where the solid's walk just beside a point
--- on one face plane is the formula.
+-- The text of the facets of a formula's solid is the boundary of the formula, where the solid's walk just beside
+-- a point on one face plane is whether the formula holds there.
 use Rattle.std.proofs.Common.{◌≡◌, ◌⊎◌, inl, inr, ℕ, zero, suc, ◌*◌, ◌<◌, ◌≤◌, Bool, true, false, not, ◌&&◌, List, [], ◌∷◌, length, slice_index_or, refl, ap, ap₂, ◌∙◌, subst, arith, ℤ, pos, negsuc, ◌*ℤ◌, ◌<ℤ◌, unsigned_abs, le_of_mul-le-mul_right}
 use Rattle.std.specs.List.{All}
 use Rattle.std.proofs.lemmas.Int.{unsigned_abs-mul}
 use Rattle.std.proofs.lemmas.List.Elements.{All-nil, All-cons, All-head, All-tail, All-contains, All-weaker}
-use Rattle.plane_predicate.specs.Space.{Coefficients, Coordinates, opposite_of, IsPlane, IsPointTimes, IsInClosedWorld}
+use Rattle.plane_predicate.specs.Space.{Coefficients, Coordinates, opposite_of, IsInClosedWorld, IsPlane, IsPointTimes}
 use Rattle.plane_predicate.proofs.IntegerRing.{sums}
 use Rattle.plane_predicate.proofs.Signs.{pos_cancel}
 use Rattle.plane_predicate.proofs.Opposites.{opposite_is_plane}
 use Rattle.plane_polygon.specs.Polygons.{Outline, sides, corner as corner_of}
 use Rattle.csg_tree.specs.Formulas.{Formula, nothing, leaf, joined, holds}
 use Rattle.csg_tree.specs.Formulas as formulas
-use Rattle.csg_tree.specs.FacePlanes.{IsFacePlane, IsOnOneFacePlane, just_behind, just_ahead}
+use Rattle.csg_tree.specs.FacePlanes.{IsFacePlane, IsOnOneFacePlane, just_behind, just_ahead, bounds}
 use Rattle.csg_tree.specs.ProperTrees.{IsLeafPlane, HasFullLeaves, IsProper}
 use Rattle.bsp_tree.specs.Cells.{world_box, IsPlaneOf}
 use Rattle.bsp_tree.proofs.Opposites.{opposite_twice}
@@ -19,14 +19,15 @@ use Rattle.bsp_tree.proofs.Worlds.{open_world}
 use Rattle.bsp_boolean.specs.Solids.{solid_of, IsSolidOf}
 use Rattle.bsp_boolean.proofs.Solids.{tree_is_solid}
 use Rattle.facet_cut.specs.Facets.{facets_of}
-use Rattle.facet_cut.specs.Sides.{walk_by, AreJustBehind, AreJustAhead, CoversFacing, HasNone, HasOne, HasOneWhere}
+use Rattle.facet_cut.specs.Sides.{walk_by, AreJustBehind, AreJustAhead, IsOnOnePlane, CoversFacing, HasNone, HasOne, HasOneWhere}
 use Rattle.facet_cut.proofs.FacetPolygons.{all_facets, world_corners}
 use Rattle.facet_cut.proofs.Boundaries.{facets_bound}
 use Rattle.off_text.specs.Boundaries.{corner, Covers, ExactlyOne, NoneHas, OneExactlyWhere}
 use Rattle.off_text.specs.Prints.{IsFaceOf, AreFacesOf, Prints}
 use Rattle.off_text.specs.Bounding.{IsBoundaryFace, IsBoundary}
 
--- beside a point on one face plane, the formula's sides are the solid's, and the solid's walk by them is the formula
+-- the sides just behind and just ahead of a point on one face plane are such, and the solid's walk by them is
+-- whether the formula holds
 abbrev pub BesideLeaves : Formula → Type 0
 BesideLeaves f =
     (n : Coefficients) (p : Coordinates) → IsOnOneFacePlane f n p →
@@ -36,17 +37,19 @@ BesideLeaves f =
 
 -- ---- a point with a multiple in the closed world box is in it
 cancelled : (k x w y v : ℕ) → 0 < k → y ≡ k * x → v ≡ k * w → y ≤ 4096 * v → x ≤ 4096 * w
-cancelled k x w y v h ey ev s = let most : x * k ≤ (4096 * w) * k = omega (arith, ey, ev, s) in le_of_mul-le-mul_right {k = k} most h
+cancelled k x w y v h ey ev s =
+    let most : x * k ≤ (4096 * w) * k = omega (arith, ey, ev, s) in
+    le_of_mul-le-mul_right {k = k} most h
 
 above_size : (k : ℤ) → pos 0 <ℤ k → 0 < unsigned_abs k
 above_size (pos k) h = omega (arith, sums)
 above_size (negsuc k) h = absurd (omega (arith, sums))
 
-size_down : (k x w y v : ℤ) → pos 0 <ℤ k → y ≡ k *ℤ x → v ≡ k *ℤ w → unsigned_abs y ≤ 4096 * unsigned_abs v →
-    unsigned_abs x ≤ 4096 * unsigned_abs w
+size_down : (k x w y v : ℤ) → pos 0 <ℤ k → y ≡ k *ℤ x → v ≡ k *ℤ w →
+    unsigned_abs y ≤ 4096 * unsigned_abs v → unsigned_abs x ≤ 4096 * unsigned_abs w
 size_down k x w y v h ey ev s =
-    cancelled (unsigned_abs k) (unsigned_abs x) (unsigned_abs w) (unsigned_abs y) (unsigned_abs v) (above_size k h)
-    (ap unsigned_abs ey ∙ unsigned_abs-mul k x) (ap unsigned_abs ev ∙ unsigned_abs-mul k w) s
+    cancelled (unsigned_abs k) (unsigned_abs x) (unsigned_abs w) (unsigned_abs y) (unsigned_abs v)
+    (above_size k h) (ap unsigned_abs ey ∙ unsigned_abs-mul k x) (ap unsigned_abs ev ∙ unsigned_abs-mul k w) s
 
 closed_down : (p q : Coordinates) → IsPointTimes p q → IsInClosedWorld p → IsInClosedWorld q
 closed_down p q t h = record {
@@ -86,109 +89,133 @@ formula_facets f h k d l =
     }
 
 -- ---- each printed face is a face of the boundary
-face_bounds : (f : Formula) (vertices : List Coordinates) (s : Outline) (face : List ℕ) → IsFaceOf vertices s face → IsFacetOfFormula f s →
-    IsBoundaryFace f vertices face
-face_bounds f vertices s face h k = record {
-  plane = s.plane;
-  of_formula = k.plane;
-  faces = h.facing;
-  boxed = λ i l. (let c = h.corners i l in closed_down (corner_of s c.place) (corner vertices face i) c.times (k.boxed c.place c.within));
-}
+module _ (f : Formula) (vertices : List Coordinates) where
+  face_bounds : (s : Outline) (face : List ℕ) → IsFaceOf vertices s face → IsFacetOfFormula f s →
+      IsBoundaryFace f vertices face
+  face_bounds s face h k = record {
+    plane = s.plane;
+    of_formula = k.plane;
+    faces = h.facing;
+    boxed = λ i l. (
+      let c = h.corners i l in
+      closed_down (corner_of s c.place) (corner vertices face i) c.times (k.boxed c.place c.within));
+  }
 
-faces_bound : (f : Formula) (vertices : List Coordinates) (polygons : List Outline) (faces : List (List ℕ)) →
-    AreFacesOf vertices polygons faces → All (IsFacetOfFormula f) polygons → All (IsBoundaryFace f vertices) faces
-faces_bound f vertices [] [] h k = All-nil (IsBoundaryFace f vertices)
-faces_bound f vertices [] (face ∷ faces) h k = absurd h
-faces_bound f vertices (s ∷ polygons) [] h k = absurd h
-faces_bound f vertices (s ∷ polygons) (face ∷ faces) h k =
-    All-cons (IsBoundaryFace f vertices) face faces
-    (face_bounds f vertices s face h.0 (All-head (IsFacetOfFormula f) s polygons k))
-    (faces_bound f vertices polygons faces h.1 (All-tail (IsFacetOfFormula f) s polygons k))
+  faces_bound : (polygons : List Outline) (faces : List (List ℕ)) → AreFacesOf vertices polygons faces →
+      All (IsFacetOfFormula f) polygons → All (IsBoundaryFace f vertices) faces
+  faces_bound [] [] h k = All-nil (IsBoundaryFace f vertices)
+  faces_bound [] (face ∷ faces) h k = absurd h
+  faces_bound (s ∷ polygons) [] h k = absurd h
+  faces_bound (s ∷ polygons) (face ∷ faces) h k =
+      All-cons (IsBoundaryFace f vertices) face faces
+      (face_bounds s face h.0 (All-head (IsFacetOfFormula f) s polygons k))
+      (faces_bound polygons faces h.1 (All-tail (IsFacetOfFormula f) s polygons k))
+
+-- ---- exactly one, by its place
+module _ (P : List ℕ → Type 0) where
+  none_at : (faces : List (List ℕ)) → HasNone P faces → NoneHas P faces
+  none_at [] h i l has = absurd (omega (arith, l))
+  none_at (face ∷ faces) h zero l has = h.0 has
+  none_at (face ∷ faces) h (suc i) l has = none_at faces h.1 i (omega (arith, l)) has
+
+  only_first : (face : List ℕ) (faces : List (List ℕ)) → HasNone P faces → (i : ℕ) →
+      i < length (face ∷ faces) → P (slice_index_or (face ∷ faces) i []) → i ≡ 0
+  only_first face faces h zero l has = refl
+  only_first face faces h (suc i) l has = absurd (none_at faces h i (omega (arith, l)) has)
+
+  only_later : (face : List ℕ) (faces : List (List ℕ)) → (P face → ⊥) → (k : ExactlyOne P faces) → (i : ℕ) →
+      i < length (face ∷ faces) → P (slice_index_or (face ∷ faces) i []) → i ≡ suc k.index
+  only_later face faces h k zero l has = absurd (h has)
+  only_later face faces h k (suc i) l has = ap suc (k.only i (omega (arith, l)) has)
+
+  one_at : (faces : List (List ℕ)) → HasOne P faces → ExactlyOne P faces
+  one_at [] h = absurd h
+  one_at (face ∷ faces) (inl h) =
+      record { index = 0; within = omega arith; has = h.0; only = only_first face faces h.1 }
+  one_at (face ∷ faces) (inr h) =
+      let k = one_at faces h.1 in record {
+        index = suc k.index;
+        within = omega (arith, k.within);
+        has = k.has;
+        only = only_later face faces h.0 k;
+      }
 
 -- ---- a printed face covers what its polygon does
 abbrev HasPlane : Outline → Type 0
 HasPlane s = IsPlane s.plane
 
-to_face : (vertices : List Coordinates) (n : Coefficients) (p : Coordinates) (s : Outline) (face : List ℕ) → IsFaceOf vertices s face →
-    IsPlane s.plane → IsPlane n → CoversFacing n p s → Covers vertices n p face
-to_face vertices n p s face h hs hn c = (h.covering n p hs hn).1 (c.faces, c.within)
+module _ (vertices : List Coordinates) (n : Coefficients) (p : Coordinates) (plane : IsPlane n) where
+  to_face : (s : Outline) (face : List ℕ) → IsFaceOf vertices s face → HasPlane s →
+      CoversFacing n p s → Covers vertices n p face
+  to_face s face h k c = (h.covering n p k plane).1 (c.faces, c.within)
 
-from_face : (vertices : List Coordinates) (n : Coefficients) (p : Coordinates) (s : Outline) (face : List ℕ) → IsFaceOf vertices s face →
-    IsPlane s.plane → IsPlane n → Covers vertices n p face → CoversFacing n p s
-from_face vertices n p s face h hs hn c = let k = (h.covering n p hs hn).0 c in record { faces = k.0; within = k.1 }
+  from_face : (s : Outline) (face : List ℕ) → IsFaceOf vertices s face → HasPlane s →
+      Covers vertices n p face → CoversFacing n p s
+  from_face s face h k c =
+      let both = (h.covering n p k plane).0 c in record { faces = both.0; within = both.1 }
 
-none_covers : (vertices : List Coordinates) (n : Coefficients) (p : Coordinates) (polygons : List Outline) (faces : List (List ℕ)) → IsPlane n →
-    AreFacesOf vertices polygons faces → All HasPlane polygons → HasNone (CoversFacing n p) polygons → HasNone (Covers vertices n p) faces
-none_covers vertices n p [] [] hn h k none = tt
-none_covers vertices n p [] (face ∷ faces) hn h k none = absurd h
-none_covers vertices n p (s ∷ polygons) [] hn h k none = absurd h
-none_covers vertices n p (s ∷ polygons) (face ∷ faces) hn h k none = (
-  λ c. none.0 (from_face vertices n p s face h.0 (All-head HasPlane s polygons k) hn c),
-  none_covers vertices n p polygons faces hn h.1 (All-tail HasPlane s polygons k) none.1,
-)
+  none_covers : (polygons : List Outline) (faces : List (List ℕ)) → AreFacesOf vertices polygons faces →
+      All HasPlane polygons → HasNone (CoversFacing n p) polygons → HasNone (Covers vertices n p) faces
+  none_covers [] [] h k none = tt
+  none_covers [] (face ∷ faces) h k none = absurd h
+  none_covers (s ∷ polygons) [] h k none = absurd h
+  none_covers (s ∷ polygons) (face ∷ faces) h k none = (
+    λ c. none.0 (from_face s face h.0 (All-head HasPlane s polygons k) c),
+    none_covers polygons faces h.1 (All-tail HasPlane s polygons k) none.1,
+  )
 
-one_covers : (vertices : List Coordinates) (n : Coefficients) (p : Coordinates) (polygons : List Outline) (faces : List (List ℕ)) → IsPlane n →
-    AreFacesOf vertices polygons faces → All HasPlane polygons → HasOne (CoversFacing n p) polygons → HasOne (Covers vertices n p) faces
-one_covers vertices n p [] faces hn h k one = absurd one
-one_covers vertices n p (s ∷ polygons) [] hn h k one = absurd h
-one_covers vertices n p (s ∷ polygons) (face ∷ faces) hn h k (inl one) = inl (
-  to_face vertices n p s face h.0 (All-head HasPlane s polygons k) hn one.0,
-  none_covers vertices n p polygons faces hn h.1 (All-tail HasPlane s polygons k) one.1,
-)
-one_covers vertices n p (s ∷ polygons) (face ∷ faces) hn h k (inr one) = inr (
-  λ c. one.0 (from_face vertices n p s face h.0 (All-head HasPlane s polygons k) hn c),
-  one_covers vertices n p polygons faces hn h.1 (All-tail HasPlane s polygons k) one.1,
-)
+  one_covers : (polygons : List Outline) (faces : List (List ℕ)) → AreFacesOf vertices polygons faces →
+      All HasPlane polygons → HasOne (CoversFacing n p) polygons → HasOne (Covers vertices n p) faces
+  one_covers [] faces h k one = absurd one
+  one_covers (s ∷ polygons) [] h k one = absurd h
+  one_covers (s ∷ polygons) (face ∷ faces) h k (inl one) = inl (
+    to_face s face h.0 (All-head HasPlane s polygons k) one.0,
+    none_covers polygons faces h.1 (All-tail HasPlane s polygons k) one.1,
+  )
+  one_covers (s ∷ polygons) (face ∷ faces) h k (inr one) = inr (
+    λ c. one.0 (from_face s face h.0 (All-head HasPlane s polygons k) c),
+    one_covers polygons faces h.1 (All-tail HasPlane s polygons k) one.1,
+  )
 
--- ---- exactly one, by its place
-none_at : (P : List ℕ → Type 0) (faces : List (List ℕ)) → HasNone P faces → NoneHas P faces
-none_at P [] h i l has = absurd (omega (arith, l))
-none_at P (face ∷ faces) h zero l has = h.0 has
-none_at P (face ∷ faces) h (suc i) l has = none_at P faces h.1 i (omega (arith, l)) has
-
-only_first : (P : List ℕ → Type 0) (face : List ℕ) (faces : List (List ℕ)) → HasNone P faces → (i : ℕ) → i < length (face ∷ faces) →
-    P (slice_index_or (face ∷ faces) i []) → i ≡ 0
-only_first P face faces h zero l has = refl
-only_first P face faces h (suc i) l has = absurd (none_at P faces h i (omega (arith, l)) has)
-
-only_later : (P : List ℕ → Type 0) (face : List ℕ) (faces : List (List ℕ)) → (P face → ⊥) → (k : ExactlyOne P faces) → (i : ℕ) →
-    i < length (face ∷ faces) → P (slice_index_or (face ∷ faces) i []) → i ≡ suc k.index
-only_later P face faces h k zero l has = absurd (h has)
-only_later P face faces h k (suc i) l has = ap suc (k.only i (omega (arith, l)) has)
-
-one_at : (P : List ℕ → Type 0) (faces : List (List ℕ)) → HasOne P faces → ExactlyOne P faces
-one_at P [] h = absurd h
-one_at P (face ∷ faces) (inl h) = record { index = 0; within = omega arith; has = h.0; only = only_first P face faces h.1 }
-one_at P (face ∷ faces) (inr h) =
-    let k = one_at P faces h.1 in record {
-      index = suc k.index;
-      within = omega (arith, k.within);
-      has = k.has;
-      only = only_later P face faces h.0 k;
-    }
-
-where_covers : (c : Bool) (vertices : List Coordinates) (n : Coefficients) (p : Coordinates) (polygons : List Outline) (faces : List (List ℕ)) → IsPlane n →
-    AreFacesOf vertices polygons faces → All HasPlane polygons → HasOneWhere c (CoversFacing n p) polygons →
-    OneExactlyWhere c (Covers vertices n p) faces
-where_covers true vertices n p polygons faces hn h k one = one_at (Covers vertices n p) faces (one_covers vertices n p polygons faces hn h k one)
-where_covers false vertices n p polygons faces hn h k none = none_at (Covers vertices n p) faces (none_covers vertices n p polygons faces hn h k none)
+  where_covers : (c : Bool) (polygons : List Outline) (faces : List (List ℕ)) →
+      AreFacesOf vertices polygons faces → All HasPlane polygons →
+      HasOneWhere c (CoversFacing n p) polygons → OneExactlyWhere c (Covers vertices n p) faces
+  where_covers true polygons faces h k one =
+      one_at (Covers vertices n p) faces (one_covers polygons faces h k one)
+  where_covers false polygons faces h k none =
+      none_at (Covers vertices n p) faces (none_covers polygons faces h k none)
 
 -- ---- the text is the boundary
-pub boundary_from : (f : Formula) (bytes : List ℕ) → IsProper f → Prints (facets_of (solid_of f)) bytes → BesideLeaves f → IsBoundary bytes f
-boundary_from f bytes h text beside =
+-- a point that is on one face plane is on no other plane of the solid
+on_one_plane : (f : Formula) (n : Coefficients) (p : Coordinates) → IsSolidOf f (solid_of f) →
+    IsOnOneFacePlane f n p → IsOnOnePlane world_box (solid_of f) n p
+on_one_plane f n p solid h =
+    record { point_in = (open_world p).1 h.world; on = h.on; alone = λ m k. h.alone m (solid.planes m k) }
+
+covered_where : (f : Formula) (bytes : List ℕ) → IsProper f → IsSolidOf f (solid_of f) →
+    (text : Prints (facets_of (solid_of f)) bytes) → BesideLeaves f → (n : Coefficients) (p : Coordinates) →
+    IsOnOneFacePlane f n p → OneExactlyWhere (bounds f n p) (Covers text.vertices n p) text.faces
+covered_where f bytes h solid text beside n p o =
     let t = solid_of f in
+    let low = just_behind n p in
+    let high = just_ahead n p in
+    let b = beside n p o in
+    subst (λ (c : Bool). OneExactlyWhere c (Covers text.vertices n p) text.faces)
+    (ap₂ (λ (i j : Bool). i && not j) b.2 b.3)
+    (where_covers text.vertices n p (face_plane f n h.leaves o.face_plane)
+    (walk_by t low && not (walk_by t high)) (facets_of t) text.faces text.drawn
+    (All-weaker (IsFacetOfFormula f) HasPlane (λ s k. face_plane f s.plane h.leaves k.plane)
+    (facets_of t) (formula_facets f solid))
+    (facets_bound world_box t solid.world n p (on_one_plane f n p solid o) low high b.0 b.1))
+
+pub boundary_from : (f : Formula) (bytes : List ℕ) → IsProper f → Prints (facets_of (solid_of f)) bytes →
+    BesideLeaves f → IsBoundary bytes f
+boundary_from f bytes h text beside =
     let solid = tree_is_solid f h.leaves in
-    let facets = formula_facets f solid in record {
+    let facets = facets_of (solid_of f) in record {
       vertices = text.vertices;
       faces = text.faces;
       read = text.read;
-      bounding = faces_bound f text.vertices (facets_of t) text.faces text.drawn facets;
-      covered = λ n p o. (let b = beside n p o in
-        subst (λ (c : Bool). OneExactlyWhere c (Covers text.vertices n p) text.faces) (ap₂ (λ (i j : Bool). i && not j) b.2 b.3)
-        (where_covers (walk_by t (just_behind n p) && not (walk_by t (just_ahead n p))) text.vertices n p (facets_of t) text.faces
-          (face_plane f n h.leaves o.face_plane) text.drawn
-          (All-weaker (IsFacetOfFormula f) HasPlane (λ s k. face_plane f s.plane h.leaves k.plane) (facets_of t) facets)
-          (facets_bound world_box t solid.world n p
-            (record { point_in = (open_world p).1 o.world; on = o.on; alone = λ m k e. o.alone m (solid.planes m k) e })
-            (just_behind n p) (just_ahead n p) b.0 b.1)));
+      bounding = faces_bound f text.vertices facets text.faces text.drawn (formula_facets f solid);
+      covered = covered_where f bytes h solid text beside;
     }
