@@ -1,6 +1,6 @@
--- The text of the facets of a formula's solid is the boundary of the formula, where the solid's walk just beside
--- a point on one face plane is whether the formula holds there.
-use Rattle.std.proofs.Common.{◌≡◌, ◌⊎◌, inl, inr, ℕ, zero, suc, ◌*◌, ◌<◌, ◌≤◌, Bool, true, false, not, ◌&&◌, List, [], ◌∷◌, length, slice_index_or, refl, ap, ap₂, ◌∙◌, subst, arith, ℤ, pos, negsuc, ◌*ℤ◌, ◌<ℤ◌, unsigned_abs, le_of_mul-le-mul_right}
+-- The text of the facets of a formula's solid is the boundary of the formula, where the solid's walk just
+-- beside a point on one face plane is whether the formula holds there.
+use Rattle.std.proofs.Common.{◌≡◌, ◌⊎◌, inl, inr, ℕ, ◌*◌, ◌<◌, ◌≤◌, Bool, not, ◌&&◌, List, [], ◌∷◌, slice_index_or, ap, ap₂, ◌∙◌, subst, arith, ℤ, pos, negsuc, ◌*ℤ◌, ◌<ℤ◌, unsigned_abs, le_of_mul-le-mul_right}
 use Rattle.std.specs.List.{All}
 use Rattle.std.proofs.lemmas.Int.{unsigned_abs-mul}
 use Rattle.std.proofs.lemmas.List.Elements.{All-nil, All-cons, All-head, All-tail, All-contains, All-weaker}
@@ -19,12 +19,13 @@ use Rattle.bsp_tree.proofs.Worlds.{open_world}
 use Rattle.bsp_boolean.specs.Solids.{solid_of, IsSolidOf}
 use Rattle.bsp_boolean.proofs.Solids.{tree_is_solid}
 use Rattle.facet_cut.specs.Facets.{facets_of}
-use Rattle.facet_cut.specs.Sides.{walk_by, AreJustBehind, AreJustAhead, IsOnOnePlane, CoversFacing, HasNone, HasOne, HasOneWhere}
+use Rattle.facet_cut.specs.Sides.{walk_by, AreJustBehind, AreJustAhead, IsOnOnePlane}
 use Rattle.facet_cut.proofs.FacetPolygons.{all_facets, world_corners}
 use Rattle.facet_cut.proofs.Boundaries.{facets_bound}
-use Rattle.off_text.specs.Boundaries.{corner, Covers, ExactlyOne, NoneHas, OneExactlyWhere}
+use Rattle.off_text.specs.Boundaries.{corner, Covers, OneExactlyWhere}
 use Rattle.off_text.specs.Prints.{IsFaceOf, AreFacesOf, Prints}
 use Rattle.off_text.specs.Bounding.{IsBoundaryFace, IsBoundary}
+use Rattle.off_text.proofs.Covered.{HasPlane, as_facets}
 
 -- the sides just behind and just ahead of a point on one face plane are such, and the solid's walk by them is
 -- whether the formula holds
@@ -111,80 +112,6 @@ module _ (f : Formula) (vertices : List Coordinates) where
       (face_bounds s face h.0 (All-head (IsFacetOfFormula f) s polygons k))
       (faces_bound polygons faces h.1 (All-tail (IsFacetOfFormula f) s polygons k))
 
--- ---- exactly one, by its place
-module _ (P : List ℕ → Type 0) where
-  none_at : (faces : List (List ℕ)) → HasNone P faces → NoneHas P faces
-  none_at [] h i l has = absurd (omega (arith, l))
-  none_at (face ∷ faces) h zero l has = h.0 has
-  none_at (face ∷ faces) h (suc i) l has = none_at faces h.1 i (omega (arith, l)) has
-
-  only_first : (face : List ℕ) (faces : List (List ℕ)) → HasNone P faces → (i : ℕ) →
-      i < length (face ∷ faces) → P (slice_index_or (face ∷ faces) i []) → i ≡ 0
-  only_first face faces h zero l has = refl
-  only_first face faces h (suc i) l has = absurd (none_at faces h i (omega (arith, l)) has)
-
-  only_later : (face : List ℕ) (faces : List (List ℕ)) → (P face → ⊥) → (k : ExactlyOne P faces) → (i : ℕ) →
-      i < length (face ∷ faces) → P (slice_index_or (face ∷ faces) i []) → i ≡ suc k.index
-  only_later face faces h k zero l has = absurd (h has)
-  only_later face faces h k (suc i) l has = ap suc (k.only i (omega (arith, l)) has)
-
-  one_at : (faces : List (List ℕ)) → HasOne P faces → ExactlyOne P faces
-  one_at [] h = absurd h
-  one_at (face ∷ faces) (inl h) =
-      record { index = 0; within = omega arith; has = h.0; only = only_first face faces h.1 }
-  one_at (face ∷ faces) (inr h) =
-      let k = one_at faces h.1 in record {
-        index = suc k.index;
-        within = omega (arith, k.within);
-        has = k.has;
-        only = only_later face faces h.0 k;
-      }
-
--- ---- a printed face covers what its polygon does
-abbrev HasPlane : Outline → Type 0
-HasPlane s = IsPlane s.plane
-
-module _ (vertices : List Coordinates) (n : Coefficients) (p : Coordinates) (plane : IsPlane n) where
-  to_face : (s : Outline) (face : List ℕ) → IsFaceOf vertices s face → HasPlane s →
-      CoversFacing n p s → Covers vertices n p face
-  to_face s face h k c = (h.covering n p k plane).1 (c.faces, c.within)
-
-  from_face : (s : Outline) (face : List ℕ) → IsFaceOf vertices s face → HasPlane s →
-      Covers vertices n p face → CoversFacing n p s
-  from_face s face h k c =
-      let both = (h.covering n p k plane).0 c in record { faces = both.0; within = both.1 }
-
-  none_covers : (polygons : List Outline) (faces : List (List ℕ)) → AreFacesOf vertices polygons faces →
-      All HasPlane polygons → HasNone (CoversFacing n p) polygons → HasNone (Covers vertices n p) faces
-  none_covers [] [] h k none = tt
-  none_covers [] (face ∷ faces) h k none = absurd h
-  none_covers (s ∷ polygons) [] h k none = absurd h
-  none_covers (s ∷ polygons) (face ∷ faces) h k none = (
-    λ c. none.0 (from_face s face h.0 (All-head HasPlane s polygons k) c),
-    none_covers polygons faces h.1 (All-tail HasPlane s polygons k) none.1,
-  )
-
-  one_covers : (polygons : List Outline) (faces : List (List ℕ)) → AreFacesOf vertices polygons faces →
-      All HasPlane polygons → HasOne (CoversFacing n p) polygons → HasOne (Covers vertices n p) faces
-  one_covers [] faces h k one = absurd one
-  one_covers (s ∷ polygons) [] h k one = absurd h
-  one_covers (s ∷ polygons) (face ∷ faces) h k (inl one) = inl (
-    to_face s face h.0 (All-head HasPlane s polygons k) one.0,
-    none_covers polygons faces h.1 (All-tail HasPlane s polygons k) one.1,
-  )
-  one_covers (s ∷ polygons) (face ∷ faces) h k (inr one) = inr (
-    λ c. one.0 (from_face s face h.0 (All-head HasPlane s polygons k) c),
-    one_covers polygons faces h.1 (All-tail HasPlane s polygons k) one.1,
-  )
-
-  where_covers : (c : Bool) (polygons : List Outline) (faces : List (List ℕ)) →
-      AreFacesOf vertices polygons faces → All HasPlane polygons →
-      HasOneWhere c (CoversFacing n p) polygons → OneExactlyWhere c (Covers vertices n p) faces
-  where_covers true polygons faces h k one =
-      one_at (Covers vertices n p) faces (one_covers polygons faces h k one)
-  where_covers false polygons faces h k none =
-      none_at (Covers vertices n p) faces (none_covers polygons faces h k none)
-
 -- ---- the text is the boundary
 -- a point that is on one face plane is on no other plane of the solid
 on_one_plane : (f : Formula) (n : Coefficients) (p : Coordinates) → IsSolidOf f (solid_of f) →
@@ -202,10 +129,10 @@ covered_where f bytes h solid text beside n p o =
     let b = beside n p o in
     subst (λ (c : Bool). OneExactlyWhere c (Covers text.vertices n p) text.faces)
     (ap₂ (λ (i j : Bool). i && not j) b.2 b.3)
-    (where_covers text.vertices n p (face_plane f n h.leaves o.face_plane)
-    (walk_by t low && not (walk_by t high)) (facets_of t) text.faces text.drawn
+    (as_facets text.vertices n (face_plane f n h.leaves o.face_plane) p (facets_of t) text.faces
     (All-weaker (IsFacetOfFormula f) HasPlane (λ s k. face_plane f s.plane h.leaves k.plane)
     (facets_of t) (formula_facets f solid))
+    text.drawn (walk_by t low && not (walk_by t high))
     (facets_bound world_box t solid.world n p (on_one_plane f n p solid o) low high b.0 b.1))
 
 pub boundary_from : (f : Formula) (bytes : List ℕ) → IsProper f → Prints (facets_of (solid_of f)) bytes →

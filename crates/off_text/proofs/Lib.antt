@@ -6,4 +6,9 @@ pub mod Numbers
 pub mod Distinct
 pub mod Gathered
 pub mod Pieces
+pub mod Scaled
+pub mod Rounded
+pub mod Cornered
+pub mod Drawn
+pub mod Covered
 pub mod FacesOfFacets

@@ -1,5 +1,5 @@
 -- The one 4OFF text of convex polygons.
-use Rattle.std.specs.Prelude.{◌≡◌, ℕ, ◌+◌, Bool, not, ◌&&◌, ◌||◌, List, [], ◌∷◌, ◌++◌, map, flat_map, take, drop, filter, int_lt}
+use Rattle.std.specs.Prelude.{◌≡◌, ℕ, ◌+◌, Bool, not, ◌&&◌, ◌||◌, List, [], ◌∷◌, ◌++◌, map, flat_map, take, drop, filter, length, int_lt}
 use Rattle.std.specs.List.{list_any, position_or_len}
 use Rattle.std.specs.Ordering.{int_eq}
 use Rattle.plane_predicate.specs.Space.{Coordinates}
@@ -68,3 +68,9 @@ pub record IsTextOf (polygons : List Outline) (bytes : List ℕ) : Type 0 where
   pub faces : List (List Coordinates)
   pub corners : AreCornersOf polygons faces
   pub spelled : bytes ≡ text_of faces
+
+-- the polygons have a number of vertices with this property
+pub record HasVertices (P : ℕ → Type 0) (polygons : List Outline) : Type 0 where
+  pub faces : List (List Coordinates)
+  pub corners : AreCornersOf polygons faces
+  pub count : P (length (vertices_of faces))

@@ -7,6 +7,9 @@ mod numbering;
 mod writing;
 mod text;
 
-pub use laws::{one_reading, texts_are_boundaries_from};
+pub use laws::{faces_cover_as_facets, one_reading, texts_are_boundaries_from};
 pub use text::{OffStop, off_bytes};
 
+
+#[cfg(test)]
+mod tests;

@@ -1,16 +1,18 @@
 //! The text of polygons, within its limits.
 
-ghost use Rattle.std.specs.Prelude.{◌≡◌, ◌<◌, ◌≤◌, ◌↔◌, Err, map, length, ltb, IfOk, IfErr, OnErr};
-ghost use Rattle.plane_predicate.specs.Space.{Coordinates};
-ghost use Rattle.off_text.specs.Texts.{corner_count, vertices_of, AreCornersOf, IsTextOf};
-ghost use Rattle.off_text.specs.Numbering.{AreNumbered};
-ghost use Rattle.off_text.specs.declared.text.OffStop.TheVariants.{TooManyCorners};
+ghost use Rattle.std.specs.Prelude.{◌≡◌, ◌<◌, ◌≤◌, ◌↔◌, map, ltb, IfOk, OnOk, IsErrOf};
+ghost use Rattle.plane_polygon.specs.Polygons.{IsPolygon};
+ghost use Rattle.off_text.specs.Texts.{corner_count, HasVertices, IsTextOf};
+ghost use Rattle.off_text.specs.Prints.{Prints};
+ghost use Rattle.off_text.specs.Numbering.{AddsFace, AreNumbered};
+ghost use Rattle.off_text.specs.declared.text.OffStop.{OffStop};
 
 use crate::numbering::number_face;
 use crate::vertex::Vertex;
 use crate::writing::written;
+use facet_cut::Facet;
 use indexmap::IndexSet;
-use plane_polygon::{Polygon, corners};
+use plane_polygon::corners;
 use std::alloc::Global;
 use text_place::NoMemory;
 
@@ -48,13 +50,13 @@ struct Numbering {
     faces: Vec<Vec<usize>>,
 }
 
-// Whether polygons have more corners together than a text may have.
-fn has_too_many_corners(polygons: &[Polygon]) -> bool
-    ensures { result ≡ ltb 200000 (corner_count polygons.now) }
+// Whether faces have more corners together than a text may have.
+fn has_too_many_corners(facets: &[Facet]) -> bool
+    ensures { result ≡ ltb 200000 (corner_count facets.now) }
 {
     let mut room = CORNERS;
-    for polygon in polygons {
-        let count = polygon.edges().len();
+    for facet in facets {
+        let count = facet.polygon.edges().len();
         if count > room {
             return true;
         }
@@ -63,27 +65,49 @@ fn has_too_many_corners(polygons: &[Polygon]) -> bool
     false
 }
 
-// Numbers the corners of polygons.
-fn numbered(alloc: Global, polygons: &[Polygon]) -> Result<Numbering, NoMemory>
-    ensures { IfOk result (λ r. AreNumbered polygons.now r.vertices.keys (map (λ face. face.items) r.faces.items)) }
+// The numbers of a facet's corners, from its least corner on.
+fn facet_numbers(
+    alloc: Global,
+    vertices: &mut IndexSet<Vertex>,
+    facet: &Facet,
+) -> Result<Vec<usize>, NoMemory>
+    ensures numbers { IfOk result (λ v. AddsFace facet.now vertices.old.keys vertices.new.keys v.items) }
+    ensures polygon { IsPolygon facet.now }
+{
+    facet.polygon.keeps();
+    let found = corners(alloc, &facet.polygon)?;
+    number_face(alloc, vertices, &found)
+}
+
+// Numbers the corners of faces.
+fn numbered(alloc: Global, facets: &[Facet]) -> Result<Numbering, NoMemory>
+    ensures { IfOk result (λ r. AreNumbered facets.now r.vertices.keys (map (λ face. face.items) r.faces.items)) }
 {
     let mut vertices = IndexSet::new(alloc);
     let mut faces = Vec::new(alloc);
-    for polygon in polygons {
-        let found = corners(alloc, polygon)?;
-        faces.push(number_face(alloc, &mut vertices, &found)?)?;
+    for facet in facets {
+        faces.push(facet_numbers(alloc, &mut vertices, facet)?)?;
     }
     Ok(Numbering { vertices, faces })
 }
 
-/// The text of polygons.
-pub fn off_bytes(alloc: Global, polygons: &[Polygon]) -> Result<Vec<u8>, OffStop>
-    ensures text { IfOk result (λ text. IsTextOf polygons.now text.items) }
+/// The text of facets. Each corner is reduced; each face goes counterclockwise seen from the side
+/// that it faces, from its least corner on, by x, then y, z and w; vertices are numbered from 0 by
+/// first appearance, face by face.
+///
+/// `TooManyCorners` comes exactly where the faces have more than 200,000 corners together, and else
+/// `TooManyVertices` exactly where there are more than 60,000 vertices.
+pub fn off_bytes(alloc: Global, facets: &[Facet]) -> Result<Vec<u8>, OffStop>
+    ensures text { IfOk result (λ text. IsTextOf facets.now text.items) }
+    ensures corners { IsErrOf result OffStop.TooManyCorners ↔ (200000 < corner_count facets.now) }
+    ensures few { OnOk result (HasVertices (λ count. count ≤ 60000) facets.now) }
+    ensures many { IsErrOf result OffStop.TooManyVertices → HasVertices (λ count. 60000 < count) facets.now }
+    ensures prints { IfOk result (λ text. Prints facets.now text.items) }
 {
-    if has_too_many_corners(polygons) {
+    if has_too_many_corners(facets) {
         return Err(OffStop::TooManyCorners);
     }
-    let numbered = numbered(alloc, polygons)?;
+    let numbered = numbered(alloc, facets)?;
     if numbered.vertices.len() > VERTICES {
         return Err(OffStop::TooManyVertices);
     }
