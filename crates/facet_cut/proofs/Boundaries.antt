@@ -13,7 +13,7 @@ use Rattle.bsp_tree.specs.Trees.{Tree, inside, outside, node, walk}
 use Rattle.bsp_tree.specs.Cells.{IsIn, IsInClosed, IsAcross, IsOfCell, IsPlaneOf, IsOff}
 use Rattle.bsp_tree.proofs.Opposites.{opposite_zero, opposite_back, opposite_above, opposite_below, opposite_twice}
 use Rattle.facet_cut.specs.Facets.{Piece, pieces, reversed, facing, facets_ahead, facets_between, facets_of}
-use Rattle.facet_cut.specs.Sides.{walk_by, AreJustBehind, AreJustAhead, IsOnOnePlane, CoversFacing, IsFacetOf, HasNone, HasOneWhere, Bound}
+use Rattle.facet_cut.specs.Sides.{walk_by, AreJustBehind, AreJustAhead, IsOnNoOther, CoversFacing, IsFacetOf, HasNone, HasOneWhere}
 use Rattle.facet_cut.proofs.Reversals.{within_reversed, within_back}
 use Rattle.facet_cut.proofs.Counts.{where_left, where_right, none_append}
 use Rattle.facet_cut.proofs.Pieces.{not_both, within_cell, within_covered, none_pieces, one_piece, IsAt}
@@ -132,11 +132,11 @@ one_between : (counts : Bool → Bool → Bool) (n : Coefficients) (cell : List 
 one_between counts n cell s b a p h hp on off_b off_a k =
     one_piece b (counts (walk b p) (walk a p)) (CoversFacing n p) (λ q. facets_ahead q.is_inside a q.part) cell s p h hp on off_b
     (λ q g. (let on_q : value q.part.plane p ≡ pos 0 = from_either q.part.plane s.plane p (inl g.plane) on in
-    subst (λ (i : Bool). HasOneWhere (counts i (walk a p)) (CoversFacing n p) (facets_ahead q.is_inside a q.part)) g.leaf
-    (one_piece a (counts q.is_inside (walk a p)) (CoversFacing n p) (λ r. facing q.is_inside r.is_inside r.part) g.cell q.part p g.across g.point_in on_q off_a
-    (λ r f. subst (λ (j : Bool). HasOneWhere (counts q.is_inside j) (CoversFacing n p) (facing q.is_inside r.is_inside r.part)) f.leaf
-    (k q.is_inside r.is_inside r.part (f.plane ∙ g.plane) (within_cell f.cell r.part p f.across f.point_in (from_either r.part.plane q.part.plane p (inl f.plane) on_q))))
-    (λ r o missed. none_facing n p q.is_inside r.is_inside r.part hp.weight missed))))
+        subst (λ (i : Bool). HasOneWhere (counts i (walk a p)) (CoversFacing n p) (facets_ahead q.is_inside a q.part)) g.leaf
+        (one_piece a (counts q.is_inside (walk a p)) (CoversFacing n p) (λ r. facing q.is_inside r.is_inside r.part) g.cell q.part p g.across g.point_in on_q off_a
+        (λ r f. subst (λ (j : Bool). HasOneWhere (counts q.is_inside j) (CoversFacing n p) (facing q.is_inside r.is_inside r.part)) f.leaf
+        (k q.is_inside r.is_inside r.part (f.plane ∙ g.plane) (within_cell f.cell r.part p f.across f.point_in (from_either r.part.plane q.part.plane p (inl f.plane) on_q))))
+        (λ r o missed. none_facing n p q.is_inside r.is_inside r.part hp.weight missed))))
     (λ q o missed. none_ahead_of n p q.is_inside a q.part hp.weight o missed)
 
 -- ---- the whole solid
@@ -188,12 +188,12 @@ at_node s b a cell n p low high h hp on jb ja off_b off_a (inr e) =
 other_side : (s : Outline) (n : Coefficients) (p : Coordinates) (sides : Coefficients → Bool) (c : Bool) → value n p ≡ pos 0 → IsOther n p sides → (value s.plane p ≡ pos 0 → ⊥) → is_behind s.plane p ≡ c → sides s.plane ≡ c
 other_side s n p sides c on h off e = h s.plane (off_itself s.plane n p on off) (off_opposite s.plane n p on off) ∙ e
 
-bound : (t : Tree) (cell : List Coefficients) (n : Coefficients) (p : Coordinates) (low high : Coefficients → Bool) →
+pub facets_bound : (t : Tree) (cell : List Coefficients) (n : Coefficients) (p : Coordinates) (low high : Coefficients → Bool) →
     IsOfCell cell t → IsIn cell p → value n p ≡ pos 0 → ((m : Coefficients) → IsPlaneOf m t → value m p ≡ pos 0 → IsEither m n) → AreJustBehind n p low → AreJustAhead n p high →
     HasOneWhere (walk_by t low && not (walk_by t high)) (CoversFacing n p) (facets_of t)
-bound inside cell n p low high h hp on alone jb ja = tt
-bound outside cell n p low high h hp on alone jb ja = tt
-bound (node s b a) cell n p low high h hp on alone jb ja =
+facets_bound inside cell n p low high h hp on alone jb ja = tt
+facets_bound outside cell n p low high h hp on alone jb ja = tt
+facets_bound (node s b a) cell n p low high h hp on alone jb ja =
     let P = CoversFacing n p in
     let m = s.plane in
     let o = opposite_of s.plane in
@@ -208,7 +208,7 @@ bound (node s b a) cell n p low high h hp on alone jb ja =
           subst (λ (c : Bool). HasOneWhere c P (facets_of (node s b a))) (sym (ap₂ (λ (i j : Bool). i && not j) el eh))
           (where_left (walk_by b low && not (walk_by b high)) P (facets_between b a s ++ facets_of b) (facets_of a)
           (where_right (walk_by b low && not (walk_by b high)) P (facets_between b a s) (facets_of b) (none_between s b a n p h.0.polygon off)
-          (bound b (m ∷ cell) n p low high h.1 (record { weight = hp.weight; below = (v, hp.below) }) on alone_b jb ja))
+          (facets_bound b (m ∷ cell) n p low high h.1 (record { weight = hp.weight; below = (v, hp.below) }) on alone_b jb ja))
           (none_outside a (o ∷ cell) n p h.2 hp.weight (λ c. not_both (value o p) (opposite_above m p v) c.below.0))))
       | inr (inl z) ↦ (
           let e = alone m (inl refl) z in
@@ -226,8 +226,5 @@ bound (node s b a) cell n p low high h hp on alone jb ja =
           subst (λ (c : Bool). HasOneWhere c P (facets_of (node s b a))) (sym (ap₂ (λ (i j : Bool). i && not j) el eh))
           (where_right (walk_by a low && not (walk_by a high)) P (facets_between b a s ++ facets_of b) (facets_of a)
           (none_append P (facets_between b a s) (facets_of b) (none_between s b a n p h.0.polygon off) (none_outside b (m ∷ cell) n p h.1 hp.weight (λ c. not_both (value m p) v c.below.0)))
-          (bound a (o ∷ cell) n p low high h.2 (record { weight = hp.weight; below = (opposite_below m p v, hp.below) }) on alone_a jb ja)))
+          (facets_bound a (o ∷ cell) n p low high h.2 (record { weight = hp.weight; below = (opposite_below m p v, hp.below) }) on alone_a jb ja)))
     ]
-
-pub facets_bound : (cell : List Coefficients) (t : Tree) → IsOfCell cell t → Bound cell t (facets_of t)
-facets_bound cell t h n p o low high jb ja = bound t cell n p low high h o.point_in o.on o.alone jb ja

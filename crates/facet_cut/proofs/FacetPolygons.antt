@@ -1,14 +1,12 @@
 -- What each facet of a solid is: a polygon of a node's plane or its opposite, in the closed cell.
-use Rattle.std.proofs.Common.{◌≡◌, ◌⊎◌, ℕ, ◌<◌, inl, inr, Bool, true, false, List, [], ◌∷◌, ◌++◌, refl, sym, ap, ◌∙◌, subst, pos, ◌<ℤ◌, flat_map}
+use Rattle.std.proofs.Common.{◌≡◌, ◌⊎◌, inl, inr, Bool, true, false, List, [], ◌∷◌, ◌++◌, refl, sym, ap, ◌∙◌, subst, pos, ◌<ℤ◌, flat_map}
 use Rattle.std.specs.List.{All}
 use Rattle.std.proofs.lemmas.List.Elements.{All-nil, All-cons, All-head, All-tail, All-append, All-weaker}
-use Rattle.plane_predicate.specs.Space.{Coefficients, Coordinates, value, opposite_of, IsInClosedWorld}
-use Rattle.plane_polygon.specs.Polygons.{Outline, Covers, IsPolygon, corner, sides}
+use Rattle.plane_predicate.specs.Space.{Coefficients, Coordinates, value, opposite_of}
+use Rattle.plane_polygon.specs.Polygons.{Outline, Covers, IsPolygon}
 use Rattle.bsp_tree.specs.Trees.{Tree, inside, outside, node}
-use Rattle.bsp_tree.specs.Cells.{IsInClosed, IsOfCell, IsOfWorld, IsPlaneOf, world_box}
+use Rattle.bsp_tree.specs.Cells.{IsInClosed, IsOfCell, IsPlaneOf}
 use Rattle.bsp_tree.proofs.Opposites.{opposite_twice}
-use Rattle.bsp_tree.proofs.PolygonsOfCells.{corner_covered}
-use Rattle.bsp_tree.proofs.Worlds.{closed_world}
 use Rattle.facet_cut.specs.Facets.{Piece, pieces, reversed, facing, facets_ahead, facets_between, facets_of}
 use Rattle.facet_cut.specs.Sides.{IsFacetOf, HasNone}
 use Rattle.facet_cut.proofs.Reversals.{reversed_polygon, covers_back}
@@ -82,9 +80,3 @@ all_facets (node s b a) cell h =
     (All-weaker (IsFacetOn s) (IsFacetOf cell t) (λ x f. record { polygon = f.polygon; plane = plane_here s x b a f.plane; closed = λ p c. ((h.0.covers p).0 (f.covers p c)).0 }) (facets_between b a s) (between_on b a s h.0.polygon))
     (All-weaker (IsFacetOf (m ∷ cell) b) (IsFacetOf cell t) (λ x f. record { polygon = f.polygon; plane = plane_behind s x b a f.plane; closed = λ p c. closed_more m cell p (f.closed p c) }) (facets_of b) (all_facets b (m ∷ cell) h.1)))
     (All-weaker (IsFacetOf (o ∷ cell) a) (IsFacetOf cell t) (λ x f. record { polygon = f.polygon; plane = plane_ahead s x b a f.plane; closed = λ p c. closed_more o cell p (f.closed p c) }) (facets_of a) (all_facets a (o ∷ cell) h.2))
-
--- ---- corners
-pub world_corners : (t : Tree) → IsOfWorld t → All (λ (x : Outline). (i : ℕ) → i < sides x → IsInClosedWorld (corner x i)) (facets_of t)
-world_corners t h =
-    All-weaker (IsFacetOf world_box t) (λ (x : Outline). (i : ℕ) → i < sides x → IsInClosedWorld (corner x i))
-    (λ x f i l. (closed_world (corner x i)).0 (f.closed (corner x i) (corner_covered x f.polygon i l))) (facets_of t) (all_facets t world_box h)

@@ -88,15 +88,14 @@ reversed_polygon s p =
 mirrored_twice : (k j : ℕ) → j < k → k - 1 - (k - 1 - j) ≡ j
 mirrored_twice k j h = omega arith
 
--- what holds of a polygon's edges holds of the other side's
-edges_over : (s : Outline) (P : Coefficients → Type 0) → ((j : ℕ) → j < sides s → P (edge s j)) → (j : ℕ) → j < sides (reversed s) → P (edge (reversed s) j)
-edges_over s P h j l =
-    let b : j < sides s = subst (λ (c : ℕ). j < c) (reversed_sides s) l in
-    subst P (sym (reversed_edge s j b)) (h (sides s - 1 - j) (mirrored (sides s) j b))
-
 -- what is strictly within a polygon is so from the other side
 pub within_reversed : (s : Outline) (p : Coordinates) → IsStrictlyWithin s p → IsStrictlyWithin (reversed s) p
-within_reversed s p h = record { on = opposite_zero s.plane p h.on; behind = edges_over s (λ (e : Coefficients). value e p <ℤ pos 0) h.behind }
+within_reversed s p h =
+    let k = sides s in record {
+      on = opposite_zero s.plane p h.on;
+      behind = λ j l. (let b : j < k = subst (λ (c : ℕ). j < c) (reversed_sides s) l in
+          subst (λ (e : Coefficients). value e p <ℤ pos 0) (sym (reversed_edge s j b)) (h.behind (k - 1 - j) (mirrored k j b)));
+    }
 
 -- what holds of the other side's edges holds of the polygon's
 edges_back : (s : Outline) (P : Coefficients → Type 0) → ((j : ℕ) → j < sides (reversed s) → P (edge (reversed s) j)) → (j : ℕ) → j < sides s → P (edge s j)
@@ -112,6 +111,3 @@ within_back s p h = record { on = opposite_back s.plane p h.on; behind = edges_b
 -- its points are the polygon's
 pub covers_back : (s : Outline) (p : Coordinates) → Covers (reversed s) p → Covers s p
 covers_back s p h = record { weight = h.weight; on = opposite_back s.plane p h.on; within = edges_back s (λ (e : Coefficients). value e p ≤ℤ pos 0) h.within }
-
-pub covers_reversed : (s : Outline) (p : Coordinates) → Covers s p → Covers (reversed s) p
-covers_reversed s p h = record { weight = h.weight; on = opposite_zero s.plane p h.on; within = edges_over s (λ (e : Coefficients). value e p ≤ℤ pos 0) h.within }

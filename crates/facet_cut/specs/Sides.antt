@@ -1,10 +1,10 @@
 -- The sides of a solid's planes as a point on one of them has them just behind it and just ahead, and the facets there.
-use Rattle.std.specs.Prelude.{◌≡◌, ◌≢◌, ◌⊎◌, Bool, true, false, not, ◌&&◌, if◌then◌else◌, List, [], ◌∷◌, pos}
+use Rattle.std.specs.Prelude.{◌≡◌, ◌≢◌, ◌⊎◌, Bool, true, false, if◌then◌else◌, List, [], ◌∷◌, pos}
 use Rattle.plane_predicate.specs.Space.{Coefficients, Coordinates, value, opposite_of}
 use Rattle.plane_polygon.specs.Polygons.{Outline, Covers, IsPolygon, IsStrictlyWithin}
 use Rattle.plane_polygon.specs.Parts.{is_behind}
 use Rattle.bsp_tree.specs.Trees.{Tree, inside, outside, node}
-use Rattle.bsp_tree.specs.Cells.{IsIn, IsInClosed, IsPlaneOf}
+use Rattle.bsp_tree.specs.Cells.{IsInClosed, IsPlaneOf}
 
 -- the walk that takes, at each node, the side that its plane is given (true: behind): whether it ends in a leaf inside
 abbrev pub walk_by : Tree → (Coefficients → Bool) → Bool
@@ -24,9 +24,8 @@ pub record AreJustAhead (n : Coefficients) (p : Coordinates) (sides : Coefficien
   pub opposite : sides (opposite_of n) ≡ true
   pub others : (m : Coefficients) → m ≢ n → m ≢ opposite_of n → sides m ≡ is_behind m p
 
--- the point is in the cell and on n, and on no plane of the solid but n and its opposite
-pub record IsOnOnePlane (cell : List Coefficients) (t : Tree) (n : Coefficients) (p : Coordinates) : Type 0 where
-  pub point_in : IsIn cell p
+-- the point is on n, and on no plane of the solid but n and its opposite
+pub record IsOnNoOther (t : Tree) (n : Coefficients) (p : Coordinates) : Type 0 where
   pub on : value n p ≡ pos 0
   pub alone : (m : Coefficients) → IsPlaneOf m t → value m p ≡ pos 0 → (m ≡ n) ⊎ (m ≡ opposite_of n)
 
@@ -56,11 +55,3 @@ HasOne P (x ∷ xs) = (P x × HasNone P xs) ⊎ ((P x → ⊥) × HasOne P xs)
 abbrev pub HasOneWhere : {A : Type 0} → Bool → (A → Type 0) → List A → Type 0
 HasOneWhere true P xs = HasOne P xs
 HasOneWhere false P xs = HasNone P xs
-
--- the facets bound a solid in a cell: where it is inside just behind a point on one of its planes and not just ahead,
--- exactly one facet covers the point and faces that way, and none does otherwise
-abbrev pub Bound : List Coefficients → Tree → List Outline → Type 0
-Bound cell t facets =
-    (n : Coefficients) (p : Coordinates) → IsOnOnePlane cell t n p →
-    (low high : Coefficients → Bool) → AreJustBehind n p low → AreJustAhead n p high →
-    HasOneWhere (walk_by t low && not (walk_by t high)) (CoversFacing n p) facets

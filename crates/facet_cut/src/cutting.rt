@@ -1,11 +1,9 @@
 //! The facets of a solid.
 
-ghost use Rattle.std.specs.Prelude.{◌≡◌, ◌<◌, ◌≤◌, length, All, IfOk, IsErrOf};
-ghost use Rattle.bsp_tree.specs.Cells.{IsOfCell};
+ghost use Rattle.std.specs.Prelude.{◌≡◌, ◌<◌, ◌≤◌, length, IfOk, IsErrOf};
 ghost use Rattle.bsp_tree.specs.Shapes.{tree_of};
 ghost use Rattle.facet_cut.specs.Facets.{facets_ahead, facets_between, facets_of};
 ghost use Rattle.facet_cut.specs.Adding.{Adds};
-ghost use Rattle.facet_cut.specs.Sides.{Bound, IsFacetOf};
 
 use crate::adding::push_facing;
 use crate::{CutStop, Facet};
@@ -18,17 +16,6 @@ use std::alloc::Global;
 ///
 /// `TooMany` comes where there are more than `most`, as soon as one more is found.
 pub fn facets(alloc: Global, solid: &Solid, most: u32) -> Result<Vec<Facet>, CutStop>
-    ensures list { IfOk result (λ v. v.items ≡ facets_of (tree_of solid.now)) }
-    ensures fits { IfOk result (λ v. length v.items ≤ most) }
-    ensures many { IsErrOf result CutStop.TooMany → most < length (facets_of (tree_of solid.now)) }
-    ensures polygons { IfOk result (λ v. (cell : _) → IsOfCell cell (tree_of solid.now) → All (IsFacetOf cell (tree_of solid.now)) v.items) }
-    ensures bound { IfOk result (λ v. (cell : _) → IsOfCell cell (tree_of solid.now) → Bound cell (tree_of solid.now) v.items) }
-{
-    listed(alloc, solid, most)
-}
-
-/// The same list, of which its definition says all that is promised.
-fn listed(alloc: Global, solid: &Solid, most: u32) -> Result<Vec<Facet>, CutStop>
     ensures list { IfOk result (λ v. v.items ≡ facets_of (tree_of solid.now)) }
     ensures fits { IfOk result (λ v. length v.items ≤ most) }
     ensures many { IsErrOf result CutStop.TooMany → most < length (facets_of (tree_of solid.now)) }
