@@ -13,3 +13,5 @@ pub mod Drawn
 pub mod Covered
 pub mod Unique
 pub mod Boxed
+pub mod BesideFaces
+pub mod FacesOfFacets

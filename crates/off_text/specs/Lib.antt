@@ -3,3 +3,4 @@ pub mod Boundaries
 pub mod Texts
 pub mod Numbering
 pub mod Prints
+pub mod Bounding

@@ -7,7 +7,10 @@ mod text;
 mod vertex;
 mod writing;
 
-pub use laws::{faces_cover_as_facets, one_reading, one_text, printed_corners_stay_in_the_world};
+pub use laws::{
+    faces_cover_as_facets, leaves_beside_face_planes, one_reading, one_text,
+    printed_corners_stay_in_the_world, texts_are_boundaries,
+};
 pub use text::{OffStop, off_bytes};
 
 #[cfg(test)]

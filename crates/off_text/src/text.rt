@@ -3,6 +3,11 @@
 ghost use Rattle.std.specs.Prelude.{◌≡◌, ◌<◌, ◌≤◌, ◌↔◌, map, ltb, IfOk, OnOk, IsErrOf};
 ghost use Rattle.plane_polygon.specs.Polygons.{IsPolygon};
 ghost use Rattle.off_text.specs.Texts.{corner_count, HasVertices, IsTextOf};
+ghost use Rattle.csg_tree.specs.Formulas.{Formula};
+ghost use Rattle.csg_tree.specs.ProperTrees.{IsProper};
+ghost use Rattle.bsp_boolean.specs.Solids.{solid_of};
+ghost use Rattle.facet_cut.specs.Facets.{facets_of};
+ghost use Rattle.off_text.specs.Bounding.{IsBoundary};
 ghost use Rattle.off_text.specs.Prints.{Prints};
 ghost use Rattle.off_text.specs.Numbering.{AddsFace, AreNumbered};
 ghost use Rattle.off_text.specs.declared.text.OffStop.{OffStop};
@@ -74,7 +79,6 @@ fn facet_numbers(
     ensures numbers { IfOk result (λ v. AddsFace facet.now vertices.old.keys vertices.new.keys v.items) }
     ensures polygon { IsPolygon facet.now }
 {
-    facet.polygon.keeps();
     let found = corners(alloc, &facet.polygon)?;
     number_face(alloc, vertices, &found)
 }
@@ -103,6 +107,8 @@ pub fn off_bytes(alloc: Global, facets: &[Facet]) -> Result<Vec<u8>, OffStop>
     ensures few { OnOk result (HasVertices (λ count. count ≤ 60000) facets.now) }
     ensures many { IsErrOf result OffStop.TooManyVertices → HasVertices (λ count. 60000 < count) facets.now }
     ensures prints { IfOk result (λ text. Prints facets.now text.items) }
+    // Where the facets are those of the solid of a proper tree, the text is the boundary of the tree.
+    ensures boundary { IfOk result (λ text. (f : Formula) → IsProper f → facets.now ≡ facets_of (solid_of f) → IsBoundary text.items f) }
 {
     if has_too_many_corners(facets) {
         return Err(OffStop::TooManyCorners);
