@@ -139,15 +139,15 @@ all_are_known : (found : List (List Coordinates)) → AllKnown (vertices_of foun
 all_are_known found =
     subst (λ (v : List Coordinates). AllKnown v (joined (printed_corners found))) (grown_from_none (joined (printed_corners found))) (grown_knows (joined (printed_corners found)) [])
 
-pub prints : (polygons : List Outline) (vertices : List Coordinates) (faces : List (List ℕ)) (bytes : List ℕ) → AreNumbered polygons vertices faces → bytes ≡ off_text vertices faces → Prints polygons bytes
-prints polygons vertices faces bytes h e =
-    let all = faces_drawn polygons h.found (vertices_of h.found) h.polygons_are h.corners (all_are_known h.found) in
+pub prints : (polygons : List Outline) (vertices : List Coordinates) (faces : List (List ℕ)) (bytes : List ℕ) → AreNumbered polygons vertices faces → bytes ≡ off_text vertices faces → All IsPolygon polygons → Prints polygons bytes
+prints polygons vertices faces bytes h e all_polygons =
+    let all = faces_drawn polygons h.found (vertices_of h.found) all_polygons h.corners (all_are_known h.found) in
     record {
       vertices = vertices_of h.found;
       faces = faces_of h.found;
       read = record {
         spelled = e ∙ ap (λ (v : List Coordinates). off_text v faces) h.vertices_are ∙ ap (off_text (vertices_of h.found)) h.faces_are;
-        points = distinct_all (joined (printed_corners h.found)) (joined_all polygons h.found h.polygons_are h.corners);
+        points = distinct_all (joined (printed_corners h.found)) (joined_all polygons h.found all_polygons h.corners);
         loops = all.1;
       };
       drawn = all.0;

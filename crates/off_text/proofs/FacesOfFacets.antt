@@ -7,7 +7,7 @@ use Rattle.plane_predicate.specs.Space.{Coefficients, Coordinates, opposite_of, 
 use Rattle.plane_predicate.proofs.IntegerRing.{sums}
 use Rattle.plane_predicate.proofs.Signs.{pos_cancel}
 use Rattle.plane_predicate.proofs.Opposites.{opposite_is_plane}
-use Rattle.plane_polygon.specs.Polygons.{Outline, sides, corner as corner_of}
+use Rattle.plane_polygon.specs.Polygons.{Outline, sides, corner as corner_of, IsPolygon}
 use Rattle.csg_tree.specs.Formulas.{Formula, nothing, leaf, joined, holds}
 use Rattle.csg_tree.specs.Formulas as formulas
 use Rattle.csg_tree.specs.FacePlanes.{IsFacePlane, IsOnOneFacePlane, just_behind, just_ahead, bounds}
@@ -44,6 +44,9 @@ formula_facets f h k d l =
       plane = facet_plane f s.plane h (all_facets (solid_of f) world_box h.world k d l).plane;
       boxed = world_corners (solid_of f) h.world k d l;
     }
+
+pub facet_polygons : (f : Formula) → IsProper f → All IsPolygon (facets_of (solid_of f))
+facet_polygons f h k d l = (all_facets (solid_of f) world_box (tree_is_solid f h.leaves).world k d l).polygon
 
 -- each printed face is a face of the boundary
 module _ (f : Formula) (vertices : List Coordinates) where

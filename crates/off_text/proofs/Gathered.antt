@@ -1,10 +1,9 @@
 -- The faces of polygons, numbered one after another.
-use Rattle.std.proofs.Common.{All, ◌≡◌, ℕ, List, [], ◌∷◌, ◌++◌, map, flat_map, refl, sym, ap, ap₂, ◌∙◌, subst, subst₂, append-nil, add-one, take, take-suc, get_or, length, ◌<◌, ◌≤◌, ◌+◌}
+use Rattle.std.proofs.Common.{◌≡◌, ℕ, List, [], ◌∷◌, ◌++◌, map, flat_map, refl, sym, ap, ap₂, ◌∙◌, subst, subst₂, append-nil, add-one, take, take-suc, get_or, length, ◌<◌, ◌≤◌, ◌+◌}
 use Rattle.std.proofs.lemmas.List.{map-append, take_all}
 use Rattle.std.proofs.lemmas.Grind.{flat_map-append}
-use Rattle.std.proofs.lemmas.List.Elements.{All-push}
 use Rattle.plane_predicate.specs.Space.{Coordinates}
-use Rattle.plane_polygon.specs.Polygons.{Outline, IsPolygon, AreReducedFrom}
+use Rattle.plane_polygon.specs.Polygons.{Outline, AreReducedFrom}
 use Rattle.plane_polygon.specs.Parts.{corners}
 use Rattle.off_text.specs.Texts.{from_least, number_among, printed_corners, vertices_of, AreCornersOf}
 use Rattle.off_text.specs.Numbering.{grown, AddsFace, AreNumbered}
@@ -17,7 +16,6 @@ joined faces = flat_map (λ corners. corners) faces
 
 -- the vertices and the faces of these polygons, numbered from none on
 pub record AreGathered (polygons : List Outline) (vertices : List Coordinates) (faces : List (List ℕ)) : Type 0 where
-  pub polygons_are : All IsPolygon polygons
   pub found : List (List Coordinates)
   pub corners : AreCornersOf polygons found
   pub vertices_are : vertices ≡ grown [] (joined (printed_corners found))
@@ -41,12 +39,11 @@ faces_kept (f ∷ faces) vertices more h =
 
 -- a polygon more
 gathered_more : (polygons : List Outline) (vertices : List Coordinates) (faces : List (List ℕ)) → AreGathered polygons vertices faces →
-    (s : Outline) → IsPolygon s → (new : List Coordinates) (face : List ℕ) → AddsFace s vertices new face → AreGathered (polygons ++ s ∷ []) new (faces ++ face ∷ [])
-gathered_more polygons vertices faces h s polygon new face a =
+    (s : Outline) (new : List Coordinates) (face : List ℕ) → AddsFace s vertices new face → AreGathered (polygons ++ s ∷ []) new (faces ++ face ∷ [])
+gathered_more polygons vertices faces h s new face a =
     let known : AllKnown vertices (joined (printed_corners h.found)) =
     subst (λ (v : List Coordinates). AllKnown v (joined (printed_corners h.found))) (sym h.vertices_are) (grown_knows (joined (printed_corners h.found)) []) in
     record {
-      polygons_are = All-push IsPolygon polygons s h.polygons_are polygon;
       found = h.found ++ a.found ∷ [];
       corners = corners_more polygons h.found s a.found h.corners a.corners;
       vertices_are = a.grows ∙ ap (λ (v : List Coordinates). grown v (from_least a.found)) h.vertices_are
@@ -64,7 +61,6 @@ pub gathered_all : (polygons : List Outline) (vertices : List Coordinates) (face
 gathered_all polygons vertices faces h =
     let e : vertices ≡ vertices_of h.found = h.vertices_are ∙ grown_from_none (joined (printed_corners h.found)) in
     record {
-      polygons_are = h.polygons_are;
       found = h.found;
       corners = h.corners;
       vertices_are = e;
@@ -72,14 +68,14 @@ gathered_all polygons vertices faces h =
     }
 
 -- a polygon more of a list
-pub gathered_next : (polygons : List Outline) (i : ℕ) (s : Outline) → i < length polygons → s ≡ get_or polygons i s → IsPolygon s →
+pub gathered_next : (polygons : List Outline) (i : ℕ) (s : Outline) → i < length polygons → s ≡ get_or polygons i s →
     (vertices : List Coordinates) (faces : List (List ℕ)) → AreGathered (take i polygons) vertices faces →
     (new : List Coordinates) (face : List ℕ) (all : List (List ℕ)) → AddsFace s vertices new face → all ≡ faces ++ face ∷ [] → AreGathered (take (i + 1) polygons) new all
-gathered_next polygons i s h is polygon vertices faces g new face all a e =
+gathered_next polygons i s h is vertices faces g new face all a e =
     let more : take i polygons ++ s ∷ [] ≡ take (i + 1) polygons =
     ap (λ (t : Outline). take i polygons ++ t ∷ []) is ∙ sym (take-suc polygons i s h) ∙ ap (λ (n : ℕ). take n polygons) (sym (add-one i)) in
     subst₂ (λ (ps : List Outline) (fs : List (List ℕ)). AreGathered ps new fs) more (sym e)
-    (gathered_more (take i polygons) vertices faces g s polygon new face a)
+    (gathered_more (take i polygons) vertices faces g s new face a)
 
 pub gathered_end : (polygons : List Outline) (i : ℕ) (vertices : List Coordinates) (faces : List (List ℕ)) → length polygons ≤ i → AreGathered (take i polygons) vertices faces → AreNumbered polygons vertices faces
 gathered_end polygons i vertices faces h g =

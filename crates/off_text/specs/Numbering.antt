@@ -1,8 +1,8 @@
 -- How vertices are numbered, one after another.
-use Rattle.std.specs.Prelude.{◌≡◌, ℕ, List, [], ◌∷◌, map, All}
+use Rattle.std.specs.Prelude.{◌≡◌, ℕ, List, [], ◌∷◌, map}
 use Rattle.indexmap.specs.IndexSet.{insert_key}
 use Rattle.plane_predicate.specs.Space.{Coordinates}
-use Rattle.plane_polygon.specs.Polygons.{Outline, IsPolygon, AreReducedFrom}
+use Rattle.plane_polygon.specs.Polygons.{Outline, AreReducedFrom}
 use Rattle.plane_polygon.specs.Parts.{corners as corners_of}
 use Rattle.off_text.specs.Texts.{same_point, from_least, number_among, AreCornersOf, vertices_of, faces_of}
 
@@ -20,7 +20,6 @@ pub record AddsFace (s : Outline) (old new : List Coordinates) (face : List ℕ)
 
 -- the vertices and the faces of the text of these polygons
 pub record AreNumbered (polygons : List Outline) (vertices : List Coordinates) (faces : List (List ℕ)) : Type 0 where
-  pub polygons_are : All IsPolygon polygons
   pub found : List (List Coordinates)
   pub corners : AreCornersOf polygons found
   pub vertices_are : vertices ≡ vertices_of found

@@ -1,6 +1,6 @@
 //! The text of polygons, within its limits.
 
-ghost use Rattle.std.specs.Prelude.{◌≡◌, ◌<◌, ◌≤◌, ◌↔◌, map, ltb, IfOk, OnOk, IsErrOf};
+ghost use Rattle.std.specs.Prelude.{◌≡◌, ◌<◌, ◌≤◌, ◌↔◌, All, map, ltb, IfOk, OnOk, IsErrOf};
 ghost use Rattle.plane_polygon.specs.Polygons.{IsPolygon};
 ghost use Rattle.off_text.specs.Texts.{corner_count, HasVertices, IsTextOf};
 ghost use Rattle.csg_tree.specs.Formulas.{Formula};
@@ -76,8 +76,7 @@ fn facet_numbers(
     vertices: &mut IndexSet<Vertex>,
     facet: &Facet,
 ) -> Result<Vec<usize>, NoMemory>
-    ensures numbers { IfOk result (λ v. AddsFace facet.now vertices.old.keys vertices.new.keys v.items) }
-    ensures polygon { IsPolygon facet.now }
+    ensures { IfOk result (λ v. AddsFace facet.now vertices.old.keys vertices.new.keys v.items) }
 {
     let found = corners(alloc, &facet.polygon)?;
     number_face(alloc, vertices, &found)
@@ -106,7 +105,7 @@ pub fn off_bytes(alloc: Global, facets: &[Facet]) -> Result<Vec<u8>, OffStop>
     ensures corners { IsErrOf result OffStop.TooManyCorners ↔ (200000 < corner_count facets.now) }
     ensures few { OnOk result (HasVertices (λ count. count ≤ 60000) facets.now) }
     ensures many { IsErrOf result OffStop.TooManyVertices → HasVertices (λ count. 60000 < count) facets.now }
-    ensures prints { IfOk result (λ text. Prints facets.now text.items) }
+    ensures prints { IfOk result (λ text. All IsPolygon facets.now → Prints facets.now text.items) }
     // Where the facets are those of the solid of a proper tree, the text is the boundary of the tree.
     ensures boundary { IfOk result (λ text. (f : Formula) → IsProper f → facets.now ≡ facets_of (solid_of f) → IsBoundary text.items f) }
 {
