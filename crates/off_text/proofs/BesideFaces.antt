@@ -1,5 +1,5 @@
 -- A tree and its solid, just behind and just ahead of a point on one face plane: a point near by has the same sides.
-use Rattle.std.proofs.Common.{◌≡◌, ◌≢◌, ◌⊎◌, inl, inr, ℕ, zero, suc, ◌+◌, ◌≤◌, Bool, true, false, not, ◌&&◌, if◌then◌else◌, List, [], ◌∷◌, length, get_or, refl, sym, ap, ap₂, ◌∙◌, subst, arith, ℤ, pos, negsuc, ◌+ℤ◌, ◌*ℤ◌, ◌<ℤ◌, unsigned_abs, int_lt, true≢false}
+use Rattle.std.proofs.Common.{◌≡◌, ◌≢◌, inl, inr, ℕ, zero, suc, ◌+◌, ◌≤◌, Bool, true, false, not, ◌&&◌, if◌then◌else◌, List, [], ◌∷◌, get_or, refl, sym, ap, ap₂, ◌∙◌, subst, arith, ℤ, pos, negsuc, ◌+ℤ◌, ◌*ℤ◌, ◌<ℤ◌, unsigned_abs, int_lt}
 use Rattle.std.specs.Prelude.{Contains}
 use Rattle.std.specs.List.{list_all}
 use Rattle.std.proofs.lemmas.Int.{ints}
@@ -60,7 +60,7 @@ face_plane_is_plane f n h (inl k) = leaf_planes f n h k
 face_plane_is_plane f n h (inr k) = subst IsPlane (opposite_twice n) (opposite_is_plane (opposite_of n) (leaf_planes f (opposite_of n) h k))
 
 -- how often a point is to be taken, so that it keeps its sides when v u is added
-often_of : Formula → ℤ → Coordinates → ℕ
+abbrev often_of : Formula → ℤ → Coordinates → ℕ
 often_of nothing v u = 0
 often_of (leaf planes) v u = often planes v u
 often_of (joined op left right) v u = often_of left v u + often_of right v u
@@ -77,10 +77,10 @@ often_each (joined op left right) v u m (inl h) = omega (arith, often_each left 
 often_each (joined op left right) v u m (inr h) = omega (arith, often_each right v u m h)
 
 -- the point moved a little: ahead of n where v is above 0, and else behind it
-times : Formula → ℤ → Coefficients → ℕ
+abbrev times : Formula → ℤ → Coefficients → ℕ
 times f v n = often world_box v (direction n) + often_of f v (direction n)
 
-near : Formula → ℤ → Coefficients → Coordinates → Coordinates
+abbrev near : Formula → ℤ → Coefficients → Coordinates → Coordinates
 near f v n p = combine (pos (suc (times f v n))) p v (direction n)
 
 near_in_world : (f : Formula) (v : ℤ) (n : Coefficients) (p : Coordinates) → IsInWorld p → IsInWorld (near f v n p)

@@ -1,24 +1,18 @@
 -- The text of the facets of a formula's solid is the boundary of the formula.
-use Rattle.std.proofs.Common.{◌≡◌, ◌⊎◌, inl, inr, ℕ, ◌*◌, ◌<◌, ◌≤◌, Bool, not, ◌&&◌, List, [], ◌∷◌, slice_index_or, ap, ap₂, ◌∙◌, subst, arith, ℤ, pos, negsuc, ◌*ℤ◌, ◌<ℤ◌, unsigned_abs, le_of_mul-le-mul_right}
+use Rattle.std.proofs.Common.{◌⊎◌, inl, inr, ℕ, ◌<◌, Bool, not, ◌&&◌, List, [], ◌∷◌, slice_index_or, ap₂, subst}
 use Rattle.std.specs.List.{All}
-use Rattle.std.proofs.lemmas.Int.{unsigned_abs-mul}
-use Rattle.std.proofs.lemmas.List.Elements.{All-nil, All-cons, All-head, All-tail, All-contains, All-weaker}
-use Rattle.plane_predicate.specs.Space.{Coefficients, Coordinates, opposite_of, IsInClosedWorld, IsPlane, IsPointTimes}
-use Rattle.plane_predicate.proofs.IntegerRing.{sums}
-use Rattle.plane_predicate.proofs.Signs.{pos_cancel}
-use Rattle.plane_predicate.proofs.Opposites.{opposite_is_plane}
+use Rattle.std.proofs.lemmas.List.Elements.{All-nil, All-cons, All-head, All-tail, All-weaker}
+use Rattle.plane_predicate.specs.Space.{Coefficients, Coordinates, opposite_of, IsInClosedWorld}
 use Rattle.plane_polygon.specs.Polygons.{Outline, sides, corner as corner_of, IsPolygon}
-use Rattle.csg_tree.specs.Formulas.{Formula, nothing, leaf, joined, holds}
-use Rattle.csg_tree.specs.Formulas as formulas
+use Rattle.csg_tree.specs.Formulas.{Formula}
 use Rattle.csg_tree.specs.FacePlanes.{IsFacePlane, IsOnOneFacePlane, just_behind, just_ahead, bounds}
-use Rattle.csg_tree.specs.ProperTrees.{IsLeafPlane, HasFullLeaves, IsProper}
+use Rattle.csg_tree.specs.ProperTrees.{IsProper}
 use Rattle.bsp_tree.specs.Cells.{world_box, IsPlaneOf}
-use Rattle.bsp_tree.proofs.Opposites.{opposite_twice}
 use Rattle.bsp_tree.proofs.Worlds.{open_world}
 use Rattle.bsp_boolean.specs.Solids.{solid_of, IsSolidOf}
 use Rattle.bsp_boolean.proofs.Solids.{tree_is_solid}
 use Rattle.facet_cut.specs.Facets.{facets_of}
-use Rattle.facet_cut.specs.Sides.{walk_by, AreJustBehind, AreJustAhead, IsOnOnePlane}
+use Rattle.facet_cut.specs.Sides.{walk_by, IsOnOnePlane}
 use Rattle.facet_cut.proofs.FacetPolygons.{all_facets, world_corners}
 use Rattle.facet_cut.proofs.Boundaries.{facets_bound}
 use Rattle.off_text.specs.Boundaries.{corner, Covers, OneExactlyWhere}
