@@ -1,0 +1,3 @@
+pub mod Facets
+pub mod Sides
+pub mod Adding

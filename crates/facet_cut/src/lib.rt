@@ -1,0 +1,16 @@
+//! The facets of solids: the parts of the nodes' polygons that have the solid on one side alone.
+#![tactic(auto)]
+
+mod adding;
+mod cutting;
+mod facet;
+mod laws;
+mod stops;
+
+pub use cutting::facets;
+pub use facet::Facet;
+pub use laws::{facets_are_polygons, facets_bound_their_solid, reversed_polygons_are_polygons};
+pub use stops::CutStop;
+
+#[cfg(test)]
+mod tests;

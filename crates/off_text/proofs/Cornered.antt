@@ -1,0 +1,121 @@
+-- The corners of a polygon as they are printed: reduced, and from the least one on.
+use Rattle.std.proofs.Common.{◌≡◌, ⊎_elim, ℕ, zero, suc, ◌-◌, ◌<◌, ◌≤◌, Bool, true, false, List, [], ◌∷◌, ◌++◌, map, length, get_or, take, drop, refl, sym, ap, ◌∙◌, subst, arith, length-append, All, ℤ, pos, ◌<ℤ◌}
+use Rattle.std.proofs.lemmas.List.{map-append, get_or_append_left, get_or-append_right, get_or-drop, get_or-take, length-drop, length-take-le}
+use Rattle.std.proofs.lemmas.List.Elements.{All-from_get_or, All-append, All-take, All-drop}
+use Rattle.plane_predicate.specs.Space.{Coordinates, IsPointTimes, IsReduced}
+use Rattle.plane_predicate.proofs.Signs.{pos_cancel}
+use Rattle.plane_polygon.specs.Polygons.{Outline, sides, corner, IsPolygon, AreReducedFrom}
+use Rattle.plane_polygon.specs.Parts.{corners, up_to}
+use Rattle.plane_polygon.proofs.Rounds.{step, step_is, step_below, at_most}
+use Rattle.off_text.specs.Reading.{IsVertex}
+use Rattle.off_text.specs.Boundaries.{origin}
+use Rattle.off_text.specs.Texts.{comes_before, place_of_least, from_least}
+use Rattle.off_text.proofs.Least.{IsLeastOf, least_first, least_new, least_kept, least_found}
+
+map-up_to-length : (f : ℕ → Coordinates) (n : ℕ) → length (map f (up_to n)) ≡ n
+map-up_to-length f zero = refl
+map-up_to-length f (suc n) =
+    ap length (map-append f (up_to n) (n ∷ [])) ∙ length-append (map f (up_to n)) (f n ∷ []) ∙ omega (arith, map-up_to-length f n)
+
+map-up_to : (f : ℕ → Coordinates) (n i : ℕ) → i < n → get_or (map f (up_to n)) i origin ≡ f i
+map-up_to f zero i h = absurd (omega arith)
+map-up_to f (suc n) i h =
+    ap (λ (l : List Coordinates). get_or l i origin) (map-append f (up_to n) (n ∷ []))
+    ∙ ⊎_elim
+    (λ e. get_or-append_right (map f (up_to n)) (f n ∷ []) n i origin (map-up_to-length f n) (omega arith)
+    ∙ (let z : i - n ≡ 0 = omega arith in ap (λ (j : ℕ). get_or (f n ∷ []) j origin) z) ∙ ap f (sym e))
+    (λ b. get_or_append_left (map f (up_to n)) (f n ∷ []) origin i (omega (arith, map-up_to-length f n)) ∙ map-up_to f n i b)
+    (at_most i n (omega arith))
+
+reduced-length : (ps qs : List Coordinates) → AreReducedFrom ps qs → length qs ≡ length ps
+reduced-length [] [] h = refl
+reduced-length [] (q ∷ qs) h = absurd h
+reduced-length (p ∷ ps) [] h = absurd h
+reduced-length (p ∷ ps) (q ∷ qs) h = ap suc (reduced-length ps qs h.2)
+
+reduced-at : (ps qs : List Coordinates) → AreReducedFrom ps qs → (i : ℕ) → i < length ps → IsPointTimes (get_or ps i origin) (get_or qs i origin) × IsReduced (get_or qs i origin)
+reduced-at [] [] h i l = absurd (omega arith)
+reduced-at [] (q ∷ qs) h i l = absurd h
+reduced-at (p ∷ ps) [] h i l = absurd h
+reduced-at (p ∷ ps) (q ∷ qs) h zero l = (h.0, h.1)
+reduced-at (p ∷ ps) (q ∷ qs) h (suc i) l = reduced-at ps qs h.2 i (omega arith)
+
+-- ---- the reduced corners of a polygon
+module _ (s : Outline) (found : List Coordinates) (h : AreReducedFrom (corners s) found) where
+  found-length : length found ≡ sides s
+  found-length = reduced-length (corners s) found h ∙ map-up_to-length (corner s) (sides s)
+
+  found-at : (i : ℕ) → i < sides s → IsPointTimes (corner s i) (get_or found i origin) × IsReduced (get_or found i origin)
+  found-at i l =
+      subst (λ (p : Coordinates). IsPointTimes p (get_or found i origin) × IsReduced (get_or found i origin)) (map-up_to (corner s) (sides s) i l)
+      (reduced-at (corners s) found h i (omega (arith, map-up_to-length (corner s) (sides s))))
+
+  pub found_are_vertices : IsPolygon s → All IsVertex found
+  found_are_vertices polygon =
+      All-from_get_or IsVertex found origin (λ i l.
+      let b : i < sides s = omega (arith, found-length) in
+      let at = found-at i b in
+      record {
+        weight = pos_cancel at.0.by (get_or found i origin).w at.0.above (subst (λ (w : ℤ). pos 0 <ℤ w) at.0.w (polygon.turns_left i b));
+        reduced = at.1.reduced;
+      })
+
+-- ---- the least corner
+next_least : (corners : List Coordinates) (i least : ℕ) → IsLeastOf corners i least → i < length corners → (b : Bool) → comes_before (get_or corners i origin) (get_or corners least origin) ≡ b →
+    (next : ℕ) × IsLeastOf corners (suc i) next
+next_least corners i least h l true e = (i, least_new corners i least h l e)
+next_least corners i least h l false e = (least, least_kept corners i least h e)
+
+least_of : (corners : List Coordinates) (i : ℕ) → suc i ≤ length corners → (least : ℕ) × IsLeastOf corners (suc i) least
+least_of corners zero l = (0, least_first corners)
+least_of corners (suc i) l =
+    let before = least_of corners i (omega arith) in
+    next_least corners (suc i) before.0 before.1 (omega arith) _ refl
+
+pub least_within : (corners : List Coordinates) → 0 < length corners → place_of_least corners < length corners
+least_within [] h = absurd (omega arith)
+least_within (p ∷ corners) h =
+    let l = least_of (p ∷ corners) (length corners) (omega arith) in
+    subst (λ (n : ℕ). n < length (p ∷ corners)) (least_found (p ∷ corners) (suc (length corners)) l.0 l.1 (omega arith)) (l.1.within (omega arith))
+
+-- ---- from another corner on
+turned-length : (points : List Coordinates) (a : ℕ) → a ≤ length points → length (drop a points ++ take a points) ≡ length points
+turned-length points a h = length-append (drop a points) (take a points) ∙ omega (arith, length-drop a points, length-take-le a points h)
+
+turned-at : (points : List Coordinates) (a i : ℕ) → a < length points → i < length points →
+    get_or (drop a points ++ take a points) i origin ≡ get_or points (step (length points) a i) origin
+turned-at points a i h l =
+    ⊎_elim
+    (λ p. get_or_append_left (drop a points) (take a points) origin i (omega (arith, length-drop a points, p.1))
+    ∙ get_or-drop a points i origin ∙ ap (λ (n : ℕ). get_or points n origin) (sym p.0))
+    (λ p. get_or-append_right (drop a points) (take a points) (length points - a) i origin (length-drop a points) (omega (arith, p))
+    ∙ get_or-take a points (i - (length points - a)) origin (omega (arith, p, l))
+    ∙ (let e : i - (length points - a) ≡ step (length points) a i = omega (arith, p, h) in ap (λ (n : ℕ). get_or points n origin) e))
+    (step_is (length points) a i h l)
+
+-- points that are a polygon's corners, from one of them on
+pub record ArePrinted (s : Outline) (points : List Coordinates) : Type 0 where
+  pub count : length points ≡ sides s
+  pub start : ℕ
+  pub starts : start < sides s
+  pub at : (i : ℕ) → i < sides s → IsPointTimes (corner s (step (sides s) start i)) (get_or points i origin)
+
+pub printed : (s : Outline) (found : List Coordinates) → IsPolygon s → AreReducedFrom (corners s) found → ArePrinted s (from_least found)
+printed s found polygon h =
+    let count = found-length s found h in
+    let some : 0 < length found = omega (arith, count, polygon.three) in
+    let least = least_within found some in
+    let starts : place_of_least found < sides s = omega (arith, count, least) in
+    record {
+      count = turned-length found (place_of_least found) (omega (arith, least)) ∙ count;
+      start = place_of_least found;
+      starts = starts;
+      at = λ i l. subst (λ (q : Coordinates). IsPointTimes (corner s (step (sides s) (place_of_least found) i)) q)
+          (sym (turned-at found (place_of_least found) i least (omega (arith, count, l)) ∙ ap (λ (k : ℕ). get_or found (step k (place_of_least found) i) origin) count))
+          (found-at s found h (step (sides s) (place_of_least found) i) (step_below (sides s) (place_of_least found) i starts)).0;
+    }
+
+-- what holds of all points holds of them from another one on
+pub All-from_least : (P : Coordinates → Type 0) (found : List Coordinates) → All P found → All P (from_least found)
+All-from_least P found h =
+    All-append P (drop (place_of_least found) found) (take (place_of_least found) found) (All-drop P (place_of_least found) found h) (All-take P (place_of_least found) found h)

@@ -1,0 +1,154 @@
+-- The faces of a text are the polygons.
+use Rattle.std.proofs.Common.{◌≡◌, ◌≢◌, ℕ, zero, suc, ◌<◌, ◌≤◌, not, List, filter, [], ◌∷◌, map, length, get_or, sym, ap, ◌∙◌, subst, arith, All, pos, ◌<ℤ◌}
+use Rattle.std.proofs.lemmas.List.{length-map}
+use Rattle.std.proofs.lemmas.List.Elements.{All-append, All-filter, All-map, All-from_get_or}
+use Rattle.std.proofs.lemmas.List.Sums.{passes_at_first}
+use Rattle.plane_predicate.specs.Space.{Coefficients, Coordinates, value, turn, IsPlane, IsPointTimes}
+use Rattle.plane_polygon.specs.Polygons.{Outline, sides, IsPolygon, IsStrictlyWithin, corner as corner_of}
+use Rattle.plane_polygon.proofs.Rounds.{step, step_below}
+use Rattle.off_text.specs.Reading.{IsVertex, IsFace, off_text}
+use Rattle.off_text.specs.Boundaries.{origin, corner, after, Faces, Covers}
+use Rattle.off_text.specs.Texts.{same_point, distinct, number_among, from_least, printed_corners, vertices_of, faces_of, AreCornersOf}
+use Rattle.off_text.specs.Numbering.{AreNumbered}
+use Rattle.off_text.specs.Prints.{IsFaceOf, AreFacesOf, Prints}
+use Rattle.off_text.proofs.Numbers.{Known, AllKnown, place_below, same_equal, grown_knows}
+use Rattle.off_text.proofs.Distinct.{grown_from_none}
+use Rattle.off_text.proofs.Gathered.{joined, known_parts}
+use Rattle.off_text.proofs.Cornered.{ArePrinted, printed, found_are_vertices, All-from_least}
+use Rattle.off_text.proofs.Rounded.{points_on, points_left, left_from_within, within_from_left, one_plane, below_three, not_two}
+
+-- ---- what holds of all items
+none_all : {X : Type 0} (P : X → Type 0) → All P []
+none_all P k d l = absurd (omega arith)
+
+more_all : {X : Type 0} (P : X → Type 0) (x : X) (xs : List X) → P x → All P xs → All P (x ∷ xs)
+more_all P x xs h hs zero d l = h
+more_all P x xs h hs (suc k) d l = hs k d (omega arith)
+
+pub first_of : {X : Type 0} (P : X → Type 0) (x : X) (xs : List X) → All P (x ∷ xs) → P x
+first_of P x xs h = h 0 x (omega arith)
+
+pub rest_of : {X : Type 0} (P : X → Type 0) (x : X) (xs : List X) → All P (x ∷ xs) → All P xs
+rest_of P x xs h k d l = h (suc k) d (omega arith)
+
+-- ---- numbered points
+known-at : (vertices : List Coordinates) (p : Coordinates) → Known vertices p → get_or vertices (number_among vertices p) origin ≡ p
+known-at vertices p h = sym (same_equal p _ (passes_at_first (same_point p) vertices origin (place_below (same_point p) vertices h)))
+
+all-known-at : (vertices points : List Coordinates) → AllKnown vertices points → (i : ℕ) → i < length points → Known vertices (get_or points i origin)
+all-known-at vertices [] h i l = absurd (omega arith)
+all-known-at vertices (p ∷ points) h zero l = h.0
+all-known-at vertices (p ∷ points) h (suc i) l = all-known-at vertices points h.1 i (omega arith)
+
+-- a printed corner is the point that is numbered so
+corner-at : (vertices points : List Coordinates) → AllKnown vertices points → (i : ℕ) → i < length points → corner vertices (map (number_among vertices) points) i ≡ get_or points i origin
+corner-at vertices [] h i l = absurd (omega arith)
+corner-at vertices (p ∷ points) h zero l = known-at vertices p h.0
+corner-at vertices (p ∷ points) h (suc i) l = corner-at vertices points h.1 i (omega arith)
+
+-- ---- one face
+module _ (s : Outline) (polygon : IsPolygon s) (vertices points : List Coordinates) (printed : ArePrinted s points) (known : AllKnown vertices points) where
+  abbrev pub face : List ℕ
+  face = map (number_among vertices) points
+
+  count : length face ≡ sides s
+  count = length-map points (number_among vertices) ∙ printed.count
+
+  is : (i : ℕ) → i < sides s → IsPointTimes (corner_of s (step (sides s) printed.start i)) (corner vertices face i)
+  is i l = subst (λ (q : Coordinates). IsPointTimes (corner_of s (step (sides s) printed.start i)) q)
+      (sym (corner-at vertices points known i (omega (arith, printed.count, l)))) (printed.at i l)
+
+  facing : Faces vertices s.plane face
+  facing = record {
+    on = subst (λ (k : ℕ). (i : ℕ) → i < k → value s.plane (corner vertices face i) ≡ pos 0) (sym count)
+        (points_on s polygon printed.start printed.starts (corner vertices face) is);
+    left = subst (λ (k : ℕ). (i j : ℕ) → i < k → j < k → j ≢ i → j ≢ after k i → pos 0 <ℤ turn s.plane (corner vertices face i) (corner vertices face (after k i)) (corner vertices face j)) (sym count)
+        (points_left s polygon printed.start printed.starts (corner vertices face) is);
+  }
+
+  covering-in : (p : Coordinates) → IsStrictlyWithin s p → Covers vertices s.plane p face
+  covering-in p w = record {
+    faces = facing;
+    on = w.on;
+    left = subst (λ (k : ℕ). (i : ℕ) → i < k → pos 0 <ℤ turn s.plane (corner vertices face i) (corner vertices face (after k i)) p) (sym count)
+        (left_from_within s polygon printed.start printed.starts (corner vertices face) is p w);
+  }
+
+  covering-out : (p : Coordinates) → Covers vertices s.plane p face → IsStrictlyWithin s p
+  covering-out p c =
+      within_from_left s polygon printed.start printed.starts (corner vertices face) is p c.on
+      (subst (λ (k : ℕ). (i : ℕ) → i < k → pos 0 <ℤ turn s.plane (corner vertices face i) (corner vertices face (after k i)) p) count c.left)
+
+  faced_plane : (n : Coefficients) → IsPlane s.plane → IsPlane n → Faces vertices n face → s.plane ≡ n
+  faced_plane n hs hn f =
+      let left = subst (λ (k : ℕ). (i j : ℕ) → i < k → j < k → j ≢ i → j ≢ after k i → pos 0 <ℤ turn n (corner vertices face i) (corner vertices face (after k i)) (corner vertices face j)) count f.left in
+      one_plane s polygon printed.start printed.starts (corner vertices face) is n hs hn
+      (subst (λ (k : ℕ). (i : ℕ) → i < k → value n (corner vertices face i) ≡ pos 0) count f.on)
+      (left 0 2 (below_three 0 (sides s) polygon.three (omega arith)) (below_three 2 (sides s) polygon.three (omega arith)) (omega arith) (not_two (sides s) polygon.three))
+
+  pub drawn : IsFaceOf vertices s face
+  drawn = record {
+    corners = λ i l. (let b : i < sides s = omega (arith, count, l) in
+        record { place = step (sides s) printed.start i; within = step_below (sides s) printed.start i printed.starts; times = is i b });
+    facing = facing;
+    covering = λ n p hs hn. (
+      (λ c. let e = faced_plane n hs hn c.faces in (e, covering-out p (subst (λ (m : Coefficients). Covers vertices m p face) (sym e) c))),
+      (λ w. subst (λ (m : Coefficients). Covers vertices m p face) w.0 (covering-in p w.1)),
+    );
+  }
+
+  known_indices : All (λ i. i < length vertices) face
+  known_indices = All-map (λ (i : ℕ). i < length vertices) (number_among vertices) points
+      (All-from_get_or (λ (p : Coordinates). number_among vertices p < length vertices) points origin (λ i l. place_below (same_point (get_or points i origin)) vertices (all-known-at vertices points known i l)))
+
+  pub is_face : IsFace (length vertices) face
+  is_face = record { three = subst (λ (k : ℕ). 3 ≤ k) (sym count) polygon.three; known = known_indices }
+
+-- ---- all faces
+faces_drawn : (polygons : List Outline) (found : List (List Coordinates)) (vertices : List Coordinates) → All IsPolygon polygons → AreCornersOf polygons found →
+    AllKnown vertices (joined (printed_corners found)) →
+    AreFacesOf vertices polygons (map (map (number_among vertices)) (printed_corners found)) × All (IsFace (length vertices)) (map (map (number_among vertices)) (printed_corners found))
+faces_drawn [] [] vertices h c k = (tt, none_all (IsFace (length vertices)))
+faces_drawn [] (f ∷ found) vertices h c k = absurd c
+faces_drawn (s ∷ polygons) [] vertices h c k = absurd c
+faces_drawn (s ∷ polygons) (f ∷ found) vertices h c k =
+    let parts = known_parts (from_least f) (joined (printed_corners found)) vertices k in
+    let polygon = first_of IsPolygon s polygons h in
+    let points = printed s f polygon c.0 in
+    let rest = faces_drawn polygons found vertices (rest_of IsPolygon s polygons h) c.1 parts.1 in (
+      (drawn s polygon vertices (from_least f) points parts.0, rest.0),
+      more_all (IsFace (length vertices)) (map (number_among vertices) (from_least f)) (map (map (number_among vertices)) (printed_corners found)) (is_face s polygon vertices (from_least f) points parts.0) rest.1,
+    )
+
+-- ---- all vertices
+distinct_all : (points : List Coordinates) → All IsVertex points → All IsVertex (distinct points)
+distinct_all [] h = h
+distinct_all (p ∷ points) h =
+    more_all IsVertex p (filter (λ q. not (same_point p q)) (distinct points)) (first_of IsVertex p points h)
+    (All-filter (λ q. not (same_point p q)) IsVertex (distinct points) (distinct_all points (rest_of IsVertex p points h)))
+
+joined_all : (polygons : List Outline) (found : List (List Coordinates)) → All IsPolygon polygons → AreCornersOf polygons found → All IsVertex (joined (printed_corners found))
+joined_all [] [] h c = none_all IsVertex
+joined_all [] (f ∷ found) h c = absurd c
+joined_all (s ∷ polygons) [] h c = absurd c
+joined_all (s ∷ polygons) (f ∷ found) h c =
+    All-append IsVertex (from_least f) (joined (printed_corners found)) (All-from_least IsVertex f (found_are_vertices s f c.0 (first_of IsPolygon s polygons h)))
+    (joined_all polygons found (rest_of IsPolygon s polygons h) c.1)
+
+all_are_known : (found : List (List Coordinates)) → AllKnown (vertices_of found) (joined (printed_corners found))
+all_are_known found =
+    subst (λ (v : List Coordinates). AllKnown v (joined (printed_corners found))) (grown_from_none (joined (printed_corners found))) (grown_knows (joined (printed_corners found)) [])
+
+pub prints : (polygons : List Outline) (vertices : List Coordinates) (faces : List (List ℕ)) (bytes : List ℕ) → AreNumbered polygons vertices faces → bytes ≡ off_text vertices faces → All IsPolygon polygons → Prints polygons bytes
+prints polygons vertices faces bytes h e all_polygons =
+    let all = faces_drawn polygons h.found (vertices_of h.found) all_polygons h.corners (all_are_known h.found) in
+    record {
+      vertices = vertices_of h.found;
+      faces = faces_of h.found;
+      read = record {
+        spelled = e ∙ ap (λ (v : List Coordinates). off_text v faces) h.vertices_are ∙ ap (off_text (vertices_of h.found)) h.faces_are;
+        points = distinct_all (joined (printed_corners h.found)) (joined_all polygons h.found all_polygons h.corners);
+        loops = all.1;
+      };
+      drawn = all.0;
+    }

@@ -1,0 +1,105 @@
+-- The text of the facets of a formula's solid is the boundary of the formula.
+use Rattle.std.proofs.Common.{◌⊎◌, inl, inr, ℕ, ◌<◌, Bool, not, ◌&&◌, List, [], ◌∷◌, slice_index_or, ap₂, subst}
+use Rattle.std.specs.List.{All}
+use Rattle.std.proofs.lemmas.List.Elements.{All-nil, All-cons, All-head, All-tail, All-weaker}
+use Rattle.plane_predicate.specs.Space.{Coefficients, Coordinates, opposite_of, IsInClosedWorld}
+use Rattle.plane_polygon.specs.Polygons.{Outline, sides, corner as corner_of, IsPolygon}
+use Rattle.csg_tree.specs.Formulas.{Formula}
+use Rattle.csg_tree.specs.FacePlanes.{IsFacePlane, IsOnOneFacePlane, just_behind, just_ahead, bounds}
+use Rattle.csg_tree.specs.ProperTrees.{IsProper}
+use Rattle.bsp_tree.specs.Cells.{world_box, IsPlaneOf}
+use Rattle.bsp_tree.proofs.Worlds.{open_world}
+use Rattle.bsp_boolean.specs.Solids.{solid_of, IsSolidOf}
+use Rattle.bsp_boolean.proofs.Solids.{tree_is_solid}
+use Rattle.facet_cut.specs.Facets.{facets_of}
+use Rattle.facet_cut.specs.Sides.{walk_by, IsOnOnePlane}
+use Rattle.facet_cut.proofs.FacetPolygons.{all_facets, world_corners}
+use Rattle.facet_cut.proofs.Boundaries.{facets_bound}
+use Rattle.off_text.specs.Boundaries.{corner, Covers, OneExactlyWhere}
+use Rattle.off_text.specs.Prints.{IsFaceOf, AreFacesOf, Prints}
+use Rattle.off_text.specs.Bounding.{IsBoundaryFace, IsBoundary}
+use Rattle.off_text.proofs.Covered.{HasPlane, as_facets}
+use Rattle.off_text.proofs.Boxed.{boxed as in_world_reduced}
+use Rattle.off_text.proofs.BesideFaces.{BesideLeaves, beside_leaves, face_plane_is_plane}
+
+-- the facets of a formula's solid
+record IsFacetOfFormula (f : Formula) (s : Outline) : Type 0 where
+  pub plane : IsFacePlane s.plane f
+  pub boxed : (i : ℕ) → i < sides s → IsInClosedWorld (corner_of s i)
+
+facet_plane : (f : Formula) (m : Coefficients) → IsSolidOf f (solid_of f) →
+    IsPlaneOf m (solid_of f) ⊎ IsPlaneOf (opposite_of m) (solid_of f) → IsFacePlane m f
+facet_plane f m h (inl k) = inl (h.planes m k)
+facet_plane f m h (inr k) = inr (h.planes (opposite_of m) k)
+
+formula_facets : (f : Formula) → IsSolidOf f (solid_of f) → All (IsFacetOfFormula f) (facets_of (solid_of f))
+formula_facets f h k d l =
+    let s = slice_index_or (facets_of (solid_of f)) k d in record {
+      plane = facet_plane f s.plane h (all_facets (solid_of f) world_box h.world k d l).plane;
+      boxed = world_corners (solid_of f) h.world k d l;
+    }
+
+pub facet_polygons : (f : Formula) → IsProper f → All IsPolygon (facets_of (solid_of f))
+facet_polygons f h k d l = (all_facets (solid_of f) world_box (tree_is_solid f h.leaves).world k d l).polygon
+
+-- each printed face is a face of the boundary
+module _ (f : Formula) (vertices : List Coordinates) where
+  face_bounds : (s : Outline) (face : List ℕ) → IsFaceOf vertices s face → IsFacetOfFormula f s →
+      IsBoundaryFace f vertices face
+  face_bounds s face h k = record {
+    plane = s.plane;
+    of_formula = k.plane;
+    faces = h.facing;
+    boxed = λ i l. (
+      let c = h.corners i l in
+      in_world_reduced (corner_of s c.place) (corner vertices face i) c.times (k.boxed c.place c.within));
+  }
+
+  faces_bound : (polygons : List Outline) (faces : List (List ℕ)) → AreFacesOf vertices polygons faces →
+      All (IsFacetOfFormula f) polygons → All (IsBoundaryFace f vertices) faces
+  faces_bound [] [] h k = All-nil (IsBoundaryFace f vertices)
+  faces_bound [] (face ∷ faces) h k = absurd h
+  faces_bound (s ∷ polygons) [] h k = absurd h
+  faces_bound (s ∷ polygons) (face ∷ faces) h k =
+      All-cons (IsBoundaryFace f vertices) face faces
+      (face_bounds s face h.0 (All-head (IsFacetOfFormula f) s polygons k))
+      (faces_bound polygons faces h.1 (All-tail (IsFacetOfFormula f) s polygons k))
+
+-- the text is the boundary
+-- a point that is on one face plane is on no other plane of the solid
+on_one_plane : (f : Formula) (n : Coefficients) (p : Coordinates) → IsSolidOf f (solid_of f) →
+    IsOnOneFacePlane f n p → IsOnOnePlane world_box (solid_of f) n p
+on_one_plane f n p solid h =
+    record { point_in = (open_world p).1 h.world; on = h.on; alone = λ m k. h.alone m (solid.planes m k) }
+
+covered_where : (f : Formula) (bytes : List ℕ) → IsProper f → IsSolidOf f (solid_of f) →
+    (text : Prints (facets_of (solid_of f)) bytes) → BesideLeaves f → (n : Coefficients) (p : Coordinates) →
+    IsOnOneFacePlane f n p → OneExactlyWhere (bounds f n p) (Covers text.vertices n p) text.faces
+covered_where f bytes h solid text beside n p o =
+    let t = solid_of f in
+    let low = just_behind n p in
+    let high = just_ahead n p in
+    let b = beside n p o in
+    subst (λ (c : Bool). OneExactlyWhere c (Covers text.vertices n p) text.faces)
+    (ap₂ (λ (i j : Bool). i && not j) b.2 b.3)
+    (as_facets text.vertices n (face_plane_is_plane f n h.leaves o.face_plane) p (facets_of t) text.faces
+    (All-weaker (IsFacetOfFormula f) HasPlane (λ s k. face_plane_is_plane f s.plane h.leaves k.plane)
+    (facets_of t) (formula_facets f solid))
+    text.drawn (walk_by t low && not (walk_by t high))
+    (facets_bound world_box t solid.world n p (on_one_plane f n p solid o) low high b.0 b.1))
+
+pub boundary_from : (f : Formula) (bytes : List ℕ) → IsProper f → Prints (facets_of (solid_of f)) bytes →
+    BesideLeaves f → IsBoundary bytes f
+boundary_from f bytes h text beside =
+    let solid = tree_is_solid f h.leaves in
+    let facets = facets_of (solid_of f) in record {
+      vertices = text.vertices;
+      faces = text.faces;
+      read = text.read;
+      bounding = faces_bound f text.vertices facets text.faces text.drawn (formula_facets f solid);
+      covered = covered_where f bytes h solid text beside;
+    }
+
+-- the text of the facets of a proper tree's solid is the tree's boundary
+pub boundary : (f : Formula) (bytes : List ℕ) → IsProper f → Prints (facets_of (solid_of f)) bytes → IsBoundary bytes f
+boundary f bytes h text = boundary_from f bytes h text (beside_leaves f h.leaves)

@@ -1,0 +1,82 @@
+-- The faces of polygons, numbered one after another.
+use Rattle.std.proofs.Common.{◌≡◌, ℕ, List, [], ◌∷◌, ◌++◌, map, flat_map, refl, sym, ap, ap₂, ◌∙◌, subst, subst₂, append-nil, add-one, take, take-suc, get_or, length, ◌<◌, ◌≤◌, ◌+◌}
+use Rattle.std.proofs.lemmas.List.{map-append, take_all}
+use Rattle.std.proofs.lemmas.Grind.{flat_map-append}
+use Rattle.plane_predicate.specs.Space.{Coordinates}
+use Rattle.plane_polygon.specs.Polygons.{Outline, AreReducedFrom}
+use Rattle.plane_polygon.specs.Parts.{corners}
+use Rattle.off_text.specs.Texts.{from_least, number_among, printed_corners, vertices_of, AreCornersOf}
+use Rattle.off_text.specs.Numbering.{grown, AddsFace, AreNumbered}
+use Rattle.off_text.proofs.Numbers.{AllKnown, all_kept, grown_knows, grown-append}
+use Rattle.off_text.proofs.Distinct.{grown_from_none}
+
+-- all corners of faces, face by face
+abbrev pub joined : List (List Coordinates) → List Coordinates
+joined faces = flat_map (λ corners. corners) faces
+
+-- the vertices and the faces of these polygons, numbered from none on
+pub record AreGathered (polygons : List Outline) (vertices : List Coordinates) (faces : List (List ℕ)) : Type 0 where
+  pub found : List (List Coordinates)
+  pub corners : AreCornersOf polygons found
+  pub vertices_are : vertices ≡ grown [] (joined (printed_corners found))
+  pub faces_are : faces ≡ map (map (number_among vertices)) (printed_corners found)
+
+corners_more : (polygons : List Outline) (found : List (List Coordinates)) (s : Outline) (last : List Coordinates) → AreCornersOf polygons found → AreReducedFrom (corners s) last → AreCornersOf (polygons ++ s ∷ []) (found ++ last ∷ [])
+corners_more [] [] s last h l = (l, tt)
+corners_more [] (f ∷ found) s last h l = absurd h
+corners_more (t ∷ polygons) [] s last h l = absurd h
+corners_more (t ∷ polygons) (f ∷ found) s last h l = (h.0, corners_more polygons found s last h.1 l)
+
+pub known_parts : (xs ys vertices : List Coordinates) → AllKnown vertices (xs ++ ys) → AllKnown vertices xs × AllKnown vertices ys
+known_parts [] ys vertices h = (tt, h)
+known_parts (x ∷ xs) ys vertices h = let rest = known_parts xs ys vertices h.1 in ((h.0, rest.0), rest.1)
+
+faces_kept : (faces : List (List Coordinates)) (vertices more : List Coordinates) → AllKnown vertices (joined faces) → map (map (number_among (grown vertices more))) faces ≡ map (map (number_among vertices)) faces
+faces_kept [] vertices more h = refl
+faces_kept (f ∷ faces) vertices more h =
+    let parts = known_parts f (joined faces) vertices h in
+    ap₂ (λ (x : List ℕ) (l : List (List ℕ)). x ∷ l) (all_kept more vertices f parts.0).1 (faces_kept faces vertices more parts.1)
+
+-- a polygon more
+gathered_more : (polygons : List Outline) (vertices : List Coordinates) (faces : List (List ℕ)) → AreGathered polygons vertices faces →
+    (s : Outline) (new : List Coordinates) (face : List ℕ) → AddsFace s vertices new face → AreGathered (polygons ++ s ∷ []) new (faces ++ face ∷ [])
+gathered_more polygons vertices faces h s new face a =
+    let known : AllKnown vertices (joined (printed_corners h.found)) =
+    subst (λ (v : List Coordinates). AllKnown v (joined (printed_corners h.found))) (sym h.vertices_are) (grown_knows (joined (printed_corners h.found)) []) in
+    record {
+      found = h.found ++ a.found ∷ [];
+      corners = corners_more polygons h.found s a.found h.corners a.corners;
+      vertices_are = a.grows ∙ ap (λ (v : List Coordinates). grown v (from_least a.found)) h.vertices_are
+          ∙ sym (grown-append (joined (printed_corners h.found)) (from_least a.found) [])
+          ∙ ap (λ (l : List Coordinates). grown [] (joined (printed_corners h.found) ++ l)) (sym (append-nil (from_least a.found)))
+          ∙ ap (grown []) (sym (flat_map-append (λ corners. corners) (printed_corners h.found) (from_least a.found ∷ [])))
+          ∙ ap (λ (l : List (List Coordinates)). grown [] (joined l)) (sym (map-append from_least h.found (a.found ∷ [])));
+      faces_are = ap₂ (λ (l : List (List ℕ)) (f : List ℕ). l ++ f ∷ [])
+          (h.faces_are ∙ sym (faces_kept (printed_corners h.found) vertices (from_least a.found) known) ∙ ap (λ (v : List Coordinates). map (map (number_among v)) (printed_corners h.found)) (sym a.grows)) a.numbers
+          ∙ sym (map-append (map (number_among new)) (printed_corners h.found) (from_least a.found ∷ []))
+          ∙ ap (map (map (number_among new))) (sym (map-append from_least h.found (a.found ∷ [])));
+    }
+
+pub gathered_all : (polygons : List Outline) (vertices : List Coordinates) (faces : List (List ℕ)) → AreGathered polygons vertices faces → AreNumbered polygons vertices faces
+gathered_all polygons vertices faces h =
+    let e : vertices ≡ vertices_of h.found = h.vertices_are ∙ grown_from_none (joined (printed_corners h.found)) in
+    record {
+      found = h.found;
+      corners = h.corners;
+      vertices_are = e;
+      faces_are = h.faces_are ∙ ap (λ (v : List Coordinates). map (map (number_among v)) (printed_corners h.found)) e;
+    }
+
+-- a polygon more of a list
+pub gathered_next : (polygons : List Outline) (i : ℕ) (s : Outline) → i < length polygons → s ≡ get_or polygons i s →
+    (vertices : List Coordinates) (faces : List (List ℕ)) → AreGathered (take i polygons) vertices faces →
+    (new : List Coordinates) (face : List ℕ) (all : List (List ℕ)) → AddsFace s vertices new face → all ≡ faces ++ face ∷ [] → AreGathered (take (i + 1) polygons) new all
+gathered_next polygons i s h is vertices faces g new face all a e =
+    let more : take i polygons ++ s ∷ [] ≡ take (i + 1) polygons =
+    ap (λ (t : Outline). take i polygons ++ t ∷ []) is ∙ sym (take-suc polygons i s h) ∙ ap (λ (n : ℕ). take n polygons) (sym (add-one i)) in
+    subst₂ (λ (ps : List Outline) (fs : List (List ℕ)). AreGathered ps new fs) more (sym e)
+    (gathered_more (take i polygons) vertices faces g s new face a)
+
+pub gathered_end : (polygons : List Outline) (i : ℕ) (vertices : List Coordinates) (faces : List (List ℕ)) → length polygons ≤ i → AreGathered (take i polygons) vertices faces → AreNumbered polygons vertices faces
+gathered_end polygons i vertices faces h g =
+    gathered_all polygons vertices faces (subst (λ (ps : List Outline). AreGathered ps vertices faces) (take_all i polygons h) g)

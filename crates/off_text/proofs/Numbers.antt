@@ -1,0 +1,158 @@
+-- Vertices keep their numbers while more points are numbered.
+use Rattle.std.proofs.Common.{◌≡◌, ℕ, ◌+◌, ◌<◌, ◌≤◌, Bool, true, false, cond, not, ◌||◌, ◌&&◌, eqb, List, [], ◌∷◌, ◌++◌, map, length, refl, sym, ap, ap₂, ◌∙◌, subst, arith, append_assoc, add-one, drop, take, get_or, drop-cons}
+use Rattle.std.proofs.lemmas.List.{map-append}
+use Rattle.std.specs.List.{list_any, position_or_len}
+use Rattle.std.specs.Ordering.{int_eq}
+use Rattle.std.proofs.lemmas.Bool.{false≢true, and_from, and_parts, or_left}
+use Rattle.std.proofs.lemmas.Bool.Decides.{Decides-int_eq}
+use Rattle.std.proofs.lemmas.List.Folds.{list_any-append, position_or_len_push}
+use Rattle.std.proofs.lemmas.List.Sums.{prefix_len-le-length}
+use Rattle.indexmap.specs.IndexSet.{insert_key}
+use Rattle.plane_predicate.specs.Space.{Coordinates}
+use Rattle.plane_predicate.proofs.Opposites.{same_point as equal_points}
+use Rattle.off_text.specs.Texts.{same_point, number_among, place_of_least, from_least}
+use Rattle.off_text.specs.Numbering.{grown}
+
+-- the point is numbered
+abbrev pub Known : List Coordinates → Coordinates → Type 0
+Known vertices p = list_any (same_point p) vertices ≡ true
+
+pub same_itself : (p : Coordinates) → same_point p p ≡ true
+same_itself p = and_from _ _ ((Decides-int_eq p.x p.x).1 refl) (and_from _ _ ((Decides-int_eq p.y p.y).1 refl) (and_from _ _ ((Decides-int_eq p.z p.z).1 refl) ((Decides-int_eq p.w p.w).1 refl)))
+
+pub same_equal : (p q : Coordinates) → same_point p q ≡ true → p ≡ q
+same_equal p q e =
+    let first = and_parts (int_eq p.x q.x) (int_eq p.y q.y && (int_eq p.z q.z && int_eq p.w q.w)) e in
+    let second = and_parts (int_eq p.y q.y) (int_eq p.z q.z && int_eq p.w q.w) first.1 in
+    let third = and_parts (int_eq p.z q.z) (int_eq p.w q.w) second.1 in
+    equal_points p.x p.y p.z p.w q.x q.y q.z q.w ((Decides-int_eq p.x q.x).0 first.0) ((Decides-int_eq p.y q.y).0 second.0) ((Decides-int_eq p.z q.z).0 third.0) ((Decides-int_eq p.w q.w).0 third.1)
+
+kept_step : (b t : Bool) (n m : ℕ) → (t ≡ true → n ≡ m) → (b || t) ≡ true → cond (not b) (1 + n) 0 ≡ cond (not b) (1 + m) 0
+kept_step true t n m more h = refl
+kept_step false t n m more h = ap (λ (k : ℕ). 1 + k) (more h)
+
+-- what stands behind the first place changes nothing
+pub place_kept : {X : Type 0} (p : X → Bool) (xs ys : List X) → list_any p xs ≡ true → position_or_len p (xs ++ ys) ≡ position_or_len p xs
+place_kept p [] ys h = absurd (false≢true h)
+place_kept p (x ∷ xs) ys h = kept_step (p x) (list_any p xs) (position_or_len p (xs ++ ys)) (position_or_len p xs) (place_kept p xs ys) h
+
+below_step : (b t : Bool) (n m : ℕ) → (t ≡ true → n < m) → (b || t) ≡ true → cond (not b) (1 + n) 0 < 1 + m
+below_step true t n m more h = omega arith
+below_step false t n m more h = omega (arith, more h)
+
+pub place_below : {X : Type 0} (p : X → Bool) (xs : List X) → list_any p xs ≡ true → position_or_len p xs < length xs
+place_below p [] h = absurd (false≢true h)
+place_below p (x ∷ xs) h = omega (arith, below_step (p x) (list_any p xs) (position_or_len p xs) (length xs) (place_below p xs) h)
+
+inserted_step : (p q : Coordinates) (vertices : List Coordinates) (b : Bool) → Known vertices q →
+    Known (cond b vertices (vertices ++ p ∷ [])) q × (number_among (cond b vertices (vertices ++ p ∷ [])) q ≡ number_among vertices q)
+inserted_step p q vertices true h = (h, refl)
+inserted_step p q vertices false h =
+    (list_any-append (same_point q) vertices (p ∷ []) ∙ or_left (list_any (same_point q) vertices) _ h, place_kept (same_point q) vertices (p ∷ []) h)
+
+-- a numbered point keeps its number
+pub inserted_keeps : (p q : Coordinates) (vertices : List Coordinates) → Known vertices q →
+    Known (insert_key same_point vertices p) q × (number_among (insert_key same_point vertices p) q ≡ number_among vertices q)
+inserted_keeps p q vertices h = inserted_step p q vertices (list_any (same_point p) vertices) h
+
+pub grown_keeps : (q : Coordinates) (points vertices : List Coordinates) → Known vertices q →
+    Known (grown vertices points) q × (number_among (grown vertices points) q ≡ number_among vertices q)
+grown_keeps q [] vertices h = (h, refl)
+grown_keeps q (p ∷ points) vertices h =
+    let one = inserted_keeps p q vertices h in
+    let rest = grown_keeps q points (insert_key same_point vertices p) one.0 in
+    (rest.0, rest.1 ∙ one.1)
+
+or_right : (b t : Bool) → t ≡ true → (b || t) ≡ true
+or_right true t h = refl
+or_right false t h = h
+
+last_place : (b : Bool) (n m : ℕ) → (b ≡ true → n ≡ m) → cond b (m + 0) n ≡ n
+last_place true n m h = omega (arith, h refl)
+last_place false n m h = refl
+
+eqb-equal : (n m : ℕ) → eqb n m ≡ true → n ≡ m
+eqb-equal n m e = grind (arith, e)
+
+own_step : (p : Coordinates) (vertices : List Coordinates) (b : Bool) → list_any (same_point p) vertices ≡ b →
+    Known (cond b vertices (vertices ++ p ∷ [])) p × (number_among (cond b vertices (vertices ++ p ∷ [])) p ≡ number_among vertices p)
+own_step p vertices true e = (e, refl)
+own_step p vertices false e = (
+  list_any-append (same_point p) vertices (p ∷ []) ∙ or_right (list_any (same_point p) vertices) _ (or_left (same_point p p) false (same_itself p)),
+  position_or_len_push (same_point p) vertices p
+      ∙ ap (λ (b : Bool). cond (eqb (number_among vertices p) (length vertices)) (length vertices + cond b 0 1) (number_among vertices p)) (same_itself p)
+      ∙ last_place (eqb (number_among vertices p) (length vertices)) (number_among vertices p) (length vertices) (λ e. eqb-equal (number_among vertices p) (length vertices) e),
+)
+
+-- a point has its number once it is numbered
+pub inserted_itself : (p : Coordinates) (vertices : List Coordinates) →
+    Known (insert_key same_point vertices p) p × (number_among (insert_key same_point vertices p) p ≡ number_among vertices p)
+inserted_itself p vertices = own_step p vertices (list_any (same_point p) vertices) refl
+
+-- points, of which each is numbered
+abbrev pub AllKnown : List Coordinates → List Coordinates → Type 0
+AllKnown vertices [] = Unit {0}
+AllKnown vertices (q ∷ points) = Known vertices q × AllKnown vertices points
+
+pub all_kept : (more vertices points : List Coordinates) → AllKnown vertices points →
+    AllKnown (grown vertices more) points × (map (number_among (grown vertices more)) points ≡ map (number_among vertices) points)
+all_kept more vertices [] h = (tt, refl)
+all_kept more vertices (q ∷ points) h =
+    let one = grown_keeps q more vertices h.0 in
+    let rest = all_kept more vertices points h.1 in
+    ((one.0, rest.0), ap₂ (λ (n : ℕ) (l : List ℕ). n ∷ l) one.1 rest.1)
+
+pub grown_knows : (points vertices : List Coordinates) → AllKnown (grown vertices points) points
+grown_knows [] vertices = tt
+grown_knows (p ∷ points) vertices =
+    ((grown_keeps p points (insert_key same_point vertices p) (inserted_itself p vertices).0).0, grown_knows points (insert_key same_point vertices p))
+
+pub grown-append : (xs ys vertices : List Coordinates) → grown vertices (xs ++ ys) ≡ grown (grown vertices xs) ys
+grown-append [] ys vertices = refl
+grown-append (x ∷ xs) ys vertices = grown-append xs ys (insert_key same_point vertices x)
+
+-- one more point of those that are still to be numbered
+pub numbered_step : (vertices rest : List Coordinates) (indices : List ℕ) (p : Coordinates) →
+    (indices ++ number_among vertices p ∷ []) ++ map (number_among (grown (insert_key same_point vertices p) rest)) rest
+    ≡ indices ++ map (number_among (grown vertices (p ∷ rest))) (p ∷ rest)
+numbered_step vertices rest indices p =
+    let own = inserted_itself p vertices in
+    let kept = grown_keeps p rest (insert_key same_point vertices p) own.0 in
+    append_assoc indices (number_among vertices p ∷ []) (map (number_among (grown (insert_key same_point vertices p) rest)) rest)
+    ∙ ap (λ (n : ℕ). indices ++ n ∷ map (number_among (grown (insert_key same_point vertices p) rest)) rest) (sym (kept.1 ∙ own.1))
+
+module _ (vertices new corners : List Coordinates) (i : ℕ) (p : Coordinates) (h : i < length corners) (is : p ≡ get_or corners i p) (grows : new ≡ insert_key same_point vertices p) where
+  next_left : drop i corners ≡ p ∷ drop (i + 1) corners
+  next_left = drop-cons corners i p h ∙ ap₂ (λ (c : Coordinates) (l : List Coordinates). c ∷ l) (sym is) (ap (λ (n : ℕ). drop n corners) (sym (add-one i)))
+
+  -- a corner more is numbered
+  pub corner_grows : (whole : List Coordinates) → grown vertices (drop i corners) ≡ whole → grown new (drop (i + 1) corners) ≡ whole
+  corner_grows whole e = ap (λ (v : List Coordinates). grown v (drop (i + 1) corners)) grows ∙ ap (grown vertices) (sym next_left) ∙ e
+
+  pub corner_numbers : (indices more whole : List ℕ) → more ≡ indices ++ number_among vertices p ∷ [] →
+      indices ++ map (number_among (grown vertices (drop i corners))) (drop i corners) ≡ whole →
+      more ++ map (number_among (grown new (drop (i + 1) corners))) (drop (i + 1) corners) ≡ whole
+  corner_numbers indices more whole m e =
+      ap₂ (λ (l : List ℕ) (v : List Coordinates). l ++ map (number_among (grown v (drop (i + 1) corners))) (drop (i + 1) corners)) m grows
+      ∙ numbered_step vertices (drop (i + 1) corners) indices p
+      ∙ ap (λ (l : List Coordinates). indices ++ map (number_among (grown vertices l)) l) (sym next_left)
+      ∙ e
+
+-- two parts of a face, numbered one after the other
+pub face_grows : (old new last back front : List Coordinates) → new ≡ grown old back → last ≡ grown new front → last ≡ grown old (back ++ front)
+face_grows old new last back front e f = f ∙ ap (λ (v : List Coordinates). grown v front) e ∙ sym (grown-append back front old)
+
+pub face_numbers : (old new last back front : List Coordinates) (first indices : List ℕ) → new ≡ grown old back → last ≡ grown new front →
+    first ≡ map (number_among new) back → indices ≡ first ++ map (number_among last) front → indices ≡ map (number_among last) (back ++ front)
+face_numbers old new last back front first indices e f h k =
+    let known : AllKnown new back = subst (λ (v : List Coordinates). AllKnown v back) (sym e) (grown_knows back old) in
+    let kept : map (number_among last) back ≡ map (number_among new) back =
+    ap (λ (v : List Coordinates). map (number_among v) back) f ∙ (all_kept front new back known).1 in
+    k ∙ ap (λ (l : List ℕ). l ++ map (number_among last) front) (h ∙ sym kept) ∙ sym (map-append (number_among last) back front)
+
+-- a place within a list, or behind it
+pub place_at_most : (p : Coordinates → Bool) (corners : List Coordinates) → position_or_len p corners ≤ length corners
+place_at_most p corners = prefix_len-le-length (λ c. not (p c)) corners
+
+pub round_parts : (corners : List Coordinates) (n : ℕ) (front back : List Coordinates) → n ≡ place_of_least corners → front ≡ take n corners → back ≡ drop n corners → back ++ front ≡ from_least corners
+round_parts corners n front back e f g = ap₂ (λ (x y : List Coordinates). x ++ y) g f ∙ ap (λ (m : ℕ). drop m corners ++ take m corners) e

@@ -1,0 +1,42 @@
+-- What the faces of a 4OFF text face and cover, and how many of them.
+use Rattle.std.specs.Prelude.{◌≡◌, ◌≢◌, ℕ, suc, ◌<◌, Bool, true, false, ◌==◌, if◌then◌else◌, List, [], length, slice_index, slice_index_or, pos, ◌<ℤ◌}
+use Rattle.plane_predicate.specs.Space.{Coefficients, Coordinates, value, turn}
+
+-- the place that follows place i round a list of this length
+abbrev pub after : ℕ → ℕ → ℕ
+after length i = if suc i == length then 0 else suc i
+
+abbrev pub origin : Coordinates
+origin = record { x = pos 0; y = pos 0; z = pos 0; w = pos 1 }
+
+-- corner i of a face, counted from 0
+abbrev pub corner : List Coordinates → List ℕ → ℕ → Coordinates
+corner vertices face i = slice_index_or vertices (slice_index face i) origin
+
+-- the face faces n: its corners are on n, and each other corner lies strictly left of each way from a corner to the next
+pub record Faces (vertices : List Coordinates) (n : Coefficients) (face : List ℕ) : Type 0 where
+  pub on : (i : ℕ) → i < length face → value n (corner vertices face i) ≡ pos 0
+  pub left : (i j : ℕ) → i < length face → j < length face → j ≢ i → j ≢ after (length face) i →
+      pos 0 <ℤ turn n (corner vertices face i) (corner vertices face (after (length face) i)) (corner vertices face j)
+
+-- the face faces n and covers the point: the point is on n, and strictly left of each way from a corner to the next
+pub record Covers (vertices : List Coordinates) (n : Coefficients) (p : Coordinates) (face : List ℕ) : Type 0 where
+  pub faces : Faces vertices n face
+  pub on : value n p ≡ pos 0
+  pub left : (i : ℕ) → i < length face → pos 0 <ℤ turn n (corner vertices face i) (corner vertices face (after (length face) i)) p
+
+-- exactly one of the faces has it
+pub record ExactlyOne (P : List ℕ → Type 0) (faces : List (List ℕ)) : Type 0 where
+  pub index : ℕ
+  pub within : index < length faces
+  pub has : P (slice_index_or faces index [])
+  pub only : (i : ℕ) → i < length faces → P (slice_index_or faces i []) → i ≡ index
+
+-- none of the faces has it
+abbrev pub NoneHas : (List ℕ → Type 0) → List (List ℕ) → Type 0
+NoneHas P faces = (i : ℕ) → i < length faces → P (slice_index_or faces i []) → ⊥
+
+-- exactly one where the test is true, and none where it is false
+abbrev pub OneExactlyWhere : Bool → (List ℕ → Type 0) → List (List ℕ) → Type 0
+OneExactlyWhere true P faces = ExactlyOne P faces
+OneExactlyWhere false P faces = NoneHas P faces

@@ -1,0 +1,6 @@
+pub mod Reading
+pub mod Boundaries
+pub mod Texts
+pub mod Numbering
+pub mod Prints
+pub mod Bounding

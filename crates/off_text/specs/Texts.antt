@@ -1,0 +1,76 @@
+-- The one 4OFF text of convex polygons.
+use Rattle.std.specs.Prelude.{◌≡◌, ℕ, ◌+◌, Bool, not, ◌&&◌, ◌||◌, List, [], ◌∷◌, ◌++◌, map, flat_map, take, drop, filter, length, int_lt}
+use Rattle.std.specs.List.{list_any, position_or_len}
+use Rattle.std.specs.Ordering.{int_eq}
+use Rattle.plane_predicate.specs.Space.{Coordinates}
+use Rattle.plane_polygon.specs.Polygons.{Outline, sides, AreReducedFrom}
+use Rattle.plane_polygon.specs.Parts.{corners}
+use Rattle.off_text.specs.Reading.{off_text}
+
+-- the order of corners: by x, then by y, z and w, as whole numbers
+abbrev pub comes_before : Coordinates → Coordinates → Bool
+comes_before p q = int_lt p.x q.x || int_eq p.x q.x && (int_lt p.y q.y || int_eq p.y q.y && (int_lt p.z q.z || int_eq p.z q.z && int_lt p.w q.w))
+
+-- no corner comes before p
+abbrev pub is_least : List Coordinates → Coordinates → Bool
+is_least corners p = not (list_any (λ q. comes_before q p) corners)
+
+-- the place of the first least corner, from 0
+abbrev pub place_of_least : List Coordinates → ℕ
+place_of_least corners = position_or_len (is_least corners) corners
+
+-- the same round of corners, from the least one on
+abbrev pub from_least : List Coordinates → List Coordinates
+from_least corners = drop (place_of_least corners) corners ++ take (place_of_least corners) corners
+
+abbrev pub same_point : Coordinates → Coordinates → Bool
+same_point p q = int_eq p.x q.x && (int_eq p.y q.y && (int_eq p.z q.z && int_eq p.w q.w))
+
+-- each point once, by first appearance
+abbrev pub distinct : List Coordinates → List Coordinates
+distinct [] = []
+distinct (p ∷ points) = p ∷ filter (λ q. not (same_point p q)) (distinct points)
+
+-- the number of a point among numbered vertices, from 0
+abbrev pub number_among : List Coordinates → Coordinates → ℕ
+number_among vertices p = position_or_len (same_point p) vertices
+
+-- the corners of faces, as they are printed: each face from its least corner on
+abbrev pub printed_corners : List (List Coordinates) → List (List Coordinates)
+printed_corners faces = map from_least faces
+
+-- the vertices by first appearance, face by face
+abbrev pub vertices_of : List (List Coordinates) → List Coordinates
+vertices_of faces = distinct (flat_map (λ corners. corners) (printed_corners faces))
+
+-- the faces as numbers of vertices
+abbrev pub faces_of : List (List Coordinates) → List (List ℕ)
+faces_of faces = map (map (number_among (vertices_of faces))) (printed_corners faces)
+
+-- the text of faces that are given by their corners, reduced and counterclockwise seen from the side that they face
+abbrev pub text_of : List (List Coordinates) → List ℕ
+text_of faces = off_text (vertices_of faces) (faces_of faces)
+
+-- how many corners polygons have together
+abbrev pub corner_count : List Outline → ℕ
+corner_count [] = 0
+corner_count (s ∷ polygons) = sides s + corner_count polygons
+
+-- these are the reduced corners of these polygons
+abbrev pub AreCornersOf : List Outline → List (List Coordinates) → Type 0
+AreCornersOf [] [] = Unit {0}
+AreCornersOf (s ∷ polygons) (found ∷ faces) = AreReducedFrom (corners s) found × AreCornersOf polygons faces
+AreCornersOf [] (found ∷ faces) = ⊥
+AreCornersOf (s ∷ polygons) [] = ⊥
+
+-- the bytes are the text of these polygons
+pub record IsTextOf (polygons : List Outline) (bytes : List ℕ) : Type 0 where
+  pub faces : List (List Coordinates)
+  pub corners : AreCornersOf polygons faces
+  pub spelled : bytes ≡ text_of faces
+
+-- the polygons have a number of vertices with this property
+pub record HasVertices (P : ℕ → Type 0) (polygons : List Outline) : Type 0 where
+  pub faces : List (List Coordinates)
+  pub corners : AreCornersOf polygons faces
+  pub count : P (length (vertices_of faces))

@@ -1,0 +1,56 @@
+//! Laws of texts, for the crates above. They are proved, and do nothing when they run.
+
+ghost use Rattle.std.specs.Prelude.{◌≡◌, ℕ, Bool, List, All};
+ghost use Rattle.plane_predicate.specs.Space.{Coefficients, Coordinates, IsInClosedWorld, IsPlane, IsPointTimes};
+ghost use Rattle.plane_polygon.specs.Polygons.{Outline};
+ghost use Rattle.csg_tree.specs.Formulas.{Formula, holds};
+ghost use Rattle.csg_tree.specs.FacePlanes.{IsOnOneFacePlane, just_ahead, just_behind};
+ghost use Rattle.csg_tree.specs.ProperTrees.{IsProper};
+ghost use Rattle.bsp_boolean.specs.Solids.{solid_of};
+ghost use Rattle.facet_cut.specs.Facets.{facets_of};
+ghost use Rattle.facet_cut.specs.Sides.{walk_by, CoversFacing, HasOneWhere};
+ghost use Rattle.off_text.specs.Reading.{off_text};
+ghost use Rattle.off_text.specs.Boundaries.{Covers, OneExactlyWhere};
+ghost use Rattle.off_text.specs.Prints.{AreFacesOf, Prints};
+ghost use Rattle.off_text.specs.Texts.{AreCornersOf, IsTextOf};
+ghost use Rattle.off_text.specs.Bounding.{IsBoundary};
+
+/// A 4OFF text has one list of vertices and one list of faces.
+pub fn one_reading()
+    ensures { (vertices vertices' : List Coordinates) (faces faces' : List (List ℕ)) →
+        off_text vertices faces ≡ off_text vertices' faces' → (vertices ≡ vertices') × (faces ≡ faces') }
+{}
+
+/// Polygons have one list of reduced corners each, and one text.
+pub fn one_text()
+    ensures corners { (polygons : List Outline) (faces faces' : List (List Coordinates)) → AreCornersOf polygons faces → AreCornersOf polygons faces' → faces ≡ faces' }
+    ensures text { (polygons : List Outline) (bytes bytes' : List ℕ) → IsTextOf polygons bytes → IsTextOf polygons bytes' → bytes ≡ bytes' }
+{}
+
+/// Printed faces cover a point as their facets do: where exactly one facet covers it facing a
+/// plane, exactly one face does, and where none does, none.
+pub fn faces_cover_as_facets()
+    ensures { (vertices : List Coordinates) (polygons : List Outline) (faces : List (List ℕ)) → AreFacesOf vertices polygons faces →
+        All (λ s. IsPlane s.plane) polygons → (n : Coefficients) → IsPlane n → (p : Coordinates) → (b : Bool) →
+        HasOneWhere b (CoversFacing n p) polygons → OneExactlyWhere b (Covers vertices n p) faces }
+{}
+
+/// A corner that is in the closed world box is there by its printed numbers too.
+pub fn printed_corners_stay_in_the_world()
+    ensures { (p q : Coordinates) → IsPointTimes p q → IsInClosedWorld p → IsInClosedWorld q }
+{}
+
+/// The leaf beside a face plane: for a point on exactly one face plane of a proper tree, the leaf that
+/// the walk of the tree's solid reaches with the point taken just behind that plane is inside exactly
+/// where the tree is solid just behind, and likewise just ahead.
+pub fn leaves_beside_face_planes()
+    ensures behind { (f : Formula) (n : Coefficients) (p : Coordinates) → IsProper f → IsOnOneFacePlane f n p →
+        walk_by (solid_of f) (just_behind n p) ≡ holds f (just_behind n p) }
+    ensures ahead { (f : Formula) (n : Coefficients) (p : Coordinates) → IsProper f → IsOnOneFacePlane f n p →
+        walk_by (solid_of f) (just_ahead n p) ≡ holds f (just_ahead n p) }
+{}
+
+/// The text of the facets of a proper tree's solid is the boundary of the tree.
+pub fn texts_are_boundaries()
+    ensures { (f : Formula) (bytes : List ℕ) → IsProper f → Prints (facets_of (solid_of f)) bytes → IsBoundary bytes f }
+{}

@@ -1,0 +1,17 @@
+//! The 4OFF text of the faces of a solid (Geomview manual, "OFF Files").
+#![tactic(auto)]
+
+mod laws;
+mod numbering;
+mod text;
+mod vertex;
+mod writing;
+
+pub use laws::{
+    faces_cover_as_facets, leaves_beside_face_planes, one_reading, one_text,
+    printed_corners_stay_in_the_world, texts_are_boundaries,
+};
+pub use text::{OffStop, off_bytes};
+
+#[cfg(test)]
+mod tests;
