@@ -192,14 +192,19 @@ fn counts_corners(rt: HostRuntime) {
     assert!(rt; matches!(off_bytes(alloc, &facets), Err(OffStop::TooManyCorners)));
 }
 
+// Adds 100 squares without a common corner, in a row.
+fn add_row(rt: &impl Abort, alloc: Global, facets: &mut Vec<Facet>, x: i64) {
+    for y in 0..100u16 {
+        add_square(rt, alloc, facets, x, i64::from(y) * 2, 1);
+    }
+}
+
 #[test]
 fn counts_vertices(rt: HostRuntime) {
     let alloc = rt.alloc();
     let mut facets = Vec::new(alloc);
-    for x in 0..150 {
-        for y in 0..100 {
-            add_square(&rt, alloc, &mut facets, 2 * x, 2 * y, 1);
-        }
+    for x in 0..150u16 {
+        add_row(&rt, alloc, &mut facets, i64::from(x) * 2);
     }
     let text = off_bytes(alloc, &facets).expect(&rt, "within the limits");
     assert!(rt;
