@@ -58,12 +58,24 @@ fn joined(alloc: Global, parts: &[&[u8]]) -> Result<Vec<u8>, Fail> {
     Ok(out)
 }
 
-fn repeated(alloc: Global, text: &[u8], times: usize) -> Result<Vec<u8>, Fail> {
-    let mut out = Vec::new(alloc);
+fn push_repeated(out: &mut Vec<u8>, text: &[u8], times: usize) -> Result<(), Fail> {
     for _ in 0..times {
         out.extend_from_slice(text)?;
     }
-    Ok(out)
+    Ok(())
+}
+
+// A text between so many others on either side.
+fn push_wrapped(
+    out: &mut Vec<u8>,
+    open: &[u8],
+    inside: &[u8],
+    close: &[u8],
+    times: usize,
+) -> Result<(), Fail> {
+    push_repeated(out, open, times)?;
+    out.extend_from_slice(inside)?;
+    push_repeated(out, close, times)
 }
 
 #[test]
@@ -441,18 +453,17 @@ struct Nesting {
 }
 
 fn nested(alloc: Global, nesting: &Nesting, times: usize) -> Result<Vec<u8>, Fail> {
-    let opened = repeated(alloc, nesting.open, times)?;
-    let closed = repeated(alloc, nesting.close, times)?;
-    joined(
-        alloc,
-        &[
-            nesting.before,
-            &opened,
-            nesting.inside,
-            &closed,
-            nesting.after,
-        ],
-    )
+    let mut out = Vec::new(alloc);
+    out.extend_from_slice(nesting.before)?;
+    push_wrapped(
+        &mut out,
+        nesting.open,
+        nesting.inside,
+        nesting.close,
+        times,
+    )?;
+    out.extend_from_slice(nesting.after)?;
+    Ok(out)
 }
 
 #[test]
@@ -615,7 +626,7 @@ fn counts_depth(rt: HostRuntime) -> Result<(), Fail> {
     for nesting in &cases {
         let within = nested(rt.alloc(), nesting, nesting.most)?;
         assert_eq!(rt; judged(rt.alloc(), &within)?.as_slice(), b"ok".as_slice());
-        let deeper = nested(rt.alloc(), nesting, nesting.most + 1)?;
+        let deeper = nested(rt.alloc(), nesting, nesting.most.wrapping_add(1))?;
         assert_eq!(rt; told(rt.alloc(), &deeper)?.as_slice(), nesting.fault);
     }
     Ok(())
@@ -633,9 +644,9 @@ fn tells_depth_from_other_faults(rt: HostRuntime) -> Result<(), Fail> {
         (b"for(1", b"1:69 Expected"),
     ];
     for (inside, answer) in blocks {
-        let opened = repeated(rt.alloc(), b"{", 64)?;
-        let closed = repeated(rt.alloc(), b"}", 64)?;
-        let source = joined(rt.alloc(), &[&opened, inside, &closed, b"\n"])?;
+        let mut source = Vec::new(rt.alloc());
+        push_wrapped(&mut source, b"{", inside, b"}", 64)?;
+        source.push(b'\n')?;
         assert_eq!(rt; judged(rt.alloc(), &source)?.as_slice(), answer);
     }
     let parentheses: [(&[u8], &[u8]); 5] = [
@@ -646,14 +657,18 @@ fn tells_depth_from_other_faults(rt: HostRuntime) -> Result<(), Fail> {
         (b"-1", b"1:68 Nested"),
     ];
     for (inside, answer) in parentheses {
-        let opened = repeated(rt.alloc(), b"(", 65)?;
-        let source = joined(rt.alloc(), &[b"x=", &opened, inside, b"\n"])?;
+        let mut source = Vec::new(rt.alloc());
+        source.extend_from_slice(b"x=")?;
+        push_wrapped(&mut source, b"(", inside, b"", 65)?;
+        source.push(b'\n')?;
         assert_eq!(rt; told(rt.alloc(), &source)?.as_slice(), answer);
     }
-    let opened = repeated(rt.alloc(), b"(", 64)?;
-    let closed = repeated(rt.alloc(), b")", 64)?;
-    let one = joined(rt.alloc(), &[&opened, b"1", &closed])?;
-    let source = joined(rt.alloc(), &[b"x=", &one, b"+", &one, b"*", &one, b";\n"])?;
+    let mut source = Vec::new(rt.alloc());
+    source.extend_from_slice(b"x=")?;
+    push_wrapped(&mut source, b"(", b"1", b")", 64)?;
+    source.push(b'+')?;
+    push_wrapped(&mut source, b"(", b"1", b")", 64)?;
+    source.extend_from_slice(b";\n")?;
     assert_eq!(rt; judged(rt.alloc(), &source)?.as_slice(), b"ok".as_slice());
     Ok(())
 }
