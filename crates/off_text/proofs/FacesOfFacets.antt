@@ -51,8 +51,8 @@ module _ (f : Formula) (vertices : List Coordinates) where
     of_formula = k.plane;
     faces = h.facing;
     boxed = λ i l. (
-      let c = h.corners i l in
-      in_world_reduced (corner_of s c.place) (corner vertices face i) c.times (k.boxed c.place c.within));
+        let c = h.corners i l in
+        in_world_reduced (corner_of s c.place) (corner vertices face i) c.times (k.boxed c.place c.within));
   }
 
   faces_bound : (polygons : List Outline) (faces : List (List ℕ)) → AreFacesOf vertices polygons faces →
