@@ -1,18 +1,18 @@
 -- The planes of a box are planes of a proper tree.
-use Rattle.std.proofs.Common.{◌≡◌, refl, ℕ, ◌<◌, ◌≤◌, List, [], ◌∷◌, length, arith, ℤ, pos, negsuc, ◌+ℤ◌, ◌-ℤ◌, ◌*ℤ◌}
+use Prim.Native.Nat.{◌∣◌}
+use Rattle.std.proofs.Common.{rules, ◌≡◌, refl, subst, unsigned_abs, ℕ, ◌≤◌, arith, ℤ, pos, negsuc}
 use Rattle.std.specs.Prelude.{All}
-use Rattle.std.proofs.lemmas.Int.{ints}
 use Rattle.std.proofs.Math.Nat.{eq-one_of_dvd-one}
 use Rattle.std.proofs.lemmas.List.Elements.{All-from_recursion, All-weaker}
-use Rattle.plane_predicate.specs.Space.{Coefficients, Coordinates, IsPlane, IsInReach, value}
-use Rattle.plane_predicate.proofs.IntegerRing.{sums}
+use Rattle.plane_predicate.specs.Space.{Coordinates, IsPlane, IsInReach}
+use Rattle.plane_predicate.proofs.IntegerRing.{sums, one_mul, zero_mul, mul_comm_ℤ}
 use Rattle.plane_polygon.specs.Boxes.{ComesInReach}
 use Rattle.csg_tree.specs.Formulas.{leaf}
 use Rattle.csg_tree.specs.ProperTrees.{IsLeafPlane, IsProper}
 use Rattle.script_server.specs.declared.meaning.Sides.{Sides}
 use Rattle.script_server.specs.Meaning.Boxes.{IsBox, plane, box_planes}
 
-point : ℕ → ℕ → ℕ → Coordinates
+abbrev point : ℕ → ℕ → ℕ → Coordinates
 point x y z = record { x = pos x; y = pos y; z = pos z; w = pos 1 }
 
 within_reach : (x y z : ℕ) → x ≤ 4095 → y ≤ 4095 → z ≤ 4095 → IsInReach (point x y z)
@@ -21,51 +21,54 @@ within_reach x y z hx hy hz = record { weight = omega (arith, sums); x_size = om
 origin_in_reach : IsInReach (point 0 0 0)
 origin_in_reach = within_reach 0 0 0 (omega arith) (omega arith) (omega arith)
 
-low_x : IsLeafPlane (plane (negsuc 0) (pos 0) (pos 0) (pos 0))
-low_x = record {
-  plane = record { a_size = omega arith; b_size = omega arith; c_size = omega arith; d_size = omega arith; directed = omega arith; reduced = λ k a b c d. eq-one_of_dvd-one a };
-  reach = record { point = point 0 0 0; reach = origin_in_reach; on = refl };
+-- the plane at a place along x, y or z, which lies behind it or ahead of it
+pub along_x : (a z : ℤ) (n : ℕ) → unsigned_abs a ≡ 1 → z ≡ pos n → n ≤ 4095 → IsPlane (record { a = a; b = pos 0; c = pos 0; d = z })
+along_x a z n one is small = record {
+  a_size = omega (arith, one);
+  b_size = search rules;
+  c_size = search rules;
+  d_size = rw is (omega arith);
+  directed = omega (arith, one);
+  reduced = λ k ha hb hc hd. eq-one_of_dvd-one (subst (λ (m : ℕ). k ∣ m) one ha);
 }
+
+pub along_y : (b z : ℤ) (n : ℕ) → unsigned_abs b ≡ 1 → z ≡ pos n → n ≤ 4095 → IsPlane (record { a = pos 0; b = b; c = pos 0; d = z })
+along_y b z n one is small = record {
+  a_size = search rules;
+  b_size = omega (arith, one);
+  c_size = search rules;
+  d_size = rw is (omega arith);
+  directed = omega (arith, one);
+  reduced = λ k ha hb hc hd. eq-one_of_dvd-one (subst (λ (m : ℕ). k ∣ m) one hb);
+}
+
+pub along_z : (c z : ℤ) (n : ℕ) → unsigned_abs c ≡ 1 → z ≡ pos n → n ≤ 4095 → IsPlane (record { a = pos 0; b = pos 0; c = c; d = z })
+along_z c z n one is small = record {
+  a_size = search rules;
+  b_size = search rules;
+  c_size = omega (arith, one);
+  d_size = rw is (omega arith);
+  directed = omega (arith, one);
+  reduced = λ k ha hb hc hd. eq-one_of_dvd-one (subst (λ (m : ℕ). k ∣ m) one hc);
+}
+
+low_x : IsLeafPlane (plane (negsuc 0) (pos 0) (pos 0) (pos 0))
+low_x = record { plane = along_x (negsuc 0) (pos 0) 0 refl refl (omega arith); reach = record { point = point 0 0 0; reach = origin_in_reach; on = refl } }
 
 low_y : IsLeafPlane (plane (pos 0) (negsuc 0) (pos 0) (pos 0))
-low_y = record {
-  plane = record { a_size = omega arith; b_size = omega arith; c_size = omega arith; d_size = omega arith; directed = omega arith; reduced = λ k a b c d. eq-one_of_dvd-one b };
-  reach = record { point = point 0 0 0; reach = origin_in_reach; on = refl };
-}
+low_y = record { plane = along_y (negsuc 0) (pos 0) 0 refl refl (omega arith); reach = record { point = point 0 0 0; reach = origin_in_reach; on = refl } }
 
 low_z : IsLeafPlane (plane (pos 0) (pos 0) (negsuc 0) (pos 0))
-low_z = record {
-  plane = record { a_size = omega arith; b_size = omega arith; c_size = omega arith; d_size = omega arith; directed = omega arith; reduced = λ k a b c d. eq-one_of_dvd-one c };
-  reach = record { point = point 0 0 0; reach = origin_in_reach; on = refl };
-}
-
--- a plane at a side's end: the point there is on it
-on_high_x : (n : ℕ) → value (plane (pos 1) (pos 0) (pos 0) (pos n)) (point n 0 0) ≡ pos 0
-on_high_x n = omega (arith, ints)
-
-on_high_y : (n : ℕ) → value (plane (pos 0) (pos 1) (pos 0) (pos n)) (point 0 n 0) ≡ pos 0
-on_high_y n = omega (arith, ints)
-
-on_high_z : (n : ℕ) → value (plane (pos 0) (pos 0) (pos 1) (pos n)) (point 0 0 n) ≡ pos 0
-on_high_z n = omega (arith, ints)
+low_z = record { plane = along_z (negsuc 0) (pos 0) 0 refl refl (omega arith); reach = record { point = point 0 0 0; reach = origin_in_reach; on = refl } }
 
 high_x : (n : ℕ) → n ≤ 4095 → IsLeafPlane (plane (pos 1) (pos 0) (pos 0) (pos n))
-high_x n h = record {
-  plane = record { a_size = omega arith; b_size = omega arith; c_size = omega arith; d_size = omega arith; directed = omega arith; reduced = λ k a b c d. eq-one_of_dvd-one a };
-  reach = record { point = point n 0 0; reach = within_reach n 0 0 h (omega arith) (omega arith); on = on_high_x n };
-}
+high_x n h = record { plane = along_x (pos 1) (pos n) n refl refl h; reach = record { point = point n 0 0; reach = within_reach n 0 0 h (omega arith) (omega arith); on = omega (arith, sums, one_mul (pos n), mul_comm_ℤ (pos n) (pos 1), zero_mul (pos 0)) } }
 
 high_y : (n : ℕ) → n ≤ 4095 → IsLeafPlane (plane (pos 0) (pos 1) (pos 0) (pos n))
-high_y n h = record {
-  plane = record { a_size = omega arith; b_size = omega arith; c_size = omega arith; d_size = omega arith; directed = omega arith; reduced = λ k a b c d. eq-one_of_dvd-one b };
-  reach = record { point = point 0 n 0; reach = within_reach 0 n 0 (omega arith) h (omega arith); on = on_high_y n };
-}
+high_y n h = record { plane = along_y (pos 1) (pos n) n refl refl h; reach = record { point = point 0 n 0; reach = within_reach 0 n 0 (omega arith) h (omega arith); on = omega (arith, sums, one_mul (pos n), mul_comm_ℤ (pos n) (pos 1), zero_mul (pos 0)) } }
 
 high_z : (n : ℕ) → n ≤ 4095 → IsLeafPlane (plane (pos 0) (pos 0) (pos 1) (pos n))
-high_z n h = record {
-  plane = record { a_size = omega arith; b_size = omega arith; c_size = omega arith; d_size = omega arith; directed = omega arith; reduced = λ k a b c d. eq-one_of_dvd-one c };
-  reach = record { point = point 0 0 n; reach = within_reach 0 0 n (omega arith) (omega arith) h; on = on_high_z n };
-}
+high_z n h = record { plane = along_z (pos 1) (pos n) n refl refl h; reach = record { point = point 0 0 n; reach = within_reach 0 0 n (omega arith) (omega arith) h; on = omega (arith, sums, one_mul (pos n), mul_comm_ℤ (pos n) (pos 1), zero_mul (pos 0)) } }
 
 leaf_planes : (s : Sides) → IsBox s → All IsLeafPlane (box_planes s)
 leaf_planes s box =

@@ -1,10 +1,10 @@
 -- The box that a program asks for.
-use Rattle.std.proofs.Common.{◌≡◌, ℕ, suc, ◌+◌, ◌<◌, ◌≤◌, Bool, true, false, cond, ◌&&◌, nat_lt, List, [], ◌∷◌, length, get_or, map, refl, sym, ap, ◌∙◌, subst, arith, codes, Option, Some, None, IfSome, IfNone}
+use Rattle.std.proofs.Common.{◌≡◌, ℕ, ◌<◌, ◌≤◌, Bool, true, false, cond, ◌&&◌, nat_lt, List, [], ◌∷◌, length, get_or, map, refl, sym, ap, ◌∙◌, subst, arith, codes, Option, Some, None, IfSome, IfNone}
 use Rattle.std.specs.Str.{bytes_eq}
 use Rattle.std.proofs.lemmas.Bool.Decides.{nat_tests}
 use Rattle.std.proofs.lemmas.Slice.Eq.{bytes_eq-Decides}
 use Rattle.text_place.specs.declared.fault.Place.{Place}
-use Rattle.scad_ast.specs.Terms.{Term, NumberTerm, TextTerm, TruthTerm, UndefTerm, ChildCountTerm, NameTerm, CallTerm, ParenTerm, ListTerm, RangeTerm, SteppedRangeTerm, PostfixTerm, UnaryTerm, ChainTerm, ChoiceTerm, Terms, no_terms, and_term, terms_from, ArgTerm, NamedTerm, PositionalTerm, StatementTerm, EmptyStatement, BlockStatement, AssignmentTerm, ModuleTerm, FunctionTerm, InstanceStatement, InstanceTerm, AnInstance, CoreTerm, IfTerm, IfElseTerm, ForTerm, IntersectionForTerm, ModuleCallTerm, BodyTerm, EmptyBody, BlockBody, InstanceBody}
+use Rattle.scad_ast.specs.Terms.{Term, NumberTerm, TextTerm, TruthTerm, UndefTerm, ChildCountTerm, NameTerm, CallTerm, ParenTerm, ListTerm, RangeTerm, SteppedRangeTerm, PostfixTerm, UnaryTerm, ChainTerm, ChoiceTerm, Terms, no_terms, and_term, terms_from, ArgTerm, NamedTerm, PositionalTerm, StatementTerm, EmptyStatement, BlockStatement, AssignmentTerm, ModuleTerm, FunctionTerm, InstanceStatement, AnInstance, CoreTerm, IfTerm, IfElseTerm, ForTerm, IntersectionForTerm, ModuleCallTerm, EmptyBody, BlockBody, InstanceBody}
 use Rattle.script_server.specs.declared.meaning.Sides.{Sides}
 use Rattle.script_server.specs.Meaning.Boxes.{IsBox, AreNumerals, IsSize, IsCube, IsBoxProgram}
 use Rattle.script_server.specs.BoxTrees.{side_from, sides_from, sides_among, sides_given, cube_sides, box_sides}

@@ -4,4 +4,5 @@ pub mod BoxPlanes
 pub mod OneSource
 pub mod OneAnswer
 pub mod OneReply
+pub mod Answering
 pub mod Served

@@ -1,5 +1,5 @@
 -- A tree has one answer, and an answer is a solid, a limit or a fault.
-use Rattle.std.proofs.Common.{◌≡◌, ◌≢◌, inl, inr, ℕ, ◌<◌, ◌≤◌, List, length, sym, ap, ◌∙◌, subst, arith}
+use Rattle.std.proofs.Common.{◌≡◌, ◌≢◌, inl, inr, ◌<◌, ◌≤◌, List, length, sym, ap, ◌∙◌, subst, arith}
 use Rattle.plane_polygon.specs.Polygons.{Outline}
 use Rattle.csg_tree.specs.Formulas.{Formula}
 use Rattle.bsp_tree.specs.Trees.{Tree}
@@ -22,7 +22,7 @@ one_written facets r q (inr a) (inl b) = absurd (omega (arith, a.0, b.0))
 one_written facets r q (inr (few, inl a)) (inr (few', inl b)) = a.1 ∙ sym b.1
 one_written facets r q (inr (few, inl a)) (inr (few', inr b)) = absurd (one_count facets a.0 b.0)
 one_written facets r q (inr (few, inr a)) (inr (few', inl b)) = absurd (one_count facets b.0 a.0)
-one_written facets r q (inr (few, inr a)) (inr (few', inr b)) = a.3 ∙ ap reply.Solid (one_text facets a.1 b.1 a.2 b.2) ∙ sym b.3
+one_written facets r q (inr (few, inr a)) (inr (few', inr b)) = a.1.2 ∙ ap reply.Solid (one_text facets a.1.0 b.1.0 a.1.1 b.1.1) ∙ sym b.1.2
 
 one_cut : (facets : List Outline) (r q : Reply) → IsCut facets r → IsCut facets q → r ≡ q
 one_cut facets r q (inl a) (inl b) = a.1 ∙ sym b.1
@@ -49,7 +49,7 @@ IsExportReply _ = ⊥
 written_reply : (facets : List Outline) (r : Reply) → IsWritten facets r → IsExportReply r
 written_reply facets r (inl a) = subst IsExportReply (sym a.1) tt
 written_reply facets r (inr (few, inl a)) = subst IsExportReply (sym a.1) tt
-written_reply facets r (inr (few, inr a)) = subst IsExportReply (sym a.3) tt
+written_reply facets r (inr (few, inr a)) = subst IsExportReply (sym a.1.2) tt
 
 cut_reply : (facets : List Outline) (r : Reply) → IsCut facets r → IsExportReply r
 cut_reply facets r (inl a) = subst IsExportReply (sym a.1) tt

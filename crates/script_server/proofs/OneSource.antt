@@ -1,5 +1,5 @@
 -- A source writes one program, or has one fault.
-use Rattle.std.proofs.Common.{◌≡◌, ⊎_elim, ℕ, List, refl, sym, ap, ap₂, ◌∙◌, subst}
+use Rattle.std.proofs.Common.{◌≡◌, ⊎_elim, ℕ, List, sym, ap, ap₂, ◌∙◌, subst}
 use Rattle.text_place.specs.declared.fault.Fault.{Fault}
 use Rattle.text_place.specs.declared.fault.FaultKind.{FaultKind}
 use Rattle.text_place.specs.declared.fault.Place.{Place}
@@ -45,12 +45,12 @@ pub one_fault : (source : List ℕ) (f g : Fault) → HasFault source f → HasF
 one_fault source f g h i =
     ⊎_elim
     (λ a. ⊎_elim
-        (λ b. (let both : Faults f.kind f.place ≡ Faults g.kind g.place = one_outcome source (Faults f.kind f.place) (Faults g.kind g.place) a b in
-            let kinds : f.kind ≡ g.kind = cc in
-            let places : f.place ≡ g.place = cc in
-            same_fault f g kinds places))
-        (λ b. absurd (no_list source b.0 f.kind f.place b.1 a)) i)
+    (λ b. (let both : Faults f.kind f.place ≡ Faults g.kind g.place = one_outcome source (Faults f.kind f.place) (Faults g.kind g.place) a b in
+    let kinds : f.kind ≡ g.kind = cc in
+    let places : f.place ≡ g.place = cc in
+    same_fault f g kinds places))
+    (λ b. absurd (no_list source b.0 f.kind f.place b.1 a)) i)
     (λ a. ⊎_elim
-        (λ b. absurd (no_list source a.0 g.kind g.place a.1 b))
-        (λ b. one_syntax_fault a.0 f g a.2 (subst (λ (ts : List Token). HasSyntaxFault 65 ts g) (one_list source b.0 a.0 b.1 a.1) b.2)) i)
+    (λ b. absurd (no_list source a.0 g.kind g.place a.1 b))
+    (λ b. one_syntax_fault a.0 f g a.2 (subst (λ (ts : List Token). HasSyntaxFault 65 ts g) (one_list source b.0 a.0 b.1 a.1) b.2)) i)
     h

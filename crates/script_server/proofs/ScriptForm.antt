@@ -1,8 +1,8 @@
 -- The lines of a script of one export, cut at their first newline and their first spaces.
-use Rattle.std.proofs.Common.{◌≡◌, ◌≢◌, ◌⊎◌, inl, inr, ⊎_elim, ℕ, ◌≤◌, List, [], ◌∷◌, ◌++◌, length, refl, sym, ap, ap₂, ◌∙◌, subst, arith, append_assoc, codes, Option, Some, None}
-use Rattle.std.specs.Prelude.{All, IfNone}
+use Rattle.std.proofs.Common.{◌≡◌, ◌≢◌, ◌⊎◌, inl, inr, ⊎_elim, ℕ, ◌≤◌, List, [], ◌∷◌, ◌++◌, length, refl, sym, ap, ap₂, ◌∙◌, subst, arith, append_assoc, codes}
+use Rattle.std.specs.Prelude.{All}
 use Rattle.std.proofs.lemmas.List.{append_cancel_left}
-use Rattle.std.proofs.lemmas.List.Elements.{All-head, All-tail, All-append, All-cons, All-nil, All-weaker, All-same, All-from_recursion}
+use Rattle.std.proofs.lemmas.List.Elements.{All-tail, All-append, All-cons, All-nil, All-weaker, All-same, All-from_recursion}
 use Rattle.script_reader.proofs.CutLaws.{one_cut, no_cut}
 use Rattle.script_reader.proofs.OneLine.{one_text}
 use Rattle.script_reader.specs.Lines.{newline}

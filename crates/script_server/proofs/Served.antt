@@ -1,5 +1,5 @@
 -- What was read and answered, in the words of the server's promises.
-use Rattle.std.proofs.Common.{◌≡◌, inl, inr, ℕ, ◌<◌, List, [], ◌∷◌, ◌++◌, length, refl, sym, ap, ◌∙◌, subst, arith, append-nil, append_assoc, codes, length-append, Option, Some, None}
+use Rattle.std.proofs.Common.{◌≡◌, inl, inr, ℕ, ◌<◌, ◌≤◌, List, [], ◌∷◌, ◌++◌, length, refl, sym, ap, ◌∙◌, subst, arith, append-nil, append_assoc, codes, length-append, Option, Some, None}
 use Rattle.std.specs.Prelude.{IfSome}
 use Rattle.std.specs.Io.KnownBytes.{Consumes, IsAtEnd}
 use Rattle.text_place.specs.Decimals.{numeral}
@@ -26,7 +26,9 @@ tail_longer tail text (inr e) = omega (arith, ap length e.1)
 
 -- the text of a line of 1,024 bytes has no more
 pub text_short : (bytes name text : List ℕ) → IsOneExport bytes name text → length text ≤ 1024
-text_short bytes name text h = omega (arith, h.short_line, length-append name (codes " put 1" ++ h.tail), length-append (codes " put 1") h.tail, tail_longer h.tail text h.tailed)
+text_short bytes name text h =
+    let short : length ((name ++ codes " put 1") ++ h.tail) ≤ 1024 = h.short_line in
+    omega (arith, short, length-append (name ++ codes " put 1") h.tail, tail_longer h.tail text h.tailed)
 
 -- the source of a session of one line
 one_line : (line : List ℕ) → (line ++ newline) ++ [] ≡ line ++ newline
@@ -55,8 +57,8 @@ all_read P None left' bytes read end p = tt
 all_read P (Some xs) None bytes read end p = absurd read
 all_read P (Some xs) (Some ys) bytes read end p = subst P (sym (read ∙ ap (λ (more : List ℕ). bytes ++ more) end ∙ append-nil bytes)) p
 
-regrouped : (front name one two : List ℕ) → (((front ++ name) ++ newline) ++ one) ++ two ≡ front ++ (name ++ (newline ++ (one ++ (two ++ []))))
-regrouped front name one two = simp (append_assoc, append-nil)
+regrouped : (front one two : List ℕ) → (front ++ one) ++ two ≡ front ++ (one ++ (two ++ []))
+regrouped front one two = simp (append_assoc, append-nil)
 
 -- the name, the reply to a put and the reply to an export
 pub both_answered : (name line named first out : List ℕ) (r : Reply) → Exports (line ++ newline) r → IsBounded (line ++ newline) r
@@ -68,5 +70,5 @@ both_answered name line named first out r exported bounded hn hf ho = (
   bounded,
   ho
       ∙ ap (λ (l : List ℕ). l ++ (numeral 2 ++ reply_body r)) (hf ∙ ap (λ (l : List ℕ). l ++ (numeral 1 ++ reply_body (reply.Lines 1))) hn)
-      ∙ regrouped (codes "== ") name (numeral 1 ++ reply_body (reply.Lines 1)) (numeral 2 ++ reply_body r),
+      ∙ regrouped ((codes "== " ++ name) ++ newline) (numeral 1 ++ reply_body (reply.Lines 1)) (numeral 2 ++ reply_body r),
 )

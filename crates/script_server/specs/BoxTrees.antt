@@ -1,5 +1,5 @@
 -- The box that a program asks for, by its tree.
-use Rattle.std.specs.Prelude.{ℕ, ◌≤◌, List, [], ◌∷◌, ◌&&◌, cond, nat_lt, nat_le, Option, Some, None, codes}
+use Rattle.std.specs.Prelude.{ℕ, List, [], ◌∷◌, ◌&&◌, cond, nat_lt, Option, Some, None, codes}
 use Rattle.std.specs.Str.{bytes_eq}
 use Rattle.scad_ast.specs.Terms.{Term, Terms, no_terms, and_term, NumberTerm, ListTerm, ArgTerm, PositionalTerm, StatementTerm, InstanceStatement, AnInstance, CoreTerm, ModuleCallTerm, EmptyBody}
 use Rattle.script_server.specs.declared.meaning.Sides.{Sides}

@@ -4,12 +4,12 @@
 mod answers;
 mod cube;
 mod export;
-mod planes;
-mod solids;
 pub mod meaning;
+mod planes;
 mod script;
 mod server;
 mod slices;
+mod solids;
 
 pub use server::{Status, serve};
 

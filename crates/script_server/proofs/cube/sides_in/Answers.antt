@@ -1,4 +1,4 @@
-use Rattle.std.proofs.Common.{◌≡◌, ◌∙◌}
+use Rattle.std.proofs.Common.{◌∙◌}
 use Rattle.scad_ast.specs.ExprView.{term_of}
 use Rattle.script_server.proofs.BoxPrograms.{no_sides, more_sides, three_sides}
 use Rattle.script_server.proofs.cube.sides_in.Goals as goal
