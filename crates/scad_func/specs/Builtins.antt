@@ -1,0 +1,158 @@
+-- Built-in functions (OpenSCAD User Manual, in the profile of this server).
+use Rattle.std.specs.Prelude.{ℕ, zero, suc, ◌+◌, ◌^◌, ℤ, pos, negsuc, ◌*ℤ◌, Bool, true, false, List, [], ◌∷◌, ◌++◌, length, Option, Some, None, Result, Ok, Err, nat_eq, nat_lt, int_lt, unsigned_abs, codes, if◌then◌else◌}
+use Rattle.std.specs.Str.{bytes_eq}
+use Rattle.text_place.specs.declared.fault.FaultKind.{FaultKind}
+use Rattle.text_place.specs.declared.fault.FaultKind.TheVariants.{TypeMismatch, ZeroDivisor, NotWhole, TooLarge, LongList}
+use Rattle.scad_value.specs.Values.{Val, NumberVal, TruthVal, TextVal, ListVal, RangeVal, UndefVal, Vals, no_vals, and_val, vals_from, count_of, is_long}
+use Rattle.scad_value.specs.Operators.{Answer, and_then, sized, number, made}
+
+pub data Builtin : Type 0 where
+  Abs : Builtin
+  Sign : Builtin
+  Floor : Builtin
+  Ceil : Builtin
+  Round : Builtin
+  Min : Builtin
+  Max : Builtin
+  Len : Builtin
+  Concat : Builtin
+  Pow : Builtin
+  IsUndef : Builtin
+  IsNum : Builtin
+  IsBool : Builtin
+  IsList : Builtin
+
+-- names and what they stand for
+abbrev pub named_in : {A : Type 0} → List (List ℕ × A) → List ℕ → Option A
+named_in [] name = None
+named_in (p ∷ ps) name = if bytes_eq p.0 name then Some p.1 else named_in ps name
+
+abbrev pub builtin_of : List ℕ → Option Builtin
+builtin_of name = named_in
+    ((codes "abs", Abs) ∷ (codes "sign", Sign) ∷ (codes "floor", Floor) ∷ (codes "ceil", Ceil) ∷ (codes "round", Round) ∷ (codes "min", Min)
+    ∷ (codes "max", Max) ∷ (codes "len", Len) ∷ (codes "concat", Concat) ∷ (codes "pow", Pow) ∷ (codes "is_undef", IsUndef)
+    ∷ (codes "is_num", IsNum) ∷ (codes "is_bool", IsBool) ∷ (codes "is_list", IsList) ∷ []) name
+
+-- functions of OpenSCAD that the profile leaves out
+abbrev pub is_among : List (List ℕ) → List ℕ → Bool
+is_among [] name = false
+is_among (n ∷ ns) name = if bytes_eq n name then true else is_among ns name
+
+abbrev pub is_left_out : List ℕ → Bool
+is_left_out = is_among
+    (codes "str" ∷ codes "chr" ∷ codes "ord" ∷ codes "sin" ∷ codes "cos" ∷ codes "tan" ∷ codes "asin" ∷ codes "acos" ∷ codes "atan" ∷ codes "atan2"
+    ∷ codes "sqrt" ∷ codes "exp" ∷ codes "ln" ∷ codes "log" ∷ codes "rands" ∷ codes "norm" ∷ codes "cross" ∷ codes "search" ∷ codes "lookup"
+    ∷ codes "is_string" ∷ codes "is_function" ∷ codes "version" ∷ codes "version_num" ∷ codes "parent_module" ∷ [])
+
+-- whether a function takes so many arguments
+abbrev pub takes : Builtin → ℕ → Bool
+takes Min n = nat_lt 0 n
+takes Max n = nat_lt 0 n
+takes Concat n = true
+takes Pow n = nat_eq n 2
+takes builtin n = nat_eq n 1
+
+-- of one number
+abbrev pub of_number : (ℤ → Answer ℤ) → Val → Answer Val
+of_number row (NumberVal n) = number (row n)
+of_number row v = Err TypeMismatch
+
+abbrev pub sign_of : ℤ → ℤ
+sign_of (pos zero) = pos 0
+sign_of (pos (suc n)) = pos 1
+sign_of (negsuc n) = negsuc 0
+
+-- the least or the greatest of numbers, by the test of what goes before
+abbrev pub better : (ℤ → ℤ → Bool) → ℤ → ℤ → ℤ
+better before a b = if before b a then b else a
+
+abbrev pub best_of : (ℤ → ℤ → Bool) → ℤ → Vals → Answer Val
+best_of before best no_vals = Ok (NumberVal best)
+best_of before best (and_val (NumberVal n) vs) = best_of before (better before best n) vs
+best_of before best (and_val v vs) = Err TypeMismatch
+
+abbrev pub best : (ℤ → ℤ → Bool) → Vals → Answer Val
+best before (and_val (NumberVal n) vs) = best_of before n vs
+best before vs = Err TypeMismatch
+
+-- of one or more numbers, or of one list of numbers that isn't empty
+abbrev pub best_among : (ℤ → ℤ → Bool) → Vals → Answer Val
+best_among before (and_val (ListVal items) no_vals) = best before items
+best_among before vs = best before vs
+
+abbrev pub length_of : Val → Answer Val
+length_of (ListVal items) = Ok (NumberVal (pos (count_of items)))
+length_of (TextVal bytes) = Ok (NumberVal (pos (length bytes)))
+length_of v = Err TypeMismatch
+
+-- the items of each list, and another value as one item
+abbrev pub list_of : Vals → List Val
+list_of no_vals = []
+list_of (and_val v vs) = v ∷ list_of vs
+
+abbrev pub items_as : Val → List Val
+items_as (ListVal items) = list_of items
+items_as v = v ∷ []
+
+abbrev pub joined_items : Vals → List Val
+joined_items no_vals = []
+joined_items (and_val v vs) = items_as v ++ joined_items vs
+
+-- a power with an exponent from 0 on
+abbrev pub power : ℤ → ℕ → ℤ
+power b zero = pos 1
+power b (suc e) = b *ℤ power b e
+
+abbrev pub power_row : ℤ → ℤ → Answer ℤ
+power_row b (pos e) = sized (power b e)
+power_row (pos zero) (negsuc e) = Err ZeroDivisor
+power_row (pos (suc zero)) (negsuc e) = Ok (pos 1)
+power_row (negsuc zero) (negsuc e) = Ok (power (negsuc zero) (suc e))
+power_row b (negsuc e) = Err NotWhole
+
+abbrev pub power_of : Val → Val → Answer Val
+power_of (NumberVal b) (NumberVal e) = number (power_row b e)
+power_of v w = Err TypeMismatch
+
+abbrev pub is_undef : Val → Bool
+is_undef UndefVal = true
+is_undef v = false
+
+abbrev pub is_num : Val → Bool
+is_num (NumberVal n) = true
+is_num v = false
+
+abbrev pub is_bool : Val → Bool
+is_bool (TruthVal b) = true
+is_bool v = false
+
+abbrev pub is_list : Val → Bool
+is_list (ListVal items) = true
+is_list v = false
+
+-- of one value
+abbrev pub of_one : (Val → Answer Val) → Vals → Answer Val
+of_one row (and_val v no_vals) = row v
+of_one row vs = Err TypeMismatch
+
+-- of two values
+abbrev pub of_two : (Val → Val → Answer Val) → Vals → Answer Val
+of_two row (and_val v (and_val w no_vals)) = row v w
+of_two row vs = Err TypeMismatch
+
+-- the table, for as many values as the function takes
+abbrev pub applied : Builtin → Vals → Answer Val
+applied Abs vs = of_one (of_number (λ n. sized (pos (unsigned_abs n)))) vs
+applied Sign vs = of_one (of_number (λ n. Ok (sign_of n))) vs
+applied Floor vs = of_one (of_number (λ n. Ok n)) vs
+applied Ceil vs = of_one (of_number (λ n. Ok n)) vs
+applied Round vs = of_one (of_number (λ n. Ok n)) vs
+applied Min vs = best_among int_lt vs
+applied Max vs = best_among (λ a b. int_lt b a) vs
+applied Len vs = of_one length_of vs
+applied Concat vs = made (Ok (ListVal (vals_from (joined_items vs))))
+applied Pow vs = of_two power_of vs
+applied IsUndef vs = of_one (λ v. Ok (TruthVal (is_undef v))) vs
+applied IsNum vs = of_one (λ v. Ok (TruthVal (is_num v))) vs
+applied IsBool vs = of_one (λ v. Ok (TruthVal (is_bool v))) vs
+applied IsList vs = of_one (λ v. Ok (TruthVal (is_list v))) vs
