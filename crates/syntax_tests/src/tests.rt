@@ -455,13 +455,7 @@ struct Nesting {
 fn nested(alloc: Global, nesting: &Nesting, times: usize) -> Result<Vec<u8>, Fail> {
     let mut out = Vec::new(alloc);
     out.extend_from_slice(nesting.before)?;
-    push_wrapped(
-        &mut out,
-        nesting.open,
-        nesting.inside,
-        nesting.close,
-        times,
-    )?;
+    push_wrapped(&mut out, nesting.open, nesting.inside, nesting.close, times)?;
     out.extend_from_slice(nesting.after)?;
     Ok(out)
 }
