@@ -1,3 +1,4 @@
+mod Climbs
 mod Depths
 mod Lengths
 mod Levels

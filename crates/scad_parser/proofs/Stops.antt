@@ -20,6 +20,9 @@ goes_on : {A X B Y : Type 0} (item : A → X) (list : B → Y) → GoesOn item l
 goes_on item list (Fault fault at) q r h e = h (fault, at.now) e
 goes_on item list NoMemory q r h e = tt
 
+pub operand_goes : GoesOn term_of term_of
+operand_goes = goes_on term_of term_of
+
 pub item_goes : GoesOn term_of terms_of
 item_goes = goes_on term_of terms_of
 

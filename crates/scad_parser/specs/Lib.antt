@@ -1,3 +1,4 @@
+pub mod Climbing
 pub mod Parsing
 pub mod TokenClasses
 pub mod Views

@@ -1,5 +1,5 @@
 -- The classes of tokens that the parser tells apart.
-use Rattle.std.specs.Prelude.{ℕ, List, [], ◌∷◌, Option, Some, None, drop, length}
+use Rattle.std.specs.Prelude.{ℕ, List, [], ◌∷◌, ◌++◌, Option, Some, None, drop, length}
 use Rattle.scad_grammar.specs.Classes.{numeral, name, child_count, text, end, true_word, false_word, undef_word, open_bracket_sign, dot_sign, plus_sign, minus_sign, times_sign, divide_sign, remainder_sign, less_sign, greater_sign, less_equal_sign, greater_equal_sign, equal_sign, not_equal_sign, and_sign, or_sign, not_sign, reserved_class, symbol_class}
 use Rattle.scad_grammar.specs.Grammar.{levels}
 use Rattle.scad_grammar.specs.Reads.{firsts_of_expression}
@@ -8,7 +8,15 @@ use Rattle.scad_grammar.specs.Faults.{left_out, left_out_of_expressions}
 use Rattle.scad_parser.specs.declared.class.Level.{Level}
 use Rattle.scad_parser.specs.declared.class.Level.TheVariants.{Or, And, Equal, Order, Sum, Product}
 use Rattle.scad_parser.specs.declared.class.Class.{Class}
-use Rattle.scad_parser.specs.declared.class.Class.TheVariants.{Name, End, Word, Sign, Literal, Operator, UnaryOperator, Suffix, Mark, LoopWord, Expression, Statement, Body, LeftOut, LeftOutOfExpressions}
+use Rattle.scad_parser.specs.declared.class.Class.TheVariants.{Name, End, Word, Sign, Literal, Operator, BinaryOperator, UnaryOperator, Suffix, Mark, LoopWord, Expression, Statement, Body, LeftOut, LeftOutOfExpressions}
+
+-- all operators of two sides
+abbrev pub joined : List (List ℕ) → List ℕ
+joined [] = []
+joined (ops ∷ levels) = ops ++ joined levels
+
+abbrev pub binary_signs : List ℕ
+binary_signs = joined levels
 
 abbrev pub unary_signs : List ℕ
 unary_signs = minus_sign ∷ plus_sign ∷ not_sign ∷ []
@@ -62,6 +70,7 @@ classes_of (Word word) = reserved_class word ∷ []
 classes_of (Sign symbol) = symbol_class symbol ∷ []
 classes_of Literal = literals
 classes_of (Operator level) = operators_at level
+classes_of BinaryOperator = binary_signs
 classes_of UnaryOperator = unary_signs
 classes_of Suffix = suffix_signs
 classes_of Mark = mark_signs

@@ -2,7 +2,7 @@ ghost use Rattle.std.specs.Prelude.{◌≡◌, cond};
 ghost use Rattle.scad_grammar.specs.Classes.{class_of, listed, symbol_class, reserved_class, child_count, special};
 ghost use Rattle.scad_grammar.specs.Faults.{left_out};
 ghost use Rattle.scad_grammar.specs.StatementReads.{mark_signs, firsts_of_core};
-ghost use Rattle.scad_parser.specs.TokenClasses.{classes_of, operators_at, tighter_than, unary_signs};
+ghost use Rattle.scad_parser.specs.TokenClasses.{classes_of, operators_at, tighter_than, binary_signs, unary_signs};
 
 use scad_lexer::{Reserved, Symbol, TokenKind};
 
@@ -62,6 +62,8 @@ pub enum Class {
     /// A numeral, a text, a truth, `undef` or `$children`.
     Literal,
     Operator(Level),
+    /// An operator of any level.
+    BinaryOperator,
     UnaryOperator,
     /// What may begin an index or a member.
     Suffix,
@@ -105,6 +107,7 @@ impl Class {
         match self {
             Class::Sign(wanted) => symbol == wanted,
             Class::Operator(level) => level.has(symbol),
+            Class::BinaryOperator => is_binary(symbol),
             Class::UnaryOperator => is_unary(symbol),
             Class::Suffix => matches!(symbol, Symbol::OpenBracket | Symbol::Dot),
             Class::Mark => is_mark(symbol),
@@ -150,6 +153,27 @@ impl Class {
             _ => false,
         }
     }
+}
+
+fn is_binary(symbol: Symbol) -> bool
+    ensures { result ≡ listed binary_signs (symbol_class symbol) }
+{
+    matches!(
+        symbol,
+        Symbol::Or
+            | Symbol::And
+            | Symbol::Equal
+            | Symbol::NotEqual
+            | Symbol::Less
+            | Symbol::LessEqual
+            | Symbol::Greater
+            | Symbol::GreaterEqual
+            | Symbol::Plus
+            | Symbol::Minus
+            | Symbol::Times
+            | Symbol::Divide
+            | Symbol::Remainder
+    )
 }
 
 fn is_unary(symbol: Symbol) -> bool

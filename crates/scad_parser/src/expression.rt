@@ -4,9 +4,10 @@ ghost use Rattle.scad_ast.specs.ExprView.{term_of, terms_of, links_of, link_of, 
 ghost use Rattle.scad_grammar.specs.Classes.{among, is, other_than};
 ghost use Rattle.scad_grammar.specs.Classes.{comma_sign, close_bracket_sign, close_parenthesis_sign};
 ghost use Rattle.scad_grammar.specs.Faults.{Reads, one};
-ghost use Rattle.scad_grammar.specs.Grammar.{link as link_at, chain_of as chain_at, postfix_of as postfix_at, filled_of};
+ghost use Rattle.scad_grammar.specs.Grammar.{levels, link as link_at, chain_of as chain_at, postfix_of as postfix_at, filled_of};
 ghost use Rattle.scad_grammar.specs.Reading.{starts, both, mapped, many, trailing, in_front};
 ghost use Rattle.scad_grammar.specs.Reads.{expr_read, operand_read, arg_in, args_read, primary_read, unary_read, postfix_read, suffix_read, chain_read, choice_read, name_read, paren_read, bracket_read, rest_read};
+ghost use Rattle.scad_parser.specs.Climbing.{climb_read};
 ghost use Rattle.scad_parser.specs.TokenClasses.{levels_at, operators_at, levels_below, literals, suffix_signs};
 ghost use Rattle.scad_parser.specs.Views.{Gives};
 
@@ -37,7 +38,7 @@ fn choice<'a>(alloc: Global, tokens: &'a [Token], depth: u32) -> Parsed<'a, Expr
     ensures value { Gives (λ p. (term_of p.0, p.1.now)) result (choice_read (expr_read depth) (operand_read depth) (primary_read (expr_read depth) (arg_in depth (expr_read depth))) tokens.now) }
     ensures rest { IfOk result (λ p. length p.1.now ≤ length tokens.now) }
 {
-    let (test, rest) = chain(alloc, tokens, depth, Level::Or)?;
+    let (test, rest) = chain(alloc, tokens, depth)?;
     if !Class::Sign(Symbol::Question).begins(rest) {
         return Ok((test, rest));
     }
@@ -52,15 +53,14 @@ fn choice<'a>(alloc: Global, tokens: &'a [Token], depth: u32) -> Parsed<'a, Expr
     Ok((Expr::Choice(place, test, mark.place, yes, no), rest))
 }
 
-/// A chain of the operators of a level.
+/// Operands with operators between them.
 #[cycle(expression)]
-fn chain<'a>(alloc: Global, tokens: &'a [Token], depth: u32, level: Level) -> Parsed<'a, Expr>
-    ensures value { Gives (λ p. (term_of p.0, p.1.now)) result (chain_read (levels_at level) (unary_read (expr_read depth) (operand_read depth) (primary_read (expr_read depth) (arg_in depth (expr_read depth)))) tokens.now) }
+fn chain<'a>(alloc: Global, tokens: &'a [Token], depth: u32) -> Parsed<'a, Expr>
+    ensures value { Gives (λ p. (term_of p.0, p.1.now)) result (chain_read levels (unary_read (expr_read depth) (operand_read depth) (primary_read (expr_read depth) (arg_in depth (expr_read depth)))) tokens.now) }
     ensures rest { IfOk result (λ p. length p.1.now ≤ length tokens.now) }
 {
-    let (first, rest) = side(alloc, tokens, depth, level)?;
-    let (links, rest) = links(alloc, rest, depth, level)?;
-    Ok((chain_of(alloc, first, links)?, rest))
+    let (first, rest) = unary(alloc, tokens, depth)?;
+    climb(alloc, first, rest, depth, Level::Or)
 }
 
 /// What the operators of a level stand between.
@@ -69,9 +69,45 @@ fn side<'a>(alloc: Global, tokens: &'a [Token], depth: u32, level: Level) -> Par
     ensures value { Gives (λ p. (term_of p.0, p.1.now)) result (chain_read (levels_below level) (unary_read (expr_read depth) (operand_read depth) (primary_read (expr_read depth) (arg_in depth (expr_read depth)))) tokens.now) }
     ensures rest { IfOk result (λ p. length p.1.now ≤ length tokens.now) }
 {
+    let (first, rest) = unary(alloc, tokens, depth)?;
+    climb_below(alloc, first, rest, depth, level)
+}
+
+/// An operand that was read, with the operators behind it of a level and of those that bind more tightly.
+#[cycle(expression)]
+fn climb<'a>(
+    alloc: Global,
+    first: Expr,
+    tokens: &'a [Token],
+    depth: u32,
+    level: Level,
+) -> Parsed<'a, Expr>
+    ensures value { Gives (λ p. (term_of p.0, p.1.now)) result (climb_read (levels_at level) (unary_read (expr_read depth) (operand_read depth) (primary_read (expr_read depth) (arg_in depth (expr_read depth)))) (term_of first) tokens.now) }
+    ensures rest { IfOk result (λ p. length p.1.now ≤ length tokens.now) }
+{
+    if !Class::BinaryOperator.begins(tokens) {
+        return Ok((first, tokens));
+    }
+    let (first, rest) = climb_below(alloc, first, tokens, depth, level)?;
+    let (links, rest) = links(alloc, rest, depth, level)?;
+    Ok((chain_of(alloc, first, links)?, rest))
+}
+
+/// The same with the operators that bind more tightly than those of a level.
+#[cycle(expression)]
+fn climb_below<'a>(
+    alloc: Global,
+    first: Expr,
+    tokens: &'a [Token],
+    depth: u32,
+    level: Level,
+) -> Parsed<'a, Expr>
+    ensures value { Gives (λ p. (term_of p.0, p.1.now)) result (climb_read (levels_below level) (unary_read (expr_read depth) (operand_read depth) (primary_read (expr_read depth) (arg_in depth (expr_read depth)))) (term_of first) tokens.now) }
+    ensures rest { IfOk result (λ p. length p.1.now ≤ length tokens.now) }
+{
     match level.tighter() {
-        Some(tighter) => chain(alloc, tokens, depth, tighter),
-        None => unary(alloc, tokens, depth),
+        Some(tighter) => climb(alloc, first, tokens, depth, tighter),
+        None => Ok((first, tokens)),
     }
 }
 

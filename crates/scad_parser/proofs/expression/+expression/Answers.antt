@@ -3,14 +3,16 @@ use Rattle.std.proofs.lemmas.List.{map-append}
 use Rattle.std.proofs.lemmas.Result.{err_from_is_err_and}
 use Rattle.scad_ast.specs.ExprView.{term_of, link_of, suffix_of, arg_of}
 use Rattle.scad_grammar.specs.Classes.{close_bracket_sign, close_parenthesis_sign, among, other_than}
+use Rattle.scad_grammar.specs.Grammar.{levels}
 use Rattle.scad_grammar.specs.Reads.{expr_read, arg_in}
 use Rattle.scad_grammar.proofs.Readers.{loop_more, loop_end, loop_fault}
-use Rattle.scad_parser.specs.TokenClasses.{operators_at, suffix_signs}
+use Rattle.scad_parser.specs.TokenClasses.{operators_at, levels_below, suffix_signs}
+use Rattle.scad_parser.proofs.Climbs.{chain_climbs, chain_stops, climb_none}
 use Rattle.scad_parser.proofs.Levels.{below_some}
 use Rattle.scad_parser.proofs.Depths.{expr_none, expr_deeper, operand_none, operand_deeper}
 use Rattle.scad_parser.proofs.Lengths.{link_strict, suffix_strict, expr_shorter, arg_shorter}
 use Rattle.scad_parser.proofs.Loops.{many_more, many_end, many_stop, trailing_more, trailing_end, trailing_stop}
-use Rattle.scad_parser.proofs.Stops.{item_goes, link_goes, suffix_goes, arg_goes}
+use Rattle.scad_parser.proofs.Stops.{operand_goes, item_goes, link_goes, suffix_goes, arg_goes}
 use Rattle.scad_parser.proofs.Trees.{terms_roll, links_roll, suffixes_roll, args_roll}
 use Rattle.scad_parser.proofs.expression.+expression.Goals as goal
 
@@ -26,8 +28,22 @@ operand-returns-then-depth-eq0-clause-value t c = rw (operand_none c.args.depth 
 pub operand-returns-clause-value : goal.operand-returns-clause-value
 operand-returns-clause-value t c = rw (operand_deeper c.args.depth c.args.tokens.now c.if-depth-eq0.false) c.unary.ensures.value
 
-pub side-returns-in-Some-clause-value : goal.side-returns-in-Some-clause-value
-side-returns-in-Some-clause-value t c = rw (below_some c.args.level c.in-Some.tighter (sym c.tighter.ensures ∙ c.in-Some.is)) c.chain.ensures.value
+pub chain-returns-clause-value : goal.chain-returns-clause-value
+chain-returns-clause-value t c = rw (chain_climbs levels _ c.args.tokens.now, c.in_ok-first.ensures.value) c.climb.ensures.value
+
+pub side-returns-clause-value : goal.side-returns-clause-value
+side-returns-clause-value t c = rw (chain_climbs (levels_below c.args.level) _ c.args.tokens.now, c.in_ok-first.ensures.value) c.climb_below.ensures.value
+
+pub side-returns-in_err-first-clause-value : goal.side-returns-in_err-first-clause-value
+side-returns-in_err-first-clause-value t c =
+    let p = err_from_is_err_and c.from_residual.result c.from_residual.ensures.1 in
+    rw (p.1, p.2) (operand_goes c.in_err-first.field-0.0 _ _ (λ x e. chain_stops (levels_below c.args.level) _ c.args.tokens.now x e) c.in_err-first.ensures.value)
+
+pub climb-returns-then-not-begins-clause-value : goal.climb-returns-then-not-begins-clause-value
+climb-returns-then-not-begins-clause-value t c = climb_none c.args.level _ (term_of c.args.first) c.args.tokens.now (sym c.begins.ensures ∙ c.if-not-begins.true)
+
+pub climb_below-returns-in-Some-clause-value : goal.climb_below-returns-in-Some-clause-value
+climb_below-returns-in-Some-clause-value t c = rw (below_some c.args.level c.in-Some.tighter (sym c.tighter.ensures ∙ c.in-Some.is)) c.climb.ensures.value
 
 pub primary-returns-then-begins-clause-value : goal.primary-returns-then-begins-clause-value
 primary-returns-then-begins-clause-value t c = c.literal.ensures.value (expr_read c.args.depth) (arg_in c.args.depth (expr_read c.args.depth))

@@ -53,17 +53,23 @@ decreases-postfix l = 64 * l.depth + 6
 abbrev pub decreases-unary : goal.decreases-unary
 decreases-unary l = 64 * l.depth + 7
 
+abbrev pub decreases-climb_below : goal.decreases-climb_below
+decreases-climb_below l = 64 * l.depth + (5 * tighter_levels l.level + 8)
+
 abbrev pub decreases-side : goal.decreases-side
-decreases-side l = 64 * l.depth + (4 * tighter_levels l.level + 8)
+decreases-side l = 64 * l.depth + (5 * tighter_levels l.level + 9)
 
 abbrev pub decreases-link : goal.decreases-link
-decreases-link l = 64 * l.depth + (4 * tighter_levels l.level + 9)
+decreases-link l = 64 * l.depth + (5 * tighter_levels l.level + 10)
 
 abbrev pub decreases-links : goal.decreases-links
-decreases-links l = 64 * l.depth + (4 * tighter_levels l.level + 10)
+decreases-links l = 64 * l.depth + (5 * tighter_levels l.level + 11)
+
+abbrev pub decreases-climb : goal.decreases-climb
+decreases-climb l = 64 * l.depth + (5 * tighter_levels l.level + 12)
 
 abbrev pub decreases-chain : goal.decreases-chain
-decreases-chain l = 64 * l.depth + (4 * tighter_levels l.level + 11)
+decreases-chain l = 64 * l.depth + 38
 
 abbrev pub decreases-choice : goal.decreases-choice
 decreases-choice l = 64 * l.depth + 40
