@@ -1,14 +1,15 @@
-ghost use Rattle.std.specs.Prelude.{◌≡◌, ◌≤◌, ◌<◌, ◌∷◌, [], true, IfOk, length, map};
+ghost use Rattle.std.specs.Prelude.{◌≡◌, ◌≤◌, ◌<◌, ◌∷◌, [], true, Some, IfOk, length, map};
 ghost use Rattle.scad_ast.specs.Terms.{Term, ArgTerm};
 ghost use Rattle.scad_ast.specs.ExprView.{term_of, terms_of, links_of, link_of, suffix_of, suffixes_of, arg_of, args_of};
 ghost use Rattle.scad_grammar.specs.Classes.{among, is, other_than};
-ghost use Rattle.scad_grammar.specs.Classes.{comma_sign, close_bracket_sign, close_parenthesis_sign};
+ghost use Rattle.scad_grammar.specs.Classes.{comma_sign, close_bracket_sign, close_parenthesis_sign, colon_sign, question_sign};
 ghost use Rattle.scad_grammar.specs.Faults.{Reads, one};
-ghost use Rattle.scad_grammar.specs.Grammar.{levels, link as link_at, chain_of as chain_at, postfix_of as postfix_at, filled_of};
+ghost use Rattle.scad_grammar.specs.Grammar.{levels, link as link_at, chain_of as chain_at, choice_of as choice_at, postfix_of as postfix_at, unary_of as unary_at, named_of, filled_of};
+ghost use Rattle.scad_grammar.specs.Languages.{pair_of, second_of};
 ghost use Rattle.scad_grammar.specs.Reading.{starts, both, mapped, many, trailing, in_front};
-ghost use Rattle.scad_grammar.specs.Reads.{expr_read, operand_read, arg_in, args_read, primary_read, unary_read, postfix_read, suffix_read, chain_read, choice_read, name_read, paren_read, bracket_read, rest_read};
+ghost use Rattle.scad_grammar.specs.Reads.{expr_read, operand_read, arg_in, args_read, primary_read, unary_read, postfix_read, suffix_read, chain_read, choice_read, name_read, paren_read, bracket_read, range_read, rest_read, in_parentheses};
 ghost use Rattle.scad_parser.specs.Climbing.{climb_read};
-ghost use Rattle.scad_parser.specs.TokenClasses.{levels_at, operators_at, levels_below, literals, suffix_signs};
+ghost use Rattle.scad_parser.specs.TokenClasses.{levels_at, operators_at, levels_below, literals, suffix_signs, unary_signs};
 ghost use Rattle.scad_parser.specs.Views.{Gives};
 
 use crate::class::{Class, Level};
@@ -42,7 +43,17 @@ fn choice<'a>(alloc: Global, tokens: &'a [Token], depth: u32) -> Parsed<'a, Expr
     if !Class::Sign(Symbol::Question).begins(rest) {
         return Ok((test, rest));
     }
-    let (mark, rest) = take(Class::Sign(Symbol::Question), rest)?;
+    chosen(alloc, test, rest, depth)
+}
+
+/// A choice by what was read before its `?`.
+#[cycle(expression)]
+#[inline(never)]
+fn chosen<'a>(alloc: Global, test: Expr, tokens: &'a [Token], depth: u32) -> Parsed<'a, Expr>
+    ensures value { Gives (λ p. (term_of p.0, p.1.now)) result (mapped (choice_at (term_of test)) (mapped Some (both pair_of (one (is question_sign)) (both pair_of (expr_read depth) (both second_of (one (is colon_sign)) (expr_read depth))))) tokens.now) }
+    ensures rest { IfOk result (λ p. length p.1.now ≤ length tokens.now) }
+{
+    let (mark, rest) = take(Class::Sign(Symbol::Question), tokens)?;
     let (yes, rest) = expr(alloc, rest, depth)?;
     let (_, rest) = take(Class::Sign(Symbol::Colon), rest)?;
     let (no, rest) = expr(alloc, rest, depth)?;
@@ -88,6 +99,22 @@ fn climb<'a>(
     if !Class::BinaryOperator.begins(tokens) {
         return Ok((first, tokens));
     }
+    climbed(alloc, first, tokens, depth, level)
+}
+
+/// The same level by level, whether or not an operator stands there.
+#[cycle(expression)]
+#[inline(never)]
+fn climbed<'a>(
+    alloc: Global,
+    first: Expr,
+    tokens: &'a [Token],
+    depth: u32,
+    level: Level,
+) -> Parsed<'a, Expr>
+    ensures value { Gives (λ p. (term_of p.0, p.1.now)) result (climb_read (levels_at level) (unary_read (expr_read depth) (operand_read depth) (primary_read (expr_read depth) (arg_in depth (expr_read depth)))) (term_of first) tokens.now) }
+    ensures rest { IfOk result (λ p. length p.1.now ≤ length tokens.now) }
+{
     let (first, rest) = climb_below(alloc, first, tokens, depth, level)?;
     let (links, rest) = links(alloc, rest, depth, level)?;
     Ok((chain_of(alloc, first, links)?, rest))
@@ -113,6 +140,7 @@ fn climb_below<'a>(
 
 /// The operators of a level and what stands behind each.
 #[cycle(expression)]
+#[inline(never)]
 fn links<'a>(alloc: Global, tokens: &'a [Token], depth: u32, level: Level) -> Parsed<'a, Links>
     ensures value { Gives (λ p. (links_of p.0, p.1.now)) result (many (among (operators_at level)) (both link_at (one (among (operators_at level))) (chain_read (levels_below level) (unary_read (expr_read depth) (operand_read depth) (primary_read (expr_read depth) (arg_in depth (expr_read depth)))))) tokens.now) }
     ensures rest { IfOk result (λ p. length p.1.now ≤ length tokens.now) }
@@ -146,9 +174,20 @@ fn unary<'a>(alloc: Global, tokens: &'a [Token], depth: u32) -> Parsed<'a, Expr>
     ensures value { Gives (λ p. (term_of p.0, p.1.now)) result (unary_read (expr_read depth) (operand_read depth) (primary_read (expr_read depth) (arg_in depth (expr_read depth))) tokens.now) }
     ensures rest { IfOk result (λ p. length p.1.now ≤ length tokens.now) }
 {
-    if !Class::UnaryOperator.begins(tokens) {
-        return postfix(alloc, tokens, depth);
+    if Class::UnaryOperator.begins(tokens) {
+        signed(alloc, tokens, depth)
+    } else {
+        postfix(alloc, tokens, depth)
     }
+}
+
+/// An operator and its operand.
+#[cycle(expression)]
+#[inline(never)]
+fn signed<'a>(alloc: Global, tokens: &'a [Token], depth: u32) -> Parsed<'a, Expr>
+    ensures value { Gives (λ p. (term_of p.0, p.1.now)) result (both unary_at (one (among unary_signs)) (operand_read depth) tokens.now) }
+    ensures rest { IfOk result (λ p. length p.1.now ≤ length tokens.now) }
+{
     let (operator, rest) = take(Class::UnaryOperator, tokens)?;
     let (of, rest) = operand(alloc, rest, depth)?;
     let op = unary_operator(&operator.kind);
@@ -174,12 +213,26 @@ fn postfix<'a>(alloc: Global, tokens: &'a [Token], depth: u32) -> Parsed<'a, Exp
     ensures rest { IfOk result (λ p. length p.1.now ≤ length tokens.now) }
 {
     let (of, rest) = primary(alloc, tokens, depth)?;
-    let (suffixes, rest) = suffixes(alloc, rest, depth)?;
+    if !Class::Suffix.begins(rest) {
+        return Ok((of, rest));
+    }
+    suffixed(alloc, of, rest, depth)
+}
+
+/// A primary that was read, with its indexes and members.
+#[cycle(expression)]
+#[inline(never)]
+fn suffixed<'a>(alloc: Global, of: Expr, tokens: &'a [Token], depth: u32) -> Parsed<'a, Expr>
+    ensures value { Gives (λ p. (term_of p.0, p.1.now)) result (mapped (postfix_at (term_of of)) (many (among suffix_signs) (suffix_read (expr_read depth))) tokens.now) }
+    ensures rest { IfOk result (λ p. length p.1.now ≤ length tokens.now) }
+{
+    let (suffixes, rest) = suffixes(alloc, tokens, depth)?;
     Ok((postfix_of(alloc, of, suffixes)?, rest))
 }
 
 /// Indexes and members.
 #[cycle(expression)]
+#[inline(never)]
 fn suffixes<'a>(alloc: Global, tokens: &'a [Token], depth: u32) -> Parsed<'a, Suffixes>
     ensures value { Gives (λ p. (suffixes_of p.0, p.1.now)) result (many (among suffix_signs) (suffix_read (expr_read depth)) tokens.now) }
     ensures rest { IfOk result (λ p. length p.1.now ≤ length tokens.now) }
@@ -232,6 +285,7 @@ fn primary<'a>(alloc: Global, tokens: &'a [Token], depth: u32) -> Parsed<'a, Exp
 
 /// An expression in parentheses.
 #[cycle(expression)]
+#[inline(never)]
 fn paren<'a>(alloc: Global, tokens: &'a [Token], depth: u32) -> Parsed<'a, Expr>
     ensures value { Gives (λ p. (term_of p.0, p.1.now)) result (paren_read (expr_read depth) tokens.now) }
     ensures rest { IfOk result (λ p. length p.1.now ≤ length tokens.now) }
@@ -268,11 +322,21 @@ fn named<'a>(alloc: Global, tokens: &'a [Token], depth: u32) -> Parsed<'a, Expr>
     ensures rest { IfOk result (λ p. length p.1.now ≤ length tokens.now) }
 {
     let (name, rest) = take(Class::Name, tokens)?;
-    let bytes = bytes(alloc, &name.kind)?;
-    if !Class::Sign(Symbol::OpenParenthesis).begins(rest) {
-        return Ok((Expr::Name(name.place, bytes), rest));
+    if Class::Sign(Symbol::OpenParenthesis).begins(rest) {
+        return called(alloc, name, rest, depth);
     }
-    let (_, rest) = take(Class::Sign(Symbol::OpenParenthesis), rest)?;
+    Ok((Expr::Name(name.place, bytes(alloc, &name.kind)?), rest))
+}
+
+/// A call of a function, by its name.
+#[cycle(expression)]
+#[inline(never)]
+fn called<'a>(alloc: Global, name: &Token, tokens: &'a [Token], depth: u32) -> Parsed<'a, Expr>
+    ensures value { Gives (λ p. (term_of p.0, p.1.now)) result (mapped (named_of name.now) (mapped Some (in_parentheses (args_read (arg_in depth (expr_read depth))))) tokens.now) }
+    ensures rest { IfOk result (λ p. length p.1.now ≤ length tokens.now) }
+{
+    let bytes = bytes(alloc, &name.kind)?;
+    let (_, rest) = take(Class::Sign(Symbol::OpenParenthesis), tokens)?;
     let (args, rest) = args(alloc, rest, depth)?;
     let (_, rest) = take(Class::Sign(Symbol::CloseParenthesis), rest)?;
     Ok((Expr::Call(name.place, bytes, args), rest))
@@ -280,6 +344,7 @@ fn named<'a>(alloc: Global, tokens: &'a [Token], depth: u32) -> Parsed<'a, Expr>
 
 /// A list or a range.
 #[cycle(expression)]
+#[inline(never)]
 fn bracket<'a>(alloc: Global, tokens: &'a [Token], depth: u32) -> Parsed<'a, Expr>
     ensures value { Gives (λ p. (term_of p.0, p.1.now)) result (bracket_read (expr_read depth) tokens.now) }
     ensures rest { IfOk result (λ p. length p.1.now ≤ length tokens.now) }
@@ -313,6 +378,22 @@ fn filled<'a>(
         let (items, rest) = more_items(alloc, items, tokens, depth)?;
         return Ok((Expr::List(bracket.place, items), rest));
     }
+    range(alloc, bracket, first, tokens, depth)
+}
+
+/// A range, by its bracket and its first expression.
+#[cycle(expression)]
+#[inline(never)]
+fn range<'a>(
+    alloc: Global,
+    bracket: &Token,
+    first: Expr,
+    tokens: &'a [Token],
+    depth: u32,
+) -> Parsed<'a, Expr>
+    ensures value { Gives (λ p. (term_of p.0, p.1.now)) result (mapped (filled_of bracket.now (term_of first)) (range_read (expr_read depth)) tokens.now) }
+    ensures rest { IfOk result (λ p. length p.1.now ≤ length tokens.now) }
+{
     let first = Box::new(alloc, first)?;
     let (_, rest) = take(Class::Sign(Symbol::Colon), tokens)?;
     let (next, rest) = expr(alloc, rest, depth)?;

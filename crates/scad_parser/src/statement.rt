@@ -88,6 +88,7 @@ pub fn statements<'a>(alloc: Global, tokens: &'a [Token], depth: u32) -> Parsed<
 }
 
 /// `name = value;`, where a name and a `=` stand.
+#[inline(never)]
 fn assignment<'a>(alloc: Global, tokens: &'a [Token], depth: u32) -> Parsed<'a, Statement>
     requires { names_value tokens.now ≡ true }
     ensures value { (q : Reads StatementTerm) → Gives (λ p. (statement_of p.0, p.1.now)) result (ahead assigned (is name) (is assign_sign) (ended_read (expr_read depth)) q tokens.now) }
@@ -112,6 +113,7 @@ fn ended<'a>(alloc: Global, tokens: &'a [Token], depth: u32) -> Parsed<'a, Expr>
 
 /// A module, a function or an instance.
 #[cycle(statement)]
+#[inline(never)]
 fn definition<'a>(
     alloc: Global,
     tokens: &'a [Token],
@@ -133,6 +135,7 @@ fn definition<'a>(
 
 /// A module.
 #[cycle(statement)]
+#[inline(never)]
 fn module<'a>(alloc: Global, tokens: &'a [Token], depth: u32) -> Parsed<'a, Statement>
     ensures value { Gives (λ p. (statement_of p.0, p.1.now)) result (module_read (param_in depth (expr_read depth)) (body_read depth) tokens.now) }
     ensures shorter { IfOk result (λ p. length p.1.now < length tokens.now) }
@@ -149,6 +152,7 @@ fn module<'a>(alloc: Global, tokens: &'a [Token], depth: u32) -> Parsed<'a, Stat
 }
 
 /// A function, by the depth of its expression and that of its defaults.
+#[inline(never)]
 fn function<'a>(alloc: Global, tokens: &'a [Token], depth: u32, inner: u32) -> Parsed<'a, Statement>
     ensures value { Gives (λ p. (statement_of p.0, p.1.now)) result (function_read (expr_read depth) (param_in inner (expr_read inner)) tokens.now) }
     ensures shorter { IfOk result (λ p. length p.1.now < length tokens.now) }
@@ -307,6 +311,7 @@ fn core<'a>(alloc: Global, tokens: &'a [Token], depth: u32) -> Parsed<'a, Core>
 
 /// An `if`, with its `else` where one stands.
 #[cycle(statement)]
+#[inline(never)]
 fn branch<'a>(alloc: Global, tokens: &'a [Token], depth: u32) -> Parsed<'a, Core>
     ensures value { Gives (λ p. (core_of p.0, p.1.now)) result (if_read (expr_read depth) (body_read depth) tokens.now) }
     ensures shorter { IfOk result (λ p. length p.1.now < length tokens.now) }
@@ -337,6 +342,7 @@ fn condition<'a>(alloc: Global, tokens: &'a [Token], depth: u32) -> Parsed<'a, E
 
 /// A `for` or an `intersection_for`.
 #[cycle(statement)]
+#[inline(never)]
 fn repetition<'a>(alloc: Global, tokens: &'a [Token], depth: u32) -> Parsed<'a, Core>
     ensures value { Gives (λ p. (core_of p.0, p.1.now)) result (loop_read (binder_in depth (expr_read depth)) (body_read depth) tokens.now) }
     ensures shorter { IfOk result (λ p. length p.1.now < length tokens.now) }

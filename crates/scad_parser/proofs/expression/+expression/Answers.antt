@@ -1,13 +1,13 @@
-use Rattle.std.proofs.Common.{rules, ◌∙◌, [], ◌∷◌, sym, ap, arith}
+use Rattle.std.proofs.Common.{rules, refl, ◌∙◌, [], ◌∷◌, sym, ap, arith}
 use Rattle.std.proofs.lemmas.List.{map-append}
 use Rattle.std.proofs.lemmas.Result.{err_from_is_err_and}
 use Rattle.scad_ast.specs.ExprView.{term_of, link_of, suffix_of, arg_of}
 use Rattle.scad_grammar.specs.Classes.{close_bracket_sign, close_parenthesis_sign, among, other_than}
 use Rattle.scad_grammar.specs.Grammar.{levels}
-use Rattle.scad_grammar.specs.Reads.{expr_read, arg_in}
+use Rattle.scad_grammar.specs.Reads.{expr_read, arg_in, suffix_read}
 use Rattle.scad_grammar.proofs.Readers.{loop_more, loop_end, loop_fault}
 use Rattle.scad_parser.specs.TokenClasses.{operators_at, levels_below, suffix_signs}
-use Rattle.scad_parser.proofs.Climbs.{chain_climbs, chain_stops, climb_none}
+use Rattle.scad_parser.proofs.Climbs.{chain_climbs, chain_stops, climb_none, many_none}
 use Rattle.scad_parser.proofs.Levels.{below_some}
 use Rattle.scad_parser.proofs.Depths.{expr_none, expr_deeper, operand_none, operand_deeper}
 use Rattle.scad_parser.proofs.Lengths.{link_strict, suffix_strict, expr_shorter, arg_shorter}
@@ -44,6 +44,10 @@ climb-returns-then-not-begins-clause-value t c = climb_none c.args.level _ (term
 
 pub climb_below-returns-in-Some-clause-value : goal.climb_below-returns-in-Some-clause-value
 climb_below-returns-in-Some-clause-value t c = rw (below_some c.args.level c.in-Some.tighter (sym c.tighter.ensures ∙ c.in-Some.is)) c.climb.ensures.value
+
+pub postfix-returns-then-not-begins-clause-value : goal.postfix-returns-then-not-begins-clause-value
+postfix-returns-then-not-begins-clause-value t c =
+    rw (c.in_ok-of.ensures.value, many_none (among suffix_signs) (suffix_read (expr_read c.args.depth)) c.in_ok-of.rest.now (sym c.begins.ensures ∙ c.if-not-begins.true)) refl
 
 pub primary-returns-then-begins-clause-value : goal.primary-returns-then-begins-clause-value
 primary-returns-then-begins-clause-value t c = c.literal.ensures.value (expr_read c.args.depth) (arg_in c.args.depth (expr_read c.args.depth))

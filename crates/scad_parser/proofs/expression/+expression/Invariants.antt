@@ -29,11 +29,17 @@ decreases-more_args l = 64 * l.depth + 2
 abbrev pub decreases-args : goal.decreases-args
 decreases-args l = 64 * l.depth + 3
 
+abbrev pub decreases-called : goal.decreases-called
+decreases-called l = 64 * l.depth + 4
+
 abbrev pub decreases-named : goal.decreases-named
-decreases-named l = 64 * l.depth + 4
+decreases-named l = 64 * l.depth + 5
 
 abbrev pub decreases-more_items : goal.decreases-more_items
 decreases-more_items l = 64 * l.depth + 1
+
+abbrev pub decreases-range : goal.decreases-range
+decreases-range l = 64 * l.depth + 1
 
 abbrev pub decreases-filled : goal.decreases-filled
 decreases-filled l = 64 * l.depth + 2
@@ -45,34 +51,46 @@ abbrev pub decreases-paren : goal.decreases-paren
 decreases-paren l = 64 * l.depth + 1
 
 abbrev pub decreases-primary : goal.decreases-primary
-decreases-primary l = 64 * l.depth + 5
+decreases-primary l = 64 * l.depth + 6
+
+abbrev pub decreases-suffixed : goal.decreases-suffixed
+decreases-suffixed l = 64 * l.depth + 3
 
 abbrev pub decreases-postfix : goal.decreases-postfix
-decreases-postfix l = 64 * l.depth + 6
+decreases-postfix l = 64 * l.depth + 7
+
+abbrev pub decreases-signed : goal.decreases-signed
+decreases-signed l = 64 * l.depth + 1
 
 abbrev pub decreases-unary : goal.decreases-unary
-decreases-unary l = 64 * l.depth + 7
+decreases-unary l = 64 * l.depth + 8
 
 abbrev pub decreases-climb_below : goal.decreases-climb_below
-decreases-climb_below l = 64 * l.depth + (5 * tighter_levels l.level + 8)
+decreases-climb_below l = 64 * l.depth + (6 * tighter_levels l.level + 9)
 
 abbrev pub decreases-side : goal.decreases-side
-decreases-side l = 64 * l.depth + (5 * tighter_levels l.level + 9)
+decreases-side l = 64 * l.depth + (6 * tighter_levels l.level + 10)
 
 abbrev pub decreases-link : goal.decreases-link
-decreases-link l = 64 * l.depth + (5 * tighter_levels l.level + 10)
+decreases-link l = 64 * l.depth + (6 * tighter_levels l.level + 11)
 
 abbrev pub decreases-links : goal.decreases-links
-decreases-links l = 64 * l.depth + (5 * tighter_levels l.level + 11)
+decreases-links l = 64 * l.depth + (6 * tighter_levels l.level + 12)
+
+abbrev pub decreases-climbed : goal.decreases-climbed
+decreases-climbed l = 64 * l.depth + (6 * tighter_levels l.level + 13)
 
 abbrev pub decreases-climb : goal.decreases-climb
-decreases-climb l = 64 * l.depth + (5 * tighter_levels l.level + 12)
+decreases-climb l = 64 * l.depth + (6 * tighter_levels l.level + 14)
 
 abbrev pub decreases-chain : goal.decreases-chain
-decreases-chain l = 64 * l.depth + 38
+decreases-chain l = 64 * l.depth + 45
 
 abbrev pub decreases-choice : goal.decreases-choice
-decreases-choice l = 64 * l.depth + 40
+decreases-choice l = 64 * l.depth + 46
+
+abbrev pub decreases-chosen : goal.decreases-chosen
+decreases-chosen l = 64 * l.depth + 1
 
 abbrev pub invariant-links-links : goal.invariant-links-links
 invariant-links-links l = record {
