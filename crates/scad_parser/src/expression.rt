@@ -116,6 +116,9 @@ fn climbed<'a>(
     ensures rest { IfOk result (λ p. length p.1.now ≤ length tokens.now) }
 {
     let (first, rest) = climb_below(alloc, first, tokens, depth, level)?;
+    if !Class::Operator(level).begins(rest) {
+        return Ok((first, rest));
+    }
     let (links, rest) = links(alloc, rest, depth, level)?;
     Ok((chain_of(alloc, first, links)?, rest))
 }
@@ -145,7 +148,7 @@ fn links<'a>(alloc: Global, tokens: &'a [Token], depth: u32, level: Level) -> Pa
     ensures value { Gives (λ p. (links_of p.0, p.1.now)) result (many (among (operators_at level)) (both link_at (one (among (operators_at level))) (chain_read (levels_below level) (unary_read (expr_read depth) (operand_read depth) (primary_read (expr_read depth) (arg_in depth (expr_read depth)))))) tokens.now) }
     ensures rest { IfOk result (λ p. length p.1.now ≤ length tokens.now) }
 {
-    let mut items = Vec::new(alloc);
+    let mut items = Vec::with_capacity(alloc, 1)?;
     let mut rest = tokens;
     'links: while Class::Operator(level).begins(rest) {
         let (item, after) = link(alloc, rest, depth, level)?;
@@ -237,7 +240,7 @@ fn suffixes<'a>(alloc: Global, tokens: &'a [Token], depth: u32) -> Parsed<'a, Su
     ensures value { Gives (λ p. (suffixes_of p.0, p.1.now)) result (many (among suffix_signs) (suffix_read (expr_read depth)) tokens.now) }
     ensures rest { IfOk result (λ p. length p.1.now ≤ length tokens.now) }
 {
-    let mut items = Vec::new(alloc);
+    let mut items = Vec::with_capacity(alloc, 1)?;
     let mut rest = tokens;
     'suffixes: while Class::Suffix.begins(rest) {
         let (item, after) = suffix(alloc, rest, depth)?;
@@ -373,7 +376,7 @@ fn filled<'a>(
     ensures rest { IfOk result (λ p. length p.1.now ≤ length tokens.now) }
 {
     if !Class::Sign(Symbol::Colon).begins(tokens) {
-        let mut items = Vec::new(alloc);
+        let mut items = Vec::with_capacity(alloc, 1)?;
         items.push(first)?;
         let (items, rest) = more_items(alloc, items, tokens, depth)?;
         return Ok((Expr::List(bracket.place, items), rest));
@@ -433,11 +436,11 @@ pub fn args<'a>(alloc: Global, tokens: &'a [Token], depth: u32) -> Parsed<'a, Ar
     ensures value { Gives (λ p. (args_of p.0, p.1.now)) result (args_read (arg_in depth (expr_read depth)) tokens.now) }
     ensures rest { IfOk result (λ p. length p.1.now ≤ length tokens.now) }
 {
-    let mut items = Vec::new(alloc);
     if !is_before(Symbol::CloseParenthesis, tokens) {
-        return Ok((Args { items }, tokens));
+        return Ok((no_args(alloc), tokens));
     }
     let (first, rest) = arg(alloc, tokens, depth)?;
+    let mut items = Vec::with_capacity(alloc, 1)?;
     items.push(first)?;
     more_args(alloc, items, rest, depth)
 }
@@ -487,6 +490,15 @@ fn no_items(alloc: Global) -> Exprs
     ensures { terms_of result ≡ [] }
 {
     Exprs {
+        items: Vec::new(alloc),
+    }
+}
+
+/// No arguments.
+fn no_args(alloc: Global) -> Args
+    ensures { args_of result ≡ [] }
+{
+    Args {
         items: Vec::new(alloc),
     }
 }

@@ -42,6 +42,10 @@ side-returns-in_err-first-clause-value t c =
 pub climb-returns-then-not-begins-clause-value : goal.climb-returns-then-not-begins-clause-value
 climb-returns-then-not-begins-clause-value t c = climb_none c.args.level _ (term_of c.args.first) c.args.tokens.now (sym c.begins.ensures ∙ c.if-not-begins.true)
 
+pub climbed-returns-then-not-begins-clause-value : goal.climbed-returns-then-not-begins-clause-value
+climbed-returns-then-not-begins-clause-value t c =
+    rw (c.in_ok-first.ensures.value, many_none (among (operators_at c.args.level)) _ c.in_ok-first.rest.now (sym c.begins.ensures ∙ c.if-not-begins.true)) refl
+
 pub climb_below-returns-in-Some-clause-value : goal.climb_below-returns-in-Some-clause-value
 climb_below-returns-in-Some-clause-value t c = rw (below_some c.args.level c.in-Some.tighter (sym c.tighter.ensures ∙ c.in-Some.is)) c.climb.ensures.value
 
@@ -54,7 +58,7 @@ primary-returns-then-begins-clause-value t c = c.literal.ensures.value (expr_rea
 
 pub links-returns-in_err-item-clause-value : goal.links-returns-in_err-item-clause-value
 links-returns-in_err-item-clause-value t c =
-    let p = err_from_is_err_and c.from_residual.result c.from_residual.ensures.1 in
+    let p = err_from_is_err_and c.from_residual-in_err-item.result c.from_residual-in_err-item.ensures.1 in
     rw (p.1, p.2) (link_goes c.in_err-item.field-0.0 _ _ (λ x e. loop_fault _ _ _ _ c.links.invariant.told (many_stop (among (operators_at c.args.level)) _ (link_strict c.args.level c.args.depth) c.links.rest.now x (sym c.begins.ensures ∙ c.links-test.true) e)) c.in_err-item.ensures.value)
 
 pub links-links-preserved : goal.links-links-preserved
@@ -68,7 +72,7 @@ links-returns-clause-value t c = rw (links_roll (record { items = c.links.items 
 
 pub suffixes-returns-in_err-item-clause-value : goal.suffixes-returns-in_err-item-clause-value
 suffixes-returns-in_err-item-clause-value t c =
-    let p = err_from_is_err_and c.from_residual.result c.from_residual.ensures.1 in
+    let p = err_from_is_err_and c.from_residual-in_err-item.result c.from_residual-in_err-item.ensures.1 in
     rw (p.1, p.2) (suffix_goes c.in_err-item.field-0.0 _ _ (λ x e. loop_fault _ _ _ _ c.suffixes.invariant.told (many_stop (among suffix_signs) _ (suffix_strict c.args.depth) c.suffixes.rest.now x (sym c.begins.ensures ∙ c.suffixes-test.true) e)) c.in_err-item.ensures.value)
 
 pub suffixes-suffixes-preserved : goal.suffixes-suffixes-preserved
