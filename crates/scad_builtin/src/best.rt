@@ -5,6 +5,7 @@ ghost use Rattle.scad_value.specs.View.{val_of, vals_of, vals_in, Tells};
 ghost use Rattle.scad_builtin.specs.Builtins.{better as better_at, best_of as best_of_at, best as best_at, best_among as best_among_at};
 ghost use Rattle.scad_builtin.specs.Rows.{is_before};
 
+use crate::taken::only;
 use scad_value::{Value, ValueStop, Values};
 use text_place::FaultKind;
 
@@ -42,9 +43,9 @@ fn greatest(left: i64, right: i64) -> i64
 pub(crate) fn best_among(wanted: Wanted, values: &Values) -> Result<Value, ValueStop>
     ensures { Tells result (best_among_at (is_before wanted) (vals_from (vals_of values.now))) }
 {
-    match values.items() {
-        [value] => best_in(wanted, value),
-        items => best(wanted, items),
+    match only(values.items()) {
+        Some(value) => best_in(wanted, value),
+        None => best(wanted, values.items()),
     }
 }
 

@@ -4,6 +4,7 @@ ghost use Rattle.scad_value.specs.View.{val_of, vals_of, Tells, GivesBounded};
 ghost use Rattle.scad_builtin.specs.Builtins.{takes as takes_so_many, applied, of_one as of_one_value, are_bounded};
 ghost use Rattle.scad_builtin.specs.Rows.{row_of};
 
+use crate::taken::only;
 use crate::best::{Wanted, best_among};
 use crate::list::{concat, length};
 use crate::number::{NumberRow, of_number, power};
@@ -69,9 +70,9 @@ impl Builtin {
     fn of_only(self, values: &Values) -> Result<Value, ValueStop>
         ensures { Tells result (of_one_value (row_of self) (vals_from (vals_of values.now))) }
     {
-        match values.items() {
-            [value] => self.of_one(value),
-            _ => Err(ValueStop::Kind(FaultKind::TypeMismatch)),
+        match only(values.items()) {
+            Some(value) => self.of_one(value),
+            None => Err(ValueStop::Kind(FaultKind::TypeMismatch)),
         }
     }
 

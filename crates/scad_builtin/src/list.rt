@@ -1,8 +1,8 @@
-ghost use Rattle.std.specs.Prelude.{◌≡◌, ◌++◌, Ok, IfOk, OnOk};
+ghost use Rattle.std.specs.Prelude.{◌≡◌, ◌++◌, Ok, IfOk, IfErr, OnOk, false};
 ghost use Rattle.scad_value.specs.Values.{vals_from, count_of, ListVal};
 ghost use Rattle.scad_value.specs.Operators.{made as made_at};
 ghost use Rattle.scad_value.specs.View.{val_of, vals_of, vals_in, Tells};
-ghost use Rattle.scad_builtin.specs.Builtins.{length_of, items_as, joined_items};
+ghost use Rattle.scad_builtin.specs.Builtins.{length_of, items_as, joined_items, is_list};
 
 use crate::number::count;
 use scad_value::{Value, ValueStop, Values, made};
@@ -52,12 +52,23 @@ fn joined(alloc: Global, values: Vec<Value>) -> Result<Vec<Value>, NoMemory>
 fn append(items: &mut Vec<Value>, value: Value) -> Result<(), NoMemory>
     ensures { OnOk result (vals_in items.new.items ≡ vals_in items.old.items ++ items_as (val_of value)) }
 {
-    match value {
-        Value::List(values) => {
+    match into_list(value) {
+        Ok(values) => {
             let mut more = values.into_items();
             items.append(&mut more)?;
         }
-        other => items.push(other)?,
+        Err(value) => items.push(value)?,
     }
     Ok(())
+}
+
+/// The values of a list, or else the value itself.
+fn into_list(value: Value) -> Result<Values, Value>
+    ensures list { IfOk result (λ values. val_of value ≡ ListVal (vals_from (vals_of values))) }
+    ensures other { IfErr result (λ other. (other ≡ value) × (is_list (val_of value) ≡ false)) }
+{
+    match value {
+        Value::List(values) => Ok(values),
+        other => Err(other),
+    }
 }

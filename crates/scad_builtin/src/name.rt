@@ -1,6 +1,6 @@
-ghost use Rattle.std.specs.Prelude.{◌≡◌};
+ghost use Rattle.std.specs.Prelude.{◌≡◌, map};
 ghost use Rattle.std.specs.Str.{bytes_eq};
-ghost use Rattle.scad_builtin.specs.Builtins.{builtin_of, is_left_out as leaves_out};
+ghost use Rattle.scad_builtin.specs.Builtins.{builtin_of, is_among as among, is_left_out as leaves_out};
 
 use crate::function::Builtin;
 
@@ -78,7 +78,13 @@ const LEFT_OUT: [&[u8]; 24] = [
 pub fn is_left_out(name: &[u8]) -> bool
     ensures { result ≡ leaves_out name.now }
 {
-    for known in LEFT_OUT {
+    is_among(&LEFT_OUT, name)
+}
+
+fn is_among(names: &[&[u8]], name: &[u8]) -> bool
+    ensures { result ≡ among (map (λ known. known.now) names.now) name.now }
+{
+    for known in names {
         if same(known, name) {
             return true;
         }

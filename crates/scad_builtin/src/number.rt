@@ -5,6 +5,7 @@ ghost use Rattle.scad_value.specs.View.{val_of, vals_of, Tells};
 ghost use Rattle.scad_builtin.specs.Builtins.{of_number as of_number_at, of_two, power as power_at, power_of as power_of_values, power_row as power_row_at};
 ghost use Rattle.scad_builtin.specs.Rows.{number_row};
 
+use crate::taken::both;
 use scad_value::{Value, ValueStop, Values, product_of_two, sized};
 use text_place::FaultKind;
 
@@ -51,9 +52,9 @@ pub(crate) fn of_number(row: NumberRow, value: &Value) -> Result<Value, ValueSto
 pub(crate) fn power(values: &Values) -> Result<Value, ValueStop>
     ensures { Tells result (of_two power_of_values (vals_from (vals_of values.now))) }
 {
-    match values.items() {
-        [base, exponent] => power_of(base, exponent),
-        _ => Err(ValueStop::Kind(FaultKind::TypeMismatch)),
+    match both(values.items()) {
+        Some((base, exponent)) => power_of(base, exponent),
+        None => Err(ValueStop::Kind(FaultKind::TypeMismatch)),
     }
 }
 
