@@ -11,7 +11,7 @@ use Rattle.scad_value.specs.View.{Tells, GivesBounded}
 use Rattle.scad_builtin.specs.declared.function.Builtin.{Builtin}
 use Rattle.scad_builtin.specs.declared.function.Builtin.TheVariants.{Abs, Sign, Floor, Ceil, Round, Min, Max, Len, Concat, Pow, IsUndef, IsNum, IsBool, IsList}
 use Rattle.scad_builtin.specs.Builtins.{of_number, sign_of, better, best_of, best, best_among, length_of, list_of, items_as, joined_items, power, power_row, power_of, is_undef, is_num, is_bool, is_list, of_one, of_two, applied, are_bounded}
-use Rattle.scad_builtin.proofs.Powers.{abs_minus}
+use Rattle.scad_builtin.proofs.Powers.{by_sign}
 
 abbrev IsBoundedAnswer : Answer Val → Type 0
 IsBoundedAnswer (Ok v) = IsTrue (is_bounded v)
@@ -53,7 +53,7 @@ power_small b (pos e) = sized_small (power b e)
 power_small (pos zero) (negsuc e) = tt
 power_small (pos (suc zero)) (negsuc e) = refl
 power_small (pos (suc (suc n))) (negsuc e) = tt
-power_small (negsuc zero) (negsuc e) = ap (λ n. ltb n (2 ^ 53)) (abs_minus (suc e))
+power_small (negsuc zero) (negsuc e) = by_sign (λ n. IsTrue (is_small n)) refl refl (suc e)
 power_small (negsuc (suc n)) (negsuc e) = tt
 
 power_bounded : (v w : Val) → IsBoundedAnswer (power_of v w)

@@ -1,3 +1,3 @@
-pub mod Arguments
+pub mod ArgumentLists
 pub mod Powers
 pub mod Bounds

@@ -5,7 +5,7 @@ ghost use Rattle.scad_value.specs.View.{val_of, vals_of, vals_in, Tells};
 ghost use Rattle.scad_builtin.specs.Builtins.{better as better_at, best_of as best_of_at, best as best_at, best_among as best_among_at};
 ghost use Rattle.scad_builtin.specs.Rows.{is_before};
 
-use crate::taken::only;
+use crate::arguments::only;
 use scad_value::{Value, ValueStop, Values};
 use text_place::FaultKind;
 

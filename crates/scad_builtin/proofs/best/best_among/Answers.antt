@@ -3,7 +3,7 @@ use Rattle.scad_value.specs.Values.{vals_from}
 use Rattle.scad_value.specs.View.{vals_of, Tells}
 use Rattle.scad_builtin.specs.Rows.{is_before}
 use Rattle.scad_builtin.specs.Builtins.{best}
-use Rattle.scad_builtin.proofs.Arguments.{length_in, not_alone}
+use Rattle.scad_builtin.proofs.ArgumentLists.{length_in, not_alone}
 use Rattle.scad_builtin.proofs.best.best_among.Goals as goal
 
 pub returns-in-None : goal.returns-in-None

@@ -1,7 +1,7 @@
 use Rattle.std.proofs.Common.{◌∙◌, sym}
 use Rattle.scad_value.specs.View.{vals_of}
 use Rattle.scad_builtin.specs.Rows.{row_of}
-use Rattle.scad_builtin.proofs.Arguments.{length_in, not_one}
+use Rattle.scad_builtin.proofs.ArgumentLists.{length_in, not_one}
 use Rattle.scad_builtin.proofs.function.Builtin.of_only.Goals as goal
 
 pub returns-in-None : goal.returns-in-None

@@ -1,6 +1,6 @@
 use Rattle.std.proofs.Common.{sym, subst}
 use Rattle.scad_value.specs.View.{vals_of, Tells}
-use Rattle.scad_builtin.proofs.Arguments.{by_row}
+use Rattle.scad_builtin.proofs.ArgumentLists.{by_row}
 use Rattle.scad_builtin.proofs.function.Builtin.value_of.Goals as goal
 
 pub returns-in_default : goal.returns-in_default
