@@ -1,5 +1,5 @@
 -- What the built-in functions give of bounded values is bounded.
-use Rattle.std.proofs.Common.{◌≡◌, ℕ, zero, suc, ◌^◌, Bool, true, false, ◌&&◌, ◌||◌, cond, List, [], ◌∷◌, ◌++◌, length, refl, sym, ap, subst, ◌∙◌, arith, ltb, Result, Ok, Err, ℤ, pos, negsuc}
+use Rattle.std.proofs.Common.{◌≡◌, zero, suc, ◌^◌, Bool, true, false, ◌||◌, cond, List, [], ◌∷◌, ◌++◌, length, refl, subst, arith, ltb, Result, Ok, Err, ℤ, pos, negsuc}
 use Rattle.std.specs.Prelude.{IsTrue, int_lt, unsigned_abs}
 use Rattle.std.proofs.lemmas.Bool.{and_parts, and_from, ltb-false, lt-ltb}
 use Rattle.text_place.specs.declared.fault.FaultKind.TheVariants.{TooLarge, LongList}

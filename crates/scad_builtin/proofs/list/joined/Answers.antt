@@ -1,4 +1,4 @@
-use Rattle.std.proofs.Common.{◌≡◌, ◌++◌, ◌∷◌, [], ◌∙◌, sym, ap}
+use Rattle.std.proofs.Common.{◌++◌, ◌∙◌, sym, ap}
 use Rattle.scad_builtin.specs.Builtins.{items_as}
 use Rattle.scad_value.specs.View.{val_of}
 use Rattle.scad_builtin.proofs.ArgumentLists.{joined_push}
