@@ -31,8 +31,8 @@ not_two row (v ∷ w ∷ []) h = absurd (h refl)
 not_two row (u ∷ v ∷ w ∷ ws) h = refl
 
 -- other than one value is no list of numbers
-pub not_alone : (before : ℤ → ℤ → Bool) (ws : List Val) → (length ws ≡ 1 → ⊥) → best_among before (vals_from ws)
-    ≡ best before (vals_from ws)
+pub not_alone : (before : ℤ → ℤ → Bool) (ws : List Val) → (length ws ≡ 1 → ⊥)
+    → best_among before (vals_from ws) ≡ best before (vals_from ws)
 not_alone before [] h = refl
 not_alone before (v ∷ []) h = absurd (h refl)
 not_alone before (NumberVal n ∷ w ∷ ws) h = refl

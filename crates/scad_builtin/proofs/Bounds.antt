@@ -63,7 +63,8 @@ power_bounded v w = tt
 length_bounded : (v : Val) → IsBoundedAnswer (length_of v)
 length_bounded (ListVal items) =
     number_bounded (sized (pos (count_of items))) (sized_small (pos (count_of items)))
-length_bounded (TextVal bytes) = number_bounded (sized (pos (length bytes))) (sized_small (pos (length bytes)))
+length_bounded (TextVal bytes) =
+    number_bounded (sized (pos (length bytes))) (sized_small (pos (length bytes)))
 length_bounded v = tt
 
 -- the best number
@@ -129,8 +130,8 @@ made_bounded v s = by_length (is_long v) refl
     by_length false e = and_from _ _ s (few e)
 
 -- functions of one value and of two
-of_one_bounded : (row : Val → Answer Val) → ((v : Val) → IsTrue (has_small_numbers v) → IsBoundedAnswer (row v))
-    → (vs : Vals) → IsTrue (have_small_numbers vs) → IsBoundedAnswer (of_one row vs)
+of_one_bounded : (row : Val → Answer Val)
+    → ((v : Val) → IsTrue (has_small_numbers v) → IsBoundedAnswer (row v)) → (vs : Vals) → IsTrue (have_small_numbers vs) → IsBoundedAnswer (of_one row vs)
 of_one_bounded row bounded no_vals s = tt
 of_one_bounded row bounded (and_val v no_vals) s = bounded v (and_parts _ _ s).0
 of_one_bounded row bounded (and_val v (and_val w vs)) s = tt
@@ -145,15 +146,20 @@ of_two_bounded row bounded (and_val u (and_val v (and_val w vs))) = tt
 applied_bounded : (builtin : Builtin) (vs : Vals) → IsTrue (have_small_numbers vs)
     → IsBoundedAnswer (applied builtin vs)
 applied_bounded Abs vs s =
-    of_one_bounded (of_number (λ n. sized (pos (unsigned_abs n)))) (of_number_bounded (λ n. sized (pos (unsigned_abs n))) (λ n t. sized_small (pos (unsigned_abs n)))) vs s
+    of_one_bounded (of_number (λ n. sized (pos (unsigned_abs n))))
+    (of_number_bounded (λ n. sized (pos (unsigned_abs n))) (λ n t. sized_small (pos (unsigned_abs n)))) vs s
 applied_bounded Sign vs s =
-    of_one_bounded (of_number (λ n. Ok (sign_of n))) (of_number_bounded (λ n. Ok (sign_of n)) (λ n t. sign_small n)) vs s
+    of_one_bounded (of_number (λ n. Ok (sign_of n)))
+    (of_number_bounded (λ n. Ok (sign_of n)) (λ n t. sign_small n)) vs s
 applied_bounded Floor vs s =
-    of_one_bounded (of_number (λ n. Ok n)) (of_number_bounded (λ n. Ok n) (λ n t. t)) vs s
+    of_one_bounded (of_number (λ n. Ok n))
+    (of_number_bounded (λ n. Ok n) (λ n t. t)) vs s
 applied_bounded Ceil vs s =
-    of_one_bounded (of_number (λ n. Ok n)) (of_number_bounded (λ n. Ok n) (λ n t. t)) vs s
+    of_one_bounded (of_number (λ n. Ok n))
+    (of_number_bounded (λ n. Ok n) (λ n t. t)) vs s
 applied_bounded Round vs s =
-    of_one_bounded (of_number (λ n. Ok n)) (of_number_bounded (λ n. Ok n) (λ n t. t)) vs s
+    of_one_bounded (of_number (λ n. Ok n))
+    (of_number_bounded (λ n. Ok n) (λ n t. t)) vs s
 applied_bounded Min vs s = best_among_bounded int_lt vs s
 applied_bounded Max vs s = best_among_bounded (λ a b. int_lt b a) vs s
 applied_bounded Len vs s = of_one_bounded length_of (λ v t. length_bounded v) vs s

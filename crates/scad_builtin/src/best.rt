@@ -70,7 +70,8 @@ fn best(wanted: Wanted, values: &[Value]) -> Result<Value, ValueStop>
 }
 
 fn best_from(wanted: Wanted, first: &Value, rest: &[Value]) -> Result<Value, ValueStop>
-    ensures { Tells result (best_at (is_before wanted) (and_val (val_of first.now) (vals_from (vals_in rest.now)))) }
+    ensures { Tells result (best_at (is_before wanted)
+        (and_val (val_of first.now) (vals_from (vals_in rest.now)))) }
 {
     match first {
         Value::Number(n) => Ok(Value::Number(best_of(wanted, *n, rest)?)),

@@ -10,5 +10,6 @@ pub returns-in-None : goal.returns-in-None
 returns-in-None c = subst (λ a. Tells c.best.result a)
     (ap (λ l. best (is_before c.args.wanted) (vals_from l)) c.items-in-None.ensures
     ∙ sym (not_alone (is_before c.args.wanted) (vals_of c.args.values.now)
-    (λ h. c.in-None.ensures (sym (length_in c.items.result.now (vals_of c.args.values.now) c.items.ensures) ∙ h))))
+    (λ h. c.in-None.ensures
+    (sym (length_in c.items.result.now (vals_of c.args.values.now) c.items.ensures) ∙ h))))
     c.best.ensures
