@@ -1,0 +1,4 @@
+pub mod ArgumentLists
+pub mod Powers
+pub mod Bounds
+pub mod Rows
