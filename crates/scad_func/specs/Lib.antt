@@ -1,3 +1,4 @@
 pub mod Builtins
 pub mod Meaning
 pub mod Definitions
+pub mod Functions

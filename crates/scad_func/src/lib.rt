@@ -1,3 +1,7 @@
 //! The meaning of expressions, with calls, evaluations and turns counted: `specs/Meaning` defines it, and
 //! the evaluator that is to meet it is still to come.
 #![tactic(auto)]
+
+mod functions;
+
+pub use functions::{Function, Functions};
