@@ -1,14 +1,15 @@
 -- Scopes by number and scopes with their definitions: what a look-up finds is the same.
-use Rattle.std.proofs.Common.{◌≡◌, ℕ, zero, suc, ◌<◌, List, [], ◌∷◌, ◌++◌, length, Bool, true, false, cond, ◌&&◌, Option, Some, None, refl, sym, ap, subst, ◌∙◌, arith, get_or}
+use Rattle.std.proofs.Common.{◌≡◌, ℕ, zero, suc, ◌<◌, List, [], ◌∷◌, ◌++◌, length, Bool, true, false, cond, ◌&&◌, Option, Some, None, refl, sym, ap, subst, ◌∙◌, arith, get_or, map}
 use Rattle.std.specs.Prelude.{IsTrue}
 use Rattle.std.specs.Str.{bytes_eq}
 use Rattle.std.proofs.lemmas.Bool.{and_parts, and_from, ltb-true}
 use Rattle.scad_value.specs.Values.{Val}
 use Rattle.scad_scope.specs.Names.{Pairs, Row, find_in, or_else, empty_row, with_variable, envs_from, env_of, Env as NumberedEnv, Outermost as NumberedOutermost, Within as NumberedWithin, variable_in as numbered_variable_in, standing_in as numbered_standing_in, function_in as numbered_function_in}
 use Rattle.scad_scope.specs.Numbered.{numbers_below, functions_below}
-use Rattle.scad_func.specs.Meaning.{Function, Module, Env, Outermost, Within, variable_in, standing_in, function_in}
+use Rattle.scad_func.specs.Meaning.{Function, Module, Env, Within, variable_in, standing_in, function_in}
 use Rattle.scad_func.specs.Definitions.{numbered, named, resolved, env_in}
-use Rattle.scad_func.specs.Functions.{call_row}
+use Rattle.scad_func.specs.declared.functions.Function.{Function as FunctionIn}
+use Rattle.scad_func.specs.Functions.{function_of, call_row}
 
 -- a variable of a numbered scope is the one of the scope with its definitions
 pub variable_same : (fs : List Function) (ms : List Module) (e : NumberedEnv) (name : List ℕ)
@@ -146,3 +147,40 @@ found_below n (NumberedWithin number row outer) name found d h s =
     let p = and_parts _ _ h in
     standing_number n (NumberedWithin number row outer) found (find_in row.functions name) (numbered_function_in outer name) d
     (λ k. pair_below n row.functions name k p.0) (found_below n outer name found d p.1) s
+
+pub functions_length : (xs : List FunctionIn) → length (map function_of xs) ≡ length xs
+functions_length [] = refl
+functions_length (x ∷ xs) = ap suc (functions_length xs)
+
+-- the table's function of a number
+pub number_seen : (xs : List FunctionIn) (d : ℕ) (x : FunctionIn) → d < length xs → x ≡ get_or xs d x
+    → numbered (map function_of xs) d ≡ Some (function_of x)
+number_seen [] d x h e = absurd (omega arith)
+number_seen (y ∷ xs) zero x h e = ap (λ (f : FunctionIn). Some (function_of f)) (sym e)
+number_seen (y ∷ xs) (suc d) x h e = number_seen xs d x (omega arith) e
+
+-- a look-up in a table of scopes and in the table of functions
+module _ (fs : List FunctionIn) (rows : List Row) (scope : ℕ) (name : List ℕ)
+    (below : IsTrue (functions_below (length (map function_of fs)) rows)) where
+  pub found_within : (found : NumberedEnv) (d : ℕ) → numbered_function_in (env_of rows scope) name ≡ Some (found, d) → d < length fs
+  found_within found d e =
+      let h = found_below (length (map function_of fs)) (env_of rows scope) name found d
+          (env_below (length (map function_of fs)) rows scope below) e in
+      omega (arith, h, functions_length fs)
+
+  pub found_seen : (ms : List Module) (found : NumberedEnv) (d : ℕ) (x : FunctionIn)
+      → numbered_function_in (env_of rows scope) name ≡ Some (found, d) → x ≡ get_or fs d x
+      → function_in (env_in (map function_of fs) ms (env_of rows scope)) name
+      ≡ Some (function_of x, env_in (map function_of fs) ms found)
+  found_seen ms found d x e is =
+      function_same (map function_of fs) ms (env_of rows scope) name
+      (env_below (length (map function_of fs)) rows scope below)
+      ∙ ap (function_standing (map function_of fs) ms) e
+      ∙ ap (standing_in (env_in (map function_of fs) ms found)) (number_seen fs d x (found_within found d e) is)
+
+  pub none_seen : (ms : List Module) → numbered_function_in (env_of rows scope) name ≡ None
+      → function_in (env_in (map function_of fs) ms (env_of rows scope)) name ≡ None
+  none_seen ms e =
+      function_same (map function_of fs) ms (env_of rows scope) name
+      (env_below (length (map function_of fs)) rows scope below)
+      ∙ ap (function_standing (map function_of fs) ms) e

@@ -1,5 +1,5 @@
 -- The table of a program's functions, and what a look-up in it tells.
-use Rattle.std.specs.Prelude.{◌≡◌, ℕ, ◌<◌, List, [], length, map, Option, Some, None}
+use Rattle.std.specs.Prelude.{◌≡◌, ℕ, List, [], map, Option, Some, None}
 use Rattle.scad_ast.specs.StatementView.{params_of}
 use Rattle.scad_ast.specs.ExprView.{term_of}
 use Rattle.scad_value.specs.Values.{Val}

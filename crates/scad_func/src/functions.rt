@@ -89,14 +89,24 @@ fn add_core<'a>(core: &'a Core, items: &mut Vec<Function<'a>>) -> Result<(), NoM
 {
     match core {
         Core::If(_, _, body) => add_body(body, items),
-        Core::IfElse(_, _, body, other) => {
-            add_body(body, items)?;
-            add_body(other, items)
-        }
+        Core::IfElse(_, _, body, other) => add_two(body, other, items),
         Core::For(_, _, body) => add_body(body, items),
         Core::IntersectionFor(_, _, body) => add_body(body, items),
         Core::Call(_, _, _, body) => add_body(body, items),
     }
+}
+
+#[cycle(collect)]
+fn add_two<'a>(
+    body: &'a Body,
+    other: &'a Body,
+    items: &mut Vec<Function<'a>>,
+) -> Result<(), NoMemory>
+    ensures { OnOk result (map function_of items.new.items ≡ map function_of items.old.items
+        ++ functions_among (definitions_of_body (body_of body.now) ++ definitions_of_body (body_of other.now))) }
+{
+    add_body(body, items)?;
+    add_body(other, items)
 }
 
 #[cycle(collect)]
