@@ -27,11 +27,12 @@ abbrev Agree : List Definition → List Mark → Type 0
 Agree ds xs = (length (functions_among ds) ≡ count_functions xs) × (length (modules_among ds) ≡ count_modules xs)
 
 joined_agree : (ds es : List Definition) (xs ys : List Mark) → Agree ds xs → Agree es ys → Agree (ds ++ es) (xs ++ ys)
-joined_agree ds es xs ys h g =
-    (ap length (functions_joined ds es) ∙ length-append (functions_among ds) (functions_among es)
-    ∙ omega (arith, h.0, g.0, marks_of_functions_joined xs ys),
-    ap length (modules_joined ds es) ∙ length-append (modules_among ds) (modules_among es)
-    ∙ omega (arith, h.1, g.1, marks_of_modules_joined xs ys))
+joined_agree ds es xs ys h g = (
+  ap length (functions_joined ds es) ∙ length-append (functions_among ds) (functions_among es)
+      ∙ omega (arith, h.0, g.0, marks_of_functions_joined xs ys),
+  ap length (modules_joined ds es) ∙ length-append (modules_among ds) (modules_among es)
+      ∙ omega (arith, h.1, g.1, marks_of_modules_joined xs ys),
+)
 
 mutual
   agree_of : (s : StatementTerm) → Agree (definitions_of s) (marks_of s)

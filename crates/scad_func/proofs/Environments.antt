@@ -165,7 +165,7 @@ module _ (fs : List FunctionIn) (rows : List Row) (scope : ℕ) (name : List ℕ
   pub found_within : (found : NumberedEnv) (d : ℕ) → numbered_function_in (env_of rows scope) name ≡ Some (found, d) → d < length fs
   found_within found d e =
       let h = found_below (length (map function_of fs)) (env_of rows scope) name found d
-          (env_below (length (map function_of fs)) rows scope below) e in
+      (env_below (length (map function_of fs)) rows scope below) e in
       omega (arith, h, functions_length fs)
 
   pub found_seen : (ms : List Module) (found : NumberedEnv) (d : ℕ) (x : FunctionIn)

@@ -3,5 +3,7 @@
 #![tactic(auto)]
 
 mod functions;
+#[cfg(test)]
+mod functions_tests;
 
 pub use functions::{Function, Functions};

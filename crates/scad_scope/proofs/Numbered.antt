@@ -137,7 +137,7 @@ mutual
       let ms = modules_joined (marks_of s) (marks_in rest) in
       let here = own_fit f m n k s (omega (arith, p, fs)) (omega (arith, q, ms)) in
       let behind = all_fit (f + functions_among (marks_of s)) (m + modules_among (marks_of s)) n k rest
-          (omega (arith, p, fs)) (omega (arith, q, ms)) in
+      (omega (arith, p, fs)) (omega (arith, q, ms)) in
       (below_joined n _ _ here.0 behind.0, below_joined k _ _ here.1 behind.1)
 
 module _ (outer : ℕ) (program : List StatementTerm) where
@@ -147,9 +147,10 @@ module _ (outer : ℕ) (program : List StatementTerm) where
   entered_fits (Reached block) held =
       let h = held block refl in
       let fit = all_fit block.functions block.modules (count_of_functions program) (count_of_modules program)
-          block.statements (omega (arith, h.0)) (omega (arith, h.1)) in
-      (below_reversed (count_of_functions program) (own_functions block.functions block.statements) fit.0,
-      below_reversed (count_of_modules program) (own_modules block.modules block.statements) fit.1)
+      block.statements (omega (arith, h.0)) (omega (arith, h.1)) in (
+        below_reversed (count_of_functions program) (own_functions block.functions block.statements) fit.0,
+        below_reversed (count_of_modules program) (own_modules block.modules block.statements) fit.1,
+      )
   entered_fits (Passed b f m) held = (refl, refl)
 
   -- a block of a program has no function and no module beyond the program's

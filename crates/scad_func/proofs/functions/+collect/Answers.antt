@@ -11,7 +11,7 @@ add_all-each-preserved t c =
     let i = c.each.statement-index in
     let h : i < length ss = omega (arith, c.each-test.true, ap length c.deref-statement-items.ensures.value) in
     let here : c.statement-item.result ≡ get_or ss i c.statement-item.result = c.statement-item.is
-        ∙ ap (λ (l : List Statement). get_or l i c.statement-item.result) c.deref-statement-items.ensures.value in
+    ∙ ap (λ (l : List Statement). get_or l i c.statement-item.result) c.deref-statement-items.ensures.value in
     added_here (map function_of c.each.items.items) (map function_of c.add_statement.new.items.items) _ ss i
     c.statement-item.result h here c.in_ok-add_statement.ensures c.each.invariant
 

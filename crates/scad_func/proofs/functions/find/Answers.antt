@@ -7,8 +7,8 @@ use Rattle.scad_func.proofs.functions.find.Goals as goal
 pub index-requires : goal.index-requires
 index-requires c =
     let below = found_within c.args.functions.now.items.items (rows_of c.args.scopes.now) c.args.scope
-        c.args.name.now c.requires.numbered (env_of (rows_of c.args.scopes.now) c.in-Ok.found.scope)
-        c.in-Ok.found.definition c.in-Ok.ensures.same in
+    c.args.name.now c.requires.numbered (env_of (rows_of c.args.scopes.now) c.in-Ok.found.scope)
+    c.in-Ok.found.definition c.in-Ok.ensures.same in
     search (rules, below)
 
 pub returns-in-Ok-clause-found : goal.returns-in-Ok-clause-found
@@ -17,10 +17,13 @@ returns-in-Ok-clause-found c = λ ms. found_seen c.args.functions.now.items.item
     c.in-Ok.found.definition c.index.result.now c.in-Ok.ensures.same c.index.ensures
 
 pub returns-in-Ok-clause-among : goal.returns-in-Ok-clause-among
-returns-in-Ok-clause-among c =
-    (c.in-Ok.found.definition, found_within c.args.functions.now.items.items (rows_of c.args.scopes.now)
-    c.args.scope c.args.name.now c.requires.numbered (env_of (rows_of c.args.scopes.now) c.in-Ok.found.scope)
-    c.in-Ok.found.definition c.in-Ok.ensures.same, sym c.index.ensures)
+returns-in-Ok-clause-among c = (
+  c.in-Ok.found.definition,
+  found_within c.args.functions.now.items.items (rows_of c.args.scopes.now)
+      c.args.scope c.args.name.now c.requires.numbered (env_of (rows_of c.args.scopes.now) c.in-Ok.found.scope)
+      c.in-Ok.found.definition c.in-Ok.ensures.same,
+  sym c.index.ensures,
+)
 
 pub returns-in-Err-clause-found : goal.returns-in-Err-clause-found
 returns-in-Err-clause-found c = λ ms. none_seen c.args.functions.now.items.items (rows_of c.args.scopes.now)
