@@ -1,1 +1,3 @@
 mod Rows
+pub mod Counts
+pub mod Environments
