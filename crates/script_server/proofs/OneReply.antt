@@ -25,7 +25,8 @@ use Rattle.script_server.proofs.OneSource.{one_fault, one_program, no_program}
 -- a program is answered in one way
 one_building : (program : List StatementTerm) (r q : Reply) → Builds program r → Builds program q → r ≡ q
 one_building program r q (inl a) (inl b) =
-    let other = subst (λ (s : Sides). HasText (leaf (box_planes s)) q) (one_box program b.0 a.0 b.1 a.1) b.2 in
+    let same = one_box program b.0 a.0 b.1 a.1 in
+    let other = subst (λ (s : Sides). HasText (leaf (box_planes s)) q) same b.2 in
     one_answer (leaf (box_planes a.0)) r q (text_answer a.0 r a.2) (text_answer a.0 q other)
 one_building program r q (inl a) (inr b) = absurd (b.0 a.0 a.1)
 one_building program r q (inr a) (inl b) = absurd (a.0 b.0 b.1)
@@ -71,8 +72,8 @@ program_bounded source program r w (inl a) = box_bounded source program a.0 r w 
 program_bounded source program r w (inr a) = subst (IsBounded source) (sym a.1) tt
 
 -- an export is answered by a solid exactly where its source writes one box
-solid_means : (source bytes : List ℕ) (program : List StatementTerm) → Writes source program → Builds program (reply.Solid bytes) →
-    (f : Formula) × Means source f
+solid_means : (source bytes : List ℕ) (program : List StatementTerm) → Writes source program →
+    Builds program (reply.Solid bytes) → (f : Formula) × Means source f
 solid_means source bytes program w (inl a) = (leaf (box_planes a.0), (program, a.0, w, a.1, refl))
 solid_means source bytes program w (inr a) = absurd (let wrong : reply.Solid bytes ≡ not_yet = a.1 in cc)
 
@@ -80,11 +81,13 @@ solid_exports : (source bytes : List ℕ) → Exports source (reply.Solid bytes)
 solid_exports source bytes (inl a) = absurd (let wrong : reply.Solid bytes ≡ reply.Faulted a.0 = a.2 in cc)
 solid_exports source bytes (inr a) = solid_means source bytes a.0 a.1 a.2
 
-box_solid : (source : List ℕ) (r : Reply) (f : Formula) → Means source f → Exports source r → (bytes : List ℕ) × (r ≡ reply.Solid bytes)
+box_solid : (source : List ℕ) (r : Reply) (f : Formula) → Means source f → Exports source r →
+    (bytes : List ℕ) × (r ≡ reply.Solid bytes)
 box_solid source r f h (inl a) = absurd (no_program source a.0 h.0 a.1 h.2)
 box_solid source r f h (inr (program, w, inl a)) = (a.2.0, a.2.2)
 box_solid source r f h (inr (program, w, inr a)) =
-    absurd (a.0 h.1 (subst (λ (p : List StatementTerm). IsBoxProgram p h.1) (one_program source h.0 program h.2 w) h.3))
+    let same = one_program source h.0 program h.2 w in
+    absurd (a.0 h.1 (subst (λ (p : List StatementTerm). IsBoxProgram p h.1) same h.3))
 
 pub solids_are_boxes : (source : List ℕ) (r : Reply) → Exports source r →
     ((bytes : List ℕ) × (r ≡ reply.Solid bytes)) ↔ ((f : Formula) × Means source f)

@@ -1,11 +1,10 @@
 -- A box passes no limit.
-use Rattle.std.proofs.Common.{◌≡◌, inl, inr, ◌<◌, ◌≤◌, List, length, arith}
-use Rattle.plane_polygon.specs.Polygons.{Outline}
+use Rattle.std.proofs.Common.{inl, inr, ◌<◌, ◌≤◌, length, arith}
 use Rattle.csg_tree.specs.Formulas.{leaf}
 use Rattle.bsp_tree.specs.Trees.{size}
 use Rattle.bsp_boolean.specs.Solids.{convex}
 use Rattle.facet_cut.specs.Facets.{facets_of}
-use Rattle.off_text.specs.Texts.{corner_count, vertices_of, HasVertices}
+use Rattle.off_text.specs.Texts.{corner_count, HasVertices}
 use Rattle.off_text.proofs.Bounds.Sizes.{leaf_size, leaf_facets, leaf_corners}
 use Rattle.off_text.proofs.Bounds.Vertices.{few_vertices}
 use Rattle.reply_text.specs.declared.reply.Reply.{Reply}
@@ -34,7 +33,8 @@ box_text s r (inr (small, inr (few, inl many))) = absurd (omega (arith, many.0, 
 box_text s r (inr (small, inr (few, inr (short, inl many)))) = absurd (not_too_many s many.0)
 box_text s r (inr (small, inr (few, inr (short, inr text)))) = text.1
 
-pub text_answer : (s : Sides) (r : Reply) → HasText (leaf (box_planes s)) r → IsAnswerTo (leaf (box_planes s)) r
+pub text_answer : (s : Sides) (r : Reply) → HasText (leaf (box_planes s)) r →
+    IsAnswerTo (leaf (box_planes s)) r
 text_answer s r text =
     let facets = facets_of (convex (box_planes s)) in
     inr (

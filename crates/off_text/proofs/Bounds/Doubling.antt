@@ -29,4 +29,5 @@ twice_first k p = omega arith
 
 pub doubled_is : (n k : ℕ) → doubled k n ≡ k * 2 ^ n
 doubled_is zero k = omega arith
-doubled_is (suc n) k = doubled_is n (2 * k) ∙ twice_first k (2 ^ n) ∙ ap (λ (p : ℕ). k * p) (sym (pow-suc 2 n))
+doubled_is (suc n) k =
+    doubled_is n (2 * k) ∙ twice_first k (2 ^ n) ∙ ap (λ (p : ℕ). k * p) (sym (pow-suc 2 n))

@@ -16,15 +16,17 @@ kept_edges true false e m = omega arith
 kept_edges false true e m = omega arith
 kept_edges false false e m = omega arith
 
-all_edges : (f : ℕ → List Coefficients) → ((i : ℕ) → length (f i) ≤ 2) → (n : ℕ) → length (flat_map f (up_to n)) ≤ 2 * n
+all_edges : (f : ℕ → List Coefficients) → ((i : ℕ) → length (f i) ≤ 2) → (n : ℕ) →
+    length (flat_map f (up_to n)) ≤ 2 * n
 all_edges f h zero = omega arith
 all_edges f h (suc n) =
-    omega (arith, ap length (flat_up_to f n), length-append (flat_map f (up_to n)) (f n), all_edges f h n, h n)
+    let appended = length-append (flat_map f (up_to n)) (f n) in
+    omega (arith, ap length (flat_up_to f n), appended, all_edges f h n, h n)
 
 pub part_edges : (s : Outline) (m : Coefficients) → sides (part_behind s m) ≤ 2 * sides s
 part_edges s m =
-    all_edges (kept s m)
-    (λ i. kept_edges (is_behind m (corner s (before (sides s) i))) (is_behind m (corner s i)) (edge s i) m) (sides s)
+    let from = λ (i : ℕ). is_behind m (corner s (before (sides s) i)) in
+    all_edges (kept s m) (λ i. kept_edges (from i) (is_behind m (corner s i)) (edge s i) m) (sides s)
 
 trimmed_to_edges : (c : Class) (s : Outline) (m : Coefficients) → sides (trimmed_to c s m) ≤ 2 * sides s
 trimmed_to_edges Across s m = part_edges s m
@@ -51,7 +53,8 @@ chosen_edges false false r s t h k l = l
 
 pub box_edges : (m : Coefficients) → sides (box_outline m) ≤ 16
 box_edges m =
-    chosen_edges (not (int_eq m.c (pos 0))) (not (int_eq m.b (pos 0))) (box_over_z m) (box_over_y m) (box_over_x m)
+    chosen_edges (not (int_eq m.c (pos 0))) (not (int_eq m.b (pos 0)))
+    (box_over_z m) (box_over_y m) (box_over_x m)
     (trimmed_twice (record { plane = m; edges = turned m.c low_x low_y high_x high_y }) high_z low_z
     (four_edges m.c low_x low_y high_x high_y))
     (trimmed_twice (record { plane = m; edges = turned m.b low_x high_z high_x low_z }) high_y low_y

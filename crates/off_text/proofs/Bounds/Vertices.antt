@@ -1,9 +1,8 @@
 -- Polygons have no more vertices than corners.
-use Rattle.std.proofs.Common.{◌≡◌, ℕ, ◌+◌, ◌≤◌, Bool, true, false, cond, not, List, [], ◌∷◌, ◌++◌, map, flat_map, filter, take, drop, length, refl, ap, arith}
+use Rattle.std.proofs.Common.{◌≡◌, ◌≤◌, Bool, true, false, cond, not, List, [], ◌∷◌, flat_map, filter, take, drop, length, refl, ap, arith}
 use Rattle.std.proofs.lemmas.List.{length-append, take-append-drop}
 use Rattle.plane_predicate.specs.Space.{Coordinates}
-use Rattle.plane_polygon.specs.Polygons.{Outline, sides}
-use Rattle.plane_polygon.specs.Parts.{corners}
+use Rattle.plane_polygon.specs.Polygons.{Outline}
 use Rattle.off_text.specs.Texts.{same_point, place_of_least, from_least, distinct, printed_corners, vertices_of, corner_count, AreCornersOf}
 use Rattle.off_text.proofs.Cornered.{found-length}
 
@@ -24,7 +23,9 @@ distinct_length (p ∷ points) =
 turned_length : (points : List Coordinates) → length (from_least points) ≡ length points
 turned_length points =
     let n = place_of_least points in
-    omega (arith, length-append (drop n points) (take n points), length-append (take n points) (drop n points), ap length (take-append-drop n points))
+    let turned = length-append (drop n points) (take n points) in
+    let whole = length-append (take n points) (drop n points) in
+    omega (arith, turned, whole, ap length (take-append-drop n points))
 
 printed_length : (polygons : List Outline) (faces : List (List Coordinates)) → AreCornersOf polygons faces →
     length (flat_map (λ corners. corners) (printed_corners faces)) ≡ corner_count polygons
@@ -32,9 +33,11 @@ printed_length [] [] h = refl
 printed_length [] (found ∷ faces) h = absurd h
 printed_length (s ∷ polygons) [] h = absurd h
 printed_length (s ∷ polygons) (found ∷ faces) h =
-    omega (arith, length-append (from_least found) (flat_map (λ corners. corners) (printed_corners faces)), turned_length found, found-length s found h.0, printed_length polygons faces h.1)
+    let both = length-append (from_least found) (flat_map (λ corners. corners) (printed_corners faces)) in
+    omega (arith, both, turned_length found, found-length s found h.0, printed_length polygons faces h.1)
 
 pub few_vertices : (polygons : List Outline) (faces : List (List Coordinates)) → AreCornersOf polygons faces →
     length (vertices_of faces) ≤ corner_count polygons
 few_vertices polygons faces h =
-    omega (arith, distinct_length (flat_map (λ corners. corners) (printed_corners faces)), printed_length polygons faces h)
+    let once = distinct_length (flat_map (λ corners. corners) (printed_corners faces)) in
+    omega (arith, once, printed_length polygons faces h)

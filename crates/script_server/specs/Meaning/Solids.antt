@@ -1,4 +1,5 @@
--- What a solid is answered: its text, and of any tree the first limit that its solid passes, or else its text.
+-- What a solid is answered: its text, and by the rule for all trees the first limit that it passes, or else
+-- its text.
 use Rattle.std.specs.Prelude.{◌≡◌, ℕ, ◌<◌, ◌≤◌, List, length, ◌⊎◌}
 use Rattle.plane_polygon.specs.Polygons.{Outline}
 use Rattle.csg_tree.specs.Formulas.{Formula}
