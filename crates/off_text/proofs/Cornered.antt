@@ -42,7 +42,7 @@ reduced-at (p ∷ ps) (q ∷ qs) h (suc i) l = reduced-at ps qs h.2 i (omega ari
 
 -- ---- the reduced corners of a polygon
 module _ (s : Outline) (found : List Coordinates) (h : AreReducedFrom (corners s) found) where
-  found-length : length found ≡ sides s
+  pub found-length : length found ≡ sides s
   found-length = reduced-length (corners s) found h ∙ map-up_to-length (corner s) (sides s)
 
   found-at : (i : ℕ) → i < sides s → IsPointTimes (corner s i) (get_or found i origin) × IsReduced (get_or found i origin)

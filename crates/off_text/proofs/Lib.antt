@@ -15,3 +15,4 @@ pub mod Unique
 pub mod Boxed
 pub mod BesideFaces
 pub mod FacesOfFacets
+pub mod Bounds

@@ -1,18 +1,19 @@
 //! Laws of texts, for the crates above. They are proved, and do nothing when they run.
 
-ghost use Rattle.std.specs.Prelude.{◌≡◌, ℕ, Bool, List, All};
+ghost use Rattle.std.specs.Prelude.{◌≡◌, ℕ, ◌+◌, ◌*◌, ◌^◌, ◌≤◌, Bool, List, length, All};
 ghost use Rattle.plane_predicate.specs.Space.{Coefficients, Coordinates, IsInClosedWorld, IsPlane, IsPointTimes};
 ghost use Rattle.plane_polygon.specs.Polygons.{Outline};
-ghost use Rattle.csg_tree.specs.Formulas.{Formula, holds};
+ghost use Rattle.csg_tree.specs.Formulas.{Formula, leaf, holds};
 ghost use Rattle.csg_tree.specs.FacePlanes.{IsOnOneFacePlane, just_ahead, just_behind};
 ghost use Rattle.csg_tree.specs.ProperTrees.{IsProper};
+ghost use Rattle.bsp_tree.specs.Trees.{size};
 ghost use Rattle.bsp_boolean.specs.Solids.{solid_of};
 ghost use Rattle.facet_cut.specs.Facets.{facets_of};
 ghost use Rattle.facet_cut.specs.Sides.{walk_by, CoversFacing, HasOneWhere};
 ghost use Rattle.off_text.specs.Reading.{off_text};
 ghost use Rattle.off_text.specs.Boundaries.{Covers, OneExactlyWhere};
 ghost use Rattle.off_text.specs.Prints.{AreFacesOf, Prints};
-ghost use Rattle.off_text.specs.Texts.{AreCornersOf, IsTextOf};
+ghost use Rattle.off_text.specs.Texts.{vertices_of, corner_count, AreCornersOf, IsTextOf};
 ghost use Rattle.off_text.specs.Bounding.{IsBoundary};
 
 /// A 4OFF text has one list of vertices and one list of faces.
@@ -53,4 +54,18 @@ pub fn leaves_beside_face_planes()
 /// The text of the facets of a proper tree's solid is the boundary of the tree.
 pub fn texts_are_boundaries()
     ensures { (f : Formula) (bytes : List ℕ) → IsProper f → Prints (facets_of (solid_of f)) bytes → IsBoundary bytes f }
+{}
+
+/// A leaf of n planes has a small solid, of at most n facets. A cut at most doubles the edges of a
+/// polygon, so its size is at most n (1 + 16 · 2^n), and its facets have at most 16 n · 2^n corners
+/// together: far more than there are, and for a few planes still below every limit.
+pub fn leaves_stay_small()
+    ensures size { (planes : List Coefficients) → size (solid_of (leaf planes)) ≤ length planes * (1 + 16 * 2 ^ length planes) }
+    ensures facets { (planes : List Coefficients) → length (facets_of (solid_of (leaf planes))) ≤ length planes }
+    ensures corners { (planes : List Coefficients) → corner_count (facets_of (solid_of (leaf planes))) ≤ length planes * (16 * 2 ^ length planes) }
+{}
+
+/// Polygons have at most as many vertices as corners.
+pub fn vertices_are_corners()
+    ensures { (polygons : List Outline) (faces : List (List Coordinates)) → AreCornersOf polygons faces → length (vertices_of faces) ≤ corner_count polygons }
 {}

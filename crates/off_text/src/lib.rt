@@ -8,8 +8,8 @@ mod vertex;
 mod writing;
 
 pub use laws::{
-    faces_cover_as_facets, leaves_beside_face_planes, one_reading, one_text,
-    printed_corners_stay_in_the_world, texts_are_boundaries,
+    faces_cover_as_facets, leaves_beside_face_planes, leaves_stay_small, one_reading, one_text,
+    printed_corners_stay_in_the_world, texts_are_boundaries, vertices_are_corners,
 };
 pub use text::{OffStop, off_bytes};
 

@@ -18,6 +18,7 @@ use Rattle.script_server.specs.Meaning.Boxes.{IsBox, IsBoxProgram, box_planes}
 use Rattle.script_server.specs.Meaning.Solids.{IsCut, IsAnswerTo, Bounds}
 use Rattle.script_server.specs.Meaning.Exports.{Exports, IsBounded}
 use Rattle.script_server.proofs.BoxPlanes.{box_reach, box_is_proper}
+use Rattle.script_server.proofs.WithinLimits.{box_text}
 use Rattle.script_server.proofs.OneReply.{built, program_bounded}
 
 -- a solid within its size
@@ -33,7 +34,7 @@ reach_of s planes e box = subst (All ComesInReach) (sym e) (box_reach s box)
 pub box_answer : (s : Sides) (planes : List Coefficients) (r : Result Reply NoMemory) → planes ≡ box_planes s → IsBox s →
     IfOk r (IsAnswerTo (leaf planes)) → (IsProper (leaf planes) → IfOk r (Bounds (leaf planes))) → IfOk r (AnswersBox s)
 box_answer s planes (Ok reply) e box h b = (
-  subst (λ (ps : List Coefficients). IsAnswerTo (leaf ps) reply) e h,
+  box_text s reply (subst (λ (ps : List Coefficients). IsAnswerTo (leaf ps) reply) e h),
   subst (λ (ps : List Coefficients). Bounds (leaf ps) reply) e (b (subst (λ (ps : List Coefficients). IsProper (leaf ps)) (sym e) (box_is_proper s box))),
 )
 box_answer s planes (Err none) e box h b = tt

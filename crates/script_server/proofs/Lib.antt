@@ -2,6 +2,7 @@ pub mod ScriptForm
 pub mod BoxPrograms
 pub mod BoxPlanes
 pub mod OneSource
+pub mod WithinLimits
 pub mod OneAnswer
 pub mod OneReply
 pub mod Answering

@@ -1,14 +1,18 @@
 //! What an export means: sources, boxes and what their solids are answered (`specs/Meaning`), and the
 //! laws that their words leave nothing open.
 
-ghost use Rattle.std.specs.Prelude.{◌≡◌, ℕ, List};
+ghost use Rattle.std.specs.Prelude.{◌≡◌, ◌↔◌, ℕ, List};
 ghost use Rattle.script_reader.specs.declared.script.Command.{Command};
+ghost use Rattle.csg_tree.specs.Formulas.{Formula, leaf};
 ghost use Rattle.reply_text.specs.declared.reply.Reply.{Reply};
+ghost use Rattle.reply_text.specs.declared.reply.Reply.TheVariants as reply;
 ghost use Rattle.script_reader.specs.declared.script.Script.{Script};
 ghost use Rattle.edit_session.specs.Sessions.{State};
 ghost use Rattle.reply_text.specs.Texts.{output};
 ghost use Rattle.reply_text.specs.Answers.{Fits, SameWants};
 ghost use Rattle.script_server.specs.Meaning.Scripts.{IsScript, AllServed};
+ghost use Rattle.script_server.specs.Meaning.Boxes.{Means, box_planes};
+ghost use Rattle.script_server.specs.Meaning.Solids.{HasText, IsAnswerTo};
 ghost use Rattle.script_server.specs.Meaning.Exports.{Exports};
 
 /// The sides of a box along x, y and z.
@@ -22,6 +26,17 @@ pub struct Sides {
 /// Bytes are one script at most.
 pub fn one_script()
     ensures { (bytes : List ℕ) (s t : Script) → IsScript bytes s → IsScript bytes t → s ≡ t }
+{}
+
+/// A box passes no limit: what a tree of its planes is answered by the limits is its text.
+pub fn boxes_pass_no_limit()
+    ensures { (s : Sides) (r : Reply) → IsAnswerTo (leaf (box_planes s)) r ↔ HasText (leaf (box_planes s)) r }
+{}
+
+/// An export is answered by a solid exactly where its source writes one box.
+pub fn solids_are_boxes()
+    ensures { (source : List ℕ) (r : Reply) → Exports source r →
+        ((bytes : List ℕ) × (r ≡ reply.Solid bytes)) ↔ ((f : Formula) × Means source f) }
 {}
 
 /// A source has one reply to its export.

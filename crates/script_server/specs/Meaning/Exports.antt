@@ -13,16 +13,16 @@ use Rattle.off_text.specs.Bounding.{IsBoundary}
 use Rattle.script_server.specs.Meaning.Sources.{Writes, HasFault}
 use Rattle.script_server.specs.declared.meaning.Sides.{Sides}
 use Rattle.script_server.specs.Meaning.Boxes.{IsBoxProgram, Means, box_planes}
-use Rattle.script_server.specs.Meaning.Solids.{IsAnswerTo}
+use Rattle.script_server.specs.Meaning.Solids.{HasText}
 
 -- the answer to a program that is not of the form that is built so far
 abbrev pub not_yet : Reply
 not_yet = reply.Faulted (record { kind = NotYet; place = record { line = 1; column = 1 } })
 
--- what a program is answered: what its box is, or that it asks for something else
+-- what a program is answered: the text of its box, or that it asks for something else
 abbrev pub Builds : List StatementTerm → Reply → Type 0
 Builds program r =
-    ((s : Sides) × IsBoxProgram program s × IsAnswerTo (leaf (box_planes s)) r)
+    ((s : Sides) × IsBoxProgram program s × HasText (leaf (box_planes s)) r)
     ⊎ (((s : Sides) → IsBoxProgram program s → ⊥) × (r ≡ not_yet))
 
 -- what an export of a source is answered: its first fault, or what its program is answered

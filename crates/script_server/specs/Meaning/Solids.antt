@@ -1,4 +1,5 @@
--- What a solid is answered: the first limit that it passes, or its text.
+-- What a solid is answered: its text, and by the rule for all trees the first limit that it passes, or else
+-- its text.
 use Rattle.std.specs.Prelude.{◌≡◌, ℕ, ◌<◌, ◌≤◌, List, length, ◌⊎◌}
 use Rattle.plane_polygon.specs.Polygons.{Outline}
 use Rattle.csg_tree.specs.Formulas.{Formula}
@@ -10,6 +11,10 @@ use Rattle.off_text.specs.Bounding.{IsBoundary}
 use Rattle.reply_text.specs.declared.reply.Reply.{Reply}
 use Rattle.reply_text.specs.declared.reply.Reply.TheVariants as reply
 use Rattle.reply_text.specs.declared.reply.Complex.TheVariants as limit
+
+-- the text of the facets of the tree's solid
+abbrev pub HasText : Formula → Reply → Type 0
+HasText f r = (bytes : List ℕ) × IsTextOf (facets_of (solid_of f)) bytes × (r ≡ reply.Solid bytes)
 
 -- more than 200,000 corners, or more than 60,000 vertices, or the text
 abbrev pub IsWritten : List Outline → Reply → Type 0

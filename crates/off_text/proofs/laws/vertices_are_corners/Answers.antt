@@ -1,0 +1,5 @@
+use Rattle.off_text.proofs.Bounds.Vertices.{few_vertices}
+use Rattle.off_text.proofs.laws.vertices_are_corners.Goals as goal
+
+pub returns : goal.returns
+returns c = few_vertices
