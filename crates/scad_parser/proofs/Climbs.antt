@@ -13,7 +13,8 @@ use Rattle.scad_parser.specs.declared.class.Level.TheVariants.{Or, And, Equal, O
 use Rattle.scad_parser.specs.Climbing.{climb_read}
 use Rattle.scad_parser.specs.TokenClasses.{joined, binary_signs, operators_at, levels_at}
 
-one_by_one : {A B C : Type 0} (q : Read Token SyntaxFault A) (f : A → Reads B) (g : B → Reads C) → after (after q f) g ≡ after q (λ x us. after (f x us) g)
+one_by_one : {A B C : Type 0} (q : Read Token SyntaxFault A) (f : A → Reads B) (g : B → Reads C)
+    → after (after q f) g ≡ after q (λ x us. after (f x us) g)
 one_by_one (Ok p) f g = refl
 one_by_one (Err e) f g = refl
 
@@ -22,47 +23,56 @@ as_it_is (Ok p) = refl
 as_it_is (Err e) = refl
 
 -- an operand, and what is climbed behind it
-pub chain_climbs : (levels : List (List ℕ)) (u : Reads Term) (ts : List Token) → chain_read levels u ts ≡ after (u ts) (climb_read levels u)
+pub chain_climbs : (levels : List (List ℕ)) (u : Reads Term) (ts : List Token)
+    → chain_read levels u ts ≡ after (u ts) (climb_read levels u)
 chain_climbs [] u ts = as_it_is (u ts)
 chain_climbs (ops ∷ levels) u ts =
     ap (λ q. after q (λ a us. after (many (among ops) (both link (one (among ops)) (chain_read levels u)) us) (λ b vs. Ok (chain_of a b, vs)))) (chain_climbs levels u ts)
     ∙ one_by_one (u ts) (climb_read levels u) (λ a us. after (many (among ops) (both link (one (among ops)) (chain_read levels u)) us) (λ b vs. Ok (chain_of a b, vs)))
 
-pub chain_stops : (levels : List (List ℕ)) (u : Reads Term) (ts : List Token) (x : SyntaxFault × List Token) → u ts ≡ Err x → chain_read levels u ts ≡ Err x
+pub chain_stops : (levels : List (List ℕ)) (u : Reads Term) (ts : List Token) (x : SyntaxFault × List Token)
+    → u ts ≡ Err x → chain_read levels u ts ≡ Err x
 chain_stops levels u ts x e = chain_climbs levels u ts ∙ ap (λ q. after q (climb_read levels u)) e
 
 -- no item stands here
-pub many_none : {A : Type 0} (test : Token → Bool) (r : Reads A) (ts : List Token) → starts test ts ≡ false → many test r ts ≡ Ok ([], ts)
+pub many_none : {A : Type 0} (test : Token → Bool) (r : Reads A) (ts : List Token) → starts test ts ≡ false
+    → many test r ts ≡ Ok ([], ts)
 unfolding many many_times
 many_none test r [] e = refl
 many_none test r (t ∷ ts) e = rw e refl
 
 -- a class of none of two lists
-not_either : (b : Bool) (xs ys : List ℕ) (k : ℕ) → (listed (xs ++ ys) k ≡ false → (listed xs k ≡ false) × (listed ys k ≡ false))
+not_either : (b : Bool) (xs ys : List ℕ) (k : ℕ)
+    → (listed (xs ++ ys) k ≡ false → (listed xs k ≡ false) × (listed ys k ≡ false))
     → cond b true (listed (xs ++ ys) k) ≡ false → (cond b true (listed xs k) ≡ false) × (listed ys k ≡ false)
 not_either true xs ys k ih e = absurd (cc)
 not_either false xs ys k ih e = ih e
 
-listed_apart : (xs ys : List ℕ) (k : ℕ) → listed (xs ++ ys) k ≡ false → (listed xs k ≡ false) × (listed ys k ≡ false)
+listed_apart : (xs ys : List ℕ) (k : ℕ) → listed (xs ++ ys) k ≡ false
+    → (listed xs k ≡ false) × (listed ys k ≡ false)
 listed_apart [] ys k e = (refl, e)
 listed_apart (c ∷ xs) ys k e = not_either (nat_eq k c) xs ys k (listed_apart xs ys k) e
 
-starts_apart : (xs ys : List ℕ) (ts : List Token) → starts (among (xs ++ ys)) ts ≡ false → (starts (among xs) ts ≡ false) × (starts (among ys) ts ≡ false)
+starts_apart : (xs ys : List ℕ) (ts : List Token) → starts (among (xs ++ ys)) ts ≡ false
+    → (starts (among xs) ts ≡ false) × (starts (among ys) ts ≡ false)
 starts_apart xs ys [] e = (refl, refl)
 starts_apart xs ys (t ∷ ts) e = listed_apart xs ys (class_of t.kind) e
 
 -- no operator of these levels stands here
-climbs_none : (ls : List (List ℕ)) (u : Reads Term) (x : Term) (ts : List Token) → starts (among (joined ls)) ts ≡ false → climb_read ls u x ts ≡ Ok (x, ts)
+climbs_none : (ls : List (List ℕ)) (u : Reads Term) (x : Term) (ts : List Token)
+    → starts (among (joined ls)) ts ≡ false → climb_read ls u x ts ≡ Ok (x, ts)
 climbs_none [] u x ts e = refl
 climbs_none (ops ∷ ls) u x ts e =
     let p = starts_apart ops (joined ls) ts e in
     rw (climbs_none ls u x ts p.1, many_none (among ops) (both link (one (among ops)) (chain_read ls u)) ts p.0) refl
 
 -- no operator of a level and of those that bind more tightly, where there is none at all
-none_below : (ops : List ℕ) (ls : List (List ℕ)) (ts : List Token) → starts (among (joined (ops ∷ ls))) ts ≡ false → starts (among (joined ls)) ts ≡ false
+none_below : (ops : List ℕ) (ls : List (List ℕ)) (ts : List Token)
+    → starts (among (joined (ops ∷ ls))) ts ≡ false → starts (among (joined ls)) ts ≡ false
 none_below ops ls ts e = (starts_apart ops (joined ls) ts e).1
 
-none_at : (level : Level) (ts : List Token) → starts (among binary_signs) ts ≡ false → starts (among (joined (levels_at level))) ts ≡ false
+none_at : (level : Level) (ts : List Token) → starts (among binary_signs) ts ≡ false
+    → starts (among (joined (levels_at level))) ts ≡ false
 none_at Or ts e = e
 none_at And ts e = none_below (operators_at Or) (levels_at And) ts e
 none_at Equal ts e = none_below (operators_at And) (levels_at Equal) ts (none_below (operators_at Or) (levels_at And) ts e)
@@ -77,5 +87,6 @@ none_at Product ts e =
     (none_below (operators_at Or) (levels_at And) ts e))))
 
 -- no operator stands here
-pub climb_none : (level : Level) (u : Reads Term) (x : Term) (ts : List Token) → starts (among binary_signs) ts ≡ false → climb_read (levels_at level) u x ts ≡ Ok (x, ts)
+pub climb_none : (level : Level) (u : Reads Term) (x : Term) (ts : List Token)
+    → starts (among binary_signs) ts ≡ false → climb_read (levels_at level) u x ts ≡ Ok (x, ts)
 climb_none level u x ts e = climbs_none (levels_at level) u x ts (none_at level ts e)

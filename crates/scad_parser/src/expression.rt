@@ -21,6 +21,9 @@ use scad_ast::{Arg, Args, Expr, Exprs, Link, Links, Suffix, Suffixes};
 use scad_lexer::{Reserved, Symbol, Token, TokenKind};
 use std::alloc::{AllocFailed, Global};
 
+// What is rare stands in functions that are not inlined: the locals of a function are cleared at each call, also
+// those of forms that are not met.
+
 /// An expression whose tokens are less deep than so much.
 #[cycle(expression)]
 pub fn expr<'a>(alloc: Global, tokens: &'a [Token], depth: u32) -> Parsed<'a, Expr>

@@ -23,6 +23,9 @@ use scad_lexer::{Reserved, Symbol, Token};
 use std::alloc::Global;
 use text_place::Place;
 
+// Each form stands in a function that is not inlined: the locals of a function are cleared at each call, also those
+// of forms that are not met.
+
 /// A statement whose tokens are less deep than so much.
 #[cycle(statement)]
 pub fn statement<'a>(alloc: Global, tokens: &'a [Token], depth: u32) -> Parsed<'a, Statement>
