@@ -3,24 +3,10 @@ use Rattle.std.specs.Prelude.{ℕ, zero, suc, ◌+◌, ◌^◌, ℤ, pos, negsuc
 use Rattle.std.specs.Str.{bytes_eq}
 use Rattle.text_place.specs.declared.fault.FaultKind.{FaultKind}
 use Rattle.text_place.specs.declared.fault.FaultKind.TheVariants.{TypeMismatch, ZeroDivisor, NotWhole, TooLarge, LongList}
+use Rattle.scad_func.specs.declared.stub_kind.Builtin.{Builtin}
+use Rattle.scad_func.specs.declared.stub_kind.Builtin.TheVariants.{Abs, Sign, Floor, Ceil, Round, Min, Max, Len, Concat, Pow, IsUndef, IsNum, IsBool, IsList}
 use Rattle.scad_value.specs.Values.{Val, NumberVal, TruthVal, TextVal, ListVal, RangeVal, UndefVal, Vals, no_vals, and_val, vals_from, count_of, is_long}
 use Rattle.scad_value.specs.Operators.{Answer, and_then, sized, number, made}
-
-pub data Builtin : Type 0 where
-  Abs : Builtin
-  Sign : Builtin
-  Floor : Builtin
-  Ceil : Builtin
-  Round : Builtin
-  Min : Builtin
-  Max : Builtin
-  Len : Builtin
-  Concat : Builtin
-  Pow : Builtin
-  IsUndef : Builtin
-  IsNum : Builtin
-  IsBool : Builtin
-  IsList : Builtin
 
 -- names and what they stand for
 abbrev pub named_in : {A : Type 0} → List (List ℕ × A) → List ℕ → Option A

@@ -1,3 +1,16 @@
-//! The meaning of expressions, with calls, evaluations and turns counted: `specs/Meaning` defines it, and
-//! the evaluator that is to meet it is still to come.
+//! The meaning of expressions, with calls, evaluations and turns counted.
 #![tactic(auto)]
+
+mod answer;
+mod bind;
+mod evaluate;
+mod functions;
+mod meter;
+mod source;
+mod stub;
+mod stub_kind;
+
+pub use evaluate::value_in;
+pub use functions::{Function, Functions};
+pub use meter::Meter;
+pub use source::Source;

@@ -9,6 +9,6 @@ mod stop;
 mod tests;
 mod value;
 
-pub use operator::{binary, index, unary};
+pub use operator::{binary, index, made, unary};
 pub use stop::ValueStop;
 pub use value::{Value, Values, truth};

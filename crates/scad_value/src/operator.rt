@@ -136,8 +136,9 @@ fn text(bytes: Vec<u8>) -> Value
     Value::Text(Bytes::of(bytes))
 }
 
-/// A value that an operator makes.
-fn made(value: Value) -> Result<Value, ValueStop>
+/// A value that an operator or a bracket makes. LongList where it has more than 4,096 parts or lists
+/// more than 64 deep. Takes no memory.
+pub fn made(value: Value) -> Result<Value, ValueStop>
     ensures { Tells result (made_at (Ok (val_of value))) }
 {
     if value.parts() > 4096 || value.nesting() > 64 {

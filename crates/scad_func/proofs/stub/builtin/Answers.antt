@@ -1,0 +1,3 @@
+use Rattle.scad_func.proofs.stub.builtin.Goals as goal
+pub returns : goal.returns
+returns c = ?
