@@ -1,4 +1,3 @@
-pub mod Builtins
 pub mod Meaning
 pub mod Definitions
 pub mod Table

@@ -12,8 +12,8 @@ use Rattle.scad_value.specs.Values.{Val, NumberVal, TruthVal, TextVal, ListVal, 
 use Rattle.scad_value.specs.Operators.{Answer, binary_of, unary_of, index_of, made}
 use Rattle.scad_scope.specs.Names.{Pairs, find_in, or_else}
 use Rattle.scad_scope.specs.Arguments.{name_of, free_at}
-use Rattle.scad_func.specs.declared.stub_kind.Builtin.{Builtin}
-use Rattle.scad_func.specs.Builtins.{builtin_of, is_left_out, takes, applied}
+use Rattle.scad_builtin.specs.declared.function.Builtin.{Builtin}
+use Rattle.scad_builtin.specs.Builtins.{builtin_of, is_left_out, takes, applied}
 
 -- what an evaluation gives with the turns so far, or its first fault
 pub data Outcome (A : Type 0) : Type 0 where

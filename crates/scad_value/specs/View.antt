@@ -1,5 +1,6 @@
 -- The plain value that a value in memory stands for.
 use Rattle.std.specs.Prelude.{◌≡◌, List, map, Result, Ok, Err, IsTrue}
+use Rattle.text_place.specs.declared.fault.FaultKind.{FaultKind}
 use Rattle.scad_value.specs.declared.value.Value.{Value}
 use Rattle.scad_value.specs.declared.value.Values.{Values}
 use Rattle.scad_value.specs.declared.value.Value.TheOpen.{Value-F, Values-F, Number, Truth, Text, List as ListIn, Range, Undef}
@@ -29,6 +30,11 @@ vals_of = fold-Values Val (List Val) value_step values_step
 
 abbrev pub vals_in : List Value → List Val
 vals_in vs = map val_of vs
+
+-- what was given is the answer
+abbrev pub Answers : Result Value FaultKind → Answer Val → Type 0
+Answers (Ok v) answer = answer ≡ Ok (val_of v)
+Answers (Err kind) answer = answer ≡ Err kind
 
 -- what was given is the answer, unless memory ran out
 abbrev pub Tells : Result Value ValueStop → Answer Val → Type 0

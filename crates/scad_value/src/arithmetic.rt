@@ -25,8 +25,8 @@ pub(crate) enum PartRow {
     Keep,
 }
 
-/// The number, if it isn't too large.
-pub(crate) fn sized(n: i128) -> Result<i64, FaultKind>
+/// The number, unless it is TooLarge: past 2^53 - 1 in size. Takes no memory.
+pub fn sized(n: i128) -> Result<i64, FaultKind>
     ensures { result ≡ sized_at n }
 {
     if n.unsigned_abs() < 1 << 53 {
@@ -45,8 +45,8 @@ fn pair(row: PairRow, left: i64, right: i64) -> Result<i64, FaultKind>
     }
 }
 
-/// The product, if it isn't too large.
-pub(crate) fn product_of_two(left: i64, right: i64) -> Result<i64, FaultKind>
+/// The product, unless it is TooLarge: past 2^53 - 1 in size. Takes no memory.
+pub fn product_of_two(left: i64, right: i64) -> Result<i64, FaultKind>
     ensures { result ≡ product_row left right }
 {
     sized(left as i128 * right as i128)

@@ -9,6 +9,7 @@ mod stop;
 mod tests;
 mod value;
 
+pub use arithmetic::{product_of_two, sized};
 pub use operator::{binary, index, made, unary};
 pub use stop::ValueStop;
 pub use value::{Value, Values, truth};

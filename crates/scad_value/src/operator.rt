@@ -1,7 +1,7 @@
 ghost use Rattle.std.specs.Prelude.{◌≡◌, ◌<◌, ◌^◌, IsTrue, IfOk, Ok, length};
-ghost use Rattle.scad_value.specs.Values.{is_bounded, vals_from, have_small_numbers, parts_in, NumberVal, TextVal, ListVal, UndefVal};
+ghost use Rattle.scad_value.specs.Values.{is_bounded, vals_from, has_small_numbers, have_small_numbers, parts_in, NumberVal, TextVal, ListVal, UndefVal};
 ghost use Rattle.scad_value.specs.Operators.{binary_of, unary_of, index_of, made as made_at, product_of, quotient_of, remainder_of, dot_row, dot_of, and_then, sized as sized_at, number as number_at, order_of, item_at, byte_at};
-ghost use Rattle.scad_value.specs.View.{val_of, vals_of, Tells, GivesBounded};
+ghost use Rattle.scad_value.specs.View.{val_of, vals_of, Answers, Tells, GivesBounded};
 
 use crate::arithmetic::{
     PairRow, PartRow, by_parts, dot, each_part, product_of_two, remainder, sized,
@@ -39,10 +39,10 @@ fn operate(alloc: Global, op: BinaryOp, left: &Value, right: &Value) -> Result<V
         BinaryOp::LessEqual => Ok(Value::Truth(order(left, right)?.is_le())),
         BinaryOp::Greater => Ok(Value::Truth(order(left, right)?.is_gt())),
         BinaryOp::GreaterEqual => Ok(Value::Truth(order(left, right)?.is_ge())),
-        BinaryOp::Add => made(by_parts(alloc, PairRow::Sum, left, right)?),
-        BinaryOp::Subtract => made(by_parts(alloc, PairRow::Difference, left, right)?),
-        BinaryOp::Multiply => made(product(alloc, left, right)?),
-        BinaryOp::Divide => made(quotient(alloc, left, right)?),
+        BinaryOp::Add => Ok(made(by_parts(alloc, PairRow::Sum, left, right)?)?),
+        BinaryOp::Subtract => Ok(made(by_parts(alloc, PairRow::Difference, left, right)?)?),
+        BinaryOp::Multiply => Ok(made(product(alloc, left, right)?)?),
+        BinaryOp::Divide => Ok(made(quotient(alloc, left, right)?)?),
         BinaryOp::Remainder => remainder_of_two(left, right),
     }
 }
@@ -60,8 +60,8 @@ fn operate_on(alloc: Global, op: UnaryOp, of: &Value) -> Result<Value, ValueStop
     ensures { Tells result (unary_of op (val_of of.now)) }
 {
     match op {
-        UnaryOp::Negate => made(each_part(alloc, PartRow::Negate, of)?),
-        UnaryOp::Keep => made(each_part(alloc, PartRow::Keep, of)?),
+        UnaryOp::Negate => Ok(made(each_part(alloc, PartRow::Negate, of)?)?),
+        UnaryOp::Keep => Ok(made(each_part(alloc, PartRow::Keep, of)?)?),
         UnaryOp::Not => Ok(Value::Truth(!truth(of))),
     }
 }
@@ -136,13 +136,14 @@ fn text(bytes: Vec<u8>) -> Value
     Value::Text(Bytes::of(bytes))
 }
 
-/// A value that an operator or a bracket makes. LongList where it has more than 4,096 parts or lists
-/// more than 64 deep. Takes no memory.
-pub fn made(value: Value) -> Result<Value, ValueStop>
-    ensures { Tells result (made_at (Ok (val_of value))) }
+/// A value that an operator, a function or a bracket makes, unless it is LongList: it has more than
+/// 4,096 parts, or lists that are more than 64 deep in one another. Takes no memory.
+pub fn made(value: Value) -> Result<Value, FaultKind>
+    ensures value { Answers result (made_at (Ok (val_of value))) }
+    ensures bounded { IsTrue (has_small_numbers (val_of value)) → IfOk result (λ v. IsTrue (is_bounded (val_of v))) }
 {
     if value.parts() > 4096 || value.nesting() > 64 {
-        return Err(ValueStop::Kind(FaultKind::LongList));
+        return Err(FaultKind::LongList);
     }
     Ok(value)
 }

@@ -34,6 +34,13 @@ impl Values {
         Values { items }
     }
 
+    /// The vector of the values, which are moved and not copied. Takes no memory.
+    pub fn into_items(self) -> Vec<Value>
+        ensures { vals_in result.items ≡ vals_of self }
+    {
+        self.items
+    }
+
     /// The values in order. Takes no memory.
     pub fn items(&self) -> &[Value]
         ensures { vals_in result.now ≡ vals_of self.now }

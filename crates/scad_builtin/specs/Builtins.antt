@@ -1,11 +1,11 @@
 -- Built-in functions (OpenSCAD User Manual, in the profile of this server).
-use Rattle.std.specs.Prelude.{ℕ, zero, suc, ◌+◌, ◌^◌, ℤ, pos, negsuc, ◌*ℤ◌, Bool, true, false, List, [], ◌∷◌, ◌++◌, length, Option, Some, None, Result, Ok, Err, nat_eq, nat_lt, int_lt, unsigned_abs, codes, if◌then◌else◌}
+use Rattle.std.specs.Prelude.{ℕ, zero, suc, ◌+◌, ◌^◌, ℤ, pos, negsuc, ◌*ℤ◌, Bool, true, false, ◌&&◌, List, [], ◌∷◌, ◌++◌, length, Option, Some, None, Result, Ok, Err, nat_eq, nat_lt, int_lt, unsigned_abs, codes, if◌then◌else◌}
 use Rattle.std.specs.Str.{bytes_eq}
 use Rattle.text_place.specs.declared.fault.FaultKind.{FaultKind}
 use Rattle.text_place.specs.declared.fault.FaultKind.TheVariants.{TypeMismatch, ZeroDivisor, NotWhole, TooLarge, LongList}
-use Rattle.scad_func.specs.declared.stub_kind.Builtin.{Builtin}
-use Rattle.scad_func.specs.declared.stub_kind.Builtin.TheVariants.{Abs, Sign, Floor, Ceil, Round, Min, Max, Len, Concat, Pow, IsUndef, IsNum, IsBool, IsList}
-use Rattle.scad_value.specs.Values.{Val, NumberVal, TruthVal, TextVal, ListVal, RangeVal, UndefVal, Vals, no_vals, and_val, vals_from, count_of, is_long}
+use Rattle.scad_builtin.specs.declared.function.Builtin.{Builtin}
+use Rattle.scad_builtin.specs.declared.function.Builtin.TheVariants.{Abs, Sign, Floor, Ceil, Round, Min, Max, Len, Concat, Pow, IsUndef, IsNum, IsBool, IsList}
+use Rattle.scad_value.specs.Values.{Val, NumberVal, TruthVal, TextVal, ListVal, RangeVal, UndefVal, Vals, no_vals, and_val, vals_from, count_of, is_bounded}
 use Rattle.scad_value.specs.Operators.{Answer, and_then, sized, number, made}
 
 -- names and what they stand for
@@ -66,9 +66,10 @@ abbrev pub best_among : (ℤ → ℤ → Bool) → Vals → Answer Val
 best_among before (and_val (ListVal items) no_vals) = best before items
 best_among before vs = best before vs
 
+-- how many items a list has, or bytes a text; like each number, past 2^53 - 1 it is too large
 abbrev pub length_of : Val → Answer Val
-length_of (ListVal items) = Ok (NumberVal (pos (count_of items)))
-length_of (TextVal bytes) = Ok (NumberVal (pos (length bytes)))
+length_of (ListVal items) = number (sized (pos (count_of items)))
+length_of (TextVal bytes) = number (sized (pos (length bytes)))
 length_of v = Err TypeMismatch
 
 -- the items of each list, and another value as one item
@@ -142,3 +143,8 @@ applied IsUndef vs = of_one (λ v. Ok (TruthVal (is_undef v))) vs
 applied IsNum vs = of_one (λ v. Ok (TruthVal (is_num v))) vs
 applied IsBool vs = of_one (λ v. Ok (TruthVal (is_bool v))) vs
 applied IsList vs = of_one (λ v. Ok (TruthVal (is_list v))) vs
+
+-- each of the values is bounded
+abbrev pub are_bounded : List Val → Bool
+are_bounded [] = true
+are_bounded (v ∷ vs) = is_bounded v && are_bounded vs

@@ -1,0 +1,93 @@
+ghost use Rattle.std.specs.Prelude.{◌≡◌, int_lt};
+ghost use Rattle.scad_value.specs.Values.{vals_from, and_val, no_vals};
+ghost use Rattle.scad_value.specs.Operators.{number as number_at};
+ghost use Rattle.scad_value.specs.View.{val_of, vals_of, vals_in, Tells};
+ghost use Rattle.scad_builtin.specs.Builtins.{better as better_at, best_of as best_of_at, best as best_at, best_among as best_among_at};
+ghost use Rattle.scad_builtin.specs.Rows.{is_before};
+
+use crate::taken::only;
+use scad_value::{Value, ValueStop, Values};
+use text_place::FaultKind;
+
+/// Which of several numbers is wanted.
+#[derive(Clone, Copy, Debug, PartialEq, Eq)]
+pub(crate) enum Wanted {
+    Least,
+    Greatest,
+}
+
+impl Wanted {
+    fn better(self, left: i64, right: i64) -> i64
+        ensures { result ≡ better_at (is_before self) left right }
+    {
+        match self {
+            Wanted::Least => least(left, right),
+            Wanted::Greatest => greatest(left, right),
+        }
+    }
+}
+
+fn least(left: i64, right: i64) -> i64
+    ensures { result ≡ better_at int_lt left right }
+{
+    if left < right { left } else { right }
+}
+
+fn greatest(left: i64, right: i64) -> i64
+    ensures { result ≡ better_at (λ a b. int_lt b a) left right }
+{
+    if left > right { left } else { right }
+}
+
+/// The best of the numbers, or of those of the one list.
+pub(crate) fn best_among(wanted: Wanted, values: &Values) -> Result<Value, ValueStop>
+    ensures { Tells result (best_among_at (is_before wanted) (vals_from (vals_of values.now))) }
+{
+    match only(values.items()) {
+        Some(value) => best_in(wanted, value),
+        None => best(wanted, values.items()),
+    }
+}
+
+fn best_in(wanted: Wanted, value: &Value) -> Result<Value, ValueStop>
+    ensures { Tells result (best_among_at (is_before wanted) (and_val (val_of value.now) no_vals)) }
+{
+    match value {
+        Value::List(values) => best(wanted, values.items()),
+        Value::Number(n) => Ok(Value::Number(*n)),
+        _ => Err(ValueStop::Kind(FaultKind::TypeMismatch)),
+    }
+}
+
+/// The best of one or more numbers.
+fn best(wanted: Wanted, values: &[Value]) -> Result<Value, ValueStop>
+    ensures { Tells result (best_at (is_before wanted) (vals_from (vals_in values.now))) }
+{
+    match values {
+        [first, rest @ ..] => best_from(wanted, first, rest),
+        [] => Err(ValueStop::Kind(FaultKind::TypeMismatch)),
+    }
+}
+
+fn best_from(wanted: Wanted, first: &Value, rest: &[Value]) -> Result<Value, ValueStop>
+    ensures { Tells result (best_at (is_before wanted) (and_val (val_of first.now) (vals_from (vals_in rest.now)))) }
+{
+    match first {
+        Value::Number(n) => Ok(Value::Number(best_of(wanted, *n, rest)?)),
+        _ => Err(ValueStop::Kind(FaultKind::TypeMismatch)),
+    }
+}
+
+/// The best of a number and further ones.
+fn best_of(wanted: Wanted, first: i64, rest: &[Value]) -> Result<i64, FaultKind>
+    ensures { number_at result ≡ best_of_at (is_before wanted) first (vals_from (vals_in rest.now)) }
+{
+    let mut best = first;
+    for value in rest {
+        let Value::Number(n) = value else {
+            return Err(FaultKind::TypeMismatch);
+        };
+        best = wanted.better(best, *n);
+    }
+    Ok(best)
+}

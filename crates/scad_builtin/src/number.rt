@@ -1,0 +1,98 @@
+ghost use Rattle.std.specs.Prelude.{◌≡◌, ◌≤◌, ℕ, pos, unsigned_abs};
+ghost use Rattle.scad_value.specs.Values.{vals_from};
+ghost use Rattle.scad_value.specs.Operators.{sized as sized_at};
+ghost use Rattle.scad_value.specs.View.{val_of, vals_of, Tells};
+ghost use Rattle.scad_builtin.specs.Builtins.{of_number as of_number_at, of_two, power as power_at, power_of as power_of_values, power_row as power_row_at};
+ghost use Rattle.scad_builtin.specs.Rows.{number_row};
+
+use crate::taken::both;
+use scad_value::{Value, ValueStop, Values, product_of_two, sized};
+use text_place::FaultKind;
+
+/// What is done with one number.
+#[derive(Clone, Copy, Debug, PartialEq, Eq)]
+pub(crate) enum NumberRow {
+    /// Its size.
+    Size,
+    /// -1, 0 or 1.
+    Direction,
+    Itself,
+}
+
+impl NumberRow {
+    fn of(self, n: i64) -> Result<i64, FaultKind>
+        ensures { result ≡ number_row self n }
+    {
+        match self {
+            NumberRow::Size => count(n.unsigned_abs()),
+            NumberRow::Direction => Ok(n.signum()),
+            NumberRow::Itself => Ok(n),
+        }
+    }
+}
+
+/// A count as a number, unless it is too large.
+pub(crate) fn count(n: u64) -> Result<i64, FaultKind>
+    ensures { result ≡ sized_at (pos n) }
+{
+    sized(n as i128)
+}
+
+/// What is done with a number.
+pub(crate) fn of_number(row: NumberRow, value: &Value) -> Result<Value, ValueStop>
+    ensures { Tells result (of_number_at (number_row row) (val_of value.now)) }
+{
+    match value {
+        Value::Number(n) => Ok(Value::Number(row.of(*n)?)),
+        _ => Err(ValueStop::Kind(FaultKind::TypeMismatch)),
+    }
+}
+
+/// The power of two numbers.
+pub(crate) fn power(values: &Values) -> Result<Value, ValueStop>
+    ensures { Tells result (of_two power_of_values (vals_from (vals_of values.now))) }
+{
+    match both(values.items()) {
+        Some((base, exponent)) => power_of(base, exponent),
+        None => Err(ValueStop::Kind(FaultKind::TypeMismatch)),
+    }
+}
+
+fn power_of(base: &Value, exponent: &Value) -> Result<Value, ValueStop>
+    ensures { Tells result (power_of_values (val_of base.now) (val_of exponent.now)) }
+{
+    match (base, exponent) {
+        (Value::Number(b), Value::Number(e)) => Ok(Value::Number(power_row(*b, *e)?)),
+        _ => Err(ValueStop::Kind(FaultKind::TypeMismatch)),
+    }
+}
+
+/// A power. The powers of 0, 1 and -1 are told by their exponents alone, so that no large exponent
+/// takes long.
+fn power_row(base: i64, exponent: i64) -> Result<i64, FaultKind>
+    ensures { result ≡ power_row_at base exponent }
+{
+    match base {
+        0 if exponent < 0 => Err(FaultKind::ZeroDivisor),
+        0 if exponent == 0 => Ok(1),
+        0 => Ok(0),
+        1 => Ok(1),
+        -1 if exponent % 2 == 0 => Ok(1),
+        -1 => Ok(-1),
+        _ if exponent < 0 => Err(FaultKind::NotWhole),
+        _ => repeated(base, exponent as u64),
+    }
+}
+
+/// The product of so many equal factors, each at least 2 in size: so it is too large after at most
+/// 54 of them.
+fn repeated(factor: i64, count: u64) -> Result<i64, FaultKind>
+    requires { 2 ≤ unsigned_abs factor }
+    ensures { result ≡ sized_at (power_at factor count) }
+{
+    let mut product: i64 = 1;
+    for _ in 0..count {
+        product = product_of_two(product, factor)?;
+    }
+    Ok(product)
+}
