@@ -1,2 +1,4 @@
 mod Rows
+pub mod Counts
+pub mod Environments
 pub mod Calls

@@ -1,7 +1,6 @@
 pub mod Meaning
 pub mod Definitions
-pub mod Table
-pub mod Finds
+pub mod Functions
 pub mod Numerals
 pub mod Slots
 pub mod View

@@ -17,7 +17,8 @@ use Rattle.scad_func.specs.Slots.{Slots}
 use Rattle.scad_func.specs.declared.source.Source.{Source}
 use Rattle.scad_func.specs.declared.answer.Indexed.{Indexed}
 use Rattle.scad_func.specs.declared.answer.Indexed.TheVariants.{Variable, Made}
-use Rattle.scad_func.specs.Table.{functions_seen, are_numbered}
+use Rattle.scad_func.specs.Functions.{functions_seen}
+use Rattle.scad_scope.specs.Numbered.{functions_below}
 use Rattle.scad_func.specs.declared.functions.Function.{Function as FunctionLent}
 use Rattle.scad_ast.specs.declared.expression.Expr.{Expr, size-Expr}
 use Rattle.scad_ast.specs.declared.statement.Param.{Param}
@@ -54,11 +55,6 @@ TellsAnswer (Ok v) answer at = answer ≡ Ok (val_of v)
 TellsAnswer (Err (Fault fault)) answer at = (answer ≡ Err fault.kind) × (fault.place ≡ at)
 TellsAnswer (Err NoMemory) answer at = Unit {0}
 
--- each value is bounded
-abbrev pub are_bounded : List Val → Bool
-are_bounded [] = true
-are_bounded (v ∷ vs) = is_bounded v && are_bounded vs
-
 abbrev pub slot_is_bounded : Option Val → Bool
 slot_is_bounded (Some v) = is_bounded v
 slot_is_bounded None = true
@@ -66,9 +62,6 @@ slot_is_bounded None = true
 abbrev pub slots_bounded : Slots → Bool
 slots_bounded [] = true
 slots_bounded (slot ∷ slots) = slot_is_bounded slot && slots_bounded slots
-
-abbrev pub empty_row : ℕ → Row
-empty_row outer = record { variables = []; functions = []; modules = []; outer = outer }
 
 -- rows without definitions
 abbrev pub is_empty : {A : Type 0} → List A → Bool
@@ -99,9 +92,9 @@ modules_held source = modules_of_program (program_of source.program.now)
 abbrev pub seen : Source → List Row → ℕ → Env
 seen source rows scope = env_in (functions_held source) (modules_held source) (env_of rows scope)
 
--- each number in the table of scopes is that of a function or of a module of the program
+-- each number in the table of scopes is that of a function of the program
 abbrev pub IsNumbered : Source → List Row → Type 0
-IsNumbered source rows = IsTrue (are_numbered (length (functions_held source)) (length (modules_held source)) rows)
+IsNumbered source rows = IsTrue (functions_below (length (functions_held source)) rows)
 
 -- the greatest depth of a function's value and of its defaults
 abbrev pub param_size : Param → ℕ

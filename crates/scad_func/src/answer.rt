@@ -7,15 +7,14 @@ ghost use Rattle.scad_value.specs.Operators.{Answer, binary_of, unary_of, index_
 ghost use Rattle.scad_value.specs.View.{val_of, vals_of, vals_in, Tells as TellsValue, GivesBounded};
 ghost use Rattle.scad_scope.specs.Names.{env_of, variable_in};
 ghost use Rattle.scad_scope.specs.Table.{rows_of};
-ghost use Rattle.scad_func.specs.Builtins.{applied, is_left_out as left_out};
 ghost use Rattle.scad_func.specs.Meaning.{range_of as range_at, stepped_range_of as stepped_range_at, member_of as member_at, or_zero, or_fault, Gives, wants_right as wants_right_at};
 ghost use Rattle.text_place.specs.declared.fault.FaultKind.TheVariants.{UnknownName, UnknownFunction, NotInProfile};
 ghost use Rattle.scad_scope.specs.Arguments.{argument_place as place_at};
-ghost use Rattle.scad_func.specs.View.{Tells, TellsAnswer, indexed_val, IsThere, are_bounded, slots_in};
+ghost use Rattle.scad_func.specs.View.{Tells, TellsAnswer, indexed_val, IsThere, slots_in};
+ghost use Rattle.scad_builtin.specs.Builtins.{applied, is_left_out as left_out, are_bounded};
 ghost use Rattle.scad_func.specs.Slots.{have_no_names as no_names, free_slot as free_slot_at};
 
-use crate::stub::is_left_out;
-use crate::stub_kind::Builtin;
+use scad_builtin::{Builtin, is_left_out};
 use scad_ast::{Arg, Args, BinaryOp, Param, UnaryOp};
 use scad_scope::{Scopes, taken_by};
 use scad_value::{Value, ValueStop, Values, binary, index, made, truth, unary};
@@ -86,7 +85,7 @@ fn made_list(values: Vec<Value>) -> Result<Value, ValueStop>
     ensures value { TellsValue result (made_at (Ok (ListVal (vals_from (vals_in values.items))))) }
     ensures bounded { GivesBounded result }
 {
-    made(Value::List(Values::of(values)))
+    Ok(made(Value::List(Values::of(values)))?)
 }
 
 /// The value of a built-in function, with its faults at a place.

@@ -6,13 +6,13 @@ ghost use Rattle.scad_value.specs.Values.{is_bounded};
 ghost use Rattle.scad_value.specs.View.{val_of, vals_in};
 ghost use Rattle.scad_scope.specs.Names.{env_of};
 ghost use Rattle.scad_scope.specs.Table.{rows_of};
-ghost use Rattle.scad_func.specs.Builtins.{builtin_of};
+ghost use Rattle.scad_builtin.specs.Builtins.{builtin_of, are_bounded};
 ghost use Rattle.scad_func.specs.Meaning.{evaluated, operand as operand_at, each_value as values_at, each_suffix, each_link, called, built_in as built_in_at, function_in, then_with, answered, range_of as range_at, stepped_range_of as stepped_at, Gives};
 ghost use Rattle.scad_func.specs.Slots.{each_slot, each_filled, filled, entered_filled, all_values, suffixed, linked, argument_of};
 ghost use Rattle.scad_func.specs.Numerals.{has_small_numerals, terms_have_small, args_have_small, suffixes_have_small, links_have_small, functions_have_small, params_have_small, param_has_small, function_has_small, suffix_has_small};
 ghost use Rattle.scad_func.specs.Definitions.{env_in};
-ghost use Rattle.scad_func.specs.Table.{function_seen};
-ghost use Rattle.scad_func.specs.View.{Tells, TellsAll, TellsSlots, Grows, IsNumbered, functions_held, modules_held, seen, function_size, deepest, indexed_val, IsThere, are_bounded, slot_of, slots_in, slots_bounded, slot_is_bounded};
+ghost use Rattle.scad_func.specs.Functions.{function_of};
+ghost use Rattle.scad_func.specs.View.{Tells, TellsAll, TellsSlots, Grows, IsNumbered, functions_held, modules_held, seen, function_size, deepest, indexed_val, IsThere, slot_of, slots_in, slots_bounded, slot_is_bounded};
 
 use crate::answer::{
     Indexed, applied_to, argument_place, child_count, free_slot, have_no_names, item_of, listed, member_of,
@@ -23,8 +23,8 @@ use crate::bind::bind_all;
 use crate::functions::{Function, find};
 use crate::meter::{Meter, counted};
 use crate::source::Source;
-use crate::stub::{builtin, is_left_out};
 use scad_ast::{Arg, Args, Expr, Exprs, Link, Links, Param, Params, Suffix, Suffixes};
+use scad_builtin::builtin;
 use scad_scope::Scopes;
 use scad_value::{Value, truth};
 use std::alloc::Global;
@@ -33,7 +33,7 @@ use text_place::{Fault, FaultKind, Place, Stop};
 
 /// The value of an expression, whose parts are counted where it is a list.
 #[cycle(value)]
-pub fn value_in(
+pub fn value(
     alloc: Global,
     scopes: &mut Scopes,
     source: &Source<'_>,
@@ -132,7 +132,7 @@ fn operand(
         Expr::Call(place, name, args) => {
             call(alloc, scopes, source, scope, name.items(), *place, args, meter)
         }
-        Expr::Paren(_, inner) => value_in(alloc, scopes, source, scope, inner, meter),
+        Expr::Paren(_, inner) => value(alloc, scopes, source, scope, inner, meter),
         Expr::List(place, items) => {
             let values = each_value(alloc, scopes, source, scope, items, meter)?;
             listed(values, *place)
@@ -155,9 +155,9 @@ fn operand(
         Expr::Choice(_, test, _, one, other) => {
             let value = operand(alloc, scopes, source, scope, test, meter)?;
             if truth(&value) {
-                value_in(alloc, scopes, source, scope, one, meter)
+                value(alloc, scopes, source, scope, one, meter)
             } else {
-                value_in(alloc, scopes, source, scope, other, meter)
+                value(alloc, scopes, source, scope, other, meter)
             }
         }
     }
@@ -190,7 +190,7 @@ fn each_value(
 {
     let mut values = Vec::new(alloc);
     'each: for expr in &exprs.items {
-        let value = value_in(alloc, scopes, source, scope, expr, meter)?;
+        let value = value(alloc, scopes, source, scope, expr, meter)?;
         push(&mut values, value)?;
     }
     Ok(values)
@@ -227,8 +227,8 @@ fn range(
     ensures depth { OnOk result (meter.new.depth ≡ meter.old.depth) }
     ensures turns { OnOk result (meter.new.turns ≤ 100000) }
 {
-    let a = value_in(alloc, scopes, source, scope, from, meter)?;
-    let b = value_in(alloc, scopes, source, scope, upto, meter)?;
+    let a = value(alloc, scopes, source, scope, from, meter)?;
+    let b = value(alloc, scopes, source, scope, upto, meter)?;
     range_of(&a, &b, place)
 }
 
@@ -266,9 +266,9 @@ fn stepped_range(
     ensures depth { OnOk result (meter.new.depth ≡ meter.old.depth) }
     ensures turns { OnOk result (meter.new.turns ≤ 100000) }
 {
-    let a = value_in(alloc, scopes, source, scope, from, meter)?;
-    let s = value_in(alloc, scopes, source, scope, by, meter)?;
-    let b = value_in(alloc, scopes, source, scope, upto, meter)?;
+    let a = value(alloc, scopes, source, scope, from, meter)?;
+    let s = value(alloc, scopes, source, scope, by, meter)?;
+    let b = value(alloc, scopes, source, scope, upto, meter)?;
     stepped_range_of(&a, &s, &b, place)
 }
 
@@ -373,7 +373,7 @@ fn suffix(
 {
     match part {
         Suffix::Index(place, index) => {
-            let at = value_in(alloc, scopes, source, scope, index, meter)?;
+            let at = value(alloc, scopes, source, scope, index, meter)?;
             item_of(alloc, scopes, scope, of, &at, *place)
         }
         Suffix::Member(place, name, name_place) => match member_of(name.items()) {
@@ -413,11 +413,11 @@ fn links(
     ensures depth { OnOk result (meter.new.depth ≡ meter.old.depth) }
     ensures turns { OnOk result (meter.new.turns ≤ 100000) }
 {
-    let mut left = left;
+    let mut so_far = left;
     'each: for part in &rest.items {
-        left = link(alloc, scopes, source, scope, &left, part, meter)?;
+        so_far = link(alloc, scopes, source, scope, &so_far, part, meter)?;
     }
-    Ok(left)
+    Ok(so_far)
 }
 
 /// An operator and its right side. A variable on the right is lent where it stands.
@@ -565,8 +565,8 @@ fn argument(
     ensures turns { OnOk result (meter.new.turns ≤ 100000) }
 {
     match arg {
-        Arg::Named(_, _, value) => value_in(alloc, scopes, source, scope, value, meter),
-        Arg::Positional(value) => value_in(alloc, scopes, source, scope, value, meter),
+        Arg::Named(_, _, value) => value(alloc, scopes, source, scope, value, meter),
+        Arg::Positional(value) => value(alloc, scopes, source, scope, value, meter),
     }
 }
 
@@ -586,14 +586,14 @@ fn enter(
     requires scope { scope < length (rows_of scopes.old) }
     requires numbered { IsNumbered source.now (rows_of scopes.old) }
     requires table { IsTrue (functions_have_small (functions_held source.now)) }
-    requires function { IsTrue (function_has_small (function_seen function)) }
+    requires function { IsTrue (function_has_small (function_of function)) }
     requires within { function_size function ≤ deepest source.now.functions.items.items }
     requires count { length slots.items ≡ length (params_of function.params.now) }
     requires filled { IsTrue (slots_bounded (slots_in slots.items)) }
     requires calls { meter.old.calls ≤ 64 }
     requires depth { meter.old.depth ≤ 512 }
     requires turns { meter.old.turns ≤ 100000 }
-    ensures value { Tells result meter.new.turns (entered_filled (evaluated (512 - meter.old.depth)) (64 - meter.old.calls) place (function_seen function.entry, (seen source.now (rows_of scopes.old) scope)) (slots_in slots.items) meter.old.turns) }
+    ensures value { Tells result meter.new.turns (entered_filled (evaluated (512 - meter.old.depth)) (64 - meter.old.calls) place (function_of function.entry, (seen source.now (rows_of scopes.old) scope)) (slots_in slots.items) meter.old.turns) }
     ensures bounded { IfOk result (λ v. IsTrue (is_bounded (val_of v))) }
     ensures scopes { Grows (rows_of scopes.old) (rows_of scopes.new) }
     ensures numbered { IsNumbered source.now (rows_of scopes.new) }
@@ -617,7 +617,7 @@ fn enter(
     meter.calls += 1;
     let values = each_parameter(alloc, scopes, source, scope, function.params, slots, meter)?;
     let inner = bind_all(alloc, scopes, scope, function.params, values)?;
-    let value = value_in(alloc, scopes, source, inner, function.value, meter)?;
+    let value = value(alloc, scopes, source, inner, function.value, meter)?;
     meter.calls -= 1;
     Ok(value)
 }
@@ -650,10 +650,10 @@ fn each_parameter(
     ensures depth { OnOk result (meter.new.depth ≡ meter.old.depth) }
     ensures turns { OnOk result (meter.new.turns ≤ 100000) }
 {
-    let mut left = slots;
+    let mut open = slots;
     let mut values = Vec::new(alloc);
     'each: for (i, param) in params.items.iter().enumerate() {
-        let given = mem::replace(&mut left[i], None);
+        let given = mem::replace(&mut open[i], None);
         let value = parameter(alloc, scopes, source, scope, param, given, meter)?;
         push(&mut values, value)?;
     }
@@ -692,7 +692,7 @@ fn parameter(
         None => match param {
             Param::Plain(_, _) => Ok(Value::Undef),
             Param::WithDefault(_, _, value) => {
-                value_in(alloc, scopes, source, scope, value, meter)
+                value(alloc, scopes, source, scope, value, meter)
             }
         },
     }

@@ -5,12 +5,12 @@ mod answer;
 mod bind;
 mod evaluate;
 mod functions;
+#[cfg(test)]
+mod functions_tests;
 mod meter;
 mod source;
-mod stub;
-mod stub_kind;
 
-pub use evaluate::value_in;
+pub use evaluate::value;
 pub use functions::{Function, Functions};
 pub use meter::Meter;
 pub use source::Source;

@@ -94,15 +94,13 @@ rows_bounded_push : (ss : List Scope) (s : Scope) → IsTrue (all_bounded (rows_
 rows_bounded_push [] s h b = and_from _ _ b refl
 rows_bounded_push (t ∷ ss) s h b = let p = and_parts _ _ h in and_from _ _ p.0 (rows_bounded_push ss s p.1 b)
 
-no_variables : (outer : ℕ) (block : Scan) → IsTrue (have_bounded (entered outer block).variables)
+-- a block has no variables before its assignments
+pub no_variables : (outer : ℕ) (block : Scan) → IsTrue (have_bounded (entered outer block).variables)
 no_variables outer (Reached block) = refl
 no_variables outer (Passed b f m) = refl
 
--- a new scope has no variables
-pub entering_bounded : (t : Bool) (ss new : List Scope) (s : Scope) (outer : ℕ) (block : Scan) →
-    new ≡ cond t (ss ++ s ∷ []) ss → row_of s ≡ entered outer block
-    → IsTrue (all_bounded (rows_in ss)) → IsTrue (all_bounded (rows_in new))
-entering_bounded true ss new s outer block e r h = subst (λ l. IsTrue (all_bounded (rows_in l))) (sym e)
-    (rows_bounded_push ss s h (subst (λ (x : Row). IsTrue (have_bounded x.variables)) (sym r)
-    (no_variables outer block)))
-entering_bounded false ss new s outer block e r h = subst (λ l. IsTrue (all_bounded (rows_in l))) (sym e) h
+-- a new scope whose variables are bounded
+pub adding_bounded : (t : Bool) (ss new : List Scope) (s : Scope) → new ≡ cond t (ss ++ s ∷ []) ss
+    → IsTrue (have_bounded (row_of s).variables) → IsTrue (all_bounded (rows_in ss)) → IsTrue (all_bounded (rows_in new))
+adding_bounded true ss new s e b h = subst (λ l. IsTrue (all_bounded (rows_in l))) (sym e) (rows_bounded_push ss s h b)
+adding_bounded false ss new s e b h = subst (λ l. IsTrue (all_bounded (rows_in l))) (sym e) h

@@ -222,21 +222,20 @@ pub binding_here : (rs : List Row) (k : ℕ) (name : List ℕ) (value : Val) →
 unfolding env_of
 binding_here rs k name value h = here_bound [] rs k name value k h (omega arith)
 
-entered_outer : (outer : ℕ) (block : Scan) → (entered outer block).outer ≡ outer
+pub entered_outer : (outer : ℕ) (block : Scan) → (entered outer block).outer ≡ outer
 entered_outer outer (Reached block) = refl
 entered_outer outer (Passed b f m) = refl
 
 -- what entering and binding leave of the scopes
-module _ {E : Type 0} (old new : List Row) (outer : ℕ) (block : Scan) where
-  pub entering_told : (r : Result ℕ E) → IfOk r (λ n. n ≡ length old) → OnOk r (new ≡ old ++ entered outer block ∷ [])
-      → IfOk r (λ n. env_of new n ≡ Within n (entered outer block) (env_of old outer))
-  entering_told (Ok n) f g = ap (λ rs. env_of rs n) g ∙ env_new old (entered outer block) n f
-      ∙ ap (λ o. Within n (entered outer block) (env_of old o)) (entered_outer outer block)
-  entering_told (Err e) f g = tt
+module _ {E : Type 0} (old new : List Row) (outer : ℕ) (row : Row) where
+  pub entering_told : (r : Result ℕ E) → row.outer ≡ outer → IfOk r (λ n. n ≡ length old)
+      → OnOk r (new ≡ old ++ row ∷ []) → IfOk r (λ n. env_of new n ≡ Within n row (env_of old outer))
+  entering_told (Ok n) e f g = ap (λ rs. env_of rs n) g ∙ env_new old row n f ∙ ap (λ o. Within n row (env_of old o)) e
+  entering_told (Err x) e f g = tt
 
-  pub entering_kept : (r : Result ℕ E) → OnOk r (new ≡ old ++ entered outer block ∷ []) → OnErr r (new ≡ old)
+  pub entering_kept : (r : Result ℕ E) → OnOk r (new ≡ old ++ row ∷ []) → OnErr r (new ≡ old)
       → (k : ℕ) → k < length old → env_of new k ≡ env_of old k
-  entering_kept (Ok n) f g k h = ap (λ rs. env_of rs k) f ∙ env_kept old (entered outer block) k h
+  entering_kept (Ok n) f g k h = ap (λ rs. env_of rs k) f ∙ env_kept old row k h
   entering_kept (Err e) f g k h = ap (λ rs. env_of rs k) g
 
 module _ {A E : Type 0} (old new : List Row) (scope : ℕ) (name : List ℕ) (value : Val) where

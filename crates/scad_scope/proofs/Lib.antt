@@ -1,3 +1,4 @@
 pub mod Envs
 pub mod Bound
 pub mod Scans
+pub mod Numbered

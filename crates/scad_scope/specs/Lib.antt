@@ -3,4 +3,5 @@ pub mod Names
 pub mod Table
 pub mod View
 pub mod Blocks
+pub mod Numbered
 pub mod Seeking

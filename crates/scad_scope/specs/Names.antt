@@ -63,6 +63,10 @@ module_in (Within number row outer) name =
 abbrev pub first_row : Row
 first_row = record { variables = []; functions = []; modules = []; outer = 2 ^ 32 - 1 }
 
+-- a scope without variables and definitions, inside another one
+abbrev pub empty_row : ℕ → Row
+empty_row outer = record { variables = []; functions = []; modules = []; outer = outer }
+
 -- a scope with one more variable
 abbrev pub with_variable : List ℕ → Val → Row → Row
 with_variable name value row = record row { variables = (name, value) ∷ row.variables }

@@ -2,6 +2,7 @@ ghost use Rattle.std.specs.Prelude.{◌≡◌, ◌+◌, ◌++◌, [], ◌∷◌,
 ghost use Rattle.scad_ast.specs.Terms.{statements_from};
 ghost use Rattle.scad_ast.specs.StatementView.{statement_of, statements_of, program_of};
 ghost use Rattle.scad_scope.specs.Blocks.{Reached, marks_of, functions_among, modules_among, own_functions, own_function, own_modules, own_module, block_of, entered};
+ghost use Rattle.scad_scope.specs.Names.{empty_row};
 ghost use Rattle.scad_scope.specs.View.{definition_of, row_of};
 
 use crate::blocks::{Seek, Sought, in_program, in_statement};
@@ -27,8 +28,9 @@ pub(crate) fn scope_of_block(
     }
 }
 
-fn empty(alloc: Global, outer: u32) -> Scope
-    ensures { row_of result ≡ record { variables = []; functions = []; modules = []; outer = outer } }
+/// A new scope without definitions, inside another one.
+pub(crate) fn empty(alloc: Global, outer: u32) -> Scope
+    ensures { row_of result ≡ empty_row outer }
 {
     Scope {
         variables: Vec::new(alloc),

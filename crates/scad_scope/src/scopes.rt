@@ -2,7 +2,7 @@ ghost use Rattle.std.specs.Prelude.{IsTrue};
 ghost use Rattle.scad_scope.specs.Names.{all_bounded};
 ghost use Rattle.scad_scope.specs.View.{rows_in};
 
-use crate::own::scope_of_block;
+use crate::own::{empty, scope_of_block};
 use crate::table::{Family, Found, Scope, definitions, find_definition, find_variable};
 use scad_ast::Program;
 use scad_value::Value;
@@ -22,15 +22,18 @@ impl Scopes {
     ghost use Rattle.text_place.specs.declared.fault.FaultKind.TheVariants.{UnknownName, UnknownFunction, UnknownModule};
     ghost use Rattle.scad_value.specs.Values.{is_bounded};
     ghost use Rattle.scad_value.specs.View.{val_of};
-    ghost use Rattle.scad_scope.specs.Names.{env_of, variable_in, function_in, module_in, first_row, bound_in, with_pair, Within};
+    ghost use Rattle.scad_scope.specs.Names.{env_of, variable_in, function_in, module_in, have_bounded, first_row, empty_row, bound_in, with_pair, Within};
     ghost use Rattle.scad_ast.specs.StatementView.{program_of};
     ghost use Rattle.scad_scope.specs.Blocks.{entered, block_of};
-    ghost use Rattle.scad_scope.specs.View.{definition_in};
+    ghost use Rattle.scad_scope.specs.Numbered.{functions_below, modules_below, count_of_functions, count_of_modules};
+    ghost use Rattle.scad_scope.specs.View.{definition_in, row_of};
     ghost use Rattle.scad_scope.specs.Table.{rows_of, IsFound, IsMissing, IsVariable};
 
     /// One empty scope, number 0, outside all others.
     pub fn new(alloc: Global) -> Result<Scopes, NoMemory>
-        ensures { IfOk result (λ s. rows_of s ≡ first_row ∷ []) }
+        ensures rows { IfOk result (λ s. rows_of s ≡ first_row ∷ []) }
+        ensures functions { IfOk result (λ s. (n : ℕ) → IsTrue (functions_below n (rows_of s))) }
+        ensures modules { IfOk result (λ s. (n : ℕ) → IsTrue (modules_below n (rows_of s))) }
     {
         let mut scopes = Vec::new(alloc);
         scopes.push(Scope {
@@ -46,6 +49,9 @@ impl Scopes {
     /// program itself; the bodies and the expressions of functions are numbered from 1 in the order
     /// in which they begin. A block that isn't there has no definitions. `NoMemory` leaves all scopes
     /// as they were; it also comes where a number would be past 2^32 - 1.
+    ///
+    /// Functions and modules have numbers below the program's counts of them, where those of the
+    /// scopes before have.
     pub fn enter(
         &mut self,
         alloc: Global,
@@ -61,27 +67,42 @@ impl Scopes {
         ensures inside { IfOk result (λ n. env_of (rows_of self.new) n ≡
             Within n (entered outer (block_of (program_of program.now) block)) (env_of (rows_of self.old) outer)) }
         ensures kept { (k : ℕ) → k < length (rows_of self.old) → env_of (rows_of self.new) k ≡ env_of (rows_of self.old) k }
+        ensures functions { let n = count_of_functions (program_of program.now) in
+            IsTrue (functions_below n (rows_of self.old)) → IsTrue (functions_below n (rows_of self.new)) }
+        ensures modules { let n = count_of_modules (program_of program.now) in
+            IsTrue (modules_below n (rows_of self.old)) → IsTrue (modules_below n (rows_of self.new)) }
     {
-        self.add_scope(alloc, outer, program, block)
+        let scope = scope_of_block(alloc, outer, program, block)?;
+        self.add(scope)
     }
 
-    fn add_scope(
-        &mut self,
-        alloc: Global,
-        outer: u32,
-        program: &Program,
-        block: u32,
-    ) -> Result<u32, NoMemory>
+    /// A new scope without definitions, inside another scope, and its number: what the expression of
+    /// a function is as a block. Its time does not depend on the program. `NoMemory` leaves all
+    /// scopes as they were; it also comes where a number would be past 2^32 - 1.
+    pub fn enter_empty(&mut self, alloc: Global, outer: u32) -> Result<u32, NoMemory>
+        requires { outer < length (rows_of self.old) }
         ensures number { IfOk result (λ n. n ≡ length (rows_of self.old)) }
-        ensures entered { OnOk result (rows_of self.new ≡
-            rows_of self.old ++ entered outer (block_of (program_of program.now) block) ∷ []) }
+        ensures entered { OnOk result (rows_of self.new ≡ rows_of self.old ++ empty_row outer ∷ []) }
+        ensures unchanged { OnErr result (rows_of self.new ≡ rows_of self.old) }
+        ensures inside { IfOk result (λ n. env_of (rows_of self.new) n ≡
+            Within n (empty_row outer) (env_of (rows_of self.old) outer)) }
+        ensures kept { (k : ℕ) → k < length (rows_of self.old) → env_of (rows_of self.new) k ≡ env_of (rows_of self.old) k }
+        ensures functions { (n : ℕ) → IsTrue (functions_below n (rows_of self.old)) → IsTrue (functions_below n (rows_of self.new)) }
+        ensures modules { (n : ℕ) → IsTrue (modules_below n (rows_of self.old)) → IsTrue (modules_below n (rows_of self.new)) }
+    {
+        self.add(empty(alloc, outer))
+    }
+
+    fn add(&mut self, scope: Scope) -> Result<u32, NoMemory>
+        requires { IsTrue (have_bounded (row_of scope).variables) }
+        ensures number { IfOk result (λ n. n ≡ length (rows_of self.old)) }
+        ensures added { OnOk result (rows_of self.new ≡ rows_of self.old ++ row_of scope ∷ []) }
         ensures unchanged { OnErr result (rows_of self.new ≡ rows_of self.old) }
     {
         let number = self.scopes.len();
         if number > u32::MAX as usize {
             return Err(NoMemory);
         }
-        let scope = scope_of_block(alloc, outer, program, block)?;
         self.scopes.push(scope)?;
         Ok(number as u32)
     }
@@ -102,6 +123,8 @@ impl Scopes {
         ensures here { OnOk result (env_of (rows_of self.new) scope ≡
             with_pair name.now (val_of value) (env_of (rows_of self.old) scope)) }
         ensures kept { (k : ℕ) → k < scope → env_of (rows_of self.new) k ≡ env_of (rows_of self.old) k }
+        ensures functions { (n : ℕ) → IsTrue (functions_below n (rows_of self.old)) → IsTrue (functions_below n (rows_of self.new)) }
+        ensures modules { (n : ℕ) → IsTrue (modules_below n (rows_of self.old)) → IsTrue (modules_below n (rows_of self.new)) }
     {
         self.add_variable(alloc, scope, name, value)
     }

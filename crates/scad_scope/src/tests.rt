@@ -154,6 +154,39 @@ fn finds_definitions_by_their_numbers(rt: HostRuntime) -> Result<(), Fail> {
     Ok(())
 }
 
+fn enter_empty(
+    rt: &impl Abort,
+    alloc: Global,
+    scopes: &mut Scopes,
+    outer: u32,
+) -> Result<u32, NoMemory> {
+    assert!(rt; is_there(scopes, outer));
+    scopes.enter_empty(alloc, outer)
+}
+
+// The expression of the first function is block 1, and module m's body is block 2.
+#[test]
+fn enters_a_scope_without_definitions(rt: HostRuntime) -> Result<(), Fail> {
+    let alloc = rt.alloc();
+    let program = program(alloc)?;
+    let mut scopes = Scopes::new(alloc)?;
+    assert_eq!(rt; enter(&rt, alloc, &mut scopes, 0, &program, 0)?, 1);
+    assert_eq!(rt; enter(&rt, alloc, &mut scopes, 1, &program, 2)?, 2);
+    assert_eq!(rt; enter(&rt, alloc, &mut scopes, 1, &program, 1)?, 3);
+    assert_eq!(rt; enter_empty(&rt, alloc, &mut scopes, 1)?, 4);
+    assert_eq!(rt; enter_empty(&rt, alloc, &mut scopes, 2)?, 5);
+    bind(&rt, alloc, &mut scopes, 1, b"x", 5)?;
+    bind(&rt, alloc, &mut scopes, 4, b"x", 7)?;
+    for (scope, x) in [(1, 5), (2, 5), (3, 5), (4, 7), (5, 5)] {
+        assert!(rt; has(&rt, &scopes, scope, b"x", x));
+    }
+    for (scope, wanted) in [(3, found(1, 4)), (4, found(1, 4)), (5, found(2, 1))] {
+        assert_eq!(rt; functions(&rt, &scopes, scope, b"f"), Ok(wanted));
+    }
+    assert_eq!(rt; modules(&rt, &scopes, 5, b"m"), Ok(found(1, 0)));
+    Ok(())
+}
+
 fn found(scope: u32, definition: u32) -> Found {
     Found { scope, definition }
 }

@@ -21,12 +21,13 @@ use Rattle.scad_func.specs.declared.meter.Meter.{Meter}
 use Rattle.scad_func.specs.Meaning.{evaluated, each_value, each_suffix, each_link}
 use Rattle.scad_func.specs.Slots.{each_slot, each_filled, all_values}
 use Rattle.scad_func.specs.Numerals.{terms_have_small, args_have_small, suffixes_have_small, links_have_small, params_have_small}
-use Rattle.scad_func.specs.View.{Grows, IsNumbered, seen, indexed_val, IsThere, are_bounded, slots_in, slots_bounded, deepest, param_size, params_size}
+use Rattle.scad_func.specs.View.{Grows, IsNumbered, seen, indexed_val, IsThere, slots_in, slots_bounded, deepest, param_size, params_size}
+use Rattle.scad_builtin.specs.Builtins.{are_bounded}
 use Rattle.scad_func.proofs.Calls.{calls_left, in_front}
 use Rattle.scad_func.proofs.evaluate.+value.Given as goal
 
-abbrev pub decreases-value_in : goal.decreases-value_in
-decreases-value_in l = calls_left l.source.now l.meter.now.calls + (4 * size-Expr l.expr.now + 2)
+abbrev pub decreases-value : goal.decreases-value
+decreases-value l = calls_left l.source.now l.meter.now.calls + (4 * size-Expr l.expr.now + 2)
 
 abbrev pub decreases-deeper : goal.decreases-deeper
 decreases-deeper l = calls_left l.source.now l.meter.now.calls + (4 * size-Expr l.expr.now + 1)
@@ -110,7 +111,7 @@ invariant-each_positional-each l = record {
 
 abbrev pub invariant-suffixes-each : goal.invariant-suffixes-each
 invariant-suffixes-each l = record {
-  told : each_suffix (evaluated (512 - l.fn.meter.depth)) (64 - l.fn.meter.calls) (seen l.source (rows_of l.fn.scopes) l.scope) (indexed_val (env_of (rows_of l.fn.scopes) l.scope) l.of) (suffixes_from (suffixes_of l.rest)) l.fn.meter.turns
+  told : each_suffix (evaluated (512 - l.fn.meter.depth)) (64 - l.fn.meter.calls) (seen l.source (rows_of l.fn.scopes) l.scope) (indexed_val (env_of (rows_of l.fn.scopes) l.scope) l.fn.of) (suffixes_from (suffixes_of l.rest)) l.fn.meter.turns
       ≡ each_suffix (evaluated (512 - l.fn.meter.depth)) (64 - l.fn.meter.calls) (seen l.source (rows_of l.fn.scopes) l.scope) (indexed_val (env_of (rows_of l.fn.scopes) l.scope) l.at) (suffixes_from (map suffix_of (drop l.part-index l.rest.items.items))) l.meter.turns;
   there : IsThere (env_of (rows_of l.fn.scopes) l.scope) l.at;
   small : IsTrue (suffixes_have_small (suffixes_from (map suffix_of (drop l.part-index l.rest.items.items))));
@@ -124,9 +125,9 @@ invariant-suffixes-each l = record {
 abbrev pub invariant-links-each : goal.invariant-links-each
 invariant-links-each l = record {
   told : each_link (evaluated (512 - l.fn.meter.depth)) (64 - l.fn.meter.calls) (seen l.source (rows_of l.fn.scopes) l.scope) (val_of l.fn.left) (links_from (links_of l.rest)) l.fn.meter.turns
-      ≡ each_link (evaluated (512 - l.fn.meter.depth)) (64 - l.fn.meter.calls) (seen l.source (rows_of l.fn.scopes) l.scope) (val_of l.left) (links_from (map link_of (drop l.part-index l.rest.items.items))) l.meter.turns;
-  bounded : IsTrue (is_bounded (val_of l.left));
-  small : IsTrue (links_have_small (links_from (map link_of (drop l.part-index l.rest.items.items))));
+      ≡ each_link (evaluated (512 - l.fn.meter.depth)) (64 - l.fn.meter.calls) (seen l.source (rows_of l.fn.scopes) l.scope) (val_of l.so_far) (links_from (map link_of (drop l.part-index l.part-items))) l.meter.turns;
+  bounded : IsTrue (is_bounded (val_of l.so_far));
+  small : IsTrue (links_have_small (links_from (map link_of (drop l.part-index l.part-items))));
   scopes : Grows (rows_of l.fn.scopes) (rows_of l.scopes);
   numbered : IsNumbered l.source (rows_of l.scopes);
   calls : l.meter.calls ≡ l.fn.meter.calls;
@@ -152,11 +153,11 @@ invariant-each_argument-each l = record {
 abbrev pub invariant-each_parameter-each : goal.invariant-each_parameter-each
 invariant-each_parameter-each l = record {
   told : each_filled (evaluated (512 - l.fn.meter.depth)) (64 - l.fn.meter.calls) (seen l.source (rows_of l.fn.scopes) l.scope) (params_of l.params) (slots_in l.fn.slots.items) l.fn.meter.turns
-      ≡ in_front (vals_in l.values.items) (each_filled (evaluated (512 - l.fn.meter.depth)) (64 - l.fn.meter.calls) (seen l.source (rows_of l.fn.scopes) l.scope) (map param_of (drop l.i l.params.items.items)) (slots_in (drop l.i l.left.items)) l.meter.turns);
-  count : length l.left.items ≡ length l.params.items.items;
+      ≡ in_front (vals_in l.values.items) (each_filled (evaluated (512 - l.fn.meter.depth)) (64 - l.fn.meter.calls) (seen l.source (rows_of l.fn.scopes) l.scope) (map param_of (drop l.i l.params.items.items)) (slots_in (drop l.i l.open.items)) l.meter.turns);
+  count : length l.open.items ≡ length l.params.items.items;
   got : length l.values.items ≡ l.i;
   bounded : IsTrue (are_bounded (vals_in l.values.items));
-  filled : IsTrue (slots_bounded (slots_in (drop l.i l.left.items)));
+  filled : IsTrue (slots_bounded (slots_in (drop l.i l.open.items)));
   small : IsTrue (params_have_small (map param_of (drop l.i l.params.items.items)));
   scopes : Grows (rows_of l.fn.scopes) (rows_of l.scopes);
   numbered : IsNumbered l.source (rows_of l.scopes);
