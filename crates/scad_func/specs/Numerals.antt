@@ -1,6 +1,6 @@
 -- Numerals of the profile: at most 2^53 - 1.
 use Rattle.std.specs.Prelude.{ℕ, ◌^◌, Bool, true, ◌&&◌, List, [], ◌∷◌, nat_lt}
-use Rattle.scad_ast.specs.Terms.{Term, NumberTerm, TextTerm, TruthTerm, UndefTerm, ChildCountTerm, NameTerm, CallTerm, ParenTerm, ListTerm, RangeTerm, SteppedRangeTerm, PostfixTerm, UnaryTerm, ChainTerm, ChoiceTerm, Terms, no_terms, and_term, ArgTerms, no_args, and_named, and_positional, SuffixTerms, no_suffixes, and_index, and_member, LinkTerms, no_links, and_link, ParamTerm, PlainTerm, DefaultTerm, SuffixTerm, IndexTerm, MemberTerm}
+use Rattle.scad_ast.specs.Terms.{Term, NumberTerm, TextTerm, TruthTerm, UndefTerm, ChildCountTerm, NameTerm, CallTerm, ParenTerm, ListTerm, RangeTerm, SteppedRangeTerm, PostfixTerm, UnaryTerm, ChainTerm, ChoiceTerm, Terms, no_terms, and_term, ArgTerms, no_args, and_named, and_positional, SuffixTerms, no_suffixes, and_index, and_member, LinkTerms, no_links, and_link, ParamTerm, PlainTerm, DefaultTerm, SuffixTerm, IndexTerm, MemberTerm, BinderTerm, args_from, StatementTerm, EmptyStatement, BlockStatement, AssignmentTerm, ModuleTerm, FunctionTerm, InstanceStatement, StatementTerms, no_statements, and_statement, InstanceTerm, AnInstance, CoreTerm, IfTerm, IfElseTerm, ForTerm, IntersectionForTerm, ModuleCallTerm, BodyTerm, EmptyBody, BlockBody, InstanceBody, statements_from}
 use Rattle.scad_func.specs.Meaning.{Function}
 
 -- each numeral of an expression is one of the profile
@@ -61,3 +61,41 @@ functions_have_small (f ∷ fs) = function_has_small f && functions_have_small f
 abbrev pub suffix_has_small : SuffixTerm → Bool
 suffix_has_small (IndexTerm at index) = has_small_numerals index
 suffix_has_small (MemberTerm at name name_at) = true
+
+-- of the variables of a loop
+abbrev pub binders_have_small : List BinderTerm → Bool
+binders_have_small [] = true
+binders_have_small (b ∷ bs) = has_small_numerals b.values && binders_have_small bs
+
+-- of statements
+abbrev mutual
+  pub statement_has_small : StatementTerm → Bool
+  statement_has_small (EmptyStatement at) = true
+  statement_has_small (BlockStatement at statements) = statements_have_small statements
+  statement_has_small (AssignmentTerm at name value) = has_small_numerals value
+  statement_has_small (ModuleTerm at name name_at params body) = params_have_small params && body_has_small body
+  statement_has_small (FunctionTerm at name name_at params value) = params_have_small params && has_small_numerals value
+  statement_has_small (InstanceStatement instance) = instance_has_small instance
+
+  pub statements_have_small : StatementTerms → Bool
+  statements_have_small no_statements = true
+  statements_have_small (and_statement s rest) = statement_has_small s && statements_have_small rest
+
+  pub instance_has_small : InstanceTerm → Bool
+  instance_has_small (AnInstance at marks core) = core_has_small core
+
+  pub core_has_small : CoreTerm → Bool
+  core_has_small (IfTerm at test body) = has_small_numerals test && body_has_small body
+  core_has_small (IfElseTerm at test body other) = has_small_numerals test && (body_has_small body && body_has_small other)
+  core_has_small (ForTerm at binders body) = binders_have_small binders && body_has_small body
+  core_has_small (IntersectionForTerm at binders body) = binders_have_small binders && body_has_small body
+  core_has_small (ModuleCallTerm at name args body) = args_have_small (args_from args) && body_has_small body
+
+  pub body_has_small : BodyTerm → Bool
+  body_has_small (EmptyBody at) = true
+  body_has_small (BlockBody at statements) = statements_have_small statements
+  body_has_small (InstanceBody instance) = instance_has_small instance
+
+-- of a program
+abbrev pub program_has_small : List StatementTerm → Bool
+program_has_small program = statements_have_small (statements_from program)

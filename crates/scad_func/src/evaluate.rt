@@ -33,7 +33,7 @@ use text_place::{Fault, FaultKind, Place, Stop};
 
 /// The value of an expression, whose parts are counted where it is a list.
 #[cycle(value)]
-pub fn value(
+pub fn expression(
     alloc: Global,
     scopes: &mut Scopes,
     source: &Source<'_>,
@@ -132,7 +132,7 @@ fn operand(
         Expr::Call(place, name, args) => {
             call(alloc, scopes, source, scope, name.items(), *place, args, meter)
         }
-        Expr::Paren(_, inner) => value(alloc, scopes, source, scope, inner, meter),
+        Expr::Paren(_, inner) => expression(alloc, scopes, source, scope, inner, meter),
         Expr::List(place, items) => {
             let values = each_value(alloc, scopes, source, scope, items, meter)?;
             listed(values, *place)
@@ -155,9 +155,9 @@ fn operand(
         Expr::Choice(_, test, _, one, other) => {
             let value = operand(alloc, scopes, source, scope, test, meter)?;
             if truth(&value) {
-                value(alloc, scopes, source, scope, one, meter)
+                expression(alloc, scopes, source, scope, one, meter)
             } else {
-                value(alloc, scopes, source, scope, other, meter)
+                expression(alloc, scopes, source, scope, other, meter)
             }
         }
     }
@@ -190,7 +190,7 @@ fn each_value(
 {
     let mut values = Vec::new(alloc);
     'each: for expr in &exprs.items {
-        let value = value(alloc, scopes, source, scope, expr, meter)?;
+        let value = expression(alloc, scopes, source, scope, expr, meter)?;
         push(&mut values, value)?;
     }
     Ok(values)
@@ -227,8 +227,8 @@ fn range(
     ensures depth { OnOk result (meter.new.depth ≡ meter.old.depth) }
     ensures turns { OnOk result (meter.new.turns ≤ 100000) }
 {
-    let a = value(alloc, scopes, source, scope, from, meter)?;
-    let b = value(alloc, scopes, source, scope, upto, meter)?;
+    let a = expression(alloc, scopes, source, scope, from, meter)?;
+    let b = expression(alloc, scopes, source, scope, upto, meter)?;
     range_of(&a, &b, place)
 }
 
@@ -266,9 +266,9 @@ fn stepped_range(
     ensures depth { OnOk result (meter.new.depth ≡ meter.old.depth) }
     ensures turns { OnOk result (meter.new.turns ≤ 100000) }
 {
-    let a = value(alloc, scopes, source, scope, from, meter)?;
-    let s = value(alloc, scopes, source, scope, by, meter)?;
-    let b = value(alloc, scopes, source, scope, upto, meter)?;
+    let a = expression(alloc, scopes, source, scope, from, meter)?;
+    let s = expression(alloc, scopes, source, scope, by, meter)?;
+    let b = expression(alloc, scopes, source, scope, upto, meter)?;
     stepped_range_of(&a, &s, &b, place)
 }
 
@@ -373,7 +373,7 @@ fn suffix(
 {
     match part {
         Suffix::Index(place, index) => {
-            let at = value(alloc, scopes, source, scope, index, meter)?;
+            let at = expression(alloc, scopes, source, scope, index, meter)?;
             item_of(alloc, scopes, scope, of, &at, *place)
         }
         Suffix::Member(place, name, name_place) => match member_of(name.items()) {
@@ -565,8 +565,8 @@ fn argument(
     ensures turns { OnOk result (meter.new.turns ≤ 100000) }
 {
     match arg {
-        Arg::Named(_, _, value) => value(alloc, scopes, source, scope, value, meter),
-        Arg::Positional(value) => value(alloc, scopes, source, scope, value, meter),
+        Arg::Named(_, _, value) => expression(alloc, scopes, source, scope, value, meter),
+        Arg::Positional(value) => expression(alloc, scopes, source, scope, value, meter),
     }
 }
 
@@ -617,7 +617,7 @@ fn enter(
     meter.calls += 1;
     let values = each_parameter(alloc, scopes, source, scope, function.params, slots, meter)?;
     let inner = bind_all(alloc, scopes, scope, function.params, values)?;
-    let value = value(alloc, scopes, source, inner, function.value, meter)?;
+    let value = expression(alloc, scopes, source, inner, function.value, meter)?;
     meter.calls -= 1;
     Ok(value)
 }
@@ -692,7 +692,7 @@ fn parameter(
         None => match param {
             Param::Plain(_, _) => Ok(Value::Undef),
             Param::WithDefault(_, _, value) => {
-                value(alloc, scopes, source, scope, value, meter)
+                expression(alloc, scopes, source, scope, value, meter)
             }
         },
     }

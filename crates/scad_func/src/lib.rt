@@ -10,7 +10,7 @@ mod functions_tests;
 mod meter;
 mod source;
 
-pub use evaluate::value;
+pub use evaluate::expression;
 pub use functions::{Function, Functions};
 pub use meter::Meter;
 pub use source::Source;

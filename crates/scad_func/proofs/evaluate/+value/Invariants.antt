@@ -26,8 +26,8 @@ use Rattle.scad_builtin.specs.Builtins.{are_bounded}
 use Rattle.scad_func.proofs.Calls.{calls_left, in_front}
 use Rattle.scad_func.proofs.evaluate.+value.Given as goal
 
-abbrev pub decreases-value : goal.decreases-value
-decreases-value l = calls_left l.source.now l.meter.now.calls + (4 * size-Expr l.expr.now + 2)
+abbrev pub decreases-expression : goal.decreases-expression
+decreases-expression l = calls_left l.source.now l.meter.now.calls + (4 * size-Expr l.expr.now + 2)
 
 abbrev pub decreases-deeper : goal.decreases-deeper
 decreases-deeper l = calls_left l.source.now l.meter.now.calls + (4 * size-Expr l.expr.now + 1)
