@@ -1,25 +1,25 @@
 -- Laws of outcomes and of evaluations.
-use Rattle.std.proofs.Common.{◌≡◌, ℕ, zero, suc, ◌+◌, ◌-◌, ◌<◌, ◌≤◌, List, [], ◌∷◌, ◌++◌, length, map, drop, get_or, Bool, true, false, ◌&&◌, Option, Some, None, Result, Ok, Err, refl, sym, ap, subst, ◌∙◌, arith, cond, max, ◌*◌}
-use Rattle.std.specs.Prelude.{IsTrue, IfOk}
+use Rattle.std.proofs.Common.{◌≡◌, ℕ, zero, suc, ◌+◌, ◌-◌, ◌<◌, ◌≤◌, List, [], ◌∷◌, ◌++◌, length, map, drop, get_or, Bool, true, false, ◌&&◌, Option, Some, None, Result, Ok, Err, refl, sym, ap, subst, ◌∙◌, arith, cond, max, ◌*◌, ℤ}
+use Rattle.std.specs.Prelude.{IsTrue, IfOk, OnOk}
 use Rattle.std.proofs.lemmas.Bool.{and_parts, and_from, lt-ltb}
 use Rattle.std.proofs.lemmas.List.{at_drop_more, at_drop_all}
 use Rattle.text_place.specs.declared.fault.Place.{Place}
 use Rattle.text_place.specs.declared.fault.Stop.{Stop}
 use Rattle.text_place.specs.declared.fault.Stop.TheVariants.{Fault, NoMemory}
 use Rattle.text_place.specs.declared.fault.FaultKind.{FaultKind}
-use Rattle.text_place.specs.declared.fault.FaultKind.TheVariants.{TooDeep, TooManyTurns, BadArgument, UnknownName}
+use Rattle.text_place.specs.declared.fault.FaultKind.TheVariants.{TooDeep, TooManyTurns, BadArgument, UnknownName, NotInProfile}
 use Rattle.scad_ast.specs.declared.expression.Expr.{Expr}
 use Rattle.scad_ast.specs.declared.expression.Arg.{Arg}
 use Rattle.scad_ast.specs.declared.expression.Suffix.{Suffix}
 use Rattle.scad_ast.specs.declared.expression.Link.{Link}
 use Rattle.scad_ast.specs.ExprView.{term_of, arg_of, suffix_of, link_of}
-use Rattle.scad_ast.specs.Terms.{Term, Terms, no_terms, and_term, ArgTerms, no_args, and_named, and_positional, ArgTerm, NamedTerm, PositionalTerm, SuffixTerms, and_index, and_member, SuffixTerm, IndexTerm, MemberTerm, LinkTerms, and_link, LinkTerm, place_of, terms_from, args_from, suffixes_from, links_from}
+use Rattle.scad_ast.specs.Terms.{Term, Terms, no_terms, and_term, ArgTerms, no_args, and_named, and_positional, ArgTerm, NamedTerm, PositionalTerm, SuffixTerms, and_index, and_member, SuffixTerm, IndexTerm, MemberTerm, NameTerm, LinkTerms, and_link, LinkTerm, place_of, terms_from, args_from, suffixes_from, links_from}
 use Rattle.scad_value.specs.declared.value.Value.{Value}
-use Rattle.scad_value.specs.Values.{Val, Vals, no_vals, and_val, vals_from, ListVal, is_bounded}
-use Rattle.scad_value.specs.Operators.{Answer}
+use Rattle.scad_value.specs.Values.{Val, NumberVal, Vals, no_vals, and_val, vals_from, ListVal, is_bounded, TruthVal, truth_of}
+use Rattle.scad_value.specs.Operators.{Answer, index_of, binary_of}
 use Rattle.scad_value.specs.View.{val_of, vals_in}
 use Rattle.scad_builtin.specs.Builtins.{are_bounded}
-use Rattle.scad_func.specs.Meaning.{Outcome, Gives, Faults, then_with, or_fault, answered, counted, Evaluates, Env, evaluated, operand, each_value, each_suffix, each_link, settled}
+use Rattle.scad_func.specs.Meaning.{Outcome, Gives, Faults, then_with, or_fault, answered, counted, Evaluates, Env, evaluated, operand, each_value, each_suffix, each_link, settled, member_of, variable_in, wants_right}
 use Rattle.scad_func.specs.Slots.{all_values, argument_of, suffixed, linked}
 use Rattle.scad_func.specs.Numerals.{terms_have_small, args_have_small, suffixes_have_small, links_have_small, has_small_numerals, suffix_has_small}
 use Rattle.scad_func.specs.View.{Tells, TellsAll, TellsAnswer}
@@ -187,7 +187,8 @@ pub suffix_step : (deeper : Evaluates) (calls : ℕ) (env : Env) (v : Val) (s : 
     → each_suffix deeper calls env v (and_suffix s rest) turns
     ≡ then_with (suffixed deeper calls env v s turns) (λ turns x. each_suffix deeper calls env x rest turns)
 suffix_step deeper calls env v (IndexTerm at index) rest turns = then_assoc (deeper true calls env index turns) _ _
-suffix_step deeper calls env v (MemberTerm at name name_at) rest turns = fault_assoc _ _ name_at _ _
+suffix_step deeper calls env v (MemberTerm at name name_at) rest turns = fault_assoc {A = ℤ} {B = Val} (member_of name) NotInProfile name_at
+    (λ n. answered (index_of v (NumberVal n)) at turns) (λ turns x. each_suffix deeper calls env x rest turns)
 
 pub suffixes_small : (ss : SuffixTerms) (s : SuffixTerm) (rest : SuffixTerms) → ss ≡ and_suffix s rest → IsTrue (suffixes_have_small ss)
     → IsTrue (suffix_has_small s) × IsTrue (suffixes_have_small rest)
@@ -215,3 +216,29 @@ module _ (start : Outcome Val) (go : ℕ → Val → Outcome Val) (now : Outcome
   pub step_fault : (stop : Stop) (m n : ℕ) → Tells (Err stop) m step → Tells (Err stop) n start
   step_fault (Fault fault) m n t = s ∙ h ∙ ap (λ o. then_with o go) t
   step_fault NoMemory m n t = tt
+
+-- a variable as an operand
+pub name_missing : (deeper : Evaluates) (calls : ℕ) (env : Env) (e : Term) (place at : Place) (name : List ℕ) (turns : ℕ) (kind : FaultKind) (go : ℕ → Val → Outcome Val)
+    → e ≡ NameTerm place name → variable_in env name ≡ None → kind ≡ UnknownName → at ≡ place
+    → then_with (operand deeper calls env e turns) go ≡ Faults kind at
+name_missing deeper calls env e place at name turns kind go s v k p =
+    ap (λ t. then_with (operand deeper calls env t turns) go) s
+    ∙ ap (λ o. then_with (or_fault o UnknownName place (λ x. Gives turns x)) go) v
+    ∙ ap (λ k. Faults k place) (sym k) ∙ ap (Faults kind) (sym p)
+
+pub name_found : (deeper : Evaluates) (calls : ℕ) (env : Env) (e : Term) (place : Place) (name : List ℕ) (turns : ℕ) (w : Val) (go : ℕ → Val → Outcome Val)
+    → e ≡ NameTerm place name → variable_in env name ≡ Some w → then_with (operand deeper calls env e turns) go ≡ go turns w
+name_found deeper calls env e place name turns w go s v =
+    ap (λ t. then_with (operand deeper calls env t turns) go) s
+    ∙ ap (λ o. then_with (or_fault o UnknownName place (λ x. Gives turns x)) go) v
+
+-- an operator that wants its right side
+pub link_wants : (deeper : Evaluates) (calls : ℕ) (env : Env) (v : Val) (l : LinkTerm) (turns : ℕ) → wants_right l.op v ≡ true
+    → linked deeper calls env v l turns ≡ then_with (operand deeper calls env l.right turns) (λ turns w. answered (binary_of l.op v w) l.at turns)
+link_wants deeper calls env v l turns w = ap (λ b. cond b
+    (then_with (operand deeper calls env l.right turns) (λ turns w. answered (binary_of l.op v w) l.at turns))
+    (Gives turns (TruthVal (truth_of v)))) w
+
+pub on_ok_along : {A E : Type 0} (r : Result A E) (a b d : ℕ) → OnOk r (a ≡ b) → b ≡ d → OnOk r (a ≡ d)
+on_ok_along (Ok x) a b d h e = h ∙ e
+on_ok_along (Err x) a b d h e = tt

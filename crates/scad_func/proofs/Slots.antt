@@ -142,14 +142,17 @@ module _ (deeper : Evaluates) (calls : ℕ) (env : Env) (go : ℕ → Pairs Val 
       ∙ sym (after_front UndefVal (each_filled deeper calls env ps (slots_at vs given) turns) (λ turns ws. go turns (paired (PlainTerm at name ∷ ps) ws pairs)))
   parameters_same (DefaultTerm at name value ∷ ps) (None ∷ given) vs pairs turns h =
       by_default (deeper true calls env value turns)
+      (λ turns v. each_parameter deeper calls env ps given vs ((name, v) ∷ pairs) turns)
+      (λ turns v. then_with (each_filled deeper calls env ps (slots_at vs given) turns) (λ turns ws. Gives turns (and_val v ws)))
+      (λ turns ws. go turns (paired (DefaultTerm at name value ∷ ps) ws pairs))
       (λ turns v. parameters_same ps given vs ((name, v) ∷ pairs) turns (omega arith)
           ∙ sym (after_front v (each_filled deeper calls env ps (slots_at vs given) turns) (λ turns ws. go turns (paired (DefaultTerm at name value ∷ ps) ws pairs))))
     where
-      by_default : (out : Outcome Val) {f : ℕ → Val → Outcome (Pairs Val)} {g : ℕ → Val → Outcome Vals} {on : ℕ → Vals → Outcome Val}
+      by_default : (out : Outcome Val) (f : ℕ → Val → Outcome (Pairs Val)) (g : ℕ → Val → Outcome Vals) (on : ℕ → Vals → Outcome Val)
           → ((turns : ℕ) (v : Val) → then_with (f turns v) go ≡ then_with (g turns v) on)
           → then_with (then_with out f) go ≡ then_with (then_with out g) on
-      by_default (Gives turns v) k = k turns v
-      by_default (Faults kind at) k = refl
+      by_default (Gives turns v) f g on k = k turns v
+      by_default (Faults kind at) f g on k = refl
 
 entered_same : (deeper : Evaluates) (calls : ℕ) (at : Place) (f : Function × Env) (given : Arguments) (turns : ℕ) → length given.0 ≡ length f.0.params
     → entered deeper calls at f given turns ≡ entered_filled deeper calls at f (slots_at given.1 given.0) turns

@@ -182,3 +182,7 @@ module _ (deeper : Evaluates) (calls : ℕ) (env : Env) (at : Place) (name : Lis
   built_in_taken t h k = ap (λ o. or_fault o BadArgument at (λ es. cond (takes f (count_of_terms es))
       (then_with (each_value deeper calls env es turns) (λ turns vs. answered (applied f vs) at turns)) (Faults BadArgument at))) (unnamed args h)
       ∙ ap (λ t. cond t (then_with (each_value deeper calls env (all_values args) turns) (λ turns vs. answered (applied f vs) at turns)) (Faults BadArgument at)) k
+
+pub few_after : (positional : ℕ) (a : ArgTerm) → positional_after positional a ≤ positional + 1
+few_after positional (NamedTerm at name value) = omega arith
+few_after positional (PositionalTerm value) = omega arith

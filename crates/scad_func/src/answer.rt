@@ -1,4 +1,4 @@
-ghost use Rattle.std.specs.Prelude.{◌≡◌, ◌<◌, ℕ, length, IsTrue, IfOk, Some, None, pos, Ok, map, Option, OnOk, codes, replicate, IfSome, ◌≤ℤ◌, ◌++◌, ◌∷◌, [], if◌then◌else◌};
+ghost use Rattle.std.specs.Prelude.{◌≡◌, ◌<◌, ◌^◌, ℕ, length, IsTrue, IfOk, Some, None, pos, Ok, map, Option, OnOk, codes, replicate, IfSome, ◌≤ℤ◌, ◌++◌, ◌∷◌, [], if◌then◌else◌};
 ghost use Rattle.scad_ast.specs.ExprView.{arg_of, args_of};
 ghost use Rattle.scad_ast.specs.StatementView.{param_of};
 ghost use Rattle.scad_ast.specs.Terms.{args_from};
@@ -9,7 +9,7 @@ ghost use Rattle.scad_scope.specs.Names.{env_of, variable_in};
 ghost use Rattle.scad_scope.specs.Table.{rows_of};
 ghost use Rattle.scad_func.specs.Meaning.{range_of as range_at, stepped_range_of as stepped_range_at, member_of as member_at, or_zero, or_fault, Gives, wants_right as wants_right_at};
 ghost use Rattle.text_place.specs.declared.fault.FaultKind.TheVariants.{UnknownName, UnknownFunction, NotInProfile};
-ghost use Rattle.scad_scope.specs.Arguments.{argument_place as place_at};
+ghost use Rattle.scad_scope.specs.Arguments.{argument_place as place_at, positional_after};
 ghost use Rattle.scad_func.specs.View.{Tells, TellsAnswer, indexed_val, IsThere, slots_in};
 ghost use Rattle.scad_builtin.specs.Builtins.{applied, is_left_out as left_out, are_bounded};
 ghost use Rattle.scad_func.specs.Slots.{have_no_names as no_names, free_slot as free_slot_at};
@@ -85,7 +85,13 @@ fn made_list(values: Vec<Value>) -> Result<Value, ValueStop>
     ensures value { TellsValue result (made_at (Ok (ListVal (vals_from (vals_in values.items))))) }
     ensures bounded { GivesBounded result }
 {
-    Ok(made(Value::List(Values::of(values)))?)
+    Ok(made(list(values))?)
+}
+
+fn list(values: Vec<Value>) -> Value
+    ensures { val_of result ≡ ListVal (vals_from (vals_in values.items)) }
+{
+    Value::List(Values::of(values))
 }
 
 /// The value of a built-in function, with its faults at a place.
@@ -344,4 +350,15 @@ pub(crate) fn unknown(name: &[u8]) -> FaultKind
         return FaultKind::NotInProfile;
     }
     FaultKind::UnknownFunction
+}
+
+/// How many positional arguments there are after one more argument.
+pub(crate) fn after(positional: usize, arg: &Arg) -> usize
+    requires { positional < 2 ^ 63 }
+    ensures { result ≡ positional_after positional (arg_of arg.now) }
+{
+    match arg {
+        Arg::Named(_, _, _) => positional,
+        Arg::Positional(_) => positional + 1,
+    }
 }

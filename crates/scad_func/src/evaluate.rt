@@ -15,7 +15,7 @@ ghost use Rattle.scad_func.specs.Functions.{function_of};
 ghost use Rattle.scad_func.specs.View.{Tells, TellsAll, TellsSlots, Grows, IsNumbered, functions_held, modules_held, seen, function_size, deepest, indexed_val, IsThere, slot_of, slots_in, slots_bounded, slot_is_bounded};
 
 use crate::answer::{
-    Indexed, applied_to, argument_place, child_count, free_slot, have_no_names, item_of, listed, member_of,
+    Indexed, after, applied_to, argument_place, child_count, free_slot, have_no_names, item_of, listed, member_of,
     no_slots, operate, operate_on, push, range_of, stepped_range_of, text_of, unknown, variable_of,
     wants_right, whole,
 };
@@ -532,9 +532,7 @@ fn each_argument(
         };
         let value = argument(alloc, scopes, source, scope, arg, meter)?;
         slots[param] = Some(value);
-        if let Arg::Positional(_) = arg {
-            positional += 1;
-        }
+        positional = after(positional, arg);
     }
     Ok(slots)
 }

@@ -8,9 +8,12 @@ mod functions;
 #[cfg(test)]
 mod functions_tests;
 mod meter;
+mod numerals;
 mod source;
+mod value;
 
-pub use evaluate::expression;
 pub use functions::{Function, Functions};
 pub use meter::Meter;
+pub use numerals::{expr_has_small_numerals, has_small_numerals};
 pub use source::Source;
+pub use value::{value_in, value_of};

@@ -1,5 +1,5 @@
 -- Calls that are left count for more than any body is deep; in one call the trees get smaller.
-use Rattle.std.proofs.Common.{◌≡◌, ℕ, ◌+◌, ◌-◌, ◌*◌, ◌≤◌, List, drop, map, length, None, replicate, true}
+use Rattle.std.proofs.Common.{◌≡◌, ℕ, ◌+◌, ◌-◌, ◌*◌, ◌≤◌, max, List, drop, map, length, None, replicate, true}
 use Rattle.std.specs.Prelude.{IsTrue}
 use Rattle.scad_ast.specs.declared.expression.Expr.{Expr, size-Expr}
 use Rattle.scad_ast.specs.declared.expression.Exprs.{size-Exprs}
@@ -39,13 +39,13 @@ abbrev pub decreases-each_value : goal.decreases-each_value
 decreases-each_value l = calls_left l.source.now l.meter.now.calls + (4 * size-Exprs l.exprs.now + 2)
 
 abbrev pub decreases-range : goal.decreases-range
-decreases-range l = calls_left l.source.now l.meter.now.calls + (4 * (size-Expr l.from.now + size-Expr l.upto.now) + 3)
+decreases-range l = calls_left l.source.now l.meter.now.calls + (4 * max (size-Expr l.from.now) (size-Expr l.upto.now) + 3)
 
 abbrev pub decreases-stepped_range : goal.decreases-stepped_range
-decreases-stepped_range l = calls_left l.source.now l.meter.now.calls + (4 * (size-Expr l.from.now + (size-Expr l.by.now + size-Expr l.upto.now)) + 3)
+decreases-stepped_range l = calls_left l.source.now l.meter.now.calls + (4 * max (size-Expr l.from.now) (max (size-Expr l.by.now) (size-Expr l.upto.now)) + 3)
 
 abbrev pub decreases-postfix : goal.decreases-postfix
-decreases-postfix l = calls_left l.source.now l.meter.now.calls + (4 * (size-Expr l.of.now + size-Suffixes l.rest.now) + 3)
+decreases-postfix l = calls_left l.source.now l.meter.now.calls + (4 * max (size-Expr l.of.now) (size-Suffixes l.rest.now) + 3)
 
 abbrev pub decreases-suffixes : goal.decreases-suffixes
 decreases-suffixes l = calls_left l.source.now l.meter.now.calls + (4 * size-Suffixes l.rest.now + 2)
