@@ -1,8 +1,8 @@
 -- The variables of a call, one parameter after another.
-use Rattle.std.proofs.Common.{◌≡◌, ℕ, zero, suc, ◌+◌, ◌<◌, ◌≤◌, List, [], ◌∷◌, ◌++◌, length, map, take, drop, get_or, refl, sym, ap, subst, ◌∙◌, arith, length-append, map-append}
+use Rattle.std.proofs.Common.{◌≡◌, ℕ, zero, suc, ◌+◌, ◌<◌, ◌≤◌, List, [], ◌∷◌, ◌++◌, length, map, take, drop, get_or, refl, sym, ap, subst, ◌∙◌, arith, length-append}
 use Rattle.std.specs.Prelude.{IsTrue}
 use Rattle.std.proofs.lemmas.Bool.{and_parts}
-use Rattle.std.proofs.lemmas.List.{take_more, at_drop_more}
+use Rattle.std.proofs.lemmas.List.{take_more, take_all, at_drop_more, map-append}
 use Rattle.scad_ast.specs.declared.statement.Param.{Param}
 use Rattle.scad_ast.specs.StatementView.{param_of}
 use Rattle.scad_ast.specs.Terms.{ParamTerm}
@@ -72,3 +72,14 @@ pub call_env : (fs : List Function) (ms : List Module) (old new : List Row) (pai
     → env_in fs ms (env_of new inner) ≡ Within pairs [] [] (env_in fs ms (env_of old outer))
 call_env fs ms old new pairs inner outer e n =
     ap (λ rs. env_in fs ms (env_of rs inner)) e ∙ ap (env_in fs ms) (env_new old (call_row pairs outer) inner n)
+
+pub last_there : (old new : List Row) (row : Row) (k : ℕ) → new ≡ old ++ row ∷ [] → k ≡ length old → k < length new
+last_there old new row k e n = omega (arith, ap length e, length-append old (row ∷ []), n)
+
+-- all parameters are bound
+pub all_bound : (old new : List Row) (ps : List Param) (vs : List Val) (i outer : ℕ)
+    → new ≡ old ++ call_row (paired (map param_of (take i ps)) (vals_from (take i vs)) []) outer ∷ [] → length ps ≤ i → length vs ≤ i
+    → new ≡ old ++ call_row (paired (map param_of ps) (vals_from vs) []) outer ∷ []
+all_bound old new ps vs i outer e h g =
+    e ∙ ap (λ l. old ++ call_row (paired (map param_of l) (vals_from (take i vs)) []) outer ∷ []) (take_all i ps h)
+    ∙ ap (λ l. old ++ call_row (paired (map param_of ps) (vals_from l) []) outer ∷ []) (take_all i vs g)

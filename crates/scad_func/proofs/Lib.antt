@@ -9,3 +9,4 @@ pub mod Binding
 pub mod Steps
 pub mod Again
 pub mod ProgramNumerals
+pub mod Forms

@@ -23,12 +23,14 @@ use Rattle.scad_func.specs.Definitions.{env_in}
 use Rattle.scad_func.specs.Functions.{function_of}
 use Rattle.scad_func.specs.Meaning.{Outcome, Gives, Faults, Evaluates, evaluated, operand, each_value, each_suffix, each_link, called, built_in, then_with, answered, or_fault, or_zero}
 use Rattle.scad_func.specs.Slots.{each_slot, each_filled, filled, entered_filled, all_values, suffixed, linked, argument_of, free_slot}
+use Rattle.scad_func.specs.Numerals.{args_have_small}
 use Rattle.scad_func.specs.View.{Tells, TellsAll, TellsSlots, functions_held, modules_held, seen, indexed_val, slots_in, slots_bounded, slot_of, deepest, param_size, or_undef}
 use Rattle.scad_func.proofs.Growth.{grows_same, grows_trans, functions_stay}
 use Rattle.scad_func.proofs.Outcomes.{tells_along, tells_answer, fault_goes, fault_of_all, evaluated_deeper, evaluated_too_deep, value_counted, fault_counted, values_more, values_end, bounded_more, terms_here, terms_end, terms_small, and_arg, args_here, args_end, args_small, values_of_arg, suffixes_here, suffix_step, suffixes_small, links_here, links_small, step_more, step_fault, name_missing, name_found, link_wants, on_ok_along}
 use Rattle.scad_func.proofs.Environments.{variable_same}
 use Rattle.scad_func.proofs.Slots.{called_same}
 use Rattle.scad_func.proofs.Steps.{one_deeper, deep_enough, small_enough, param_deep, params_here, params_end, slots_here, params_small, slots_parts, filled_more, filled_end, slots_set_in, bounded_set, slot_more, fault_of_slots, as_many, built_in_named, built_in_taken, few_after}
+use Rattle.scad_func.proofs.Forms.{name_form, count_form, postfix_form, link_form, args_form}
 use Rattle.scad_func.proofs.Again.{again, none_bounded}
 use Rattle.scad_func.proofs.evaluate.+value.Goals.{built_in-then-not-have_no_names-via-then-not-have_no_names, built_in-then-not-have_no_names-via-else-not-have_no_names+then-not-takes}
 use Rattle.scad_func.proofs.evaluate.+value.Goals as goal
@@ -295,7 +297,7 @@ links-each-preserved t c =
         c.args.meter.now c.each.meter (rows_of c.args.scopes.now) (rows_of c.each.scopes) c.args.scope inv.depth inv.calls inv.scopes c.requires.scope in
     record {
       told = step_more _ (λ turns y. each_link (evaluated (512 - c.args.meter.now.depth)) (64 - c.args.meter.now.calls) (seen c.args.source.now (rows_of c.args.scopes.now) c.args.scope) y rest turns) _ (linked (evaluated (512 - c.args.meter.now.depth)) (64 - c.args.meter.now.calls) (seen c.args.source.now (rows_of c.args.scopes.now) c.args.scope) v (link_of x) c.each.meter.turns) inv.told
-          (ap (λ ls. each_link (evaluated (512 - c.args.meter.now.depth)) (64 - c.args.meter.now.calls) (seen c.args.source.now (rows_of c.args.scopes.now) c.args.scope) v ls c.each.meter.turns) next) c.link.new.meter.turns (val_of c.in_ok-so_far.field-0) (stays ∙ g.value);
+          (ap (λ ls. each_link (evaluated (512 - c.args.meter.now.depth)) (64 - c.args.meter.now.calls) (seen c.args.source.now (rows_of c.args.scopes.now) c.args.scope) v ls c.each.meter.turns) next) c.link.new.meter.turns (val_of c.in_ok-so_far.so_far) (stays ∙ g.value);
       bounded = g.bounded;
       small = (links_small _ (link_of x) rest next inv.small).1;
       scopes = grows_trans _ _ _ inv.scopes g.scopes;
@@ -310,7 +312,7 @@ built_in-returns-in_err-values-clause-value t c =
     let p = err_from_is_err_and c.from_residual.result c.from_residual.ensures.1 in
     let xs = c.args.args.now.items in
     let n : length xs.items ≡ c.len.result = omega (arith, c.len.ensures, xs.ok.0) in
-    let taken = ap (takes c.in-Some.function) (as_many (map arg_of xs.items) ∙ length-map arg_of xs.items ∙ n) ∙ sym c.if-not-takes.ensures in
+    let taken = ap (takes c.in-Some.function) (as_many (args_of c.args.args.now) ∙ ap length (args_form c.args.args.now) ∙ length-map xs.items arg_of ∙ n) ∙ sym c.if-not-takes.ensures in
     let same = ap (λ o. built_in (evaluated (512 - c.args.meter.now.depth)) (64 - c.args.meter.now.calls) (seen c.args.source.now (rows_of c.args.scopes.now) c.args.scope) c.args.place c.args.name.now (args_from (args_of c.args.args.now)) c.args.meter.now.turns o) (sym c.in-Some.ensures)
         ∙ built_in_taken (evaluated (512 - c.args.meter.now.depth)) (64 - c.args.meter.now.calls) (seen c.args.source.now (rows_of c.args.scopes.now) c.args.scope) c.args.place c.args.name.now (args_from (args_of c.args.args.now)) c.args.meter.now.turns c.in-Some.function true (sym c.if-not-have_no_names.ensures) taken in
     rw (p.1, p.2) (tells_along (Err c.in_err-values.field-0.0) c.each_positional.new.meter.turns _ _ same
@@ -320,7 +322,7 @@ pub built_in-returns-clause-value : goal.built_in-returns-clause-value
 built_in-returns-clause-value t c =
     let xs = c.args.args.now.items in
     let n : length xs.items ≡ c.len.result = omega (arith, c.len.ensures, xs.ok.0) in
-    let taken = ap (takes c.in-Some.function) (as_many (map arg_of xs.items) ∙ length-map arg_of xs.items ∙ n) ∙ sym c.if-not-takes.ensures in
+    let taken = ap (takes c.in-Some.function) (as_many (args_of c.args.args.now) ∙ ap length (args_form c.args.args.now) ∙ length-map xs.items arg_of ∙ n) ∙ sym c.if-not-takes.ensures in
     let same = ap (λ o. built_in (evaluated (512 - c.args.meter.now.depth)) (64 - c.args.meter.now.calls) (seen c.args.source.now (rows_of c.args.scopes.now) c.args.scope) c.args.place c.args.name.now (args_from (args_of c.args.args.now)) c.args.meter.now.turns o) (sym c.in-Some.ensures)
         ∙ built_in_taken (evaluated (512 - c.args.meter.now.depth)) (64 - c.args.meter.now.calls) (seen c.args.source.now (rows_of c.args.scopes.now) c.args.scope) c.args.place c.args.name.now (args_from (args_of c.args.args.now)) c.args.meter.now.turns c.in-Some.function true (sym c.if-not-have_no_names.ensures) taken
         ∙ ap (λ o. then_with o (λ turns vs. answered (applied c.in-Some.function vs) c.args.place turns)) c.in_ok-values.ensures.value in
@@ -334,22 +336,24 @@ built_in-returns-then-not-have_no_names-clause-value t c =
     | built_in-then-not-have_no_names-via-else-not-have_no_names+then-not-takes w ↦
         let xs = c.args.args.now.items in
         let n : length xs.items ≡ w.len.result = omega (arith, w.len.ensures, xs.ok.0) in
-        let taken = ap (takes c.in-Some.function) (as_many (map arg_of xs.items) ∙ length-map arg_of xs.items ∙ n) ∙ sym w.if-not-takes.ensures in
+        let taken = ap (takes c.in-Some.function) (as_many (args_of c.args.args.now) ∙ ap length (args_form c.args.args.now) ∙ length-map xs.items arg_of ∙ n) ∙ sym w.if-not-takes.ensures in
         built_in_taken (evaluated (512 - c.args.meter.now.depth)) (64 - c.args.meter.now.calls) (seen c.args.source.now (rows_of c.args.scopes.now) c.args.scope) c.args.place c.args.name.now (args_from (args_of c.args.args.now)) c.args.meter.now.turns c.in-Some.function false (sym w.if-not-have_no_names.ensures) taken
     ]
 
 pub each_argument-each-init : goal.each_argument-each-init
 each_argument-each-init t c =
     let ps = c.args.params.now.items in
-    let n : c.len.result ≡ length (params_of c.args.params.now) = omega (arith, c.len.ensures, ps.ok.0, length-map param_of ps.items) in
+    let n : c.len.result ≡ length (params_of c.args.params.now) = omega (arith, c.len.ensures, ps.ok.0, length-map ps.items param_of) in
+    let form = ap args_from (args_form c.args.args.now) in
     let none = c.in_ok-slots.ensures ∙ ap (λ n. replicate n None) n in
     record {
-      told = ap (λ s. each_slot (evaluated (512 - c.args.meter.now.depth)) (64 - c.args.meter.now.calls) (seen c.args.source.now (rows_of c.args.scopes.now) c.args.scope) (params_of c.args.params.now) 0 (args_from (args_of c.args.args.now)) s c.args.meter.now.turns) (sym none);
-      count = sym (length-map slot_of c.in_ok-slots.slots.items) ∙ ap length none ∙ length-replicate (length (params_of c.args.params.now)) None
-          ∙ length-map param_of ps.items;
+      told = ap (λ s. each_slot (evaluated (512 - c.args.meter.now.depth)) (64 - c.args.meter.now.calls) (seen c.args.source.now (rows_of c.args.scopes.now) c.args.scope) (params_of c.args.params.now) 0 (args_from (args_of c.args.args.now)) s c.args.meter.now.turns) (sym none)
+          ∙ ap (λ l. each_slot (evaluated (512 - c.args.meter.now.depth)) (64 - c.args.meter.now.calls) (seen c.args.source.now (rows_of c.args.scopes.now) c.args.scope) (params_of c.args.params.now) 0 l (slots_in c.in_ok-slots.slots.items) c.args.meter.now.turns) form;
+      count = sym (length-map c.in_ok-slots.slots.items slot_of) ∙ ap length none ∙ length-replicate (length (params_of c.args.params.now)) None
+          ∙ length-map ps.items param_of;
       few = omega arith;
       filled = subst (λ l. IsTrue (slots_bounded l)) (sym none) (none_bounded (length (params_of c.args.params.now)));
-      small = c.requires.numerals;
+      small = subst (λ l. IsTrue (args_have_small l)) form c.requires.numerals;
       scopes = grows_same _;
       numbered = c.requires.numbered;
       calls = refl;
@@ -400,10 +404,10 @@ each_parameter-parameter-requires t c =
     let is : x ≡ get_or xs i x = c.param-item.is ∙ ap (λ (l : List Param). get_or l i x) c.deref-param-items.ensures.value in
     let next = params_here xs i x h is in
     let inv = c.each.invariant in
-    let open = c.each.open.items in
+    let still = c.each.open.items in
     let y = c.index_mut.result.now in
-    let held : i < length open = omega (arith, h, inv.count) in
-    let slot = slots_here open i y held c.index_mut.ensures.value ∙ ap (λ o. slot_of o ∷ slots_in (drop (i + 1) open)) (sym c.replace-given.ensures.value) in
+    let held : i < length still = omega (arith, h, inv.count) in
+    let slot = slots_here still i y held c.index_mut.ensures.value ∙ ap (λ o. slot_of o ∷ slots_in (drop (i + 1) still)) (sym c.replace-given.ensures.value) in
     let d = deepest c.args.source.now.functions.items.items in
     let falls = subst (λ k. (64 - k) * (4 * d + 8) + (4 * param_size x + 3) < t) (sym inv.calls)
         (omega (arith, param_deep xs i x h is, c.decreases)) in
@@ -419,23 +423,23 @@ each_parameter-each-preserved t c =
     let is : x ≡ get_or xs i x = c.param-item.is ∙ ap (λ (l : List Param). get_or l i x) c.deref-param-items.ensures.value in
     let next = params_here xs i x h is in
     let inv = c.each.invariant in
-    let open = c.each.open.items in
+    let still = c.each.open.items in
     let y = c.index_mut.result.now in
-    let held : i < length open = omega (arith, h, inv.count) in
-    let slot = slots_here open i y held c.index_mut.ensures.value ∙ ap (λ o. slot_of o ∷ slots_in (drop (i + 1) open)) (sym c.replace-given.ensures.value) in
+    let held : i < length still = omega (arith, h, inv.count) in
+    let slot = slots_here still i y held c.index_mut.ensures.value ∙ ap (λ o. slot_of o ∷ slots_in (drop (i + 1) still)) (sym c.replace-given.ensures.value) in
     let g = c.in_ok-value.ensures in
     let v = c.in_ok-value.value in
     let dest = c.replace-given.new.dest in
     let s = slot_of c.replace-given.result in
-    let slots = slot ∙ ap (λ l. s ∷ slots_in l) (sym (drop-set-lt (i + 1) open i dest (omega arith))) in
+    let slots = slot ∙ ap (λ l. s ∷ slots_in l) (sym (drop-set-lt (i + 1) still i dest (omega arith))) in
     let given = again (λ d k e. filled (evaluated (512 - d)) (64 - k) (env_in (functions_held c.args.source.now) (modules_held c.args.source.now) e) (param_of x) s c.each.meter.turns) c.args.meter.now c.each.meter (rows_of c.args.scopes.now) (rows_of c.each.scopes) c.args.scope inv.depth inv.calls inv.scopes c.requires.scope ∙ g.value in
     record {
-      told = filled_more (evaluated (512 - c.args.meter.now.depth)) (64 - c.args.meter.now.calls) (seen c.args.source.now (rows_of c.args.scopes.now) c.args.scope) _ (vals_in c.each.values.items) (vals_in c.push.new.values.items) (map param_of (drop i xs)) (slots_in (drop i open))
-          (param_of x) s (map param_of (drop (i + 1) xs)) (slots_in (drop (i + 1) (set open i dest))) c.each.meter.turns c.parameter.new.meter.turns (val_of v)
+      told = filled_more (evaluated (512 - c.args.meter.now.depth)) (64 - c.args.meter.now.calls) (seen c.args.source.now (rows_of c.args.scopes.now) c.args.scope) _ (vals_in c.each.values.items) (vals_in c.push.new.values.items) (map param_of (drop i xs)) (slots_in (drop i still))
+          (param_of x) s (map param_of (drop (i + 1) xs)) (slots_in (drop (i + 1) (set still i dest))) c.each.meter.turns c.parameter.new.meter.turns (val_of v)
           inv.told next slots given c.in_ok-push.ensures;
-      count = length-set open i dest ∙ inv.count;
-      got = sym (length-map val_of c.push.new.values.items) ∙ ap length c.in_ok-push.ensures
-          ∙ omega (arith, length-append (vals_in c.each.values.items) (val_of v ∷ []), length-map val_of c.each.values.items, inv.got);
+      count = length-set still i dest ∙ inv.count;
+      got = sym (length-map c.push.new.values.items val_of) ∙ ap length c.in_ok-push.ensures
+          ∙ omega (arith, length-append (vals_in c.each.values.items) (val_of v ∷ []), length-map c.each.values.items val_of, inv.got);
       bounded = bounded_more (vals_in c.each.values.items) (vals_in c.push.new.values.items) (val_of v) c.in_ok-push.ensures inv.bounded g.bounded;
       filled = (slots_parts _ _ _ slots inv.filled).1;
       small = (params_small _ _ _ next inv.small).1;
@@ -459,16 +463,18 @@ link-returns-in_err-right-clause-value t c =
     let p = err_from_is_err_and c.from_residual.result c.from_residual.ensures.1 in
     let missing = c.in_err-right.ensures in
     let none = variable_same (functions_held c.args.source.now) (modules_held c.args.source.now) (env_of (rows_of c.args.scopes.now) c.args.scope) c.in-Name.name ∙ ap (λ n. numbered_variable_in (env_of (rows_of c.args.scopes.now) c.args.scope) n) (sym c.items.ensures) ∙ missing.none in
-    rw (p.1, p.2) (link_wants (evaluated (512 - c.args.meter.now.depth)) (64 - c.args.meter.now.calls) (seen c.args.source.now (rows_of c.args.scopes.now) c.args.scope) (val_of c.args.left.now) (link_of c.args.part.now) c.args.meter.now.turns (sym c.if-not-wants_right.ensures)
+    rw (p.1, p.2) (ap (λ l. linked (evaluated (512 - c.args.meter.now.depth)) (64 - c.args.meter.now.calls) (seen c.args.source.now (rows_of c.args.scopes.now) c.args.scope) (val_of c.args.left.now) l c.args.meter.now.turns) (link_form c.args.part.now)
+    ∙ link_wants (evaluated (512 - c.args.meter.now.depth)) (64 - c.args.meter.now.calls) (seen c.args.source.now (rows_of c.args.scopes.now) c.args.scope) (val_of c.args.left.now) (record { op = c.args.part.now.op; at = c.args.part.now.place; right = term_of c.args.part.now.right }) c.args.meter.now.turns (sym c.if-not-wants_right.ensures)
     ∙ name_missing (evaluated (512 - c.args.meter.now.depth)) (64 - c.args.meter.now.calls) (seen c.args.source.now (rows_of c.args.scopes.now) c.args.scope) (term_of c.args.part.now.right) c.in-Name.place c.in_err-right.field-0.0.place c.in-Name.name c.args.meter.now.turns c.in_err-right.field-0.0.kind (λ turns w. answered (binary_of c.args.part.now.op (val_of c.args.left.now) w) c.args.part.now.place turns)
-    (ap term_of c.in-Name.is) none missing.same_kind missing.same_place)
+    (ap term_of c.in-Name.is ∙ name_form c.in-Name.place c.in-Name.name) none missing.same_kind missing.same_place)
 
 pub link-returns-in-Name-clause-value : goal.link-returns-in-Name-clause-value
 link-returns-in-Name-clause-value t c =
     let found = variable_same (functions_held c.args.source.now) (modules_held c.args.source.now) (env_of (rows_of c.args.scopes.now) c.args.scope) c.in-Name.name ∙ ap (λ n. numbered_variable_in (env_of (rows_of c.args.scopes.now) c.args.scope) n) (sym c.items.ensures) ∙ c.in_ok-right.ensures.same in
-    let same = link_wants (evaluated (512 - c.args.meter.now.depth)) (64 - c.args.meter.now.calls) (seen c.args.source.now (rows_of c.args.scopes.now) c.args.scope) (val_of c.args.left.now) (link_of c.args.part.now) c.args.meter.now.turns (sym c.if-not-wants_right.ensures)
+    let same = ap (λ l. linked (evaluated (512 - c.args.meter.now.depth)) (64 - c.args.meter.now.calls) (seen c.args.source.now (rows_of c.args.scopes.now) c.args.scope) (val_of c.args.left.now) l c.args.meter.now.turns) (link_form c.args.part.now)
+    ∙ link_wants (evaluated (512 - c.args.meter.now.depth)) (64 - c.args.meter.now.calls) (seen c.args.source.now (rows_of c.args.scopes.now) c.args.scope) (val_of c.args.left.now) (record { op = c.args.part.now.op; at = c.args.part.now.place; right = term_of c.args.part.now.right }) c.args.meter.now.turns (sym c.if-not-wants_right.ensures)
         ∙ name_found (evaluated (512 - c.args.meter.now.depth)) (64 - c.args.meter.now.calls) (seen c.args.source.now (rows_of c.args.scopes.now) c.args.scope) (term_of c.args.part.now.right) c.in-Name.place c.in-Name.name c.args.meter.now.turns (val_of c.in_ok-right.right.now) (λ turns w. answered (binary_of c.args.part.now.op (val_of c.args.left.now) w) c.args.part.now.place turns)
-        (ap term_of c.in-Name.is) found in
+        (ap term_of c.in-Name.is ∙ name_form c.in-Name.place c.in-Name.name) found in
     tells_along c.operate.result c.args.meter.now.turns _ _ same (tells_answer c.operate.result c.args.meter.now.turns _ c.args.part.now.place c.operate.ensures.value)
 
 pub link-returns-in_err-right-2 : goal.link-returns-in_err-right-2
@@ -476,27 +482,28 @@ link-returns-in_err-right-2 t c =
     let p = err_from_is_err_and c.from_residual-in_err-right-2.result c.from_residual-in_err-right-2.ensures.1 in
     let g = c.in_err-right-2.ensures in
     let s = c.in_err-right-2.field-0.0 in
-    let told = tells_along (Err s) c.operand.new.meter.turns _ _ (link_wants (evaluated (512 - c.args.meter.now.depth)) (64 - c.args.meter.now.calls) (seen c.args.source.now (rows_of c.args.scopes.now) c.args.scope) (val_of c.args.left.now) (link_of c.args.part.now) c.args.meter.now.turns (sym c.if-not-wants_right.ensures))
+    let told = tells_along (Err s) c.operand.new.meter.turns _ _ (ap (λ l. linked (evaluated (512 - c.args.meter.now.depth)) (64 - c.args.meter.now.calls) (seen c.args.source.now (rows_of c.args.scopes.now) c.args.scope) (val_of c.args.left.now) l c.args.meter.now.turns) (link_form c.args.part.now)
+    ∙ link_wants (evaluated (512 - c.args.meter.now.depth)) (64 - c.args.meter.now.calls) (seen c.args.source.now (rows_of c.args.scopes.now) c.args.scope) (val_of c.args.left.now) (record { op = c.args.part.now.op; at = c.args.part.now.place; right = term_of c.args.part.now.right }) c.args.meter.now.turns (sym c.if-not-wants_right.ensures))
         (fault_goes s c.operand.new.meter.turns c.operand.new.meter.turns _ (λ turns w. answered (binary_of c.args.part.now.op (val_of c.args.left.now) w) c.args.part.now.place turns) g.value) in
     rw (p.1, p.2) (record { value = told; bounded = tt; scopes = g.scopes; numbered = g.numbered; calls = tt; depth = tt; turns = tt })
 
 pub operand-returns-in-ChildCount-clause-value : goal.operand-returns-in-ChildCount-clause-value
 operand-returns-in-ChildCount-clause-value t c =
-    ap (λ (e : Expr). operand (evaluated (512 - c.args.meter.now.depth)) (64 - c.args.meter.now.calls) (seen c.args.source.now (rows_of c.args.scopes.now) c.args.scope) (term_of e) c.args.meter.now.turns) c.in-ChildCount.is
+    ap (λ e. operand (evaluated (512 - c.args.meter.now.depth)) (64 - c.args.meter.now.calls) (seen c.args.source.now (rows_of c.args.scopes.now) c.args.scope) e c.args.meter.now.turns) (ap term_of c.in-ChildCount.is ∙ count_form c.in-ChildCount.place)
     ∙ ap (λ o. Gives c.args.meter.now.turns (or_zero o)) (variable_same (functions_held c.args.source.now) (modules_held c.args.source.now) (env_of (rows_of c.args.scopes.now) c.args.scope) (codes "$children"))
     ∙ ap (Gives c.args.meter.now.turns) (sym c.in_ok-child_count-in-ChildCount.ensures.value)
 
 pub operand-returns-in-Name-clause-value : goal.operand-returns-in-Name-clause-value
 operand-returns-in-Name-clause-value t c =
     tells_along c.variable_of.result c.args.meter.now.turns _ _
-    (ap (λ (e : Expr). operand (evaluated (512 - c.args.meter.now.depth)) (64 - c.args.meter.now.calls) (seen c.args.source.now (rows_of c.args.scopes.now) c.args.scope) (term_of e) c.args.meter.now.turns) c.in-Name.is
+    (ap (λ e. operand (evaluated (512 - c.args.meter.now.depth)) (64 - c.args.meter.now.calls) (seen c.args.source.now (rows_of c.args.scopes.now) c.args.scope) e c.args.meter.now.turns) (ap term_of c.in-Name.is ∙ name_form c.in-Name.place c.in-Name.name)
     ∙ ap (λ o. or_fault o UnknownName c.in-Name.place (λ x. Gives c.args.meter.now.turns x)) (variable_same (functions_held c.args.source.now) (modules_held c.args.source.now) (env_of (rows_of c.args.scopes.now) c.args.scope) c.in-Name.name ∙ ap (λ n. numbered_variable_in (env_of (rows_of c.args.scopes.now) c.args.scope) n) (sym c.items.ensures)))
     (c.variable_of.ensures.value c.args.meter.now.turns)
 
 pub operand-returns-in-Postfix-clause-value : goal.operand-returns-in-Postfix-clause-value
 operand-returns-in-Postfix-clause-value t c =
     tells_along c.postfix.result c.postfix.new.meter.turns _ _
-    (ap (λ (e : Expr). operand (evaluated (512 - c.args.meter.now.depth)) (64 - c.args.meter.now.calls) (seen c.args.source.now (rows_of c.args.scopes.now) c.args.scope) (term_of e) c.args.meter.now.turns) c.in-Postfix.is
+    (ap (λ e. operand (evaluated (512 - c.args.meter.now.depth)) (64 - c.args.meter.now.calls) (seen c.args.source.now (rows_of c.args.scopes.now) c.args.scope) e c.args.meter.now.turns) (ap term_of c.in-Postfix.is ∙ postfix_form c.in-Postfix.field-0 c.in-Postfix.of c.in-Postfix.rest)
     ∙ ap (λ (x : Expr). then_with (operand (evaluated (512 - c.args.meter.now.depth)) (64 - c.args.meter.now.calls) (seen c.args.source.now (rows_of c.args.scopes.now) c.args.scope) (term_of x) c.args.meter.now.turns) (λ turns v. each_suffix (evaluated (512 - c.args.meter.now.depth)) (64 - c.args.meter.now.calls) (seen c.args.source.now (rows_of c.args.scopes.now) c.args.scope) v (suffixes_from (suffixes_of c.in-Postfix.rest)) turns))
     (sym c.deref-in-Postfix.ensures)) c.postfix.ensures.value
 
@@ -518,14 +525,14 @@ postfix-returns-in_err-_there-clause-value t c =
     let missing = c.in_err-_there.ensures in
     let none = variable_same (functions_held c.args.source.now) (modules_held c.args.source.now) (env_of (rows_of c.args.scopes.now) c.args.scope) c.in-Name.name ∙ ap (λ n. numbered_variable_in (env_of (rows_of c.args.scopes.now) c.args.scope) n) (sym c.items.ensures) ∙ missing.none in
     rw (p.1, p.2) (name_missing (evaluated (512 - c.args.meter.now.depth)) (64 - c.args.meter.now.calls) (seen c.args.source.now (rows_of c.args.scopes.now) c.args.scope) (term_of c.args.of.now) c.in-Name.place c.in_err-_there.field-0.0.place c.in-Name.name c.args.meter.now.turns c.in_err-_there.field-0.0.kind (λ turns v. each_suffix (evaluated (512 - c.args.meter.now.depth)) (64 - c.args.meter.now.calls) (seen c.args.source.now (rows_of c.args.scopes.now) c.args.scope) v (suffixes_from (suffixes_of c.args.rest.now)) turns)
-    (ap term_of c.in-Name.is) none missing.same_kind missing.same_place)
+    (ap term_of c.in-Name.is ∙ name_form c.in-Name.place c.in-Name.name) none missing.same_kind missing.same_place)
 
 pub postfix-returns-in-Name-clause-value : goal.postfix-returns-in-Name-clause-value
 postfix-returns-in-Name-clause-value t c =
     let here = ap (λ n. numbered_variable_in (env_of (rows_of c.args.scopes.now) c.args.scope) n) (sym c.items.ensures) ∙ c.in_ok-_there.ensures.same in
     let there = ap (λ n. numbered_variable_in (env_of (rows_of c.args.scopes.now) c.args.scope) n) c.items-in-Name.ensures ∙ here in
     let same = name_found (evaluated (512 - c.args.meter.now.depth)) (64 - c.args.meter.now.calls) (seen c.args.source.now (rows_of c.args.scopes.now) c.args.scope) (term_of c.args.of.now) c.in-Name.place c.in-Name.name c.args.meter.now.turns (val_of c.in_ok-_there._there.now) (λ turns v. each_suffix (evaluated (512 - c.args.meter.now.depth)) (64 - c.args.meter.now.calls) (seen c.args.source.now (rows_of c.args.scopes.now) c.args.scope) v (suffixes_from (suffixes_of c.args.rest.now)) turns)
-        (ap term_of c.in-Name.is) (variable_same (functions_held c.args.source.now) (modules_held c.args.source.now) (env_of (rows_of c.args.scopes.now) c.args.scope) c.in-Name.name ∙ here)
+        (ap term_of c.in-Name.is ∙ name_form c.in-Name.place c.in-Name.name) (variable_same (functions_held c.args.source.now) (modules_held c.args.source.now) (env_of (rows_of c.args.scopes.now) c.args.scope) c.in-Name.name ∙ here)
         ∙ ap (λ o. each_suffix (evaluated (512 - c.args.meter.now.depth)) (64 - c.args.meter.now.calls) (seen c.args.source.now (rows_of c.args.scopes.now) c.args.scope) (or_undef o) (suffixes_from (suffixes_of c.args.rest.now)) c.args.meter.now.turns) (sym there) in
     tells_along c.suffixes.result c.suffixes.new.meter.turns _ _ same c.suffixes.ensures.value
 
