@@ -1,5 +1,5 @@
 -- What the built-in functions give of bounded values is bounded.
-use Rattle.std.proofs.Common.{◌≡◌, ℕ, zero, suc, ◌^◌, Bool, true, false, ◌&&◌, ◌||◌, cond, List, [], ◌∷◌, ◌++◌, length, refl, sym, ap, subst, ◌∙◌, arith, ltb, Result, Ok, Err, ℤ, pos, negsuc}
+use Rattle.std.proofs.Common.{◌≡◌, zero, suc, ◌^◌, Bool, true, false, ◌||◌, cond, List, [], ◌∷◌, ◌++◌, length, refl, subst, arith, ltb, Result, Ok, Err, ℤ, pos, negsuc}
 use Rattle.std.specs.Prelude.{IsTrue, int_lt, unsigned_abs}
 use Rattle.std.proofs.lemmas.Bool.{and_parts, and_from, ltb-false, lt-ltb}
 use Rattle.text_place.specs.declared.fault.FaultKind.TheVariants.{TooLarge, LongList}
@@ -11,7 +11,7 @@ use Rattle.scad_value.specs.View.{Tells, GivesBounded}
 use Rattle.scad_builtin.specs.declared.function.Builtin.{Builtin}
 use Rattle.scad_builtin.specs.declared.function.Builtin.TheVariants.{Abs, Sign, Floor, Ceil, Round, Min, Max, Len, Concat, Pow, IsUndef, IsNum, IsBool, IsList}
 use Rattle.scad_builtin.specs.Builtins.{of_number, sign_of, better, best_of, best, best_among, length_of, list_of, items_as, joined_items, power, power_row, power_of, is_undef, is_num, is_bool, is_list, of_one, of_two, applied, are_bounded}
-use Rattle.scad_builtin.proofs.Powers.{abs_minus}
+use Rattle.scad_builtin.proofs.Powers.{by_sign}
 
 abbrev IsBoundedAnswer : Answer Val → Type 0
 IsBoundedAnswer (Ok v) = IsTrue (is_bounded v)
@@ -53,7 +53,7 @@ power_small b (pos e) = sized_small (power b e)
 power_small (pos zero) (negsuc e) = tt
 power_small (pos (suc zero)) (negsuc e) = refl
 power_small (pos (suc (suc n))) (negsuc e) = tt
-power_small (negsuc zero) (negsuc e) = ap (λ n. ltb n (2 ^ 53)) (abs_minus (suc e))
+power_small (negsuc zero) (negsuc e) = by_sign (λ n. IsTrue (is_small n)) refl refl (suc e)
 power_small (negsuc (suc n)) (negsuc e) = tt
 
 power_bounded : (v w : Val) → IsBoundedAnswer (power_of v w)
@@ -63,7 +63,8 @@ power_bounded v w = tt
 length_bounded : (v : Val) → IsBoundedAnswer (length_of v)
 length_bounded (ListVal items) =
     number_bounded (sized (pos (count_of items))) (sized_small (pos (count_of items)))
-length_bounded (TextVal bytes) = number_bounded (sized (pos (length bytes))) (sized_small (pos (length bytes)))
+length_bounded (TextVal bytes) =
+    number_bounded (sized (pos (length bytes))) (sized_small (pos (length bytes)))
 length_bounded v = tt
 
 -- the best number
@@ -129,8 +130,8 @@ made_bounded v s = by_length (is_long v) refl
     by_length false e = and_from _ _ s (few e)
 
 -- functions of one value and of two
-of_one_bounded : (row : Val → Answer Val) → ((v : Val) → IsTrue (has_small_numbers v) → IsBoundedAnswer (row v))
-    → (vs : Vals) → IsTrue (have_small_numbers vs) → IsBoundedAnswer (of_one row vs)
+of_one_bounded : (row : Val → Answer Val)
+    → ((v : Val) → IsTrue (has_small_numbers v) → IsBoundedAnswer (row v)) → (vs : Vals) → IsTrue (have_small_numbers vs) → IsBoundedAnswer (of_one row vs)
 of_one_bounded row bounded no_vals s = tt
 of_one_bounded row bounded (and_val v no_vals) s = bounded v (and_parts _ _ s).0
 of_one_bounded row bounded (and_val v (and_val w vs)) s = tt
@@ -145,15 +146,20 @@ of_two_bounded row bounded (and_val u (and_val v (and_val w vs))) = tt
 applied_bounded : (builtin : Builtin) (vs : Vals) → IsTrue (have_small_numbers vs)
     → IsBoundedAnswer (applied builtin vs)
 applied_bounded Abs vs s =
-    of_one_bounded (of_number (λ n. sized (pos (unsigned_abs n)))) (of_number_bounded (λ n. sized (pos (unsigned_abs n))) (λ n t. sized_small (pos (unsigned_abs n)))) vs s
+    of_one_bounded (of_number (λ n. sized (pos (unsigned_abs n))))
+    (of_number_bounded (λ n. sized (pos (unsigned_abs n))) (λ n t. sized_small (pos (unsigned_abs n)))) vs s
 applied_bounded Sign vs s =
-    of_one_bounded (of_number (λ n. Ok (sign_of n))) (of_number_bounded (λ n. Ok (sign_of n)) (λ n t. sign_small n)) vs s
+    of_one_bounded (of_number (λ n. Ok (sign_of n)))
+    (of_number_bounded (λ n. Ok (sign_of n)) (λ n t. sign_small n)) vs s
 applied_bounded Floor vs s =
-    of_one_bounded (of_number (λ n. Ok n)) (of_number_bounded (λ n. Ok n) (λ n t. t)) vs s
+    of_one_bounded (of_number (λ n. Ok n))
+    (of_number_bounded (λ n. Ok n) (λ n t. t)) vs s
 applied_bounded Ceil vs s =
-    of_one_bounded (of_number (λ n. Ok n)) (of_number_bounded (λ n. Ok n) (λ n t. t)) vs s
+    of_one_bounded (of_number (λ n. Ok n))
+    (of_number_bounded (λ n. Ok n) (λ n t. t)) vs s
 applied_bounded Round vs s =
-    of_one_bounded (of_number (λ n. Ok n)) (of_number_bounded (λ n. Ok n) (λ n t. t)) vs s
+    of_one_bounded (of_number (λ n. Ok n))
+    (of_number_bounded (λ n. Ok n) (λ n t. t)) vs s
 applied_bounded Min vs s = best_among_bounded int_lt vs s
 applied_bounded Max vs s = best_among_bounded (λ a b. int_lt b a) vs s
 applied_bounded Len vs s = of_one_bounded length_of (λ v t. length_bounded v) vs s

@@ -1,3 +1,4 @@
-pub mod Arguments
+pub mod ArgumentLists
 pub mod Powers
 pub mod Bounds
+pub mod Rows

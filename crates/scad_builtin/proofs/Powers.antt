@@ -1,26 +1,34 @@
 -- Powers of whole numbers.
-use Rattle.std.proofs.Common.{◌≡◌, ℕ, zero, suc, ◌+◌, ◌*◌, ◌^◌, ◌<◌, ◌≤◌, ◌%◌, ◌/◌, ℤ, pos, negsuc, ◌*ℤ◌, ◌≤ℤ◌, ◌<ℤ◌, neg_ℤ, Bool, true, false, cond, refl, sym, ap, subst, ◌∙◌, arith, Result, Ok, Err, to_z, of_z}
-use Rattle.std.specs.Prelude.{unsigned_abs, int_rem, IsTrue}
+use Rattle.std.proofs.Common.{◌≡◌, ℕ, zero, suc, ◌*◌, ◌+◌, ◌^◌, ◌<◌, ◌≤◌, ◌%◌, ◌/◌, ℤ, pos, negsuc, ◌*ℤ◌, Bool, true, false, cond, refl, sym, ap, subst, ◌∙◌, arith, Ok, Err, to_z, of_z}
+use Rattle.std.specs.Prelude.{unsigned_abs}
 use Rattle.std.proofs.Math.IntN.{*ℤ_comm}
-use Rattle.std.proofs.Math.Nat.{pow-zero, pow-succ', pow-le-pow_right, zero-mul}
-use Rattle.std.proofs.lemmas.Int.{unsigned_abs-mul, ints, to_z-of_z}
-use Rattle.std.proofs.lemmas.Bool.{ltb-true, ltb-false, le-ltb}
+use Rattle.std.proofs.Math.Nat.{pow-zero, pow-succ', pow-le-pow_right}
+use Rattle.std.proofs.lemmas.Int.{unsigned_abs-mul}
+use Rattle.std.proofs.lemmas.Bool.{ltb-false, le-ltb}
 use mir.Syntax.{w64}
-use mir.Val.{SFits}
 use Rattle.text_place.specs.declared.fault.FaultKind.{FaultKind}
 use Rattle.text_place.specs.declared.fault.FaultKind.TheVariants.{TooLarge}
 use Rattle.scad_value.specs.Values.{is_small}
-use Rattle.scad_value.specs.Operators.{Answer, sized, product_row}
-use Rattle.scad_builtin.specs.Builtins.{power, power_row}
-
--- powers of 0, 1 and -1
-zero_times : (n : ℤ) → pos 0 *ℤ n ≡ pos 0
-zero_times (pos n) = ap pos (zero-mul n)
-zero_times (negsuc n) = ap (λ m. neg_ℤ (pos m)) (zero-mul (suc n))
+use Rattle.scad_value.specs.Operators.{sized, product_row}
+use Rattle.scad_builtin.specs.Builtins.{power}
 
 one_power : (e : ℕ) → power (pos 1) e ≡ pos 1
 one_power zero = refl
 one_power (suc e) = ap (λ p. pos 1 *ℤ p) (one_power e)
+
+pub one_row : (b : ℤ) (e : ℕ) → b ≡ pos 1 → Ok (pos 1) ≡ sized (power b e)
+one_row b e is = subst (λ x. Ok (pos 1) ≡ sized (power x e)) (sym is) (ap sized (sym (one_power e)))
+
+-- a power of -1 is 1 or -1
+pub by_sign : (P : ℤ → Type 0) → P (pos 1) → P (negsuc 0) → (e : ℕ) → P (power (negsuc 0) e)
+by_sign P plus minus zero = plus
+by_sign P plus minus (suc e) = by_sign (λ x. P (negsuc 0 *ℤ x)) minus plus e
+
+pub minus_row : (b r : ℤ) (e : ℕ) → b ≡ negsuc 0 → r ≡ power (negsuc 0) e → Ok (to_z w64 (of_z w64 r))
+    ≡ sized (power b e)
+minus_row b r e is told = subst (λ x. Ok (to_z w64 (of_z w64 r)) ≡ sized (power x e)) (sym is)
+    (subst (λ x. Ok (to_z w64 (of_z w64 x)) ≡ sized (power (negsuc 0) e)) (sym told)
+    (by_sign (λ x. Ok (to_z w64 (of_z w64 x)) ≡ sized x) refl refl e))
 
 even_power : (k e : ℕ) → e ≡ 2 * k → power (negsuc 0) e ≡ pos 1
 even_power zero zero h = refl
@@ -34,55 +42,11 @@ odd_power : (k e : ℕ) → e ≡ 2 * k + 1 → power (negsuc 0) e ≡ negsuc 0
 odd_power k zero h = absurd (omega arith)
 odd_power k (suc e) h = ap (λ p. negsuc 0 *ℤ p) (even_power k e (omega arith))
 
-pub zero_row : (b e : ℤ) → b ≡ pos 0 → pos 1 ≤ℤ e → Ok (pos 0) ≡ power_row b e
-zero_row b e h k = subst (λ x. Ok (pos 0) ≡ power_row x e) (sym h) (at_zero e k)
-  where
-    at_zero : (e : ℤ) → pos 1 ≤ℤ e → Ok (pos 0) ≡ power_row (pos 0) e
-    at_zero (pos zero) k = absurd (omega (arith, ints, k))
-    at_zero (pos (suc e)) k = ap sized (sym (zero_times (power (pos 0) e)))
-    at_zero (negsuc e) k = absurd (omega (arith, ints, k))
+pub even_row : (e : ℕ) → e % 2 ≡ 0 → pos 1 ≡ power (negsuc 0) e
+even_row e h = sym (even_power (e / 2) e (omega arith))
 
-pub one_row : (b e : ℤ) → b ≡ pos 1 → Ok (pos 1) ≡ power_row b e
-one_row b e h = subst (λ x. Ok (pos 1) ≡ power_row x e) (sym h) (at_one e)
-  where
-    at_one : (e : ℤ) → Ok (pos 1) ≡ power_row (pos 1) e
-    at_one (pos e) = ap sized (sym (one_power e))
-    at_one (negsuc e) = refl
-
--- the remainder of a number below 0
-no_remainder : (m : ℕ) → m < 2 → of_z w64 (neg_ℤ (pos m)) ≡ 0 → m ≡ 0
-no_remainder zero h e = refl
-no_remainder (suc m) h e = absurd (omega (arith, e))
-
-some_remainder : (m : ℕ) → m < 2 → (of_z w64 (neg_ℤ (pos m)) ≡ 0 → ⊥) → m ≡ 1
-some_remainder zero h e = absurd (e refl)
-some_remainder (suc m) h e = omega arith
-
-even_at : (e : ℤ) → of_z w64 (int_rem e (pos 2)) ≡ 0 → Ok (pos 1) ≡ power_row (negsuc 0) e
-even_at (pos e) h = ap sized (sym (even_power (e / 2) e (omega (arith, h))))
-even_at (negsuc e) h = let r = no_remainder (suc e % 2) (omega arith) h in
-    ap (λ p. Ok p) (sym (even_power (suc e / 2) (suc e) (omega (arith, r))))
-
-odd_at : (e : ℤ) → (of_z w64 (int_rem e (pos 2)) ≡ 0 → ⊥) → Ok (negsuc 0) ≡ power_row (negsuc 0) e
-odd_at (pos e) h = ap sized (sym (odd_power (e / 2) e (omega (arith, h))))
-odd_at (negsuc e) h = let r = some_remainder (suc e % 2) (omega arith) h in
-    ap (λ p. Ok p) (sym (odd_power (suc e / 2) (suc e) (omega (arith, r))))
-
-module _ (b e : ℤ) (is : b ≡ negsuc 0) (fits : SFits w64 e) where
-  parted : to_z w64 (of_z w64 e) ≡ e
-  parted = to_z-of_z w64 e fits
-
-  pub even_row : of_z w64 (int_rem (to_z w64 (of_z w64 e)) (pos 2)) ≡ 0 → Ok (pos 1) ≡ power_row b e
-  even_row h = subst (λ x. Ok (pos 1) ≡ power_row x e) (sym is)
-      (even_at e (subst (λ x. of_z w64 (int_rem x (pos 2)) ≡ 0) parted h))
-
-  pub odd_row : (of_z w64 (int_rem (to_z w64 (of_z w64 e)) (pos 2)) ≡ 0 → ⊥) → Ok (negsuc 0) ≡ power_row b e
-  odd_row h = subst (λ x. Ok (negsuc 0) ≡ power_row x e) (sym is)
-      (odd_at e (subst (λ x. of_z w64 (int_rem x (pos 2)) ≡ 0 → ⊥) parted h))
-
-pub abs_minus : (e : ℕ) → unsigned_abs (power (negsuc 0) e) ≡ 1
-abs_minus zero = refl
-abs_minus (suc e) = unsigned_abs-mul (negsuc 0) (power (negsuc 0) e) ∙ ap (λ n. 1 * n) (abs_minus e)
+pub odd_row : (e : ℕ) → (e % 2 ≡ 0 → ⊥) → negsuc 0 ≡ power (negsuc 0) e
+odd_row e h = sym (odd_power (e / 2) e (omega arith))
 
 -- products of equal factors
 abs_power : (b : ℤ) (e : ℕ) → unsigned_abs (power b e) ≡ unsigned_abs b ^ e

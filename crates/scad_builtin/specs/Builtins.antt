@@ -1,12 +1,11 @@
 -- Built-in functions (OpenSCAD User Manual, in the profile of this server).
-use Rattle.std.specs.Prelude.{ℕ, zero, suc, ◌+◌, ◌^◌, ℤ, pos, negsuc, ◌*ℤ◌, Bool, true, false, ◌&&◌, List, [], ◌∷◌, ◌++◌, length, Option, Some, None, Result, Ok, Err, nat_eq, nat_lt, int_lt, unsigned_abs, codes, if◌then◌else◌}
+use Rattle.std.specs.Prelude.{ℕ, zero, suc, ℤ, pos, negsuc, ◌*ℤ◌, Bool, true, false, ◌&&◌, List, [], ◌∷◌, ◌++◌, length, Option, Some, None, Ok, Err, nat_eq, nat_lt, int_lt, unsigned_abs, codes, if◌then◌else◌}
 use Rattle.std.specs.Str.{bytes_eq}
-use Rattle.text_place.specs.declared.fault.FaultKind.{FaultKind}
-use Rattle.text_place.specs.declared.fault.FaultKind.TheVariants.{TypeMismatch, ZeroDivisor, NotWhole, TooLarge, LongList}
+use Rattle.text_place.specs.declared.fault.FaultKind.TheVariants.{TypeMismatch, ZeroDivisor, NotWhole}
 use Rattle.scad_builtin.specs.declared.function.Builtin.{Builtin}
 use Rattle.scad_builtin.specs.declared.function.Builtin.TheVariants.{Abs, Sign, Floor, Ceil, Round, Min, Max, Len, Concat, Pow, IsUndef, IsNum, IsBool, IsList}
-use Rattle.scad_value.specs.Values.{Val, NumberVal, TruthVal, TextVal, ListVal, RangeVal, UndefVal, Vals, no_vals, and_val, vals_from, count_of, is_bounded}
-use Rattle.scad_value.specs.Operators.{Answer, and_then, sized, number, made}
+use Rattle.scad_value.specs.Values.{Val, NumberVal, TruthVal, TextVal, ListVal, UndefVal, Vals, no_vals, and_val, vals_from, count_of, is_bounded}
+use Rattle.scad_value.specs.Operators.{Answer, sized, number, made}
 
 -- names and what they stand for
 abbrev pub named_in : {A : Type 0} → List (List ℕ × A) → List ℕ → Option A
@@ -15,9 +14,10 @@ named_in (p ∷ ps) name = if bytes_eq p.0 name then Some p.1 else named_in ps n
 
 abbrev pub builtin_of : List ℕ → Option Builtin
 builtin_of name = named_in
-    ((codes "abs", Abs) ∷ (codes "sign", Sign) ∷ (codes "floor", Floor) ∷ (codes "ceil", Ceil) ∷ (codes "round", Round) ∷ (codes "min", Min)
-    ∷ (codes "max", Max) ∷ (codes "len", Len) ∷ (codes "concat", Concat) ∷ (codes "pow", Pow) ∷ (codes "is_undef", IsUndef)
-    ∷ (codes "is_num", IsNum) ∷ (codes "is_bool", IsBool) ∷ (codes "is_list", IsList) ∷ []) name
+    ((codes "abs", Abs) ∷ (codes "sign", Sign) ∷ (codes "floor", Floor) ∷ (codes "ceil", Ceil)
+    ∷ (codes "round", Round) ∷ (codes "min", Min) ∷ (codes "max", Max) ∷ (codes "len", Len)
+    ∷ (codes "concat", Concat) ∷ (codes "pow", Pow) ∷ (codes "is_undef", IsUndef) ∷ (codes "is_num", IsNum)
+    ∷ (codes "is_bool", IsBool) ∷ (codes "is_list", IsList) ∷ []) name
 
 -- functions of OpenSCAD that the profile leaves out
 abbrev pub is_among : List (List ℕ) → List ℕ → Bool
@@ -26,9 +26,10 @@ is_among (n ∷ ns) name = if bytes_eq n name then true else is_among ns name
 
 abbrev pub is_left_out : List ℕ → Bool
 is_left_out = is_among
-    (codes "str" ∷ codes "chr" ∷ codes "ord" ∷ codes "sin" ∷ codes "cos" ∷ codes "tan" ∷ codes "asin" ∷ codes "acos" ∷ codes "atan" ∷ codes "atan2"
-    ∷ codes "sqrt" ∷ codes "exp" ∷ codes "ln" ∷ codes "log" ∷ codes "rands" ∷ codes "norm" ∷ codes "cross" ∷ codes "search" ∷ codes "lookup"
-    ∷ codes "is_string" ∷ codes "is_function" ∷ codes "version" ∷ codes "version_num" ∷ codes "parent_module" ∷ [])
+    (codes "str" ∷ codes "chr" ∷ codes "ord" ∷ codes "sin" ∷ codes "cos" ∷ codes "tan" ∷ codes "asin"
+    ∷ codes "acos" ∷ codes "atan" ∷ codes "atan2" ∷ codes "sqrt" ∷ codes "exp" ∷ codes "ln" ∷ codes "log"
+    ∷ codes "rands" ∷ codes "norm" ∷ codes "cross" ∷ codes "search" ∷ codes "lookup" ∷ codes "is_string"
+    ∷ codes "is_function" ∷ codes "version" ∷ codes "version_num" ∷ codes "parent_module" ∷ [])
 
 -- whether a function takes so many arguments
 abbrev pub takes : Builtin → ℕ → Bool

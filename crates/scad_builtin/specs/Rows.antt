@@ -1,5 +1,5 @@
 -- What the code's choices among numbers stand for, and the functions of one value.
-use Rattle.std.specs.Prelude.{ℤ, pos, Bool, Result, Ok, Err, int_lt, unsigned_abs}
+use Rattle.std.specs.Prelude.{ℤ, pos, Bool, Ok, Err, int_lt, unsigned_abs}
 use Rattle.text_place.specs.declared.fault.FaultKind.TheVariants.{TypeMismatch}
 use Rattle.scad_value.specs.Values.{Val, TruthVal}
 use Rattle.scad_value.specs.Operators.{Answer, sized}

@@ -5,7 +5,7 @@ ghost use Rattle.scad_value.specs.View.{val_of, vals_of, vals_in, Tells};
 ghost use Rattle.scad_builtin.specs.Builtins.{better as better_at, best_of as best_of_at, best as best_at, best_among as best_among_at};
 ghost use Rattle.scad_builtin.specs.Rows.{is_before};
 
-use crate::taken::only;
+use crate::arguments::only;
 use scad_value::{Value, ValueStop, Values};
 use text_place::FaultKind;
 
@@ -70,7 +70,8 @@ fn best(wanted: Wanted, values: &[Value]) -> Result<Value, ValueStop>
 }
 
 fn best_from(wanted: Wanted, first: &Value, rest: &[Value]) -> Result<Value, ValueStop>
-    ensures { Tells result (best_at (is_before wanted) (and_val (val_of first.now) (vals_from (vals_in rest.now)))) }
+    ensures { Tells result (best_at (is_before wanted)
+        (and_val (val_of first.now) (vals_from (vals_in rest.now)))) }
 {
     match first {
         Value::Number(n) => Ok(Value::Number(best_of(wanted, *n, rest)?)),

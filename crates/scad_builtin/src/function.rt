@@ -4,7 +4,7 @@ ghost use Rattle.scad_value.specs.View.{val_of, vals_of, Tells, GivesBounded};
 ghost use Rattle.scad_builtin.specs.Builtins.{takes as takes_so_many, applied, of_one as of_one_value, are_bounded};
 ghost use Rattle.scad_builtin.specs.Rows.{row_of};
 
-use crate::taken::only;
+use crate::arguments::only;
 use crate::best::{Wanted, best_among};
 use crate::list::{concat, length};
 use crate::number::{NumberRow, of_number, power};

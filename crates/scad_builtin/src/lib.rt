@@ -1,13 +1,16 @@
 //! The built-in functions of the modelling language, of values to a value.
 #![tactic(auto)]
 
-
+mod arguments;
 mod best;
+mod bound;
 mod function;
 mod list;
 mod name;
 mod number;
-mod taken;
+#[cfg(test)]
+mod tests;
 
+pub use bound::are_bounded;
 pub use function::Builtin;
 pub use name::{builtin, is_left_out};

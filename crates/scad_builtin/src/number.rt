@@ -1,11 +1,11 @@
-ghost use Rattle.std.specs.Prelude.{◌≡◌, ◌≤◌, ℕ, pos, unsigned_abs};
+ghost use Rattle.std.specs.Prelude.{◌≡◌, ◌≤◌, ◌<ℤ◌, pos, negsuc, unsigned_abs};
 ghost use Rattle.scad_value.specs.Values.{vals_from};
 ghost use Rattle.scad_value.specs.Operators.{sized as sized_at};
 ghost use Rattle.scad_value.specs.View.{val_of, vals_of, Tells};
 ghost use Rattle.scad_builtin.specs.Builtins.{of_number as of_number_at, of_two, power as power_at, power_of as power_of_values, power_row as power_row_at};
 ghost use Rattle.scad_builtin.specs.Rows.{number_row};
 
-use crate::taken::both;
+use crate::arguments::both;
 use scad_value::{Value, ValueStop, Values, product_of_two, sized};
 use text_place::FaultKind;
 
@@ -67,21 +67,47 @@ fn power_of(base: &Value, exponent: &Value) -> Result<Value, ValueStop>
     }
 }
 
-/// A power. The powers of 0, 1 and -1 are told by their exponents alone, so that no large exponent
-/// takes long.
 fn power_row(base: i64, exponent: i64) -> Result<i64, FaultKind>
     ensures { result ≡ power_row_at base exponent }
 {
-    match base {
-        0 if exponent < 0 => Err(FaultKind::ZeroDivisor),
-        0 if exponent == 0 => Ok(1),
-        0 => Ok(0),
-        1 => Ok(1),
-        -1 if exponent % 2 == 0 => Ok(1),
-        -1 => Ok(-1),
-        _ if exponent < 0 => Err(FaultKind::NotWhole),
-        _ => repeated(base, exponent as u64),
+    if exponent < 0 {
+        inverse_power(base, exponent)
+    } else {
+        whole_power(base, exponent as u64)
     }
+}
+
+/// A power with an exponent below 0, which is whole for 1 and -1 alone.
+fn inverse_power(base: i64, exponent: i64) -> Result<i64, FaultKind>
+    requires { exponent <ℤ pos 0 }
+    ensures { result ≡ power_row_at base exponent }
+{
+    match base {
+        0 => Err(FaultKind::ZeroDivisor),
+        1 => Ok(1),
+        -1 => Ok(alternating(exponent.unsigned_abs())),
+        _ => Err(FaultKind::NotWhole),
+    }
+}
+
+/// A power with an exponent from 0 on. Those of 0, 1 and -1 are told by their exponents alone, so
+/// that no large exponent takes long.
+fn whole_power(base: i64, exponent: u64) -> Result<i64, FaultKind>
+    ensures { result ≡ sized_at (power_at base exponent) }
+{
+    match base {
+        0 => Ok(i64::from(exponent == 0)),
+        1 => Ok(1),
+        -1 => Ok(alternating(exponent)),
+        _ => repeated(base, exponent),
+    }
+}
+
+/// A power of -1.
+fn alternating(exponent: u64) -> i64
+    ensures { result ≡ power_at (negsuc 0) exponent }
+{
+    if exponent % 2 == 0 { 1 } else { -1 }
 }
 
 /// The product of so many equal factors, each at least 2 in size: so it is too large after at most

@@ -2,7 +2,7 @@ use Rattle.std.proofs.Common.{◌++◌, ◌∙◌, sym, ap}
 use Rattle.std.proofs.lemmas.List.{map-append}
 use Rattle.scad_value.specs.View.{val_of, vals_of, vals_in}
 use Rattle.scad_builtin.specs.Builtins.{items_as}
-use Rattle.scad_builtin.proofs.Arguments.{list_from}
+use Rattle.scad_builtin.proofs.ArgumentLists.{list_from}
 use Rattle.scad_builtin.proofs.list.append.Goals as goal
 
 pub returns-in_ok-append-in-Ok : goal.returns-in_ok-append-in-Ok

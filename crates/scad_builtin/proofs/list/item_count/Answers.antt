@@ -1,4 +1,4 @@
-use Rattle.scad_builtin.proofs.Arguments.{counted}
+use Rattle.scad_builtin.proofs.ArgumentLists.{counted}
 use Rattle.scad_builtin.proofs.list.item_count.Goals as goal
 
 pub returns : goal.returns

@@ -1,7 +1,7 @@
-use Rattle.std.proofs.Common.{◌≡◌, ◌++◌, ◌∷◌, [], ◌∙◌, sym, ap}
+use Rattle.std.proofs.Common.{◌++◌, ◌∙◌, sym, ap}
 use Rattle.scad_builtin.specs.Builtins.{items_as}
 use Rattle.scad_value.specs.View.{val_of}
-use Rattle.scad_builtin.proofs.Arguments.{joined_push}
+use Rattle.scad_builtin.proofs.ArgumentLists.{joined_push}
 use Rattle.scad_builtin.proofs.list.joined.Goals as goal
 
 pub loop-value-preserved : goal.loop-value-preserved

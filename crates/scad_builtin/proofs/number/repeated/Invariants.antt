@@ -1,4 +1,4 @@
-use Rattle.std.proofs.Common.{◌≡◌, ◌+◌, IsTrue}
+use Rattle.std.proofs.Common.{◌≡◌, IsTrue}
 use Rattle.scad_value.specs.Values.{is_small}
 use Rattle.scad_builtin.specs.Builtins.{power}
 use Rattle.scad_builtin.proofs.number.repeated.Given as goal

@@ -1,9 +1,8 @@
 -- Lists of values that are as long as a function wants them, and others.
-use Rattle.std.proofs.Common.{◌≡◌, ℕ, zero, suc, List, [], ◌∷◌, ◌++◌, length, map, refl, sym, ap, ◌∙◌, append_assoc, append-nil, ℤ, Bool, Err}
-use Rattle.std.proofs.lemmas.List.{map-append}
+use Rattle.std.proofs.Common.{◌≡◌, suc, List, [], ◌∷◌, ◌++◌, length, refl, sym, ap, ◌∙◌, append_assoc, append-nil, ℤ, Bool, Err}
 use Rattle.text_place.specs.declared.fault.FaultKind.TheVariants.{TypeMismatch}
 use Rattle.scad_value.specs.declared.value.Value.{Value}
-use Rattle.scad_value.specs.Values.{Val, NumberVal, TruthVal, TextVal, ListVal, RangeVal, UndefVal, no_vals, and_val, vals_from, count_of}
+use Rattle.scad_value.specs.Values.{Val, NumberVal, TruthVal, TextVal, ListVal, RangeVal, UndefVal, vals_from, count_of}
 use Rattle.scad_value.specs.Operators.{Answer}
 use Rattle.scad_value.specs.View.{val_of, vals_in}
 use Rattle.scad_builtin.specs.declared.function.Builtin.{Builtin}
@@ -32,8 +31,8 @@ not_two row (v ∷ w ∷ []) h = absurd (h refl)
 not_two row (u ∷ v ∷ w ∷ ws) h = refl
 
 -- other than one value is no list of numbers
-pub not_alone : (before : ℤ → ℤ → Bool) (ws : List Val) → (length ws ≡ 1 → ⊥) → best_among before (vals_from ws)
-    ≡ best before (vals_from ws)
+pub not_alone : (before : ℤ → ℤ → Bool) (ws : List Val) → (length ws ≡ 1 → ⊥)
+    → best_among before (vals_from ws) ≡ best before (vals_from ws)
 not_alone before [] h = refl
 not_alone before (v ∷ []) h = absurd (h refl)
 not_alone before (NumberVal n ∷ w ∷ ws) h = refl
