@@ -101,6 +101,8 @@ no_variables outer (Passed b f m) = refl
 
 -- a new scope whose variables are bounded
 pub adding_bounded : (t : Bool) (ss new : List Scope) (s : Scope) → new ≡ cond t (ss ++ s ∷ []) ss
-    → IsTrue (have_bounded (row_of s).variables) → IsTrue (all_bounded (rows_in ss)) → IsTrue (all_bounded (rows_in new))
-adding_bounded true ss new s e b h = subst (λ l. IsTrue (all_bounded (rows_in l))) (sym e) (rows_bounded_push ss s h b)
+    → IsTrue (have_bounded (row_of s).variables) → IsTrue (all_bounded (rows_in ss))
+    → IsTrue (all_bounded (rows_in new))
+adding_bounded true ss new s e b h = subst (λ l. IsTrue (all_bounded (rows_in l))) (sym e)
+    (rows_bounded_push ss s h b)
 adding_bounded false ss new s e b h = subst (λ l. IsTrue (all_bounded (rows_in l))) (sym e) h

@@ -123,7 +123,8 @@ module _ (ss : List Scope) (k : ℕ) (s : Scope) (name : List ℕ) (h : k < leng
 
     pub variable_outer : find_in (row_of s).variables name ≡ None → s.outer < k
         → variable_in (env_of (rows_in ss) k) name ≡ variable_in (env_of (rows_in ss) s.outer) name
-    variable_outer f l = here ∙ ap (λ o. or_else o (variable_in outside name)) f ∙ ap (λ x. variable_in x name)
+    variable_outer f l = here ∙ ap (λ o. or_else o (variable_in outside name)) f
+        ∙ ap (λ x. variable_in x name)
         (an_outer l)
 
     within : (family : Family) (env : Env) → definition_in family (Within k (row_of s) env) name
@@ -137,7 +138,8 @@ module _ (ss : List Scope) (k : ℕ) (s : Scope) (name : List ℕ) (h : k < leng
         (definition_in family outside name)
     unfolding outside
     standing family = subst
-        (λ x. definition_in family x name ≡ or_else (standing_in x (find_in (pairs_of family (row_of s)) name))
+        (λ x. definition_in family x name
+        ≡ or_else (standing_in x (find_in (pairs_of family (row_of s)) name))
         (definition_in family outside name))
         (sym (env_at ss k s h e)) (within family outside)
 
@@ -161,16 +163,19 @@ module _ (ss : List Scope) (k : ℕ) (s : Scope) (name : List ℕ) (h : k < leng
         nowhere family
 
     pub definition_outer : (family : Family) → find_in (pairs_of family (row_of s)) name ≡ None → s.outer < k
-        → definition_in family (env_of (rows_in ss) k) name ≡ definition_in family (env_of (rows_in ss) s.outer)
+        → definition_in family (env_of (rows_in ss) k) name
+        ≡ definition_in family (env_of (rows_in ss) s.outer)
         name
     definition_outer family f l = passed family f ∙ ap (λ x. definition_in family x name) (an_outer l)
 
-envs-more : (before : List Env) (rs : List Row) (r : Row) → envs_from before (rs ++ r ∷ []) ≡ envs_from before rs ++ scope_in (envs_from before rs) r ∷ []
+envs-more : (before : List Env) (rs : List Row) (r : Row) → envs_from before (rs ++ r ∷ [])
+    ≡ envs_from before rs ++ scope_in (envs_from before rs) r ∷ []
 envs-more before [] r = refl
 envs-more before (q ∷ rs) r = envs-more (before ++ scope_in before q ∷ []) rs r
 
 -- a new scope, and the scopes before it
-pub env_new : (rs : List Row) (r : Row) (n : ℕ) → n ≡ length rs → env_of (rs ++ r ∷ []) n ≡ Within n r (env_of rs r.outer)
+pub env_new : (rs : List Row) (r : Row) (n : ℕ) → n ≡ length rs → env_of (rs ++ r ∷ []) n
+    ≡ Within n r (env_of rs r.outer)
 unfolding env_of
 env_new rs r n h =
     let len : length (envs_from [] rs) ≡ n = omega (arith, envs_length [] rs) in
@@ -182,43 +187,57 @@ env_new rs r n h =
 pub env_kept : (rs : List Row) (r : Row) (k : ℕ) → k < length rs → env_of (rs ++ r ∷ []) k ≡ env_of rs k
 unfolding env_of
 env_kept rs r k h = ap (λ es. get_or es k Outermost) (envs-more [] rs r)
-    ∙ get_front (envs_from [] rs) (scope_in (envs_from [] rs) r ∷ []) k Outermost (omega (arith, envs_length [] rs))
+    ∙ get_front (envs_from [] rs) (scope_in (envs_from [] rs) r ∷ []) k Outermost
+    (omega (arith, envs_length [] rs))
 
 -- one more variable leaves the scopes before as they are
-front_kept : (before : List Env) (rs : List Row) (k : ℕ) (name : List ℕ) (value : Val) (j : ℕ) → j < length before + k
-    → get_or (envs_from before (bound_in rs k name value)) j Outermost ≡ get_or (envs_from before rs) j Outermost
+front_kept : (before : List Env) (rs : List Row) (k : ℕ) (name : List ℕ) (value : Val) (j : ℕ)
+    → j < length before + k
+    → get_or (envs_from before (bound_in rs k name value)) j Outermost
+    ≡ get_or (envs_from before rs) j Outermost
 front_kept before [] k name value j h = refl
 front_kept before (r ∷ rs) zero name value j h =
     let one : j < length before = omega arith in
     let x = scope_in before (with_variable name value r) in
     envs_keep (before ++ x ∷ []) rs j Outermost (omega (arith, length-append before (x ∷ [])))
-    ∙ get_front before (x ∷ []) j Outermost one ∙ sym (get_front before (scope_in before r ∷ []) j Outermost one)
-    ∙ sym (envs_keep (before ++ scope_in before r ∷ []) rs j Outermost (omega (arith, length-append before (scope_in before r ∷ []))))
+    ∙ get_front before (x ∷ []) j Outermost one
+    ∙ sym (get_front before (scope_in before r ∷ []) j Outermost one)
+    ∙ sym (envs_keep (before ++ scope_in before r ∷ []) rs j Outermost
+    (omega (arith, length-append before (scope_in before r ∷ []))))
 front_kept before (r ∷ rs) (suc k) name value j h =
-    front_kept (before ++ scope_in before r ∷ []) rs k name value j (omega (arith, length-append before (scope_in before r ∷ [])))
+    front_kept (before ++ scope_in before r ∷ []) rs k name value j
+    (omega (arith, length-append before (scope_in before r ∷ [])))
 
-pub binding_kept : (rs : List Row) (k : ℕ) (name : List ℕ) (value : Val) (j : ℕ) → j < k → env_of (bound_in rs k name value) j ≡ env_of rs j
+pub binding_kept : (rs : List Row) (k : ℕ) (name : List ℕ) (value : Val) (j : ℕ) → j < k
+    → env_of (bound_in rs k name value) j ≡ env_of rs j
 unfolding env_of
 binding_kept rs k name value j h = front_kept [] rs k name value j (omega arith)
 
-here_bound : (before : List Env) (rs : List Row) (k : ℕ) (name : List ℕ) (value : Val) (n : ℕ) → k < length rs → n ≡ length before + k
-    → get_or (envs_from before (bound_in rs k name value)) n Outermost ≡ with_pair name value (get_or (envs_from before rs) n Outermost)
+here_bound : (before : List Env) (rs : List Row) (k : ℕ) (name : List ℕ) (value : Val) (n : ℕ)
+    → k < length rs → n ≡ length before + k
+    → get_or (envs_from before (bound_in rs k name value)) n Outermost
+    ≡ with_pair name value (get_or (envs_from before rs) n Outermost)
 here_bound before [] k name value n h e = absurd (omega arith)
 here_bound before (r ∷ rs) zero name value n h e =
     let x = scope_in before (with_variable name value r) in
     let y = scope_in before r in
     let len : n ≡ length before = omega arith in
     let left : get_or (envs_from (before ++ x ∷ []) rs) (length before) Outermost ≡ x
-    = envs_keep (before ++ x ∷ []) rs (length before) Outermost (omega (arith, length-append before (x ∷ []))) ∙ get_or-append_seam before x [] Outermost in
+    = envs_keep (before ++ x ∷ []) rs (length before) Outermost
+    (omega (arith, length-append before (x ∷ []))) ∙ get_or-append_seam before x [] Outermost in
     let right : get_or (envs_from (before ++ y ∷ []) rs) (length before) Outermost ≡ y
-    = envs_keep (before ++ y ∷ []) rs (length before) Outermost (omega (arith, length-append before (y ∷ []))) ∙ get_or-append_seam before y [] Outermost in
-    ap (λ m. get_or (envs_from (before ++ x ∷ []) rs) m Outermost) len ∙ left ∙ sym (ap (with_pair name value) right)
+    = envs_keep (before ++ y ∷ []) rs (length before) Outermost
+    (omega (arith, length-append before (y ∷ []))) ∙ get_or-append_seam before y [] Outermost in
+    ap (λ m. get_or (envs_from (before ++ x ∷ []) rs) m Outermost) len ∙ left
+    ∙ sym (ap (with_pair name value) right)
     ∙ ap (λ m. with_pair name value (get_or (envs_from (before ++ y ∷ []) rs) m Outermost)) (sym len)
 here_bound before (r ∷ rs) (suc k) name value n h e =
-    here_bound (before ++ scope_in before r ∷ []) rs k name value n (omega arith) (omega (arith, length-append before (scope_in before r ∷ [])))
+    here_bound (before ++ scope_in before r ∷ []) rs k name value n (omega arith)
+    (omega (arith, length-append before (scope_in before r ∷ [])))
 
 -- and the scope itself has it
-pub binding_here : (rs : List Row) (k : ℕ) (name : List ℕ) (value : Val) → k < length rs → env_of (bound_in rs k name value) k ≡ with_pair name value (env_of rs k)
+pub binding_here : (rs : List Row) (k : ℕ) (name : List ℕ) (value : Val) → k < length rs
+    → env_of (bound_in rs k name value) k ≡ with_pair name value (env_of rs k)
 unfolding env_of
 binding_here rs k name value h = here_bound [] rs k name value k h (omega arith)
 
@@ -230,7 +249,8 @@ entered_outer outer (Passed b f m) = refl
 module _ {E : Type 0} (old new : List Row) (outer : ℕ) (row : Row) where
   pub entering_told : (r : Result ℕ E) → row.outer ≡ outer → IfOk r (λ n. n ≡ length old)
       → OnOk r (new ≡ old ++ row ∷ []) → IfOk r (λ n. env_of new n ≡ Within n row (env_of old outer))
-  entering_told (Ok n) e f g = ap (λ rs. env_of rs n) g ∙ env_new old row n f ∙ ap (λ o. Within n row (env_of old o)) e
+  entering_told (Ok n) e f g = ap (λ rs. env_of rs n) g ∙ env_new old row n f
+      ∙ ap (λ o. Within n row (env_of old o)) e
   entering_told (Err x) e f g = tt
 
   pub entering_kept : (r : Result ℕ E) → OnOk r (new ≡ old ++ row ∷ []) → OnErr r (new ≡ old)

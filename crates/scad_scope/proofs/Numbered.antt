@@ -1,5 +1,5 @@
 -- The numbers of a block's definitions are below the program's counts, and a table keeps that.
-use Rattle.std.proofs.Common.{◌≡◌, ℕ, zero, suc, ◌+◌, ◌≤◌, List, [], ◌∷◌, ◌++◌, length, reverse, Bool, true, refl, ap, sym, subst, ◌&&◌, ◌∙◌, arith, nat_lt, Result, Ok, Err}
+use Rattle.std.proofs.Common.{◌≡◌, ℕ, zero, suc, ◌+◌, ◌≤◌, List, [], ◌∷◌, ◌++◌, reverse, Bool, refl, ap, sym, subst, ◌&&◌, ◌∙◌, arith, Result, Ok, Err}
 use Rattle.std.specs.Prelude.{IsTrue, OnOk, OnErr}
 use Rattle.std.proofs.lemmas.Bool.{and_parts, and_from, lt-ltb}
 use Rattle.std.proofs.lemmas.List.{reverse-append}
@@ -10,7 +10,8 @@ use Rattle.scad_scope.specs.Blocks.{Mark, a_block, a_function, a_module, Block, 
 use Rattle.scad_scope.specs.Numbered.{numbers_below, each_row, count_of_functions, count_of_modules}
 use Rattle.scad_scope.proofs.Scans.{walked, scan_append, scan_counts}
 
-pub functions_joined : (xs ys : List Mark) → functions_among (xs ++ ys) ≡ functions_among xs + functions_among ys
+pub functions_joined : (xs ys : List Mark) → functions_among (xs ++ ys)
+    ≡ functions_among xs + functions_among ys
 functions_joined [] ys = omega arith
 functions_joined (a_block s ∷ xs) ys = functions_joined xs ys
 functions_joined (a_function ∷ xs) ys = omega (arith, functions_joined xs ys)
@@ -65,11 +66,13 @@ block_text s t (suc b) f m block h = t b f m block h
 
 function_text : (xs : List Mark) → IsText xs → IsText (a_function ∷ xs)
 function_text xs t zero f m block h = let held = t zero (f + 1) m block h in (omega (arith, held.0), held.1)
-function_text xs t (suc b) f m block h = let held = t (suc b) (f + 1) m block h in (omega (arith, held.0), held.1)
+function_text xs t (suc b) f m block h = let held = t (suc b)
+    (f + 1) m block h in (omega (arith, held.0), held.1)
 
 module_text : (xs : List Mark) → IsText xs → IsText (a_module ∷ xs)
 module_text xs t zero f m block h = let held = t zero f (m + 1) block h in (held.0, omega (arith, held.1))
-module_text xs t (suc b) f m block h = let held = t (suc b) f (m + 1) block h in (held.0, omega (arith, held.1))
+module_text xs t (suc b) f m block h = let held = t (suc b) f (m + 1) block h in
+    (held.0, omega (arith, held.1))
 
 no_body : IsText (a_block no_statements ∷ [])
 no_body = block_text no_statements empty_text
@@ -102,12 +105,14 @@ mutual
   text_of_body (EmptyBody at) = no_body
   text_of_body (BlockBody at statements) = block_text statements (text_in statements)
   text_of_body (InstanceBody instance) =
-      joined_text (a_block no_statements ∷ []) (marks_of_instance instance) no_body (text_of_instance instance)
+      joined_text (a_block no_statements ∷ [])
+      (marks_of_instance instance) no_body (text_of_instance instance)
 
 below_joined : (n : ℕ) (ps qs : Pairs ℕ) → IsTrue (numbers_below n ps) → IsTrue (numbers_below n qs)
     → IsTrue (numbers_below n (ps ++ qs))
 below_joined n [] qs h g = g
-below_joined n (p ∷ ps) qs h g = let parts = and_parts _ _ h in and_from _ _ parts.0 (below_joined n ps qs parts.1 g)
+below_joined n (p ∷ ps) qs h g = let parts = and_parts _ _ h in and_from _ _ parts.0
+    (below_joined n ps qs parts.1 g)
 
 below_reversed : (n : ℕ) (ps : Pairs ℕ) → IsTrue (numbers_below n ps) → IsTrue (numbers_below n (reverse ps))
 below_reversed n [] h = h
@@ -126,11 +131,14 @@ mutual
   own_fit f m n k (EmptyStatement at) p q = (refl, refl)
   own_fit f m n k (BlockStatement at statements) p q = all_fit f m n k statements p q
   own_fit f m n k (AssignmentTerm at name value) p q = (refl, refl)
-  own_fit f m n k (ModuleTerm at name name_at params body) p q = (refl, and_from _ _ (lt-ltb m k (omega (arith, q))) refl)
-  own_fit f m n k (FunctionTerm at name name_at params value) p q = (and_from _ _ (lt-ltb f n (omega (arith, p))) refl, refl)
+  own_fit f m n k (ModuleTerm at name name_at params body) p q =
+      (refl, and_from _ _ (lt-ltb m k (omega (arith, q))) refl)
+  own_fit f m n k (FunctionTerm at name name_at params value) p q =
+      (and_from _ _ (lt-ltb f n (omega (arith, p))) refl, refl)
   own_fit f m n k (InstanceStatement instance) p q = (refl, refl)
 
-  all_fit : (f m n k : ℕ) (ss : StatementTerms) → Fit f m n k (marks_in ss) (own_functions f ss) (own_modules m ss)
+  all_fit : (f m n k : ℕ) (ss : StatementTerms)
+      → Fit f m n k (marks_in ss) (own_functions f ss) (own_modules m ss)
   all_fit f m n k no_statements p q = (refl, refl)
   all_fit f m n k (and_statement s rest) p q =
       let fs = functions_joined (marks_of s) (marks_in rest) in
@@ -141,7 +149,8 @@ mutual
       (below_joined n _ _ here.0 behind.0, below_joined k _ _ here.1 behind.1)
 
 module _ (outer : ℕ) (program : List StatementTerm) where
-  entered_fits : (s : Scan) → ((block : Block) → s ≡ Reached block → Holds block 0 0 (marks_of_program program))
+  entered_fits : (s : Scan) → ((block : Block) → s ≡ Reached block
+      → Holds block 0 0 (marks_of_program program))
       → IsTrue (numbers_below (count_of_functions program) (entered outer s).functions)
       × IsTrue (numbers_below (count_of_modules program) (entered outer s).modules)
   entered_fits (Reached block) held =
@@ -154,7 +163,9 @@ module _ (outer : ℕ) (program : List StatementTerm) where
   entered_fits (Passed b f m) held = (refl, refl)
 
   -- a block of a program has no function and no module beyond the program's
-  pub entered_below : (number : ℕ) → IsTrue (numbers_below (count_of_functions program) (entered outer (block_of program number)).functions)
+  pub entered_below : (number : ℕ)
+      → IsTrue (numbers_below (count_of_functions program)
+      (entered outer (block_of program number)).functions)
       × IsTrue (numbers_below (count_of_modules program) (entered outer (block_of program number)).modules)
   entered_below number = entered_fits (block_of program number)
       (λ block e. block_text (statements_from program) (text_in (statements_from program)) number 0 0 block e)
@@ -168,14 +179,17 @@ each_push test (q ∷ rs) r h g = let p = and_parts _ _ h in and_from _ _ p.0 (e
 module _ {A E : Type 0} (test : Row → Bool) (old new : List Row) where
   pub entering_passes : (row : Row) (r : Result A E) → OnOk r (new ≡ old ++ row ∷ []) → OnErr r (new ≡ old)
       → IsTrue (test row) → IsTrue (each_row test old) → IsTrue (each_row test new)
-  entering_passes row (Ok x) f g t h = subst (λ rs. IsTrue (each_row test rs)) (sym f) (each_push test old row h t)
+  entering_passes row (Ok x) f g t h = subst (λ rs. IsTrue (each_row test rs)) (sym f)
+      (each_push test old row h t)
   entering_passes row (Err e) f g t h = subst (λ rs. IsTrue (each_row test rs)) (sym g) h
 
-each_bound : (test : Row → Bool) (name : List ℕ) (value : Val) → ((r : Row) → test (with_variable name value r) ≡ test r)
+each_bound : (test : Row → Bool) (name : List ℕ) (value : Val)
+    → ((r : Row) → test (with_variable name value r) ≡ test r)
     → (rs : List Row) (k : ℕ) → each_row test (bound_in rs k name value) ≡ each_row test rs
 each_bound test name value same [] k = refl
 each_bound test name value same (r ∷ rs) zero = ap (λ b. b && each_row test rs) (same r)
-each_bound test name value same (r ∷ rs) (suc k) = ap (λ b. test r && b) (each_bound test name value same rs k)
+each_bound test name value same (r ∷ rs) (suc k) = ap (λ b. test r && b)
+    (each_bound test name value same rs k)
 
 module _ {A E : Type 0} (test : Row → Bool) (old new : List Row) (k : ℕ) (name : List ℕ) (value : Val)
     (same : (r : Row) → test (with_variable name value r) ≡ test r) where

@@ -87,8 +87,10 @@ impl Scopes {
         ensures inside { IfOk result (λ n. env_of (rows_of self.new) n ≡
             Within n (empty_row outer) (env_of (rows_of self.old) outer)) }
         ensures kept { (k : ℕ) → k < length (rows_of self.old) → env_of (rows_of self.new) k ≡ env_of (rows_of self.old) k }
-        ensures functions { (n : ℕ) → IsTrue (functions_below n (rows_of self.old)) → IsTrue (functions_below n (rows_of self.new)) }
-        ensures modules { (n : ℕ) → IsTrue (modules_below n (rows_of self.old)) → IsTrue (modules_below n (rows_of self.new)) }
+        ensures functions { (n : ℕ) →
+            IsTrue (functions_below n (rows_of self.old)) → IsTrue (functions_below n (rows_of self.new)) }
+        ensures modules { (n : ℕ) →
+            IsTrue (modules_below n (rows_of self.old)) → IsTrue (modules_below n (rows_of self.new)) }
     {
         self.add(empty(alloc, outer))
     }
@@ -123,8 +125,10 @@ impl Scopes {
         ensures here { OnOk result (env_of (rows_of self.new) scope ≡
             with_pair name.now (val_of value) (env_of (rows_of self.old) scope)) }
         ensures kept { (k : ℕ) → k < scope → env_of (rows_of self.new) k ≡ env_of (rows_of self.old) k }
-        ensures functions { (n : ℕ) → IsTrue (functions_below n (rows_of self.old)) → IsTrue (functions_below n (rows_of self.new)) }
-        ensures modules { (n : ℕ) → IsTrue (modules_below n (rows_of self.old)) → IsTrue (modules_below n (rows_of self.new)) }
+        ensures functions { (n : ℕ) →
+            IsTrue (functions_below n (rows_of self.old)) → IsTrue (functions_below n (rows_of self.new)) }
+        ensures modules { (n : ℕ) →
+            IsTrue (modules_below n (rows_of self.old)) → IsTrue (modules_below n (rows_of self.new)) }
     {
         self.add_variable(alloc, scope, name, value)
     }

@@ -1,6 +1,5 @@
 use Rattle.std.proofs.Common.{refl}
 use Rattle.scad_value.specs.View.{val_of}
-use Rattle.scad_scope.specs.Names.{Row}
 use Rattle.scad_scope.specs.Numbered.{numbers_below}
 use Rattle.scad_scope.specs.Table.{rows_of}
 use Rattle.scad_scope.proofs.Envs.{binding_shown, binding_keeps}
@@ -17,7 +16,8 @@ returns-clause-kept c = binding_keeps (rows_of c.args.self.now) (rows_of c.add_v
     c.add_variable.ensures.unchanged
 
 pub returns-clause-functions : goal.returns-clause-functions
-returns-clause-functions c = λ n h. binding_passes (λ r. numbers_below n r.functions) (rows_of c.args.self.now)
+returns-clause-functions c = λ n h. binding_passes (λ r. numbers_below n r.functions)
+    (rows_of c.args.self.now)
     (rows_of c.add_variable.new.self) c.args.scope c.args.name.now (val_of c.args.value) (λ r. refl)
     c.add_variable.result c.add_variable.ensures.bound c.add_variable.ensures.unchanged h
 

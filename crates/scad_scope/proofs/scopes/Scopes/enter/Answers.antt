@@ -1,4 +1,4 @@
-use Rattle.std.proofs.Common.{refl, subst, ◌≡◌, [], ◌∷◌, ◌++◌}
+use Rattle.std.proofs.Common.{subst, ◌≡◌, [], ◌∷◌, ◌++◌}
 use Rattle.std.specs.Prelude.{OnOk}
 use Rattle.scad_ast.specs.StatementView.{program_of}
 use Rattle.scad_scope.specs.Names.{Row}
@@ -12,14 +12,16 @@ use Rattle.scad_scope.proofs.scopes.Scopes.enter.Goals as goal
 row : goal.After-add → Row
 row c = entered c.args.outer (block_of (program_of c.args.program.now) c.args.block)
 
-added : (c : goal.After-add) → OnOk c.add.result (rows_of c.add.new.self ≡ rows_of c.args.self.now ++ row c ∷ [])
+added : (c : goal.After-add) → OnOk c.add.result
+    (rows_of c.add.new.self ≡ rows_of c.args.self.now ++ row c ∷ [])
 unfolding row
 added c = subst (λ r. OnOk c.add.result (rows_of c.add.new.self ≡ rows_of c.args.self.now ++ r ∷ []))
     c.in_ok-scope.ensures c.add.ensures.added
 
 pub returns-clause-inside : goal.returns-clause-inside
 unfolding row
-returns-clause-inside c = entering_told (rows_of c.args.self.now) (rows_of c.add.new.self) c.args.outer (row c)
+returns-clause-inside c = entering_told (rows_of c.args.self.now)
+    (rows_of c.add.new.self) c.args.outer (row c)
     c.add.result (entered_outer c.args.outer (block_of (program_of c.args.program.now) c.args.block))
     c.add.ensures.number (added c)
 

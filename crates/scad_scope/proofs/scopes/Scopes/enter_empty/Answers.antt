@@ -1,13 +1,14 @@
 use Rattle.std.proofs.Common.{refl, subst, ◌≡◌, [], ◌∷◌, ◌++◌}
 use Rattle.std.specs.Prelude.{OnOk}
-use Rattle.scad_scope.specs.Names.{Row, empty_row}
+use Rattle.scad_scope.specs.Names.{empty_row}
 use Rattle.scad_scope.specs.Numbered.{numbers_below}
 use Rattle.scad_scope.specs.Table.{rows_of}
 use Rattle.scad_scope.proofs.Envs.{entering_told, entering_kept}
 use Rattle.scad_scope.proofs.Numbered.{entering_passes}
 use Rattle.scad_scope.proofs.scopes.Scopes.enter_empty.Goals as goal
 
-added : (c : goal.After-add) → OnOk c.add.result (rows_of c.add.new.self ≡ rows_of c.args.self.now ++ empty_row c.args.outer ∷ [])
+added : (c : goal.After-add) → OnOk c.add.result
+    (rows_of c.add.new.self ≡ rows_of c.args.self.now ++ empty_row c.args.outer ∷ [])
 added c = subst (λ r. OnOk c.add.result (rows_of c.add.new.self ≡ rows_of c.args.self.now ++ r ∷ []))
     c.empty.ensures c.add.ensures.added
 
@@ -20,7 +21,8 @@ returns-clause-kept c = entering_kept (rows_of c.args.self.now) (rows_of c.add.n
     (empty_row c.args.outer) c.add.result (added c) c.add.ensures.unchanged
 
 pub returns-clause-functions : goal.returns-clause-functions
-returns-clause-functions c = λ n h. entering_passes (λ r. numbers_below n r.functions) (rows_of c.args.self.now)
+returns-clause-functions c = λ n h. entering_passes (λ r. numbers_below n r.functions)
+    (rows_of c.args.self.now)
     (rows_of c.add.new.self) (empty_row c.args.outer) c.add.result (added c) c.add.ensures.unchanged refl h
 
 pub returns-clause-modules : goal.returns-clause-modules
