@@ -18,4 +18,4 @@ invariant-all_suffixes-each l = suffixes_have_small (suffixes_from (suffixes_of 
 
 abbrev pub invariant-all_links-each : goal.invariant-all_links-each
 invariant-all_links-each l = links_have_small (links_from (links_of l.links))
-    ≡ links_have_small (links_from (map link_of (drop l.link-index l.links.items.items)))
+    ≡ links_have_small (links_from (map link_of (drop l.link-index l.link-items)))

@@ -14,11 +14,11 @@ use Rattle.scad_func.proofs.ProgramNumerals.{program_small}
 use Rattle.scad_func.proofs.value.value_of.Goals as goal
 
 pub value_in-requires-clause-numbered : goal.value_in-requires-clause-numbered
-value_in-requires-clause-numbered c = table_below _ _ _ c.in_ok-source.ensures.functions c.requires.numbered
+value_in-requires-clause-numbered c = table_below _ (program_of c.args.program.now) (rows_of c.args.scopes.now) c.in_ok-source.ensures.functions c.requires.numbered
 
 pub value_in-requires-clause-table : goal.value_in-requires-clause-table
 value_in-requires-clause-table c = subst (λ fs. IsTrue (functions_have_small fs)) (sym c.in_ok-source.ensures.functions)
-    (program_small _ c.requires.program)
+    (program_small (program_of c.args.program.now) c.requires.program)
 
 pub returns-clause-value : goal.returns-clause-value
 returns-clause-value c =
