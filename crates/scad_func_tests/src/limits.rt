@@ -52,9 +52,9 @@ fn counts_turns(rt: HostRuntime) -> Result<(), Fail> {
 #[test]
 fn stops_at_long_lists(rt: HostRuntime) -> Result<(), Fail> {
     let longest = repeated(rt.alloc(), b"x = [0", b",0", 4094, b"][4094];")?;
-    assert_eq!(rt; told(rt.alloc(), &longest)?.as_slice(), b"0");
+    assert_eq!(rt; told(rt.alloc(), &longest)?.as_slice(), b"0".as_slice());
     let long = repeated(rt.alloc(), b"x = [0", b",0", 4095, b"][0];")?;
-    assert_eq!(rt; told(rt.alloc(), &long)?.as_slice(), b"1 LongList");
+    assert_eq!(rt; told(rt.alloc(), &long)?.as_slice(), b"1 LongList".as_slice());
     Ok(())
 }
 
@@ -62,9 +62,9 @@ fn stops_at_long_lists(rt: HostRuntime) -> Result<(), Fail> {
 #[test]
 fn stops_at_deep_lists(rt: HostRuntime) -> Result<(), Fail> {
     let deepest = b"x = len(g(62)); function g(n) = n < 1 ? [[]] : [g(n - 1)];";
-    assert_eq!(rt; told(rt.alloc(), deepest)?.as_slice(), b"1");
+    assert_eq!(rt; told(rt.alloc(), deepest)?.as_slice(), b"1".as_slice());
     let deep = b"x = len(g(63)); function g(n) = n < 1 ? [[]] : [g(n - 1)];";
-    assert_eq!(rt; told(rt.alloc(), deep)?.as_slice(), b"44 LongList");
+    assert_eq!(rt; told(rt.alloc(), deep)?.as_slice(), b"44 LongList".as_slice());
     Ok(())
 }
 
@@ -74,9 +74,9 @@ fn stops_at_deep_lists(rt: HostRuntime) -> Result<(), Fail> {
 #[test]
 fn stops_at_the_513th_evaluation(rt: HostRuntime) -> Result<(), Fail> {
     let most = b"x = (((((f(63)))))); function f(n) = n < 1 ? 0 : ((((((f(n - 1)))))));";
-    assert_eq!(rt; told(rt.alloc(), most)?.as_slice(), b"0");
+    assert_eq!(rt; told(rt.alloc(), most)?.as_slice(), b"0".as_slice());
     let more = b"x = ((((((f(63))))))); function f(n) = n < 1 ? 0 : ((((((f(n - 1)))))));";
-    assert_eq!(rt; told(rt.alloc(), more)?.as_slice(), b"44 TooDeep");
+    assert_eq!(rt; told(rt.alloc(), more)?.as_slice(), b"44 TooDeep".as_slice());
     Ok(())
 }
 
@@ -84,6 +84,6 @@ fn stops_at_the_513th_evaluation(rt: HostRuntime) -> Result<(), Fail> {
 #[test]
 fn evaluates_many_calls(rt: HostRuntime) -> Result<(), Fail> {
     let source = b"x = f(15); function f(n) = n < 1 ? 1 : f(n - 1) + f(n - 1);";
-    assert_eq!(rt; told_after(rt.alloc(), source, 34_465)?.as_slice(), b"32768");
+    assert_eq!(rt; told_after(rt.alloc(), source, 34_465)?.as_slice(), b"32768".as_slice());
     Ok(())
 }
