@@ -108,18 +108,18 @@ module _ (deeper : Evaluates) (calls : ℕ) (env : Env) (params : List ParamTerm
   arguments_same no_args positional given turns g = same turns given g
   arguments_same (and_named at name value rest) positional given turns g =
       ap (λ o. then_with (or_fault o BadArgument at (λ k. then_with (deeper true calls env value turns) (λ turns v.
-          each_argument deeper calls env params positional rest (set given.0 k (Some (length given.1)), given.1 ++ v ∷ []) turns))) go)
+      each_argument deeper calls env params positional rest (set given.0 k (Some (length given.1)), given.1 ++ v ∷ []) turns))) go)
       (same_free given.1 given.0 (taken_by params positional (NamedTerm at name value)))
       ∙ by_free (free_slot params (slots_at given.1 given.0) positional (NamedTerm at name value)) at (deeper true calls env value turns) _ _ go on
       (λ k turns v. arguments_same rest positional (set given.0 k (Some (length given.1)), given.1 ++ v ∷ []) turns (good_set _ given k v g)
-          ∙ ap (λ s. then_with (each_slot deeper calls env params positional rest s turns) on) (slots_set given.1 v given.0 k g.numbers))
+      ∙ ap (λ s. then_with (each_slot deeper calls env params positional rest s turns) on) (slots_set given.1 v given.0 k g.numbers))
   arguments_same (and_positional value rest) positional given turns g =
       ap (λ o. then_with (or_fault o BadArgument (place_of value) (λ k. then_with (deeper true calls env value turns) (λ turns v.
-          each_argument deeper calls env params (positional + 1) rest (set given.0 k (Some (length given.1)), given.1 ++ v ∷ []) turns))) go)
+      each_argument deeper calls env params (positional + 1) rest (set given.0 k (Some (length given.1)), given.1 ++ v ∷ []) turns))) go)
       (same_free given.1 given.0 (taken_by params positional (PositionalTerm value)))
       ∙ by_free (free_slot params (slots_at given.1 given.0) positional (PositionalTerm value)) (place_of value) (deeper true calls env value turns) _ _ go on
       (λ k turns v. arguments_same rest (positional + 1) (set given.0 k (Some (length given.1)), given.1 ++ v ∷ []) turns (good_set _ given k v g)
-          ∙ ap (λ s. then_with (each_slot deeper calls env params (positional + 1) rest s turns) on) (slots_set given.1 v given.0 k g.numbers))
+      ∙ ap (λ s. then_with (each_slot deeper calls env params (positional + 1) rest s turns) on) (slots_set given.1 v given.0 k g.numbers))
 
 after_front : (v : Val) (out : Outcome Vals) (go : ℕ → Vals → Outcome Val)
     → then_with (then_with out (λ turns vs. Gives turns (and_val v vs))) go ≡ then_with out (λ turns vs. go turns (and_val v vs))
@@ -146,7 +146,7 @@ module _ (deeper : Evaluates) (calls : ℕ) (env : Env) (go : ℕ → Pairs Val 
       (λ turns v. then_with (each_filled deeper calls env ps (slots_at vs given) turns) (λ turns ws. Gives turns (and_val v ws)))
       (λ turns ws. go turns (paired (DefaultTerm at name value ∷ ps) ws pairs))
       (λ turns v. parameters_same ps given vs ((name, v) ∷ pairs) turns (omega arith)
-          ∙ sym (after_front v (each_filled deeper calls env ps (slots_at vs given) turns) (λ turns ws. go turns (paired (DefaultTerm at name value ∷ ps) ws pairs))))
+      ∙ sym (after_front v (each_filled deeper calls env ps (slots_at vs given) turns) (λ turns ws. go turns (paired (DefaultTerm at name value ∷ ps) ws pairs))))
     where
       by_default : (out : Outcome Val) (f : ℕ → Val → Outcome (Pairs Val)) (g : ℕ → Val → Outcome Vals) (on : ℕ → Vals → Outcome Val)
           → ((turns : ℕ) (v : Val) → then_with (f turns v) go ≡ then_with (g turns v) on)

@@ -14,8 +14,8 @@ ghost use Rattle.scad_func.specs.View.{Tells, TellsAnswer, indexed_val, IsThere,
 ghost use Rattle.scad_builtin.specs.Builtins.{applied, is_left_out as left_out, are_bounded};
 ghost use Rattle.scad_func.specs.Slots.{have_no_names as no_names, free_slot as free_slot_at};
 
-use scad_builtin::{Builtin, is_left_out};
 use scad_ast::{Arg, Args, BinaryOp, Param, UnaryOp};
+use scad_builtin::{Builtin, is_left_out};
 use scad_scope::{Scopes, taken_by};
 use scad_value::{Value, ValueStop, Values, binary, index, made, truth, unary};
 use std::alloc::Global;

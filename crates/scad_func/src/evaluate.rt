@@ -15,9 +15,9 @@ ghost use Rattle.scad_func.specs.Functions.{function_of};
 ghost use Rattle.scad_func.specs.View.{Tells, TellsAll, TellsSlots, Grows, IsNumbered, functions_held, modules_held, seen, function_size, deepest, indexed_val, IsThere, slot_of, slots_in, slots_bounded, slot_is_bounded};
 
 use crate::answer::{
-    Indexed, after, applied_to, argument_place, child_count, free_slot, have_no_names, item_of, listed, member_of,
-    no_slots, operate, operate_on, push, range_of, stepped_range_of, text_of, unknown, variable_of,
-    wants_right, whole,
+    Indexed, after, applied_to, argument_place, child_count, free_slot, have_no_names, item_of,
+    listed, member_of, no_slots, operate, operate_on, push, range_of, stepped_range_of, text_of,
+    unknown, variable_of, wants_right, whole,
 };
 use crate::bind::bind_all;
 use crate::functions::{Function, find};
@@ -130,7 +130,16 @@ fn operand(
         Expr::ChildCount(place) => Ok(child_count(alloc, scopes, scope, *place)?),
         Expr::Name(place, name) => variable_of(alloc, scopes, scope, name.items(), *place),
         Expr::Call(place, name, args) => {
-            call(alloc, scopes, source, scope, name.items(), *place, args, meter)
+            call(
+                alloc,
+                scopes,
+                source,
+                scope,
+                name.items(),
+                *place,
+                args,
+                meter,
+            )
         }
         Expr::Paren(_, inner) => expression(alloc, scopes, source, scope, inner, meter),
         Expr::List(place, items) => {
@@ -305,7 +314,16 @@ fn postfix(
         return suffixes(alloc, scopes, source, scope, of, rest, *place, meter);
     }
     let value = operand(alloc, scopes, source, scope, of, meter)?;
-    suffixes(alloc, scopes, source, scope, Indexed::Made(value), rest, of.place(), meter)
+    suffixes(
+        alloc,
+        scopes,
+        source,
+        scope,
+        Indexed::Made(value),
+        rest,
+        of.place(),
+        meter,
+    )
 }
 
 /// The indexes and members behind what is indexed.
@@ -771,4 +789,3 @@ fn each_positional(
     }
     Ok(values)
 }
-

@@ -2,7 +2,13 @@ use crate::run::{told, told_after};
 use std::alloc::Global;
 use std::test::Fail;
 
-fn repeated(alloc: Global, head: &[u8], part: &[u8], count: u32, tail: &[u8]) -> Result<Vec<u8>, Fail> {
+fn repeated(
+    alloc: Global,
+    head: &[u8],
+    part: &[u8],
+    count: u32,
+    tail: &[u8],
+) -> Result<Vec<u8>, Fail> {
     let mut text = Vec::new(alloc);
     text.extend_from_slice(head)?;
     for _ in 0..count {
@@ -16,13 +22,26 @@ fn repeated(alloc: Global, head: &[u8], part: &[u8], count: u32, tail: &[u8]) ->
 fn stops_at_the_65th_call(rt: HostRuntime) -> Result<(), Fail> {
     let cases: [(&[u8], &[u8]); 4] = [
         (b"x = f(63); function f(n) = n < 1 ? 5 : f(n - 1);", b"5"),
-        (b"x = f(64); function f(n) = n < 1 ? 5 : f(n - 1);", b"36 TooDeep"),
+        (
+            b"x = f(64); function f(n) = n < 1 ? 5 : f(n - 1);",
+            b"36 TooDeep",
+        ),
         // The argument is evaluated before the call is too deep, and isn't inside it.
-        (b"x = f(64); function f(n) = n < 1 ? 5 : f(n < 2 ? 1/0 : n - 1);", b"47 ZeroDivisor"),
-        (b"x = f(63); function g(n) = n; function f(n) = n < 1 ? 5 : f(g(n - 1));", b"5"),
+        (
+            b"x = f(64); function f(n) = n < 1 ? 5 : f(n < 2 ? 1/0 : n - 1);",
+            b"47 ZeroDivisor",
+        ),
+        (
+            b"x = f(63); function g(n) = n; function f(n) = n < 1 ? 5 : f(g(n - 1));",
+            b"5",
+        ),
     ];
     for (source, value) in cases {
-        assert_eq!(rt; told(rt.alloc(), source)?.as_slice(), value, "at {source:?}");
+        assert_eq!(rt;
+            told(rt.alloc(), source)?.as_slice(),
+            value,
+            "at {source:?}"
+        );
     }
     Ok(())
 }
@@ -43,7 +62,11 @@ fn counts_turns(rt: HostRuntime) -> Result<(), Fail> {
         (b"x = f(); function f() = [];", 99_999, b"21 TooManyTurns"),
     ];
     for (source, turns, value) in cases {
-        assert_eq!(rt; told_after(rt.alloc(), source, turns)?.as_slice(), value, "at {source:?}");
+        assert_eq!(rt;
+            told_after(rt.alloc(), source, turns)?.as_slice(),
+            value,
+            "at {source:?}"
+        );
     }
     Ok(())
 }
@@ -54,7 +77,10 @@ fn stops_at_long_lists(rt: HostRuntime) -> Result<(), Fail> {
     let longest = repeated(rt.alloc(), b"x = [0", b",0", 4094, b"][4094];")?;
     assert_eq!(rt; told(rt.alloc(), &longest)?.as_slice(), b"0".as_slice());
     let long = repeated(rt.alloc(), b"x = [0", b",0", 4095, b"][0];")?;
-    assert_eq!(rt; told(rt.alloc(), &long)?.as_slice(), b"1 LongList".as_slice());
+    assert_eq!(rt;
+        told(rt.alloc(), &long)?.as_slice(),
+        b"1 LongList".as_slice()
+    );
     Ok(())
 }
 
@@ -64,7 +90,10 @@ fn stops_at_deep_lists(rt: HostRuntime) -> Result<(), Fail> {
     let deepest = b"x = len(g(62)); function g(n) = n < 1 ? [[]] : [g(n - 1)];";
     assert_eq!(rt; told(rt.alloc(), deepest)?.as_slice(), b"1".as_slice());
     let deep = b"x = len(g(63)); function g(n) = n < 1 ? [[]] : [g(n - 1)];";
-    assert_eq!(rt; told(rt.alloc(), deep)?.as_slice(), b"44 LongList".as_slice());
+    assert_eq!(rt;
+        told(rt.alloc(), deep)?.as_slice(),
+        b"44 LongList".as_slice()
+    );
     Ok(())
 }
 
@@ -76,7 +105,10 @@ fn stops_at_the_513th_evaluation(rt: HostRuntime) -> Result<(), Fail> {
     let most = b"x = (((((f(63)))))); function f(n) = n < 1 ? 0 : ((((((f(n - 1)))))));";
     assert_eq!(rt; told(rt.alloc(), most)?.as_slice(), b"0".as_slice());
     let more = b"x = ((((((f(63))))))); function f(n) = n < 1 ? 0 : ((((((f(n - 1)))))));";
-    assert_eq!(rt; told(rt.alloc(), more)?.as_slice(), b"44 TooDeep".as_slice());
+    assert_eq!(rt;
+        told(rt.alloc(), more)?.as_slice(),
+        b"44 TooDeep".as_slice()
+    );
     Ok(())
 }
 
@@ -84,6 +116,9 @@ fn stops_at_the_513th_evaluation(rt: HostRuntime) -> Result<(), Fail> {
 #[test]
 fn evaluates_many_calls(rt: HostRuntime) -> Result<(), Fail> {
     let source = b"x = f(15); function f(n) = n < 1 ? 1 : f(n - 1) + f(n - 1);";
-    assert_eq!(rt; told_after(rt.alloc(), source, 34_465)?.as_slice(), b"32768".as_slice());
+    assert_eq!(rt;
+        told_after(rt.alloc(), source, 34_465)?.as_slice(),
+        b"32768".as_slice()
+    );
     Ok(())
 }

@@ -23,7 +23,11 @@ fn gives_values_of_operators(rt: HostRuntime) -> Result<(), Fail> {
         (b"x = [3:1];", b"1 RangeOrder"),
     ];
     for (source, value) in cases {
-        assert_eq!(rt; told(rt.alloc(), source)?.as_slice(), value, "at {source:?}");
+        assert_eq!(rt;
+            told(rt.alloc(), source)?.as_slice(),
+            value,
+            "at {source:?}"
+        );
     }
     Ok(())
 }
@@ -63,7 +67,11 @@ fn gives_values_of_forms(rt: HostRuntime) -> Result<(), Fail> {
         (b"x = (later - 7) ? 1 : [later];", b"[7 ]"),
     ];
     for (source, value) in cases {
-        assert_eq!(rt; told(rt.alloc(), source)?.as_slice(), value, "at {source:?}");
+        assert_eq!(rt;
+            told(rt.alloc(), source)?.as_slice(),
+            value,
+            "at {source:?}"
+        );
     }
     Ok(())
 }
@@ -87,18 +95,34 @@ fn calls_functions(rt: HostRuntime) -> Result<(), Fail> {
         (b"x = f(undef); function f(a = 3) = a;", b"undef"),
         (b"x = f(); function f(a = later) = a;", b"7"),
         (b"x = f(1); function f(later, b = later) = b;", b"7"),
-        (b"x = g(2); function g(later) = f(); function f(b = later) = b;", b"7"),
-        (b"x = g(2); function g(later) = f(later); function f(b) = b * later;", b"14"),
+        (
+            b"x = g(2); function g(later) = f(); function f(b = later) = b;",
+            b"7",
+        ),
+        (
+            b"x = g(2); function g(later) = f(later); function f(b) = b * later;",
+            b"14",
+        ),
         (b"x = f(1, 2); function f(a, a) = a;", b"2"),
         (b"x = f(a = 1); function f(a, a) = a;", b"undef"),
         (b"x = f(1); function f(a) = 1; function f(a) = 2;", b"2"),
         (b"x = abs(-1); function abs(a) = 5;", b"5"),
-        (b"x = f(5); function f(n) = n < 1 ? 1 : n * f(n - 1);", b"120"),
+        (
+            b"x = f(5); function f(n) = n < 1 ? 1 : n * f(n - 1);",
+            b"120",
+        ),
         (b"x = f([1,2]); function f(v) = [v.y, v.x];", b"[2 1 ]"),
-        (b"x = a(5); function a(n) = n < 1 ? 0 : b(n - 1); function b(n) = n < 1 ? 1 : a(n - 1);", b"1"),
+        (
+            b"x = a(5); function a(n) = n < 1 ? 0 : b(n - 1); function b(n) = n < 1 ? 1 : a(n - 1);",
+            b"1",
+        ),
     ];
     for (source, value) in cases {
-        assert_eq!(rt; told(rt.alloc(), source)?.as_slice(), value, "at {source:?}");
+        assert_eq!(rt;
+            told(rt.alloc(), source)?.as_slice(),
+            value,
+            "at {source:?}"
+        );
     }
     Ok(())
 }

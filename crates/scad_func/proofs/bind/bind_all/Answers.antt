@@ -61,7 +61,7 @@ each-preserved c =
     let more = params_more xs i x h is in
     let kept = ap vals_in (sym (drop-set-lt (i + 1) left i dest (omega arith))) in
     let bound = c.in_ok-bind.ensures.bound
-        ∙ ap (λ (z : Value). bound_in (rows_of c.each.scopes) c.in_ok-inner.inner c.name_of.result.now (val_of z)) c.replace-value.ensures.value in
+    ∙ ap (λ (z : Value). bound_in (rows_of c.each.scopes) c.in_ok-inner.inner c.name_of.result.now (val_of z)) c.replace-value.ensures.value in
     record {
       count = length-set left i dest ∙ inv.count;
       number = inv.number;
@@ -91,4 +91,4 @@ returns-clause-inside c =
     let few : length vs ≤ i = omega (arith, le, c.requires.count, length-map c.args.values.items val_of) in
     let rows = all_bound (rows_of c.args.scopes.now) (rows_of c.each.scopes) xs vs i c.args.outer c.each.invariant.rows le few in
     λ fs ms. call_env fs ms (rows_of c.args.scopes.now) (rows_of c.each.scopes) (paired (map param_of xs) (vals_from vs) []) c.in_ok-inner.inner c.args.outer
-        rows c.each.invariant.number
+    rows c.each.invariant.number

@@ -137,9 +137,16 @@ enter-expression-requires t c =
     let d = deepest c.args.source.now.functions.items.items in
     let e = c.in_ok-values.ensures.calls in
     let falls = subst (λ k. (64 - k) * (4 * d + 8) + (4 * size-Expr f.value.now + 2) < t) (sym e)
-        (omega (arith, one_deeper d c.args.meter.now.calls (size-Expr f.value.now) (omega arith) (omega (arith, c.requires.within)), c.decreases)) in
-    (falls, (c.in_ok-inner.ensures.number, (functions_stay _ _ _ c.in_ok-inner.ensures.scopes c.in_ok-values.ensures.numbered,
-    (c.requires.table, ((and_parts _ _ c.requires.function).1, (omega (arith, e), (omega (arith, c.in_ok-values.ensures.depth), c.in_ok-values.ensures.turns)))))))
+    (omega (arith, one_deeper d c.args.meter.now.calls (size-Expr f.value.now) (omega arith) (omega (arith, c.requires.within)), c.decreases)) in (
+      falls,
+      (
+        c.in_ok-inner.ensures.number,
+        (
+          functions_stay _ _ _ c.in_ok-inner.ensures.scopes c.in_ok-values.ensures.numbered,
+          (c.requires.table, ((and_parts _ _ c.requires.function).1, (omega (arith, e), (omega (arith, c.in_ok-values.ensures.depth), c.in_ok-values.ensures.turns)))),
+        ),
+      ),
+    )
 
 pub call-returns-in_ok-slots-in-Some-clause-scopes : goal.call-returns-in_ok-slots-in-Some-clause-scopes
 call-returns-in_ok-slots-in-Some-clause-scopes t c =
@@ -149,25 +156,46 @@ pub call-returns-in_err-slots-in-Some-clause-value : goal.call-returns-in_err-sl
 call-returns-in_err-slots-in-Some-clause-value t c =
     let p = err_from_is_err_and c.from_residual.result c.from_residual.ensures.1 in
     let same = ap (λ o. called (evaluated (512 - c.args.meter.now.depth)) (64 - c.args.meter.now.calls) (seen c.args.source.now (rows_of c.args.scopes.now) c.args.scope) c.args.place c.args.name.now (args_from (args_of c.args.args.now)) c.args.meter.now.turns o) (c.in-Some.ensures.found (modules_held c.args.source.now))
-        ∙ called_same (evaluated (512 - c.args.meter.now.depth)) (64 - c.args.meter.now.calls) (seen c.args.source.now (rows_of c.args.scopes.now) c.args.scope) c.args.place c.args.name.now (args_from (args_of c.args.args.now)) c.args.meter.now.turns (function_of c.in-Some.function, seen c.args.source.now (rows_of c.args.scopes.now) c.in-Some.home) in
+    ∙ called_same (evaluated (512 - c.args.meter.now.depth)) (64 - c.args.meter.now.calls) (seen c.args.source.now (rows_of c.args.scopes.now) c.args.scope) c.args.place c.args.name.now (args_from (args_of c.args.args.now)) c.args.meter.now.turns (function_of c.in-Some.function, seen c.args.source.now (rows_of c.args.scopes.now) c.in-Some.home) in
     rw (p.1, p.2) (tells_along (Err c.in_err-slots-in-Some.field-0.0) c.each_argument.new.meter.turns _ _ same
     (fault_of_slots c.in_err-slots-in-Some.field-0.0 c.each_argument.new.meter.turns c.each_argument.new.meter.turns _ _ c.in_err-slots-in-Some.ensures.value))
 
 pub call-enter-requires : goal.call-enter-requires
 call-enter-requires t c =
-    let g = c.in_ok-slots-in-Some.ensures in
-    (subst (λ k. (64 - k) * (4 * deepest c.args.source.now.functions.items.items + 8) < t) (sym g.calls) (omega (arith, c.decreases)), (omega (arith, c.in-Some.ensures.there, g.scopes.longer), (g.numbered, (c.requires.table,
-    (small_enough _ _ c.in-Some.ensures.among c.requires.table, (deep_enough _ _ c.in-Some.ensures.among, (g.bounded.0, (g.bounded.1,
-    (omega (arith, g.calls), (omega (arith, g.depth), g.turns))))))))))
+    let g = c.in_ok-slots-in-Some.ensures in (
+      subst (λ k. (64 - k) * (4 * deepest c.args.source.now.functions.items.items + 8) < t) (sym g.calls) (omega (arith, c.decreases)),
+      (
+        omega (arith, c.in-Some.ensures.there, g.scopes.longer),
+        (
+          g.numbered,
+          (
+            c.requires.table,
+            (
+              small_enough _ _ c.in-Some.ensures.among c.requires.table,
+              (
+                deep_enough _ _ c.in-Some.ensures.among,
+                (
+                  g.bounded.0,
+                  (
+                    g.bounded.1,
+                    (omega (arith, g.calls), (omega (arith, g.depth), g.turns)),
+                  ),
+                ),
+              ),
+            ),
+          ),
+        ),
+      ),
+    )
 
 pub call-returns-in_ok-slots-in-Some-clause-value : goal.call-returns-in_ok-slots-in-Some-clause-value
 call-returns-in_ok-slots-in-Some-clause-value t c =
     let g = c.in_ok-slots-in-Some.ensures in
     let same = ap (λ o. called (evaluated (512 - c.args.meter.now.depth)) (64 - c.args.meter.now.calls) (seen c.args.source.now (rows_of c.args.scopes.now) c.args.scope) c.args.place c.args.name.now (args_from (args_of c.args.args.now)) c.args.meter.now.turns o) (c.in-Some.ensures.found (modules_held c.args.source.now))
-        ∙ called_same (evaluated (512 - c.args.meter.now.depth)) (64 - c.args.meter.now.calls) (seen c.args.source.now (rows_of c.args.scopes.now) c.args.scope) c.args.place c.args.name.now (args_from (args_of c.args.args.now)) c.args.meter.now.turns (function_of c.in-Some.function, seen c.args.source.now (rows_of c.args.scopes.now) c.in-Some.home)
-        ∙ ap (λ o. then_with o (λ turns slots. entered_filled (evaluated (512 - c.args.meter.now.depth)) (64 - c.args.meter.now.calls) c.args.place (function_of c.in-Some.function, seen c.args.source.now (rows_of c.args.scopes.now) c.in-Some.home) slots turns)) g.value in
+    ∙ called_same (evaluated (512 - c.args.meter.now.depth)) (64 - c.args.meter.now.calls) (seen c.args.source.now (rows_of c.args.scopes.now) c.args.scope) c.args.place c.args.name.now (args_from (args_of c.args.args.now)) c.args.meter.now.turns (function_of c.in-Some.function, seen c.args.source.now (rows_of c.args.scopes.now) c.in-Some.home)
+    ∙ ap (λ o. then_with o (λ turns slots. entered_filled (evaluated (512 - c.args.meter.now.depth)) (64 - c.args.meter.now.calls) c.args.place (function_of c.in-Some.function, seen c.args.source.now (rows_of c.args.scopes.now) c.in-Some.home) slots turns)) g.value in
     let stays = again (λ d k e. entered_filled (evaluated (512 - d)) (64 - k) c.args.place (function_of c.in-Some.function, env_in (functions_held c.args.source.now) (modules_held c.args.source.now) e) (slots_in c.in_ok-slots-in-Some.slots.items) c.each_argument.new.meter.turns)
-        c.args.meter.now c.each_argument.new.meter (rows_of c.args.scopes.now) (rows_of c.each_argument.new.scopes) c.in-Some.home g.depth g.calls g.scopes c.in-Some.ensures.there in
+    c.args.meter.now c.each_argument.new.meter (rows_of c.args.scopes.now) (rows_of c.each_argument.new.scopes) c.in-Some.home g.depth g.calls g.scopes c.in-Some.ensures.there in
     tells_along c.enter.result c.enter.new.meter.turns _ _ (same ∙ stays) c.enter.ensures.value
 
 pub each_value-each-preserved : goal.each_value-each-preserved
@@ -246,7 +274,7 @@ suffixes-returns-in_err-value-clause-value t c =
     let v = indexed_val env c.each.at in
     let rest = suffixes_from (map suffix_of (drop (i + 1) xs)) in
     let stays = again (λ d k e. suffixed (evaluated (512 - d)) (64 - k) (env_in (functions_held c.args.source.now) (modules_held c.args.source.now) e) (indexed_val e c.each.at) (suffix_of x) c.each.meter.turns)
-        c.args.meter.now c.each.meter (rows_of c.args.scopes.now) (rows_of c.each.scopes) c.args.scope inv.depth inv.calls inv.scopes c.requires.scope in
+    c.args.meter.now c.each.meter (rows_of c.args.scopes.now) (rows_of c.each.scopes) c.args.scope inv.depth inv.calls inv.scopes c.requires.scope in
     let step = suffixed (evaluated (512 - c.args.meter.now.depth)) (64 - c.args.meter.now.calls) (seen c.args.source.now (rows_of c.args.scopes.now) c.args.scope) v (suffix_of x) c.each.meter.turns in
     let apart = ap (λ ss. each_suffix (evaluated (512 - c.args.meter.now.depth)) (64 - c.args.meter.now.calls) (seen c.args.source.now (rows_of c.args.scopes.now) c.args.scope) v ss c.each.meter.turns) next ∙ suffix_step (evaluated (512 - c.args.meter.now.depth)) (64 - c.args.meter.now.calls) (seen c.args.source.now (rows_of c.args.scopes.now) c.args.scope) v (suffix_of x) rest c.each.meter.turns in
     rw (p.1, p.2) (step_fault _ (λ turns y. each_suffix (evaluated (512 - c.args.meter.now.depth)) (64 - c.args.meter.now.calls) (seen c.args.source.now (rows_of c.args.scopes.now) c.args.scope) y rest turns) _ step inv.told apart
@@ -266,7 +294,7 @@ suffixes-each-preserved t c =
     let v = indexed_val env c.each.at in
     let rest = suffixes_from (map suffix_of (drop (i + 1) xs)) in
     let stays = again (λ d k e. suffixed (evaluated (512 - d)) (64 - k) (env_in (functions_held c.args.source.now) (modules_held c.args.source.now) e) (indexed_val e c.each.at) (suffix_of x) c.each.meter.turns)
-        c.args.meter.now c.each.meter (rows_of c.args.scopes.now) (rows_of c.each.scopes) c.args.scope inv.depth inv.calls inv.scopes c.requires.scope in
+    c.args.meter.now c.each.meter (rows_of c.args.scopes.now) (rows_of c.each.scopes) c.args.scope inv.depth inv.calls inv.scopes c.requires.scope in
     let step = suffixed (evaluated (512 - c.args.meter.now.depth)) (64 - c.args.meter.now.calls) (seen c.args.source.now (rows_of c.args.scopes.now) c.args.scope) v (suffix_of x) c.each.meter.turns in
     let apart = ap (λ ss. each_suffix (evaluated (512 - c.args.meter.now.depth)) (64 - c.args.meter.now.calls) (seen c.args.source.now (rows_of c.args.scopes.now) c.args.scope) v ss c.each.meter.turns) next ∙ suffix_step (evaluated (512 - c.args.meter.now.depth)) (64 - c.args.meter.now.calls) (seen c.args.source.now (rows_of c.args.scopes.now) c.args.scope) v (suffix_of x) rest c.each.meter.turns in
     let g = c.in_ok-value.ensures in
@@ -294,7 +322,7 @@ links-each-preserved t c =
     let v = val_of c.each.so_far in
     let rest = links_from (map link_of (drop (i + 1) xs)) in
     let stays = again (λ d k e. linked (evaluated (512 - d)) (64 - k) (env_in (functions_held c.args.source.now) (modules_held c.args.source.now) e) v (link_of x) c.each.meter.turns)
-        c.args.meter.now c.each.meter (rows_of c.args.scopes.now) (rows_of c.each.scopes) c.args.scope inv.depth inv.calls inv.scopes c.requires.scope in
+    c.args.meter.now c.each.meter (rows_of c.args.scopes.now) (rows_of c.each.scopes) c.args.scope inv.depth inv.calls inv.scopes c.requires.scope in
     record {
       told = step_more _ (λ turns y. each_link (evaluated (512 - c.args.meter.now.depth)) (64 - c.args.meter.now.calls) (seen c.args.source.now (rows_of c.args.scopes.now) c.args.scope) y rest turns) _ (linked (evaluated (512 - c.args.meter.now.depth)) (64 - c.args.meter.now.calls) (seen c.args.source.now (rows_of c.args.scopes.now) c.args.scope) v (link_of x) c.each.meter.turns) inv.told
           (ap (λ ls. each_link (evaluated (512 - c.args.meter.now.depth)) (64 - c.args.meter.now.calls) (seen c.args.source.now (rows_of c.args.scopes.now) c.args.scope) v ls c.each.meter.turns) next) c.link.new.meter.turns (val_of c.in_ok-so_far.so_far) (stays ∙ g.value);
@@ -314,7 +342,7 @@ built_in-returns-in_err-values-clause-value t c =
     let n : length xs.items ≡ c.len.result = omega (arith, c.len.ensures, xs.ok.0) in
     let taken = ap (takes c.in-Some.function) (as_many (args_of c.args.args.now) ∙ ap length (args_form c.args.args.now) ∙ length-map xs.items arg_of ∙ n) ∙ sym c.if-not-takes.ensures in
     let same = ap (λ o. built_in (evaluated (512 - c.args.meter.now.depth)) (64 - c.args.meter.now.calls) (seen c.args.source.now (rows_of c.args.scopes.now) c.args.scope) c.args.place c.args.name.now (args_from (args_of c.args.args.now)) c.args.meter.now.turns o) (sym c.in-Some.ensures)
-        ∙ built_in_taken (evaluated (512 - c.args.meter.now.depth)) (64 - c.args.meter.now.calls) (seen c.args.source.now (rows_of c.args.scopes.now) c.args.scope) c.args.place c.args.name.now (args_from (args_of c.args.args.now)) c.args.meter.now.turns c.in-Some.function true (sym c.if-not-have_no_names.ensures) taken in
+    ∙ built_in_taken (evaluated (512 - c.args.meter.now.depth)) (64 - c.args.meter.now.calls) (seen c.args.source.now (rows_of c.args.scopes.now) c.args.scope) c.args.place c.args.name.now (args_from (args_of c.args.args.now)) c.args.meter.now.turns c.in-Some.function true (sym c.if-not-have_no_names.ensures) taken in
     rw (p.1, p.2) (tells_along (Err c.in_err-values.field-0.0) c.each_positional.new.meter.turns _ _ same
     (fault_of_all c.in_err-values.field-0.0 c.each_positional.new.meter.turns c.each_positional.new.meter.turns _ _ c.in_err-values.ensures.value))
 
@@ -324,20 +352,20 @@ built_in-returns-clause-value t c =
     let n : length xs.items ≡ c.len.result = omega (arith, c.len.ensures, xs.ok.0) in
     let taken = ap (takes c.in-Some.function) (as_many (args_of c.args.args.now) ∙ ap length (args_form c.args.args.now) ∙ length-map xs.items arg_of ∙ n) ∙ sym c.if-not-takes.ensures in
     let same = ap (λ o. built_in (evaluated (512 - c.args.meter.now.depth)) (64 - c.args.meter.now.calls) (seen c.args.source.now (rows_of c.args.scopes.now) c.args.scope) c.args.place c.args.name.now (args_from (args_of c.args.args.now)) c.args.meter.now.turns o) (sym c.in-Some.ensures)
-        ∙ built_in_taken (evaluated (512 - c.args.meter.now.depth)) (64 - c.args.meter.now.calls) (seen c.args.source.now (rows_of c.args.scopes.now) c.args.scope) c.args.place c.args.name.now (args_from (args_of c.args.args.now)) c.args.meter.now.turns c.in-Some.function true (sym c.if-not-have_no_names.ensures) taken
-        ∙ ap (λ o. then_with o (λ turns vs. answered (applied c.in-Some.function vs) c.args.place turns)) c.in_ok-values.ensures.value in
+    ∙ built_in_taken (evaluated (512 - c.args.meter.now.depth)) (64 - c.args.meter.now.calls) (seen c.args.source.now (rows_of c.args.scopes.now) c.args.scope) c.args.place c.args.name.now (args_from (args_of c.args.args.now)) c.args.meter.now.turns c.in-Some.function true (sym c.if-not-have_no_names.ensures) taken
+    ∙ ap (λ o. then_with o (λ turns vs. answered (applied c.in-Some.function vs) c.args.place turns)) c.in_ok-values.ensures.value in
     tells_along c.applied_to.result c.each_positional.new.meter.turns _ _ same
     (tells_answer c.applied_to.result c.each_positional.new.meter.turns _ c.args.place c.applied_to.ensures.value)
 
 pub built_in-returns-then-not-have_no_names-clause-value : goal.built_in-returns-then-not-have_no_names-clause-value
 built_in-returns-then-not-have_no_names-clause-value t c =
     ap (λ o. built_in (evaluated (512 - c.args.meter.now.depth)) (64 - c.args.meter.now.calls) (seen c.args.source.now (rows_of c.args.scopes.now) c.args.scope) c.args.place c.args.name.now (args_from (args_of c.args.args.now)) c.args.meter.now.turns o) (sym c.in-Some.ensures) ∙ elim c.then-not-have_no_names.branch [
-      built_in-then-not-have_no_names-via-then-not-have_no_names w ↦ built_in_named (evaluated (512 - c.args.meter.now.depth)) (64 - c.args.meter.now.calls) (seen c.args.source.now (rows_of c.args.scopes.now) c.args.scope) c.args.place c.args.name.now (args_from (args_of c.args.args.now)) c.args.meter.now.turns c.in-Some.function (sym w.if-not-have_no_names.ensures)
-    | built_in-then-not-have_no_names-via-else-not-have_no_names+then-not-takes w ↦
-        let xs = c.args.args.now.items in
-        let n : length xs.items ≡ w.len.result = omega (arith, w.len.ensures, xs.ok.0) in
-        let taken = ap (takes c.in-Some.function) (as_many (args_of c.args.args.now) ∙ ap length (args_form c.args.args.now) ∙ length-map xs.items arg_of ∙ n) ∙ sym w.if-not-takes.ensures in
-        built_in_taken (evaluated (512 - c.args.meter.now.depth)) (64 - c.args.meter.now.calls) (seen c.args.source.now (rows_of c.args.scopes.now) c.args.scope) c.args.place c.args.name.now (args_from (args_of c.args.args.now)) c.args.meter.now.turns c.in-Some.function false (sym w.if-not-have_no_names.ensures) taken
+      | built_in-then-not-have_no_names-via-then-not-have_no_names w ↦ built_in_named (evaluated (512 - c.args.meter.now.depth)) (64 - c.args.meter.now.calls) (seen c.args.source.now (rows_of c.args.scopes.now) c.args.scope) c.args.place c.args.name.now (args_from (args_of c.args.args.now)) c.args.meter.now.turns c.in-Some.function (sym w.if-not-have_no_names.ensures)
+      | built_in-then-not-have_no_names-via-else-not-have_no_names+then-not-takes w ↦
+          let xs = c.args.args.now.items in
+          let n : length xs.items ≡ w.len.result = omega (arith, w.len.ensures, xs.ok.0) in
+          let taken = ap (takes c.in-Some.function) (as_many (args_of c.args.args.now) ∙ ap length (args_form c.args.args.now) ∙ length-map xs.items arg_of ∙ n) ∙ sym w.if-not-takes.ensures in
+          built_in_taken (evaluated (512 - c.args.meter.now.depth)) (64 - c.args.meter.now.calls) (seen c.args.source.now (rows_of c.args.scopes.now) c.args.scope) c.args.place c.args.name.now (args_from (args_of c.args.args.now)) c.args.meter.now.turns c.in-Some.function false (sym w.if-not-have_no_names.ensures) taken
     ]
 
 pub each_argument-each-init : goal.each_argument-each-init
@@ -377,8 +405,8 @@ each_argument-each-preserved t c =
     let k = c.in-Some.param in
     let given = again (λ d k e. evaluated (512 - d) true (64 - k) (env_in (functions_held c.args.source.now) (modules_held c.args.source.now) e) (argument_of a) c.each.meter.turns) c.args.meter.now c.each.meter (rows_of c.args.scopes.now) (rows_of c.each.scopes) c.args.scope inv.depth inv.calls inv.scopes c.requires.scope ∙ g.value in
     let free = ap (λ (l : List Param). free_slot (map param_of l) slots c.each.positional a) (sym c.deref.ensures.value)
-        ∙ ap (λ (l : List (Option Value)). free_slot (map param_of c.deref.result.now) (slots_in l) c.each.positional a) (sym c.deref-in-each.ensures.value)
-        ∙ sym c.in-Some.ensures.value in
+    ∙ ap (λ (l : List (Option Value)). free_slot (map param_of c.deref.result.now) (slots_in l) c.each.positional a) (sym c.deref-in-each.ensures.value)
+    ∙ sym c.in-Some.ensures.value in
     let set_in = slots_set_in c.each.slots.items k c.in_ok-value.value in
     record {
       told = slot_more (evaluated (512 - c.args.meter.now.depth)) (64 - c.args.meter.now.calls) (seen c.args.source.now (rows_of c.args.scopes.now) c.args.scope) (params_of c.args.params.now) c.each.positional _ (args_from (map arg_of (drop i xs))) slots c.each.meter.turns inv.told
@@ -410,9 +438,22 @@ each_parameter-parameter-requires t c =
     let slot = slots_here still i y held c.index_mut.ensures.value ∙ ap (λ o. slot_of o ∷ slots_in (drop (i + 1) still)) (sym c.replace-given.ensures.value) in
     let d = deepest c.args.source.now.functions.items.items in
     let falls = subst (λ k. (64 - k) * (4 * d + 8) + (4 * param_size x + 3) < t) (sym inv.calls)
-        (omega (arith, param_deep xs i x h is, c.decreases)) in
-    (falls, (omega (arith, c.requires.scope, inv.scopes.longer), (inv.numbered, (c.requires.table, ((params_small _ _ _ next inv.small).0,
-    ((slots_parts _ _ _ slot inv.filled).0, (omega (arith, inv.calls, c.requires.calls), (omega (arith, inv.depth, c.requires.depth), inv.turns))))))))
+    (omega (arith, param_deep xs i x h is, c.decreases)) in (
+      falls,
+      (
+        omega (arith, c.requires.scope, inv.scopes.longer),
+        (
+          inv.numbered,
+          (
+            c.requires.table,
+            (
+              (params_small _ _ _ next inv.small).0,
+              ((slots_parts _ _ _ slot inv.filled).0, (omega (arith, inv.calls, c.requires.calls), (omega (arith, inv.depth, c.requires.depth), inv.turns))),
+            ),
+          ),
+        ),
+      ),
+    )
 
 pub each_parameter-each-preserved : goal.each_parameter-each-preserved
 each_parameter-each-preserved t c =
@@ -473,8 +514,8 @@ link-returns-in-Name-clause-value t c =
     let found = variable_same (functions_held c.args.source.now) (modules_held c.args.source.now) (env_of (rows_of c.args.scopes.now) c.args.scope) c.in-Name.name ∙ ap (λ n. numbered_variable_in (env_of (rows_of c.args.scopes.now) c.args.scope) n) (sym c.items.ensures) ∙ c.in_ok-right.ensures.same in
     let same = ap (λ l. linked (evaluated (512 - c.args.meter.now.depth)) (64 - c.args.meter.now.calls) (seen c.args.source.now (rows_of c.args.scopes.now) c.args.scope) (val_of c.args.left.now) l c.args.meter.now.turns) (link_form c.args.part.now)
     ∙ link_wants (evaluated (512 - c.args.meter.now.depth)) (64 - c.args.meter.now.calls) (seen c.args.source.now (rows_of c.args.scopes.now) c.args.scope) (val_of c.args.left.now) (record { op = c.args.part.now.op; at = c.args.part.now.place; right = term_of c.args.part.now.right }) c.args.meter.now.turns (sym c.if-not-wants_right.ensures)
-        ∙ name_found (evaluated (512 - c.args.meter.now.depth)) (64 - c.args.meter.now.calls) (seen c.args.source.now (rows_of c.args.scopes.now) c.args.scope) (term_of c.args.part.now.right) c.in-Name.place c.in-Name.name c.args.meter.now.turns (val_of c.in_ok-right.right.now) (λ turns w. answered (binary_of c.args.part.now.op (val_of c.args.left.now) w) c.args.part.now.place turns)
-        (ap term_of c.in-Name.is ∙ name_form c.in-Name.place c.in-Name.name) found in
+    ∙ name_found (evaluated (512 - c.args.meter.now.depth)) (64 - c.args.meter.now.calls) (seen c.args.source.now (rows_of c.args.scopes.now) c.args.scope) (term_of c.args.part.now.right) c.in-Name.place c.in-Name.name c.args.meter.now.turns (val_of c.in_ok-right.right.now) (λ turns w. answered (binary_of c.args.part.now.op (val_of c.args.left.now) w) c.args.part.now.place turns)
+    (ap term_of c.in-Name.is ∙ name_form c.in-Name.place c.in-Name.name) found in
     tells_along c.operate.result c.args.meter.now.turns _ _ same (tells_answer c.operate.result c.args.meter.now.turns _ c.args.part.now.place c.operate.ensures.value)
 
 pub link-returns-in_err-right-2 : goal.link-returns-in_err-right-2
@@ -484,7 +525,7 @@ link-returns-in_err-right-2 t c =
     let s = c.in_err-right-2.field-0.0 in
     let told = tells_along (Err s) c.operand.new.meter.turns _ _ (ap (λ l. linked (evaluated (512 - c.args.meter.now.depth)) (64 - c.args.meter.now.calls) (seen c.args.source.now (rows_of c.args.scopes.now) c.args.scope) (val_of c.args.left.now) l c.args.meter.now.turns) (link_form c.args.part.now)
     ∙ link_wants (evaluated (512 - c.args.meter.now.depth)) (64 - c.args.meter.now.calls) (seen c.args.source.now (rows_of c.args.scopes.now) c.args.scope) (val_of c.args.left.now) (record { op = c.args.part.now.op; at = c.args.part.now.place; right = term_of c.args.part.now.right }) c.args.meter.now.turns (sym c.if-not-wants_right.ensures))
-        (fault_goes s c.operand.new.meter.turns c.operand.new.meter.turns _ (λ turns w. answered (binary_of c.args.part.now.op (val_of c.args.left.now) w) c.args.part.now.place turns) g.value) in
+    (fault_goes s c.operand.new.meter.turns c.operand.new.meter.turns _ (λ turns w. answered (binary_of c.args.part.now.op (val_of c.args.left.now) w) c.args.part.now.place turns) g.value) in
     rw (p.1, p.2) (record { value = told; bounded = tt; scopes = g.scopes; numbered = g.numbered; calls = tt; depth = tt; turns = tt })
 
 pub operand-returns-in-ChildCount-clause-value : goal.operand-returns-in-ChildCount-clause-value
@@ -532,8 +573,8 @@ postfix-returns-in-Name-clause-value t c =
     let here = ap (λ n. numbered_variable_in (env_of (rows_of c.args.scopes.now) c.args.scope) n) (sym c.items.ensures) ∙ c.in_ok-_there.ensures.same in
     let there = ap (λ n. numbered_variable_in (env_of (rows_of c.args.scopes.now) c.args.scope) n) c.items-in-Name.ensures ∙ here in
     let same = name_found (evaluated (512 - c.args.meter.now.depth)) (64 - c.args.meter.now.calls) (seen c.args.source.now (rows_of c.args.scopes.now) c.args.scope) (term_of c.args.of.now) c.in-Name.place c.in-Name.name c.args.meter.now.turns (val_of c.in_ok-_there._there.now) (λ turns v. each_suffix (evaluated (512 - c.args.meter.now.depth)) (64 - c.args.meter.now.calls) (seen c.args.source.now (rows_of c.args.scopes.now) c.args.scope) v (suffixes_from (suffixes_of c.args.rest.now)) turns)
-        (ap term_of c.in-Name.is ∙ name_form c.in-Name.place c.in-Name.name) (variable_same (functions_held c.args.source.now) (modules_held c.args.source.now) (env_of (rows_of c.args.scopes.now) c.args.scope) c.in-Name.name ∙ here)
-        ∙ ap (λ o. each_suffix (evaluated (512 - c.args.meter.now.depth)) (64 - c.args.meter.now.calls) (seen c.args.source.now (rows_of c.args.scopes.now) c.args.scope) (or_undef o) (suffixes_from (suffixes_of c.args.rest.now)) c.args.meter.now.turns) (sym there) in
+    (ap term_of c.in-Name.is ∙ name_form c.in-Name.place c.in-Name.name) (variable_same (functions_held c.args.source.now) (modules_held c.args.source.now) (env_of (rows_of c.args.scopes.now) c.args.scope) c.in-Name.name ∙ here)
+    ∙ ap (λ o. each_suffix (evaluated (512 - c.args.meter.now.depth)) (64 - c.args.meter.now.calls) (seen c.args.source.now (rows_of c.args.scopes.now) c.args.scope) (or_undef o) (suffixes_from (suffixes_of c.args.rest.now)) c.args.meter.now.turns) (sym there) in
     tells_along c.suffixes.result c.suffixes.new.meter.turns _ _ same c.suffixes.ensures.value
 
 pub postfix-returns : goal.postfix-returns
@@ -541,7 +582,7 @@ postfix-returns t c =
     let g = c.in_ok-value.ensures in
     let v = val_of c.in_ok-value.value in
     let stays = again (λ d k e. each_suffix (evaluated (512 - d)) (64 - k) (env_in (functions_held c.args.source.now) (modules_held c.args.source.now) e) v (suffixes_from (suffixes_of c.args.rest.now)) c.operand.new.meter.turns)
-        c.args.meter.now c.operand.new.meter (rows_of c.args.scopes.now) (rows_of c.operand.new.scopes) c.args.scope g.depth g.calls g.scopes c.requires.scope in
+    c.args.meter.now c.operand.new.meter (rows_of c.args.scopes.now) (rows_of c.operand.new.scopes) c.args.scope g.depth g.calls g.scopes c.requires.scope in
     record {
       value = tells_along c.suffixes-2.result c.suffixes-2.new.meter.turns _ _ (ap (λ o. then_with o (λ turns v. each_suffix (evaluated (512 - c.args.meter.now.depth)) (64 - c.args.meter.now.calls) (seen c.args.source.now (rows_of c.args.scopes.now) c.args.scope) v (suffixes_from (suffixes_of c.args.rest.now)) turns)) g.value ∙ stays) c.suffixes-2.ensures.value;
       bounded = c.suffixes-2.ensures.bounded;
@@ -551,4 +592,3 @@ postfix-returns t c =
       depth = on_ok_along c.suffixes-2.result _ _ _ c.suffixes-2.ensures.depth g.depth;
       turns = c.suffixes-2.ensures.turns;
     }
-

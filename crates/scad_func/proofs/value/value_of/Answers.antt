@@ -26,9 +26,9 @@ returns-clause-value c =
     let e = env_of (rows_of c.args.scopes.now) c.args.scope in
     let t = term_of c.args.expr.now in
     subst (λ fs. Tells c.value_in.result c.value_in.new.meter.turns (evaluated (512 - m.depth) true (64 - m.calls)
-        (env_in fs (modules_of_program (program_of c.args.program.now)) e) t m.turns)) c.in_ok-source.ensures.functions
+    (env_in fs (modules_of_program (program_of c.args.program.now)) e) t m.turns)) c.in_ok-source.ensures.functions
     (subst (λ ms. Tells c.value_in.result c.value_in.new.meter.turns (evaluated (512 - m.depth) true (64 - m.calls)
-        (env_in (functions_held c.in_ok-source.source) ms e) t m.turns)) c.in_ok-source.ensures.modules c.value_in.ensures.value)
+    (env_in (functions_held c.in_ok-source.source) ms e) t m.turns)) c.in_ok-source.ensures.modules c.value_in.ensures.value)
 
 pub returns-in_err-source-clause-scopes : goal.returns-in_err-source-clause-scopes
 returns-in_err-source-clause-scopes c = grows_same _
