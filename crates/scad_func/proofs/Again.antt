@@ -9,8 +9,10 @@ use Rattle.scad_func.specs.declared.meter.Meter.{Meter}
 use Rattle.scad_func.specs.Slots.{Slots}
 use Rattle.scad_func.specs.View.{Grows, slots_bounded}
 
-pub again : {A : Type 0} (F : ℕ → ℕ → Env → A) (first then : Meter) (old new : List Row) (scope : ℕ) → then.depth ≡ first.depth → then.calls ≡ first.calls
-    → Grows old new → scope < length old → F first.depth first.calls (env_of old scope) ≡ F then.depth then.calls (env_of new scope)
+pub again : {A : Type 0} (F : ℕ → ℕ → Env → A) (first then : Meter) (old new : List Row) (scope : ℕ) →
+    then.depth ≡ first.depth → then.calls ≡ first.calls
+    → Grows old new → scope < length old → F first.depth first.calls (env_of old scope) ≡ F then.depth
+        then.calls (env_of new scope)
 again F first then old new scope d k g h =
     ap (λ n. F n first.calls (env_of old scope)) (sym d) ∙ ap (λ n. F then.depth n (env_of old scope)) (sym k)
     ∙ ap (F then.depth then.calls) (sym (g.same scope h))

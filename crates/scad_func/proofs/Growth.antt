@@ -14,7 +14,8 @@ append_nil : (rs : List Row) → rs ++ [] ≡ rs
 append_nil [] = refl
 append_nil (r ∷ rs) = ap (λ l. r ∷ l) (append_nil rs)
 
-joined_plain : (xs ys : List Row) → IsTrue (have_no_definitions xs) → IsTrue (have_no_definitions ys) → IsTrue (have_no_definitions (xs ++ ys))
+joined_plain : (xs ys : List Row) → IsTrue (have_no_definitions xs) → IsTrue (have_no_definitions ys) → IsTrue
+    (have_no_definitions (xs ++ ys))
 joined_plain [] ys h g = g
 joined_plain (x ∷ xs) ys h g = let p = and_parts _ _ h in and_from _ _ p.0 (joined_plain xs ys p.1 g)
 
@@ -50,7 +51,8 @@ grows_trans a b c f g =
     }
 
 -- one scope more
-pub grows_row : (old new : List Row) (row : Row) → new ≡ old ++ row ∷ [] → IsTrue (has_no_definitions row) → Grows old new
+pub grows_row : (old new : List Row) (row : Row) → new ≡ old ++ row ∷ [] → IsTrue (has_no_definitions row) →
+    Grows old new
 grows_row old new row e h = record {
   longer = omega (arith, ap length e, length-append old (row ∷ []));
   rows = rows_added old new (row ∷ []) e;
@@ -63,7 +65,8 @@ pub bound_last : (rows : List Row) (row : Row) (k : ℕ) (name : List ℕ) (valu
     → bound_in (rows ++ row ∷ []) k name value ≡ rows ++ with_variable name value row ∷ []
 bound_last rows row k name value h = ap (λ k. bound_in (rows ++ row ∷ []) k name value) h ∙ at_end rows
   where
-    at_end : (rs : List Row) → bound_in (rs ++ row ∷ []) (length rs) name value ≡ rs ++ with_variable name value row ∷ []
+    at_end : (rs : List Row) → bound_in (rs ++ row ∷ []) (length rs) name value ≡ rs ++ with_variable name
+        value row ∷ []
     at_end [] = refl
     at_end (r ∷ rs) = ap (λ l. r ∷ l) (at_end rs)
 
@@ -74,7 +77,8 @@ empty_below n (p ∷ ps) h = absurd (no h)
     no : ◌≡◌ {A = Bool} false true → ⊥
     no e = cc
 
-each_joined : (test : Row → Bool) (xs ys : List Row) → IsTrue (each_row test xs) → IsTrue (each_row test ys) → IsTrue (each_row test (xs ++ ys))
+each_joined : (test : Row → Bool) (xs ys : List Row) → IsTrue (each_row test xs) → IsTrue (each_row test ys) →
+    IsTrue (each_row test (xs ++ ys))
 each_joined test [] ys h g = g
 each_joined test (x ∷ xs) ys h g = let p = and_parts _ _ h in and_from _ _ p.0 (each_joined test xs ys p.1 g)
 
@@ -91,10 +95,14 @@ plain_modules n (r ∷ rs) h =
     and_from _ _ (empty_below n r.modules (and_parts _ _ p.0).1) (plain_modules n rs p.1)
 
 -- the numbers of definitions stay below a count
-pub functions_stay : (n : ℕ) (old new : List Row) → Grows old new → IsTrue (functions_below n old) → IsTrue (functions_below n new)
+pub functions_stay : (n : ℕ) (old new : List Row) → Grows old new → IsTrue (functions_below n old) → IsTrue
+    (functions_below n new)
 functions_stay n old new g h = subst (λ rs. IsTrue (functions_below n rs)) (sym g.rows)
-    (each_joined (λ r. numbers_below n r.functions) old (drop (length old) new) h (plain_functions n (drop (length old) new) g.plain))
+    (each_joined (λ r. numbers_below n r.functions) old (drop (length old) new) h
+        (plain_functions n (drop (length old) new) g.plain))
 
-pub modules_stay : (n : ℕ) (old new : List Row) → Grows old new → IsTrue (modules_below n old) → IsTrue (modules_below n new)
+pub modules_stay : (n : ℕ) (old new : List Row) → Grows old new → IsTrue (modules_below n old) → IsTrue
+    (modules_below n new)
 modules_stay n old new g h = subst (λ rs. IsTrue (modules_below n rs)) (sym g.rows)
-    (each_joined (λ r. numbers_below n r.modules) old (drop (length old) new) h (plain_modules n (drop (length old) new) g.plain))
+    (each_joined (λ r. numbers_below n r.modules) old (drop (length old) new) h
+        (plain_modules n (drop (length old) new) g.plain))

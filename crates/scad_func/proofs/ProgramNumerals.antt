@@ -26,7 +26,8 @@ mutual
 
   small_in : (ss : StatementTerms) → IsTrue (statements_have_small ss) → Small (definitions_in ss)
   small_in no_statements h = refl
-  small_in (and_statement s rest) h = let p = and_parts _ _ h in joined (definitions_of s) (definitions_in rest) (small_of s p.0) (small_in rest p.1)
+  small_in (and_statement s rest) h = let p = and_parts _ _ h in joined (definitions_of s)
+      (definitions_in rest) (small_of s p.0) (small_in rest p.1)
 
   small_of_instance : (i : InstanceTerm) → IsTrue (instance_has_small i) → Small (definitions_of_instance i)
   small_of_instance (AnInstance at marks core) h = small_of_core core h
@@ -35,7 +36,8 @@ mutual
   small_of_core (IfTerm at test body) h = small_of_body body (and_parts _ _ h).1
   small_of_core (IfElseTerm at test body other) h =
       let p = and_parts _ _ (and_parts _ _ h).1 in
-      joined (definitions_of_body body) (definitions_of_body other) (small_of_body body p.0) (small_of_body other p.1)
+      joined (definitions_of_body body) (definitions_of_body other) (small_of_body body p.0)
+          (small_of_body other p.1)
   small_of_core (ForTerm at binders body) h = small_of_body body (and_parts _ _ h).1
   small_of_core (IntersectionForTerm at binders body) h = small_of_body body (and_parts _ _ h).1
   small_of_core (ModuleCallTerm at name args body) h = small_of_body body (and_parts _ _ h).1
@@ -45,5 +47,6 @@ mutual
   small_of_body (BlockBody at statements) h = small_in statements h
   small_of_body (InstanceBody instance) h = small_of_instance instance h
 
-pub program_small : (program : List StatementTerm) → IsTrue (program_has_small program) → IsTrue (functions_have_small (functions_of_program program))
+pub program_small : (program : List StatementTerm) → IsTrue (program_has_small program) → IsTrue
+    (functions_have_small (functions_of_program program))
 program_small program h = small_in (statements_from program) h

@@ -16,11 +16,13 @@ abbrev mutual
   has_small_numerals (ParenTerm at inner) = has_small_numerals inner
   has_small_numerals (ListTerm at items) = terms_have_small items
   has_small_numerals (RangeTerm at from to) = has_small_numerals from && has_small_numerals to
-  has_small_numerals (SteppedRangeTerm at from step to) = has_small_numerals from && (has_small_numerals step && has_small_numerals to)
+  has_small_numerals (SteppedRangeTerm at from step to) = has_small_numerals from &&
+      (has_small_numerals step && has_small_numerals to)
   has_small_numerals (PostfixTerm at of rest) = has_small_numerals of && suffixes_have_small rest
   has_small_numerals (UnaryTerm at op of) = has_small_numerals of
   has_small_numerals (ChainTerm at first rest) = has_small_numerals first && links_have_small rest
-  has_small_numerals (ChoiceTerm at test mark one other) = has_small_numerals test && (has_small_numerals one && has_small_numerals other)
+  has_small_numerals (ChoiceTerm at test mark one other) = has_small_numerals test &&
+      (has_small_numerals one && has_small_numerals other)
 
   pub terms_have_small : Terms → Bool
   terms_have_small no_terms = true
@@ -73,8 +75,10 @@ abbrev mutual
   statement_has_small (EmptyStatement at) = true
   statement_has_small (BlockStatement at statements) = statements_have_small statements
   statement_has_small (AssignmentTerm at name value) = has_small_numerals value
-  statement_has_small (ModuleTerm at name name_at params body) = params_have_small params && body_has_small body
-  statement_has_small (FunctionTerm at name name_at params value) = params_have_small params && has_small_numerals value
+  statement_has_small (ModuleTerm at name name_at params body) = params_have_small params && body_has_small
+      body
+  statement_has_small (FunctionTerm at name name_at params value) = params_have_small params &&
+      has_small_numerals value
   statement_has_small (InstanceStatement instance) = instance_has_small instance
 
   pub statements_have_small : StatementTerms → Bool
@@ -86,7 +90,8 @@ abbrev mutual
 
   pub core_has_small : CoreTerm → Bool
   core_has_small (IfTerm at test body) = has_small_numerals test && body_has_small body
-  core_has_small (IfElseTerm at test body other) = has_small_numerals test && (body_has_small body && body_has_small other)
+  core_has_small (IfElseTerm at test body other) = has_small_numerals test &&
+      (body_has_small body && body_has_small other)
   core_has_small (ForTerm at binders body) = binders_have_small binders && body_has_small body
   core_has_small (IntersectionForTerm at binders body) = binders_have_small binders && body_has_small body
   core_has_small (ModuleCallTerm at name args body) = args_have_small (args_from args) && body_has_small body

@@ -87,5 +87,6 @@ suffixed deeper calls env v (MemberTerm at name name_at) turns =
 abbrev pub linked : Evaluates → ℕ → Env → Val → LinkTerm → ℕ → Outcome Val
 linked deeper calls env v link turns =
     if wants_right link.op v
-    then then_with (operand deeper calls env link.right turns) (λ turns w. answered (binary_of link.op v w) link.at turns)
+    then then_with (operand deeper calls env link.right turns)
+        (λ turns w. answered (binary_of link.op v w) link.at turns)
     else Gives turns (TruthVal (truth_of v))

@@ -7,4 +7,5 @@ use Rattle.scad_func.proofs.answer.made_list.Goals as goal
 
 pub returns-clause-bounded : goal.returns-clause-bounded
 returns-clause-bounded c = c.in_ok-made.ensures.bounded
-    (subst (λ v. IsTrue (has_small_numbers v)) (sym c.list.ensures) (list_small (vals_in c.args.values.items) c.requires))
+    (subst (λ v. IsTrue (has_small_numbers v)) (sym c.list.ensures)
+        (list_small (vals_in c.args.values.items) c.requires))

@@ -17,7 +17,8 @@ use Rattle.scad_func.proofs.Binding.{vals_here, next_taken, params_more, bound_m
 use Rattle.scad_func.proofs.bind.bind_all.Goals as goal
 
 pub returns-in_err-inner-clause-scopes : goal.returns-in_err-inner-clause-scopes
-returns-in_err-inner-clause-scopes c = subst (λ rows. Grows (rows_of c.args.scopes.now) rows) (sym c.in_err-inner.ensures.unchanged) (grows_same _)
+returns-in_err-inner-clause-scopes c = subst (λ rows. Grows (rows_of c.args.scopes.now) rows)
+    (sym c.in_err-inner.ensures.unchanged) (grows_same _)
 
 pub each-init : goal.each-init
 each-init c = record {
@@ -49,7 +50,8 @@ each-preserved c =
     let i = c.each.i in
     let h : i < length xs = omega (arith, c.each-test.true, ap length c.deref-param-items.ensures.value) in
     let x = c.param-item.result in
-    let is : x ≡ get_or xs i x = c.param-item.is ∙ ap (λ (l : List Param). get_or l i x) c.deref-param-items.ensures.value in
+    let is : x ≡ get_or xs i x = c.param-item.is ∙ ap (λ (l : List Param). get_or l i x)
+        c.deref-param-items.ensures.value in
     let inv = c.each.invariant in
     let left = c.each.left.items in
     let held : i < length left = omega (arith, h, inv.count) in
@@ -57,24 +59,31 @@ each-preserved c =
     let dest = c.replace-value.new.dest in
     let here = vals_here left i y held c.index_mut.ensures.value in
     let vs = vals_in c.args.values.items in
-    let step = next_taken vs i (i + 1) (val_of y) (vals_in (drop (i + 1) left)) (omega arith) (inv.rest ∙ here) in
+    let step = next_taken vs i (i + 1) (val_of y) (vals_in (drop (i + 1) left)) (omega arith)
+        (inv.rest ∙ here) in
     let more = params_more xs i x h is in
     let kept = ap vals_in (sym (drop-set-lt (i + 1) left i dest (omega arith))) in
     let bound = c.in_ok-bind.ensures.bound
-    ∙ ap (λ (z : Value). bound_in (rows_of c.each.scopes) c.in_ok-inner.inner c.name_of.result.now (val_of z)) c.replace-value.ensures.value in
+    ∙ ap (λ (z : Value). bound_in (rows_of c.each.scopes) c.in_ok-inner.inner c.name_of.result.now (val_of z))
+        c.replace-value.ensures.value in
     record {
       count = length-set left i dest ∙ inv.count;
       number = inv.number;
-      rows = bound_more (rows_of c.args.scopes.now) (rows_of c.each.scopes) (rows_of c.bind.new.self) (map param_of (take i xs)) (map param_of (take (i + 1) xs))
-          (take i vs) (take (i + 1) vs) (param_of x) (val_of y) c.in_ok-inner.inner c.args.outer c.name_of.result.now inv.rows inv.number inv.even
+      rows = bound_more (rows_of c.args.scopes.now) (rows_of c.each.scopes) (rows_of c.bind.new.self)
+          (map param_of (take i xs)) (map param_of (take (i + 1) xs))
+          (take i vs) (take (i + 1) vs) (param_of x) (val_of y) c.in_ok-inner.inner c.args.outer
+              c.name_of.result.now inv.rows inv.number inv.even
           c.name_of.ensures bound more step.0;
-      even = even_more (map param_of (take i xs)) (map param_of (take (i + 1) xs)) (take i vs) (take (i + 1) vs) (param_of x) (val_of y) inv.even more step.0;
+      even = even_more (map param_of (take i xs)) (map param_of (take (i + 1) xs)) (take i vs)
+          (take (i + 1) vs) (param_of x) (val_of y) inv.even more step.0;
       rest = step.1 ∙ kept;
-      bounded = subst (λ l. IsTrue (are_bounded l)) kept (and_parts _ _ (subst (λ l. IsTrue (are_bounded l)) here inv.bounded)).1;
+      bounded = subst (λ l. IsTrue (are_bounded l)) kept
+          (and_parts _ _ (subst (λ l. IsTrue (are_bounded l)) here inv.bounded)).1;
     }
 
 pub returns-in_err-bind-clause-scopes : goal.returns-in_err-bind-clause-scopes
-returns-in_err-bind-clause-scopes c = grows_row _ _ _ (c.in_err-bind.ensures.unchanged ∙ c.each.invariant.rows) refl
+returns-in_err-bind-clause-scopes c = grows_row _ _ _
+    (c.in_err-bind.ensures.unchanged ∙ c.each.invariant.rows) refl
 
 pub returns-clause-number : goal.returns-clause-number
 returns-clause-number c = last_there _ _ _ _ c.each.invariant.rows c.each.invariant.number
@@ -89,6 +98,8 @@ returns-clause-inside c =
     let i = c.each.i in
     let le : length xs ≤ i = omega (arith, c.each-test.false, ap length c.deref-param-items.ensures.value) in
     let few : length vs ≤ i = omega (arith, le, c.requires.count, length-map c.args.values.items val_of) in
-    let rows = all_bound (rows_of c.args.scopes.now) (rows_of c.each.scopes) xs vs i c.args.outer c.each.invariant.rows le few in
-    λ fs ms. call_env fs ms (rows_of c.args.scopes.now) (rows_of c.each.scopes) (paired (map param_of xs) (vals_from vs) []) c.in_ok-inner.inner c.args.outer
+    let rows = all_bound (rows_of c.args.scopes.now) (rows_of c.each.scopes) xs vs i c.args.outer
+        c.each.invariant.rows le few in
+    λ fs ms. call_env fs ms (rows_of c.args.scopes.now) (rows_of c.each.scopes)
+        (paired (map param_of xs) (vals_from vs) []) c.in_ok-inner.inner c.args.outer
     rows c.each.invariant.number

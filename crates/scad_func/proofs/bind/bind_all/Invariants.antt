@@ -13,9 +13,11 @@ abbrev pub invariant-each : goal.invariant-each
 invariant-each l = record {
   count : length l.left.items ≡ length l.params.items.items;
   number : l.inner ≡ length (rows_of l.fn.scopes);
-  rows : rows_of l.scopes ≡ rows_of l.fn.scopes ++ call_row (paired (map param_of (take l.i l.params.items.items))
+  rows : rows_of l.scopes ≡ rows_of l.fn.scopes ++ call_row
+      (paired (map param_of (take l.i l.params.items.items))
       (vals_from (take l.i (vals_in l.fn.values.items))) []) l.outer ∷ [];
-  even : length (take l.i (vals_in l.fn.values.items)) ≡ length (map param_of (take l.i l.params.items.items));
+  even : length (take l.i (vals_in l.fn.values.items)) ≡ length
+      (map param_of (take l.i l.params.items.items));
   rest : drop l.i (vals_in l.fn.values.items) ≡ vals_in (drop l.i l.left.items);
   bounded : IsTrue (are_bounded (vals_in (drop l.i l.left.items)));
 }
