@@ -1,13 +1,13 @@
 -- Laws of outcomes and of evaluations.
-use Rattle.std.proofs.Common.{◌≡◌, ℕ, zero, suc, ◌+◌, ◌-◌, ◌<◌, ◌≤◌, List, [], ◌∷◌, ◌++◌, length, map, drop, get_or, Bool, true, false, ◌&&◌, Option, Some, None, Result, Ok, Err, refl, sym, ap, subst, ◌∙◌, arith, cond, max, ◌*◌, ℤ}
-use Rattle.std.specs.Prelude.{IsTrue, IfOk, OnOk}
-use Rattle.std.proofs.lemmas.Bool.{and_parts, and_from, lt-ltb}
+use Rattle.std.proofs.Common.{◌≡◌, ℕ, zero, suc, ◌+◌, ◌-◌, ◌<◌, ◌≤◌, List, [], ◌∷◌, ◌++◌, length, map, drop, get_or, true, false, Option, Some, None, Result, Ok, Err, refl, sym, ap, subst, ◌∙◌, arith, cond, ℤ}
+use Rattle.std.specs.Prelude.{IsTrue, OnOk}
+use Rattle.std.proofs.lemmas.Bool.{and_parts, and_from}
 use Rattle.std.proofs.lemmas.List.{at_drop_more, at_drop_all}
 use Rattle.text_place.specs.declared.fault.Place.{Place}
 use Rattle.text_place.specs.declared.fault.Stop.{Stop}
 use Rattle.text_place.specs.declared.fault.Stop.TheVariants.{Fault, NoMemory}
 use Rattle.text_place.specs.declared.fault.FaultKind.{FaultKind}
-use Rattle.text_place.specs.declared.fault.FaultKind.TheVariants.{TooDeep, TooManyTurns, BadArgument, UnknownName, NotInProfile}
+use Rattle.text_place.specs.declared.fault.FaultKind.TheVariants.{TooDeep, UnknownName, NotInProfile}
 use Rattle.scad_ast.specs.declared.expression.Expr.{Expr}
 use Rattle.scad_ast.specs.declared.expression.Arg.{Arg}
 use Rattle.scad_ast.specs.declared.expression.Suffix.{Suffix}
@@ -15,11 +15,10 @@ use Rattle.scad_ast.specs.declared.expression.Link.{Link}
 use Rattle.scad_ast.specs.ExprView.{term_of, arg_of, suffix_of, link_of}
 use Rattle.scad_ast.specs.Terms.{Term, Terms, no_terms, and_term, ArgTerms, no_args, and_named, and_positional, ArgTerm, NamedTerm, PositionalTerm, SuffixTerms, and_index, and_member, SuffixTerm, IndexTerm, MemberTerm, NameTerm, LinkTerms, and_link, LinkTerm, place_of, terms_from, args_from, suffixes_from, links_from}
 use Rattle.scad_value.specs.declared.value.Value.{Value}
-use Rattle.scad_value.specs.Values.{Val, NumberVal, Vals, no_vals, and_val, vals_from, ListVal, is_bounded, TruthVal, truth_of}
+use Rattle.scad_value.specs.Values.{Val, NumberVal, Vals, no_vals, and_val, vals_from, is_bounded, TruthVal, truth_of}
 use Rattle.scad_value.specs.Operators.{Answer, index_of, binary_of}
-use Rattle.scad_value.specs.View.{val_of, vals_in}
 use Rattle.scad_builtin.specs.Builtins.{are_bounded}
-use Rattle.scad_func.specs.Meaning.{Outcome, Gives, Faults, then_with, or_fault, answered, counted, Evaluates, Env, evaluated, operand, each_value, each_suffix, each_link, settled, member_of, variable_in, wants_right}
+use Rattle.scad_func.specs.Meaning.{Outcome, Gives, Faults, then_with, or_fault, answered, counted, Evaluates, Env, evaluated, operand, each_value, each_suffix, member_of, variable_in, wants_right}
 use Rattle.scad_func.specs.Slots.{all_values, argument_of, suffixed, linked}
 use Rattle.scad_func.specs.Numerals.{terms_have_small, args_have_small, suffixes_have_small, links_have_small, has_small_numerals, suffix_has_small}
 use Rattle.scad_func.specs.View.{Tells, TellsAll, TellsAnswer}
@@ -70,7 +69,7 @@ evaluated_counted (suc n) calls env e turns = refl
 pub value_counted : (r : Result Value Stop) (n k t m calls : ℕ) (env : Env) (e : Term) (v : Val) (at : Place)
     → at ≡ place_of e
     → evaluated n false calls env e t ≡ Gives m v → Tells r k (counted at (Gives m v)) → Tells r k
-        (evaluated n true calls env e t)
+    (evaluated n true calls env e t)
 value_counted r n k t m calls env e v at p h told =
     tells_along r k _ _ (evaluated_counted n calls env e t ∙ ap (counted (place_of e)) h)
     (subst (λ at. Tells r k (counted at (Gives m v))) p told)
@@ -84,7 +83,7 @@ fault_counted NoMemory n k m t calls env e h = tt
 
 pub fault_deeper : (s : Stop) (d k m t calls : ℕ) (env : Env) (e : Term) → d < 512
     → Tells (Err s) m (operand (evaluated (512 - (d + 1))) calls env e t) → Tells (Err s) k
-        (evaluated (512 - d) false calls env e t)
+    (evaluated (512 - d) false calls env e t)
 fault_deeper (Fault fault) d k m t calls env e less h = evaluated_deeper d calls env e t less ∙ h
 fault_deeper NoMemory d k m t calls env e less h = tt
 
@@ -121,7 +120,7 @@ module _ (deeper : Evaluates) (calls : ℕ) (env : Env) (start : Outcome Vals) (
   values_more e rest turns then v s same h a =
       s ∙ ap (λ t. in_front front (each_value deeper calls env t turns)) same
       ∙ ap (λ o. in_front front (then_with o (λ turns v. then_with (each_value deeper calls env rest turns)
-          (λ turns vs. Gives turns (and_val v vs))))) h
+      (λ turns vs. Gives turns (and_val v vs))))) h
       ∙ front_more front v (each_value deeper calls env rest then)
       ∙ ap (λ l. in_front l (each_value deeper calls env rest then)) (sym a)
 
@@ -129,7 +128,7 @@ module _ (deeper : Evaluates) (calls : ℕ) (env : Env) (start : Outcome Vals) (
       → start ≡ Gives turns (vals_from front)
   values_end turns s same =
       s ∙ ap (λ t. in_front front (each_value deeper calls env t turns)) same ∙ ap (Gives turns)
-          (before_none front)
+      (before_none front)
 
 -- what stands at a place in a list, and the list's end
 pub terms_here : (xs : List Expr) (i : ℕ) (x : Expr) → i < length xs → x ≡ get_or xs i x
@@ -189,7 +188,7 @@ suffixes_cons (MemberTerm at name name_at) ss = refl
 
 pub suffixes_here : (xs : List Suffix) (i : ℕ) (x : Suffix) → i < length xs → x ≡ get_or xs i x
     → suffixes_from (map suffix_of (drop i xs)) ≡ and_suffix (suffix_of x)
-        (suffixes_from (map suffix_of (drop (i + 1) xs)))
+    (suffixes_from (map suffix_of (drop (i + 1) xs)))
 suffixes_here xs i x h e = at_drop_more (λ l. suffixes_from (map suffix_of l)) xs i x h
     ∙ ap (λ y. suffixes_from (suffix_of y ∷ map suffix_of (drop (i + 1) xs))) (sym e)
     ∙ suffixes_cons (suffix_of x) (map suffix_of (drop (i + 1) xs))
@@ -228,7 +227,7 @@ suffixes_small ss s rest same h = by_suffix s (subst (λ t. IsTrue (suffixes_hav
 -- an operator and those behind it
 pub links_here : (xs : List Link) (i : ℕ) (x : Link) → i < length xs → x ≡ get_or xs i x
     → links_from (map link_of (drop i xs)) ≡ and_link (link_of x).op (link_of x).at (link_of x).right
-        (links_from (map link_of (drop (i + 1) xs)))
+    (links_from (map link_of (drop (i + 1) xs)))
 links_here xs i x h e = at_drop_more (λ l. links_from (map link_of l)) xs i x h
     ∙ ap (λ y. links_from (link_of y ∷ map link_of (drop (i + 1) xs))) (sym e)
 
@@ -260,7 +259,7 @@ name_missing deeper calls env e place at name turns kind go s v k p =
 pub name_found : (deeper : Evaluates) (calls : ℕ) (env : Env) (e : Term) (place : Place) (name : List ℕ)
     (turns : ℕ) (w : Val) (go : ℕ → Val → Outcome Val)
     → e ≡ NameTerm place name → variable_in env name ≡ Some w → then_with (operand deeper calls env e turns)
-        go ≡ go turns w
+    go ≡ go turns w
 name_found deeper calls env e place name turns w go s v =
     ap (λ t. then_with (operand deeper calls env t turns) go) s
     ∙ ap (λ o. then_with (or_fault o UnknownName place (λ x. Gives turns x)) go) v
@@ -269,7 +268,7 @@ name_found deeper calls env e place name turns w go s v =
 pub link_wants : (deeper : Evaluates) (calls : ℕ) (env : Env) (v : Val) (l : LinkTerm) (turns : ℕ) →
     wants_right l.op v ≡ true
     → linked deeper calls env v l turns ≡ then_with (operand deeper calls env l.right turns)
-        (λ turns w. answered (binary_of l.op v w) l.at turns)
+    (λ turns w. answered (binary_of l.op v w) l.at turns)
 link_wants deeper calls env v l turns w = ap (λ b. cond b
     (then_with (operand deeper calls env l.right turns) (λ turns w. answered (binary_of l.op v w) l.at turns))
     (Gives turns (TruthVal (truth_of v)))) w

@@ -1,12 +1,12 @@
 -- What the evaluator's answers tell, and the words of its conditions.
-use Rattle.std.specs.Prelude.{◌≡◌, ℕ, ◌<◌, ◌≤◌, ◌^◌, List, [], ◌∷◌, ◌++◌, length, map, drop, Bool, true, false, ◌&&◌, IsTrue, is_some, Option, Some, None, Result, Ok, Err, nat_lt}
+use Rattle.std.specs.Prelude.{◌≡◌, ℕ, ◌<◌, ◌≤◌, List, [], ◌∷◌, ◌++◌, length, map, drop, Bool, true, false, ◌&&◌, IsTrue, is_some, Option, Some, None, Result, Ok, Err}
 use Rattle.std.specs.declared.vec.Vec.{Vec}
 use Rattle.std.specs.declared.alloc.Global.{Global}
 use Rattle.text_place.specs.declared.fault.Stop.{Stop}
 use Rattle.text_place.specs.declared.fault.Stop.TheVariants.{Fault, NoMemory}
 use Rattle.text_place.specs.declared.fault.Place.{Place}
 use Rattle.scad_value.specs.declared.value.Value.{Value}
-use Rattle.scad_value.specs.Values.{Val, UndefVal, Vals, no_vals, and_val, vals_from, is_bounded}
+use Rattle.scad_value.specs.Values.{Val, UndefVal, Vals, vals_from, is_bounded}
 use Rattle.scad_value.specs.Operators.{Answer}
 use Rattle.scad_value.specs.View.{val_of, vals_in}
 use Rattle.scad_scope.specs.Names.{Row, Env as NumberedEnv, env_of, variable_in}
@@ -20,7 +20,7 @@ use Rattle.scad_func.specs.declared.answer.Indexed.TheVariants.{Variable, Made}
 use Rattle.scad_func.specs.Functions.{functions_seen}
 use Rattle.scad_scope.specs.Numbered.{functions_below}
 use Rattle.scad_func.specs.declared.functions.Function.{Function as FunctionLent}
-use Rattle.scad_ast.specs.declared.expression.Expr.{Expr, size-Expr}
+use Rattle.scad_ast.specs.declared.expression.Expr.{size-Expr}
 use Rattle.scad_ast.specs.declared.statement.Param.{Param}
 use Rattle.scad_ast.specs.declared.statement.Param.TheVariants.{Plain, WithDefault}
 use Rattle.std.specs.Prelude.{max}

@@ -1,7 +1,7 @@
 -- Calls that are left count for more than any body is deep; in one call the trees get smaller.
-use Rattle.std.proofs.Common.{◌≡◌, ℕ, ◌+◌, ◌-◌, ◌*◌, ◌≤◌, max, List, drop, map, length, None, replicate, true}
+use Rattle.std.proofs.Common.{◌≡◌, ◌+◌, ◌-◌, ◌*◌, ◌≤◌, max, drop, map, length, None, replicate}
 use Rattle.std.specs.Prelude.{IsTrue}
-use Rattle.scad_ast.specs.declared.expression.Expr.{Expr, size-Expr}
+use Rattle.scad_ast.specs.declared.expression.Expr.{size-Expr}
 use Rattle.scad_ast.specs.declared.expression.Exprs.{size-Exprs}
 use Rattle.scad_ast.specs.declared.expression.Link.{size-Link}
 use Rattle.scad_ast.specs.declared.expression.Links.{size-Links}
@@ -14,14 +14,12 @@ use Rattle.scad_ast.specs.ExprView.{term_of, terms_of, args_of, arg_of, suffix_o
 use Rattle.scad_ast.specs.StatementView.{param_of, params_of}
 use Rattle.scad_value.specs.Values.{is_bounded}
 use Rattle.scad_value.specs.View.{val_of, vals_in}
-use Rattle.scad_scope.specs.Names.{Row, env_of}
+use Rattle.scad_scope.specs.Names.{env_of}
 use Rattle.scad_scope.specs.Table.{rows_of}
-use Rattle.scad_func.specs.declared.source.Source.{Source}
-use Rattle.scad_func.specs.declared.meter.Meter.{Meter}
 use Rattle.scad_func.specs.Meaning.{evaluated, each_value, each_suffix, each_link}
 use Rattle.scad_func.specs.Slots.{each_slot, each_filled, all_values}
 use Rattle.scad_func.specs.Numerals.{terms_have_small, args_have_small, suffixes_have_small, links_have_small, params_have_small}
-use Rattle.scad_func.specs.View.{Grows, IsNumbered, seen, indexed_val, IsThere, slots_in, slots_bounded, deepest, param_size, params_size}
+use Rattle.scad_func.specs.View.{Grows, IsNumbered, seen, indexed_val, IsThere, slots_in, slots_bounded, param_size, params_size}
 use Rattle.scad_builtin.specs.Builtins.{are_bounded}
 use Rattle.scad_func.proofs.Calls.{calls_left, in_front}
 use Rattle.scad_func.proofs.evaluate.+value.Given as goal
@@ -92,8 +90,8 @@ invariant-each_value-each l = record {
   told : each_value (evaluated (512 - l.fn.meter.depth)) (64 - l.fn.meter.calls)
       (seen l.source (rows_of l.fn.scopes) l.scope) (terms_from (terms_of l.exprs)) l.fn.meter.turns
       ≡ in_front (vals_in l.values.items) (each_value (evaluated (512 - l.fn.meter.depth))
-          (64 - l.fn.meter.calls) (seen l.source (rows_of l.fn.scopes) l.scope)
-          (terms_from (map term_of (drop l.expr-index l.exprs.items.items))) l.meter.turns);
+      (64 - l.fn.meter.calls) (seen l.source (rows_of l.fn.scopes) l.scope)
+      (terms_from (map term_of (drop l.expr-index l.exprs.items.items))) l.meter.turns);
   bounded : IsTrue (are_bounded (vals_in l.values.items));
   small : IsTrue (terms_have_small (terms_from (map term_of (drop l.expr-index l.exprs.items.items))));
   scopes : Grows (rows_of l.fn.scopes) (rows_of l.scopes);
@@ -108,8 +106,8 @@ invariant-each_positional-each l = record {
   told : each_value (evaluated (512 - l.fn.meter.depth)) (64 - l.fn.meter.calls)
       (seen l.source (rows_of l.fn.scopes) l.scope) (all_values (args_from (args_of l.args))) l.fn.meter.turns
       ≡ in_front (vals_in l.values.items) (each_value (evaluated (512 - l.fn.meter.depth))
-          (64 - l.fn.meter.calls) (seen l.source (rows_of l.fn.scopes) l.scope)
-          (all_values (args_from (map arg_of (drop l.arg-index l.args.items.items)))) l.meter.turns);
+      (64 - l.fn.meter.calls) (seen l.source (rows_of l.fn.scopes) l.scope)
+      (all_values (args_from (map arg_of (drop l.arg-index l.args.items.items)))) l.meter.turns);
   bounded : IsTrue (are_bounded (vals_in l.values.items));
   small : IsTrue (args_have_small (args_from (map arg_of (drop l.arg-index l.args.items.items))));
   scopes : Grows (rows_of l.fn.scopes) (rows_of l.scopes);
@@ -126,9 +124,9 @@ invariant-suffixes-each l = record {
       (indexed_val (env_of (rows_of l.fn.scopes) l.scope) l.fn.of) (suffixes_from (suffixes_of l.rest))
       l.fn.meter.turns
       ≡ each_suffix (evaluated (512 - l.fn.meter.depth)) (64 - l.fn.meter.calls)
-          (seen l.source (rows_of l.fn.scopes) l.scope)
-          (indexed_val (env_of (rows_of l.fn.scopes) l.scope) l.at)
-          (suffixes_from (map suffix_of (drop l.part-index l.rest.items.items))) l.meter.turns;
+      (seen l.source (rows_of l.fn.scopes) l.scope)
+      (indexed_val (env_of (rows_of l.fn.scopes) l.scope) l.at)
+      (suffixes_from (map suffix_of (drop l.part-index l.rest.items.items))) l.meter.turns;
   there : IsThere (env_of (rows_of l.fn.scopes) l.scope) l.at;
   small : IsTrue (suffixes_have_small (suffixes_from (map suffix_of (drop l.part-index l.rest.items.items))));
   scopes : Grows (rows_of l.fn.scopes) (rows_of l.scopes);
@@ -144,8 +142,8 @@ invariant-links-each l = record {
       (seen l.source (rows_of l.fn.scopes) l.scope) (val_of l.fn.left) (links_from (links_of l.rest))
       l.fn.meter.turns
       ≡ each_link (evaluated (512 - l.fn.meter.depth)) (64 - l.fn.meter.calls)
-          (seen l.source (rows_of l.fn.scopes) l.scope) (val_of l.so_far)
-          (links_from (map link_of (drop l.part-index l.part-items))) l.meter.turns;
+      (seen l.source (rows_of l.fn.scopes) l.scope) (val_of l.so_far)
+      (links_from (map link_of (drop l.part-index l.part-items))) l.meter.turns;
   bounded : IsTrue (is_bounded (val_of l.so_far));
   small : IsTrue (links_have_small (links_from (map link_of (drop l.part-index l.part-items))));
   scopes : Grows (rows_of l.fn.scopes) (rows_of l.scopes);
@@ -161,9 +159,9 @@ invariant-each_argument-each l = record {
       (seen l.source (rows_of l.fn.scopes) l.scope) (params_of l.params) 0 (args_from (args_of l.args))
       (replicate (length (params_of l.params)) None) l.fn.meter.turns
       ≡ each_slot (evaluated (512 - l.fn.meter.depth)) (64 - l.fn.meter.calls)
-          (seen l.source (rows_of l.fn.scopes) l.scope) (params_of l.params) l.positional
-          (args_from (map arg_of (drop l.arg-index l.args.items.items))) (slots_in l.slots.items)
-          l.meter.turns;
+      (seen l.source (rows_of l.fn.scopes) l.scope) (params_of l.params) l.positional
+      (args_from (map arg_of (drop l.arg-index l.args.items.items))) (slots_in l.slots.items)
+      l.meter.turns;
   count : length l.slots.items ≡ length l.params.items.items;
   few : l.positional ≤ l.arg-index;
   filled : IsTrue (slots_bounded (slots_in l.slots.items));
@@ -181,8 +179,8 @@ invariant-each_parameter-each l = record {
       (seen l.source (rows_of l.fn.scopes) l.scope) (params_of l.params) (slots_in l.fn.slots.items)
       l.fn.meter.turns
       ≡ in_front (vals_in l.values.items) (each_filled (evaluated (512 - l.fn.meter.depth))
-          (64 - l.fn.meter.calls) (seen l.source (rows_of l.fn.scopes) l.scope)
-          (map param_of (drop l.i l.params.items.items)) (slots_in (drop l.i l.open.items)) l.meter.turns);
+      (64 - l.fn.meter.calls) (seen l.source (rows_of l.fn.scopes) l.scope)
+      (map param_of (drop l.i l.params.items.items)) (slots_in (drop l.i l.open.items)) l.meter.turns);
   count : length l.open.items ≡ length l.params.items.items;
   got : length l.values.items ≡ l.i;
   bounded : IsTrue (are_bounded (vals_in l.values.items));

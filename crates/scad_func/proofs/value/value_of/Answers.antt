@@ -1,10 +1,10 @@
-use Rattle.std.proofs.Common.{◌≡◌, ◌-◌, List, true, sym, subst}
+use Rattle.std.proofs.Common.{◌-◌, true, sym, subst}
 use Rattle.std.specs.Prelude.{IsTrue}
 use Rattle.scad_ast.specs.ExprView.{term_of}
 use Rattle.scad_ast.specs.StatementView.{program_of}
 use Rattle.scad_scope.specs.Names.{env_of}
 use Rattle.scad_scope.specs.Table.{rows_of}
-use Rattle.scad_func.specs.Meaning.{Function, Module, evaluated}
+use Rattle.scad_func.specs.Meaning.{evaluated}
 use Rattle.scad_func.specs.Definitions.{env_in, modules_of_program}
 use Rattle.scad_func.specs.Numerals.{functions_have_small}
 use Rattle.scad_func.specs.View.{Tells, functions_held}
@@ -28,13 +28,13 @@ returns-clause-value c =
     let e = env_of (rows_of c.args.scopes.now) c.args.scope in
     let t = term_of c.args.expr.now in
     subst (λ fs. Tells c.value_in.result c.value_in.new.meter.turns
-        (evaluated (512 - m.depth) true (64 - m.calls)
+    (evaluated (512 - m.depth) true (64 - m.calls)
     (env_in fs (modules_of_program (program_of c.args.program.now)) e) t m.turns))
-        c.in_ok-source.ensures.functions
+    c.in_ok-source.ensures.functions
     (subst (λ ms. Tells c.value_in.result c.value_in.new.meter.turns
-        (evaluated (512 - m.depth) true (64 - m.calls)
+    (evaluated (512 - m.depth) true (64 - m.calls)
     (env_in (functions_held c.in_ok-source.source) ms e) t m.turns)) c.in_ok-source.ensures.modules
-        c.value_in.ensures.value)
+    c.value_in.ensures.value)
 
 pub returns-in_err-source-clause-scopes : goal.returns-in_err-source-clause-scopes
 returns-in_err-source-clause-scopes c = grows_same _
