@@ -1,9 +1,19 @@
-//! The meaning of expressions, with calls, evaluations and turns counted: `specs/Meaning` defines it, and
-//! the evaluator that is to meet it is still to come.
+//! The meaning of expressions, with calls, evaluations and turns counted.
 #![tactic(auto)]
 
+mod answer;
+mod bind;
+mod evaluate;
 mod functions;
 #[cfg(test)]
 mod functions_tests;
+mod meter;
+mod numerals;
+mod source;
+mod value;
 
 pub use functions::{Function, Functions};
+pub use meter::Meter;
+pub use numerals::{expr_has_small_numerals, has_small_numerals};
+pub use source::Source;
+pub use value::{value_in, value_of};

@@ -10,6 +10,6 @@ mod table;
 #[cfg(test)]
 mod tests;
 
-pub use parameters::{Matching, arguments};
+pub use parameters::{Matching, arguments, taken_by};
 pub use scopes::Scopes;
 pub use table::Found;

@@ -95,7 +95,8 @@ fn free_param(
     Some(param)
 }
 
-fn taken_by(params: &[Param], positional: usize, arg: &Arg) -> Option<usize>
+/// The parameter that an argument takes after so many positional ones. Takes no memory.
+pub fn taken_by(params: &[Param], positional: usize, arg: &Arg) -> Option<usize>
     ensures value { result ≡ taken_at (map param_of params.now) positional (arg_of arg.now) }
     ensures within { IfSome result (λ k. k < length params.now) }
 {
