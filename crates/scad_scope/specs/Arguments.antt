@@ -11,11 +11,12 @@ abbrev pub name_of : ParamTerm → List ℕ
 name_of (PlainTerm at name) = name
 name_of (DefaultTerm at name value) = name
 
--- the number of the first parameter of a name
+-- a number further, where there is one
 abbrev pub next : Option ℕ → Option ℕ
 next (Some k) = Some (suc k)
 next None = None
 
+-- the number of the first parameter of a name
 abbrev pub first_named : List ParamTerm → List ℕ → Option ℕ
 first_named [] name = None
 first_named (p ∷ ps) name = if bytes_eq (name_of p) name then Some zero else next (first_named ps name)

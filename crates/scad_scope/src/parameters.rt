@@ -39,9 +39,10 @@ impl Matching {
     }
 }
 
-/// Which argument each parameter of a call gets: a positional one is given to the next parameter in
-/// order, a named one to the first of its name. BadArgument at the first token of the first argument
-/// that is surplus, unknown or given twice. The place of the call is that of no such fault.
+/// Which argument each parameter of a call gets: the positional ones are given to the parameters in
+/// order, whatever named ones stand before, and a named one to the first of its name. BadArgument at
+/// the first token of the first argument that is surplus, unknown or given twice. The place of the
+/// call is that of no such fault.
 pub fn arguments(
     alloc: Global,
     params: &[Param],

@@ -9,8 +9,8 @@ use scad_value::Value;
 use std::alloc::Global;
 use text_place::{Bytes, Fault, FaultKind, NoMemory, Place};
 
-/// Scopes by number. The first one, 0, is outside all others; each other one stands in one that
-/// came before it. Each value in it is bounded.
+/// Scopes by number. The first one, 0, is outside all others; each other one is entered inside one
+/// that is there. Each value in them is bounded, which the type keeps.
 #[derive(Drop)]
 pub struct Scopes {
     pub(crate) scopes: Vec<Scope>,
