@@ -21,13 +21,14 @@ fn put_number(alloc: Global, out: &mut Vec<u8>, number: i64) -> Result<(), Fail>
 }
 
 #[cycle(show)]
-fn put_value(alloc: Global, out: &mut Vec<u8>, value: &Value) -> Result<(), Fail> {
+fn put_value(alloc: Global, out: &mut Vec<u8>, value: &Value, depth: u32) -> Result<(), Fail> {
     match value {
         Value::Number(n) => put_number(alloc, out, *n),
         Value::Truth(true) => put(out, b"true"),
         Value::Truth(false) => put(out, b"false"),
         Value::Text(bytes) => put(out, bytes.items()),
-        Value::List(values) => put_values(alloc, out, values),
+        Value::List(_) if depth == 0 => put(out, b".."),
+        Value::List(values) => put_values(alloc, out, values, depth - 1),
         Value::Range { from, by, upto } => {
             put_number(alloc, out, *from)?;
             put(out, b":")?;
@@ -40,10 +41,10 @@ fn put_value(alloc: Global, out: &mut Vec<u8>, value: &Value) -> Result<(), Fail
 }
 
 #[cycle(show)]
-fn put_values(alloc: Global, out: &mut Vec<u8>, values: &Values) -> Result<(), Fail> {
+fn put_values(alloc: Global, out: &mut Vec<u8>, values: &Values, depth: u32) -> Result<(), Fail> {
     put(out, b"[")?;
     for value in values.items() {
-        put_value(alloc, out, value)?;
+        put_value(alloc, out, value, depth)?;
         put(out, b" ")?;
     }
     put(out, b"]")
@@ -111,7 +112,7 @@ pub fn told_after(alloc: Global, source: &[u8], turns: u64) -> Result<Vec<u8>, F
     };
     if let Some(expr) = first_value(&program) {
         match value_after(alloc, &program, expr, turns) {
-            Ok(value) => put_value(alloc, &mut out, &value)?,
+            Ok(value) => put_value(alloc, &mut out, &value, 64)?,
             Err(stop) => put_stop(alloc, &mut out, stop)?,
         }
     }
