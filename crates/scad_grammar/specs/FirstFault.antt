@@ -13,7 +13,7 @@ abbrev pub BeginsSome : List Token → Type 0
 BeginsSome s = (d : ℕ) × (x : List StatementTerm) × (w : List Token) × Program d x (s ++ w)
 
 -- Some program begins with these tokens in which each of them is less deep than so much: an outline does,
--- and an outline shows only what is less deep.
+-- and before its first gap an outline shows only what is less deep.
 abbrev pub BeginsWithin : ℕ → List Token → Type 0
 BeginsWithin d s = BeginsSome s × (x : List StatementTerm) × (w : List Token) × Outline d x (s ++ w)
 

@@ -174,8 +174,8 @@ levels =
 abbrev pub Choice : Language Term → Language (List ArgTerm) → Language Term → Language Term
 Choice E As U = Both choice_of (Chain levels (Unary E As U)) (Maybe (Both pair_of (One (is question_sign)) (Both pair_of E (Behind (is colon_sign) E))))
 
--- A program is written whole, or in outline. In an outline nothing is too deep: what may be missing is missing there,
--- and a gap stands for what may not.
+-- A program is written whole, or in outline. Before its first gap an outline shows nothing that is too deep: what may
+-- be missing is missing there, and a gap stands for what may not.
 pub data Detail : Type 0 where
   whole : Detail
   outline : Detail
@@ -330,6 +330,6 @@ ProgramIn g d = Before (Many (Statement g d)) (is end)
 abbrev pub Program : ℕ → Language (List StatementTerm)
 Program = ProgramIn whole
 
--- an outline whose tokens are less deep than so much, but for the gaps
+-- an outline whose tokens are less deep than so much, but for the gaps and what stands behind one
 abbrev pub Outline : ℕ → Language (List StatementTerm)
 Outline = ProgramIn outline

@@ -6,3 +6,4 @@ mod Loops
 mod Parsed
 mod Stops
 mod Trees
+pub mod Whole

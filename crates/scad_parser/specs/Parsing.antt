@@ -1,5 +1,5 @@
 -- What the parser answers: the program that tokens write, or their first fault.
-use Rattle.std.specs.Prelude.{◌≡◌, ℕ, List, [], ◌∷◌, Result, Ok, Err}
+use Rattle.std.specs.Prelude.{◌≡◌, ℕ, List, [], ◌∷◌, Bool, false, Some, Result, Ok, Err}
 use Rattle.text_place.specs.declared.fault.Place.{Place}
 use Rattle.text_place.specs.declared.fault.Fault.{Fault as FaultIn}
 use Rattle.text_place.specs.declared.fault.FaultKind.{FaultKind}
@@ -7,13 +7,16 @@ use Rattle.text_place.specs.declared.fault.FaultKind.TheVariants.{Expected as Ex
 use Rattle.text_place.specs.declared.fault.Stop.{Stop}
 use Rattle.text_place.specs.declared.fault.Stop.TheVariants.{Fault, NoMemory}
 use Rattle.scad_lexer.specs.declared.token.Token.{Token}
+use Rattle.scad_lexer.specs.Tokens.{is_end}
 use Rattle.scad_ast.specs.declared.statement.Program.{Program as ProgramIn}
 use Rattle.scad_ast.specs.Terms.{StatementTerm}
 use Rattle.scad_ast.specs.StatementView.{program_of}
 use Rattle.scad_grammar.specs.declared.SyntaxFault.{SyntaxFault}
 use Rattle.scad_grammar.specs.declared.SyntaxFault.TheVariants.{Expected, Nested, NotInProfile}
 use Rattle.scad_grammar.specs.FirstFault.{IsFirstFault}
-use Rattle.scad_grammar.specs.Reading.{Read}
+use Rattle.scad_grammar.specs.Faults.{Reads, fault_of, left_out}
+use Rattle.scad_grammar.specs.Reading.{Read, after}
+use Rattle.scad_grammar.specs.StatementReads.{program_read}
 
 -- the fault's word
 abbrev pub kind_of : SyntaxFault → FaultKind
@@ -46,6 +49,21 @@ abbrev pub AnswersFault : Result ProgramIn Stop → SyntaxFault → List Token �
 AnswersFault (Ok p) fault at = ⊥
 AnswersFault (Err (Fault f)) fault at = (f.kind ≡ kind_of fault) × (f.place ≡ place_at at)
 AnswersFault (Err NoMemory) fault at = Unit {0}
+
+-- the last token is an end
+abbrev pub ends : List Token → Bool
+ends [] = false
+ends (t ∷ []) = is_end t.kind
+ends (t ∷ u ∷ ts) = ends (u ∷ ts)
+
+-- nothing stands behind what was read
+abbrev pub nothing_behind : {A : Type 0} → A → Reads A
+nothing_behind x [] = Ok (x, [])
+nothing_behind x (t ∷ ts) = Err (fault_of left_out (Some t), t ∷ ts)
+
+-- a program and its end, and nothing behind it
+abbrev pub whole_read : ℕ → Reads (List StatementTerm)
+whole_read d ts = after (program_read d ts) nothing_behind
 
 -- the answer is what a reader of the grammar reads, unless memory ran out
 abbrev pub IsRead : Result ProgramIn Stop → Read Token SyntaxFault (List StatementTerm) → Type 0

@@ -5,6 +5,7 @@ ghost use Rattle.scad_grammar.specs.Grammar.{binary_at, unary_at, modifier_at};
 ghost use Rattle.scad_grammar.specs.Faults.{one, first};
 ghost use Rattle.scad_grammar.specs.Reading.{starts};
 ghost use Rattle.scad_parser.specs.TokenClasses.{classes_of};
+ghost use Rattle.scad_parser.specs.declared.class.Class.TheVariants.{LeftOut};
 ghost use Rattle.scad_parser.specs.Views.{Gives, IsStop, nested_fault, fault_at, item_stands, past_comma, names_value};
 
 use crate::class::Class;
@@ -144,6 +145,13 @@ fn fault(left_out: Class, tokens: &[Token]) -> SyntaxFault
     } else {
         SyntaxFault::Expected
     }
+}
+
+/// The fault where nothing may stand.
+pub fn not_expected<'a>(tokens: &'a [Token]) -> Stopped<'a>
+    ensures { IsStop result (fault_at (classes_of LeftOut) tokens.now) tokens.now }
+{
+    Stopped::Fault(fault(Class::LeftOut, tokens), tokens)
 }
 
 /// The fault where nothing may stand that is deeper, by what would begin it.

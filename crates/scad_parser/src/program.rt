@@ -1,17 +1,15 @@
 ghost use Rattle.std.specs.Prelude.{◌≡◌, List, true, IfOk, IfErr};
-ghost use Rattle.scad_lexer.specs.Tokens.{ends_once};
 ghost use Rattle.scad_lexer.specs.declared.token.Token.{Token};
 ghost use Rattle.scad_ast.specs.Terms.{StatementTerm};
 ghost use Rattle.scad_ast.specs.StatementView.{program_of};
 ghost use Rattle.scad_grammar.specs.declared.SyntaxFault.{SyntaxFault};
 ghost use Rattle.scad_grammar.specs.Grammar.{Program as ProgramAt};
 ghost use Rattle.scad_grammar.specs.FirstFault.{IsFirstFault};
-ghost use Rattle.scad_grammar.specs.StatementReads.{program_read};
-ghost use Rattle.scad_parser.specs.Parsing.{IsStopOf, AnswersProgram, AnswersFault, IsRead, kind_of as kind_at, place_at};
+ghost use Rattle.scad_parser.specs.Parsing.{ends, whole_read, IsStopOf, AnswersProgram, AnswersFault, IsRead, kind_of as kind_at, place_at};
 ghost use Rattle.scad_parser.specs.Views.{Gives};
 
 use crate::class::Class;
-use crate::next::{Parsed, Stopped, take};
+use crate::next::{Parsed, Stopped, not_expected, take};
 use crate::statement::statements;
 use scad_ast::Program;
 use scad_grammar::SyntaxFault;
@@ -25,14 +23,12 @@ const DEPTH: u32 = 65;
 /// The program that tokens write, none of which is more than 64 deep, or their first fault:
 /// `Expected`, `Nested` or `NotInProfile`.
 pub fn parse(alloc: Global, tokens: &[Token]) -> Result<Program, Stop>
-    // The last token is the end, and no other is.
-    requires ends { ends_once tokens.now ≡ true }
     // What is given is a program that the tokens write.
     ensures found { IfOk result (λ p. ProgramAt 65 (program_of p) tokens.now) }
     // The program that the tokens write is given, unless memory runs out.
     ensures program { (x : List StatementTerm) → ProgramAt 65 x tokens.now → AnswersProgram result x }
-    // A fault is the tokens' first one, at its token's place.
-    ensures fault { IfErr result (λ stop. IsStopOf 65 tokens.now stop) }
+    // A fault of tokens that end with an end is their first one, at its token's place.
+    ensures fault { ends tokens.now ≡ true → IfErr result (λ stop. IsStopOf 65 tokens.now stop) }
     // The tokens' first fault is given, unless memory runs out.
     ensures only { (fault : SyntaxFault) (at : List Token) → IsFirstFault 65 tokens.now fault at → AnswersFault result fault at }
 {
@@ -40,7 +36,7 @@ pub fn parse(alloc: Global, tokens: &[Token]) -> Result<Program, Stop>
 }
 
 fn read_program(alloc: Global, tokens: &[Token]) -> Result<Program, Stop>
-    ensures { IsRead result (program_read 65 tokens.now) }
+    ensures { IsRead result (whole_read 65 tokens.now) }
 {
     match program(alloc, tokens) {
         Ok((program, _)) => Ok(program),
@@ -52,13 +48,16 @@ fn read_program(alloc: Global, tokens: &[Token]) -> Result<Program, Stop>
     }
 }
 
-/// A program and its end.
+/// A program and its end, behind which nothing stands.
 fn program<'a>(alloc: Global, tokens: &'a [Token]) -> Parsed<'a, Program>
-    ensures { Gives (λ p. (program_of p.0, p.1.now)) result (program_read 65 tokens.now) }
+    ensures { Gives (λ p. (program_of p.0, p.1.now)) result (whole_read 65 tokens.now) }
 {
     let (statements, rest) = statements(alloc, tokens, DEPTH)?;
     let (_, rest) = take(Class::End, rest)?;
-    Ok((Program { statements }, rest))
+    match rest {
+        [] => Ok((Program { statements }, rest)),
+        [_, ..] => Err(not_expected(rest)),
+    }
 }
 
 /// The place of the first token.

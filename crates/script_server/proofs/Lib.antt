@@ -7,3 +7,4 @@ pub mod OneAnswer
 pub mod OneReply
 pub mod Answering
 pub mod Served
+pub mod Refusing

@@ -1,4 +1,4 @@
--- What a solid is answered: its text, and by the rule for all trees the first limit that it passes, or else
+-- What a solid is answered: its text, and by the rule for trees of one node the first limit that it passes, or else
 -- its text.
 use Rattle.std.specs.Prelude.{◌≡◌, ℕ, ◌<◌, ◌≤◌, List, length, ◌⊎◌}
 use Rattle.plane_polygon.specs.Polygons.{Outline}
