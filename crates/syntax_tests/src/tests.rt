@@ -50,6 +50,22 @@ fn judged(alloc: Global, source: &[u8]) -> Result<Vec<u8>, Fail> {
     Ok(out)
 }
 
+// The same with the tokens of another source behind the end.
+fn told_behind(alloc: Global, source: &[u8], behind: &[u8]) -> Result<Vec<u8>, Fail> {
+    let mut out = Vec::new(alloc);
+    if source.len() > 100_000 || behind.len() > 100_000 {
+        return Ok(out);
+    }
+    if let (Ok(mut tokens), Ok(mut more)) = (lex(alloc, source), lex(alloc, behind)) {
+        tokens.append(&mut more)?;
+        match parse(alloc, &tokens) {
+            Ok(program) => show_statements(alloc, &mut out, &program.statements)?,
+            Err(stop) => put_stop(alloc, &mut out, stop)?,
+        }
+    }
+    Ok(out)
+}
+
 fn joined(alloc: Global, parts: &[&[u8]]) -> Result<Vec<u8>, Fail> {
     let mut out = Vec::new(alloc);
     for part in parts {
@@ -184,6 +200,24 @@ fn reads_choices(rt: HostRuntime) -> Result<(), Fail> {
     ];
     for (source, program) in cases {
         assert_eq!(rt; told(rt.alloc(), source)?.as_slice(), program);
+    }
+    Ok(())
+}
+
+#[test]
+fn takes_nothing_behind_an_end(rt: HostRuntime) -> Result<(), Fail> {
+    let cases: [(&[u8], &[u8], &[u8]); 5] = [
+        (b"x=1;\n", b"y\n", b"1:1 Expected"),
+        (b"x=1;\n", b"\n", b"2:1 Expected"),
+        (b"\n", b"\n use <a>\n", b"2:2 NotInProfile"),
+        (b"x=1;\n", b"for (i=1) m();\n", b"1:1 Expected"),
+        (b"x=;\n", b"y\n", b"1:3 Expected"),
+    ];
+    for (source, behind, expected) in cases {
+        assert_eq!(rt;
+            told_behind(rt.alloc(), source, behind)?.as_slice(),
+            expected
+        );
     }
     Ok(())
 }
