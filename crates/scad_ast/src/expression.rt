@@ -3,21 +3,22 @@ ghost use Rattle.scad_ast.specs.Terms.{place_of};
 ghost use Rattle.scad_ast.specs.ExprView.{term_of};
 
 use crate::operator::{BinaryOp, UnaryOp};
-use text_place::{Bytes, Place};
+use compact_bytes::CompactBytes;
+use text_place::Place;
 
 /// An expression. The first place of each form is that of its first token.
 #[cycle(expression)]
 #[derive(Drop)]
 pub enum Expr {
     Number(Place, u64),
-    Text(Place, Bytes),
+    Text(Place, CompactBytes),
     Truth(Place, bool),
     Undef(Place),
     /// `$children`
     ChildCount(Place),
-    Name(Place, Bytes),
+    Name(Place, CompactBytes),
     /// A function's name and its arguments.
-    Call(Place, Bytes, Args),
+    Call(Place, CompactBytes, Args),
     /// What stands in parentheses.
     Paren(Place, Box<Expr>),
     List(Place, Exprs),
@@ -64,7 +65,7 @@ pub enum Suffix {
     /// An index, with the place of its `[`.
     Index(Place, Expr),
     /// A member: the place of the `.`, and the name with its place.
-    Member(Place, Bytes, Place),
+    Member(Place, CompactBytes, Place),
 }
 
 /// The indexes and members behind an expression.
@@ -79,7 +80,7 @@ pub struct Suffixes {
 #[derive(Drop)]
 pub enum Arg {
     /// A name, its place and its value.
-    Named(Place, Bytes, Expr),
+    Named(Place, CompactBytes, Expr),
     Positional(Expr),
 }
 

@@ -1,12 +1,13 @@
 use crate::expression::{Args, Expr};
 use crate::operator::Modifier;
-use text_place::{Bytes, Place};
+use compact_bytes::CompactBytes;
+use text_place::Place;
 
 /// A parameter: its name with its place, and its default where it has one.
 #[derive(Drop)]
 pub enum Param {
-    Plain(Place, Bytes),
-    WithDefault(Place, Bytes, Expr),
+    Plain(Place, CompactBytes),
+    WithDefault(Place, CompactBytes, Expr),
 }
 
 /// A list of parameters.
@@ -19,7 +20,7 @@ pub struct Params {
 #[derive(Drop)]
 pub struct Binder {
     pub place: Place,
-    pub name: Bytes,
+    pub name: CompactBytes,
     pub values: Expr,
 }
 
@@ -51,11 +52,11 @@ pub enum Statement {
     /// A bare block, which stands as if its braces were not there.
     Block(Place, Statements),
     /// `name = value;`
-    Assignment(Place, Bytes, Expr),
+    Assignment(Place, CompactBytes, Expr),
     /// A module: its name with its place, its parameters and its body.
-    Module(Place, Bytes, Place, Params, Body),
+    Module(Place, CompactBytes, Place, Params, Body),
     /// A function: its name with its place, its parameters and its value.
-    Function(Place, Bytes, Place, Params, Expr),
+    Function(Place, CompactBytes, Place, Params, Expr),
     Instantiation(Instance),
 }
 
@@ -85,7 +86,7 @@ pub enum Core {
     For(Place, Binders, Box<Body>),
     IntersectionFor(Place, Binders, Box<Body>),
     /// A module's name, its arguments and its body.
-    Call(Place, Bytes, Args, Box<Body>),
+    Call(Place, CompactBytes, Args, Box<Body>),
 }
 
 /// The body of a module, a choice, a loop or an instance.

@@ -317,11 +317,11 @@ pub(crate) fn have_no_names(args: &Args) -> bool
 }
 
 /// A copy of a text.
-pub(crate) fn text_of(alloc: Global, bytes: &Bytes) -> Result<Value, NoMemory>
+pub(crate) fn text_of(alloc: Global, bytes: &[u8]) -> Result<Value, NoMemory>
     ensures value { IfOk result (λ v. val_of v ≡ TextVal bytes.now) }
     ensures bounded { IfOk result (λ v. IsTrue (is_bounded (val_of v))) }
 {
-    Ok(Value::Text(Bytes::of(bytes.items().to_vec(alloc)?)))
+    Ok(Value::Text(Bytes::of(bytes.to_vec(alloc)?)))
 }
 
 /// Appends a value.

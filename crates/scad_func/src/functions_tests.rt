@@ -6,20 +6,21 @@ ghost use Rattle.scad_func.specs.Definitions.{functions_of_program};
 ghost use Rattle.scad_func.specs.Functions.{functions_seen};
 
 use crate::functions::{Functions, find};
+use compact_bytes::CompactBytes;
 use scad_ast::{
     Args, Body, Core, Expr, Instance, Marks, Param, Params, Program, Statement, Statements,
 };
 use scad_scope::Scopes;
 use std::alloc::Global;
 use std::test::Fail;
-use text_place::{Bytes, NoMemory, Place};
+use text_place::{NoMemory, Place};
 
 fn at(column: u32) -> Place {
     Place { line: 1, column }
 }
 
-fn bytes(alloc: Global, name: &[u8]) -> Result<Bytes, NoMemory> {
-    Ok(Bytes::of(Vec::from_slice(alloc, name)?))
+fn bytes(alloc: Global, name: &[u8]) -> Result<CompactBytes, NoMemory> {
+    Ok(CompactBytes::of(alloc, name)?)
 }
 
 /// function NAME(a) = VALUE;

@@ -6,8 +6,9 @@ ghost use Rattle.scad_lexer.specs.Tokens.{reserved_of, escape_at, with_byte, zer
 use crate::class::Class;
 use crate::token::{Reserved, TokenKind};
 use crate::word::Word;
+use compact_bytes::CompactBytes;
 use std::alloc::Global;
-use text_place::{Bytes, FaultKind, NoMemory};
+use text_place::{FaultKind, NoMemory};
 
 /// What a word stands for.
 #[derive(Drop)]
@@ -30,9 +31,10 @@ pub fn meant(alloc: Global, word: Word, bytes: &[u8]) -> Result<Meaning, NoMemor
         Word::OpenComment => Ok(Meaning::Fault(FaultKind::OpenComment, 0)),
         Word::OpenText => Ok(Meaning::Fault(FaultKind::OpenText, 0)),
         Word::Name => Ok(Meaning::Token(name(alloc, bytes)?)),
-        Word::Special => Ok(Meaning::Token(TokenKind::Special(Bytes::of(bytes[1..].to_vec(
-            alloc,
-        )?)))),
+        Word::Special => {
+            let name = CompactBytes::of(alloc, &bytes[1..])?;
+            Ok(Meaning::Token(TokenKind::Special(name)))
+        }
         Word::Numeral => Ok(numeral(bytes)),
         Word::NumeralAndLetter => Ok(numeral_and_letter(bytes)),
         Word::Text => text(alloc, bytes),
@@ -45,7 +47,7 @@ fn name(alloc: Global, bytes: &[u8]) -> Result<TokenKind, NoMemory>
 {
     match reserved(bytes) {
         Some(reserved) => Ok(TokenKind::Reserved(reserved)),
-        None => Ok(TokenKind::Name(Bytes::of(bytes.to_vec(alloc)?))),
+        None => Ok(TokenKind::Name(CompactBytes::of(alloc, bytes)?)),
     }
 }
 
@@ -159,7 +161,7 @@ fn text(alloc: Global, bytes: &[u8]) -> Result<Meaning, NoMemory>
     ensures within { IfOk result (λ m. IsWithin (length bytes.now) m) }
 {
     match decode(alloc, without_quotes(bytes))? {
-        Ok(bytes) => Ok(Meaning::Token(TokenKind::Text(Bytes::of(bytes)))),
+        Ok(bytes) => Ok(Meaning::Token(TokenKind::Text(CompactBytes::of(alloc, &bytes)?))),
         Err(before) => Ok(Meaning::Fault(FaultKind::BadCharacter, 1 + before)),
     }
 }

@@ -1,4 +1,5 @@
-use text_place::{Bytes, Place};
+use compact_bytes::CompactBytes;
+use text_place::Place;
 
 /// A token of a source.
 #[derive(Drop)]
@@ -14,11 +15,11 @@ pub enum TokenKind {
     /// A whole number, at most 2^53 - 1.
     Numeral(u64),
     /// A name that is not reserved.
-    Name(Bytes),
+    Name(CompactBytes),
     /// A special name, without its `$`.
-    Special(Bytes),
+    Special(CompactBytes),
     /// A text, without its quotes and with its escapes replaced.
-    Text(Bytes),
+    Text(CompactBytes),
     Reserved(Reserved),
     Symbol(Symbol),
     /// The end of the source.

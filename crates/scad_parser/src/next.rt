@@ -9,11 +9,11 @@ ghost use Rattle.scad_parser.specs.declared.class.Class.TheVariants.{LeftOut};
 ghost use Rattle.scad_parser.specs.Views.{Gives, IsStop, nested_fault, fault_at, item_stands, past_comma, names_value};
 
 use crate::class::Class;
+use compact_bytes::CompactBytes;
 use scad_ast::{BinaryOp, Modifier, UnaryOp};
 use scad_grammar::SyntaxFault;
 use scad_lexer::{Symbol, Token, TokenKind};
 use std::alloc::{AllocError, AllocFailed, Global};
-use text_place::Bytes;
 
 /// Why nothing was read: a fault and the tokens from where it stands, or want of memory.
 #[derive(Drop)]
@@ -176,14 +176,12 @@ pub fn number(kind: &TokenKind) -> u64
 }
 
 /// A copy of the bytes of a name or a text, and none of another token.
-pub fn bytes(alloc: Global, kind: &TokenKind) -> Result<Bytes, AllocError>
+pub fn bytes(alloc: Global, kind: &TokenKind) -> Result<CompactBytes, AllocError>
     ensures { IfOk result (λ bytes. bytes ≡ bytes_of kind.now) }
 {
     match kind {
-        TokenKind::Name(bytes) | TokenKind::Text(bytes) => {
-            Ok(Bytes::of(bytes.items().to_vec(alloc)?))
-        }
-        _ => Ok(Bytes::of(Vec::new(alloc))),
+        TokenKind::Name(bytes) | TokenKind::Text(bytes) => bytes.copy(alloc),
+        _ => CompactBytes::of(alloc, &[]),
     }
 }
 

@@ -99,8 +99,8 @@ fn own(
         map definition_of modules.old.items ++ own_module before.modules (statement_of statement.now)) }
 {
     match statement {
-        Statement::Function(_, name, _, _, _) => define(alloc, functions, name, before.functions),
-        Statement::Module(_, name, _, _, _) => define(alloc, modules, name, before.modules),
+        Statement::Function(_, name, _, _, _) => define(alloc, functions, name.items(), before.functions),
+        Statement::Module(_, name, _, _, _) => define(alloc, modules, name.items(), before.modules),
         Statement::Block(_, statements) => {
             own_all(alloc, statements, before, functions, modules)
         }
@@ -113,12 +113,12 @@ fn own(
 fn define(
     alloc: Global,
     definitions: &mut Vec<Definition>,
-    name: &Bytes,
+    name: &[u8],
     number: u32,
 ) -> Result<(), NoMemory>
     ensures { OnOk result (map definition_of definitions.new.items ≡ map definition_of definitions.old.items ++ (name.now, number) ∷ []) }
 {
-    let name = Bytes::of(Vec::from_slice(alloc, name.items())?);
+    let name = Bytes::of(Vec::from_slice(alloc, name)?);
     definitions.push(Definition { name, number })?;
     Ok(())
 }

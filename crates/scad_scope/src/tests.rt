@@ -2,19 +2,20 @@ ghost use Rattle.std.specs.Prelude.{◌<◌, ◌↔◌, length, IsTrue};
 ghost use Rattle.scad_scope.specs.Table.{rows_of};
 
 use crate::{Found, Scopes, arguments};
+use compact_bytes::CompactBytes;
 use scad_ast::{Arg, Body, Expr, Param, Params, Program, Statement, Statements};
 use scad_value::Value;
 use std::alloc::Global;
 use std::process::Abort;
 use std::test::Fail;
-use text_place::{Bytes, Fault, FaultKind, NoMemory, Place, Stop};
+use text_place::{Fault, FaultKind, NoMemory, Place, Stop};
 
 fn at(column: u32) -> Place {
     Place { line: 1, column }
 }
 
-fn bytes(alloc: Global, name: &[u8]) -> Result<Bytes, NoMemory> {
-    Ok(Bytes::of(Vec::from_slice(alloc, name)?))
+fn bytes(alloc: Global, name: &[u8]) -> Result<CompactBytes, NoMemory> {
+    Ok(CompactBytes::of(alloc, name)?)
 }
 
 fn no_params(alloc: Global) -> Params {

@@ -1,11 +1,12 @@
 //! Writes programs for tests, each part with the column of its place.
 
+use compact_bytes::CompactBytes;
 use scad_ast::{
     Arg, Args, BinaryOp, Binder, Body, Core, Expr, Exprs, Instance, Link, Links, Mark, Modifier,
     Param, Params, Statement, Statements, Suffix, Suffixes, UnaryOp,
 };
 use std::alloc::Global;
-use text_place::{Bytes, NoMemory, Place, push_decimal};
+use text_place::{NoMemory, Place, push_decimal};
 
 fn put(out: &mut Vec<u8>, text: &[u8]) -> Result<(), NoMemory> {
     out.extend_from_slice(text)?;
@@ -19,7 +20,7 @@ fn put_place(alloc: Global, out: &mut Vec<u8>, text: &[u8], place: Place) -> Res
     put(out, b" ")
 }
 
-fn put_name(alloc: Global, out: &mut Vec<u8>, name: &Bytes, place: Place) -> Result<(), NoMemory> {
+fn put_name(alloc: Global, out: &mut Vec<u8>, name: &CompactBytes, place: Place) -> Result<(), NoMemory> {
     put_place(alloc, out, name.items(), place)
 }
 

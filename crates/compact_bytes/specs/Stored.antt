@@ -1,0 +1,14 @@
+-- The bytes that a value stores, in itself or elsewhere.
+use Rattle.std.specs.Prelude.{ℕ, List, ◌≤◌, take}
+use Rattle.compact_bytes.specs.declared.Stored.{Stored}
+use Rattle.compact_bytes.specs.declared.Stored.TheVariants.{Inline, Boxed}
+
+-- the bytes in order
+abbrev pub stored_bytes : Stored → List ℕ
+stored_bytes (Inline n room) = take n room
+stored_bytes (Boxed bytes) = bytes.value.items
+
+-- no more bytes than there is room for
+abbrev pub fits : Stored → Type 0
+fits (Inline n room) = n ≤ 14
+fits (Boxed bytes) = Unit {0}

@@ -1,0 +1,79 @@
+//! Bytes that need no allocation where they are few, as most names of a source are.
+#![tactic(auto)]
+
+ghost use Rattle.std.specs.Prelude.{◌≡◌, IfOk};
+
+#[cfg(test)]
+mod tests;
+
+use std::alloc::{AllocError, Global};
+use std::marker::Model;
+
+/// The most bytes that lie in the value itself.
+const ROOM: usize = 14;
+
+/// Bytes, which contracts see as a list. The value has 16 bytes, and up to 14 lie in it; more have an allocation.
+#[derive(Drop)]
+pub struct CompactBytes {
+    stored: Stored,
+}
+
+/// Where the bytes lie.
+#[derive(Drop)]
+enum Stored {
+    /// How many of these bytes there are.
+    Inline(u8, [u8; ROOM]),
+    Boxed(Box<Vec<u8>>),
+}
+
+impl Model for CompactBytes {
+    ghost use Rattle.std.specs.Prelude.{List, ℕ};
+    ghost use Rattle.compact_bytes.specs.Stored.{stored_bytes, fits};
+
+    ghost Value = { List ℕ };
+
+    ghost view = { λ b. stored_bytes b.stored };
+
+    ghost invariant = { λ b. fits b.stored };
+}
+
+impl CompactBytes {
+    /// A copy of these bytes. Takes no memory for up to 14.
+    pub fn of(alloc: Global, bytes: &[u8]) -> Result<Self, AllocError>
+        ensures { IfOk result (λ copy. copy ≡ bytes.now) }
+    {
+        if bytes.len() > ROOM {
+            let bytes = Box::new(alloc, bytes.to_vec(alloc)?)?;
+            return Ok(CompactBytes {
+                stored: Stored::Boxed(bytes),
+            });
+        }
+        let mut room = [0; ROOM];
+        room[..bytes.len()].copy_from_slice(bytes);
+        Ok(CompactBytes {
+            stored: Stored::Inline(bytes.len() as u8, room),
+        })
+    }
+
+    /// The same bytes once more. Takes no memory for up to 14.
+    pub fn copy(&self, alloc: Global) -> Result<Self, AllocError>
+        ensures { IfOk result (λ copy. copy ≡ self.now) }
+    {
+        match &self.stored {
+            Stored::Inline(length, room) => Ok(CompactBytes {
+                stored: Stored::Inline(*length, *room),
+            }),
+            Stored::Boxed(bytes) => CompactBytes::of(alloc, bytes),
+        }
+    }
+
+    /// The bytes in order. Takes no memory.
+    pub fn items(&self) -> &[u8]
+        ensures { result.now ≡ self.now }
+    {
+        match &self.stored {
+            Stored::Inline(length, room) => &room[..usize::from(*length)],
+            Stored::Boxed(bytes) => bytes,
+        }
+    }
+}

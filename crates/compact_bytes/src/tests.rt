@@ -1,0 +1,22 @@
+use super::CompactBytes;
+use std::mem::size_of;
+use std::test::Fail;
+
+const LETTERS: &[u8] = b"abcdefghijklmnopqrstuvwxyz";
+
+#[test]
+fn keeps_bytes_of_each_length(rt: HostRuntime) -> Result<(), Fail> {
+    for length in [0, 1, 13, 14, 15, 26] {
+        let bytes = CompactBytes::of(rt.alloc(), &LETTERS[..length])?;
+        assert_eq!(rt; bytes.items(), &LETTERS[..length]);
+        let copy = bytes.copy(rt.alloc())?;
+        drop(bytes);
+        assert_eq!(rt; copy.items(), &LETTERS[..length]);
+    }
+    Ok(())
+}
+
+#[test]
+fn has_the_size_of_two_words(rt: HostRuntime) {
+    assert_eq!(rt; size_of::<CompactBytes>(), 16);
+}
