@@ -99,7 +99,12 @@ fn own(
         map definition_of modules.old.items ++ own_module before.modules (statement_of statement.now)) }
 {
     match statement {
-        Statement::Function(_, name, _, _, _) => define(alloc, functions, name.items(), before.functions),
+        Statement::Function(_, name, _, _, _) => define(
+            alloc,
+            functions,
+            name.items(),
+            before.functions,
+        ),
         Statement::Module(_, name, _, _, _) => define(alloc, modules, name.items(), before.modules),
         Statement::Block(_, statements) => {
             own_all(alloc, statements, before, functions, modules)

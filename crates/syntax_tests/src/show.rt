@@ -20,7 +20,12 @@ fn put_place(alloc: Global, out: &mut Vec<u8>, text: &[u8], place: Place) -> Res
     put(out, b" ")
 }
 
-fn put_name(alloc: Global, out: &mut Vec<u8>, name: &CompactBytes, place: Place) -> Result<(), NoMemory> {
+fn put_name(
+    alloc: Global,
+    out: &mut Vec<u8>,
+    name: &CompactBytes,
+    place: Place,
+) -> Result<(), NoMemory> {
     put_place(alloc, out, name.items(), place)
 }
 
