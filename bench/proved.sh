@@ -4,6 +4,7 @@
 # crate's. It is built in a folder of its own, which is removed.
 set -eu
 top=$(cd "$(dirname "$0")/.." && pwd)
+. "$top/memory.sh"
 program=$1
 shift
 crates=

@@ -83,6 +83,7 @@ pub enum Class {
 
 impl Class {
     /// Whether a token is of this class.
+    #[inline(always)]
     pub fn has(self, kind: &TokenKind) -> bool
         ensures { result ≡ listed (classes_of self) (class_of kind.now) }
     {

@@ -22,7 +22,8 @@ use scad_lexer::{Reserved, Symbol, Token, TokenKind};
 use std::alloc::{AllocFailed, Global};
 
 // What is rare stands in functions that are not inlined: the locals of a function are cleared at each call, also
-// those of forms that are not met.
+// those of forms that are not met. What was read is handed on as it is where nothing follows it, rather than taken
+// apart and put together again.
 
 /// An expression whose tokens are less deep than so much.
 #[cycle(expression)]
@@ -42,11 +43,12 @@ fn choice<'a>(alloc: Global, tokens: &'a [Token], depth: u32) -> Parsed<'a, Expr
     ensures value { Gives (λ p. (term_of p.0, p.1.now)) result (choice_read (expr_read depth) (operand_read depth) (primary_read (expr_read depth) (arg_in depth (expr_read depth))) tokens.now) }
     ensures rest { IfOk result (λ p. length p.1.now ≤ length tokens.now) }
 {
-    let (test, rest) = chain(alloc, tokens, depth)?;
-    if !Class::Sign(Symbol::Question).begins(rest) {
-        return Ok((test, rest));
+    match chain(alloc, tokens, depth) {
+        Ok((test, rest)) if Class::Sign(Symbol::Question).begins(rest) => {
+            chosen(alloc, test, rest, depth)
+        }
+        read => read,
     }
-    chosen(alloc, test, rest, depth)
 }
 
 /// A choice by what was read before its `?`.
@@ -73,8 +75,12 @@ fn chain<'a>(alloc: Global, tokens: &'a [Token], depth: u32) -> Parsed<'a, Expr>
     ensures value { Gives (λ p. (term_of p.0, p.1.now)) result (chain_read levels (unary_read (expr_read depth) (operand_read depth) (primary_read (expr_read depth) (arg_in depth (expr_read depth)))) tokens.now) }
     ensures rest { IfOk result (λ p. length p.1.now ≤ length tokens.now) }
 {
-    let (first, rest) = unary(alloc, tokens, depth)?;
-    climb(alloc, first, rest, depth, Level::Or)
+    match unary(alloc, tokens, depth) {
+        Ok((first, rest)) if Class::BinaryOperator.begins(rest) => {
+            climbed(alloc, first, rest, depth, Level::Or)
+        }
+        read => read,
+    }
 }
 
 /// What the operators of a level stand between.
@@ -118,11 +124,28 @@ fn climbed<'a>(
     ensures value { Gives (λ p. (term_of p.0, p.1.now)) result (climb_read (levels_at level) (unary_read (expr_read depth) (operand_read depth) (primary_read (expr_read depth) (arg_in depth (expr_read depth)))) (term_of first) tokens.now) }
     ensures rest { IfOk result (λ p. length p.1.now ≤ length tokens.now) }
 {
-    let (first, rest) = climb_below(alloc, first, tokens, depth, level)?;
-    if !Class::Operator(level).begins(rest) {
-        return Ok((first, rest));
+    match climb_below(alloc, first, tokens, depth, level) {
+        Ok((first, rest)) if Class::Operator(level).begins(rest) => {
+            linked(alloc, first, rest, depth, level)
+        }
+        read => read,
     }
-    let (links, rest) = links(alloc, rest, depth, level)?;
+}
+
+/// What was read, with the operators of a level behind it.
+#[cycle(expression)]
+#[inline(never)]
+fn linked<'a>(
+    alloc: Global,
+    first: Expr,
+    tokens: &'a [Token],
+    depth: u32,
+    level: Level,
+) -> Parsed<'a, Expr>
+    ensures value { Gives (λ p. (term_of p.0, p.1.now)) result (mapped (chain_at (term_of first)) (many (among (operators_at level)) (both link_at (one (among (operators_at level))) (chain_read (levels_below level) (unary_read (expr_read depth) (operand_read depth) (primary_read (expr_read depth) (arg_in depth (expr_read depth))))))) tokens.now) }
+    ensures rest { IfOk result (λ p. length p.1.now ≤ length tokens.now) }
+{
+    let (links, rest) = links(alloc, tokens, depth, level)?;
     Ok((chain_of(alloc, first, links)?, rest))
 }
 
@@ -218,11 +241,10 @@ fn postfix<'a>(alloc: Global, tokens: &'a [Token], depth: u32) -> Parsed<'a, Exp
     ensures value { Gives (λ p. (term_of p.0, p.1.now)) result (postfix_read (expr_read depth) (primary_read (expr_read depth) (arg_in depth (expr_read depth))) tokens.now) }
     ensures rest { IfOk result (λ p. length p.1.now ≤ length tokens.now) }
 {
-    let (of, rest) = primary(alloc, tokens, depth)?;
-    if !Class::Suffix.begins(rest) {
-        return Ok((of, rest));
+    match primary(alloc, tokens, depth) {
+        Ok((of, rest)) if Class::Suffix.begins(rest) => suffixed(alloc, of, rest, depth),
+        read => read,
     }
-    suffixed(alloc, of, rest, depth)
 }
 
 /// A primary that was read, with its indexes and members.
@@ -379,7 +401,8 @@ fn filled<'a>(
     ensures rest { IfOk result (λ p. length p.1.now ≤ length tokens.now) }
 {
     if !Class::Sign(Symbol::Colon).begins(tokens) {
-        let mut items = Vec::with_capacity(alloc, 1)?;
+        let more = is_comma_before(Symbol::CloseBracket, tokens);
+        let mut items = Vec::with_capacity(alloc, if more { 4 } else { 1 })?;
         items.push(first)?;
         let (items, rest) = more_items(alloc, items, tokens, depth)?;
         return Ok((Expr::List(bracket.place, items), rest));
@@ -443,7 +466,8 @@ pub fn args<'a>(alloc: Global, tokens: &'a [Token], depth: u32) -> Parsed<'a, Ar
         return Ok((no_args(alloc), tokens));
     }
     let (first, rest) = arg(alloc, tokens, depth)?;
-    let mut items = Vec::with_capacity(alloc, 1)?;
+    let more = is_comma_before(Symbol::CloseParenthesis, rest);
+    let mut items = Vec::with_capacity(alloc, if more { 2 } else { 1 })?;
     items.push(first)?;
     more_args(alloc, items, rest, depth)
 }

@@ -49,6 +49,7 @@ pub type Parsed<'a, T> = Result<(T, &'a [Token]), Stopped<'a>>;
 
 impl Class {
     /// Whether the next token is of this class.
+    #[inline(always)]
     pub fn begins(self, tokens: &[Token]) -> bool
         ensures { result ≡ starts (among (classes_of self)) tokens.now }
     {
@@ -60,6 +61,7 @@ impl Class {
 }
 
 /// Whether a token stands here, and another one than this symbol.
+#[inline(always)]
 pub fn is_before(close: Symbol, tokens: &[Token]) -> bool
     ensures { result ≡ starts (other_than (symbol_class close ∷ [])) tokens.now }
 {
@@ -70,6 +72,7 @@ pub fn is_before(close: Symbol, tokens: &[Token]) -> bool
 }
 
 /// Whether a comma stands here, and behind it another token than this symbol.
+#[inline(always)]
 pub fn is_comma_before(close: Symbol, tokens: &[Token]) -> bool
     ensures { result ≡ item_stands (other_than (symbol_class close ∷ [])) tokens.now }
 {
@@ -115,6 +118,7 @@ pub fn is_named(tokens: &[Token]) -> bool
 }
 
 /// One token of a class.
+#[inline(always)]
 pub fn take<'a>(class: Class, tokens: &'a [Token]) -> Parsed<'a, &'a Token>
     ensures value { Gives (λ p. (p.0.now, p.1.now)) result (one (among (classes_of class)) tokens.now) }
     ensures shorter { IfOk result (λ p. length p.1.now < length tokens.now) }
@@ -126,6 +130,7 @@ pub fn take<'a>(class: Class, tokens: &'a [Token]) -> Parsed<'a, &'a Token>
 }
 
 /// One token of a class, where an expression may begin.
+#[inline(always)]
 pub fn take_first<'a>(class: Class, tokens: &'a [Token]) -> Parsed<'a, &'a Token>
     ensures value { Gives (λ p. (p.0.now, p.1.now)) result (first (among (classes_of class)) tokens.now) }
     ensures shorter { IfOk result (λ p. length p.1.now < length tokens.now) }

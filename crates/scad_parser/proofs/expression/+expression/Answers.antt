@@ -6,6 +6,7 @@ use Rattle.scad_grammar.specs.Classes.{close_bracket_sign, close_parenthesis_sig
 use Rattle.scad_grammar.specs.Grammar.{levels}
 use Rattle.scad_grammar.specs.Reads.{expr_read, arg_in, suffix_read}
 use Rattle.scad_grammar.proofs.Readers.{loop_more, loop_end, loop_fault}
+use Rattle.scad_parser.specs.declared.class.Level.TheVariants.{Or}
 use Rattle.scad_parser.specs.TokenClasses.{operators_at, levels_below, suffix_signs}
 use Rattle.scad_parser.proofs.Climbs.{chain_climbs, chain_stops, climb_none, many_none}
 use Rattle.scad_parser.proofs.Levels.{below_some}
@@ -28,8 +29,9 @@ operand-returns-then-depth-eq0-clause-value t c = rw (operand_none c.args.depth 
 pub operand-returns-clause-value : goal.operand-returns-clause-value
 operand-returns-clause-value t c = rw (operand_deeper c.args.depth c.args.tokens.now c.if-depth-eq0.false) c.unary.ensures.value
 
-pub chain-returns-clause-value : goal.chain-returns-clause-value
-chain-returns-clause-value t c = rw (chain_climbs levels _ c.args.tokens.now, c.in_ok-first.ensures.value) c.climb.ensures.value
+pub chain-returns-in_default-clause-value : goal.chain-returns-in_default-clause-value
+chain-returns-in_default-clause-value t c =
+    rw (chain_climbs levels _ c.args.tokens.now, c.in-Ok.ensures.value) (climb_none Or _ (term_of c.in-Ok.first) c.in-Ok.rest.now (sym c.begins.ensures ∙ c.if-begins.false))
 
 pub side-returns-clause-value : goal.side-returns-clause-value
 side-returns-clause-value t c = rw (chain_climbs (levels_below c.args.level) _ c.args.tokens.now, c.in_ok-first.ensures.value) c.climb_below.ensures.value
@@ -42,16 +44,16 @@ side-returns-in_err-first-clause-value t c =
 pub climb-returns-then-not-begins-clause-value : goal.climb-returns-then-not-begins-clause-value
 climb-returns-then-not-begins-clause-value t c = climb_none c.args.level _ (term_of c.args.first) c.args.tokens.now (sym c.begins.ensures ∙ c.if-not-begins.true)
 
-pub climbed-returns-then-not-begins-clause-value : goal.climbed-returns-then-not-begins-clause-value
-climbed-returns-then-not-begins-clause-value t c =
-    rw (c.in_ok-first.ensures.value, many_none (among (operators_at c.args.level)) _ c.in_ok-first.rest.now (sym c.begins.ensures ∙ c.if-not-begins.true)) refl
+pub climbed-returns-in_default-clause-value : goal.climbed-returns-in_default-clause-value
+climbed-returns-in_default-clause-value t c =
+    rw (c.in-Ok.ensures.value, many_none (among (operators_at c.args.level)) _ c.in-Ok.rest.now (sym c.begins.ensures ∙ c.if-begins.false)) refl
 
 pub climb_below-returns-in-Some-clause-value : goal.climb_below-returns-in-Some-clause-value
 climb_below-returns-in-Some-clause-value t c = rw (below_some c.args.level c.in-Some.tighter (sym c.tighter.ensures ∙ c.in-Some.is)) c.climb.ensures.value
 
-pub postfix-returns-then-not-begins-clause-value : goal.postfix-returns-then-not-begins-clause-value
-postfix-returns-then-not-begins-clause-value t c =
-    rw (c.in_ok-of.ensures.value, many_none (among suffix_signs) (suffix_read (expr_read c.args.depth)) c.in_ok-of.rest.now (sym c.begins.ensures ∙ c.if-not-begins.true)) refl
+pub postfix-returns-in_default-clause-value : goal.postfix-returns-in_default-clause-value
+postfix-returns-in_default-clause-value t c =
+    rw (c.in-Ok.ensures.value, many_none (among suffix_signs) (suffix_read (expr_read c.args.depth)) c.in-Ok.rest.now (sym c.begins.ensures ∙ c.if-begins.false)) refl
 
 pub primary-returns-then-begins-clause-value : goal.primary-returns-then-begins-clause-value
 primary-returns-then-begins-clause-value t c = c.literal.ensures.value (expr_read c.args.depth) (arg_in c.args.depth (expr_read c.args.depth))

@@ -66,28 +66,31 @@ abbrev pub decreases-unary : goal.decreases-unary
 decreases-unary l = 64 * l.depth + 8
 
 abbrev pub decreases-climb_below : goal.decreases-climb_below
-decreases-climb_below l = 64 * l.depth + (6 * tighter_levels l.level + 9)
+decreases-climb_below l = 64 * l.depth + (7 * tighter_levels l.level + 9)
 
 abbrev pub decreases-side : goal.decreases-side
-decreases-side l = 64 * l.depth + (6 * tighter_levels l.level + 10)
+decreases-side l = 64 * l.depth + (7 * tighter_levels l.level + 10)
 
 abbrev pub decreases-link : goal.decreases-link
-decreases-link l = 64 * l.depth + (6 * tighter_levels l.level + 11)
+decreases-link l = 64 * l.depth + (7 * tighter_levels l.level + 11)
 
 abbrev pub decreases-links : goal.decreases-links
-decreases-links l = 64 * l.depth + (6 * tighter_levels l.level + 12)
+decreases-links l = 64 * l.depth + (7 * tighter_levels l.level + 12)
+
+abbrev pub decreases-linked : goal.decreases-linked
+decreases-linked l = 64 * l.depth + (7 * tighter_levels l.level + 13)
 
 abbrev pub decreases-climbed : goal.decreases-climbed
-decreases-climbed l = 64 * l.depth + (6 * tighter_levels l.level + 13)
+decreases-climbed l = 64 * l.depth + (7 * tighter_levels l.level + 14)
 
 abbrev pub decreases-climb : goal.decreases-climb
-decreases-climb l = 64 * l.depth + (6 * tighter_levels l.level + 14)
+decreases-climb l = 64 * l.depth + (7 * tighter_levels l.level + 15)
 
 abbrev pub decreases-chain : goal.decreases-chain
-decreases-chain l = 64 * l.depth + 45
+decreases-chain l = 64 * l.depth + 50
 
 abbrev pub decreases-choice : goal.decreases-choice
-decreases-choice l = 64 * l.depth + 46
+decreases-choice l = 64 * l.depth + 51
 
 abbrev pub decreases-chosen : goal.decreases-chosen
 decreases-chosen l = 64 * l.depth + 1

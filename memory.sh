@@ -1,0 +1,4 @@
+# How the program and the benchmarks use the C library's memory: what one export frees is kept for the next, rather than
+# given back to the system and asked for again page by page. Whoever has settings of their own keeps them.
+GLIBC_TUNABLES=${GLIBC_TUNABLES:-glibc.malloc.mmap_max=0:glibc.malloc.trim_threshold=1073741824}
+export GLIBC_TUNABLES
