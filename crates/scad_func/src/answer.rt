@@ -14,6 +14,7 @@ ghost use Rattle.scad_func.specs.View.{Tells, TellsAnswer, indexed_val, IsThere,
 ghost use Rattle.scad_builtin.specs.Builtins.{applied, is_left_out as left_out, are_bounded};
 ghost use Rattle.scad_func.specs.Slots.{have_no_names as no_names, free_slot as free_slot_at};
 
+use compact_bytes::CompactBytes;
 use scad_ast::{Arg, Args, BinaryOp, Param, UnaryOp};
 use scad_builtin::{Builtin, is_left_out};
 use scad_scope::{Scopes, taken_by};
@@ -317,11 +318,11 @@ pub(crate) fn have_no_names(args: &Args) -> bool
 }
 
 /// A copy of a text.
-pub(crate) fn text_of(alloc: Global, bytes: &[u8]) -> Result<Value, NoMemory>
+pub(crate) fn text_of(alloc: Global, bytes: &CompactBytes) -> Result<Value, NoMemory>
     ensures value { IfOk result (λ v. val_of v ≡ TextVal bytes.now) }
     ensures bounded { IfOk result (λ v. IsTrue (is_bounded (val_of v))) }
 {
-    Ok(Value::Text(Bytes::of(bytes.to_vec(alloc)?)))
+    Ok(Value::Text(Bytes::of(bytes.items().to_vec(alloc)?)))
 }
 
 /// Appends a value.

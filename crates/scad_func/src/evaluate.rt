@@ -124,7 +124,7 @@ fn operand(
 {
     match expr {
         Expr::Number(_, n) => Ok(Value::Number(*n as i64)),
-        Expr::Text(_, bytes) => Ok(text_of(alloc, bytes.items())?),
+        Expr::Text(_, bytes) => Ok(text_of(alloc, bytes)?),
         Expr::Truth(_, truth) => Ok(Value::Truth(*truth)),
         Expr::Undef(_) => Ok(Value::Undef),
         Expr::ChildCount(place) => Ok(child_count(alloc, scopes, scope, *place)?),
