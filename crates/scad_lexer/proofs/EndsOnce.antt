@@ -1,10 +1,9 @@
 -- The tokens of a source end once.
-use Rattle.std.proofs.Common.{◌≡◌, ℕ, List, [], ◌∷◌, ◌++◌, ◌-◌, ◌^◌, length, take, drop, Bool, true, false, cond, not, ◌&&◌, Option, Some, None, Result, Ok, Err, ◌⊎◌, inl, inr, refl, sym, ap, ◌∙◌, subst, nat_lt, IfOk}
+use Rattle.std.proofs.Common.{◌≡◌, ℕ, List, [], ◌∷◌, ◌-◌, ◌^◌, length, take, drop, Bool, true, false, cond, not, ◌&&◌, Option, Some, None, Result, Ok, Err, ◌⊎◌, inl, inr, refl, sym, ap, ◌∙◌, subst, nat_lt, IfOk}
 use Rattle.std.specs.Global.{Vec}
 use Rattle.text_place.specs.declared.fault.Place.{Place}
 use Rattle.text_place.specs.declared.fault.Stop.{Stop}
 use Rattle.scad_lexer.specs.declared.token.Token.{Token as TokenIn}
-use Rattle.scad_lexer.specs.declared.token.TokenKind.{TokenKind}
 use Rattle.scad_lexer.specs.declared.token.Reserved.{Reserved}
 use Rattle.scad_lexer.specs.declared.word.Word.{Word}
 use Rattle.scad_lexer.specs.declared.word.Word.TheVariants.{Blank as BlankWord, OpenComment, Name, Special, Numeral, NumeralAndLetter, Text, OpenText, Symbol}

@@ -1,5 +1,5 @@
 -- A text gives one thing, word by word.
-use Rattle.std.proofs.Common.{◌≡◌, ℕ, zero, suc, ◌+◌, ◌-◌, ◌<◌, ◌≤◌, List, [], ◌∷◌, ◌++◌, length, take, drop, get_or, cond, Option, Some, None, Result, Ok, Err, ◌⊎◌, inl, inr, refl, sym, ap, ◌∙◌, subst, arith, nat_eq, append_assoc, IfOk, IfErr, length-take-le, length-drop}
+use Rattle.std.proofs.Common.{◌≡◌, ℕ, zero, suc, ◌+◌, ◌-◌, ◌<◌, ◌≤◌, List, [], ◌∷◌, ◌++◌, length, take, drop, get_or, cond, Some, None, Result, Ok, Err, ◌⊎◌, inl, inr, refl, sym, ap, ◌∙◌, subst, arith, nat_eq, append_assoc, append-nil, IfOk, IfErr, length-take-le, length-drop}
 use Rattle.std.specs.Global.{Vec}
 use Rattle.text_place.specs.declared.fault.Place.{Place}
 use Rattle.text_place.specs.declared.fault.FaultKind.{FaultKind}
@@ -13,7 +13,7 @@ use Rattle.scad_lexer.specs.declared.word.Word.{Word}
 use Rattle.scad_lexer.specs.declared.meaning.Meaning.{Meaning}
 use Rattle.scad_lexer.specs.declared.meaning.Meaning.TheVariants.{Blank, Token, Fault}
 use Rattle.scad_lexer.specs.Words.{word_of, IsLongest, HasNoWord}
-use Rattle.scad_lexer.specs.Tokens.{Outcome, Gives, Faults, in_front, tokens_at, IsSound, IsEnd, IsStray, IsFaulty, Piece, Reads, LexesFrom, Lexes, IsFaultFrom, IsFault, Agrees, made, meaning_from, meaning_of, moved, IsNext}
+use Rattle.scad_lexer.specs.Tokens.{Outcome, Gives, Faults, in_front, tokens_at, IsSound, IsEnd, IsStray, IsFaulty, Piece, Reads, LexesFrom, Lexes, IsFaultFrom, IsFault, Agrees, meaning_of, moved, AppendsNext}
 use Rattle.scad_lexer.proofs.Longest.{drop_more}
 use Rattle.scad_lexer.proofs.Scanned.{rest_all}
 
@@ -84,14 +84,6 @@ agrees text (Ok ts) f e o h = reads_once h.0 f.0 _ text o (Gives ts.items) h.1 f
 agrees text (Err (StopFault x)) f e o h = reads_once h.0 e.0 _ text o (Faults x.kind x.place) h.1 e.1
 agrees text (Err NoMemory) f e o h = tt
 
-sound_from : (kind : Option TokenKind) → IsSound (meaning_from kind)
-sound_from None = tt
-sound_from (Some k) = tt
-
-made_from : (p : Place) (kind : Option TokenKind) → tokens_at p (meaning_from kind) ≡ made p kind
-made_from p None = refl
-made_from p (Some k) = refl
-
 in_front_twice : (ts us : List TokenIn) (o : Outcome) → in_front ts (in_front us o) ≡ in_front (ts ++ us) o
 in_front_twice ts us (Gives vs) = ap Gives (sym (append_assoc ts us vs))
 in_front_twice ts us (Faults k p) = refl
@@ -105,12 +97,13 @@ goes_first text (Gives ts) h = h
 goes_first text (Faults k p) h = h
 
 -- one word more
-pub goes_on : (text : List ℕ) (ts : List TokenIn) (p : Place) (rest : List ℕ) (n : ℕ) (kind : Option TokenKind) → GoesOn text ts p rest → IsNext rest n kind → GoesOn text (ts ++ made p kind) (moved p (take n rest)) (take (length rest - n) (drop n rest))
-goes_on text ts p rest n kind told next o h =
+pub goes_on : (text : List ℕ) (ts us : List TokenIn) (p : Place) (rest : List ℕ) (n : ℕ) → GoesOn text ts p rest → AppendsNext ts us p rest n → GoesOn text us (moved p (take n rest)) (take (length rest - n) (drop n rest))
+goes_on text ts us p rest n told next o h =
+    let made : List TokenIn = tokens_at p (meaning_of next.word (take n rest)) in
     let here : Reads h.0 (moved p (take n rest)) (drop n rest) o = subst (λ l. Reads h.0 (moved p (take n rest)) l o) (rest_all rest n) h.1 in
-    let same : in_front (made p kind) o ≡ in_front (tokens_at p (meaning_of next.word (take n rest))) o = ap (λ ts. in_front ts o) (sym (made_from p kind) ∙ ap (tokens_at p) (sym next.means)) in
-    subst (Lexes text) (in_front_twice ts (made p kind) o)
-    (told (in_front (made p kind) o) (record { bytes = n; word = next.word } ∷ h.0, (next.longest, subst IsSound (sym next.means) (sound_from kind), (o, here, same))))
+    subst (λ l. Lexes text (in_front l o)) (sym next.appended)
+    (subst (Lexes text) (in_front_twice ts made o)
+    (told (in_front made o) (record { bytes = n; word = next.word } ∷ h.0, (next.longest, next.sound, (o, here, refl)))))
 
 pub goes_end : (text : List ℕ) (ts : List TokenIn) (p : Place) (rest : List ℕ) → GoesOn text ts p rest → length rest ≡ 0 → Lexes text (Gives (ts ++ record { kind = End; place = p } ∷ []))
 goes_end text ts p [] told e = told (Gives (record { kind = End; place = p } ∷ [])) ([], inl (refl, refl))
@@ -132,8 +125,12 @@ pub word_some : (text : List ℕ) (n : ℕ) (w : Word) → IsLongest text n w �
 word_some text zero w h = absurd (let e = h.found in cc)
 word_some text (suc n) w h = omega arith
 
-pub is_next : (text : List ℕ) (n : ℕ) (w : Word) (kind : Option TokenKind) → IsLongest text n w → meaning_from kind ≡ meaning_of w (take n text) → IsNext text n kind
-is_next text n w kind h e = record { word = w; longest = h; means = sym e; some = word_some text n w h }
+-- a word that makes no token, and one that makes one
+pub appends_none : (text : List ℕ) (ts : List TokenIn) (p : Place) (n : ℕ) (w : Word) → IsLongest text n w → Blank ≡ meaning_of w (take n text) → AppendsNext ts ts p text n
+appends_none text ts p n w h e = record { word = w; longest = h; sound = subst IsSound e tt; appended = sym (append-nil ts) ∙ ap (λ m. ts ++ tokens_at p m) e; some = word_some text n w h }
+
+pub appends_one : (text : List ℕ) (ts us : List TokenIn) (p : Place) (n : ℕ) (w : Word) (kind : TokenKind) → IsLongest text n w → Token kind ≡ meaning_of w (take n text) → us ≡ ts ++ record { kind = kind; place = p } ∷ [] → AppendsNext ts us p text n
+appends_one text ts us p n w kind h e made = record { word = w; longest = h; sound = subst IsSound e tt; appended = made ∙ ap (λ m. ts ++ tokens_at p m) e; some = word_some text n w h }
 
 pub taken_some : (text : List ℕ) (n : ℕ) (w : Word) → IsLongest text n w → 1 ≤ length (take n text)
 taken_some text n w h = omega (arith, word_some text n w h, length-take-le n text h.within)

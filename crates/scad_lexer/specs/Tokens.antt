@@ -195,21 +195,12 @@ Agrees (Ok ts) o = o ≡ Gives ts.items
 Agrees (Err (StopFault f)) o = o ≡ Faults f.kind f.place
 Agrees (Err NoMemory) o = Unit {0}
 
--- the token of a kind at a place, if there is one
-abbrev pub made : Place → Option TokenKind → List TokenIn
-made p None = []
-made p (Some k) = record { kind = k; place = p } ∷ []
-
--- the meaning of a blank, or of a token
-abbrev pub meaning_from : Option TokenKind → Meaning
-meaning_from None = Blank
-meaning_from (Some k) = Token k
-
--- the longest word of a text makes this token, or none
-pub record IsNext (text : List ℕ) (bytes : ℕ) (kind : Option TokenKind) : Type 0 where
+-- the longest word of a text has no fault, and the token that it makes, if it makes one, is appended to those before
+pub record AppendsNext (before after : List TokenIn) (p : Place) (text : List ℕ) (bytes : ℕ) : Type 0 where
   pub word : Word
   pub longest : IsLongest text bytes word
-  pub means : meaning_of word (take bytes text) ≡ meaning_from kind
+  pub sound : IsSound (meaning_of word (take bytes text))
+  pub appended : after ≡ before ++ tokens_at p (meaning_of word (take bytes text))
   pub some : 1 ≤ bytes
 
 -- a fault stands within the word

@@ -51,44 +51,33 @@ fn name(alloc: Global, bytes: &[u8]) -> Result<TokenKind, NoMemory>
     }
 }
 
+/// Whether two names are the same. Most are told apart by their lengths.
+#[inline(always)]
 fn same(word: &[u8], name: &[u8]) -> bool
     ensures { result ≡ bytes_eq word.now name.now }
 {
-    word == name
+    word.len() == name.len() && word == name
 }
 
 /// The reserved name that a word is, if it is one.
 fn reserved(word: &[u8]) -> Option<Reserved>
     ensures { result ≡ reserved_of word.now }
 {
-    if same(word, b"module") {
-        Some(Reserved::Module)
-    } else if same(word, b"function") {
-        Some(Reserved::Function)
-    } else if same(word, b"if") {
-        Some(Reserved::If)
-    } else if same(word, b"else") {
-        Some(Reserved::Else)
-    } else if same(word, b"for") {
-        Some(Reserved::For)
-    } else if same(word, b"intersection_for") {
-        Some(Reserved::IntersectionFor)
-    } else if same(word, b"true") {
-        Some(Reserved::True)
-    } else if same(word, b"false") {
-        Some(Reserved::False)
-    } else if same(word, b"undef") {
-        Some(Reserved::Undef)
-    } else if same(word, b"use") {
-        Some(Reserved::Use)
-    } else if same(word, b"include") {
-        Some(Reserved::Include)
-    } else if same(word, b"let") {
-        Some(Reserved::Let)
-    } else if same(word, b"each") {
-        Some(Reserved::Each)
-    } else {
-        None
+    match word.len() {
+        2 if same(word, b"if") => Some(Reserved::If),
+        3 if same(word, b"for") => Some(Reserved::For),
+        3 if same(word, b"use") => Some(Reserved::Use),
+        3 if same(word, b"let") => Some(Reserved::Let),
+        4 if same(word, b"else") => Some(Reserved::Else),
+        4 if same(word, b"true") => Some(Reserved::True),
+        4 if same(word, b"each") => Some(Reserved::Each),
+        5 if same(word, b"false") => Some(Reserved::False),
+        5 if same(word, b"undef") => Some(Reserved::Undef),
+        6 if same(word, b"module") => Some(Reserved::Module),
+        7 if same(word, b"include") => Some(Reserved::Include),
+        8 if same(word, b"function") => Some(Reserved::Function),
+        16 if same(word, b"intersection_for") => Some(Reserved::IntersectionFor),
+        _ => None,
     }
 }
 

@@ -1,10 +1,11 @@
-ghost use Rattle.std.specs.Prelude.{◌≡◌, ℕ, List, true, ◌+◌, ◌-◌, ◌^◌, ◌<◌, ◌≤◌, ◌++◌, length, take, IfOk, IfErr, OnOk};
+ghost use Rattle.std.specs.Prelude.{◌≡◌, ℕ, List, true, ◌+◌, ◌-◌, ◌^◌, ◌<◌, ◌≤◌, ◌++◌, ◌∷◌, [], length, take, IfOk, IfErr, OnOk};
 ghost use Rattle.scad_lexer.specs.Words.{IsLongest};
-ghost use Rattle.scad_lexer.specs.Tokens.{Outcome, Gives, Lexes, Agrees, IsFault, IsFaultFrom, moved, IsNext, made, ends_once};
+ghost use Rattle.scad_lexer.specs.Tokens.{Outcome, Gives, Lexes, Agrees, IsFault, IsFaultFrom, moved, AppendsNext, ends_once};
 
 use crate::meaning::{Meaning, meant};
 use crate::scan::longest_word;
 use crate::token::{Token, TokenKind};
+use crate::word::Word;
 use std::alloc::Global;
 use text_place::{Fault, FaultKind, NoMemory, Place, Stop};
 
@@ -38,49 +39,53 @@ fn read_tokens(alloc: Global, text: &[u8]) -> Result<Vec<Token>, Stop>
     let mut rest = text;
     let mut place = Place { line: 1, column: 1 };
     'words: while !rest.is_empty() {
-        let (kind, bytes) = next_word(alloc, place, rest)?;
-        push_token(&mut tokens, kind, place)?;
+        let Some((word, bytes)) = longest_word(rest) else {
+            return Err(Stop::Fault(Fault {
+                kind: FaultKind::BadCharacter,
+                place,
+            }));
+        };
+        push_word(alloc, &mut tokens, place, word, rest, bytes)?;
         place = advance(place, &rest[..bytes]);
         rest = &rest[bytes..];
     }
-    push_token(&mut tokens, Some(TokenKind::End), place)?;
+    push_token(&mut tokens, TokenKind::End, place)?;
     Ok(tokens)
 }
 
-/// The token that the longest word here makes, if it makes one, and how many bytes the word has.
-fn next_word(alloc: Global, place: Place, rest: &[u8]) -> Result<(Option<TokenKind>, usize), Stop>
-    requires some { 1 ≤ length rest.now }
-    requires line { place.line + length rest.now < 2 ^ 32 }
-    requires column { place.column + length rest.now < 2 ^ 32 }
-    ensures found { IfOk result (λ p. IsNext rest.now p.1 p.0) }
-    ensures fault { IfErr result (λ stop. IsFaultFrom place rest.now stop) }
+/// Appends the token that the longest word of a text makes, if it makes one.
+fn push_word(
+    alloc: Global,
+    tokens: &mut Vec<Token>,
+    place: Place,
+    word: Word,
+    text: &[u8],
+    bytes: usize,
+) -> Result<(), Stop>
+    requires longest { IsLongest text.now bytes word }
+    requires line { place.line + length text.now < 2 ^ 32 }
+    requires column { place.column + length text.now < 2 ^ 32 }
+    ensures appended { OnOk result (AppendsNext tokens.old.items tokens.new.items place text.now bytes) }
+    ensures fault { IfErr result (λ stop. IsFaultFrom place text.now stop) }
 {
-    let Some((word, bytes)) = longest_word(rest) else {
-        return Err(Stop::Fault(Fault {
-            kind: FaultKind::BadCharacter,
-            place,
-        }));
-    };
-    match meant(alloc, word, &rest[..bytes])? {
-        Meaning::Blank => Ok((None, bytes)),
-        Meaning::Token(kind) => Ok((Some(kind), bytes)),
+    match meant(alloc, word, &text[..bytes])? {
+        Meaning::Blank => Ok(()),
+        Meaning::Token(kind) => {
+            push_token(tokens, kind, place)?;
+            Ok(())
+        }
         Meaning::Fault(kind, before) => Err(Stop::Fault(Fault {
             kind,
-            place: advance(place, &rest[..before]),
+            place: advance(place, &text[..before]),
         })),
     }
 }
 
-fn push_token(
-    tokens: &mut Vec<Token>,
-    kind: Option<TokenKind>,
-    place: Place,
-) -> Result<(), NoMemory>
-    ensures { OnOk result (tokens.new.items ≡ tokens.old.items ++ made place kind) }
+#[inline(always)]
+fn push_token(tokens: &mut Vec<Token>, kind: TokenKind, place: Place) -> Result<(), NoMemory>
+    ensures { OnOk result (tokens.new.items ≡ tokens.old.items ++ record { kind = kind; place = place } ∷ []) }
 {
-    if let Some(kind) = kind {
-        tokens.push(Token { kind, place })?;
-    }
+    tokens.push(Token { kind, place })?;
     Ok(())
 }
 

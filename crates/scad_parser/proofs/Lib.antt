@@ -1,3 +1,4 @@
+mod Atoms
 mod Climbs
 mod Depths
 mod Lengths

@@ -1,6 +1,6 @@
 -- The classes of tokens that the parser tells apart.
-use Rattle.std.specs.Prelude.{ℕ, List, [], ◌∷◌, ◌++◌, Option, Some, None, drop, length}
-use Rattle.scad_grammar.specs.Classes.{numeral, name, child_count, text, end, true_word, false_word, undef_word, open_bracket_sign, dot_sign, plus_sign, minus_sign, times_sign, divide_sign, remainder_sign, less_sign, greater_sign, less_equal_sign, greater_equal_sign, equal_sign, not_equal_sign, and_sign, or_sign, not_sign, reserved_class, symbol_class}
+use Rattle.std.specs.Prelude.{ℕ, List, [], ◌∷◌, ◌++◌, drop, length}
+use Rattle.scad_grammar.specs.Classes.{numeral, name, child_count, text, end, true_word, false_word, undef_word, open_parenthesis_sign, open_bracket_sign, question_sign, dot_sign, plus_sign, minus_sign, times_sign, divide_sign, remainder_sign, less_sign, greater_sign, less_equal_sign, greater_equal_sign, equal_sign, not_equal_sign, and_sign, or_sign, not_sign, reserved_class, symbol_class}
 use Rattle.scad_grammar.specs.Grammar.{levels}
 use Rattle.scad_grammar.specs.Reads.{firsts_of_expression}
 use Rattle.scad_grammar.specs.StatementReads.{mark_signs, loop_words, firsts_of_statement, firsts_of_body}
@@ -8,7 +8,7 @@ use Rattle.scad_grammar.specs.Faults.{left_out, left_out_of_expressions}
 use Rattle.scad_parser.specs.declared.class.Level.{Level}
 use Rattle.scad_parser.specs.declared.class.Level.TheVariants.{Or, And, Equal, Order, Sum, Product}
 use Rattle.scad_parser.specs.declared.class.Class.{Class}
-use Rattle.scad_parser.specs.declared.class.Class.TheVariants.{Name, End, Word, Sign, Literal, Operator, BinaryOperator, UnaryOperator, Suffix, Mark, LoopWord, Expression, Statement, Body, LeftOut, LeftOutOfExpressions}
+use Rattle.scad_parser.specs.declared.class.Class.TheVariants.{Name, End, Word, Sign, Literal, Atom, Continuation, Operator, BinaryOperator, UnaryOperator, Suffix, Mark, LoopWord, Expression, Statement, Body, LeftOut, LeftOutOfExpressions}
 
 -- all operators of two sides
 abbrev pub joined : List (List ℕ) → List ℕ
@@ -27,6 +27,14 @@ suffix_signs = open_bracket_sign ∷ dot_sign ∷ []
 abbrev pub literals : List ℕ
 literals = numeral ∷ text ∷ true_word ∷ false_word ∷ undef_word ∷ child_count ∷ []
 
+-- an operand of one token
+abbrev pub atoms : List ℕ
+atoms = name ∷ literals
+
+-- what may go on with an expression behind an atom: `?`, `(`, a suffix or an operator
+abbrev pub continuations : List ℕ
+continuations = (question_sign ∷ []) ++ ((open_parenthesis_sign ∷ []) ++ (suffix_signs ++ binary_signs))
+
 -- the operators of a level
 abbrev pub operators_at : Level → List ℕ
 operators_at Or = or_sign ∷ []
@@ -36,14 +44,14 @@ operators_at Order = less_sign ∷ less_equal_sign ∷ greater_sign ∷ greater_
 operators_at Sum = plus_sign ∷ minus_sign ∷ []
 operators_at Product = times_sign ∷ divide_sign ∷ remainder_sign ∷ []
 
--- the level that binds more tightly
-abbrev pub tighter_than : Level → Option Level
-tighter_than Or = Some And
-tighter_than And = Some Equal
-tighter_than Equal = Some Order
-tighter_than Order = Some Sum
-tighter_than Sum = Some Product
-tighter_than Product = None
+-- the next level, which binds less tightly; the loosest is followed by itself
+abbrev pub looser_than : Level → Level
+looser_than Or = Or
+looser_than And = Or
+looser_than Equal = And
+looser_than Order = Equal
+looser_than Sum = Order
+looser_than Product = Sum
 
 -- the operators of the levels that bind more tightly, the loosest first
 abbrev pub levels_below : Level → List (List ℕ)
@@ -69,6 +77,8 @@ classes_of End = end ∷ []
 classes_of (Word word) = reserved_class word ∷ []
 classes_of (Sign symbol) = symbol_class symbol ∷ []
 classes_of Literal = literals
+classes_of Atom = atoms
+classes_of Continuation = continuations
 classes_of (Operator level) = operators_at level
 classes_of BinaryOperator = binary_signs
 classes_of UnaryOperator = unary_signs

@@ -1,5 +1,5 @@
 -- What the parser's functions give, in the words of the grammar.
-use Rattle.std.specs.Prelude.{◌≡◌, ℕ, List, [], ◌∷◌, Bool, false, cond, Result, Ok, Err, ◌&&◌}
+use Rattle.std.specs.Prelude.{◌≡◌, ℕ, List, [], ◌∷◌, Bool, false, cond, not, Result, Ok, Err, ◌&&◌}
 use Rattle.scad_lexer.specs.declared.token.Token.{Token}
 use Rattle.scad_grammar.specs.declared.SyntaxFault.{SyntaxFault}
 use Rattle.scad_grammar.specs.declared.SyntaxFault.TheVariants.{Nested}
@@ -7,6 +7,7 @@ use Rattle.scad_grammar.specs.Classes.{name, comma_sign, assign_sign, among, is}
 use Rattle.scad_grammar.specs.Faults.{fault_of}
 use Rattle.scad_grammar.specs.Reading.{Read, starts}
 use Rattle.scad_grammar.specs.Reads.{head_of}
+use Rattle.scad_parser.specs.TokenClasses.{atoms, continuations}
 use Rattle.scad_parser.specs.declared.next.Stopped.{Stopped}
 use Rattle.scad_parser.specs.declared.next.Stopped.TheVariants.{Fault, NoMemory}
 
@@ -44,3 +45,9 @@ abbrev pub names_value : List Token → Bool
 names_value [] = false
 names_value (t ∷ []) = false
 names_value (t ∷ u ∷ ts) = is name t && is assign_sign u
+
+-- an atom, and behind it a token that does not go on with an expression
+abbrev pub lone_atom : List Token → Bool
+lone_atom [] = false
+lone_atom (t ∷ []) = false
+lone_atom (t ∷ u ∷ ts) = among atoms t && not (among continuations u)

@@ -2,7 +2,7 @@ ghost use Rattle.std.specs.Prelude.{◌≡◌, cond};
 ghost use Rattle.scad_grammar.specs.Classes.{class_of, listed, symbol_class, reserved_class, child_count, special};
 ghost use Rattle.scad_grammar.specs.Faults.{left_out};
 ghost use Rattle.scad_grammar.specs.StatementReads.{mark_signs, firsts_of_core};
-ghost use Rattle.scad_parser.specs.TokenClasses.{classes_of, operators_at, tighter_than, binary_signs, unary_signs};
+ghost use Rattle.scad_parser.specs.TokenClasses.{classes_of, operators_at, tighter_levels, looser_than, binary_signs, unary_signs, continuations};
 
 use scad_lexer::{Reserved, Symbol, TokenKind};
 
@@ -18,17 +18,30 @@ pub enum Level {
 }
 
 impl Level {
-    /// The level whose operators bind more tightly.
-    pub fn tighter(self) -> Option<Level>
-        ensures { result ≡ tighter_than self }
+    /// How many levels have operators that bind more tightly.
+    pub fn tighter_levels(self) -> u8
+        ensures { result ≡ tighter_levels self }
     {
         match self {
-            Level::Or => Some(Level::And),
-            Level::And => Some(Level::Equal),
-            Level::Equal => Some(Level::Order),
-            Level::Order => Some(Level::Sum),
-            Level::Sum => Some(Level::Product),
-            Level::Product => None,
+            Level::Or => 5,
+            Level::And => 4,
+            Level::Equal => 3,
+            Level::Order => 2,
+            Level::Sum => 1,
+            Level::Product => 0,
+        }
+    }
+
+    /// The next level, whose operators bind less tightly; the loosest level is followed by itself.
+    pub fn looser(self) -> Level
+        ensures { result ≡ looser_than self }
+    {
+        match self {
+            Level::Or | Level::And => Level::Or,
+            Level::Equal => Level::And,
+            Level::Order => Level::Equal,
+            Level::Sum => Level::Order,
+            Level::Product => Level::Sum,
         }
     }
 
@@ -61,6 +74,10 @@ pub enum Class {
     Sign(Symbol),
     /// A numeral, a text, a truth, `undef` or `$children`.
     Literal,
+    /// A literal or a name.
+    Atom,
+    /// What may go on with an expression behind an atom: an operator, `?`, `(`, `[` or `.`.
+    Continuation,
     Operator(Level),
     /// An operator of any level.
     BinaryOperator,
@@ -93,10 +110,10 @@ impl Class {
             TokenKind::Special(bytes) => self.has_special(bytes.items() == b"children".as_slice()),
             TokenKind::Name(_) => matches!(
                 self,
-                Class::Name | Class::Expression | Class::Statement | Class::Body
+                Class::Name | Class::Atom | Class::Expression | Class::Statement | Class::Body
             ),
             TokenKind::Numeral(_) | TokenKind::Text(_) => {
-                matches!(self, Class::Literal | Class::Expression)
+                matches!(self, Class::Literal | Class::Atom | Class::Expression)
             }
             TokenKind::End => matches!(self, Class::End),
         }
@@ -110,6 +127,7 @@ impl Class {
             Class::Operator(level) => level.has(symbol),
             Class::BinaryOperator => is_binary(symbol),
             Class::UnaryOperator => is_unary(symbol),
+            Class::Continuation => is_continuation(symbol),
             Class::Suffix => matches!(symbol, Symbol::OpenBracket | Symbol::Dot),
             Class::Mark => is_mark(symbol),
             Class::Expression => {
@@ -128,7 +146,7 @@ impl Class {
     {
         match self {
             Class::Word(wanted) => word == wanted,
-            Class::Literal | Class::Expression => {
+            Class::Literal | Class::Atom | Class::Expression => {
                 matches!(word, Reserved::True | Reserved::False | Reserved::Undef)
             }
             Class::LoopWord => matches!(word, Reserved::For | Reserved::IntersectionFor),
@@ -149,11 +167,21 @@ impl Class {
         ensures { result ≡ listed (classes_of self) (cond is_child_count child_count special) }
     {
         match self {
-            Class::Literal | Class::Expression => is_child_count,
+            Class::Literal | Class::Atom | Class::Expression => is_child_count,
             Class::LeftOut | Class::LeftOutOfExpressions => !is_child_count,
             _ => false,
         }
     }
+}
+
+fn is_continuation(symbol: Symbol) -> bool
+    ensures { result ≡ listed continuations (symbol_class symbol) }
+{
+    is_binary(symbol)
+        || matches!(
+            symbol,
+            Symbol::Question | Symbol::OpenParenthesis | Symbol::OpenBracket | Symbol::Dot
+        )
 }
 
 fn is_binary(symbol: Symbol) -> bool

@@ -9,13 +9,13 @@ ghost use Rattle.scad_grammar.specs.Languages.{pair_of, second_of};
 ghost use Rattle.scad_grammar.specs.Reading.{starts, both, mapped, many, trailing, in_front};
 ghost use Rattle.scad_grammar.specs.Reads.{expr_read, operand_read, arg_in, args_read, primary_read, unary_read, postfix_read, suffix_read, chain_read, choice_read, name_read, paren_read, bracket_read, range_read, rest_read, in_parentheses};
 ghost use Rattle.scad_parser.specs.Climbing.{climb_read};
-ghost use Rattle.scad_parser.specs.TokenClasses.{levels_at, operators_at, levels_below, literals, suffix_signs, unary_signs};
+ghost use Rattle.scad_parser.specs.TokenClasses.{operators_at, levels_below, literals, suffix_signs, unary_signs};
 ghost use Rattle.scad_parser.specs.Views.{Gives};
 
 use crate::class::{Class, Level};
 use crate::next::{
-    Parsed, behind_comma, binary, bytes, is_before, is_comma_before, is_named, number, take,
-    take_first, too_deep, unary_operator,
+    Parsed, behind_comma, binary, bytes, is_before, is_comma_before, is_lone_atom, is_named,
+    number, take, take_first, too_deep, unary_operator,
 };
 use scad_ast::{Arg, Args, Expr, Exprs, Link, Links, Suffix, Suffixes};
 use scad_lexer::{Reserved, Symbol, Token, TokenKind};
@@ -23,10 +23,12 @@ use std::alloc::{AllocFailed, Global};
 
 // What is rare stands in functions that are not inlined: the locals of a function are cleared at each call, also
 // those of forms that are not met. What was read is handed on as it is where nothing follows it, rather than taken
-// apart and put together again.
+// apart and put together again; most expressions are a literal or a name alone, and what these make is written where
+// the caller wants it, since `expr` and `arg` are inlined.
 
 /// An expression whose tokens are less deep than so much.
 #[cycle(expression)]
+#[inline(always)]
 pub fn expr<'a>(alloc: Global, tokens: &'a [Token], depth: u32) -> Parsed<'a, Expr>
     ensures value { Gives (λ p. (term_of p.0, p.1.now)) result (expr_read depth tokens.now) }
     ensures rest { IfOk result (λ p. length p.1.now ≤ length tokens.now) }
@@ -34,11 +36,15 @@ pub fn expr<'a>(alloc: Global, tokens: &'a [Token], depth: u32) -> Parsed<'a, Ex
     if depth == 0 {
         return Err(too_deep(Class::Expression, Class::LeftOutOfExpressions, tokens));
     }
+    if is_lone_atom(tokens) {
+        return primary(alloc, tokens, depth - 1);
+    }
     choice(alloc, tokens, depth - 1)
 }
 
 /// An expression with its choice, over what is less deep than so much.
 #[cycle(expression)]
+#[inline(never)]
 fn choice<'a>(alloc: Global, tokens: &'a [Token], depth: u32) -> Parsed<'a, Expr>
     ensures value { Gives (λ p. (term_of p.0, p.1.now)) result (choice_read (expr_read depth) (operand_read depth) (primary_read (expr_read depth) (arg_in depth (expr_read depth))) tokens.now) }
     ensures rest { IfOk result (λ p. length p.1.now ≤ length tokens.now) }
@@ -77,7 +83,7 @@ fn chain<'a>(alloc: Global, tokens: &'a [Token], depth: u32) -> Parsed<'a, Expr>
 {
     match unary(alloc, tokens, depth) {
         Ok((first, rest)) if Class::BinaryOperator.begins(rest) => {
-            climbed(alloc, first, rest, depth, Level::Or)
+            climbed(alloc, first, rest, depth)
         }
         read => read,
     }
@@ -89,47 +95,54 @@ fn side<'a>(alloc: Global, tokens: &'a [Token], depth: u32, level: Level) -> Par
     ensures value { Gives (λ p. (term_of p.0, p.1.now)) result (chain_read (levels_below level) (unary_read (expr_read depth) (operand_read depth) (primary_read (expr_read depth) (arg_in depth (expr_read depth)))) tokens.now) }
     ensures rest { IfOk result (λ p. length p.1.now ≤ length tokens.now) }
 {
+    if is_lone_atom(tokens) {
+        return primary(alloc, tokens, depth);
+    }
     let (first, rest) = unary(alloc, tokens, depth)?;
     climb_below(alloc, first, rest, depth, level)
 }
 
-/// An operand that was read, with the operators behind it of a level and of those that bind more tightly.
-#[cycle(expression)]
-fn climb<'a>(
-    alloc: Global,
-    first: Expr,
-    tokens: &'a [Token],
-    depth: u32,
-    level: Level,
-) -> Parsed<'a, Expr>
-    ensures value { Gives (λ p. (term_of p.0, p.1.now)) result (climb_read (levels_at level) (unary_read (expr_read depth) (operand_read depth) (primary_read (expr_read depth) (arg_in depth (expr_read depth)))) (term_of first) tokens.now) }
-    ensures rest { IfOk result (λ p. length p.1.now ≤ length tokens.now) }
-{
-    if !Class::BinaryOperator.begins(tokens) {
-        return Ok((first, tokens));
-    }
-    climbed(alloc, first, tokens, depth, level)
-}
-
-/// The same level by level, whether or not an operator stands there.
+/// An operand that was read, with the operators behind it.
 #[cycle(expression)]
 #[inline(never)]
-fn climbed<'a>(
-    alloc: Global,
-    first: Expr,
-    tokens: &'a [Token],
-    depth: u32,
-    level: Level,
-) -> Parsed<'a, Expr>
-    ensures value { Gives (λ p. (term_of p.0, p.1.now)) result (climb_read (levels_at level) (unary_read (expr_read depth) (operand_read depth) (primary_read (expr_read depth) (arg_in depth (expr_read depth)))) (term_of first) tokens.now) }
+fn climbed<'a>(alloc: Global, first: Expr, tokens: &'a [Token], depth: u32) -> Parsed<'a, Expr>
+    ensures value { Gives (λ p. (term_of p.0, p.1.now)) result (climb_read levels (unary_read (expr_read depth) (operand_read depth) (primary_read (expr_read depth) (arg_in depth (expr_read depth)))) (term_of first) tokens.now) }
     ensures rest { IfOk result (λ p. length p.1.now ≤ length tokens.now) }
 {
-    match climb_below(alloc, first, tokens, depth, level) {
-        Ok((first, rest)) if Class::Operator(level).begins(rest) => {
-            linked(alloc, first, rest, depth, level)
+    match climb_below(alloc, first, tokens, depth, Level::Or) {
+        Ok((first, rest)) if Class::Operator(Level::Or).begins(rest) => {
+            linked(alloc, first, rest, depth, Level::Or)
         }
         read => read,
     }
+}
+
+/// The same with the operators that bind more tightly than those of a level: those of the tightest level first, then
+/// those of the next one around what they make, and so on.
+#[cycle(expression)]
+fn climb_below<'a>(
+    alloc: Global,
+    first: Expr,
+    tokens: &'a [Token],
+    depth: u32,
+    level: Level,
+) -> Parsed<'a, Expr>
+    ensures value { Gives (λ p. (term_of p.0, p.1.now)) result (climb_read (levels_below level) (unary_read (expr_read depth) (operand_read depth) (primary_read (expr_read depth) (arg_in depth (expr_read depth)))) (term_of first) tokens.now) }
+    ensures rest { IfOk result (λ p. length p.1.now ≤ length tokens.now) }
+{
+    let levels = level.tighter_levels();
+    let mut first = first;
+    let mut rest = tokens;
+    let mut at = Level::Product;
+    'levels: while at.tighter_levels() < levels {
+        if Class::Operator(at).begins(rest) {
+            let (chained, after) = linked(alloc, first, rest, depth, at)?;
+            first = chained;
+            rest = after;
+        }
+        at = at.looser();
+    }
+    Ok((first, rest))
 }
 
 /// What was read, with the operators of a level behind it.
@@ -147,24 +160,6 @@ fn linked<'a>(
 {
     let (links, rest) = links(alloc, tokens, depth, level)?;
     Ok((chain_of(alloc, first, links)?, rest))
-}
-
-/// The same with the operators that bind more tightly than those of a level.
-#[cycle(expression)]
-fn climb_below<'a>(
-    alloc: Global,
-    first: Expr,
-    tokens: &'a [Token],
-    depth: u32,
-    level: Level,
-) -> Parsed<'a, Expr>
-    ensures value { Gives (λ p. (term_of p.0, p.1.now)) result (climb_read (levels_below level) (unary_read (expr_read depth) (operand_read depth) (primary_read (expr_read depth) (arg_in depth (expr_read depth)))) (term_of first) tokens.now) }
-    ensures rest { IfOk result (λ p. length p.1.now ≤ length tokens.now) }
-{
-    match level.tighter() {
-        Some(tighter) => climb(alloc, first, tokens, depth, tighter),
-        None => Ok((first, tokens)),
-    }
 }
 
 /// The operators of a level and what stands behind each.
@@ -231,6 +226,9 @@ fn operand<'a>(alloc: Global, tokens: &'a [Token], depth: u32) -> Parsed<'a, Exp
 {
     if depth == 0 {
         return Err(too_deep(Class::Expression, Class::LeftOutOfExpressions, tokens));
+    }
+    if is_lone_atom(tokens) {
+        return primary(alloc, tokens, depth - 1);
     }
     unary(alloc, tokens, depth - 1)
 }
@@ -325,6 +323,7 @@ fn paren<'a>(alloc: Global, tokens: &'a [Token], depth: u32) -> Parsed<'a, Expr>
 }
 
 /// A numeral, a text, a truth, `undef` or `$children`.
+#[inline(always)]
 fn literal<'a>(alloc: Global, tokens: &'a [Token]) -> Parsed<'a, Expr>
     requires { starts (among literals) tokens.now ≡ true }
     ensures value { (e : Reads Term) (a : Reads ArgTerm) → Gives (λ p. (term_of p.0, p.1.now)) result (primary_read e a tokens.now) }
@@ -402,7 +401,7 @@ fn filled<'a>(
 {
     if !Class::Sign(Symbol::Colon).begins(tokens) {
         let more = is_comma_before(Symbol::CloseBracket, tokens);
-        let mut items = Vec::with_capacity(alloc, if more { 4 } else { 1 })?;
+        let mut items = Vec::with_capacity(alloc, if more { 3 } else { 1 })?;
         items.push(first)?;
         let (items, rest) = more_items(alloc, items, tokens, depth)?;
         return Ok((Expr::List(bracket.place, items), rest));
@@ -494,6 +493,7 @@ fn more_args<'a>(
 
 /// An argument whose tokens are less deep than so much.
 #[cycle(expression)]
+#[inline(always)]
 fn arg<'a>(alloc: Global, tokens: &'a [Token], depth: u32) -> Parsed<'a, Arg>
     ensures value { Gives (λ p. (arg_of p.0, p.1.now)) result (arg_in depth (expr_read depth) tokens.now) }
     ensures rest { IfOk result (λ p. length p.1.now ≤ length tokens.now) }

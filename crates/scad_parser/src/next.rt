@@ -6,7 +6,7 @@ ghost use Rattle.scad_grammar.specs.Faults.{one, first};
 ghost use Rattle.scad_grammar.specs.Reading.{starts};
 ghost use Rattle.scad_parser.specs.TokenClasses.{classes_of};
 ghost use Rattle.scad_parser.specs.declared.class.Class.TheVariants.{LeftOut};
-ghost use Rattle.scad_parser.specs.Views.{Gives, IsStop, nested_fault, fault_at, item_stands, past_comma, names_value};
+ghost use Rattle.scad_parser.specs.Views.{Gives, IsStop, nested_fault, fault_at, item_stands, past_comma, names_value, lone_atom};
 
 use crate::class::Class;
 use compact_bytes::CompactBytes;
@@ -105,6 +105,19 @@ pub fn behind_comma(tokens: &[Token]) -> &[Token]
     }
 }
 
+/// Whether an atom stands here, and behind it a token that does not go on with an expression.
+#[inline(always)]
+pub fn is_lone_atom(tokens: &[Token]) -> bool
+    ensures { result ≡ lone_atom tokens.now }
+{
+    match tokens {
+        [token, next, ..] => {
+            Class::Atom.has(&token.kind) && !Class::Continuation.has(&next.kind)
+        }
+        _ => false,
+    }
+}
+
 /// Whether a name and a `=` stand here.
 pub fn is_named(tokens: &[Token]) -> bool
     ensures { result ≡ names_value tokens.now }
@@ -181,6 +194,7 @@ pub fn number(kind: &TokenKind) -> u64
 }
 
 /// A copy of the bytes of a name or a text, and none of another token.
+#[inline(always)]
 pub fn bytes(alloc: Global, kind: &TokenKind) -> Result<CompactBytes, AllocError>
     ensures { IfOk result (λ bytes. bytes ≡ bytes_of kind.now) }
 {

@@ -175,6 +175,37 @@ fn reads_small_programs(rt: HostRuntime) -> Result<(), Fail> {
     Ok(())
 }
 
+// A tighter level inside a looser one, on either side, and what goes on with an atom.
+#[test]
+fn groups_operators_by_level(rt: HostRuntime) -> Result<(), Fail> {
+    let cases: [(&[u8], &[u8]); 5] = [
+        (
+            b"x=f*g+e<d==c&&b||a;\n",
+            b"{set x@1 (chain@3 (chain@3 (chain@3 (chain@3 (chain@3 (chain@3 f@3 *@4 g@5 )+@6 e@7 )<@8 d@9 )==@10 c@12 )&&@13 b@15 )||@16 a@18 )}",
+        ),
+        (
+            b"x=a+b*c+d<e-f;\n",
+            b"{set x@1 (chain@3 (chain@3 a@3 +@4 (chain@5 b@5 *@6 c@7 )+@8 d@9 )<@10 (chain@11 e@11 -@12 f@13 ))}",
+        ),
+        (
+            b"x=a*b-c%d*e;\n",
+            b"{set x@1 (chain@3 (chain@3 a@3 *@4 b@5 )-@6 (chain@7 c@7 %@8 d@9 *@10 e@11 ))}",
+        ),
+        (
+            b"x=-a*!b.c;\n",
+            b"{set x@1 (chain@3 (neg@3 a@4 )*@5 (not@6 (postfix@7 b@7 .@8 c@9 )))}",
+        ),
+        (
+            b"x=[a,b.c,d(1),e[2],f?g:h,i];\n",
+            b"{set x@1 (list@3 a@4 (postfix@6 b@6 .@7 c@8 )(call d@10 1@12 )(postfix@15 e@15 []@16 2@17 )(choice@20 f@20 ?@21 g@22 h@24 )i@26 )}",
+        ),
+    ];
+    for (source, program) in cases {
+        assert_eq!(rt; told(rt.alloc(), source)?.as_slice(), program);
+    }
+    Ok(())
+}
+
 // An `else` belongs to the nearest `if`.
 #[test]
 fn reads_choices(rt: HostRuntime) -> Result<(), Fail> {

@@ -8,14 +8,16 @@ use Rattle.scad_grammar.specs.Reads.{expr_read, arg_in, suffix_read}
 use Rattle.scad_grammar.proofs.Readers.{loop_more, loop_end, loop_fault}
 use Rattle.scad_parser.specs.declared.class.Level.TheVariants.{Or}
 use Rattle.scad_parser.specs.TokenClasses.{operators_at, levels_below, suffix_signs}
-use Rattle.scad_parser.proofs.Climbs.{chain_climbs, chain_stops, climb_none, many_none}
-use Rattle.scad_parser.proofs.Levels.{below_some}
+use Rattle.scad_parser.proofs.Climbs.{chain_climbs, chain_stops, climb_none, climb_step, climb_step_none, climb_stops, many_none}
+use Rattle.scad_parser.proofs.Atoms.{atom_is_operand, atom_is_side, atom_is_expression}
+use Rattle.scad_parser.proofs.Levels.{same_level, looser_step}
 use Rattle.scad_parser.proofs.Depths.{expr_none, expr_deeper, operand_none, operand_deeper}
 use Rattle.scad_parser.proofs.Lengths.{link_strict, suffix_strict, expr_shorter, arg_shorter}
 use Rattle.scad_parser.proofs.Loops.{many_more, many_end, many_stop, trailing_more, trailing_end, trailing_stop}
 use Rattle.scad_parser.proofs.Stops.{operand_goes, item_goes, link_goes, suffix_goes, arg_goes}
 use Rattle.scad_parser.proofs.Trees.{terms_roll, links_roll, suffixes_roll, args_roll}
 use Rattle.scad_parser.proofs.expression.+expression.Goals as goal
+use Rattle.scad_parser.proofs.expression.+expression.Goals.{climb_below-then-begins+in_ok-chained, climb_below-else-begins}
 
 pub expr-returns-then-depth-eq0-clause-value : goal.expr-returns-then-depth-eq0-clause-value
 expr-returns-then-depth-eq0-clause-value t c = rw (expr_none c.args.depth c.args.tokens.now c.if-depth-eq0.true) (search rules)
@@ -31,7 +33,19 @@ operand-returns-clause-value t c = rw (operand_deeper c.args.depth c.args.tokens
 
 pub chain-returns-in_default-clause-value : goal.chain-returns-in_default-clause-value
 chain-returns-in_default-clause-value t c =
-    rw (chain_climbs levels _ c.args.tokens.now, c.in-Ok.ensures.value) (climb_none Or _ (term_of c.in-Ok.first) c.in-Ok.rest.now (sym c.begins.ensures ∙ c.if-begins.false))
+    rw (chain_climbs levels _ c.args.tokens.now, c.in-Ok.ensures.value) (climb_none _ (term_of c.in-Ok.first) c.in-Ok.rest.now (sym c.begins.ensures ∙ c.if-begins.false))
+
+pub expr-returns-then-is_lone_atom-clause-value : goal.expr-returns-then-is_lone_atom-clause-value
+expr-returns-then-is_lone_atom-clause-value t c =
+    rw (expr_deeper c.args.depth c.args.tokens.now c.if-depth-eq0.false, atom_is_expression _ _ _ c.args.tokens.now (sym c.is_lone_atom.ensures ∙ c.if-is_lone_atom.true)) c.primary.ensures.value
+
+pub operand-returns-then-is_lone_atom-clause-value : goal.operand-returns-then-is_lone_atom-clause-value
+operand-returns-then-is_lone_atom-clause-value t c =
+    rw (operand_deeper c.args.depth c.args.tokens.now c.if-depth-eq0.false, atom_is_operand _ _ _ c.args.tokens.now (sym c.is_lone_atom.ensures ∙ c.if-is_lone_atom.true)) c.primary.ensures.value
+
+pub side-returns-then-is_lone_atom-clause-value : goal.side-returns-then-is_lone_atom-clause-value
+side-returns-then-is_lone_atom-clause-value t c =
+    rw (atom_is_side _ _ _ c.args.level c.args.tokens.now (sym c.is_lone_atom.ensures ∙ c.if-is_lone_atom.true)) c.primary.ensures.value
 
 pub side-returns-clause-value : goal.side-returns-clause-value
 side-returns-clause-value t c = rw (chain_climbs (levels_below c.args.level) _ c.args.tokens.now, c.in_ok-first.ensures.value) c.climb_below.ensures.value
@@ -41,15 +55,43 @@ side-returns-in_err-first-clause-value t c =
     let p = err_from_is_err_and c.from_residual.result c.from_residual.ensures.1 in
     rw (p.1, p.2) (operand_goes c.in_err-first.field-0.0 _ _ (λ x e. chain_stops (levels_below c.args.level) _ c.args.tokens.now x e) c.in_err-first.ensures.value)
 
-pub climb-returns-then-not-begins-clause-value : goal.climb-returns-then-not-begins-clause-value
-climb-returns-then-not-begins-clause-value t c = climb_none c.args.level _ (term_of c.args.first) c.args.tokens.now (sym c.begins.ensures ∙ c.if-not-begins.true)
-
 pub climbed-returns-in_default-clause-value : goal.climbed-returns-in_default-clause-value
 climbed-returns-in_default-clause-value t c =
-    rw (c.in-Ok.ensures.value, many_none (among (operators_at c.args.level)) _ c.in-Ok.rest.now (sym c.begins.ensures ∙ c.if-begins.false)) refl
+    rw (c.in-Ok.ensures.value, many_none (among (operators_at Or)) _ c.in-Ok.rest.now (sym c.begins.ensures ∙ c.if-begins.false)) refl
 
-pub climb_below-returns-in-Some-clause-value : goal.climb_below-returns-in-Some-clause-value
-climb_below-returns-in-Some-clause-value t c = rw (below_some c.args.level c.in-Some.tighter (sym c.tighter.ensures ∙ c.in-Some.is)) c.climb.ensures.value
+pub climb_below-returns-in_err-chained-clause-value : goal.climb_below-returns-in_err-chained-clause-value
+climb_below-returns-in_err-chained-clause-value t c =
+    let p = err_from_is_err_and c.from_residual.result c.from_residual.ensures.1 in
+    rw (p.1, p.2) (operand_goes c.in_err-chained.field-0.0 _ _
+    (λ y e. climb_stops c.levels.at c.args.level _ (term_of c.args.first) c.args.tokens.now y (omega (arith, c.levels-test.true, c.tighter_levels.ensures, c.tighter_levels-levels.ensures))
+    (climb_step c.levels.at _ (term_of c.args.first) (term_of c.levels.first) c.args.tokens.now c.levels.rest.now c.levels.invariant.told ∙ e))
+    c.in_err-chained.ensures.value)
+
+pub climb_below-levels-preserved : goal.climb_below-levels-preserved
+climb_below-levels-preserved t c =
+    let step = looser_step c.levels.at c.args.level (omega (arith, c.levels-test.true, c.tighter_levels.ensures, c.tighter_levels-levels.ensures)) in
+    elim c.if-begins.branch [
+      | climb_below-then-begins+in_ok-chained w ↦ record {
+        told = rw (c.looser-at.ensures, step.0, w.first-is, w.rest-is) (climb_step c.levels.at _ (term_of c.args.first) (term_of c.levels.first) c.args.tokens.now c.levels.rest.now c.levels.invariant.told ∙ w.in_ok-chained.ensures.value);
+        within = rw c.looser-at.ensures (omega (arith, step.1, c.levels-test.true, c.tighter_levels.ensures, c.tighter_levels-levels.ensures));
+        rest = rw w.rest-is (omega (arith, w.in_ok-chained.ensures.rest, c.levels.invariant.rest));
+      }
+      | climb_below-else-begins w ↦ record {
+        told = rw (c.looser-at.ensures, step.0, w.first-is, w.rest-is) (climb_step_none c.levels.at _ (term_of c.args.first) (term_of c.levels.first) c.args.tokens.now c.levels.rest.now c.levels.invariant.told (sym c.begins.ensures ∙ w.if-begins.false));
+        within = rw c.looser-at.ensures (omega (arith, step.1, c.levels-test.true, c.tighter_levels.ensures, c.tighter_levels-levels.ensures));
+        rest = rw w.rest-is c.levels.invariant.rest;
+      }
+    ]
+
+pub climb_below-levels-smaller : goal.climb_below-levels-smaller
+climb_below-levels-smaller t c =
+    let step = looser_step c.levels.at c.args.level (omega (arith, c.levels-test.true, c.tighter_levels.ensures, c.tighter_levels-levels.ensures)) in
+    rw c.looser-at.ensures (omega (arith, step.1, c.levels-test.true, c.tighter_levels.ensures, c.tighter_levels-levels.ensures))
+
+pub climb_below-returns-clause-value : goal.climb_below-returns-clause-value
+climb_below-returns-clause-value t c =
+    let same = same_level c.levels.at c.args.level (omega (arith, c.levels-test.false, c.tighter_levels.ensures, c.tighter_levels-levels.ensures, c.levels.invariant.within)) in
+    rw (sym same) c.levels.invariant.told
 
 pub postfix-returns-in_default-clause-value : goal.postfix-returns-in_default-clause-value
 postfix-returns-in_default-clause-value t c =

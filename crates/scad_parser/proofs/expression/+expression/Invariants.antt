@@ -1,10 +1,11 @@
-use Rattle.std.proofs.Common.{◌≡◌, ◌+◌, ◌*◌, ◌≤◌, [], ◌∷◌, map, length}
+use Rattle.std.proofs.Common.{◌≡◌, ◌+◌, ◌-◌, ◌*◌, ◌≤◌, [], ◌∷◌, map, length, Ok}
 use Rattle.scad_ast.specs.ExprView.{term_of, link_of, suffix_of, arg_of}
 use Rattle.scad_grammar.specs.Classes.{comma_sign, close_bracket_sign, close_parenthesis_sign, among, is, other_than}
 use Rattle.scad_grammar.specs.Faults.{one}
 use Rattle.scad_grammar.specs.Grammar.{link}
 use Rattle.scad_grammar.specs.Reading.{both, many, trailing, in_front}
 use Rattle.scad_grammar.specs.Reads.{expr_read, operand_read, arg_in, primary_read, unary_read, suffix_read, chain_read}
+use Rattle.scad_parser.specs.Climbing.{climb_read}
 use Rattle.scad_parser.specs.TokenClasses.{levels_below, operators_at, suffix_signs, tighter_levels}
 use Rattle.scad_parser.proofs.expression.+expression.Given as goal
 
@@ -81,10 +82,7 @@ abbrev pub decreases-linked : goal.decreases-linked
 decreases-linked l = 64 * l.depth + (7 * tighter_levels l.level + 13)
 
 abbrev pub decreases-climbed : goal.decreases-climbed
-decreases-climbed l = 64 * l.depth + (7 * tighter_levels l.level + 14)
-
-abbrev pub decreases-climb : goal.decreases-climb
-decreases-climb l = 64 * l.depth + (7 * tighter_levels l.level + 15)
+decreases-climbed l = 64 * l.depth + 49
 
 abbrev pub decreases-chain : goal.decreases-chain
 decreases-chain l = 64 * l.depth + 50
@@ -133,3 +131,13 @@ invariant-more_args-commas l = record {
 
 abbrev pub decreases-more_args-commas : goal.decreases-more_args-commas
 decreases-more_args-commas l = length l.rest
+
+abbrev pub invariant-climb_below-levels : goal.invariant-climb_below-levels
+invariant-climb_below-levels l = record {
+  told : climb_read (levels_below l.at) (unary_read (expr_read l.depth) (operand_read l.depth) (primary_read (expr_read l.depth) (arg_in l.depth (expr_read l.depth)))) (term_of l.fn.first) l.tokens ≡ Ok (term_of l.first, l.rest);
+  within : tighter_levels l.at ≤ tighter_levels l.fn.level;
+  rest : length l.rest ≤ length l.tokens;
+}
+
+abbrev pub decreases-climb_below-levels : goal.decreases-climb_below-levels
+decreases-climb_below-levels l = tighter_levels l.fn.level - tighter_levels l.at
