@@ -1,5 +1,5 @@
 -- The bytes that a value stores, in itself or elsewhere.
-use Rattle.std.specs.Prelude.{ℕ, List, ◌≤◌, take}
+use Rattle.std.specs.Prelude.{ℕ, List, ◌≤◌, ◌<◌, length, take}
 use Rattle.compact_bytes.specs.declared.Stored.{Stored}
 use Rattle.compact_bytes.specs.declared.Stored.TheVariants.{Inline, Boxed}
 
@@ -8,7 +8,7 @@ abbrev pub stored_bytes : Stored → List ℕ
 stored_bytes (Inline n room) = take n room
 stored_bytes (Boxed bytes) = bytes.value.items
 
--- no more bytes than there is room for
+-- no more bytes than there is room for, or more than that elsewhere
 abbrev pub fits : Stored → Type 0
 fits (Inline n room) = n ≤ 14
-fits (Boxed bytes) = Unit {0}
+fits (Boxed bytes) = 14 < length bytes.value.items

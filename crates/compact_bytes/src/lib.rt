@@ -1,18 +1,19 @@
 //! Bytes that need no allocation where they are few, as most names of a source are.
 #![tactic(auto)]
 
-ghost use Rattle.std.specs.Prelude.{◌≡◌, IfOk};
+ghost use Rattle.std.specs.Prelude.{◌≡◌, ◌≤◌, length, IfOk, IsOk};
 
 #[cfg(test)]
 mod tests;
 
 use std::alloc::{AllocError, Global};
 use std::marker::Model;
+use std::mem::size_of;
 
 /// The most bytes that lie in the value itself.
 const ROOM: usize = 14;
 
-/// Bytes, which contracts see as a list. The value has 16 bytes, and up to 14 lie in it; more have an allocation.
+/// Bytes, which contracts see as a list. The value takes 16 bytes, and up to 14 bytes lie in it; more are allocated.
 #[derive(Drop)]
 pub struct CompactBytes {
     stored: Stored,
@@ -21,10 +22,13 @@ pub struct CompactBytes {
 /// Where the bytes lie.
 #[derive(Drop)]
 enum Stored {
-    /// How many of these bytes there are.
+    /// How many bytes of the room count, and the room.
     Inline(u8, [u8; ROOM]),
+    /// More bytes than there is room for.
     Boxed(Box<Vec<u8>>),
 }
+
+const _: () = prove!(size_of::<CompactBytes>() == 16);
 
 impl Model for CompactBytes {
     ghost use Rattle.std.specs.Prelude.{List, ℕ};
@@ -38,9 +42,11 @@ impl Model for CompactBytes {
 }
 
 impl CompactBytes {
-    /// A copy of these bytes. Takes no memory for up to 14.
+    /// A copy of these bytes.
     pub fn of(alloc: Global, bytes: &[u8]) -> Result<Self, AllocError>
-        ensures { IfOk result (λ copy. copy ≡ bytes.now) }
+        ensures value { IfOk result (λ copy. copy ≡ bytes.now) }
+        // Up to 14 need no memory.
+        ensures succeeds { length bytes.now ≤ 14 → IsOk result }
     {
         if bytes.len() > ROOM {
             let bytes = Box::new(alloc, bytes.to_vec(alloc)?)?;
@@ -55,9 +61,11 @@ impl CompactBytes {
         })
     }
 
-    /// The same bytes once more. Takes no memory for up to 14.
+    /// The same bytes once more.
     pub fn copy(&self, alloc: Global) -> Result<Self, AllocError>
-        ensures { IfOk result (λ copy. copy ≡ self.now) }
+        ensures value { IfOk result (λ copy. copy ≡ self.now) }
+        // Up to 14 need no memory.
+        ensures succeeds { length self.now ≤ 14 → IsOk result }
     {
         match &self.stored {
             Stored::Inline(length, room) => Ok(CompactBytes {

@@ -1,5 +1,4 @@
 use super::CompactBytes;
-use std::mem::size_of;
 use std::test::Fail;
 
 const LETTERS: &[u8] = b"abcdefghijklmnopqrstuvwxyz";
@@ -14,9 +13,4 @@ fn keeps_bytes_of_each_length(rt: HostRuntime) -> Result<(), Fail> {
         assert_eq!(rt; copy.items(), &LETTERS[..length]);
     }
     Ok(())
-}
-
-#[test]
-fn has_the_size_of_two_words(rt: HostRuntime) {
-    assert_eq!(rt; size_of::<CompactBytes>(), 16);
 }

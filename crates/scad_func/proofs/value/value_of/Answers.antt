@@ -1,16 +1,13 @@
-use Rattle.std.proofs.Common.{◌-◌, true, sym, subst}
-use Rattle.std.specs.Prelude.{IsTrue}
+use Rattle.std.proofs.Common.{◌-◌, true, subst}
 use Rattle.scad_ast.specs.ExprView.{term_of}
 use Rattle.scad_ast.specs.StatementView.{program_of}
 use Rattle.scad_scope.specs.Names.{env_of}
 use Rattle.scad_scope.specs.Table.{rows_of}
 use Rattle.scad_func.specs.Meaning.{evaluated}
 use Rattle.scad_func.specs.Definitions.{env_in, modules_of_program}
-use Rattle.scad_func.specs.Numerals.{functions_have_small}
 use Rattle.scad_func.specs.View.{Tells, functions_held}
 use Rattle.scad_func.proofs.Counts.{table_below}
 use Rattle.scad_func.proofs.Growth.{grows_same}
-use Rattle.scad_func.proofs.ProgramNumerals.{program_small}
 use Rattle.scad_func.proofs.value.value_of.Goals as goal
 
 pub value_in-requires-clause-numbered : goal.value_in-requires-clause-numbered
@@ -18,9 +15,7 @@ value_in-requires-clause-numbered c = table_below _ (program_of c.args.program.n
     (rows_of c.args.scopes.now) c.in_ok-source.ensures.functions c.requires.numbered
 
 pub value_in-requires-clause-table : goal.value_in-requires-clause-table
-value_in-requires-clause-table c = subst (λ fs. IsTrue (functions_have_small fs))
-    (sym c.in_ok-source.ensures.functions)
-    (program_small (program_of c.args.program.now) c.requires.program)
+value_in-requires-clause-table c = c.in_ok-source.ensures.small c.requires.program
 
 pub returns-clause-value : goal.returns-clause-value
 returns-clause-value c =
