@@ -1,5 +1,6 @@
 -- A text gives one thing, word by word.
 use Rattle.std.proofs.Common.{◌≡◌, ℕ, zero, suc, ◌+◌, ◌-◌, ◌<◌, ◌≤◌, List, [], ◌∷◌, ◌++◌, length, take, drop, get_or, cond, Some, None, Result, Ok, Err, ◌⊎◌, inl, inr, refl, sym, ap, ◌∙◌, subst, arith, nat_eq, append_assoc, append-nil, IfOk, IfErr, length-take-le, length-drop}
+use Rattle.std.proofs.lemmas.Bool.Decides.{nat_tests}
 use Rattle.std.specs.Global.{Vec}
 use Rattle.text_place.specs.declared.fault.Place.{Place}
 use Rattle.text_place.specs.declared.fault.FaultKind.{FaultKind}
@@ -9,10 +10,12 @@ use Rattle.text_place.specs.declared.fault.Stop.TheVariants.{Fault as StopFault,
 use Rattle.scad_lexer.specs.declared.token.Token.{Token as TokenIn}
 use Rattle.scad_lexer.specs.declared.token.TokenKind.{TokenKind}
 use Rattle.scad_lexer.specs.declared.token.TokenKind.TheVariants.{End}
+use Rattle.scad_lexer.specs.declared.token.Symbol.{Symbol}
 use Rattle.scad_lexer.specs.declared.word.Word.{Word}
+use Rattle.scad_lexer.specs.declared.word.Word.TheVariants.{Symbol as SymbolWord}
 use Rattle.scad_lexer.specs.declared.meaning.Meaning.{Meaning}
 use Rattle.scad_lexer.specs.declared.meaning.Meaning.TheVariants.{Blank, Token, Fault}
-use Rattle.scad_lexer.specs.Words.{word_of, IsLongest, HasNoWord}
+use Rattle.scad_lexer.specs.Words.{word_from, word_of, IsLongest, HasNoWord}
 use Rattle.scad_lexer.specs.Tokens.{Outcome, Gives, Faults, in_front, tokens_at, IsSound, IsEnd, IsStray, IsFaulty, Piece, Reads, LexesFrom, Lexes, IsFaultFrom, IsFault, Agrees, meaning_of, moved, AppendsNext}
 use Rattle.scad_lexer.proofs.Longest.{drop_more}
 use Rattle.scad_lexer.proofs.Scanned.{rest_all}
@@ -141,6 +144,12 @@ behind p b = cond (nat_eq b 10) (record { line = suc p.line; column = 1 }) (reco
 
 pub moved_more : (p : Place) (t : List ℕ) (n : ℕ) → n < length t → moved p (drop n t) ≡ moved (behind p (get_or t n 0)) (drop (n + 1) t)
 moved_more p t n h = ap (moved p) (drop_more t n h)
+
+-- the place behind a symbol of one byte, which is no newline
+pub moved_symbol : (p : Place) (t : List ℕ) (s : Symbol) → IsLongest t 1 (SymbolWord s) → moved p (take 1 t) ≡ record { line = p.line; column = p.column + 1 }
+unfolding word_from
+moved_symbol p [] s h = absurd (omega (arith, h.within))
+moved_symbol p (b ∷ t) s h = let found : word_from b [] ≡ Some (SymbolWord s) = h.found in grind (arith, nat_tests)
 
 -- how long the parts of a cut are
 pub rest_length : (t : List ℕ) (n : ℕ) → n ≤ length t → length (take (length t - n) (drop n t)) + n ≡ length t

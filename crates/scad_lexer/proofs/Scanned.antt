@@ -1,13 +1,13 @@
 -- What each part of a word is found to be.
 use Rattle.std.proofs.Common.{◌≡◌, ℕ, zero, suc, ◌+◌, ◌-◌, ◌<◌, ◌≤◌, List, [], ◌∷◌, length, take, drop, get_or, Bool, true, false, cond, not, ◌&&◌, Option, Some, None, refl, sym, ap, ◌∙◌, subst, arith, nat_eq, length-drop, IfSome, IfNone}
 use Rattle.std.proofs.Common.{inl, inr}
-use Rattle.std.proofs.lemmas.Bool.Decides.{eqb_tells}
+use Rattle.std.proofs.lemmas.Bool.Decides.{eqb_tells, nat_tests}
 use Rattle.scad_lexer.specs.declared.class.Class.TheVariants.{InLine, Exponent, Sign, Byte}
 use Rattle.scad_lexer.specs.declared.token.Symbol.{Symbol}
 use Rattle.scad_lexer.specs.declared.token.Symbol.TheVariants.{Dot, Divide}
 use Rattle.scad_lexer.specs.declared.word.Word.{Word}
 use Rattle.scad_lexer.specs.declared.word.Word.TheVariants.{Blank, OpenComment, Name, Special, Numeral, NumeralAndLetter, Text, OpenText, Symbol as SymbolWord}
-use Rattle.scad_lexer.specs.Words.{has, digit, letter, blank, name_byte, begins_with, run_of, every, when, alone, with_bytes, more_bytes, one_longer, longest, in_whole, in_fraction, number_end, exponent, after_sign, in_exponent, after_point, after_dollar, after_slash, in_comment, after_star, in_text, in_escape, single, double_of, symbol_word, symbol_of, word_from, IsLongest, HasNoWord}
+use Rattle.scad_lexer.specs.Words.{has, digit, letter, blank, name_byte, begins_with, run_of, every, when, alone, with_bytes, more_bytes, one_longer, longest, in_whole, in_fraction, number_end, exponent, after_sign, in_exponent, after_point, after_dollar, after_slash, in_comment, after_star, in_text, in_escape, single, double, double_of, symbol_word, symbol_of, word_from, IsLongest, HasNoWord}
 use Rattle.scad_lexer.proofs.Longest.{longest_end, longest_step, longest_taken, longest_stop, longest_alone, longest_some, longest_same, longest_every, run_then, behind_run, drop_more, longest_is, longest_isnt}
 
 not_equal : (b c : ℕ) → (b ≡ c → ⊥) → nat_eq b c ≡ false
@@ -417,6 +417,22 @@ is_symbol b w e f g h i j k = rw (e, f, g, h, i, j, k) refl
 
 pub symbol_found : (b : ℕ) (t : List ℕ) → blank b ≡ false → letter b ≡ false → digit b ≡ false → (b ≡ 36 → ⊥) → (b ≡ 34 → ⊥) → (b ≡ 46 → ⊥) → (b ≡ 47 → ⊥) → longest (symbol_of b) t ≡ longest (word_from b) t
 symbol_found b t e f g h i j k = sym (longest_same (word_from b) (symbol_of b) (λ w. is_symbol b w e f g (not_equal b 36 h) (not_equal b 34 i) (not_equal b 46 j) (not_equal b 47 k)) t)
+
+-- what a word is that begins with a symbol of one byte
+is_single : (b : ℕ) (w : List ℕ) (s : Symbol) → single b ≡ Some s → word_from b w ≡ symbol_of b w
+unfolding word_from
+is_single b w s h = grind (arith, nat_tests)
+
+no_pair : (b : ℕ) (t : List ℕ) → ((c : ℕ) → double b c ≡ None) → double_of b t ≡ None
+no_pair b [] h = refl
+no_pair b (c ∷ t) h = h c
+
+-- the symbol of a byte that begins no symbol of two
+pub lone_found : (t : List ℕ) (r : Option Symbol) → 1 ≤ length t → IfSome r (λ s. single (get_or t 0 0) ≡ Some s) → IfSome r (λ s. (c : ℕ) → double (get_or t 0 0) c ≡ None) → IfSome r (λ s. IsLongest t 1 (SymbolWord s))
+lone_found t None l h e = tt
+lone_found [] (Some s) l h e = absurd (omega arith)
+lone_found (b ∷ t) (Some s) l h e =
+    longest_is b t (SymbolWord s) 0 (longest_same (word_from b) (symbol_of b) (λ w. is_single b w s h) t ∙ symbol_single b t (Some s) (no_pair b t e) h)
 
 text_parts : (t : List ℕ) → 0 < length t → get_or t 0 0 ∷ take (length t - 1) (drop 1 t) ≡ t
 text_parts [] h = absurd (omega arith)

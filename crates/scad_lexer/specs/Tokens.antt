@@ -195,7 +195,7 @@ Agrees (Ok ts) o = o ≡ Gives ts.items
 Agrees (Err (StopFault f)) o = o ≡ Faults f.kind f.place
 Agrees (Err NoMemory) o = Unit {0}
 
--- the longest word of a text has no fault, and the token that it makes, if it makes one, is appended to those before
+-- the longest word of a text has no fault, and the token that it makes, if it makes one, is appended with the place p to those before
 pub record AppendsNext (before after : List TokenIn) (p : Place) (text : List ℕ) (bytes : ℕ) : Type 0 where
   pub word : Word
   pub longest : IsLongest text bytes word

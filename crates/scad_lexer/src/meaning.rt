@@ -1,5 +1,4 @@
 ghost use Rattle.std.specs.Prelude.{◌≡◌, ◌-◌, ◌^◌, ◌<◌, ◌≤◌, length, IfOk, IfErr, IfSome, IfNone, MatchOption, drop, nat_eq, MatchResult, Ok, Err};
-ghost use Rattle.std.specs.Str.{bytes_eq};
 ghost use Rattle.scad_lexer.specs.Words.{every};
 ghost use Rattle.scad_lexer.specs.Tokens.{reserved_of, escape_at, with_byte, zero_fraction, number_from, numeral_of, letter_behind, decoded, inside, text_of, meaning_of, name_of, IsWithin};
 
@@ -51,32 +50,24 @@ fn name(alloc: Global, bytes: &[u8]) -> Result<TokenKind, NoMemory>
     }
 }
 
-/// Whether two names are the same. Most are told apart by their lengths.
-#[inline(always)]
-fn same(word: &[u8], name: &[u8]) -> bool
-    ensures { result ≡ bytes_eq word.now name.now }
-{
-    word.len() == name.len() && word == name
-}
-
-/// The reserved name that a word is, if it is one.
+/// The reserved name that a word is, if it is one. Names are told apart by their lengths first.
 fn reserved(word: &[u8]) -> Option<Reserved>
     ensures { result ≡ reserved_of word.now }
 {
     match word.len() {
-        2 if same(word, b"if") => Some(Reserved::If),
-        3 if same(word, b"for") => Some(Reserved::For),
-        3 if same(word, b"use") => Some(Reserved::Use),
-        3 if same(word, b"let") => Some(Reserved::Let),
-        4 if same(word, b"else") => Some(Reserved::Else),
-        4 if same(word, b"true") => Some(Reserved::True),
-        4 if same(word, b"each") => Some(Reserved::Each),
-        5 if same(word, b"false") => Some(Reserved::False),
-        5 if same(word, b"undef") => Some(Reserved::Undef),
-        6 if same(word, b"module") => Some(Reserved::Module),
-        7 if same(word, b"include") => Some(Reserved::Include),
-        8 if same(word, b"function") => Some(Reserved::Function),
-        16 if same(word, b"intersection_for") => Some(Reserved::IntersectionFor),
+        2 if word == b"if".as_slice() => Some(Reserved::If),
+        3 if word == b"for".as_slice() => Some(Reserved::For),
+        3 if word == b"use".as_slice() => Some(Reserved::Use),
+        3 if word == b"let".as_slice() => Some(Reserved::Let),
+        4 if word == b"else".as_slice() => Some(Reserved::Else),
+        4 if word == b"true".as_slice() => Some(Reserved::True),
+        4 if word == b"each".as_slice() => Some(Reserved::Each),
+        5 if word == b"false".as_slice() => Some(Reserved::False),
+        5 if word == b"undef".as_slice() => Some(Reserved::Undef),
+        6 if word == b"module".as_slice() => Some(Reserved::Module),
+        7 if word == b"include".as_slice() => Some(Reserved::Include),
+        8 if word == b"function".as_slice() => Some(Reserved::Function),
+        16 if word == b"intersection_for".as_slice() => Some(Reserved::IntersectionFor),
         _ => None,
     }
 }

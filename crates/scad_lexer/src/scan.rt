@@ -1,4 +1,4 @@
-ghost use Rattle.std.specs.Prelude.{◌≡◌, ◌+◌, ◌≤◌, ◌∷◌, ◌<◌, ◌^◌, length, false, not, nat_eq, ◌&&◌, Some, IfSome, IfNone};
+ghost use Rattle.std.specs.Prelude.{◌≡◌, ℕ, ◌+◌, ◌≤◌, ◌∷◌, ◌<◌, ◌^◌, length, false, not, nat_eq, ◌&&◌, Some, IfSome, IfNone};
 ghost use Rattle.scad_lexer.specs.declared.class.Class.TheVariants.{Blank, Letter, Digit};
 ghost use Rattle.scad_lexer.specs.Words.{has, longest, more_bytes, word_from, in_whole, in_fraction, number_end, exponent, in_exponent, after_point, after_slash, after_dollar, in_text, in_comment, single, double, double_of, symbol_of, begins_with, IsLongest, HasNoWord};
 
@@ -15,6 +15,28 @@ pub fn longest_word(text: &[u8]) -> Option<(Word, usize)>
     match text {
         [] => None,
         _ => longer(1, after_byte(text[0], &text[1..])),
+    }
+}
+
+/// The symbol that the text begins with, where no longer word begins there.
+#[inline(always)]
+pub fn lone_symbol(text: &[u8]) -> Option<Symbol>
+    ensures { IfSome result (λ s. IsLongest text.now 1 (Word.Symbol s)) }
+{
+    match text {
+        [] => None,
+        [byte, ..] => lone(*byte),
+    }
+}
+
+/// The symbol of a byte that begins no symbol of two bytes.
+fn lone(byte: u8) -> Option<Symbol>
+    ensures found { IfSome result (λ s. single byte ≡ Some s) }
+    ensures alone { IfSome result (λ s. (next : ℕ) → double byte next ≡ None) }
+{
+    match one_byte(byte) {
+        Some(Symbol::Less | Symbol::Greater | Symbol::Assign | Symbol::Not) => None,
+        symbol => symbol,
     }
 }
 
@@ -284,6 +306,7 @@ fn two_bytes(first: u8, second: u8) -> Option<Symbol>
     }
 }
 
+#[inline(always)]
 fn one_byte(byte: u8) -> Option<Symbol>
     ensures { result ≡ single byte }
 {

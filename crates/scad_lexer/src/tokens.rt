@@ -3,7 +3,7 @@ ghost use Rattle.scad_lexer.specs.Words.{IsLongest};
 ghost use Rattle.scad_lexer.specs.Tokens.{Outcome, Gives, Lexes, Agrees, IsFault, IsFaultFrom, moved, AppendsNext, ends_once};
 
 use crate::meaning::{Meaning, meant};
-use crate::scan::longest_word;
+use crate::scan::{lone_symbol, longest_word};
 use crate::token::{Token, TokenKind};
 use crate::word::Word;
 use std::alloc::Global;
@@ -39,6 +39,12 @@ fn read_tokens(alloc: Global, text: &[u8]) -> Result<Vec<Token>, Stop>
     let mut rest = text;
     let mut place = Place { line: 1, column: 1 };
     'words: while !rest.is_empty() {
+        if let Some(symbol) = lone_symbol(rest) {
+            push_token(&mut tokens, TokenKind::Symbol(symbol), place)?;
+            place.column += 1;
+            rest = &rest[1..];
+            continue;
+        }
         let Some((word, bytes)) = longest_word(rest) else {
             return Err(Stop::Fault(Fault {
                 kind: FaultKind::BadCharacter,
