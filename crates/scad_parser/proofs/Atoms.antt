@@ -2,9 +2,9 @@
 use Rattle.std.proofs.Common.{◌≡◌, ℕ, List, [], ◌∷◌, ◌++◌, Bool, true, false, not, ◌&&◌, cond, Ok, Err, refl, sym, ap, ◌∙◌, nat_eq}
 use Rattle.std.proofs.lemmas.Bool.{eqb-true}
 use Rattle.scad_lexer.specs.declared.token.Token.{Token}
-use Rattle.scad_ast.specs.Terms.{Term, ArgTerm}
+use Rattle.scad_ast.specs.Terms.{Term, NameTerm, ArgTerm}
 use Rattle.scad_grammar.specs.declared.SyntaxFault.{SyntaxFault}
-use Rattle.scad_grammar.specs.Classes.{numeral, text, true_word, false_word, undef_word, child_count, name, question_sign, colon_sign, open_parenthesis_sign, class_of, listed, among, is}
+use Rattle.scad_grammar.specs.Classes.{numeral, text, true_word, false_word, undef_word, child_count, name, question_sign, colon_sign, open_parenthesis_sign, class_of, listed, among, is, other_than, bytes_of}
 use Rattle.scad_grammar.specs.Faults.{Reads, one}
 use Rattle.scad_grammar.specs.Grammar.{levels, postfix_of, choice_of}
 use Rattle.scad_grammar.specs.Languages.{pair_of, second_of}
@@ -13,7 +13,7 @@ use Rattle.scad_grammar.specs.Reads.{suffix_read, unary_read, chain_read, paren_
 use Rattle.scad_parser.specs.declared.class.Level.{Level}
 use Rattle.scad_parser.specs.Climbing.{climb_read}
 use Rattle.scad_parser.specs.TokenClasses.{joined, binary_signs, unary_signs, suffix_signs, literals, atoms, continuations, operators_at, levels_below}
-use Rattle.scad_parser.specs.Views.{lone_atom}
+use Rattle.scad_parser.specs.Views.{has_lone_atom, atom_of}
 use Rattle.scad_parser.proofs.Climbs.{chain_climbs, climbs_none, many_none, starts_apart, none_at, none_below}
 
 -- what is left does not go on with an expression
@@ -72,29 +72,30 @@ spared f (c ∷ cs) k h e = go (nat_eq k c) refl e (spared f cs k h.1)
     go true g e more = ap f (eqb-true k c g) ∙ h.0
     go false g e more = more e
 
-both_hold : (b c : Bool) → (b && not c) ≡ true → (b ≡ true) × (c ≡ false)
-both_hold true true e = absurd (cc)
-both_hold true false e = (refl, refl)
+both_hold : (b c : Bool) → (b && c) ≡ true → (b ≡ true) × (c ≡ true)
+both_hold true true e = (refl, refl)
+both_hold true false e = absurd (cc)
 both_hold false c e = absurd (cc)
 
-module _ (e : Reads Term) (a : Reads ArgTerm) (t u : Token) (us : List Token) (behind : among continuations u ≡ false) where
+module _ (e : Reads Term) (a : Reads ArgTerm) (t : Token) (us : List Token) where
   -- one literal, or something else
-  literal_ends : (f : Token → Term) (b : Bool) (y : SyntaxFault × List Token) (other : Read Token SyntaxFault Term)
-      → (b ≡ false → Ends other) → Ends (cond b (after (cond {A = Read Token SyntaxFault Token} b (Ok (t, u ∷ us)) (Err y)) (λ x ts. Ok (f x, ts))) other)
-  literal_ends f true y other h = behind
-  literal_ends f false y other h = h refl
+  literal_or : (f : Token → Term) (b : Bool) (y : SyntaxFault × List Token) (other : Read Token SyntaxFault Term) (z : Term)
+      → (b ≡ false → other ≡ Ok (z, us)) → cond b (after (cond {A = Read Token SyntaxFault Token} b (Ok (t, us)) (Err y)) (λ x ts. Ok (f x, ts))) other ≡ Ok (cond b (f t) z, us)
+  literal_or f true y other z h = refl
+  literal_or f false y other z h = h refl
 
-  name_ends : is name t ≡ true → Ends (name_read a (t ∷ u ∷ us))
-  name_ends g = rw (g, no_arguments (u ∷ us) behind) behind
+  name_alone : is name t ≡ true → starts (is open_parenthesis_sign) us ≡ false → name_read a (t ∷ us) ≡ Ok (NameTerm t.place (bytes_of t.kind), us)
+  name_alone g h = rw (g, h) refl
 
-  primary_ends : among atoms t ≡ true → Ends (primary_read e a (t ∷ u ∷ us))
-  primary_ends atom =
-      literal_ends _ (is numeral t) _ _ (λ n. literal_ends _ (is text t) _ _ (λ x. literal_ends _ (is true_word t) _ _ (λ y.
-      literal_ends _ (is false_word t) _ _ (λ z. literal_ends _ (is undef_word t) _ _ (λ v. literal_ends _ (is child_count t) _ _ (λ w. last n x y z v w (is name t) refl))))))
+  -- an atom is read as what it writes, where no arguments follow
+  atom_read : among atoms t ≡ true → starts (is open_parenthesis_sign) us ≡ false → primary_read e a (t ∷ us) ≡ Ok (atom_of t, us)
+  atom_read atom alone =
+      literal_or _ (is numeral t) _ _ _ (λ n. literal_or _ (is text t) _ _ _ (λ x. literal_or _ (is true_word t) _ _ _ (λ y.
+      literal_or _ (is false_word t) _ _ _ (λ z. literal_or _ (is undef_word t) _ _ _ (λ v. literal_or _ (is child_count t) _ _ _ (λ w. last n x y z v w (is name t) refl))))))
     where
       last : is numeral t ≡ false → is text t ≡ false → is true_word t ≡ false → is false_word t ≡ false → is undef_word t ≡ false → is child_count t ≡ false
-          → (b : Bool) → is name t ≡ b → Ends (cond b (name_read a (t ∷ u ∷ us)) (choice (is open_parenthesis_sign) (paren_read e) (bracket_read e) (t ∷ u ∷ us)))
-      last n x y z v w true g = name_ends g
+          → (b : Bool) → is name t ≡ b → cond b (name_read a (t ∷ us)) (choice (is open_parenthesis_sign) (paren_read e) (bracket_read e) (t ∷ us)) ≡ Ok (NameTerm t.place (bytes_of t.kind), us)
+      last n x y z v w true g = name_alone g alone
       last n x y z v w false g =
           let none : true ≡ false = sym atom ∙ not_atom (class_of t.kind) n x y z v w g in
           absurd (cc)
@@ -119,29 +120,41 @@ no_choosing r (Ok p) h = rw (no_choice p.1 h) refl
 no_choosing r (Err y) h = refl
 
 module _ (e w : Reads Term) (a : Reads ArgTerm) where
-  atom_ends : (ts : List Token) → lone_atom ts ≡ true → Ends (primary_read e a ts)
-  atom_ends [] h = absurd (cc)
-  atom_ends (t ∷ []) h = absurd (cc)
-  atom_ends (t ∷ u ∷ us) h = let p = both_hold (among atoms t) (among continuations u) h in primary_ends e a t u us p.1 p.0
+  -- what stands behind a lone atom does not go on with it
+  apart : (us : List Token) → starts (other_than continuations) us ≡ true → starts (among continuations) us ≡ false
+  apart [] h = refl
+  apart (u ∷ us) h = go (among continuations u) h
+    where
+      go : (b : Bool) → not b ≡ true → b ≡ false
+      go true h = absurd (cc)
+      go false h = refl
 
-  pub atom_is_operand : (ts : List Token) → lone_atom ts ≡ true → unary_read e w (primary_read e a) ts ≡ primary_read e a ts
-  atom_is_operand [] h = absurd (cc)
-  atom_is_operand (t ∷ []) h = absurd (cc)
-  atom_is_operand (t ∷ u ∷ us) h =
-      let p = both_hold (among atoms t) (among continuations u) h in
-      rw (unsigned t p.0) (no_postfix e (primary_read e a (t ∷ u ∷ us)) (atom_ends (t ∷ u ∷ us) h))
+  atom_alone : (t : Token) (us : List Token) → has_lone_atom (t ∷ us) ≡ true → primary_read e a (t ∷ us) ≡ Ok (atom_of t, us)
+  atom_alone t us h =
+      let p = both_hold (among atoms t) (starts (other_than continuations) us) h in
+      atom_read e a t us p.0 (no_arguments us (apart us p.1))
+
+  atom_ends : (t : Token) (us : List Token) → has_lone_atom (t ∷ us) ≡ true → Ends (primary_read e a (t ∷ us))
+  atom_ends t us h = rw (atom_alone t us h) (apart us (both_hold (among atoms t) (starts (other_than continuations) us) h).1)
+
+  pub atom_is_operand : (t : Token) (us : List Token) → has_lone_atom (t ∷ us) ≡ true → unary_read e w (primary_read e a) (t ∷ us) ≡ Ok (atom_of t, us)
+  atom_is_operand t us h =
+      rw (unsigned t (both_hold (among atoms t) (starts (other_than continuations) us) h).0)
+      (no_postfix e (primary_read e a (t ∷ us)) (atom_ends t us h) ∙ atom_alone t us h)
 
   atom_is_chain : (ls : List (List ℕ)) → ((us : List Token) → starts (among binary_signs) us ≡ false → starts (among (joined ls)) us ≡ false)
-      → (ts : List Token) → lone_atom ts ≡ true → chain_read ls (unary_read e w (primary_read e a)) ts ≡ primary_read e a ts
-  atom_is_chain ls none ts h =
-      chain_climbs ls (unary_read e w (primary_read e a)) ts
-      ∙ ap (λ q. after q (climb_read ls (unary_read e w (primary_read e a)))) (atom_is_operand ts h)
-      ∙ no_climb ls (unary_read e w (primary_read e a)) none (primary_read e a ts) (atom_ends ts h)
+      → (t : Token) (us : List Token) → has_lone_atom (t ∷ us) ≡ true → chain_read ls (unary_read e w (primary_read e a)) (t ∷ us) ≡ Ok (atom_of t, us)
+  atom_is_chain ls none t us h =
+      let ends : Ends (Ok (atom_of t, us)) = apart us (both_hold (among atoms t) (starts (other_than continuations) us) h).1 in
+      chain_climbs ls (unary_read e w (primary_read e a)) (t ∷ us)
+      ∙ ap (λ q. after q (climb_read ls (unary_read e w (primary_read e a)))) (atom_is_operand t us h)
+      ∙ no_climb ls (unary_read e w (primary_read e a)) none (Ok (atom_of t, us)) ends
 
-  pub atom_is_side : (level : Level) (ts : List Token) → lone_atom ts ≡ true → chain_read (levels_below level) (unary_read e w (primary_read e a)) ts ≡ primary_read e a ts
+  pub atom_is_side : (level : Level) (t : Token) (us : List Token) → has_lone_atom (t ∷ us) ≡ true → chain_read (levels_below level) (unary_read e w (primary_read e a)) (t ∷ us) ≡ Ok (atom_of t, us)
   atom_is_side level = atom_is_chain (levels_below level) (λ us g. none_below (operators_at level) (levels_below level) us (none_at level us g))
 
-  pub atom_is_expression : (ts : List Token) → lone_atom ts ≡ true → choice_read e w (primary_read e a) ts ≡ primary_read e a ts
-  atom_is_expression ts h =
-      ap (λ q. after q (λ x us. after (maybe (is question_sign) (both pair_of (one (is question_sign)) (both pair_of e (both second_of (one (is colon_sign)) e))) us) (λ y vs. Ok (choice_of x y, vs)))) (atom_is_chain levels (λ us g. g) ts h)
-      ∙ no_choosing (both pair_of (one (is question_sign)) (both pair_of e (both second_of (one (is colon_sign)) e))) (primary_read e a ts) (atom_ends ts h)
+  pub atom_is_expression : (t : Token) (us : List Token) → has_lone_atom (t ∷ us) ≡ true → choice_read e w (primary_read e a) (t ∷ us) ≡ Ok (atom_of t, us)
+  atom_is_expression t us h =
+      let ends : Ends (Ok (atom_of t, us)) = apart us (both_hold (among atoms t) (starts (other_than continuations) us) h).1 in
+      ap (λ q. after q (λ x us. after (maybe (is question_sign) (both pair_of (one (is question_sign)) (both pair_of e (both second_of (one (is colon_sign)) e))) us) (λ y vs. Ok (choice_of x y, vs)))) (atom_is_chain levels (λ us g. g) t us h)
+      ∙ no_choosing (both pair_of (one (is question_sign)) (both pair_of e (both second_of (one (is colon_sign)) e))) (Ok (atom_of t, us)) ends

@@ -31,7 +31,7 @@ literals = numeral ∷ text ∷ true_word ∷ false_word ∷ undef_word ∷ chil
 abbrev pub atoms : List ℕ
 atoms = name ∷ literals
 
--- what may go on with an expression behind an atom: `?`, `(`, a suffix or an operator
+-- what may go on with an expression behind an atom: `?`, `(`, a suffix or an operator of two sides
 abbrev pub continuations : List ℕ
 continuations = (question_sign ∷ []) ++ ((open_parenthesis_sign ∷ []) ++ (suffix_signs ++ binary_signs))
 

@@ -1,9 +1,10 @@
 -- What the parser's functions give, in the words of the grammar.
-use Rattle.std.specs.Prelude.{◌≡◌, ℕ, List, [], ◌∷◌, Bool, false, cond, not, Result, Ok, Err, ◌&&◌}
+use Rattle.std.specs.Prelude.{◌≡◌, ℕ, List, [], ◌∷◌, Bool, true, false, cond, Result, Ok, Err, ◌&&◌}
 use Rattle.scad_lexer.specs.declared.token.Token.{Token}
+use Rattle.scad_ast.specs.Terms.{Term, NumberTerm, TextTerm, TruthTerm, UndefTerm, ChildCountTerm, NameTerm}
 use Rattle.scad_grammar.specs.declared.SyntaxFault.{SyntaxFault}
 use Rattle.scad_grammar.specs.declared.SyntaxFault.TheVariants.{Nested}
-use Rattle.scad_grammar.specs.Classes.{name, comma_sign, assign_sign, among, is}
+use Rattle.scad_grammar.specs.Classes.{numeral, text, true_word, false_word, undef_word, child_count, name, comma_sign, assign_sign, among, is, other_than, number_of, bytes_of}
 use Rattle.scad_grammar.specs.Faults.{fault_of}
 use Rattle.scad_grammar.specs.Reading.{Read, starts}
 use Rattle.scad_grammar.specs.Reads.{head_of}
@@ -46,8 +47,17 @@ names_value [] = false
 names_value (t ∷ []) = false
 names_value (t ∷ u ∷ ts) = is name t && is assign_sign u
 
--- an atom, and behind it a token that does not go on with an expression
-abbrev pub lone_atom : List Token → Bool
-lone_atom [] = false
-lone_atom (t ∷ []) = false
-lone_atom (t ∷ u ∷ ts) = among atoms t && not (among continuations u)
+-- an atom, and behind it a token that does not go on with it
+abbrev pub has_lone_atom : List Token → Bool
+has_lone_atom [] = false
+has_lone_atom (t ∷ ts) = among atoms t && starts (other_than continuations) ts
+
+-- what an atom writes
+abbrev pub atom_of : Token → Term
+atom_of t =
+    cond (is numeral t) (NumberTerm t.place (number_of t.kind))
+    (cond (is text t) (TextTerm t.place (bytes_of t.kind))
+    (cond (is true_word t) (TruthTerm t.place true)
+    (cond (is false_word t) (TruthTerm t.place false)
+    (cond (is undef_word t) (UndefTerm t.place)
+    (cond (is child_count t) (ChildCountTerm t.place) (NameTerm t.place (bytes_of t.kind)))))))

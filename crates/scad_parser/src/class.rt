@@ -76,7 +76,7 @@ pub enum Class {
     Literal,
     /// A literal or a name.
     Atom,
-    /// What may go on with an expression behind an atom: an operator, `?`, `(`, `[` or `.`.
+    /// What may go on with an expression behind an atom: an operator of two sides, `?`, `(`, `[` or `.`.
     Continuation,
     Operator(Level),
     /// An operator of any level.

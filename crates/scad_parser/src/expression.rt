@@ -9,17 +9,17 @@ ghost use Rattle.scad_grammar.specs.Languages.{pair_of, second_of};
 ghost use Rattle.scad_grammar.specs.Reading.{starts, both, mapped, many, trailing, in_front};
 ghost use Rattle.scad_grammar.specs.Reads.{expr_read, operand_read, arg_in, args_read, primary_read, unary_read, postfix_read, suffix_read, chain_read, choice_read, name_read, paren_read, bracket_read, range_read, rest_read, in_parentheses};
 ghost use Rattle.scad_parser.specs.Climbing.{climb_read};
-ghost use Rattle.scad_parser.specs.TokenClasses.{operators_at, levels_below, literals, suffix_signs, unary_signs};
-ghost use Rattle.scad_parser.specs.Views.{Gives};
+ghost use Rattle.scad_parser.specs.TokenClasses.{operators_at, levels_below, atoms, literals, suffix_signs, unary_signs};
+ghost use Rattle.scad_parser.specs.Views.{Gives, atom_of};
 
 use crate::class::{Class, Level};
 use crate::next::{
-    Parsed, behind_comma, binary, bytes, is_before, is_comma_before, is_lone_atom, is_named,
-    number, take, take_first, too_deep, unary_operator,
+    Parsed, behind_comma, binary, bytes, is_before, is_comma_before, is_named, lone_atom, number,
+    take, take_first, too_deep, unary_operator,
 };
 use scad_ast::{Arg, Args, Expr, Exprs, Link, Links, Suffix, Suffixes};
 use scad_lexer::{Reserved, Symbol, Token, TokenKind};
-use std::alloc::{AllocFailed, Global};
+use std::alloc::{AllocError, AllocFailed, Global};
 
 // What is rare stands in functions that are not inlined: the locals of a function are cleared at each call, also
 // those of forms that are not met. What was read is handed on as it is where nothing follows it, rather than taken
@@ -36,8 +36,8 @@ pub fn expr<'a>(alloc: Global, tokens: &'a [Token], depth: u32) -> Parsed<'a, Ex
     if depth == 0 {
         return Err(too_deep(Class::Expression, Class::LeftOutOfExpressions, tokens));
     }
-    if is_lone_atom(tokens) {
-        return primary(alloc, tokens, depth - 1);
+    if let Some((token, rest)) = lone_atom(tokens) {
+        return Ok((atom(alloc, token)?, rest));
     }
     choice(alloc, tokens, depth - 1)
 }
@@ -95,8 +95,8 @@ fn side<'a>(alloc: Global, tokens: &'a [Token], depth: u32, level: Level) -> Par
     ensures value { Gives (λ p. (term_of p.0, p.1.now)) result (chain_read (levels_below level) (unary_read (expr_read depth) (operand_read depth) (primary_read (expr_read depth) (arg_in depth (expr_read depth)))) tokens.now) }
     ensures rest { IfOk result (λ p. length p.1.now ≤ length tokens.now) }
 {
-    if is_lone_atom(tokens) {
-        return primary(alloc, tokens, depth);
+    if let Some((token, rest)) = lone_atom(tokens) {
+        return Ok((atom(alloc, token)?, rest));
     }
     let (first, rest) = unary(alloc, tokens, depth)?;
     climb_below(alloc, first, rest, depth, level)
@@ -227,8 +227,8 @@ fn operand<'a>(alloc: Global, tokens: &'a [Token], depth: u32) -> Parsed<'a, Exp
     if depth == 0 {
         return Err(too_deep(Class::Expression, Class::LeftOutOfExpressions, tokens));
     }
-    if is_lone_atom(tokens) {
-        return primary(alloc, tokens, depth - 1);
+    if let Some((token, rest)) = lone_atom(tokens) {
+        return Ok((atom(alloc, token)?, rest));
     }
     unary(alloc, tokens, depth - 1)
 }
@@ -330,16 +330,25 @@ fn literal<'a>(alloc: Global, tokens: &'a [Token]) -> Parsed<'a, Expr>
     ensures rest { IfOk result (λ p. length p.1.now ≤ length tokens.now) }
 {
     let (token, rest) = take(Class::Literal, tokens)?;
+    Ok((atom(alloc, token)?, rest))
+}
+
+/// A literal or a name alone.
+#[inline(always)]
+fn atom(alloc: Global, token: &Token) -> Result<Expr, AllocError>
+    requires { among atoms token.now ≡ true }
+    ensures { IfOk result (λ e. term_of e ≡ atom_of token.now) }
+{
     let place = token.place;
-    let value = match &token.kind {
+    Ok(match &token.kind {
+        TokenKind::Name(_) => Expr::Name(place, bytes(alloc, &token.kind)?),
         TokenKind::Numeral(_) => Expr::Number(place, number(&token.kind)),
         TokenKind::Text(_) => Expr::Text(place, bytes(alloc, &token.kind)?),
         TokenKind::Reserved(Reserved::True) => Expr::Truth(place, true),
         TokenKind::Reserved(Reserved::False) => Expr::Truth(place, false),
         TokenKind::Reserved(Reserved::Undef) => Expr::Undef(place),
         _ => Expr::ChildCount(place),
-    };
-    Ok((value, rest))
+    })
 }
 
 /// A name, and its arguments where it has some.

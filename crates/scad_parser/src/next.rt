@@ -1,12 +1,12 @@
-ghost use Rattle.std.specs.Prelude.{◌≡◌, ◌<◌, ◌≤◌, ◌∷◌, [], IfOk, IsTrue, length};
+ghost use Rattle.std.specs.Prelude.{◌≡◌, ◌<◌, ◌≤◌, ◌∷◌, [], true, false, IfOk, IfSome, IfNone, IsTrue, length};
 ghost use Rattle.scad_grammar.specs.Classes.{class_of, number_of, bytes_of, symbol_class, among, is, other_than};
 ghost use Rattle.scad_grammar.specs.Classes.{comma_sign, assign_sign, name};
 ghost use Rattle.scad_grammar.specs.Grammar.{binary_at, unary_at, modifier_at};
 ghost use Rattle.scad_grammar.specs.Faults.{one, first};
 ghost use Rattle.scad_grammar.specs.Reading.{starts};
-ghost use Rattle.scad_parser.specs.TokenClasses.{classes_of};
+ghost use Rattle.scad_parser.specs.TokenClasses.{classes_of, continuations};
 ghost use Rattle.scad_parser.specs.declared.class.Class.TheVariants.{LeftOut};
-ghost use Rattle.scad_parser.specs.Views.{Gives, IsStop, nested_fault, fault_at, item_stands, past_comma, names_value, lone_atom};
+ghost use Rattle.scad_parser.specs.Views.{Gives, IsStop, nested_fault, fault_at, item_stands, past_comma, names_value, has_lone_atom};
 
 use crate::class::Class;
 use compact_bytes::CompactBytes;
@@ -105,16 +105,26 @@ pub fn behind_comma(tokens: &[Token]) -> &[Token]
     }
 }
 
-/// Whether an atom stands here, and behind it a token that does not go on with an expression.
+/// An atom and the tokens behind it, where the first of these does not go on with it.
 #[inline(always)]
-pub fn is_lone_atom(tokens: &[Token]) -> bool
-    ensures { result ≡ lone_atom tokens.now }
+pub fn lone_atom<'a>(tokens: &'a [Token]) -> Option<(&'a Token, &'a [Token])>
+    ensures some { IfSome result (λ p. (tokens.now ≡ p.0.now ∷ p.1.now) × (has_lone_atom tokens.now ≡ true)) }
+    ensures none { IfNone result (has_lone_atom tokens.now ≡ false) }
 {
     match tokens {
-        [token, next, ..] => {
-            Class::Atom.has(&token.kind) && !Class::Continuation.has(&next.kind)
-        }
-        _ => false,
+        [token, rest @ ..] if Class::Atom.has(&token.kind) && is_apart(rest) => Some((token, rest)),
+        _ => None,
+    }
+}
+
+/// Whether a token stands here that does not go on with an atom before it.
+#[inline(always)]
+fn is_apart(tokens: &[Token]) -> bool
+    ensures { result ≡ starts (other_than continuations) tokens.now }
+{
+    match tokens {
+        [] => false,
+        [token, ..] => !Class::Continuation.has(&token.kind),
     }
 }
 

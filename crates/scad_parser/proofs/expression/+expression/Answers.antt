@@ -1,13 +1,14 @@
-use Rattle.std.proofs.Common.{rules, refl, ◌∙◌, [], ◌∷◌, sym, ap, arith}
+use Rattle.std.proofs.Common.{◌-◌, rules, refl, ◌∙◌, [], ◌∷◌, sym, ap, arith}
 use Rattle.std.proofs.lemmas.List.{map-append}
 use Rattle.std.proofs.lemmas.Result.{err_from_is_err_and}
 use Rattle.scad_ast.specs.ExprView.{term_of, link_of, suffix_of, arg_of}
 use Rattle.scad_grammar.specs.Classes.{close_bracket_sign, close_parenthesis_sign, among, other_than}
 use Rattle.scad_grammar.specs.Grammar.{levels}
-use Rattle.scad_grammar.specs.Reads.{expr_read, arg_in, suffix_read}
+use Rattle.scad_grammar.specs.Reads.{expr_read, operand_read, arg_in, suffix_read}
 use Rattle.scad_grammar.proofs.Readers.{loop_more, loop_end, loop_fault}
 use Rattle.scad_parser.specs.declared.class.Level.TheVariants.{Or}
 use Rattle.scad_parser.specs.TokenClasses.{operators_at, levels_below, suffix_signs}
+use Rattle.scad_parser.specs.Views.{has_lone_atom}
 use Rattle.scad_parser.proofs.Climbs.{chain_climbs, chain_stops, climb_none, climb_step, climb_step_none, climb_stops, many_none}
 use Rattle.scad_parser.proofs.Atoms.{atom_is_operand, atom_is_side, atom_is_expression}
 use Rattle.scad_parser.proofs.Levels.{same_level, looser_step}
@@ -35,24 +36,12 @@ pub chain-returns-in_default-clause-value : goal.chain-returns-in_default-clause
 chain-returns-in_default-clause-value t c =
     rw (chain_climbs levels _ c.args.tokens.now, c.in-Ok.ensures.value) (climb_none _ (term_of c.in-Ok.first) c.in-Ok.rest.now (sym c.begins.ensures ∙ c.if-begins.false))
 
-pub expr-returns-then-is_lone_atom-clause-value : goal.expr-returns-then-is_lone_atom-clause-value
-expr-returns-then-is_lone_atom-clause-value t c =
-    rw (expr_deeper c.args.depth c.args.tokens.now c.if-depth-eq0.false, atom_is_expression _ _ _ c.args.tokens.now (sym c.is_lone_atom.ensures ∙ c.if-is_lone_atom.true)) c.primary.ensures.value
-
-pub operand-returns-then-is_lone_atom-clause-value : goal.operand-returns-then-is_lone_atom-clause-value
-operand-returns-then-is_lone_atom-clause-value t c =
-    rw (operand_deeper c.args.depth c.args.tokens.now c.if-depth-eq0.false, atom_is_operand _ _ _ c.args.tokens.now (sym c.is_lone_atom.ensures ∙ c.if-is_lone_atom.true)) c.primary.ensures.value
-
-pub side-returns-then-is_lone_atom-clause-value : goal.side-returns-then-is_lone_atom-clause-value
-side-returns-then-is_lone_atom-clause-value t c =
-    rw (atom_is_side _ _ _ c.args.level c.args.tokens.now (sym c.is_lone_atom.ensures ∙ c.if-is_lone_atom.true)) c.primary.ensures.value
-
 pub side-returns-clause-value : goal.side-returns-clause-value
 side-returns-clause-value t c = rw (chain_climbs (levels_below c.args.level) _ c.args.tokens.now, c.in_ok-first.ensures.value) c.climb_below.ensures.value
 
 pub side-returns-in_err-first-clause-value : goal.side-returns-in_err-first-clause-value
 side-returns-in_err-first-clause-value t c =
-    let p = err_from_is_err_and c.from_residual.result c.from_residual.ensures.1 in
+    let p = err_from_is_err_and c.from_residual-in_err-first.result c.from_residual-in_err-first.ensures.1 in
     rw (p.1, p.2) (operand_goes c.in_err-first.field-0.0 _ _ (λ x e. chain_stops (levels_below c.args.level) _ c.args.tokens.now x e) c.in_err-first.ensures.value)
 
 pub climbed-returns-in_default-clause-value : goal.climbed-returns-in_default-clause-value
@@ -155,3 +144,18 @@ more_items-commas-preserved t c = record {
 
 pub more_items-returns-clause-value : goal.more_items-returns-clause-value
 more_items-returns-clause-value t c = rw (terms_roll (record { items = c.commas.items }), c.behind_comma-2.ensures.rest) (loop_end _ _ _ _ c.commas.invariant.told (trailing_end (other_than (close_bracket_sign ∷ [])) _ (expr_shorter c.args.depth) c.commas.rest.now (sym c.is_comma_before.ensures ∙ c.commas-test.false)))
+
+pub expr-returns-in-Some-clause-value : goal.expr-returns-in-Some-clause-value
+expr-returns-in-Some-clause-value t c =
+    let some = c.in-Some.ensures.some in
+    rw (expr_deeper c.args.depth c.args.tokens.now c.if-depth-eq0.false, c.in_ok-atom.ensures, some.0) (atom_is_expression (expr_read (c.args.depth - 1)) (operand_read (c.args.depth - 1)) (arg_in (c.args.depth - 1) (expr_read (c.args.depth - 1))) c.in-Some.token.now c.in-Some.rest.now (ap has_lone_atom (sym some.0) ∙ some.1))
+
+pub operand-returns-in-Some-clause-value : goal.operand-returns-in-Some-clause-value
+operand-returns-in-Some-clause-value t c =
+    let some = c.in-Some.ensures.some in
+    rw (operand_deeper c.args.depth c.args.tokens.now c.if-depth-eq0.false, c.in_ok-atom.ensures, some.0) (atom_is_operand (expr_read (c.args.depth - 1)) (operand_read (c.args.depth - 1)) (arg_in (c.args.depth - 1) (expr_read (c.args.depth - 1))) c.in-Some.token.now c.in-Some.rest.now (ap has_lone_atom (sym some.0) ∙ some.1))
+
+pub side-returns-in-Some-clause-value : goal.side-returns-in-Some-clause-value
+side-returns-in-Some-clause-value t c =
+    let some = c.in-Some.ensures.some in
+    rw (c.in_ok-atom.ensures, some.0) (atom_is_side (expr_read c.args.depth) (operand_read c.args.depth) (arg_in c.args.depth (expr_read c.args.depth)) c.args.level c.in-Some.token.now c.in-Some.rest.now (ap has_lone_atom (sym some.0) ∙ some.1))
