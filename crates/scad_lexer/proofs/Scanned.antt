@@ -418,6 +418,11 @@ is_symbol b w e f g h i j k = rw (e, f, g, h, i, j, k) refl
 pub symbol_found : (b : ℕ) (t : List ℕ) → blank b ≡ false → letter b ≡ false → digit b ≡ false → (b ≡ 36 → ⊥) → (b ≡ 34 → ⊥) → (b ≡ 46 → ⊥) → (b ≡ 47 → ⊥) → longest (symbol_of b) t ≡ longest (word_from b) t
 symbol_found b t e f g h i j k = sym (longest_same (word_from b) (symbol_of b) (λ w. is_symbol b w e f g (not_equal b 36 h) (not_equal b 34 i) (not_equal b 46 j) (not_equal b 47 k)) t)
 
+-- a blank byte is a word of its own
+pub blank_found : (t : List ℕ) → begins_with blank t ≡ true → IsLongest t 1 Blank
+blank_found [] h = absurd (cc)
+blank_found (b ∷ t) h = longest_is b t Blank 0 (sym (blank_word b t h))
+
 -- what a word is that begins with a symbol of one byte
 is_single : (b : ℕ) (w : List ℕ) (s : Symbol) → single b ≡ Some s → word_from b w ≡ symbol_of b w
 unfolding word_from

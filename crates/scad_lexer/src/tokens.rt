@@ -2,6 +2,7 @@ ghost use Rattle.std.specs.Prelude.{◌≡◌, ℕ, List, true, ◌+◌, ◌-◌
 ghost use Rattle.scad_lexer.specs.Words.{IsLongest};
 ghost use Rattle.scad_lexer.specs.Tokens.{Outcome, Gives, Lexes, Agrees, IsFault, IsFaultFrom, moved, AppendsNext, ends_once};
 
+use crate::class::Class;
 use crate::meaning::{Meaning, meant};
 use crate::scan::{lone_symbol, longest_word};
 use crate::token::{Token, TokenKind};
@@ -30,6 +31,7 @@ pub fn one_outcome()
     ensures { (text : List ℕ) (o q : Outcome) → Lexes text o → Lexes text q → o ≡ q }
 {}
 
+/// Blanks and symbols of one byte, which are most of the words, are read without a search for the longest one.
 fn read_tokens(alloc: Global, text: &[u8]) -> Result<Vec<Token>, Stop>
     requires { length text.now < 2 ^ 32 - 1 }
     ensures found { IfOk result (λ ts. Lexes text.now (Gives ts.items)) }
@@ -39,6 +41,11 @@ fn read_tokens(alloc: Global, text: &[u8]) -> Result<Vec<Token>, Stop>
     let mut rest = text;
     let mut place = Place { line: 1, column: 1 };
     'words: while !rest.is_empty() {
+        if Class::Blank.begins(rest) {
+            place = advance(place, &rest[..1]);
+            rest = &rest[1..];
+            continue;
+        }
         if let Some(symbol) = lone_symbol(rest) {
             push_token(&mut tokens, TokenKind::Symbol(symbol), place)?;
             place.column += 1;

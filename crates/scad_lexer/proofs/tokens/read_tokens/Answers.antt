@@ -1,12 +1,24 @@
-use Rattle.std.proofs.Common.{arith, rules, length-take-le, sym, refl}
+use Rattle.std.proofs.Common.{arith, rules, length-take-le, sym, refl, ◌∙◌}
 use Rattle.std.proofs.lemmas.Bool.{eqb-true}
 use Rattle.std.proofs.lemmas.Result.{err_from_is_err_and}
 use Rattle.text_place.specs.declared.fault.FaultKind.TheVariants.{BadCharacter}
 use Rattle.scad_lexer.specs.declared.token.TokenKind.TheVariants.{Symbol}
-use Rattle.scad_lexer.specs.declared.word.Word.TheVariants.{Symbol as SymbolWord}
+use Rattle.scad_lexer.specs.declared.word.Word.TheVariants.{Blank, Symbol as SymbolWord}
 use Rattle.scad_lexer.specs.Tokens.{Faults}
-use Rattle.scad_lexer.proofs.Lexing.{appends_one, goes_on, goes_end, goes_fault, moved_symbol, rest_length, stray}
+use Rattle.scad_lexer.proofs.Lexing.{appends_none, appends_one, goes_on, goes_end, goes_fault, moved_symbol, rest_length, stray}
+use Rattle.scad_lexer.proofs.Scanned.{blank_found}
 use Rattle.scad_lexer.proofs.tokens.read_tokens.Goals as goal
+
+pub words-preserved-then-begins : goal.words-preserved-then-begins
+words-preserved-then-begins c =
+    let rest = c.words.rest.now in
+    let longest = blank_found rest (sym c.begins.ensures.begins ∙ c.if-begins.true) in
+    let next = appends_none rest c.words.tokens.items c.words.place 1 Blank longest refl in
+    record {
+      told = rw c.advance-place.ensures.moved (goes_on c.args.text.now c.words.tokens.items _ c.words.place rest 1 c.words.invariant.told next);
+      line = omega (arith, c.advance-place.ensures.line, rest_length rest 1 longest.within, length-take-le 1 rest longest.within, c.words.invariant.line);
+      column = omega (arith, c.advance-place.ensures.column, rest_length rest 1 longest.within, length-take-le 1 rest longest.within, c.words.invariant.column);
+    }
 
 pub words-preserved-in-Some : goal.words-preserved-in-Some
 words-preserved-in-Some c =
@@ -31,9 +43,9 @@ words-preserved c =
     let step = goes_on c.args.text.now c.words.tokens.items _ c.words.place c.words.rest.now bytes c.words.invariant.told c.in_ok-push_word.ensures.appended in
     let within = c.in_ok-push_word.ensures.appended.longest.within in
     record {
-      told = rw c.advance-place.ensures.moved step;
-      line = omega (arith, c.advance-place.ensures.line, rest_length c.words.rest.now bytes within, length-take-le bytes c.words.rest.now within, c.words.invariant.line);
-      column = omega (arith, c.advance-place.ensures.column, rest_length c.words.rest.now bytes within, length-take-le bytes c.words.rest.now within, c.words.invariant.column);
+      told = rw c.advance-place-in-words.ensures.moved step;
+      line = omega (arith, c.advance-place-in-words.ensures.line, rest_length c.words.rest.now bytes within, length-take-le bytes c.words.rest.now within, c.words.invariant.line);
+      column = omega (arith, c.advance-place-in-words.ensures.column, rest_length c.words.rest.now bytes within, length-take-le bytes c.words.rest.now within, c.words.invariant.column);
     }
 
 pub returns-clause-found : goal.returns-clause-found
