@@ -50,24 +50,24 @@ fn name(alloc: Global, bytes: &[u8]) -> Result<TokenKind, NoMemory>
     }
 }
 
-/// The reserved name that a word is, if it is one. Names are told apart by their lengths first.
+/// The reserved name that a word is, if it is one.
 fn reserved(word: &[u8]) -> Option<Reserved>
     ensures { result ≡ reserved_of word.now }
 {
-    match word.len() {
-        2 if word == b"if".as_slice() => Some(Reserved::If),
-        3 if word == b"for".as_slice() => Some(Reserved::For),
-        3 if word == b"use".as_slice() => Some(Reserved::Use),
-        3 if word == b"let".as_slice() => Some(Reserved::Let),
-        4 if word == b"else".as_slice() => Some(Reserved::Else),
-        4 if word == b"true".as_slice() => Some(Reserved::True),
-        4 if word == b"each".as_slice() => Some(Reserved::Each),
-        5 if word == b"false".as_slice() => Some(Reserved::False),
-        5 if word == b"undef".as_slice() => Some(Reserved::Undef),
-        6 if word == b"module".as_slice() => Some(Reserved::Module),
-        7 if word == b"include".as_slice() => Some(Reserved::Include),
-        8 if word == b"function".as_slice() => Some(Reserved::Function),
-        16 if word == b"intersection_for".as_slice() => Some(Reserved::IntersectionFor),
+    match word {
+        b"if" => Some(Reserved::If),
+        b"for" => Some(Reserved::For),
+        b"use" => Some(Reserved::Use),
+        b"let" => Some(Reserved::Let),
+        b"else" => Some(Reserved::Else),
+        b"true" => Some(Reserved::True),
+        b"each" => Some(Reserved::Each),
+        b"false" => Some(Reserved::False),
+        b"undef" => Some(Reserved::Undef),
+        b"module" => Some(Reserved::Module),
+        b"include" => Some(Reserved::Include),
+        b"function" => Some(Reserved::Function),
+        b"intersection_for" => Some(Reserved::IntersectionFor),
         _ => None,
     }
 }
