@@ -31,7 +31,7 @@ pub fn one_outcome()
     ensures { (text : List ℕ) (o q : Outcome) → Lexes text o → Lexes text q → o ≡ q }
 {}
 
-/// Blanks and symbols of one byte, which are most of the words, are read without a search for the longest one.
+/// Blanks and symbols of one byte are most of the words, and read without a search for the longest one.
 fn read_tokens(alloc: Global, text: &[u8]) -> Result<Vec<Token>, Stop>
     requires { length text.now < 2 ^ 32 - 1 }
     ensures found { IfOk result (λ ts. Lexes text.now (Gives ts.items)) }

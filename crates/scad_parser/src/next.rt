@@ -164,7 +164,7 @@ pub fn take_first<'a>(class: Class, tokens: &'a [Token]) -> Parsed<'a, &'a Token
     }
 }
 
-/// The fault of the next token, by what the profile leaves out here. Faults are rare: what reads has no room for them.
+/// The fault of the next token, by what the profile leaves out here. Faults are rare, and not inlined.
 #[inline(never)]
 fn fault(left_out: Class, tokens: &[Token]) -> SyntaxFault
     ensures { result ≡ fault_at (classes_of left_out) tokens.now }
