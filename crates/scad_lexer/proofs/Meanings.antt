@@ -114,10 +114,12 @@ abbrev pub AreAt : List ℕ → ℕ → List ℕ → Type 0
 AreAt [] n w = Unit {0}
 AreAt (b ∷ v) n w = (get_or w n 0 ≡ b) × AreAt v (suc n) w
 
+-- the same without the first byte of the word
 are_behind : (v : List ℕ) (n c : ℕ) (w : List ℕ) → AreAt v (suc n) (c ∷ w) → AreAt v n w
 are_behind [] n c w h = tt
 are_behind (b ∷ v) n c w h = (h.0, are_behind v (suc n) c w h.1)
 
+-- a word of the same length is these bytes
 pub spelled : (v w : List ℕ) → length w ≡ length v → AreAt v 0 w → w ≡ v
 spelled [] [] l h = refl
 spelled [] (c ∷ w) l h = absurd (omega arith)

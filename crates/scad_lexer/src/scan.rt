@@ -18,7 +18,7 @@ pub fn longest_word(text: &[u8]) -> Option<(Word, usize)>
     }
 }
 
-/// The symbol that the text begins with, where no longer word begins there.
+/// The symbol that the text begins with, where its byte begins no longer word, whatever follows.
 #[inline(always)]
 pub fn lone_symbol(text: &[u8]) -> Option<Symbol>
     ensures { IfSome result (λ s. IsLongest text.now 1 (Word.Symbol s)) }

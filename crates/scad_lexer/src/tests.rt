@@ -75,9 +75,57 @@ fn reads_tokens(rt: HostRuntime) -> Result<(), Fail> {
     Ok(())
 }
 
+// A symbol of one byte at the end of the source, and directly before a name, a numeral and another symbol.
+#[test]
+fn reads_symbols_of_one_byte(rt: HostRuntime) -> Result<(), Fail> {
+    let symbols: [(&[u8], &str); 21] = [
+        (b"(", "OpenParenthesis"),
+        (b")", "CloseParenthesis"),
+        (b"[", "OpenBracket"),
+        (b"]", "CloseBracket"),
+        (b"{", "OpenBrace"),
+        (b"}", "CloseBrace"),
+        (b",", "Comma"),
+        (b";", "Semicolon"),
+        (b"=", "Assign"),
+        (b":", "Colon"),
+        (b"?", "Question"),
+        (b"+", "Plus"),
+        (b"-", "Minus"),
+        (b"*", "Times"),
+        (b"/", "Divide"),
+        (b"%", "Remainder"),
+        (b"<", "Less"),
+        (b">", "Greater"),
+        (b"!", "Not"),
+        (b"#", "Hash"),
+        (b"^", "Caret"),
+    ];
+    let behind: [(&[u8], &str); 4] = [
+        (b"", "End 1:2, "),
+        (b"a", "name [97] 1:2, End 1:3, "),
+        (b"7", "7 1:2, End 1:3, "),
+        (b"(", "OpenParenthesis 1:2, End 1:3, "),
+    ];
+    for (symbol, kind) in symbols {
+        for (more, tokens) in behind {
+            let mut source = Vec::new(rt.alloc());
+            source.extend_from_slice(symbol)?;
+            source.extend_from_slice(more)?;
+            let wanted = format!(in rt.alloc(); "{kind} 1:1, {tokens}")?;
+            assert_eq!(rt; told(rt.alloc(), &source)?.as_str(), wanted.as_str());
+        }
+    }
+    assert_eq!(rt;
+        told(rt.alloc(), b".a.")?.as_str(),
+        "Dot 1:1, name [97] 1:2, Dot 1:3, End 1:4, "
+    );
+    Ok(())
+}
+
 #[test]
 fn finds_the_first_fault(rt: HostRuntime) -> Result<(), Fail> {
-    let cases: [(&[u8], &str); 19] = [
+    let cases: [(&[u8], &str); 22] = [
         (b"cube([1.5,2,3]);\n", "1:7 NotWhole"),
         (b"cube(1.5);\n", "1:6 NotWhole"),
         (b"x = \"abc;\n", "1:5 OpenText"),
@@ -97,6 +145,9 @@ fn finds_the_first_fault(rt: HostRuntime) -> Result<(), Fail> {
         (b"a & b\n", "1:3 BadCharacter"),
         (b"$ x\n", "1:1 BadCharacter"),
         (b"a @ \"\n", "1:3 BadCharacter"),
+        (b"\t\r @\n", "1:4 BadCharacter"),
+        (b"a;\t@\n", "1:4 BadCharacter"),
+        (b"[\r\n\t@\n", "2:2 BadCharacter"),
     ];
     for (source, fault) in cases {
         assert_eq!(rt; told(rt.alloc(), source)?.as_str(), fault);

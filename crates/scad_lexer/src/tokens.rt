@@ -31,7 +31,8 @@ pub fn one_outcome()
     ensures { (text : List ℕ) (o q : Outcome) → Lexes text o → Lexes text q → o ≡ q }
 {}
 
-/// Blanks and symbols of one byte are most of the words, and read without a search for the longest one.
+/// Most words are blank bytes, and symbols that begin no longer word: they are read without a search for the
+/// longest one.
 fn read_tokens(alloc: Global, text: &[u8]) -> Result<Vec<Token>, Stop>
     requires { length text.now < 2 ^ 32 - 1 }
     ensures found { IfOk result (λ ts. Lexes text.now (Gives ts.items)) }

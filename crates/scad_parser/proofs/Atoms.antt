@@ -4,22 +4,16 @@ use Rattle.std.proofs.lemmas.Bool.{eqb-true}
 use Rattle.scad_lexer.specs.declared.token.Token.{Token}
 use Rattle.scad_ast.specs.Terms.{Term, NameTerm, ArgTerm}
 use Rattle.scad_grammar.specs.declared.SyntaxFault.{SyntaxFault}
-use Rattle.scad_grammar.specs.Classes.{numeral, text, true_word, false_word, undef_word, child_count, name, question_sign, colon_sign, open_parenthesis_sign, class_of, listed, among, is, other_than, bytes_of}
-use Rattle.scad_grammar.specs.Faults.{Reads, one}
-use Rattle.scad_grammar.specs.Grammar.{levels, postfix_of, choice_of}
-use Rattle.scad_grammar.specs.Languages.{pair_of, second_of}
-use Rattle.scad_grammar.specs.Reading.{Read, after, starts, both, choice, maybe, many}
+use Rattle.scad_grammar.specs.Classes.{numeral, text, true_word, false_word, undef_word, child_count, name, question_sign, open_parenthesis_sign, class_of, listed, among, is, other_than, bytes_of}
+use Rattle.scad_grammar.specs.Faults.{Reads}
+use Rattle.scad_grammar.specs.Grammar.{levels}
+use Rattle.scad_grammar.specs.Reading.{Read, after, starts, choice}
 use Rattle.scad_grammar.specs.Reads.{suffix_read, unary_read, chain_read, paren_read, bracket_read, name_read, primary_read, choice_read}
 use Rattle.scad_parser.specs.declared.class.Level.{Level}
 use Rattle.scad_parser.specs.Climbing.{climb_read}
 use Rattle.scad_parser.specs.TokenClasses.{joined, binary_signs, unary_signs, suffix_signs, literals, atoms, continuations, operators_at, levels_below}
 use Rattle.scad_parser.specs.Views.{has_lone_atom, atom_of}
 use Rattle.scad_parser.proofs.Climbs.{chain_climbs, climbs_none, many_none, starts_apart, none_at, none_below}
-
--- what is left does not go on with an expression
-abbrev Ends : Read Token SyntaxFault Term → Type 0
-Ends (Ok p) = starts (among continuations) p.1 ≡ false
-Ends (Err y) = Unit {0}
 
 module _ (us : List Token) (e : starts (among continuations) us ≡ false) where
   no_choice : starts (is question_sign) us ≡ false
@@ -103,58 +97,35 @@ module _ (e : Reads Term) (a : Reads ArgTerm) (t : Token) (us : List Token) wher
 unsigned : (t : Token) → among atoms t ≡ true → among unary_signs t ≡ false
 unsigned t = spared (listed unary_signs) atoms (class_of t.kind) (refl, (refl, (refl, (refl, (refl, (refl, (refl, tt)))))))
 
--- nothing more is read behind what ends
-no_postfix : (e : Reads Term) (q : Read Token SyntaxFault Term) → Ends q
-    → after q (λ x us. after (many (among suffix_signs) (suffix_read e) us) (λ y vs. Ok (postfix_of x y, vs))) ≡ q
-no_postfix e (Ok p) h = rw (many_none (among suffix_signs) (suffix_read e) p.1 (no_suffix p.1 h)) refl
-no_postfix e (Err y) h = refl
+-- what stands behind an atom alone does not go on with it
+apart : (us : List Token) → starts (other_than continuations) us ≡ true → starts (among continuations) us ≡ false
+apart [] h = refl
+apart (u ∷ us) h = go (among continuations u) h
+  where
+    go : (b : Bool) → not b ≡ true → b ≡ false
+    go true h = absurd (cc)
+    go false h = refl
 
-no_climb : (ls : List (List ℕ)) (w : Reads Term) → ((us : List Token) → starts (among binary_signs) us ≡ false → starts (among (joined ls)) us ≡ false)
-    → (q : Read Token SyntaxFault Term) → Ends q → after q (climb_read ls w) ≡ q
-no_climb ls w none (Ok p) h = climbs_none ls w p.0 p.1 (none p.1 (no_operator p.1 h))
-no_climb ls w none (Err y) h = refl
+module _ (e w : Reads Term) (a : Reads ArgTerm) (t : Token) (us : List Token) (h : has_lone_atom (t ∷ us) ≡ true) where
+  atom : among atoms t ≡ true
+  atom = (both_hold (among atoms t) (starts (other_than continuations) us) h).0
 
-no_choosing : (r : Reads (Token × (Term × Term))) (q : Read Token SyntaxFault Term) → Ends q
-    → after q (λ x us. after (maybe (is question_sign) r us) (λ y vs. Ok (choice_of x y, vs))) ≡ q
-no_choosing r (Ok p) h = rw (no_choice p.1 h) refl
-no_choosing r (Err y) h = refl
+  ends : starts (among continuations) us ≡ false
+  ends = apart us (both_hold (among atoms t) (starts (other_than continuations) us) h).1
 
-module _ (e w : Reads Term) (a : Reads ArgTerm) where
-  -- what stands behind a lone atom does not go on with it
-  apart : (us : List Token) → starts (other_than continuations) us ≡ true → starts (among continuations) us ≡ false
-  apart [] h = refl
-  apart (u ∷ us) h = go (among continuations u) h
-    where
-      go : (b : Bool) → not b ≡ true → b ≡ false
-      go true h = absurd (cc)
-      go false h = refl
+  pub atom_is_operand : unary_read e w (primary_read e a) (t ∷ us) ≡ Ok (atom_of t, us)
+  atom_is_operand =
+      rw (unsigned t atom, atom_read e a t us atom (no_arguments us ends), many_none (among suffix_signs) (suffix_read e) us (no_suffix us ends)) refl
 
-  atom_alone : (t : Token) (us : List Token) → has_lone_atom (t ∷ us) ≡ true → primary_read e a (t ∷ us) ≡ Ok (atom_of t, us)
-  atom_alone t us h =
-      let p = both_hold (among atoms t) (starts (other_than continuations) us) h in
-      atom_read e a t us p.0 (no_arguments us (apart us p.1))
-
-  atom_ends : (t : Token) (us : List Token) → has_lone_atom (t ∷ us) ≡ true → Ends (primary_read e a (t ∷ us))
-  atom_ends t us h = rw (atom_alone t us h) (apart us (both_hold (among atoms t) (starts (other_than continuations) us) h).1)
-
-  pub atom_is_operand : (t : Token) (us : List Token) → has_lone_atom (t ∷ us) ≡ true → unary_read e w (primary_read e a) (t ∷ us) ≡ Ok (atom_of t, us)
-  atom_is_operand t us h =
-      rw (unsigned t (both_hold (among atoms t) (starts (other_than continuations) us) h).0)
-      (no_postfix e (primary_read e a (t ∷ us)) (atom_ends t us h) ∙ atom_alone t us h)
-
-  atom_is_chain : (ls : List (List ℕ)) → ((us : List Token) → starts (among binary_signs) us ≡ false → starts (among (joined ls)) us ≡ false)
-      → (t : Token) (us : List Token) → has_lone_atom (t ∷ us) ≡ true → chain_read ls (unary_read e w (primary_read e a)) (t ∷ us) ≡ Ok (atom_of t, us)
-  atom_is_chain ls none t us h =
-      let ends : Ends (Ok (atom_of t, us)) = apart us (both_hold (among atoms t) (starts (other_than continuations) us) h).1 in
+  atom_is_chain : (ls : List (List ℕ)) → ((vs : List Token) → starts (among binary_signs) vs ≡ false → starts (among (joined ls)) vs ≡ false)
+      → chain_read ls (unary_read e w (primary_read e a)) (t ∷ us) ≡ Ok (atom_of t, us)
+  atom_is_chain ls none =
       chain_climbs ls (unary_read e w (primary_read e a)) (t ∷ us)
-      ∙ ap (λ q. after q (climb_read ls (unary_read e w (primary_read e a)))) (atom_is_operand t us h)
-      ∙ no_climb ls (unary_read e w (primary_read e a)) none (Ok (atom_of t, us)) ends
+      ∙ ap (λ q. after q (climb_read ls (unary_read e w (primary_read e a)))) atom_is_operand
+      ∙ climbs_none ls (unary_read e w (primary_read e a)) (atom_of t) us (none us (no_operator us ends))
 
-  pub atom_is_side : (level : Level) (t : Token) (us : List Token) → has_lone_atom (t ∷ us) ≡ true → chain_read (levels_below level) (unary_read e w (primary_read e a)) (t ∷ us) ≡ Ok (atom_of t, us)
-  atom_is_side level = atom_is_chain (levels_below level) (λ us g. none_below (operators_at level) (levels_below level) us (none_at level us g))
+  pub atom_is_side : (level : Level) → chain_read (levels_below level) (unary_read e w (primary_read e a)) (t ∷ us) ≡ Ok (atom_of t, us)
+  atom_is_side level = atom_is_chain (levels_below level) (λ vs g. none_below (operators_at level) (levels_below level) vs (none_at level vs g))
 
-  pub atom_is_expression : (t : Token) (us : List Token) → has_lone_atom (t ∷ us) ≡ true → choice_read e w (primary_read e a) (t ∷ us) ≡ Ok (atom_of t, us)
-  atom_is_expression t us h =
-      let ends : Ends (Ok (atom_of t, us)) = apart us (both_hold (among atoms t) (starts (other_than continuations) us) h).1 in
-      ap (λ q. after q (λ x us. after (maybe (is question_sign) (both pair_of (one (is question_sign)) (both pair_of e (both second_of (one (is colon_sign)) e))) us) (λ y vs. Ok (choice_of x y, vs)))) (atom_is_chain levels (λ us g. g) t us h)
-      ∙ no_choosing (both pair_of (one (is question_sign)) (both pair_of e (both second_of (one (is colon_sign)) e))) (Ok (atom_of t, us)) ends
+  pub atom_is_expression : choice_read e w (primary_read e a) (t ∷ us) ≡ Ok (atom_of t, us)
+  atom_is_expression = rw (atom_is_chain levels (λ vs g. g), no_choice us ends) refl

@@ -23,8 +23,8 @@ use std::alloc::{AllocError, AllocFailed, Global};
 
 // What is rare stands in functions that are not inlined: the locals of a function are cleared at each call, also
 // those of forms that are not met. What was read is handed on as it is where nothing follows it, rather than taken
-// apart and put together again; most expressions are a literal or a name alone, and what these make is written where
-// the caller wants it, since `expr` and `arg` are inlined.
+// apart and put together again. Most expressions are a literal or a name alone: `atom` makes these where the caller
+// wants them, since it is inlined like `expr` and `arg`.
 
 /// An expression whose tokens are less deep than so much.
 #[cycle(expression)]
@@ -361,7 +361,7 @@ fn named<'a>(alloc: Global, tokens: &'a [Token], depth: u32) -> Parsed<'a, Expr>
     if Class::Sign(Symbol::OpenParenthesis).begins(rest) {
         return called(alloc, name, rest, depth);
     }
-    Ok((Expr::Name(name.place, bytes(alloc, &name.kind)?), rest))
+    Ok((atom(alloc, name)?, rest))
 }
 
 /// A call of a function, by its name.

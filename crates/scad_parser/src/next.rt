@@ -112,14 +112,16 @@ pub fn lone_atom<'a>(tokens: &'a [Token]) -> Option<(&'a Token, &'a [Token])>
     ensures none { IfNone result (has_lone_atom tokens.now ≡ false) }
 {
     match tokens {
-        [token, rest @ ..] if Class::Atom.has(&token.kind) && is_apart(rest) => Some((token, rest)),
+        [token, rest @ ..] if Class::Atom.has(&token.kind) && ends_atom(rest) => Some((
+            token, rest,
+        )),
         _ => None,
     }
 }
 
 /// Whether a token stands here that does not go on with an atom before it.
 #[inline(always)]
-fn is_apart(tokens: &[Token]) -> bool
+fn ends_atom(tokens: &[Token]) -> bool
     ensures { result ≡ starts (other_than continuations) tokens.now }
 {
     match tokens {
@@ -164,7 +166,7 @@ pub fn take_first<'a>(class: Class, tokens: &'a [Token]) -> Parsed<'a, &'a Token
     }
 }
 
-/// The fault of the next token, by what the profile leaves out here. Faults are rare, and not inlined.
+/// The fault of the next token, by what the profile leaves out here. It is not inlined, since faults are rare.
 #[inline(never)]
 fn fault(left_out: Class, tokens: &[Token]) -> SyntaxFault
     ensures { result ≡ fault_at (classes_of left_out) tokens.now }

@@ -206,6 +206,67 @@ fn groups_operators_by_level(rt: HostRuntime) -> Result<(), Fail> {
     Ok(())
 }
 
+// An operand of one token, alone and in every place: before each operator, index, member and `?`, behind an operator and
+// behind a sign. Blanks behind it bring what follows to one column.
+#[test]
+fn reads_operands_of_one_token(rt: HostRuntime) -> Result<(), Fail> {
+    let atoms: [(&[u8], &[u8], &[u8]); 7] = [
+        (b"7", b"         ", b"7"),
+        (b"\"s\"", b"       ", b"'s"),
+        (b"true", b"      ", b"true"),
+        (b"false", b"     ", b"false"),
+        (b"undef", b"     ", b"undef"),
+        (b"$children", b" ", b"$children"),
+        (b"n", b"         ", b"n"),
+    ];
+    let places: [(&[u8], &[u8], &[u8], &[u8]); 21] = [
+        (b"x=", b";\n", b"{set x@1 ", b"@3 }"),
+        (b"x=", b"||1;\n", b"{set x@1 (chain@3 ", b"@3 ||@13 1@15 )}"),
+        (b"x=", b"&&1;\n", b"{set x@1 (chain@3 ", b"@3 &&@13 1@15 )}"),
+        (b"x=", b"==1;\n", b"{set x@1 (chain@3 ", b"@3 ==@13 1@15 )}"),
+        (b"x=", b"!=1;\n", b"{set x@1 (chain@3 ", b"@3 !=@13 1@15 )}"),
+        (b"x=", b"<1;\n", b"{set x@1 (chain@3 ", b"@3 <@13 1@14 )}"),
+        (b"x=", b"<=1;\n", b"{set x@1 (chain@3 ", b"@3 <=@13 1@15 )}"),
+        (b"x=", b">1;\n", b"{set x@1 (chain@3 ", b"@3 >@13 1@14 )}"),
+        (b"x=", b">=1;\n", b"{set x@1 (chain@3 ", b"@3 >=@13 1@15 )}"),
+        (b"x=", b"+1;\n", b"{set x@1 (chain@3 ", b"@3 +@13 1@14 )}"),
+        (b"x=", b"-1;\n", b"{set x@1 (chain@3 ", b"@3 -@13 1@14 )}"),
+        (b"x=", b"*1;\n", b"{set x@1 (chain@3 ", b"@3 *@13 1@14 )}"),
+        (b"x=", b"/1;\n", b"{set x@1 (chain@3 ", b"@3 /@13 1@14 )}"),
+        (b"x=", b"%1;\n", b"{set x@1 (chain@3 ", b"@3 %@13 1@14 )}"),
+        (
+            b"x=",
+            b"[1];\n",
+            b"{set x@1 (postfix@3 ",
+            b"@3 []@13 1@14 )}",
+        ),
+        (b"x=", b".y;\n", b"{set x@1 (postfix@3 ", b"@3 .@13 y@14 )}"),
+        (
+            b"x=",
+            b"?1:2;\n",
+            b"{set x@1 (choice@3 ",
+            b"@3 ?@13 1@14 2@16 )}",
+        ),
+        (b"x=1+", b";\n", b"{set x@1 (chain@3 1@3 +@4 ", b"@5 )}"),
+        (
+            b"x=1*",
+            b"-2;\n",
+            b"{set x@1 (chain@3 (chain@3 1@3 *@4 ",
+            b"@5 )-@15 2@16 )}",
+        ),
+        (b"x=-", b";\n", b"{set x@1 (neg@3 ", b"@4 )}"),
+        (b"x=[", b"];\n", b"{set x@1 (list@3 ", b"@4 )}"),
+    ];
+    for (atom, blanks, shown) in atoms {
+        for (before, behind, opens, closes) in places {
+            let source = joined(rt.alloc(), &[before, atom, blanks, behind])?;
+            let program = joined(rt.alloc(), &[opens, shown, closes])?;
+            assert_eq!(rt; told(rt.alloc(), &source)?.as_slice(), program.as_slice());
+        }
+    }
+    Ok(())
+}
+
 // An `else` belongs to the nearest `if`.
 #[test]
 fn reads_choices(rt: HostRuntime) -> Result<(), Fail> {

@@ -23,11 +23,21 @@ use Rattle.scad_parser.proofs.expression.+expression.Goals.{climb_below-then-beg
 pub expr-returns-then-depth-eq0-clause-value : goal.expr-returns-then-depth-eq0-clause-value
 expr-returns-then-depth-eq0-clause-value t c = rw (expr_none c.args.depth c.args.tokens.now c.if-depth-eq0.true) (search rules)
 
+pub expr-returns-in-Some-clause-value : goal.expr-returns-in-Some-clause-value
+expr-returns-in-Some-clause-value t c =
+    let some = c.in-Some.ensures.some in
+    rw (expr_deeper c.args.depth c.args.tokens.now c.if-depth-eq0.false, c.in_ok-atom.ensures, some.0) (atom_is_expression (expr_read (c.args.depth - 1)) (operand_read (c.args.depth - 1)) (arg_in (c.args.depth - 1) (expr_read (c.args.depth - 1))) c.in-Some.token.now c.in-Some.rest.now (ap has_lone_atom (sym some.0) ∙ some.1))
+
 pub expr-returns-clause-value : goal.expr-returns-clause-value
 expr-returns-clause-value t c = rw (expr_deeper c.args.depth c.args.tokens.now c.if-depth-eq0.false) c.choice.ensures.value
 
 pub operand-returns-then-depth-eq0-clause-value : goal.operand-returns-then-depth-eq0-clause-value
 operand-returns-then-depth-eq0-clause-value t c = rw (operand_none c.args.depth c.args.tokens.now c.if-depth-eq0.true) (search rules)
+
+pub operand-returns-in-Some-clause-value : goal.operand-returns-in-Some-clause-value
+operand-returns-in-Some-clause-value t c =
+    let some = c.in-Some.ensures.some in
+    rw (operand_deeper c.args.depth c.args.tokens.now c.if-depth-eq0.false, c.in_ok-atom.ensures, some.0) (atom_is_operand (expr_read (c.args.depth - 1)) (operand_read (c.args.depth - 1)) (arg_in (c.args.depth - 1) (expr_read (c.args.depth - 1))) c.in-Some.token.now c.in-Some.rest.now (ap has_lone_atom (sym some.0) ∙ some.1))
 
 pub operand-returns-clause-value : goal.operand-returns-clause-value
 operand-returns-clause-value t c = rw (operand_deeper c.args.depth c.args.tokens.now c.if-depth-eq0.false) c.unary.ensures.value
@@ -35,6 +45,11 @@ operand-returns-clause-value t c = rw (operand_deeper c.args.depth c.args.tokens
 pub chain-returns-in_default-clause-value : goal.chain-returns-in_default-clause-value
 chain-returns-in_default-clause-value t c =
     rw (chain_climbs levels _ c.args.tokens.now, c.in-Ok.ensures.value) (climb_none _ (term_of c.in-Ok.first) c.in-Ok.rest.now (sym c.begins.ensures ∙ c.if-begins.false))
+
+pub side-returns-in-Some-clause-value : goal.side-returns-in-Some-clause-value
+side-returns-in-Some-clause-value t c =
+    let some = c.in-Some.ensures.some in
+    rw (c.in_ok-atom.ensures, some.0) (atom_is_side (expr_read c.args.depth) (operand_read c.args.depth) (arg_in c.args.depth (expr_read c.args.depth)) c.in-Some.token.now c.in-Some.rest.now (ap has_lone_atom (sym some.0) ∙ some.1) c.args.level)
 
 pub side-returns-clause-value : goal.side-returns-clause-value
 side-returns-clause-value t c = rw (chain_climbs (levels_below c.args.level) _ c.args.tokens.now, c.in_ok-first.ensures.value) c.climb_below.ensures.value
@@ -144,18 +159,3 @@ more_items-commas-preserved t c = record {
 
 pub more_items-returns-clause-value : goal.more_items-returns-clause-value
 more_items-returns-clause-value t c = rw (terms_roll (record { items = c.commas.items }), c.behind_comma-2.ensures.rest) (loop_end _ _ _ _ c.commas.invariant.told (trailing_end (other_than (close_bracket_sign ∷ [])) _ (expr_shorter c.args.depth) c.commas.rest.now (sym c.is_comma_before.ensures ∙ c.commas-test.false)))
-
-pub expr-returns-in-Some-clause-value : goal.expr-returns-in-Some-clause-value
-expr-returns-in-Some-clause-value t c =
-    let some = c.in-Some.ensures.some in
-    rw (expr_deeper c.args.depth c.args.tokens.now c.if-depth-eq0.false, c.in_ok-atom.ensures, some.0) (atom_is_expression (expr_read (c.args.depth - 1)) (operand_read (c.args.depth - 1)) (arg_in (c.args.depth - 1) (expr_read (c.args.depth - 1))) c.in-Some.token.now c.in-Some.rest.now (ap has_lone_atom (sym some.0) ∙ some.1))
-
-pub operand-returns-in-Some-clause-value : goal.operand-returns-in-Some-clause-value
-operand-returns-in-Some-clause-value t c =
-    let some = c.in-Some.ensures.some in
-    rw (operand_deeper c.args.depth c.args.tokens.now c.if-depth-eq0.false, c.in_ok-atom.ensures, some.0) (atom_is_operand (expr_read (c.args.depth - 1)) (operand_read (c.args.depth - 1)) (arg_in (c.args.depth - 1) (expr_read (c.args.depth - 1))) c.in-Some.token.now c.in-Some.rest.now (ap has_lone_atom (sym some.0) ∙ some.1))
-
-pub side-returns-in-Some-clause-value : goal.side-returns-in-Some-clause-value
-side-returns-in-Some-clause-value t c =
-    let some = c.in-Some.ensures.some in
-    rw (c.in_ok-atom.ensures, some.0) (atom_is_side (expr_read c.args.depth) (operand_read c.args.depth) (arg_in c.args.depth (expr_read c.args.depth)) c.args.level c.in-Some.token.now c.in-Some.rest.now (ap has_lone_atom (sym some.0) ∙ some.1))
