@@ -4,9 +4,11 @@ ghost use Rattle.scad_ast.specs.ExprView.{term_of};
 
 use crate::operator::{BinaryOp, UnaryOp};
 use compact_bytes::CompactBytes;
+use std::mem::size_of;
 use text_place::Place;
 
-/// An expression. The first place of each form is that of its first token.
+/// An expression. The first place of each form is that of its first token. What has no room beside the place lies in one
+/// box, so that an expression takes 32 bytes.
 #[cycle(expression)]
 #[derive(Drop)]
 pub enum Expr {
@@ -17,29 +19,76 @@ pub enum Expr {
     /// `$children`
     ChildCount(Place),
     Name(Place, CompactBytes),
-    /// A function's name and its arguments.
-    Call(Place, CompactBytes, Args),
+    Call(Place, Box<Call>),
     /// What stands in parentheses.
     Paren(Place, Box<Expr>),
-    List(Place, Exprs),
-    /// `[from : to]`
-    Range(Place, Box<Expr>, Box<Expr>),
-    /// `[from : step : to]`
-    SteppedRange(Place, Box<Expr>, Box<Expr>, Box<Expr>),
-    /// Indexes and members behind an expression, at least one.
-    Postfix(Place, Box<Expr>, Suffixes),
+    List(Place, Box<Exprs>),
+    Range(Place, Box<Range>),
+    SteppedRange(Place, Box<SteppedRange>),
+    Postfix(Place, Box<Postfix>),
     Unary(Place, UnaryOp, Box<Expr>),
-    /// Operators of one level and what stands between them, at least one; they group to the left.
-    Chain(Place, Box<Expr>, Links),
-    /// `condition ? yes : no`, with the place of the `?`.
-    Choice(Place, Box<Expr>, Place, Box<Expr>, Box<Expr>),
+    Chain(Place, Box<Chain>),
+    Choice(Place, Box<Choice>),
 }
+
+const _: () = prove!(size_of::<Expr>() == 32);
 
 /// A list of expressions.
 #[cycle(expression)]
 #[derive(Drop)]
 pub struct Exprs {
     pub items: Vec<Expr>,
+}
+
+/// A function's name and its arguments.
+#[cycle(expression)]
+#[derive(Drop)]
+pub struct Call {
+    pub name: CompactBytes,
+    pub args: Args,
+}
+
+/// `[from : to]`
+#[cycle(expression)]
+#[derive(Drop)]
+pub struct Range {
+    pub from: Expr,
+    pub to: Expr,
+}
+
+/// `[from : step : to]`
+#[cycle(expression)]
+#[derive(Drop)]
+pub struct SteppedRange {
+    pub from: Expr,
+    pub step: Expr,
+    pub to: Expr,
+}
+
+/// An expression with indexes and members behind it.
+#[cycle(expression)]
+#[derive(Drop)]
+pub struct Postfix {
+    pub of: Expr,
+    pub suffixes: Suffixes,
+}
+
+/// Operators of one level and what stands between them; they group to the left.
+#[cycle(expression)]
+#[derive(Drop)]
+pub struct Chain {
+    pub first: Expr,
+    pub links: Links,
+}
+
+/// `test ? yes : no`, with the place of the `?`.
+#[cycle(expression)]
+#[derive(Drop)]
+pub struct Choice {
+    pub test: Expr,
+    pub mark: Place,
+    pub yes: Expr,
+    pub no: Expr,
 }
 
 /// An operator, its place and its right side.
@@ -51,11 +100,12 @@ pub struct Link {
     pub right: Expr,
 }
 
-/// The rest of a chain of operators.
+/// The rest of a chain of operators, at least one. Most have one, and then the list of more needs no allocation.
 #[cycle(expression)]
 #[derive(Drop)]
 pub struct Links {
-    pub items: Vec<Link>,
+    pub first: Link,
+    pub more: Vec<Link>,
 }
 
 /// What stands behind an expression.
@@ -68,11 +118,13 @@ pub enum Suffix {
     Member(Place, CompactBytes, Place),
 }
 
-/// The indexes and members behind an expression.
+/// The indexes and members behind an expression, at least one. Most have one, and then the list of more needs no
+/// allocation.
 #[cycle(expression)]
 #[derive(Drop)]
 pub struct Suffixes {
-    pub items: Vec<Suffix>,
+    pub first: Suffix,
+    pub more: Vec<Suffix>,
 }
 
 /// An argument.
@@ -103,15 +155,15 @@ impl Expr {
             | Expr::Undef(place)
             | Expr::ChildCount(place)
             | Expr::Name(place, _)
-            | Expr::Call(place, _, _)
+            | Expr::Call(place, _)
             | Expr::Paren(place, _)
             | Expr::List(place, _)
-            | Expr::Range(place, _, _)
-            | Expr::SteppedRange(place, _, _, _)
-            | Expr::Postfix(place, _, _)
+            | Expr::Range(place, _)
+            | Expr::SteppedRange(place, _)
+            | Expr::Postfix(place, _)
             | Expr::Unary(place, _, _)
-            | Expr::Chain(place, _, _)
-            | Expr::Choice(place, _, _, _, _) => *place,
+            | Expr::Chain(place, _)
+            | Expr::Choice(place, _) => *place,
         }
     }
 }

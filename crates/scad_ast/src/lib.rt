@@ -8,7 +8,10 @@ mod statement;
 #[cfg(test)]
 mod tests;
 
-pub use expression::{Arg, Args, Expr, Exprs, Link, Links, Suffix, Suffixes};
+pub use expression::{
+    Arg, Args, Call, Chain, Choice, Expr, Exprs, Link, Links, Postfix, Range, SteppedRange, Suffix,
+    Suffixes,
+};
 pub use operator::{BinaryOp, Modifier, UnaryOp};
 pub use statement::{
     Binder, Binders, Body, Core, Instance, Mark, Marks, Param, Params, Program, Statement,

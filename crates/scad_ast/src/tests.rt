@@ -1,4 +1,4 @@
-use super::{BinaryOp, Expr, Link, Links};
+use super::{BinaryOp, Chain, Choice, Expr, Link, Links};
 use std::test::Fail;
 use text_place::Place;
 
@@ -9,19 +9,28 @@ fn at(column: u32) -> Place {
 // 1 ? 2 + 3 : 4
 #[test]
 fn finds_the_place_of_the_first_token(rt: HostRuntime) -> Result<(), Fail> {
-    let mut items = Vec::new(rt.alloc());
-    items.push(Link {
+    let first = Link {
         op: BinaryOp::Add,
         place: at(7),
         right: Expr::Number(at(9), 3),
-    })?;
-    let first = Box::new(rt.alloc(), Expr::Number(at(5), 2))?;
-    let sum = Expr::Chain(at(5), first, Links { items });
+    };
+    let links = Links {
+        first,
+        more: Vec::new(rt.alloc()),
+    };
+    let chain = Chain {
+        first: Expr::Number(at(5), 2),
+        links,
+    };
+    let sum = Expr::Chain(at(5), Box::new(rt.alloc(), chain)?);
     assert_eq!(rt; sum.place(), at(5));
-    let condition = Box::new(rt.alloc(), Expr::Number(at(1), 1))?;
-    let yes = Box::new(rt.alloc(), sum)?;
-    let no = Box::new(rt.alloc(), Expr::Number(at(13), 4))?;
-    let choice = Expr::Choice(at(1), condition, at(3), yes, no);
+    let choice = Choice {
+        test: Expr::Number(at(1), 1),
+        mark: at(3),
+        yes: sum,
+        no: Expr::Number(at(13), 4),
+    };
+    let choice = Expr::Choice(at(1), Box::new(rt.alloc(), choice)?);
     assert_eq!(rt; choice.place(), at(1));
     Ok(())
 }

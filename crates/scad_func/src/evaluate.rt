@@ -1,23 +1,22 @@
-ghost use Rattle.std.specs.Prelude.{◌≡◌, ◌-◌, ◌<◌, ◌≤◌, IsTrue, IfOk, OnOk, Some, None, length, true, false, replicate};
-ghost use Rattle.scad_ast.specs.Terms.{Term, terms_from, args_from, suffixes_from, links_from};
+ghost use Rattle.std.specs.Prelude.{◌≡◌, ◌-◌, ◌<◌, ◌≤◌, IsTrue, IfOk, OnOk, Some, None, length, true, false, replicate, if◌then◌else◌};
+ghost use Rattle.scad_ast.specs.Terms.{terms_from, args_from, suffixes_from, links_from};
 ghost use Rattle.scad_ast.specs.ExprView.{term_of, terms_of, args_of, arg_of, suffix_of, suffixes_of, link_of, links_of};
-ghost use Rattle.scad_ast.specs.StatementView.{param_of, params_of, program_of};
-ghost use Rattle.scad_value.specs.Values.{is_bounded};
+ghost use Rattle.scad_ast.specs.StatementView.{param_of, params_of};
+ghost use Rattle.scad_value.specs.Values.{is_bounded, truth_of};
 ghost use Rattle.scad_value.specs.View.{val_of, vals_in};
 ghost use Rattle.scad_scope.specs.Names.{env_of};
 ghost use Rattle.scad_scope.specs.Table.{rows_of};
 ghost use Rattle.scad_builtin.specs.Builtins.{builtin_of, are_bounded};
-ghost use Rattle.scad_func.specs.Meaning.{evaluated, operand as operand_at, each_value as values_at, each_suffix, each_link, called, built_in as built_in_at, function_in, then_with, answered, range_of as range_at, stepped_range_of as stepped_at, Gives};
+ghost use Rattle.scad_func.specs.Meaning.{evaluated, operand as operand_at, each_value as values_at, each_suffix, each_link, called, built_in as built_in_at, function_in, then_with, answered, range_of as range_at, stepped_range_of as stepped_at};
 ghost use Rattle.scad_func.specs.Slots.{each_slot, each_filled, filled, entered_filled, all_values, suffixed, linked, argument_of};
 ghost use Rattle.scad_func.specs.Numerals.{has_small_numerals, terms_have_small, args_have_small, suffixes_have_small, links_have_small, functions_have_small, params_have_small, param_has_small, function_has_small, suffix_has_small};
-ghost use Rattle.scad_func.specs.Definitions.{env_in};
 ghost use Rattle.scad_func.specs.Functions.{function_of};
-ghost use Rattle.scad_func.specs.View.{Tells, TellsAll, TellsSlots, Grows, IsNumbered, functions_held, modules_held, seen, function_size, deepest, indexed_val, IsThere, slot_of, slots_in, slots_bounded, slot_is_bounded};
+ghost use Rattle.scad_func.specs.View.{Tells, TellsAll, TellsSlots, Grows, IsNumbered, functions_held, seen, function_size, deepest, indexed_val, IsThere, slot_of, slots_in, slots_bounded, slot_is_bounded};
 
 use crate::answer::{
     Indexed, after, applied_to, argument_place, child_count, free_slot, have_no_names, item_of,
     listed, member_of, no_slots, operate, operate_on, push, range_of, stepped_range_of, text_of,
-    unknown, variable_of, wants_right, whole,
+    unknown, variable_of, wants_right,
 };
 use crate::bind::bind_all;
 use crate::functions::{Function, find};
@@ -129,15 +128,15 @@ fn operand(
         Expr::Undef(_) => Ok(Value::Undef),
         Expr::ChildCount(place) => Ok(child_count(alloc, scopes, scope, *place)?),
         Expr::Name(place, name) => variable_of(alloc, scopes, scope, name.items(), *place),
-        Expr::Call(place, name, args) => {
+        Expr::Call(place, parts) => {
             call(
                 alloc,
                 scopes,
                 source,
                 scope,
-                name.items(),
+                parts.name.items(),
                 *place,
-                args,
+                &parts.args,
                 meter,
             )
         }
@@ -146,28 +145,68 @@ fn operand(
             let values = each_value(alloc, scopes, source, scope, items, meter)?;
             listed(values, *place)
         }
-        Expr::Range(place, from, upto) => {
-            range(alloc, scopes, source, scope, from, upto, *place, meter)
+        Expr::Range(place, parts) => {
+            range(
+                alloc,
+                scopes,
+                source,
+                scope,
+                &parts.from,
+                &parts.to,
+                *place,
+                meter,
+            )
         }
-        Expr::SteppedRange(place, from, by, upto) => {
-            stepped_range(alloc, scopes, source, scope, from, by, upto, *place, meter)
+        Expr::SteppedRange(place, parts) => {
+            stepped_range(
+                alloc,
+                scopes,
+                source,
+                scope,
+                &parts.from,
+                &parts.step,
+                &parts.to,
+                *place,
+                meter,
+            )
         }
-        Expr::Postfix(_, of, rest) => postfix(alloc, scopes, source, scope, of, rest, meter),
+        Expr::Postfix(_, parts) => {
+            postfix(
+                alloc,
+                scopes,
+                source,
+                scope,
+                &parts.of,
+                &parts.suffixes,
+                meter,
+            )
+        }
         Expr::Unary(place, op, of) => {
             let value = deeper(alloc, scopes, source, scope, of, meter)?;
             operate_on(alloc, *op, &value, *place)
         }
-        Expr::Chain(_, first, rest) => {
-            let left = operand(alloc, scopes, source, scope, first, meter)?;
-            links(alloc, scopes, source, scope, left, rest, meter)
+        Expr::Chain(_, parts) => {
+            chain(
+                alloc,
+                scopes,
+                source,
+                scope,
+                &parts.first,
+                &parts.links,
+                meter,
+            )
         }
-        Expr::Choice(_, test, _, one, other) => {
-            let value = operand(alloc, scopes, source, scope, test, meter)?;
-            if truth(&value) {
-                expression(alloc, scopes, source, scope, one, meter)
-            } else {
-                expression(alloc, scopes, source, scope, other, meter)
-            }
+        Expr::Choice(_, parts) => {
+            choice(
+                alloc,
+                scopes,
+                source,
+                scope,
+                &parts.test,
+                &parts.yes,
+                &parts.no,
+                meter,
+            )
         }
     }
 }
@@ -311,19 +350,11 @@ fn postfix(
     if let Expr::Name(place, name) = of {
         let _there = scopes.variable(scope, name.items(), *place)?;
         let of = Indexed::Variable(name.items());
-        return suffixes(alloc, scopes, source, scope, of, rest, *place, meter);
+        return suffixes(alloc, scopes, source, scope, of, rest, meter);
     }
     let value = operand(alloc, scopes, source, scope, of, meter)?;
-    suffixes(
-        alloc,
-        scopes,
-        source,
-        scope,
-        Indexed::Made(value),
-        rest,
-        of.place(),
-        meter,
-    )
+    let of = Indexed::Made(value);
+    suffixes(alloc, scopes, source, scope, of, rest, meter)
 }
 
 /// The indexes and members behind what is indexed.
@@ -335,7 +366,6 @@ fn suffixes(
     scope: u32,
     of: Indexed<'_>,
     rest: &Suffixes,
-    place: Place,
     meter: &mut Meter,
 ) -> Result<Value, Stop>
     requires scope { scope < length (rows_of scopes.old) }
@@ -354,12 +384,12 @@ fn suffixes(
     ensures depth { OnOk result (meter.new.depth ≡ meter.old.depth) }
     ensures turns { OnOk result (meter.new.turns ≤ 100000) }
 {
-    let mut at = of;
-    'each: for part in &rest.items {
-        let value = suffix(alloc, scopes, source, scope, &at, part, meter)?;
-        at = Indexed::Made(value);
+    let mut so_far = suffix(alloc, scopes, source, scope, &of, &rest.first, meter)?;
+    'each: for part in &rest.more {
+        let at = Indexed::Made(so_far);
+        so_far = suffix(alloc, scopes, source, scope, &at, part, meter)?;
     }
-    Ok(whole(alloc, scopes, scope, at, place)?)
+    Ok(so_far)
 }
 
 /// An index or a member.
@@ -404,6 +434,37 @@ fn suffix(
     }
 }
 
+/// Operators of one level and what stands between them, from the left.
+#[cycle(value)]
+fn chain(
+    alloc: Global,
+    scopes: &mut Scopes,
+    source: &Source<'_>,
+    scope: u32,
+    first: &Expr,
+    rest: &Links,
+    meter: &mut Meter,
+) -> Result<Value, Stop>
+    requires scope { scope < length (rows_of scopes.old) }
+    requires numbered { IsNumbered source.now (rows_of scopes.old) }
+    requires table { IsTrue (functions_have_small (functions_held source.now)) }
+    requires first { IsTrue (has_small_numerals (term_of first.now)) }
+    requires rest { IsTrue (links_have_small (links_from (links_of rest.now))) }
+    requires calls { meter.old.calls ≤ 64 }
+    requires depth { meter.old.depth ≤ 512 }
+    requires turns { meter.old.turns ≤ 100000 }
+    ensures value { Tells result meter.new.turns (then_with (operand_at (evaluated (512 - meter.old.depth)) (64 - meter.old.calls) (seen source.now (rows_of scopes.old) scope) (term_of first.now) meter.old.turns) (λ turns v. each_link (evaluated (512 - meter.old.depth)) (64 - meter.old.calls) (seen source.now (rows_of scopes.old) scope) v (links_from (links_of rest.now)) turns)) }
+    ensures bounded { IfOk result (λ v. IsTrue (is_bounded (val_of v))) }
+    ensures scopes { Grows (rows_of scopes.old) (rows_of scopes.new) }
+    ensures numbered { IsNumbered source.now (rows_of scopes.new) }
+    ensures calls { OnOk result (meter.new.calls ≡ meter.old.calls) }
+    ensures depth { OnOk result (meter.new.depth ≡ meter.old.depth) }
+    ensures turns { OnOk result (meter.new.turns ≤ 100000) }
+{
+    let left = operand(alloc, scopes, source, scope, first, meter)?;
+    links(alloc, scopes, source, scope, left, rest, meter)
+}
+
 /// Operators of one level behind a value, from the left.
 #[cycle(value)]
 fn links(
@@ -431,8 +492,8 @@ fn links(
     ensures depth { OnOk result (meter.new.depth ≡ meter.old.depth) }
     ensures turns { OnOk result (meter.new.turns ≤ 100000) }
 {
-    let mut so_far = left;
-    'each: for part in &rest.items {
+    let mut so_far = link(alloc, scopes, source, scope, &left, &rest.first, meter)?;
+    'each: for part in &rest.more {
         so_far = link(alloc, scopes, source, scope, &so_far, part, meter)?;
     }
     Ok(so_far)
@@ -474,6 +535,45 @@ fn link(
     }
     let right = operand(alloc, scopes, source, scope, &part.right, meter)?;
     operate(alloc, part.op, left, &right, part.place)
+}
+
+/// One of two expressions, by a test.
+#[cycle(value)]
+fn choice(
+    alloc: Global,
+    scopes: &mut Scopes,
+    source: &Source<'_>,
+    scope: u32,
+    test: &Expr,
+    yes: &Expr,
+    no: &Expr,
+    meter: &mut Meter,
+) -> Result<Value, Stop>
+    requires scope { scope < length (rows_of scopes.old) }
+    requires numbered { IsNumbered source.now (rows_of scopes.old) }
+    requires table { IsTrue (functions_have_small (functions_held source.now)) }
+    requires test { IsTrue (has_small_numerals (term_of test.now)) }
+    requires yes { IsTrue (has_small_numerals (term_of yes.now)) }
+    requires no { IsTrue (has_small_numerals (term_of no.now)) }
+    requires calls { meter.old.calls ≤ 64 }
+    requires depth { meter.old.depth ≤ 512 }
+    requires turns { meter.old.turns ≤ 100000 }
+    ensures value { Tells result meter.new.turns (
+        then_with (operand_at (evaluated (512 - meter.old.depth)) (64 - meter.old.calls) (seen source.now (rows_of scopes.old) scope) (term_of test.now) meter.old.turns) (λ turns v.
+        evaluated (512 - meter.old.depth) true (64 - meter.old.calls) (seen source.now (rows_of scopes.old) scope) (if truth_of v then term_of yes.now else term_of no.now) turns)) }
+    ensures bounded { IfOk result (λ v. IsTrue (is_bounded (val_of v))) }
+    ensures scopes { Grows (rows_of scopes.old) (rows_of scopes.new) }
+    ensures numbered { IsNumbered source.now (rows_of scopes.new) }
+    ensures calls { OnOk result (meter.new.calls ≡ meter.old.calls) }
+    ensures depth { OnOk result (meter.new.depth ≡ meter.old.depth) }
+    ensures turns { OnOk result (meter.new.turns ≤ 100000) }
+{
+    let value = operand(alloc, scopes, source, scope, test, meter)?;
+    if truth(&value) {
+        expression(alloc, scopes, source, scope, yes, meter)
+    } else {
+        expression(alloc, scopes, source, scope, no, meter)
+    }
 }
 
 /// A call: the source's functions go before built-in ones.

@@ -1,7 +1,7 @@
-ghost use Rattle.std.specs.Prelude.{◌≡◌, map};
+ghost use Rattle.std.specs.Prelude.{◌≡◌};
 ghost use Rattle.scad_ast.specs.Terms.{terms_from, args_from, suffixes_from, links_from, statements_from};
-ghost use Rattle.scad_ast.specs.ExprView.{term_of, terms_of, args_of, arg_of, suffix_of, suffixes_of, link_of, links_of};
-ghost use Rattle.scad_ast.specs.StatementView.{param_of, params_of, binder_of, binders_of, statement_of, statements_of, core_of, body_of, program_of};
+ghost use Rattle.scad_ast.specs.ExprView.{term_of, terms_of, args_of, arg_of, suffix_of, suffixes_of, links_of};
+ghost use Rattle.scad_ast.specs.StatementView.{param_of, params_of, binders_of, statement_of, statements_of, core_of, body_of, program_of};
 ghost use Rattle.scad_func.specs.Numerals.{has_small_numerals as has_small, terms_have_small, args_have_small, suffixes_have_small, links_have_small, suffix_has_small, params_have_small as params_small, param_has_small as param_small, binders_have_small as binders_small, statement_has_small, statements_have_small, core_has_small, body_has_small, program_has_small};
 ghost use Rattle.scad_func.specs.Slots.{argument_of};
 
@@ -112,15 +112,19 @@ fn in_expr(expr: &Expr) -> bool
 {
     match expr {
         Expr::Number(_, n) => *n < 1 << 53,
-        Expr::Call(_, _, args) => all_args(args),
+        Expr::Call(_, call) => all_args(&call.args),
         Expr::Paren(_, inner) => in_expr(inner),
         Expr::List(_, items) => all_exprs(items),
-        Expr::Range(_, from, upto) => in_expr(from) && in_expr(upto),
-        Expr::SteppedRange(_, from, by, upto) => in_expr(from) && in_expr(by) && in_expr(upto),
-        Expr::Postfix(_, of, rest) => in_expr(of) && all_suffixes(rest),
+        Expr::Range(_, range) => in_expr(&range.from) && in_expr(&range.to),
+        Expr::SteppedRange(_, range) => {
+            in_expr(&range.from) && in_expr(&range.step) && in_expr(&range.to)
+        }
+        Expr::Postfix(_, postfix) => in_expr(&postfix.of) && all_suffixes(&postfix.suffixes),
         Expr::Unary(_, _, of) => in_expr(of),
-        Expr::Chain(_, first, rest) => in_expr(first) && all_links(rest),
-        Expr::Choice(_, test, _, one, other) => in_expr(test) && in_expr(one) && in_expr(other),
+        Expr::Chain(_, chain) => in_expr(&chain.first) && all_links(&chain.links),
+        Expr::Choice(_, choice) => {
+            in_expr(&choice.test) && in_expr(&choice.yes) && in_expr(&choice.no)
+        }
         _ => true,
     }
 }
@@ -163,7 +167,10 @@ fn in_arg(arg: &Arg) -> bool
 fn all_suffixes(suffixes: &Suffixes) -> bool
     ensures { result ≡ suffixes_have_small (suffixes_from (suffixes_of suffixes.now)) }
 {
-    'each: for suffix in &suffixes.items {
+    if !in_suffix(&suffixes.first) {
+        return false;
+    }
+    'each: for suffix in &suffixes.more {
         if !in_suffix(suffix) {
             return false;
         }
@@ -185,7 +192,10 @@ fn in_suffix(suffix: &Suffix) -> bool
 fn all_links(links: &Links) -> bool
     ensures { result ≡ links_have_small (links_from (links_of links.now)) }
 {
-    'each: for link in &links.items {
+    if !in_expr(&links.first.right) {
+        return false;
+    }
+    'each: for link in &links.more {
         if !in_expr(&link.right) {
             return false;
         }

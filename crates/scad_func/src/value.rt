@@ -4,7 +4,7 @@ ghost use Rattle.scad_ast.specs.StatementView.{program_of};
 ghost use Rattle.scad_value.specs.Values.{is_bounded};
 ghost use Rattle.scad_value.specs.View.{val_of};
 ghost use Rattle.scad_scope.specs.Names.{env_of};
-ghost use Rattle.scad_scope.specs.Numbered.{functions_below, modules_below, count_of_functions, count_of_modules};
+ghost use Rattle.scad_scope.specs.Numbered.{functions_below, modules_below, count_of_functions};
 ghost use Rattle.scad_scope.specs.Table.{rows_of};
 ghost use Rattle.scad_func.specs.Meaning.{evaluated};
 ghost use Rattle.scad_func.specs.Definitions.{env_in, functions_of_program, modules_of_program};

@@ -1,8 +1,11 @@
--- A fault of a part goes on to the list that holds it.
-use Rattle.std.proofs.Common.{◌≡◌, List, Err}
+-- A fault of a part goes on to what holds it.
+use Rattle.std.proofs.Common.{◌≡◌, List, map, Err, Vec, Global}
 use Rattle.std.specs.Borrow.{Bor}
 use Rattle.scad_lexer.specs.declared.token.Token.{Token}
-use Rattle.scad_ast.specs.ExprView.{term_of, terms_of, link_of, links_of, suffix_of, suffixes_of, arg_of, args_of}
+use Rattle.scad_ast.specs.declared.expression.Link.{Link}
+use Rattle.scad_ast.specs.declared.expression.Suffix.{Suffix}
+use Rattle.scad_ast.specs.Terms.{LinkTerm, SuffixTerm}
+use Rattle.scad_ast.specs.ExprView.{term_of, terms_of, link_of, suffix_of, arg_of, args_of}
 use Rattle.scad_ast.specs.StatementView.{param_of, params_of, binder_of, binders_of, mark_of, marks_of, statement_of, statements_of}
 use Rattle.scad_grammar.specs.declared.SyntaxFault.{SyntaxFault}
 use Rattle.scad_grammar.specs.Reading.{Read}
@@ -10,7 +13,7 @@ use Rattle.scad_parser.specs.declared.next.Stopped.{Stopped}
 use Rattle.scad_parser.specs.declared.next.Stopped.TheVariants.{Fault, NoMemory}
 use Rattle.scad_parser.specs.Views.{Gives}
 
--- a fault of an item is one of the list
+-- a fault of a part is one of the whole
 abbrev GoesOn : {A X : Type 0} → (A → X) → {B Y : Type 0} → (B → Y) → Type 0
 GoesOn {A} {X} item {B} {Y} list =
     (s : Stopped) (q : Read Token SyntaxFault X) (r : Read Token SyntaxFault Y) → ((x : SyntaxFault × List Token) → q ≡ Err x → r ≡ Err x)
@@ -20,17 +23,36 @@ goes_on : {A X B Y : Type 0} (item : A → X) (list : B → Y) → GoesOn item l
 goes_on item list (Fault fault at) q r h e = h (fault, at.now) e
 goes_on item list NoMemory q r h e = tt
 
+-- what a list in memory stands for
+abbrev links_in : Vec Link Global → List LinkTerm
+links_in links = map link_of links.items
+
+abbrev suffixes_in : Vec Suffix Global → List SuffixTerm
+suffixes_in suffixes = map suffix_of suffixes.items
+
 pub operand_goes : GoesOn term_of term_of
 operand_goes = goes_on term_of term_of
 
 pub item_goes : GoesOn term_of terms_of
 item_goes = goes_on term_of terms_of
 
-pub link_goes : GoesOn link_of links_of
-link_goes = goes_on link_of links_of
+pub link_goes : GoesOn link_of links_in
+link_goes = goes_on link_of links_in
 
-pub suffix_goes : GoesOn suffix_of suffixes_of
-suffix_goes = goes_on suffix_of suffixes_of
+pub first_link_goes : GoesOn link_of term_of
+first_link_goes = goes_on link_of term_of
+
+pub more_links_go : GoesOn links_in term_of
+more_links_go = goes_on links_in term_of
+
+pub suffix_goes : GoesOn suffix_of suffixes_in
+suffix_goes = goes_on suffix_of suffixes_in
+
+pub first_suffix_goes : GoesOn suffix_of term_of
+first_suffix_goes = goes_on suffix_of term_of
+
+pub more_suffixes_go : GoesOn suffixes_in term_of
+more_suffixes_go = goes_on suffixes_in term_of
 
 pub arg_goes : GoesOn arg_of args_of
 arg_goes = goes_on arg_of args_of

@@ -1,6 +1,6 @@
 ghost use Rattle.std.specs.Prelude.{◌≡◌, ◌≤◌, ◌<◌, ◌∷◌, [], true, Some, IfOk, length, map};
 ghost use Rattle.scad_ast.specs.Terms.{Term, ArgTerm};
-ghost use Rattle.scad_ast.specs.ExprView.{term_of, terms_of, links_of, link_of, suffix_of, suffixes_of, arg_of, args_of};
+ghost use Rattle.scad_ast.specs.ExprView.{term_of, terms_of, link_of, suffix_of, arg_of, args_of};
 ghost use Rattle.scad_grammar.specs.Classes.{among, is, other_than};
 ghost use Rattle.scad_grammar.specs.Classes.{comma_sign, close_bracket_sign, close_parenthesis_sign, colon_sign, question_sign};
 ghost use Rattle.scad_grammar.specs.Faults.{Reads, one};
@@ -17,9 +17,12 @@ use crate::next::{
     Parsed, behind_comma, binary, bytes, is_before, is_comma_before, is_named, lone_atom, number,
     take, take_first, too_deep, unary_operator,
 };
-use scad_ast::{Arg, Args, Expr, Exprs, Link, Links, Suffix, Suffixes};
+use scad_ast::{
+    Arg, Args, Call, Chain, Choice, Expr, Exprs, Link, Links, Postfix, Range, SteppedRange, Suffix,
+    Suffixes,
+};
 use scad_lexer::{Reserved, Symbol, Token, TokenKind};
-use std::alloc::{AllocError, AllocFailed, Global};
+use std::alloc::{AllocError, Global};
 
 // What is rare stands in functions that are not inlined: the locals of a function are cleared at each call, also
 // those of forms that are not met. What was read is handed on as it is where nothing follows it, rather than taken
@@ -69,10 +72,13 @@ fn chosen<'a>(alloc: Global, test: Expr, tokens: &'a [Token], depth: u32) -> Par
     let (_, rest) = take(Class::Sign(Symbol::Colon), rest)?;
     let (no, rest) = expr(alloc, rest, depth)?;
     let place = test.place();
-    let test = Box::new(alloc, test)?;
-    let yes = Box::new(alloc, yes)?;
-    let no = Box::new(alloc, no)?;
-    Ok((Expr::Choice(place, test, mark.place, yes, no), rest))
+    let choice = Choice {
+        test,
+        mark: mark.place,
+        yes,
+        no,
+    };
+    Ok((Expr::Choice(place, Box::new(alloc, choice)?), rest))
 }
 
 /// Operands with operators between them.
@@ -155,28 +161,32 @@ fn linked<'a>(
     depth: u32,
     level: Level,
 ) -> Parsed<'a, Expr>
+    requires { starts (among (operators_at level)) tokens.now ≡ true }
     ensures value { Gives (λ p. (term_of p.0, p.1.now)) result (mapped (chain_at (term_of first)) (many (among (operators_at level)) (both link_at (one (among (operators_at level))) (chain_read (levels_below level) (unary_read (expr_read depth) (operand_read depth) (primary_read (expr_read depth) (arg_in depth (expr_read depth))))))) tokens.now) }
     ensures rest { IfOk result (λ p. length p.1.now ≤ length tokens.now) }
 {
-    let (links, rest) = links(alloc, tokens, depth, level)?;
-    Ok((chain_of(alloc, first, links)?, rest))
+    let (next, rest) = link(alloc, tokens, depth, level)?;
+    let (more, rest) = links(alloc, rest, depth, level)?;
+    let place = first.place();
+    let links = Links { first: next, more };
+    let chain = Chain { first, links };
+    Ok((Expr::Chain(place, Box::new(alloc, chain)?), rest))
 }
 
-/// The operators of a level and what stands behind each.
+/// More operators of a level and what stands behind each.
 #[cycle(expression)]
-#[inline(never)]
-fn links<'a>(alloc: Global, tokens: &'a [Token], depth: u32, level: Level) -> Parsed<'a, Links>
-    ensures value { Gives (λ p. (links_of p.0, p.1.now)) result (many (among (operators_at level)) (both link_at (one (among (operators_at level))) (chain_read (levels_below level) (unary_read (expr_read depth) (operand_read depth) (primary_read (expr_read depth) (arg_in depth (expr_read depth)))))) tokens.now) }
+fn links<'a>(alloc: Global, tokens: &'a [Token], depth: u32, level: Level) -> Parsed<'a, Vec<Link>>
+    ensures value { Gives (λ p. (map link_of p.0.items, p.1.now)) result (many (among (operators_at level)) (both link_at (one (among (operators_at level))) (chain_read (levels_below level) (unary_read (expr_read depth) (operand_read depth) (primary_read (expr_read depth) (arg_in depth (expr_read depth)))))) tokens.now) }
     ensures rest { IfOk result (λ p. length p.1.now ≤ length tokens.now) }
 {
-    let mut items = Vec::with_capacity(alloc, 1)?;
+    let mut items = Vec::new(alloc);
     let mut rest = tokens;
     'links: while Class::Operator(level).begins(rest) {
         let (item, after) = link(alloc, rest, depth, level)?;
         items.push(item)?;
         rest = after;
     }
-    Ok((Links { items }, rest))
+    Ok((items, rest))
 }
 
 /// An operator of a level and what stands behind it.
@@ -249,28 +259,32 @@ fn postfix<'a>(alloc: Global, tokens: &'a [Token], depth: u32) -> Parsed<'a, Exp
 #[cycle(expression)]
 #[inline(never)]
 fn suffixed<'a>(alloc: Global, of: Expr, tokens: &'a [Token], depth: u32) -> Parsed<'a, Expr>
+    requires { starts (among suffix_signs) tokens.now ≡ true }
     ensures value { Gives (λ p. (term_of p.0, p.1.now)) result (mapped (postfix_at (term_of of)) (many (among suffix_signs) (suffix_read (expr_read depth))) tokens.now) }
     ensures rest { IfOk result (λ p. length p.1.now ≤ length tokens.now) }
 {
-    let (suffixes, rest) = suffixes(alloc, tokens, depth)?;
-    Ok((postfix_of(alloc, of, suffixes)?, rest))
+    let (next, rest) = suffix(alloc, tokens, depth)?;
+    let (more, rest) = suffixes(alloc, rest, depth)?;
+    let place = of.place();
+    let suffixes = Suffixes { first: next, more };
+    let postfix = Postfix { of, suffixes };
+    Ok((Expr::Postfix(place, Box::new(alloc, postfix)?), rest))
 }
 
-/// Indexes and members.
+/// More indexes and members.
 #[cycle(expression)]
-#[inline(never)]
-fn suffixes<'a>(alloc: Global, tokens: &'a [Token], depth: u32) -> Parsed<'a, Suffixes>
-    ensures value { Gives (λ p. (suffixes_of p.0, p.1.now)) result (many (among suffix_signs) (suffix_read (expr_read depth)) tokens.now) }
+fn suffixes<'a>(alloc: Global, tokens: &'a [Token], depth: u32) -> Parsed<'a, Vec<Suffix>>
+    ensures value { Gives (λ p. (map suffix_of p.0.items, p.1.now)) result (many (among suffix_signs) (suffix_read (expr_read depth)) tokens.now) }
     ensures rest { IfOk result (λ p. length p.1.now ≤ length tokens.now) }
 {
-    let mut items = Vec::with_capacity(alloc, 1)?;
+    let mut items = Vec::new(alloc);
     let mut rest = tokens;
     'suffixes: while Class::Suffix.begins(rest) {
         let (item, after) = suffix(alloc, rest, depth)?;
         items.push(item)?;
         rest = after;
     }
-    Ok((Suffixes { items }, rest))
+    Ok((items, rest))
 }
 
 /// An index or a member.
@@ -375,7 +389,8 @@ fn called<'a>(alloc: Global, name: &Token, tokens: &'a [Token], depth: u32) -> P
     let (_, rest) = take(Class::Sign(Symbol::OpenParenthesis), tokens)?;
     let (args, rest) = args(alloc, rest, depth)?;
     let (_, rest) = take(Class::Sign(Symbol::CloseParenthesis), rest)?;
-    Ok((Expr::Call(name.place, bytes, args), rest))
+    let call = Call { name: bytes, args };
+    Ok((Expr::Call(name.place, Box::new(alloc, call)?), rest))
 }
 
 /// A list or a range.
@@ -388,7 +403,8 @@ fn bracket<'a>(alloc: Global, tokens: &'a [Token], depth: u32) -> Parsed<'a, Exp
     let (open, rest) = take_first(Class::Sign(Symbol::OpenBracket), tokens)?;
     if !is_before(Symbol::CloseBracket, rest) {
         let (_, rest) = take(Class::Sign(Symbol::CloseBracket), rest)?;
-        return Ok((Expr::List(open.place, no_items(alloc)), rest));
+        let items = Box::new(alloc, no_items(alloc))?;
+        return Ok((Expr::List(open.place, items), rest));
     }
     let (first, rest) = expr(alloc, rest, depth)?;
     let (list, rest) = filled(alloc, open, first, rest, depth)?;
@@ -413,6 +429,7 @@ fn filled<'a>(
         let mut items = Vec::with_capacity(alloc, if more { 3 } else { 1 })?;
         items.push(first)?;
         let (items, rest) = more_items(alloc, items, tokens, depth)?;
+        let items = Box::new(alloc, items)?;
         return Ok((Expr::List(bracket.place, items), rest));
     }
     range(alloc, bracket, first, tokens, depth)
@@ -424,24 +441,28 @@ fn filled<'a>(
 fn range<'a>(
     alloc: Global,
     bracket: &Token,
-    first: Expr,
+    from: Expr,
     tokens: &'a [Token],
     depth: u32,
 ) -> Parsed<'a, Expr>
-    ensures value { Gives (λ p. (term_of p.0, p.1.now)) result (mapped (filled_of bracket.now (term_of first)) (range_read (expr_read depth)) tokens.now) }
+    ensures value { Gives (λ p. (term_of p.0, p.1.now)) result (mapped (filled_of bracket.now (term_of from)) (range_read (expr_read depth)) tokens.now) }
     ensures rest { IfOk result (λ p. length p.1.now ≤ length tokens.now) }
 {
-    let first = Box::new(alloc, first)?;
+    let place = bracket.place;
     let (_, rest) = take(Class::Sign(Symbol::Colon), tokens)?;
     let (next, rest) = expr(alloc, rest, depth)?;
-    let next = Box::new(alloc, next)?;
     if !Class::Sign(Symbol::Colon).begins(rest) {
-        return Ok((Expr::Range(bracket.place, first, next), rest));
+        let range = Range { from, to: next };
+        return Ok((Expr::Range(place, Box::new(alloc, range)?), rest));
     }
     let (_, rest) = take(Class::Sign(Symbol::Colon), rest)?;
     let (to, rest) = expr(alloc, rest, depth)?;
-    let to = Box::new(alloc, to)?;
-    Ok((Expr::SteppedRange(bracket.place, first, next, to), rest))
+    let range = SteppedRange {
+        from,
+        step: next,
+        to,
+    };
+    Ok((Expr::SteppedRange(place, Box::new(alloc, range)?), rest))
 }
 
 /// More items of a list, each behind a comma, and maybe a comma behind the last.
@@ -537,24 +558,4 @@ fn no_args(alloc: Global) -> Args
     Args {
         items: Vec::new(alloc),
     }
-}
-
-/// A chain, or what stands in it alone.
-fn chain_of(alloc: Global, first: Expr, links: Links) -> Result<Expr, AllocFailed<Expr>>
-    ensures { IfOk result (λ e. term_of e ≡ chain_at (term_of first) (links_of links)) }
-{
-    if links.items.is_empty() {
-        return Ok(first);
-    }
-    Ok(Expr::Chain(first.place(), Box::new(alloc, first)?, links))
-}
-
-/// A primary with its indexes and members, or alone.
-fn postfix_of(alloc: Global, of: Expr, suffixes: Suffixes) -> Result<Expr, AllocFailed<Expr>>
-    ensures { IfOk result (λ e. term_of e ≡ postfix_at (term_of of) (suffixes_of suffixes)) }
-{
-    if suffixes.items.is_empty() {
-        return Ok(of);
-    }
-    Ok(Expr::Postfix(of.place(), Box::new(alloc, of)?, suffixes))
 }

@@ -1,6 +1,6 @@
-ghost use Rattle.std.specs.Prelude.{◌≡◌, ◌<◌, ◌≤◌, ◌∷◌, [], true, false, IfOk, IfSome, IfNone, IsTrue, length};
+ghost use Rattle.std.specs.Prelude.{◌≡◌, ◌<◌, ◌≤◌, ◌∷◌, [], true, false, IfOk, IfSome, IfNone, length};
 ghost use Rattle.scad_grammar.specs.Classes.{class_of, number_of, bytes_of, symbol_class, among, is, other_than};
-ghost use Rattle.scad_grammar.specs.Classes.{comma_sign, assign_sign, name};
+ghost use Rattle.scad_grammar.specs.Classes.{name};
 ghost use Rattle.scad_grammar.specs.Grammar.{binary_at, unary_at, modifier_at};
 ghost use Rattle.scad_grammar.specs.Faults.{one, first};
 ghost use Rattle.scad_grammar.specs.Reading.{starts};

@@ -2,8 +2,8 @@
 
 use compact_bytes::CompactBytes;
 use scad_ast::{
-    Arg, Args, BinaryOp, Binder, Body, Core, Expr, Exprs, Instance, Link, Links, Mark, Modifier,
-    Param, Params, Statement, Statements, Suffix, Suffixes, UnaryOp,
+    Arg, Args, BinaryOp, Binder, Body, Core, Expr, Exprs, Instance, Link, Mark, Modifier, Param,
+    Params, Statement, Statements, Suffix, UnaryOp,
 };
 use std::alloc::Global;
 use text_place::{NoMemory, Place, push_decimal};
@@ -79,10 +79,10 @@ pub fn show_expr(alloc: Global, out: &mut Vec<u8>, e: &Expr) -> Result<(), NoMem
 fn show_compound(alloc: Global, out: &mut Vec<u8>, e: &Expr) -> Result<(), NoMemory> {
     put(out, b"(")?;
     match e {
-        Expr::Call(place, name, args) => {
+        Expr::Call(place, call) => {
             put(out, b"call ")?;
-            put_name(alloc, out, name, *place)?;
-            show_args(alloc, out, args)?;
+            put_name(alloc, out, &call.name, *place)?;
+            show_args(alloc, out, &call.args)?;
         }
         Expr::Paren(place, inner) => {
             put_place(alloc, out, b"paren", *place)?;
@@ -92,37 +92,43 @@ fn show_compound(alloc: Global, out: &mut Vec<u8>, e: &Expr) -> Result<(), NoMem
             put_place(alloc, out, b"list", *place)?;
             show_exprs(alloc, out, items)?;
         }
-        Expr::Range(place, from, to) => {
+        Expr::Range(place, range) => {
             put_place(alloc, out, b"range", *place)?;
-            show_expr(alloc, out, from)?;
-            show_expr(alloc, out, to)?;
+            show_expr(alloc, out, &range.from)?;
+            show_expr(alloc, out, &range.to)?;
         }
-        Expr::SteppedRange(place, from, step, to) => {
+        Expr::SteppedRange(place, range) => {
             put_place(alloc, out, b"range", *place)?;
-            show_expr(alloc, out, from)?;
-            show_expr(alloc, out, step)?;
-            show_expr(alloc, out, to)?;
+            show_expr(alloc, out, &range.from)?;
+            show_expr(alloc, out, &range.step)?;
+            show_expr(alloc, out, &range.to)?;
         }
-        Expr::Postfix(place, of, suffixes) => {
+        Expr::Postfix(place, postfix) => {
             put_place(alloc, out, b"postfix", *place)?;
-            show_expr(alloc, out, of)?;
-            show_suffixes(alloc, out, suffixes)?;
+            show_expr(alloc, out, &postfix.of)?;
+            show_suffix(alloc, out, &postfix.suffixes.first)?;
+            for suffix in &postfix.suffixes.more {
+                show_suffix(alloc, out, suffix)?;
+            }
         }
         Expr::Unary(place, op, of) => {
             put_place(alloc, out, sign(*op), *place)?;
             show_expr(alloc, out, of)?;
         }
-        Expr::Chain(place, first, links) => {
+        Expr::Chain(place, chain) => {
             put_place(alloc, out, b"chain", *place)?;
-            show_expr(alloc, out, first)?;
-            show_links(alloc, out, links)?;
+            show_expr(alloc, out, &chain.first)?;
+            show_link(alloc, out, &chain.links.first)?;
+            for link in &chain.links.more {
+                show_link(alloc, out, link)?;
+            }
         }
-        Expr::Choice(place, test, mark, yes, no) => {
+        Expr::Choice(place, choice) => {
             put_place(alloc, out, b"choice", *place)?;
-            show_expr(alloc, out, test)?;
-            put_place(alloc, out, b"?", *mark)?;
-            show_expr(alloc, out, yes)?;
-            show_expr(alloc, out, no)?;
+            show_expr(alloc, out, &choice.test)?;
+            put_place(alloc, out, b"?", choice.mark)?;
+            show_expr(alloc, out, &choice.yes)?;
+            show_expr(alloc, out, &choice.no)?;
         }
         _ => {}
     }
@@ -153,29 +159,23 @@ fn show_args(alloc: Global, out: &mut Vec<u8>, args: &Args) -> Result<(), NoMemo
 }
 
 #[cycle(show_expression)]
-fn show_suffixes(alloc: Global, out: &mut Vec<u8>, suffixes: &Suffixes) -> Result<(), NoMemory> {
-    for item in &suffixes.items {
-        match item {
-            Suffix::Index(place, index) => {
-                put_place(alloc, out, b"[]", *place)?;
-                show_expr(alloc, out, index)?;
-            }
-            Suffix::Member(place, name, name_place) => {
-                put_place(alloc, out, b".", *place)?;
-                put_name(alloc, out, name, *name_place)?;
-            }
+fn show_suffix(alloc: Global, out: &mut Vec<u8>, suffix: &Suffix) -> Result<(), NoMemory> {
+    match suffix {
+        Suffix::Index(place, index) => {
+            put_place(alloc, out, b"[]", *place)?;
+            show_expr(alloc, out, index)
+        }
+        Suffix::Member(place, name, name_place) => {
+            put_place(alloc, out, b".", *place)?;
+            put_name(alloc, out, name, *name_place)
         }
     }
-    Ok(())
 }
 
 #[cycle(show_expression)]
-fn show_links(alloc: Global, out: &mut Vec<u8>, links: &Links) -> Result<(), NoMemory> {
-    for link in &links.items {
-        put_place(alloc, out, operator(link.op), link.place)?;
-        show_expr(alloc, out, &link.right)?;
-    }
-    Ok(())
+fn show_link(alloc: Global, out: &mut Vec<u8>, link: &Link) -> Result<(), NoMemory> {
+    put_place(alloc, out, operator(link.op), link.place)?;
+    show_expr(alloc, out, &link.right)
 }
 
 fn show_params(alloc: Global, out: &mut Vec<u8>, params: &Params) -> Result<(), NoMemory> {

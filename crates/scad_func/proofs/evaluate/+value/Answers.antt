@@ -7,6 +7,8 @@ use Rattle.text_place.specs.declared.fault.FaultKind.TheVariants.{TooDeep, Unkno
 use Rattle.scad_ast.specs.declared.expression.Expr.{Expr, size-Expr}
 use Rattle.scad_ast.specs.declared.expression.Arg.{Arg}
 use Rattle.scad_ast.specs.declared.expression.Suffix.{Suffix}
+use Rattle.scad_ast.specs.declared.expression.Link.{Link}
+use Rattle.scad_ast.specs.declared.expression.Links.{out-Links}
 use Rattle.scad_ast.specs.declared.statement.Param.{Param}
 use Rattle.scad_value.specs.declared.value.Value.{Value}
 use Rattle.scad_value.specs.Operators.{binary_of}
@@ -28,7 +30,7 @@ use Rattle.scad_func.proofs.Outcomes.{tells_along, tells_answer, fault_goes, fau
 use Rattle.scad_func.proofs.Environments.{variable_same}
 use Rattle.scad_func.proofs.Slots.{called_same}
 use Rattle.scad_func.proofs.Steps.{one_deeper, deep_enough, small_enough, param_deep, params_here, params_end, slots_here, params_small, slots_parts, filled_more, filled_end, slots_set_in, bounded_set, slot_more, fault_of_slots, as_many, built_in_named, built_in_taken, few_after}
-use Rattle.scad_func.proofs.Forms.{name_form, count_form, postfix_form, link_form, args_form}
+use Rattle.scad_func.proofs.Forms.{name_form, count_form, postfix_form, chain_form, choice_form, link_form, links_form, suffixes_form, args_form}
 use Rattle.scad_func.proofs.Again.{again, none_bounded}
 use Rattle.scad_func.proofs.evaluate.+value.Goals.{built_in-then-not-have_no_names-via-then-not-have_no_names, built_in-then-not-have_no_names-via-else-not-have_no_names+then-not-takes}
 use Rattle.scad_func.proofs.evaluate.+value.Goals as goal
@@ -92,13 +94,13 @@ pub each_argument-returns-in_err-value-clause-scopes : goal.each_argument-return
 each_argument-returns-in_err-value-clause-scopes t c =
     grows_trans _ _ _ c.each.invariant.scopes c.in_err-value.ensures.scopes
 
-pub suffixes-returns-in_err-value-clause-scopes : goal.suffixes-returns-in_err-value-clause-scopes
-suffixes-returns-in_err-value-clause-scopes t c =
-    grows_trans _ _ _ c.each.invariant.scopes c.in_err-value.ensures.scopes
+pub suffixes-returns-in_err-so_far-2-clause-scopes : goal.suffixes-returns-in_err-so_far-2-clause-scopes
+suffixes-returns-in_err-so_far-2-clause-scopes t c =
+    grows_trans _ _ _ c.each.invariant.scopes c.in_err-so_far-2.ensures.scopes
 
-pub links-returns-in_err-so_far-clause-scopes : goal.links-returns-in_err-so_far-clause-scopes
-links-returns-in_err-so_far-clause-scopes t c =
-    grows_trans _ _ _ c.each.invariant.scopes c.in_err-so_far.ensures.scopes
+pub links-returns-in_err-so_far-2-clause-scopes : goal.links-returns-in_err-so_far-2-clause-scopes
+links-returns-in_err-so_far-2-clause-scopes t c =
+    grows_trans _ _ _ c.each.invariant.scopes c.in_err-so_far-2.ensures.scopes
 
 pub range-returns-in_err-b-clause-scopes : goal.range-returns-in_err-b-clause-scopes
 range-returns-in_err-b-clause-scopes t c =
@@ -332,10 +334,27 @@ each_positional-returns-clause-value t c =
     (all_values (args_from (map arg_of (drop i xs)))) c.each.meter.turns c.each.invariant.told
     (ap all_values (args_end xs i le))
 
-pub suffixes-returns-in_err-value-clause-value : goal.suffixes-returns-in_err-value-clause-value
-suffixes-returns-in_err-value-clause-value t c =
+pub suffixes-returns-in_err-so_far-clause-value : goal.suffixes-returns-in_err-so_far-clause-value
+suffixes-returns-in_err-so_far-clause-value t c =
     let p = err_from_is_err_and c.from_residual.result c.from_residual.ensures.1 in
-    let xs = c.args.rest.now.items.items in
+    let first = suffix_of c.args.rest.now.first in
+    let rest = suffixes_from (map suffix_of c.args.rest.now.more.items) in
+    let v = indexed_val (env_of (rows_of c.args.scopes.now) c.args.scope) c.args.of in
+    let apart = ap (λ ss. each_suffix (evaluated (512 - c.args.meter.now.depth)) (64 - c.args.meter.now.calls)
+    (seen c.args.source.now (rows_of c.args.scopes.now) c.args.scope) v ss c.args.meter.now.turns) (suffixes_form c.args.rest.now) ∙
+    suffix_step (evaluated (512 - c.args.meter.now.depth)) (64 - c.args.meter.now.calls)
+    (seen c.args.source.now (rows_of c.args.scopes.now) c.args.scope) v first rest
+    c.args.meter.now.turns in
+    rw (p.1, p.2) (step_fault _ (λ turns y. each_suffix (evaluated (512 - c.args.meter.now.depth)) (64 - c.args.meter.now.calls)
+    (seen c.args.source.now (rows_of c.args.scopes.now) c.args.scope) y rest
+    turns) _ (suffixed (evaluated (512 - c.args.meter.now.depth)) (64 - c.args.meter.now.calls)
+    (seen c.args.source.now (rows_of c.args.scopes.now) c.args.scope) v first c.args.meter.now.turns) refl apart
+    c.in_err-so_far.field-0.0 c.suffix.new.meter.turns c.suffix.new.meter.turns c.in_err-so_far.ensures.value)
+
+pub suffixes-returns-in_err-so_far-2-clause-value : goal.suffixes-returns-in_err-so_far-2-clause-value
+suffixes-returns-in_err-so_far-2-clause-value t c =
+    let p = err_from_is_err_and c.from_residual-in_err-so_far-2.result c.from_residual-in_err-so_far-2.ensures.1 in
+    let xs = c.args.rest.now.more.items in
     let i = c.each.part-index in
     let h : i < length xs = omega (arith, c.each-test.true, ap length c.deref-part-items.ensures.value) in
     let x = c.part-item.result in
@@ -343,12 +362,11 @@ suffixes-returns-in_err-value-clause-value t c =
     c.deref-part-items.ensures.value in
     let next = suffixes_here xs i x h is in
     let inv = c.each.invariant in
-    let env = env_of (rows_of c.args.scopes.now) c.args.scope in
-    let v = indexed_val env c.each.at in
+    let v = val_of c.each.so_far in
     let rest = suffixes_from (map suffix_of (drop (i + 1) xs)) in
     let stays = again (λ d k e. suffixed (evaluated (512 - d)) (64 - k)
-    (env_in (functions_held c.args.source.now) (modules_held c.args.source.now) e)
-    (indexed_val e c.each.at) (suffix_of x) c.each.meter.turns)
+    (env_in (functions_held c.args.source.now) (modules_held c.args.source.now) e) v (suffix_of x)
+    c.each.meter.turns)
     c.args.meter.now c.each.meter (rows_of c.args.scopes.now) (rows_of c.each.scopes) c.args.scope inv.depth
     inv.calls inv.scopes c.requires.scope in
     let step = suffixed (evaluated (512 - c.args.meter.now.depth)) (64 - c.args.meter.now.calls)
@@ -362,13 +380,13 @@ suffixes-returns-in_err-value-clause-value t c =
     rw (p.1, p.2) (step_fault _ (λ turns y. each_suffix (evaluated (512 - c.args.meter.now.depth))
     (64 - c.args.meter.now.calls) (seen c.args.source.now (rows_of c.args.scopes.now) c.args.scope) y rest
     turns) _ step inv.told apart
-    c.in_err-value.field-0.0 c.suffix.new.meter.turns c.suffix.new.meter.turns
-    (tells_along (Err c.in_err-value.field-0.0) c.suffix.new.meter.turns _ _ stays
-    c.in_err-value.ensures.value))
+    c.in_err-so_far-2.field-0.0 c.suffix-in-each.new.meter.turns c.suffix-in-each.new.meter.turns
+    (tells_along (Err c.in_err-so_far-2.field-0.0) c.suffix-in-each.new.meter.turns _ _ stays
+    c.in_err-so_far-2.ensures.value))
 
 pub suffixes-each-preserved : goal.suffixes-each-preserved
 suffixes-each-preserved t c =
-    let xs = c.args.rest.now.items.items in
+    let xs = c.args.rest.now.more.items in
     let i = c.each.part-index in
     let h : i < length xs = omega (arith, c.each-test.true, ap length c.deref-part-items.ensures.value) in
     let x = c.part-item.result in
@@ -376,12 +394,11 @@ suffixes-each-preserved t c =
     c.deref-part-items.ensures.value in
     let next = suffixes_here xs i x h is in
     let inv = c.each.invariant in
-    let env = env_of (rows_of c.args.scopes.now) c.args.scope in
-    let v = indexed_val env c.each.at in
+    let v = val_of c.each.so_far in
     let rest = suffixes_from (map suffix_of (drop (i + 1) xs)) in
     let stays = again (λ d k e. suffixed (evaluated (512 - d)) (64 - k)
-    (env_in (functions_held c.args.source.now) (modules_held c.args.source.now) e)
-    (indexed_val e c.each.at) (suffix_of x) c.each.meter.turns)
+    (env_in (functions_held c.args.source.now) (modules_held c.args.source.now) e) v (suffix_of x)
+    c.each.meter.turns)
     c.args.meter.now c.each.meter (rows_of c.args.scopes.now) (rows_of c.each.scopes) c.args.scope inv.depth
     inv.calls inv.scopes c.requires.scope in
     let step = suffixed (evaluated (512 - c.args.meter.now.depth)) (64 - c.args.meter.now.calls)
@@ -392,18 +409,41 @@ suffixes-each-preserved t c =
     suffix_step (evaluated (512 - c.args.meter.now.depth)) (64 - c.args.meter.now.calls)
     (seen c.args.source.now (rows_of c.args.scopes.now) c.args.scope) v (suffix_of x) rest
     c.each.meter.turns in
-    let g = c.in_ok-value.ensures in
+    let g = c.in_ok-so_far-2.ensures in
     record {
       told = step_more _ (λ turns y. each_suffix (evaluated (512 - c.args.meter.now.depth))
           (64 - c.args.meter.now.calls) (seen c.args.source.now (rows_of c.args.scopes.now) c.args.scope) y
-          rest turns) _ step inv.told apart c.suffix.new.meter.turns (val_of c.in_ok-value.value)
+          rest turns) _ step inv.told apart c.suffix-in-each.new.meter.turns (val_of c.in_ok-so_far-2.so_far)
           (stays ∙ g.value);
-      there = g.bounded;
+      bounded = g.bounded;
       small = (suffixes_small _ (suffix_of x) rest next inv.small).1;
       scopes = grows_trans _ _ _ inv.scopes g.scopes;
       numbered = g.numbered;
       calls = g.calls ∙ inv.calls;
       depth = g.depth ∙ inv.depth;
+      turns = g.turns;
+    }
+
+pub links-each-init : goal.links-each-init
+links-each-init t c =
+    let first = link_of (out-Links c.args.rest.now).first in
+    let rest = links_from (map link_of c.deref-part-items.result.now) in
+    let form = ap links_from (links_form c.args.rest.now)
+    ∙ ap (λ (l : List Link). links_from (first ∷ map link_of l)) (sym c.deref-part-items.ensures.value) in
+    let g = c.in_ok-so_far.ensures in
+    let v = val_of c.args.left in
+    record {
+      told = step_more _ (λ turns y. each_link (evaluated (512 - c.args.meter.now.depth)) (64 - c.args.meter.now.calls)
+          (seen c.args.source.now (rows_of c.args.scopes.now) c.args.scope) y rest turns) _ (linked (evaluated (512 - c.args.meter.now.depth)) (64 - c.args.meter.now.calls)
+          (seen c.args.source.now (rows_of c.args.scopes.now) c.args.scope) v first c.args.meter.now.turns) refl
+          (ap (λ ls. each_link (evaluated (512 - c.args.meter.now.depth)) (64 - c.args.meter.now.calls)
+          (seen c.args.source.now (rows_of c.args.scopes.now) c.args.scope) v ls c.args.meter.now.turns) form) c.link.new.meter.turns (val_of c.in_ok-so_far.so_far) g.value;
+      bounded = g.bounded;
+      small = (links_small _ first rest form c.requires.numerals).1;
+      scopes = g.scopes;
+      numbered = g.numbered;
+      calls = g.calls;
+      depth = g.depth;
       turns = g.turns;
     }
 
@@ -416,7 +456,7 @@ links-each-preserved t c =
     let is : x ≡ get_or xs i x = c.part-item.is in
     let next = links_here xs i x h is in
     let inv = c.each.invariant in
-    let g = c.in_ok-so_far.ensures in
+    let g = c.in_ok-so_far-2.ensures in
     let v = val_of c.each.so_far in
     let rest = links_from (map link_of (drop (i + 1) xs)) in
     let stays = again (λ d k e. linked (evaluated (512 - d)) (64 - k)
@@ -432,7 +472,7 @@ links-each-preserved t c =
           inv.told
           (ap (λ ls. each_link (evaluated (512 - c.args.meter.now.depth)) (64 - c.args.meter.now.calls)
           (seen c.args.source.now (rows_of c.args.scopes.now) c.args.scope) v ls c.each.meter.turns) next)
-          c.link.new.meter.turns (val_of c.in_ok-so_far.so_far) (stays ∙ g.value);
+          c.link-in-each.new.meter.turns (val_of c.in_ok-so_far-2.so_far) (stays ∙ g.value);
       bounded = g.bounded;
       small = (links_small _ (link_of x) rest next inv.small).1;
       scopes = grows_trans _ _ _ inv.scopes g.scopes;
@@ -757,8 +797,8 @@ link-returns-in_err-right-2 t c =
       turns = tt;
     })
 
-pub operand-returns-in-ChildCount-clause-value : goal.operand-returns-in-ChildCount-clause-value
-operand-returns-in-ChildCount-clause-value t c =
+pub operand-returns-in_ok-child_count-in-ChildCount-clause-value : goal.operand-returns-in_ok-child_count-in-ChildCount-clause-value
+operand-returns-in_ok-child_count-in-ChildCount-clause-value t c =
     ap (λ e. operand (evaluated (512 - c.args.meter.now.depth)) (64 - c.args.meter.now.calls)
     (seen c.args.source.now (rows_of c.args.scopes.now) c.args.scope) e c.args.meter.now.turns)
     (ap term_of c.in-ChildCount.is ∙ count_form c.in-ChildCount.place)
@@ -785,25 +825,36 @@ operand-returns-in-Postfix-clause-value t c =
     tells_along c.postfix.result c.postfix.new.meter.turns _ _
     (ap (λ e. operand (evaluated (512 - c.args.meter.now.depth)) (64 - c.args.meter.now.calls)
     (seen c.args.source.now (rows_of c.args.scopes.now) c.args.scope) e c.args.meter.now.turns)
-    (ap term_of c.in-Postfix.is ∙ postfix_form c.in-Postfix.field-0 c.in-Postfix.of c.in-Postfix.rest)
-    ∙ ap (λ (x : Expr). then_with (operand (evaluated (512 - c.args.meter.now.depth))
-    (64 - c.args.meter.now.calls) (seen c.args.source.now (rows_of c.args.scopes.now) c.args.scope)
-    (term_of x) c.args.meter.now.turns) (λ turns v. each_suffix (evaluated (512 - c.args.meter.now.depth))
-    (64 - c.args.meter.now.calls) (seen c.args.source.now (rows_of c.args.scopes.now) c.args.scope) v
-    (suffixes_from (suffixes_of c.in-Postfix.rest)) turns))
-    (sym c.deref-in-Postfix.ensures)) c.postfix.ensures.value
+    (postfix_form c.args.expr.now c.in-Postfix.field-0 c.in-Postfix.parts c.deref-in-Postfix.result.now c.deref-in-Postfix-2.result.now
+    c.in-Postfix.is c.deref-in-Postfix.ensures c.deref-in-Postfix-2.ensures)) c.postfix.ensures.value
 
-pub operand-returns-in-Chain-clause-scopes : goal.operand-returns-in-Chain-clause-scopes
-operand-returns-in-Chain-clause-scopes t c =
-    grows_trans _ _ _ c.in_ok-left-in-Chain.ensures.scopes c.links.ensures.scopes
+pub operand-returns-in-Chain-clause-value : goal.operand-returns-in-Chain-clause-value
+operand-returns-in-Chain-clause-value t c =
+    tells_along c.chain.result c.chain.new.meter.turns _ _
+    (ap (λ e. operand (evaluated (512 - c.args.meter.now.depth)) (64 - c.args.meter.now.calls)
+    (seen c.args.source.now (rows_of c.args.scopes.now) c.args.scope) e c.args.meter.now.turns)
+    (chain_form c.args.expr.now c.in-Chain.field-0 c.in-Chain.parts c.deref-in-Chain.result.now c.deref-in-Chain-2.result.now
+    c.in-Chain.is c.deref-in-Chain.ensures c.deref-in-Chain-2.ensures)) c.chain.ensures.value
 
-pub operand-returns-then-truth-clause-scopes : goal.operand-returns-then-truth-clause-scopes
-operand-returns-then-truth-clause-scopes t c =
-    grows_trans _ _ _ c.in_ok-value-in-Choice.ensures.scopes c.expression-then-truth.ensures.scopes
+pub operand-returns-in-Choice-clause-value : goal.operand-returns-in-Choice-clause-value
+operand-returns-in-Choice-clause-value t c =
+    tells_along c.choice.result c.choice.new.meter.turns _ _
+    (ap (λ e. operand (evaluated (512 - c.args.meter.now.depth)) (64 - c.args.meter.now.calls)
+    (seen c.args.source.now (rows_of c.args.scopes.now) c.args.scope) e c.args.meter.now.turns)
+    (choice_form c.args.expr.now c.in-Choice.field-0 c.in-Choice.parts c.deref-in-Choice.result.now c.deref-in-Choice-2.result.now c.deref-in-Choice-3.result.now
+    c.in-Choice.is c.deref-in-Choice.ensures c.deref-in-Choice-2.ensures c.deref-in-Choice-3.ensures)) c.choice.ensures.value
 
-pub operand-returns-clause-scopes : goal.operand-returns-clause-scopes
-operand-returns-clause-scopes t c =
-    grows_trans _ _ _ c.in_ok-value-in-Choice.ensures.scopes c.expression-else-truth.ensures.scopes
+pub chain-returns-clause-scopes : goal.chain-returns-clause-scopes
+chain-returns-clause-scopes t c =
+    grows_trans _ _ _ c.in_ok-left.ensures.scopes c.links.ensures.scopes
+
+pub choice-returns-then-truth-clause-scopes : goal.choice-returns-then-truth-clause-scopes
+choice-returns-then-truth-clause-scopes t c =
+    grows_trans _ _ _ c.in_ok-value.ensures.scopes c.expression.ensures.scopes
+
+pub choice-returns-clause-scopes : goal.choice-returns-clause-scopes
+choice-returns-clause-scopes t c =
+    grows_trans _ _ _ c.in_ok-value.ensures.scopes c.expression-else-truth.ensures.scopes
 
 pub postfix-returns-in_err-_there-clause-value : goal.postfix-returns-in_err-_there-clause-value
 postfix-returns-in_err-_there-clause-value t c =

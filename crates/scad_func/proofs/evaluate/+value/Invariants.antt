@@ -19,7 +19,7 @@ use Rattle.scad_scope.specs.Table.{rows_of}
 use Rattle.scad_func.specs.Meaning.{evaluated, each_value, each_suffix, each_link}
 use Rattle.scad_func.specs.Slots.{each_slot, each_filled, all_values}
 use Rattle.scad_func.specs.Numerals.{terms_have_small, args_have_small, suffixes_have_small, links_have_small, params_have_small}
-use Rattle.scad_func.specs.View.{Grows, IsNumbered, seen, indexed_val, IsThere, slots_in, slots_bounded, param_size, params_size}
+use Rattle.scad_func.specs.View.{Grows, IsNumbered, seen, indexed_val, slots_in, slots_bounded, param_size, params_size}
 use Rattle.scad_builtin.specs.Builtins.{are_bounded}
 use Rattle.scad_func.proofs.Calls.{calls_left, in_front}
 use Rattle.scad_func.proofs.evaluate.+value.Given as goal
@@ -54,11 +54,19 @@ decreases-suffixes l = calls_left l.source.now l.meter.now.calls + (4 * size-Suf
 abbrev pub decreases-suffix : goal.decreases-suffix
 decreases-suffix l = calls_left l.source.now l.meter.now.calls + (4 * size-Suffix l.part.now + 1)
 
+abbrev pub decreases-chain : goal.decreases-chain
+decreases-chain l = calls_left l.source.now l.meter.now.calls +
+    (4 * max (size-Expr l.first.now) (size-Links l.rest.now) + 3)
+
 abbrev pub decreases-links : goal.decreases-links
 decreases-links l = calls_left l.source.now l.meter.now.calls + (4 * size-Links l.rest.now + 2)
 
 abbrev pub decreases-link : goal.decreases-link
 decreases-link l = calls_left l.source.now l.meter.now.calls + (4 * size-Link l.part.now + 1)
+
+abbrev pub decreases-choice : goal.decreases-choice
+decreases-choice l = calls_left l.source.now l.meter.now.calls +
+    (4 * max (size-Expr l.test.now) (max (size-Expr l.yes.now) (size-Expr l.no.now)) + 3)
 
 abbrev pub decreases-call : goal.decreases-call
 decreases-call l = calls_left l.source.now l.meter.now.calls + (4 * size-Args l.args.now + 3)
@@ -124,11 +132,10 @@ invariant-suffixes-each l = record {
       (indexed_val (env_of (rows_of l.fn.scopes) l.scope) l.fn.of) (suffixes_from (suffixes_of l.rest))
       l.fn.meter.turns
       ≡ each_suffix (evaluated (512 - l.fn.meter.depth)) (64 - l.fn.meter.calls)
-      (seen l.source (rows_of l.fn.scopes) l.scope)
-      (indexed_val (env_of (rows_of l.fn.scopes) l.scope) l.at)
-      (suffixes_from (map suffix_of (drop l.part-index l.rest.items.items))) l.meter.turns;
-  there : IsThere (env_of (rows_of l.fn.scopes) l.scope) l.at;
-  small : IsTrue (suffixes_have_small (suffixes_from (map suffix_of (drop l.part-index l.rest.items.items))));
+      (seen l.source (rows_of l.fn.scopes) l.scope) (val_of l.so_far)
+      (suffixes_from (map suffix_of (drop l.part-index l.rest.more.items))) l.meter.turns;
+  bounded : IsTrue (is_bounded (val_of l.so_far));
+  small : IsTrue (suffixes_have_small (suffixes_from (map suffix_of (drop l.part-index l.rest.more.items))));
   scopes : Grows (rows_of l.fn.scopes) (rows_of l.scopes);
   numbered : IsNumbered l.source (rows_of l.scopes);
   calls : l.meter.calls ≡ l.fn.meter.calls;

@@ -14,7 +14,7 @@ invariant-all_args-each l = args_have_small (args_from (args_of l.args))
 
 abbrev pub invariant-all_suffixes-each : goal.invariant-all_suffixes-each
 invariant-all_suffixes-each l = suffixes_have_small (suffixes_from (suffixes_of l.suffixes))
-    ≡ suffixes_have_small (suffixes_from (map suffix_of (drop l.suffix-index l.suffixes.items.items)))
+    ≡ suffixes_have_small (suffixes_from (map suffix_of (drop l.suffix-index l.suffixes.more.items)))
 
 abbrev pub invariant-all_links-each : goal.invariant-all_links-each
 invariant-all_links-each l = links_have_small (links_from (links_of l.links))
