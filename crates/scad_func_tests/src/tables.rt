@@ -34,7 +34,7 @@ fn gives_values_of_operators(rt: HostRuntime) -> Result<(), Fail> {
 
 #[test]
 fn gives_values_of_forms(rt: HostRuntime) -> Result<(), Fail> {
-    let cases: [(&[u8], &[u8]); 30] = [
+    let cases: [(&[u8], &[u8]); 34] = [
         (b"x = later;", b"7"),
         (b"x = true || 1/0;", b"true"),
         (b"x = 0 || \"\";", b"false"),
@@ -50,6 +50,10 @@ fn gives_values_of_forms(rt: HostRuntime) -> Result<(), Fail> {
         (b"x = later[1/0];", b"8 ZeroDivisor"),
         (b"x = \"ab\"[1];", b"b"),
         (b"x = [[1,2],[3,4]][1][0];", b"3"),
+        (b"x = [[[1,2],[3]],[[4]]][0][0][1];", b"2"),
+        (b"x = [[5,6,7],8][0].y;", b"6"),
+        (b"x = [[5,6,7],8].x[2];", b"7"),
+        (b"x = 20 % 7 * 5 % 11;", b"8"),
         (b"x = [1,2][-1];", b"undef"),
         (b"x = [1:3];", b"1:1:3"),
         (b"x = [3:-1:1];", b"3:-1:1"),

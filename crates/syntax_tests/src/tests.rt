@@ -175,6 +175,29 @@ fn reads_small_programs(rt: HostRuntime) -> Result<(), Fail> {
     Ok(())
 }
 
+// Several operators of a level, several indexes and members, and a choice before the `:` of another.
+#[test]
+fn reads_several_of_each(rt: HostRuntime) -> Result<(), Fail> {
+    let cases: [(&[u8], &[u8]); 3] = [
+        (
+            b"x=1-2+3-4;\n",
+            b"{set x@1 (chain@3 1@3 -@4 2@5 +@6 3@7 -@8 4@9 )}",
+        ),
+        (
+            b"x=a[1].x[2];\n",
+            b"{set x@1 (postfix@3 a@3 []@4 1@5 .@7 x@8 []@9 2@10 )}",
+        ),
+        (
+            b"x=1?2?3:4:5;\n",
+            b"{set x@1 (choice@3 1@3 ?@4 (choice@5 2@5 ?@6 3@7 4@9 )5@11 )}",
+        ),
+    ];
+    for (source, program) in cases {
+        assert_eq!(rt; told(rt.alloc(), source)?.as_slice(), program);
+    }
+    Ok(())
+}
+
 // A tighter level inside a looser one, on either side, and what goes on with an atom.
 #[test]
 fn groups_operators_by_level(rt: HostRuntime) -> Result<(), Fail> {
