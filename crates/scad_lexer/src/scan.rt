@@ -1,4 +1,4 @@
-ghost use Rattle.std.specs.Prelude.{◌≡◌, ℕ, ◌+◌, ◌≤◌, ◌∷◌, ◌<◌, ◌^◌, length, false, not, nat_eq, ◌&&◌, Some, IfSome, IfNone};
+ghost use Rattle.std.specs.Prelude.{◌≡◌, ℕ, ◌+◌, ◌≤◌, ◌<◌, ◌^◌, length, false, not, nat_eq, ◌&&◌, Some, IfSome, IfNone};
 ghost use Rattle.scad_lexer.specs.declared.class.Class.TheVariants.{Blank, Letter, Digit};
 ghost use Rattle.scad_lexer.specs.Words.{has, longest, more_bytes, word_from, in_whole, in_fraction, number_end, exponent, in_exponent, after_point, after_slash, after_dollar, in_text, in_comment, single, double, double_of, symbol_of, begins_with, IsLongest, HasNoWord};
 
