@@ -11,4 +11,5 @@ pub mod Divisions
 pub mod ThroughPoints
 pub mod Coprime
 pub mod SamePlanes
+pub mod InUnits
 mod Rows

@@ -7,13 +7,15 @@ mod meeting;
 mod reduction;
 mod sides;
 mod through;
+mod unit;
 
-pub use laws::planes_with_the_same_points;
+pub use laws::{planes_with_the_same_points, points_in_units_and_grid_steps};
 pub use meeting::{meet, opposite, point_side, side};
 pub use reduction::reduce;
 pub use sides::Side;
 use std::marker::Model;
 pub use through::plane_through;
+pub use unit::Unit;
 
 /// The points with `a x + b y + c z = d`, where a point is behind the plane if the left side is
 /// smaller, and ahead of it if the left side is greater.
