@@ -1,7 +1,7 @@
 //! The solids of leaves.
 
 ghost use Rattle.std.specs.Prelude.{◌≡◌, ◌+◌, ◌<◌, IfOk, IsOkAnd, All, length};
-ghost use Rattle.plane_polygon.specs.Boxes.{ComesInReach};
+ghost use Rattle.plane_predicate.specs.Space.{ComesInReach};
 ghost use Rattle.csg_tree.specs.Formulas.{leaf};
 ghost use Rattle.bsp_tree.specs.Trees.{half_space, size};
 ghost use Rattle.bsp_tree.specs.Cells.{IsOfWorld};

@@ -1,6 +1,5 @@
 ghost use Rattle.std.specs.Prelude.{◌≡◌, ◌+◌, All, vec_len};
-ghost use Rattle.plane_predicate.specs.Space.{point_at, IsInReach};
-ghost use Rattle.plane_polygon.specs.Boxes.{ComesInReach};
+ghost use Rattle.plane_predicate.specs.Space.{point_at, IsInReach, ComesInReach};
 
 use crate::{BuildStop, Builder, PlainBuilder, leaf_solid, merge, merge_within};
 use bsp_tree::{Solid, half, holds};

@@ -1,12 +1,12 @@
 -- The parts of a solid of a cell are of the halves of the cell.
 use Rattle.std.proofs.Common.{◌≡◌, Bool, true, false, if◌then◌else◌, List, ◌∷◌, refl, sym, ap, ◌∙◌, subst, true≢false, pos, ◌<ℤ◌}
-use Rattle.plane_predicate.specs.Space.{Coefficients, Coordinates, value, opposite_of}
+use Rattle.plane_predicate.specs.Space.{Coefficients, Coordinates, value, opposite_of, is_same}
 use Rattle.plane_polygon.specs.Polygons.{Outline}
 use Rattle.plane_polygon.specs.declared.classes.Class.{Class}
 use Rattle.plane_polygon.specs.declared.classes.Class.TheVariants.{Behind, Ahead, On, Across}
 use Rattle.plane_polygon.specs.Parts.{class_of, part_behind, part_ahead}
 use Rattle.plane_polygon.proofs.CornerSides.{across_opposite}
-use Rattle.bsp_tree.specs.Trees.{Tree, inside, outside, node, make, same}
+use Rattle.bsp_tree.specs.Trees.{Tree, inside, outside, node, make}
 use Rattle.bsp_tree.specs.Cells.{IsIn, IsAcross, IsOfCell}
 use Rattle.bsp_tree.proofs.Opposites.{opposite_zero, opposite_back, opposite_above, behind_opposite_above, opposite_twice}
 use Rattle.bsp_tree.proofs.SameNumbers.{same_equal}
@@ -128,7 +128,7 @@ row_cells cell s t b a low high low_part high_part On Across ex ey r hs ht hb ha
 
 -- ---- a node on the same plane, or on the opposite
 node_cells : (cell : List Coefficients) (s t : Outline) (b a : Tree) (parts : Tree × Tree) (x y : Bool) →
-    same t.plane s.plane ≡ x → same t.plane (opposite_of s.plane) ≡ y →
+    is_same t.plane s.plane ≡ x → is_same t.plane (opposite_of s.plane) ≡ y →
     IsOfCell (t.plane ∷ cell) b → IsOfCell (opposite_of t.plane ∷ cell) a → (x ≡ false → y ≡ false →
     OfHalves cell s.plane parts) → OfHalves cell s.plane (if x then (b, a) else if y then (a, b) else
     parts)
@@ -152,8 +152,8 @@ halves outside cell s h hs = (tt, tt)
 halves (node t b a) cell s h hs =
     let q = t.plane in let o = opposite_of t.plane in
     node_cells cell s t b a (rows (class_of s q) (class_of t s.plane) s t b a (divide b s) (divide a s)
-    (divide b (part_behind s q)) (divide a (part_ahead s q))) (same q s.plane)
-    (same q (opposite_of s.plane)) refl refl h.1 h.2
+    (divide b (part_behind s q)) (divide a (part_ahead s q))) (is_same q s.plane)
+    (is_same q (opposite_of s.plane)) refl refl h.1 h.2
     (λ ex ey. row_cells cell s t b a (divide b s) (divide a s) (divide b (part_behind s q))
     (divide a (part_ahead s q)) (class_of s q) (class_of t s.plane) refl refl (way_of cell s t hs h.0 ex
     ey) hs h.0 h.1 h.2

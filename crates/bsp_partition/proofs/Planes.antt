@@ -1,11 +1,11 @@
 -- No plane of a solid's parts is new.
 use Rattle.std.proofs.Common.{◌≡◌, inl, inr, Bool, true, false, if◌then◌else◌, refl, ◌∙◌}
-use Rattle.plane_predicate.specs.Space.{opposite_of}
+use Rattle.plane_predicate.specs.Space.{opposite_of, is_same}
 use Rattle.plane_polygon.specs.Polygons.{Outline}
 use Rattle.plane_polygon.specs.declared.classes.Class.{Class}
 use Rattle.plane_polygon.specs.declared.classes.Class.TheVariants.{Behind, Ahead, On, Across}
 use Rattle.plane_polygon.specs.Parts.{class_of, part_behind, part_ahead}
-use Rattle.bsp_tree.specs.Trees.{Tree, inside, outside, node, make, same}
+use Rattle.bsp_tree.specs.Trees.{Tree, inside, outside, node, make}
 use Rattle.bsp_tree.specs.Cells.{HasPlanesOf}
 use Rattle.bsp_partition.specs.Partitions.{divide, rows, HaveNoNewPlane}
 
@@ -81,8 +81,8 @@ divide_planes outside s = (own_planes outside, own_planes outside)
 divide_planes (node t b a) s =
     let q = t.plane in
     chosen_planes t b a (rows (class_of s q) (class_of t s.plane) s t b a (divide b s) (divide a s)
-    (divide b (part_behind s q)) (divide a (part_ahead s q))) (same q s.plane)
-    (same q (opposite_of s.plane))
+    (divide b (part_behind s q)) (divide a (part_ahead s q))) (is_same q s.plane)
+    (is_same q (opposite_of s.plane))
     (row_planes s t b a (divide b s) (divide a s) (divide b (part_behind s q)) (divide a (part_ahead s q))
     (class_of s q) (class_of t s.plane)
     (divide_planes b s) (divide_planes a s) (divide_planes b (part_behind s q))

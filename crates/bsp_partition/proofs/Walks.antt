@@ -1,13 +1,13 @@
 -- The parts of a solid keep its walks.
 use Rattle.std.proofs.Common.{◌≡◌, inl, inr, Bool, true, false, if◌then◌else◌, List, ◌∷◌, refl, sym, ◌∙◌, subst, true≢false, pos, ◌<ℤ◌}
-use Rattle.plane_predicate.specs.Space.{Coefficients, Coordinates, value, opposite_of}
+use Rattle.plane_predicate.specs.Space.{Coefficients, Coordinates, value, opposite_of, is_same}
 use Rattle.plane_predicate.proofs.Signs.{signs}
 use Rattle.plane_polygon.specs.Polygons.{Outline}
 use Rattle.plane_polygon.specs.declared.classes.Class.{Class}
 use Rattle.plane_polygon.specs.declared.classes.Class.TheVariants.{Behind, Ahead, On, Across}
 use Rattle.plane_polygon.specs.Parts.{class_of, part_behind, part_ahead}
 use Rattle.plane_polygon.proofs.CornerSides.{across_opposite}
-use Rattle.bsp_tree.specs.Trees.{Tree, inside, outside, node, same}
+use Rattle.bsp_tree.specs.Trees.{Tree, inside, outside, node}
 use Rattle.bsp_tree.specs.Cells.{IsIn, IsAcross, IsOfCell, IsOff}
 use Rattle.bsp_tree.proofs.Opposites.{opposite_zero, opposite_back, opposite_above, opposite_below}
 use Rattle.bsp_tree.proofs.SameNumbers.{same_equal}
@@ -135,7 +135,7 @@ row_ahead cell s t b a low high low_part high_part p On y ex ey r hs ht hp q k k
 
 -- a node on the same plane, or on the opposite
 node_keeps : (s t : Outline) (b a : Tree) (p : Coordinates) (parts : Tree × Tree) (x y : Bool) →
-    same t.plane s.plane ≡ x → same t.plane (opposite_of s.plane) ≡ y →
+    is_same t.plane s.plane ≡ x → is_same t.plane (opposite_of s.plane) ≡ y →
     (x ≡ false → y ≡ false → Keeps (node t b a) s.plane parts p) → Keeps (node t b a) s.plane
     (if x then (b, a) else if y then (a, b) else parts) p
 node_keeps s t b a p parts true y ex ey k =
@@ -159,8 +159,8 @@ keeps outside cell s h hs p hp off = record { low = λ _. refl; high = λ _. ref
 keeps (node t b a) cell s h hs p hp off =
     let q = t.plane in
     node_keeps s t b a p (rows (class_of s q) (class_of t s.plane) s t b a (divide b s) (divide a s)
-    (divide b (part_behind s q)) (divide a (part_ahead s q))) (same q s.plane)
-    (same q (opposite_of s.plane)) refl refl
+    (divide b (part_behind s q)) (divide a (part_ahead s q))) (is_same q s.plane)
+    (is_same q (opposite_of s.plane)) refl refl
     (λ ex ey. elim (signs (value q p)) [
       | inl k ↦ (let inside_b : IsIn (q ∷ cell) p = record { weight = hp.weight; below = (k, hp.below) } in
           row_behind cell s t b a (divide b s) (divide a s) (divide b (part_behind s q))

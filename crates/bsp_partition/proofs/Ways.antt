@@ -1,7 +1,7 @@
 -- Polygons of one cell whose planes are neither equal nor opposite lie against one another in one of five ways.
 use Rattle.std.proofs.Common.{◌≡◌, ◌≢◌, inl, inr, ℕ, suc, ◌<◌, Bool, true, false, List, refl, sym, ap, ◌∙◌, subst, arith, ℤ, pos, negsuc, ◌+ℤ◌, ◌-ℤ◌, ◌*ℤ◌, ◌<ℤ◌, ◌≤ℤ◌, neg_ℤ}
 use Rattle.std.proofs.Math.IntN.{*ℤ-zero}
-use Rattle.plane_predicate.specs.Space.{Coefficients, Coordinates, value, turn, opposite_of, HasItsPointsOn}
+use Rattle.plane_predicate.specs.Space.{Coefficients, Coordinates, value, turn, opposite_of, HasItsPointsOn, is_same}
 use Rattle.plane_predicate.proofs.IntegerRing.{sums}
 use Rattle.plane_predicate.proofs.Identities.{combine, value_combine}
 use Rattle.plane_predicate.proofs.Signs.{zero_cancel, neg_neg}
@@ -13,7 +13,6 @@ use Rattle.plane_polygon.specs.Parts.{class_of}
 use Rattle.plane_polygon.proofs.Hull.{corner_on, plane_directed}
 use Rattle.plane_polygon.proofs.FourPoints.{four_points}
 use Rattle.plane_polygon.proofs.Rounds.{step, step_below, corner_from, any_turn}
-use Rattle.bsp_tree.specs.Trees.{same}
 use Rattle.bsp_tree.specs.Cells.{IsIn, IsAcross}
 use Rattle.bsp_tree.proofs.Opposites.{opposite_zero, opposite_twice, behind_opposite_above}
 use Rattle.bsp_tree.proofs.SameNumbers.{not_same}
@@ -150,7 +149,7 @@ one_way cell s t hs ht ne other Ahead On ex ey = absurd (not_on cell t s ht hs (
 
 -- by the tests of the definition
 pub way_of : (cell : List Coefficients) (s t : Outline) → IsAcross cell s → IsAcross cell t →
-    same t.plane s.plane ≡ false → same t.plane (opposite_of s.plane) ≡ false →
+    is_same t.plane s.plane ≡ false → is_same t.plane (opposite_of s.plane) ≡ false →
     is_way (class_of s t.plane) (class_of t s.plane) ≡ true
 way_of cell s t hs ht e o = one_way cell s t hs ht (not_same t.plane s.plane e)
     (not_same t.plane (opposite_of s.plane) o) (class_of s t.plane) (class_of t s.plane) refl refl

@@ -2,14 +2,17 @@
 #![tactic(auto)]
 
 ghost use Rattle.std.specs.Prelude.{◌≡◌, IfOk};
-ghost use Rattle.plane_predicate.specs.Space.{opposite_of};
+ghost use Rattle.plane_predicate.specs.Space.{opposite_of, is_same};
 ghost use Rattle.plane_polygon.specs.declared.classes.Class.TheVariants.{Across};
 ghost use Rattle.plane_polygon.specs.Parts.{class_of, part_ahead, part_behind};
-ghost use Rattle.bsp_tree.specs.Trees.{make, same};
+ghost use Rattle.bsp_tree.specs.Trees.{make};
 ghost use Rattle.bsp_tree.specs.Shapes.{tree_of};
 ghost use Rattle.bsp_partition.specs.Partitions.{across_row, ahead_row, behind_row, divide, AreOfHalves, HaveNoNewPlane, KeepWalks};
 
+mod part;
+
 use bsp_tree::{Node, Solid, new_node};
+use part::Part;
 use plane_polygon::{Class, Polygon, cut, sort_by};
 use plane_predicate::{Plane, opposite};
 use std::alloc::Global;
@@ -53,18 +56,11 @@ pub fn make_node(
     new_node(alloc, polygon, behind, ahead)
 }
 
-/// Whether two planes have the same numbers.
-fn is_same(m: &Plane, n: &Plane) -> bool
-    ensures { result ≡ same m.now n.now }
-{
-    m.a == n.a && m.b == n.b && m.c == n.c && m.d == n.d
-}
-
 /// Whether two planes have opposite numbers.
 fn is_opposite(m: &Plane, n: &Plane) -> bool
-    ensures { result ≡ same m.now (opposite_of n.now) }
+    ensures { result ≡ is_same m.now (opposite_of n.now) }
 {
-    is_same(m, &opposite(n))
+    *m == opposite(n)
 }
 
 /// The parts of a solid, by the definition. A level of the recursion keeps little on the stack:
@@ -77,7 +73,7 @@ fn parts_of(alloc: Global, solid: Solid, by: &Polygon) -> Result<(Solid, Solid),
         Solid::In => Ok((Solid::In, Solid::In)),
         Solid::Out => Ok((Solid::Out, Solid::Out)),
         Solid::Node(inner) => {
-            if is_same(inner.polygon.plane(), by.plane()) {
+            if inner.polygon.plane() == by.plane() {
                 return Ok(sides_of(inner));
             }
             if is_opposite(inner.polygon.plane(), by.plane()) {
@@ -87,10 +83,10 @@ fn parts_of(alloc: Global, solid: Solid, by: &Polygon) -> Result<(Solid, Solid),
             let second = sort_by(&inner.polygon, by.plane());
             match (first, second) {
                 (Class::Across, Class::Across) => across_parts(alloc, inner, by),
-                (Class::Behind, Class::Behind) => behind_parts(alloc, inner, by, true),
-                (Class::Behind, Class::Ahead) => behind_parts(alloc, inner, by, false),
-                (Class::Ahead, Class::Behind) => ahead_parts(alloc, inner, by, true),
-                (Class::Ahead, Class::Ahead) => ahead_parts(alloc, inner, by, false),
+                (Class::Behind, Class::Behind) => behind_parts(alloc, inner, by, Part::Low),
+                (Class::Behind, Class::Ahead) => behind_parts(alloc, inner, by, Part::High),
+                (Class::Ahead, Class::Behind) => ahead_parts(alloc, inner, by, Part::Low),
+                (Class::Ahead, Class::Ahead) => ahead_parts(alloc, inner, by, Part::High),
                 _ => Ok(sides_of(inner)),
             }
         }
@@ -149,71 +145,69 @@ fn made_across(
     ))
 }
 
-/// The parts of a node by a polygon that lies behind its plane, where its own polygon lies behind
-/// the other's plane, or else ahead of it.
+/// The parts of a node by a polygon that lies behind its plane, where its own polygon lies in this
+/// part.
 #[cycle(parts)]
 fn behind_parts(
     alloc: Global,
     inner: Box<Node>,
     by: &Polygon,
-    is_behind: bool,
+    part: Part,
 ) -> Result<(Solid, Solid), NoMemory>
-    ensures { IfOk result (λ r. (tree_of r.0, tree_of r.1) ≡ behind_row is_behind inner.value.polygon (divide (tree_of inner.value.behind) by.now) (tree_of inner.value.ahead)) }
+    ensures { IfOk result (λ r. (tree_of r.0, tree_of r.1) ≡ behind_row part inner.value.polygon (divide (tree_of inner.value.behind) by.now) (tree_of inner.value.ahead)) }
 {
     let node = Box::into_inner(inner);
     let parts = parts_of(alloc, node.behind, by)?;
-    made_behind(alloc, node.polygon, parts, node.ahead, is_behind)
+    made_behind(alloc, node.polygon, parts, node.ahead, part)
 }
 
-/// The parts of what lies behind a node's plane, one of them in a node with what lies ahead.
+/// The parts of what lies behind a node's plane, this one of them in a node with what lies ahead.
 fn made_behind(
     alloc: Global,
     polygon: Polygon,
     parts: (Solid, Solid),
     ahead: Solid,
-    is_behind: bool,
+    part: Part,
 ) -> Result<(Solid, Solid), NoMemory>
-    ensures { IfOk result (λ r. (tree_of r.0, tree_of r.1) ≡ behind_row is_behind polygon (tree_of parts.0, tree_of parts.1) (tree_of ahead)) }
+    ensures { IfOk result (λ r. (tree_of r.0, tree_of r.1) ≡ behind_row part polygon (tree_of parts.0, tree_of parts.1) (tree_of ahead)) }
 {
     let (b1, b2) = parts;
-    if is_behind {
-        Ok((make_node(alloc, polygon, b1, ahead)?, b2))
-    } else {
-        Ok((b1, make_node(alloc, polygon, b2, ahead)?))
+    match part {
+        Part::Low => Ok((make_node(alloc, polygon, b1, ahead)?, b2)),
+        Part::High => Ok((b1, make_node(alloc, polygon, b2, ahead)?)),
     }
 }
 
-/// The parts of a node by a polygon that lies ahead of its plane, where its own polygon lies behind
-/// the other's plane, or else ahead of it.
+/// The parts of a node by a polygon that lies ahead of its plane, where its own polygon lies in this
+/// part.
 #[cycle(parts)]
 fn ahead_parts(
     alloc: Global,
     inner: Box<Node>,
     by: &Polygon,
-    is_behind: bool,
+    part: Part,
 ) -> Result<(Solid, Solid), NoMemory>
-    ensures { IfOk result (λ r. (tree_of r.0, tree_of r.1) ≡ ahead_row is_behind inner.value.polygon (tree_of inner.value.behind) (divide (tree_of inner.value.ahead) by.now)) }
+    ensures { IfOk result (λ r. (tree_of r.0, tree_of r.1) ≡ ahead_row part inner.value.polygon (tree_of inner.value.behind) (divide (tree_of inner.value.ahead) by.now)) }
 {
     let node = Box::into_inner(inner);
     let parts = parts_of(alloc, node.ahead, by)?;
-    made_ahead(alloc, node.polygon, node.behind, parts, is_behind)
+    made_ahead(alloc, node.polygon, node.behind, parts, part)
 }
 
-/// The parts of what lies ahead of a node's plane, one of them in a node with what lies behind.
+/// The parts of what lies ahead of a node's plane, this one of them in a node with what lies behind.
 fn made_ahead(
     alloc: Global,
     polygon: Polygon,
     behind: Solid,
     parts: (Solid, Solid),
-    is_behind: bool,
+    part: Part,
 ) -> Result<(Solid, Solid), NoMemory>
-    ensures { IfOk result (λ r. (tree_of r.0, tree_of r.1) ≡ ahead_row is_behind polygon (tree_of behind) (tree_of parts.0, tree_of parts.1)) }
+    ensures { IfOk result (λ r. (tree_of r.0, tree_of r.1) ≡ ahead_row part polygon (tree_of behind) (tree_of parts.0, tree_of parts.1)) }
 {
     let (a1, a2) = parts;
-    if is_behind {
-        Ok((make_node(alloc, polygon, behind, a1)?, a2))
-    } else {
-        Ok((a1, make_node(alloc, polygon, behind, a2)?))
+    match part {
+        Part::Low => Ok((make_node(alloc, polygon, behind, a1)?, a2)),
+        Part::High => Ok((a1, make_node(alloc, polygon, behind, a2)?)),
     }
 }
 

@@ -2,12 +2,12 @@
 use Rattle.std.proofs.Common.{arith, ℤ, ◌<ℤ◌, negsuc, ◌*◌, ◌<◌, ◌-ℤ◌, ◌*ℤ◌, unsigned_abs, ◌≡◌, ◌↔◌, Bool, true, false, not, if◌then◌else◌, refl, sym, subst, ◌∙◌, pos}
 use Rattle.plane_predicate.proofs.IntegerRing.{sums}
 use Rattle.std.specs.Ordering.{int_eq}
-use Rattle.plane_predicate.specs.Space.{Coefficients, Coordinates, value, IsPlane, IsInReach, IsInWorld, IsInClosedWorld}
+use Rattle.plane_predicate.specs.Space.{Coefficients, Coordinates, value, IsPlane, IsInReach, IsInWorld, IsInClosedWorld, ComesInReach}
 use Rattle.plane_polygon.specs.Polygons.{Outline}
 use Rattle.plane_polygon.specs.declared.classes.Class.{Class}
 use Rattle.plane_polygon.specs.declared.classes.Class.TheVariants.{Behind, Ahead, On, Across}
 use Rattle.plane_polygon.specs.Parts.{class_of}
-use Rattle.plane_polygon.specs.Boxes.{high_x, low_x, high_y, low_y, high_z, low_z, turned, box_outline, box_over_x, box_over_y, box_over_z, trimmed, trimmed_to, ComesInReach}
+use Rattle.plane_polygon.specs.Boxes.{high_x, low_x, high_y, low_y, high_z, low_z, turned, box_outline, box_over_x, box_over_y, box_over_z, trimmed, trimmed_to}
 use Rattle.plane_polygon.proofs.BoxPoints.{value_high_x, value_low_x, value_high_y, value_low_y, value_high_z, value_low_z, in_world, world_in, reach_in, box_polygon_is}
 use Rattle.bsp_tree.specs.Trees.{half_space}
 use Rattle.bsp_tree.specs.Cells.{IsIn, IsInClosed, IsAcross, IsOfWorld, world_box}

@@ -1,6 +1,5 @@
 -- Solids as binary space partitions (Bernstein and Fussell).
-use Rattle.std.specs.Prelude.{ℕ, ◌+◌, Bool, true, false, ◌&&◌, if◌then◌else◌}
-use Rattle.std.specs.Ordering.{int_eq}
+use Rattle.std.specs.Prelude.{ℕ, ◌+◌, Bool, true, false, if◌then◌else◌}
 use Rattle.plane_predicate.specs.Space.{Coefficients, Coordinates}
 use Rattle.plane_polygon.specs.Polygons.{Outline, sides}
 use Rattle.plane_polygon.specs.Parts.{is_behind}
@@ -39,7 +38,3 @@ make t b a = node t b a
 -- the points behind a plane, in the world box
 abbrev pub half_space : Coefficients → Tree
 half_space m = node (box_outline m) inside outside
-
--- the same four numbers
-abbrev pub same : Coefficients → Coefficients → Bool
-same m n = int_eq m.a n.a && int_eq m.b n.b && int_eq m.c n.c && int_eq m.d n.d

@@ -2,9 +2,8 @@
 #![tactic(auto)]
 
 ghost use Rattle.std.specs.Prelude.{◌≡◌, ◌-◌, ◌^◌, min, not, IfOk};
-ghost use Rattle.plane_predicate.specs.Space.{Coefficients, Coordinates};
-ghost use Rattle.plane_polygon.specs.Boxes.{ComesInReach};
-ghost use Rattle.plane_polygon.specs.Parts.{is_behind, is_side_behind};
+ghost use Rattle.plane_predicate.specs.Space.{Coefficients, Coordinates, ComesInReach};
+ghost use Rattle.plane_polygon.specs.Parts.{is_behind};
 ghost use Rattle.bsp_tree.specs.Trees.{complement, half_space, node, size, walk};
 ghost use Rattle.bsp_tree.specs.Cells.{HasPlanesOf, IsOfCell, IsOfWorld};
 ghost use Rattle.bsp_tree.specs.Shapes.{tree_of};
@@ -13,7 +12,7 @@ mod laws;
 
 pub use laws::{parts_are_of_halves, world_box_is_a_cell};
 use plane_polygon::{Polygon, box_polygon};
-use plane_predicate::{Plane, Point, Side, point_side};
+use plane_predicate::{Plane, Point, point_side};
 use std::alloc::Global;
 use text_place::NoMemory;
 
@@ -134,17 +133,7 @@ pub fn holds(solid: &Solid, point: &Point) -> bool
 fn lies_behind(plane: &Plane, point: &Point) -> bool
     ensures { result ≡ is_behind plane.now point.now }
 {
-    is_side_behind(point_side(plane, point))
-}
-
-/// Whether a side is the one behind.
-fn is_side_behind(side: Side) -> bool
-    ensures { result ≡ is_side_behind side }
-{
-    match side {
-        Side::Behind => true,
-        Side::On | Side::Ahead => false,
-    }
+    point_side(plane, point).is_behind()
 }
 
 /// The node of a half space.

@@ -1,5 +1,4 @@
-ghost use Rattle.plane_predicate.specs.Space.{point_at, IsInReach};
-ghost use Rattle.plane_polygon.specs.Boxes.{ComesInReach};
+ghost use Rattle.plane_predicate.specs.Space.{point_at, IsInReach, ComesInReach};
 
 use crate::{Solid, exchange, half, holds, new_node};
 use plane_predicate::{Plane, Point, plane_through};

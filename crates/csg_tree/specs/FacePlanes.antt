@@ -1,7 +1,6 @@
 -- The face planes of a formula, and what it is just behind and just ahead of a point that lies on one of them.
 use Rattle.std.specs.Prelude.{◌≡◌, Bool, true, false, not, ◌&&◌, if◌then◌else◌, ◌⊎◌, pos}
-use Rattle.std.specs.Ordering.{int_eq}
-use Rattle.plane_predicate.specs.Space.{Coefficients, Coordinates, value, opposite_of, IsInWorld}
+use Rattle.plane_predicate.specs.Space.{Coefficients, Coordinates, value, opposite_of, is_same, IsInWorld}
 use Rattle.csg_tree.specs.Formulas.{Formula, Assignment, holds, sides_of, IsPlaneOf}
 
 -- a face plane, in one of its two orientations
@@ -15,9 +14,6 @@ pub record IsOnOneFacePlane (f : Formula) (n : Coefficients) (p : Coordinates) :
   pub face_plane : IsFacePlane n f
   pub on : value n p ≡ pos 0
   pub alone : (m : Coefficients) → IsPlaneOf m f → value m p ≡ pos 0 → (m ≡ n) ⊎ (m ≡ opposite_of n)
-
-abbrev pub is_same : Coefficients → Coefficients → Bool
-is_same m n = int_eq m.a n.a && int_eq m.b n.b && int_eq m.c n.c && int_eq m.d n.d
 
 -- the sides of a point on the plane n that is moved a little to behind n: every other plane keeps its side
 abbrev pub just_behind : Coefficients → Coordinates → Assignment

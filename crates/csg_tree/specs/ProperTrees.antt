@@ -1,7 +1,6 @@
 -- The trees of which solids are made.
 use Rattle.std.specs.Prelude.{ℕ, ◌+◌, ◌^◌, ◌<◌, length, All}
-use Rattle.plane_predicate.specs.Space.{Coefficients, IsPlane}
-use Rattle.plane_polygon.specs.Boxes.{ComesInReach}
+use Rattle.plane_predicate.specs.Space.{Coefficients, IsPlane, ComesInReach}
 use Rattle.csg_tree.specs.Formulas.{Formula, nothing, leaf, joined}
 
 -- a plane of a leaf: it has the numbers of a plane, and a point whose coordinates are at most 4095 in size

@@ -1,10 +1,10 @@
 -- Worked rows, computed by the definitions.
 use Rattle.std.proofs.Common.{◌≡◌, ◌≢◌, Bool, true, false, not, if◌then◌else◌, sym, ap, ◌∙◌, List, [], ◌∷◌, ◌++◌, length, map, reverse, refl, ℤ, pos, negsuc, neg_ℤ}
-use Rattle.plane_predicate.specs.Space.{Coefficients, Coordinates, opposite_of}
+use Rattle.plane_predicate.specs.Space.{Coefficients, Coordinates, opposite_of, is_same}
 use Rattle.plane_polygon.specs.Polygons.{Outline}
 use Rattle.plane_polygon.specs.Boxes.{box_outline, trimmed}
 use Rattle.plane_polygon.specs.Parts.{is_behind}
-use Rattle.bsp_tree.specs.Trees.{Tree, inside, outside, node, same, size}
+use Rattle.bsp_tree.specs.Trees.{Tree, inside, outside, node, size}
 use Rattle.bsp_tree.proofs.SameNumbers.{same_equal, not_same}
 use Rattle.facet_cut.specs.Facets.{facets_of}
 use Rattle.facet_cut.specs.Sides.{walk_by, AreJustBehind, AreJustAhead}
@@ -92,32 +92,32 @@ two_boxes_planes = refl
 -- the sides of a point on n: n is given c, its opposite the other side, and every other plane has the
 -- point's side
 abbrev beside : Bool → Coefficients → Coordinates → Coefficients → Bool
-beside c n p m = if same m n then c else if same m (opposite_of n) then not c else is_behind m p
+beside c n p m = if is_same m n then c else if is_same m (opposite_of n) then not c else is_behind m p
 
-same_itself : (m : Coefficients) → same m m ≡ true
-same_itself m = elim (same m m) as (λ b. same m m ≡ b → b ≡ true)
+same_itself : (m : Coefficients) → is_same m m ≡ true
+same_itself m = elim (is_same m m) as (λ b. is_same m m ≡ b → b ≡ true)
     [ true ↦ λ e. refl | false ↦ λ e. absurd (not_same m m e refl) ] refl
 
-same_other : (m n : Coefficients) → m ≢ n → same m n ≡ false
-same_other m n d = elim (same m n) as (λ b. same m n ≡ b → b ≡ false)
+same_other : (m n : Coefficients) → m ≢ n → is_same m n ≡ false
+same_other m n d = elim (is_same m n) as (λ b. is_same m n ≡ b → b ≡ false)
     [ true ↦ λ e. absurd (d (same_equal m n e)) | false ↦ λ e. refl ] refl
 
 beside_itself : (c : Bool) (n : Coefficients) (p : Coordinates) → beside c n p n ≡ c
-beside_itself c n p = ap (λ (x : Bool). if x then c else if same n (opposite_of n) then not c else is_behind
+beside_itself c n p = ap (λ (x : Bool). if x then c else if is_same n (opposite_of n) then not c else is_behind
     n p) (same_itself n)
 
 beside_opposite : (c : Bool) (n : Coefficients) (p : Coordinates) → n ≢ opposite_of n →
     beside c n p (opposite_of n) ≡ not c
 beside_opposite c n p d =
     let o = opposite_of n in
-    ap (λ (x : Bool). if x then c else if same o o then not c else is_behind o p)
+    ap (λ (x : Bool). if x then c else if is_same o o then not c else is_behind o p)
     (same_other o n (λ e. d (sym e)))
     ∙ ap (λ (x : Bool). if x then not c else is_behind o p) (same_itself o)
 
 beside_others : (c : Bool) (n : Coefficients) (p : Coordinates) (m : Coefficients) → m ≢ n →
     m ≢ opposite_of n → beside c n p m ≡ is_behind m p
 beside_others c n p m d o =
-    ap (λ (x : Bool). if x then c else if same m (opposite_of n) then not c else is_behind m p)
+    ap (λ (x : Bool). if x then c else if is_same m (opposite_of n) then not c else is_behind m p)
     (same_other m n d)
     ∙ ap (λ (x : Bool). if x then not c else is_behind m p) (same_other m (opposite_of n) o)
 

@@ -1,5 +1,4 @@
-ghost use Rattle.plane_predicate.specs.Space.{point_at, IsInReach};
-ghost use Rattle.plane_polygon.specs.Boxes.{ComesInReach};
+ghost use Rattle.plane_predicate.specs.Space.{point_at, IsInReach, ComesInReach};
 
 use crate::{CutStop, Facet, facets};
 use bsp_tree::{Node, Solid};

@@ -3,7 +3,7 @@ use Rattle.std.proofs.Common.{◌≡◌, ◌≢◌, inl, inr, ℕ, zero, suc, �
 use Rattle.std.specs.Prelude.{Contains}
 use Rattle.std.specs.List.{list_all}
 use Rattle.std.proofs.lemmas.Int.{ints}
-use Rattle.plane_predicate.specs.Space.{Coefficients, Coordinates, value, inner, opposite_of, IsPlane, IsInWorld}
+use Rattle.plane_predicate.specs.Space.{Coefficients, Coordinates, value, inner, opposite_of, IsPlane, IsInWorld, is_same}
 use Rattle.plane_predicate.proofs.IntegerRing.{sums, one_mul, zero_mul, mul_comm_ℤ}
 use Rattle.plane_predicate.proofs.Identities.{combine, value_combine}
 use Rattle.plane_predicate.proofs.Opposites.{opposite_is_plane}
@@ -19,7 +19,7 @@ use Rattle.bsp_tree.proofs.SameNumbers.{same_equal, not_same}
 use Rattle.bsp_tree.proofs.Worlds.{open_world}
 use Rattle.csg_tree.specs.Formulas.{Formula, nothing, leaf, joined, Assignment, holds, operated, sides_of}
 use Rattle.csg_tree.specs.Formulas as formulas
-use Rattle.csg_tree.specs.FacePlanes.{IsFacePlane, IsOnOneFacePlane, is_same, just_behind, just_ahead}
+use Rattle.csg_tree.specs.FacePlanes.{IsFacePlane, IsOnOneFacePlane, just_behind, just_ahead}
 use Rattle.csg_tree.specs.ProperTrees.{IsLeafPlane, HasFullLeaves}
 use Rattle.bsp_boolean.specs.Solids.{solid_of}
 use Rattle.bsp_boolean.proofs.Solids.{tree_is_solid}

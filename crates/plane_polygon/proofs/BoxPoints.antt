@@ -2,13 +2,13 @@
 use Rattle.std.proofs.Common.{◌≡◌, ◌≢◌, ◌↔◌, inl, inr, ◌*◌, ◌≤◌, Bool, true, false, not, if◌then◌else◌, List, [], ◌∷◌, refl, sym, ap, ◌∙◌, subst, arith, ℤ, pos, negsuc, ◌-ℤ◌, ◌*ℤ◌, ◌<ℤ◌, ◌≤ℤ◌, unsigned_abs, Result, Ok, Err, IfOk}
 use Rattle.std.proofs.lemmas.Int.{ints}
 use Rattle.std.specs.Ordering.{int_eq}
-use Rattle.plane_predicate.specs.Space.{Coefficients, Coordinates, value, IsPlane, IsInReach, IsInClosedWorld}
+use Rattle.plane_predicate.specs.Space.{Coefficients, Coordinates, value, IsPlane, IsInReach, IsInClosedWorld, ComesInReach}
 use Rattle.plane_predicate.proofs.IntegerRing.{sums}
 use Rattle.plane_predicate.proofs.Polynomials.{var, num, times, minus, ring}
 use Rattle.plane_predicate.proofs.Vectors.{place, of_point, valueP}
 use Rattle.plane_predicate.proofs.Signs.{signs}
 use Rattle.plane_polygon.specs.Polygons.{Outline, IsPolygon, Covers}
-use Rattle.plane_polygon.specs.Boxes.{high_x, low_x, high_y, low_y, high_z, low_z, trimmed, turned, box_over_x, box_over_y, box_over_z, box_outline, ComesInReach}
+use Rattle.plane_polygon.specs.Boxes.{high_x, low_x, high_y, low_y, high_z, low_z, trimmed, turned, box_over_x, box_over_y, box_over_z, box_outline}
 use Rattle.plane_polygon.proofs.BoxStarts.{FourTurns, four, four_polygon, four_covers, over_x_above, over_x_below, over_y_above, over_y_below, over_z_above, over_z_below, HX, LX, HY, LY, HZ, LZ}
 use Rattle.plane_polygon.proofs.Trims.{trims}
 

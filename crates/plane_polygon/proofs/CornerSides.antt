@@ -2,7 +2,7 @@
 use Rattle.std.proofs.Common.{◌≡◌, ◌≢◌, ℕ, zero, suc, ◌+◌, Bool, true, false, ◌||◌, List, [], ◌∷◌, ◌++◌, map, refl, sym, ap, ap₂, ◌∙◌, subst, arith, add-one, ℤ, pos, negsuc, ◌<ℤ◌, ◌≤ℤ◌, int_lt, neg_ℤ, inl, inr}
 use Rattle.std.proofs.lemmas.List.{map-append}
 use Rattle.plane_predicate.specs.Space.{Coefficients, Coordinates, cramer, meeting, signed_by, IsPointTimes, IsReduced}
-use Rattle.plane_predicate.specs.Sides.{side_of}
+use Rattle.plane_predicate.specs.Sides.{side_of, is_side_behind, is_side_ahead}
 use Rattle.plane_predicate.proofs.IntegerRing.{sums}
 use Rattle.plane_predicate.specs.Space.{value, opposite_of}
 use Rattle.plane_predicate.proofs.Signs.{signs}
@@ -10,7 +10,7 @@ use Rattle.plane_predicate.proofs.Vectors.{value-opposite}
 use Rattle.std.proofs.lemmas.Int.{ints}
 use Rattle.plane_polygon.specs.Polygons.{Outline, AreReducedFrom}
 use Rattle.plane_polygon.specs.declared.classes.Class.TheVariants.{Across}
-use Rattle.plane_polygon.specs.Parts.{up_to, corners, some_of, is_behind, is_ahead, is_side_behind, is_side_ahead, class_by, class_of}
+use Rattle.plane_polygon.specs.Parts.{up_to, corners, some_of, is_behind, is_ahead, class_by, class_of}
 
 signed_positive : (w : ℤ) (p : Coordinates) → pos 0 <ℤ w → signed_by w p ≡ p
 signed_positive (pos n) p h = refl

@@ -1,7 +1,7 @@
 -- The polygon that a plane has in the world box.
 use Rattle.std.specs.Prelude.{◌≡◌, not, if◌then◌else◌, List, [], ◌∷◌, ℤ, pos, negsuc}
 use Rattle.std.specs.Ordering.{int_eq}
-use Rattle.plane_predicate.specs.Space.{Coefficients, Coordinates, value, IsInReach}
+use Rattle.plane_predicate.specs.Space.{Coefficients}
 use Rattle.plane_polygon.specs.declared.classes.Class.{Class}
 use Rattle.plane_polygon.specs.declared.classes.Class.TheVariants.{Behind, Ahead, On, Across}
 use Rattle.plane_polygon.specs.Polygons.{Outline}
@@ -62,9 +62,3 @@ box_outline m =
     if not (int_eq m.c (pos 0)) then box_over_z m
     else if not (int_eq m.b (pos 0)) then box_over_y m
     else box_over_x m
-
--- the plane has a point whose coordinates are at most 4095 in size
-pub record ComesInReach (m : Coefficients) : Type 0 where
-  pub point : Coordinates
-  pub reach : IsInReach point
-  pub on : value m point ≡ pos 0

@@ -2,7 +2,6 @@
 use Rattle.std.specs.Prelude.{ℕ, zero, suc, ◌-◌, Bool, true, false, ◌||◌, List, [], ◌∷◌, ◌++◌, map, flat_map, pos, int_lt}
 use Rattle.plane_predicate.specs.Space.{Coefficients, Coordinates, value, opposite_of}
 use Rattle.plane_polygon.specs.Polygons.{Outline, edge, sides, corner}
-use Rattle.plane_predicate.specs.declared.sides.Side.{Side}
 use Rattle.plane_polygon.specs.declared.classes.Class.{Class}
 use Rattle.plane_polygon.specs.declared.classes.Class.TheVariants.{Behind, Ahead, On, Across}
 
@@ -39,17 +38,6 @@ class_by false false = On
 -- side, else on the side of those that are off it
 abbrev pub class_of : Outline → Coefficients → Class
 class_of s m = class_by (some_of (is_behind m) (corners s)) (some_of (is_ahead m) (corners s))
-
--- the side of a corner is behind, or ahead
-abbrev pub is_side_behind : Side → Bool
-is_side_behind Side.Behind = true
-is_side_behind Side.On = false
-is_side_behind Side.Ahead = false
-
-abbrev pub is_side_ahead : Side → Bool
-is_side_ahead Side.Behind = false
-is_side_ahead Side.On = false
-is_side_ahead Side.Ahead = true
 
 -- the index before i round a list of length k
 abbrev pub before : ℕ → ℕ → ℕ

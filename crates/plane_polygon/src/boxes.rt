@@ -1,9 +1,9 @@
 //! The polygon that a plane has in the world box.
 
 ghost use Rattle.std.specs.Prelude.{◌≡◌, ◌≢◌, ◌↔◌, pos, IfOk};
-ghost use Rattle.plane_predicate.specs.Space.{Coordinates, value, IsInClosedWorld};
+ghost use Rattle.plane_predicate.specs.Space.{Coordinates, value, IsInClosedWorld, ComesInReach};
 ghost use Rattle.plane_polygon.specs.Polygons.{Covers, IsPolygon};
-ghost use Rattle.plane_polygon.specs.Boxes.{box_outline, box_over_x, box_over_y, box_over_z, trimmed, turned, ComesInReach};
+ghost use Rattle.plane_polygon.specs.Boxes.{box_outline, box_over_x, box_over_y, box_over_z, trimmed, turned};
 
 use crate::planes::{high_x, high_y, high_z, low_x, low_y, low_z};
 use crate::{Class, Polygon, cut, sort_by};

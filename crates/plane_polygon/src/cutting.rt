@@ -7,7 +7,7 @@ ghost use Rattle.plane_polygon.specs.Parts.{class_of, kept_by, part_ahead, part_
 ghost use Rattle.plane_polygon.specs.declared.classes.Class.TheVariants.{Across};
 
 use crate::Polygon;
-use crate::sides::{corner_side, lies_ahead, lies_behind, next_side};
+use crate::sides::{corner_side, next_side};
 use plane_predicate::{Plane, opposite};
 use std::alloc::{AllocError, Global};
 use text_place::NoMemory;
@@ -58,17 +58,11 @@ fn part_edges(
     let mut from = last;
     for i in 0..edges.len() {
         let to = next_side(plane, edges, i, m, last);
-        push_kept(
-            &mut behind,
-            lies_behind(from),
-            lies_behind(to),
-            &edges[i],
-            m,
-        )?;
+        push_kept(&mut behind, from.is_behind(), to.is_behind(), &edges[i], m)?;
         push_kept(
             &mut ahead,
-            lies_ahead(from),
-            lies_ahead(to),
+            from.is_ahead(),
+            to.is_ahead(),
             &edges[i],
             &turned,
         )?;

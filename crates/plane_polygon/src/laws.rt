@@ -1,10 +1,10 @@
 //! Laws of polygons, for the crates above. They are proved, and do nothing when they run.
 
 ghost use Rattle.std.specs.Prelude.{◌≡◌, ◌≢◌, ◌↔◌, ◌<◌, ◌≤ℤ◌, ◌<ℤ◌, ℕ, pos};
-ghost use Rattle.plane_predicate.specs.Space.{Coefficients, Coordinates, turn, value, IsInClosedWorld, IsPlane};
+ghost use Rattle.plane_predicate.specs.Space.{Coefficients, Coordinates, turn, value, IsInClosedWorld, IsPlane, ComesInReach};
 ghost use Rattle.plane_polygon.specs.Polygons.{after, corner, sides, Covers, HasConvexCorners, IsInFan, IsPolygon, IsStrictlyLeft, IsStrictlyWithin, Outline};
 ghost use Rattle.plane_polygon.specs.Parts.{class_of, part_ahead, part_behind};
-ghost use Rattle.plane_polygon.specs.Boxes.{box_outline, ComesInReach};
+ghost use Rattle.plane_polygon.specs.Boxes.{box_outline};
 ghost use Rattle.plane_polygon.specs.declared.classes.Class.TheVariants.{Across};
 
 /// At least three edges make a polygon exactly where each corner exists, it is strictly behind every

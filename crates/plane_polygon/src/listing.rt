@@ -14,7 +14,8 @@ use text_place::NoMemory;
 /// The corners, reduced, counterclockwise seen from ahead. Corner i is where edge i ends and edge
 /// i + 1 begins.
 pub fn corners(alloc: Global, polygon: &Polygon) -> Result<Vec<Point>, NoMemory>
-    ensures { IfOk result (λ v. AreReducedFrom (corners polygon.now) v.items) }
+    ensures corners { IfOk result (λ v. AreReducedFrom (corners polygon.now) v.items) }
+    ensures polygon { IsPolygon polygon.now }
 {
     Ok(corners_of(alloc, &polygon.plane, &polygon.edges)?)
 }

@@ -4,7 +4,6 @@ ghost use Rattle.std.specs.Prelude.{◌≡◌, ◌-◌, ◌<◌, ◌<ℤ◌, pos
 ghost use Rattle.plane_predicate.specs.Space.{value, cramer};
 ghost use Rattle.plane_predicate.specs.Sides.{side_of};
 ghost use Rattle.plane_polygon.specs.Polygons.{after, corner, IsPolygon};
-ghost use Rattle.plane_polygon.specs.Parts.{is_side_behind, is_side_ahead};
 
 use plane_predicate::{Plane, Side, side};
 
@@ -45,25 +44,5 @@ pub fn next_side(plane: &Plane, edges: &[Plane], i: usize, m: &Plane, last: Side
         last
     } else {
         corner_side(plane, edges, i, m)
-    }
-}
-
-/// Whether a side is the one behind.
-pub fn lies_behind(side: Side) -> bool
-    ensures { result ≡ is_side_behind side }
-{
-    match side {
-        Side::Behind => true,
-        Side::On | Side::Ahead => false,
-    }
-}
-
-/// Whether a side is the one ahead.
-pub fn lies_ahead(side: Side) -> bool
-    ensures { result ≡ is_side_ahead side }
-{
-    match side {
-        Side::Behind | Side::On => false,
-        Side::Ahead => true,
     }
 }

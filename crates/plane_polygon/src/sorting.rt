@@ -4,7 +4,7 @@ ghost use Rattle.std.specs.Prelude.{◌≡◌, ◌||◌};
 ghost use Rattle.plane_polygon.specs.Polygons.{IsPolygon};
 ghost use Rattle.plane_polygon.specs.Parts.{class_by, class_of};
 
-use crate::sides::{corner_side, lies_ahead, lies_behind};
+use crate::sides::corner_side;
 use crate::{Class, Polygon};
 use plane_predicate::Plane;
 
@@ -25,8 +25,8 @@ fn class_among(plane: &Plane, edges: &[Plane], m: &Plane) -> Class
     let mut some_ahead = false;
     for i in 0..edges.len() {
         let side = corner_side(plane, edges, i, m);
-        some_behind = either(some_behind, lies_behind(side));
-        some_ahead = either(some_ahead, lies_ahead(side));
+        some_behind = either(some_behind, side.is_behind());
+        some_ahead = either(some_ahead, side.is_ahead());
     }
     class_from(some_behind, some_ahead)
 }

@@ -1,5 +1,5 @@
 -- The sides of a plane.
-use Rattle.std.specs.Prelude.{ℤ, pos, negsuc, zero, suc, neg_ℤ}
+use Rattle.std.specs.Prelude.{Bool, true, false, ℤ, pos, negsuc, zero, suc, neg_ℤ}
 use Rattle.plane_predicate.specs.declared.sides.Side.{Side}
 use Rattle.plane_predicate.specs.declared.sides.Side.TheVariants.{Behind, On, Ahead}
 
@@ -13,3 +13,15 @@ side_of (negsuc n) = Behind
 abbrev pub turned_by : ℤ → ℤ → ℤ
 turned_by (pos n) v = v
 turned_by (negsuc n) v = neg_ℤ v
+
+-- the side is the one behind the plane
+abbrev pub is_side_behind : Side → Bool
+is_side_behind Behind = true
+is_side_behind On = false
+is_side_behind Ahead = false
+
+-- the side is the one ahead of the plane
+abbrev pub is_side_ahead : Side → Bool
+is_side_ahead Behind = false
+is_side_ahead On = false
+is_side_ahead Ahead = true

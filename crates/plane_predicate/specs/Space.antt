@@ -1,5 +1,6 @@
 -- Points and planes of space in whole numbers, without a bound.
-use Rattle.std.specs.Prelude.{◌≡◌, ℕ, ◌+◌, ◌*◌, ◌<◌, ◌≤◌, ℤ, pos, negsuc, ◌+ℤ◌, ◌-ℤ◌, ◌*ℤ◌, ◌<ℤ◌, neg_ℤ, unsigned_abs, List, get_or, ◌↔◌}
+use Rattle.std.specs.Prelude.{◌≡◌, ℕ, ◌+◌, ◌*◌, ◌<◌, ◌≤◌, Bool, ◌&&◌, ℤ, pos, negsuc, ◌+ℤ◌, ◌-ℤ◌, ◌*ℤ◌, ◌<ℤ◌, neg_ℤ, unsigned_abs, List, get_or, ◌↔◌}
+use Rattle.std.specs.Ordering.{int_eq}
 use Prim.Native.Nat.{◌∣◌}
 
 -- homogeneous coordinates: with w above 0, the point (x/w, y/w, z/w)
@@ -23,6 +24,10 @@ value m p = m.a *ℤ p.x +ℤ m.b *ℤ p.y +ℤ m.c *ℤ p.z -ℤ m.d *ℤ p.w
 -- the same points, seen from the other side
 abbrev pub opposite_of : Coefficients → Coefficients
 opposite_of m = record { a = neg_ℤ m.a; b = neg_ℤ m.b; c = neg_ℤ m.c; d = neg_ℤ m.d }
+
+-- the same four numbers
+abbrev pub is_same : Coefficients → Coefficients → Bool
+is_same m n = int_eq m.a n.a && (int_eq m.b n.b && (int_eq m.c n.c && int_eq m.d n.d))
 
 -- n (p x q): the product of a direction with the cross product of the first three parts of two points
 abbrev pub product_with : Coefficients → Coordinates → Coordinates → ℤ
@@ -93,6 +98,12 @@ pub record IsInReach (p : Coordinates) : Type 0 where
   pub y_size : unsigned_abs p.y ≤ 4095 * unsigned_abs p.w
   pub z_size : unsigned_abs p.z ≤ 4095 * unsigned_abs p.w
 
+-- the plane has a point whose coordinates are at most 4095 in size
+pub record ComesInReach (m : Coefficients) : Type 0 where
+  pub point : Coordinates
+  pub reach : IsInReach point
+  pub on : value m point ≡ pos 0
+
 -- a point strictly inside the world box: x, y and z are below 4096 w in size
 pub record IsInWorld (p : Coordinates) : Type 0 where
   pub weight : pos 0 <ℤ p.w
@@ -107,21 +118,29 @@ pub record IsInClosedWorld (p : Coordinates) : Type 0 where
   pub y_size : unsigned_abs p.y ≤ 4096 * unsigned_abs p.w
   pub z_size : unsigned_abs p.z ≤ 4096 * unsigned_abs p.w
 
+-- the greatest size of a part of a plane's direction: two differences of coordinates up to 8190, multiplied, twice
+abbrev pub most_direction : ℕ
+most_direction = 134152200
+
+-- the greatest size of a plane's offset d: three parts of a direction, each times a coordinate up to 4095
+abbrev pub most_offset : ℕ
+most_offset = 1648059777000
+
 -- the numbers that a plane of the program keeps: its sizes, a direction, and no common factor above 1
 pub record IsPlane (m : Coefficients) : Type 0 where
-  pub a_size : unsigned_abs m.a ≤ 134152200
-  pub b_size : unsigned_abs m.b ≤ 134152200
-  pub c_size : unsigned_abs m.c ≤ 134152200
-  pub d_size : unsigned_abs m.d ≤ 1648059777000
+  pub a_size : unsigned_abs m.a ≤ most_direction
+  pub b_size : unsigned_abs m.b ≤ most_direction
+  pub c_size : unsigned_abs m.c ≤ most_direction
+  pub d_size : unsigned_abs m.d ≤ most_offset
   pub directed : 0 < unsigned_abs m.a + unsigned_abs m.b + unsigned_abs m.c
   pub reduced : (k : ℕ) → k ∣ unsigned_abs m.a → k ∣ unsigned_abs m.b → k ∣ unsigned_abs m.c → k ∣ unsigned_abs m.d → k ≡ 1
 
 -- the sizes of a meeting of three planes
 pub record HasMeetingSizes (p : Coordinates) : Type 0 where
-  pub x_size : unsigned_abs p.x ≤ 6 * (134152200 * (134152200 * 1648059777000))
-  pub y_size : unsigned_abs p.y ≤ 6 * (134152200 * (134152200 * 1648059777000))
-  pub z_size : unsigned_abs p.z ≤ 6 * (134152200 * (134152200 * 1648059777000))
-  pub w_size : unsigned_abs p.w ≤ 6 * (134152200 * (134152200 * 134152200))
+  pub x_size : unsigned_abs p.x ≤ 6 * (most_direction * (most_direction * most_offset))
+  pub y_size : unsigned_abs p.y ≤ 6 * (most_direction * (most_direction * most_offset))
+  pub z_size : unsigned_abs p.z ≤ 6 * (most_direction * (most_direction * most_offset))
+  pub w_size : unsigned_abs p.w ≤ 6 * (most_direction * (most_direction * most_direction))
 
 -- the numbers that a point of the program keeps: a w above 0, and the sizes of a meeting of three planes
 pub record IsPoint (p : Coordinates) : Type 0 where

@@ -1,7 +1,7 @@
 //! Where three planes meet, and on which side of a fourth.
 
 ghost use Rattle.std.specs.Prelude.{◌≡◌, ◌≢◌, ◌↔◌, ◌*◌, ◌≤◌, ◌<◌, ◌^◌, ◌*ℤ◌, ◌+ℤ◌, ◌-ℤ◌, pos, unsigned_abs, IfSome, IsNone};
-ghost use Rattle.plane_predicate.specs.Space.{minor, cramer, meeting, value, opposite_of};
+ghost use Rattle.plane_predicate.specs.Space.{minor, cramer, meeting, value, most_direction, most_offset, opposite_of};
 ghost use Rattle.plane_predicate.specs.Space.{signed_by, HaveSamePoints};
 ghost use Rattle.plane_predicate.specs.Sides.{side_of, turned_by};
 
@@ -68,9 +68,9 @@ fn cross_of(p: &Plane, q: &Plane) -> Cross
     ensures a { result.a ≡ minor p.now.b p.now.c q.now.b q.now.c }
     ensures b { result.b ≡ minor p.now.c p.now.a q.now.c q.now.a }
     ensures c { result.c ≡ minor p.now.a p.now.b q.now.a q.now.b }
-    ensures a_size { unsigned_abs result.a ≤ 2 * (134152200 * 134152200) }
-    ensures b_size { unsigned_abs result.b ≤ 2 * (134152200 * 134152200) }
-    ensures c_size { unsigned_abs result.c ≤ 2 * (134152200 * 134152200) }
+    ensures a_size { unsigned_abs result.a ≤ 2 * (most_direction * most_direction) }
+    ensures b_size { unsigned_abs result.b ≤ 2 * (most_direction * most_direction) }
+    ensures c_size { unsigned_abs result.c ≤ 2 * (most_direction * most_direction) }
 {
     Cross {
         a: minor_of(p.b, p.c, q.b, q.c),
@@ -132,10 +132,10 @@ fn value_at(m: &Plane, at: &Cramer) -> i128
 
 /// `a x + b y + c z - d w`
 fn value_of(a: i128, b: i128, c: i128, d: i128, at: &Cramer) -> i128
-    requires a_size { unsigned_abs a ≤ 134152200 }
-    requires b_size { unsigned_abs b ≤ 134152200 }
-    requires c_size { unsigned_abs c ≤ 134152200 }
-    requires d_size { unsigned_abs d ≤ 1648059777000 }
+    requires a_size { unsigned_abs a ≤ most_direction }
+    requires b_size { unsigned_abs b ≤ most_direction }
+    requires c_size { unsigned_abs c ≤ most_direction }
+    requires d_size { unsigned_abs d ≤ most_offset }
     ensures value { result ≡ value (record { a = a; b = b; c = c; d = d }) at.now }
     ensures size { unsigned_abs result < 2 ^ 127 }
 {

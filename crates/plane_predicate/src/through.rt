@@ -1,7 +1,7 @@
 //! The plane through three points.
 
 ghost use Rattle.std.specs.Prelude.{◌≡◌, ◌↔◌, ◌+◌, ◌*◌, ◌≤◌, ◌<◌, ◌*ℤ◌, ◌+ℤ◌, ◌-ℤ◌, pos, unsigned_abs, IfSome, IsNone};
-ghost use Rattle.plane_predicate.specs.Space.{point_at, minor, through, value, AreCollinear, IsInReach, IsPlaneTimes};
+ghost use Rattle.plane_predicate.specs.Space.{point_at, minor, most_direction, most_offset, through, value, AreCollinear, IsInReach, IsPlaneTimes};
 
 use crate::Plane;
 use crate::reduction::quotients;
@@ -32,7 +32,7 @@ fn minor_between(py: i64, pz: i64, qy: i64, qz: i64, ry: i64, rz: i64) -> i64
     requires ry_size { unsigned_abs ry ≤ 4095 }
     requires rz_size { unsigned_abs rz ≤ 4095 }
     ensures value { result ≡ minor (qy -ℤ py) (qz -ℤ pz) (ry -ℤ py) (rz -ℤ pz) }
-    ensures size { unsigned_abs result ≤ 134152200 }
+    ensures size { unsigned_abs result ≤ most_direction }
 {
     small_minor(qy - py, qz - pz, ry - py, rz - pz)
 }
@@ -44,31 +44,31 @@ fn small_minor(a: i64, b: i64, c: i64, d: i64) -> i64
     requires c_size { unsigned_abs c ≤ 8190 }
     requires d_size { unsigned_abs d ≤ 8190 }
     ensures value { result ≡ minor a b c d }
-    ensures size { unsigned_abs result ≤ 134152200 }
+    ensures size { unsigned_abs result ≤ most_direction }
 {
     a * d - b * c
 }
 
 /// `a x + b y + c z` of a direction and a point.
 fn offset(a: i64, b: i64, c: i64, x: i64, y: i64, z: i64) -> i64
-    requires a_size { unsigned_abs a ≤ 134152200 }
-    requires b_size { unsigned_abs b ≤ 134152200 }
-    requires c_size { unsigned_abs c ≤ 134152200 }
+    requires a_size { unsigned_abs a ≤ most_direction }
+    requires b_size { unsigned_abs b ≤ most_direction }
+    requires c_size { unsigned_abs c ≤ most_direction }
     requires x_size { unsigned_abs x ≤ 4095 }
     requires y_size { unsigned_abs y ≤ 4095 }
     requires z_size { unsigned_abs z ≤ 4095 }
     ensures value { result ≡ a *ℤ x +ℤ b *ℤ y +ℤ c *ℤ z }
-    ensures size { unsigned_abs result ≤ 1648059777000 }
+    ensures size { unsigned_abs result ≤ most_offset }
 {
     a * x + b * y + c * z
 }
 
 /// The plane with these numbers, divided by their common factor. `None` where the direction is 0.
 pub fn plane_of(a: i64, b: i64, c: i64, d: i64) -> Option<Plane>
-    requires a_size { unsigned_abs a ≤ 134152200 }
-    requires b_size { unsigned_abs b ≤ 134152200 }
-    requires c_size { unsigned_abs c ≤ 134152200 }
-    requires d_size { unsigned_abs d ≤ 1648059777000 }
+    requires a_size { unsigned_abs a ≤ most_direction }
+    requires b_size { unsigned_abs b ≤ most_direction }
+    requires c_size { unsigned_abs c ≤ most_direction }
+    requires d_size { unsigned_abs d ≤ most_offset }
     ensures some { IfSome result (λ m. IsPlaneTimes (record { a = a; b = b; c = c; d = d }) m) }
     ensures none { IsNone result ↔ (a ≡ pos 0) × (b ≡ pos 0) × (c ≡ pos 0) }
 {
@@ -81,10 +81,10 @@ pub fn plane_of(a: i64, b: i64, c: i64, d: i64) -> Option<Plane>
 
 /// The plane with these numbers, divided by their common factor.
 fn reduced_plane(a: i64, b: i64, c: i64, d: i64) -> Plane
-    requires a_size { unsigned_abs a ≤ 134152200 }
-    requires b_size { unsigned_abs b ≤ 134152200 }
-    requires c_size { unsigned_abs c ≤ 134152200 }
-    requires d_size { unsigned_abs d ≤ 1648059777000 }
+    requires a_size { unsigned_abs a ≤ most_direction }
+    requires b_size { unsigned_abs b ≤ most_direction }
+    requires c_size { unsigned_abs c ≤ most_direction }
+    requires d_size { unsigned_abs d ≤ most_offset }
     requires directed { 0 < unsigned_abs a + unsigned_abs b + unsigned_abs c }
     ensures { IsPlaneTimes (record { a = a; b = b; c = c; d = d }) result }
 {

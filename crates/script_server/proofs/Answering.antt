@@ -2,8 +2,7 @@
 use Rattle.std.proofs.Common.{◌≡◌, inl, inr, ℕ, ◌≤◌, List, sym, subst, Result, Ok, Err}
 use Rattle.std.specs.Prelude.{IfOk, All}
 use Rattle.text_place.specs.declared.NoMemory.{NoMemory}
-use Rattle.plane_predicate.specs.Space.{Coefficients}
-use Rattle.plane_polygon.specs.Boxes.{ComesInReach}
+use Rattle.plane_predicate.specs.Space.{Coefficients, ComesInReach}
 use Rattle.csg_tree.specs.Formulas.{leaf}
 use Rattle.csg_tree.specs.ProperTrees.{IsProper}
 use Rattle.bsp_tree.specs.Trees.{Tree, size}

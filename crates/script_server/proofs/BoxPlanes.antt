@@ -4,9 +4,8 @@ use Rattle.std.proofs.Common.{rules, ◌≡◌, refl, subst, unsigned_abs, ℕ, 
 use Rattle.std.specs.Prelude.{All}
 use Rattle.std.proofs.Math.Nat.{eq-one_of_dvd-one}
 use Rattle.std.proofs.lemmas.List.Elements.{All-from_recursion, All-weaker}
-use Rattle.plane_predicate.specs.Space.{Coordinates, IsPlane, IsInReach}
+use Rattle.plane_predicate.specs.Space.{Coordinates, IsPlane, IsInReach, ComesInReach}
 use Rattle.plane_predicate.proofs.IntegerRing.{sums, one_mul, zero_mul, mul_comm_ℤ}
-use Rattle.plane_polygon.specs.Boxes.{ComesInReach}
 use Rattle.csg_tree.specs.Formulas.{leaf}
 use Rattle.csg_tree.specs.ProperTrees.{IsLeafPlane, IsProper}
 use Rattle.script_server.specs.declared.meaning.Sides.{Sides}

@@ -1,7 +1,7 @@
 //! What the solid of a leaf is answered: the first limit that it passes, or its text.
 
 ghost use Rattle.std.specs.Prelude.{◌≡◌, ◌<◌, All, IfOk, length};
-ghost use Rattle.plane_polygon.specs.Boxes.{ComesInReach};
+ghost use Rattle.plane_predicate.specs.Space.{ComesInReach};
 ghost use Rattle.csg_tree.specs.Formulas.{Formula, leaf};
 ghost use Rattle.csg_tree.specs.ProperTrees.{IsProper};
 ghost use Rattle.bsp_tree.specs.Shapes.{tree_of};

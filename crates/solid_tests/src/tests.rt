@@ -1,6 +1,5 @@
 ghost use Rattle.std.specs.Prelude.{All};
-ghost use Rattle.plane_predicate.specs.Space.{point_at, IsInReach};
-ghost use Rattle.plane_polygon.specs.Boxes.{ComesInReach};
+ghost use Rattle.plane_predicate.specs.Space.{point_at, IsInReach, ComesInReach};
 
 use bsp_boolean::{leaf_solid, merge};
 use bsp_tree::Solid;

@@ -1,12 +1,12 @@
 -- The solid of a leaf is a chain of nodes, one behind another.
 use Rattle.std.proofs.Common.{ℕ, suc, ◌*◌, ◌≤◌, Bool, true, false, if◌then◌else◌, List, [], ◌∷◌, length, arith}
-use Rattle.plane_predicate.specs.Space.{Coefficients, opposite_of}
+use Rattle.plane_predicate.specs.Space.{Coefficients, opposite_of, is_same}
 use Rattle.plane_polygon.specs.Polygons.{Outline, sides}
 use Rattle.plane_polygon.specs.Parts.{class_of, part_behind, part_ahead}
 use Rattle.plane_polygon.specs.Boxes.{box_outline}
 use Rattle.plane_polygon.specs.declared.classes.Class.{Class}
 use Rattle.plane_polygon.specs.declared.classes.Class.TheVariants.{Behind, Ahead, Across}
-use Rattle.bsp_tree.specs.Trees.{Tree, inside, outside, node, make, same, half_space}
+use Rattle.bsp_tree.specs.Trees.{Tree, inside, outside, node, make, half_space}
 use Rattle.bsp_partition.specs.Partitions.{divide, rows}
 use Rattle.bsp_boolean.specs.Merges.{combined}
 use Rattle.bsp_boolean.specs.Solids.{convex}
@@ -104,7 +104,7 @@ divided (node t b outside) s k c =
     chosen_part k (suc (nodes b)) b outside
     (rows (class_of s q) (class_of t s.plane) s t b outside (divide b s) (divide outside s)
     (divide b (part_behind s q)) (divide outside (part_ahead s q)))
-    (same q s.plane) (same q (opposite_of s.plane))
+    (is_same q s.plane) (is_same q (opposite_of s.plane))
     (own_part k b c.1) (outside_part k (suc (nodes b)))
     (row_part s t b k c.0 c.1 (divide b s) (divide b (part_behind s q)) (class_of s q) (class_of t s.plane)
     (divided b s k c.1) (divided b (part_behind s q) k c.1))

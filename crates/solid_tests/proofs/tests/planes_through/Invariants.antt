@@ -1,5 +1,5 @@
 use Rattle.std.proofs.Common.{All}
-use Rattle.plane_polygon.specs.Boxes.{ComesInReach}
+use Rattle.plane_predicate.specs.Space.{ComesInReach}
 use Rattle.solid_tests.proofs.tests.planes_through.Given as goal
 
 abbrev pub invariant-loop-points : goal.invariant-loop-points
