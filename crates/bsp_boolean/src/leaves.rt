@@ -1,9 +1,9 @@
 //! The solids of leaves.
 
-ghost use Rattle.std.specs.Prelude.{◌≡◌, ◌+◌, ◌<◌, IfOk, IsOkAnd, All, length};
+ghost use Rattle.std.specs.Prelude.{◌≡◌, ◌-◌, ◌^◌, ◌<◌, IfOk, IsOkAnd, All, length};
 ghost use Rattle.plane_predicate.specs.Space.{ComesInReach};
 ghost use Rattle.csg_tree.specs.Formulas.{leaf};
-ghost use Rattle.bsp_tree.specs.Trees.{half_space, size};
+ghost use Rattle.bsp_tree.specs.Trees.{half_space, Tree};
 ghost use Rattle.bsp_tree.specs.Cells.{IsOfWorld};
 ghost use Rattle.bsp_tree.specs.Shapes.{tree_of};
 ghost use Rattle.bsp_boolean.specs.MadeSolids.{IsMade};
@@ -53,6 +53,7 @@ fn leaf_within(alloc: Global, planes: &[Plane], most: u64) -> Result<Made, Build
 /// A part that was made within the limit of all numbers. One above that limit is larger than any
 /// memory: each node and each edge takes more than one byte.
 fn part_of(made: Result<Made, BuildStop>) -> Result<Solid, NoMemory>
+    requires { (wanted : Tree) × IsMade wanted (2 ^ 64 - 1) made }
     ensures { IfOk result (λ s. IsOkAnd made (λ m. m.solid ≡ s)) }
 {
     match made {

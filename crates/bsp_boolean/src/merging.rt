@@ -1,7 +1,7 @@
 //! Merges of solids.
 
-ghost use Rattle.std.specs.Prelude.{◌≡◌, false, IfOk};
-ghost use Rattle.bsp_tree.specs.Trees.{complement, size};
+ghost use Rattle.std.specs.Prelude.{◌≡◌, ◌-◌, ◌^◌, false, IfOk};
+ghost use Rattle.bsp_tree.specs.Trees.{complement, Tree};
 ghost use Rattle.bsp_tree.specs.Shapes.{tree_of};
 ghost use Rattle.bsp_boolean.specs.Merges.{combined, merged, IsOperationOn};
 ghost use Rattle.bsp_boolean.specs.MadeSolids.{IsMade};
@@ -25,7 +25,8 @@ pub fn merge(alloc: Global, op: Op, left: &Solid, right: &Solid) -> Result<Solid
 }
 
 /// The same solid, where its size is at most `most`. `TooBig` comes exactly where it is above, as
-/// soon as that is known: no more than `most` nodes and edges are ever put together.
+/// soon as that is known: no more than `most` nodes and edges of the result are put together. What a
+/// merge holds besides, a copy of the right solid or its parts, may be larger.
 #[tactic(auto, using(crate::proofs::Merged::is_operation))]
 pub fn merge_within(
     alloc: Global,
@@ -43,6 +44,7 @@ pub fn merge_within(
 /// What was built within the limit of all numbers. A solid above that limit is larger than any
 /// memory: each node and each edge takes more than one byte.
 fn in_all_memory(built: Result<Solid, BuildStop>) -> Result<Solid, NoMemory>
+    requires { (wanted : Tree) × IsBuilt wanted (2 ^ 64 - 1) built }
     ensures { IfOk result (λ s. built ≡ Ok s) }
 {
     match built {

@@ -71,3 +71,8 @@ returns-in-len1-clause-solid t c =
     one_made c.half_within.result c.args.planes.now c.only-item.result c.args.most
     (one_is_solid c.args.planes.now c.only-item.result (omega arith) c.only-item.is)
     c.half_within.ensures.made c.half_within.ensures.world
+
+pub part_of-requires : goal.part_of-requires
+part_of-requires t c =
+    let planes = c.args.planes.now in
+    (convex (take (length planes - 1) (drop 1 planes)), c.leaf_within.ensures.made)
