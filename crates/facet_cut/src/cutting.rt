@@ -13,8 +13,8 @@ use bsp_tree::Solid;
 use plane_polygon::{Class, Polygon, cut, sort_by};
 use std::alloc::Global;
 
-/// The facets of a solid, of which at most `most` are given. The solid is lent, and no node of it
-/// is copied.
+/// The facets of a solid, of which at most `most` are given. The solid is lent: each node's polygon
+/// is copied once, and the copy is cut into facets.
 ///
 /// `TooMany` comes where there are more than `most`, as soon as one more is found.
 pub fn facets(alloc: Global, solid: &Solid, most: u32) -> Result<Vec<Facet>, CutStop>
