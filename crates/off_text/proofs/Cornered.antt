@@ -1,15 +1,20 @@
 -- The corners of a polygon as they are printed: reduced, and from the least one on.
 use Rattle.std.proofs.Common.{◌≡◌, ⊎_elim, ℕ, zero, suc, ◌-◌, ◌<◌, ◌≤◌, Bool, true, false, List, [], ◌∷◌, ◌++◌, map, length, get_or, take, drop, refl, sym, ap, ◌∙◌, subst, arith, length-append, All, ℤ, pos, ◌<ℤ◌}
 use Rattle.std.proofs.lemmas.List.{map-append, get_or_append_left, get_or-append_right, get_or-drop, get_or-take, length-drop, length-take-le}
+use Rattle.std.proofs.lemmas.Simd.{map-map}
 use Rattle.std.proofs.lemmas.List.Elements.{All-from_get_or, All-append, All-take, All-drop}
+use Rattle.plane_predicate.specs.declared.unit.Unit.{Unit as LengthUnit}
 use Rattle.plane_predicate.specs.Space.{Coordinates, IsPointTimes, IsReduced}
-use Rattle.plane_predicate.proofs.Signs.{pos_cancel}
+use Rattle.plane_predicate.specs.InUnits.{in_units}
+use Rattle.plane_predicate.specs.Units.{steps_of}
+use Rattle.plane_predicate.proofs.InUnits.{steps_above}
+use Rattle.plane_predicate.proofs.Signs.{pos_cancel, pos_pos}
 use Rattle.plane_polygon.specs.Polygons.{Outline, sides, corner, IsPolygon, AreReducedFrom}
-use Rattle.plane_polygon.specs.Parts.{corners, up_to}
+use Rattle.plane_polygon.specs.Parts.{up_to}
 use Rattle.plane_polygon.proofs.Rounds.{step, step_is, step_below, at_most}
 use Rattle.off_text.specs.Reading.{IsVertex}
 use Rattle.off_text.specs.Boundaries.{origin}
-use Rattle.off_text.specs.Texts.{comes_before, place_of_least, from_least}
+use Rattle.off_text.specs.Texts.{comes_before, corners_in_units, place_of_least, from_least}
 use Rattle.off_text.proofs.Least.{IsLeastOf, least_first, least_new, least_kept, least_found}
 
 map-up_to-length : (f : ℕ → Coordinates) (n : ℕ) → length (map f (up_to n)) ≡ n
@@ -40,23 +45,30 @@ reduced-at (p ∷ ps) [] h i l = absurd h
 reduced-at (p ∷ ps) (q ∷ qs) h zero l = (h.0, h.1)
 reduced-at (p ∷ ps) (q ∷ qs) h (suc i) l = reduced-at ps qs h.2 i (omega arith)
 
--- ---- the reduced corners of a polygon
-module _ (s : Outline) (found : List Coordinates) (h : AreReducedFrom (corners s) found) where
-  pub found-length : length found ≡ sides s
-  found-length = reduced-length (corners s) found h ∙ map-up_to-length (corner s) (sides s)
+-- ---- the reduced corners of a polygon, in units
+module _ (unit : LengthUnit) (s : Outline) (found : List Coordinates) (h : AreReducedFrom (corners_in_units unit s) found) where
+  abbrev point : ℕ → Coordinates
+  point i = in_units unit (corner s i)
 
-  found-at : (i : ℕ) → i < sides s → IsPointTimes (corner s i) (get_or found i origin) × IsReduced (get_or found i origin)
+  each : AreReducedFrom (map point (up_to (sides s))) found
+  each = subst (λ (ps : List Coordinates). AreReducedFrom ps found) (map-map (in_units unit) (corner s) (up_to (sides s))) h
+
+  pub found-length : length found ≡ sides s
+  found-length = reduced-length (map point (up_to (sides s))) found each ∙ map-up_to-length point (sides s)
+
+  found-at : (i : ℕ) → i < sides s → IsPointTimes (in_units unit (corner s i)) (get_or found i origin) × IsReduced (get_or found i origin)
   found-at i l =
-      subst (λ (p : Coordinates). IsPointTimes p (get_or found i origin) × IsReduced (get_or found i origin)) (map-up_to (corner s) (sides s) i l)
-      (reduced-at (corners s) found h i (omega (arith, map-up_to-length (corner s) (sides s))))
+      subst (λ (p : Coordinates). IsPointTimes p (get_or found i origin) × IsReduced (get_or found i origin)) (map-up_to point (sides s) i l)
+      (reduced-at (map point (up_to (sides s))) found each i (omega (arith, map-up_to-length point (sides s))))
 
   pub found_are_vertices : IsPolygon s → All IsVertex found
   found_are_vertices polygon =
       All-from_get_or IsVertex found origin (λ i l.
       let b : i < sides s = omega (arith, found-length) in
       let at = found-at i b in
+      let weight = pos_pos (steps_of unit) (corner s i).w (steps_above unit) (polygon.turns_left i b) in
       record {
-        weight = pos_cancel at.0.by (get_or found i origin).w at.0.above (subst (λ (w : ℤ). pos 0 <ℤ w) at.0.w (polygon.turns_left i b));
+        weight = pos_cancel at.0.by (get_or found i origin).w at.0.above (subst (λ (w : ℤ). pos 0 <ℤ w) at.0.w weight);
         reduced = at.1.reduced;
       })
 
@@ -93,16 +105,16 @@ turned-at points a i h l =
     ∙ (let e : i - (length points - a) ≡ step (length points) a i = omega (arith, p, h) in ap (λ (n : ℕ). get_or points n origin) e))
     (step_is (length points) a i h l)
 
--- points that are a polygon's corners, from one of them on
-pub record ArePrinted (s : Outline) (points : List Coordinates) : Type 0 where
+-- points that are a polygon's corners in units, from one of them on
+pub record ArePrinted (unit : LengthUnit) (s : Outline) (points : List Coordinates) : Type 0 where
   pub count : length points ≡ sides s
   pub start : ℕ
   pub starts : start < sides s
-  pub at : (i : ℕ) → i < sides s → IsPointTimes (corner s (step (sides s) start i)) (get_or points i origin)
+  pub at : (i : ℕ) → i < sides s → IsPointTimes (in_units unit (corner s (step (sides s) start i))) (get_or points i origin)
 
-pub printed : (s : Outline) (found : List Coordinates) → IsPolygon s → AreReducedFrom (corners s) found → ArePrinted s (from_least found)
-printed s found polygon h =
-    let count = found-length s found h in
+pub printed : (unit : LengthUnit) (s : Outline) (found : List Coordinates) → IsPolygon s → AreReducedFrom (corners_in_units unit s) found → ArePrinted unit s (from_least found)
+printed unit s found polygon h =
+    let count = found-length unit s found h in
     let some : 0 < length found = omega (arith, count, polygon.three) in
     let least = least_within found some in
     let starts : place_of_least found < sides s = omega (arith, count, least) in
@@ -110,9 +122,9 @@ printed s found polygon h =
       count = turned-length found (place_of_least found) (omega (arith, least)) ∙ count;
       start = place_of_least found;
       starts = starts;
-      at = λ i l. subst (λ (q : Coordinates). IsPointTimes (corner s (step (sides s) (place_of_least found) i)) q)
+      at = λ i l. subst (λ (q : Coordinates). IsPointTimes (in_units unit (corner s (step (sides s) (place_of_least found) i))) q)
           (sym (turned-at found (place_of_least found) i least (omega (arith, count, l)) ∙ ap (λ (k : ℕ). get_or found (step k (place_of_least found) i) origin) count))
-          (found-at s found h (step (sides s) (place_of_least found) i) (step_below (sides s) (place_of_least found) i starts)).0;
+          (found-at unit s found h (step (sides s) (place_of_least found) i) (step_below (sides s) (place_of_least found) i starts)).0;
     }
 
 -- what holds of all points holds of them from another one on

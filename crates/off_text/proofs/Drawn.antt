@@ -3,17 +3,20 @@ use Rattle.std.proofs.Common.{◌≡◌, ◌≢◌, ℕ, zero, suc, ◌<◌, ◌
 use Rattle.std.proofs.lemmas.List.{length-map}
 use Rattle.std.proofs.lemmas.List.Elements.{All-append, All-filter, All-map, All-from_get_or}
 use Rattle.std.proofs.lemmas.List.Sums.{passes_at_first}
+use Rattle.plane_predicate.specs.declared.unit.Unit.{Unit as LengthUnit}
 use Rattle.plane_predicate.specs.Space.{Coefficients, Coordinates, value, turn, IsPlane, IsPointTimes}
+use Rattle.plane_predicate.specs.InUnits.{in_steps, in_units}
 use Rattle.plane_polygon.specs.Polygons.{Outline, sides, IsPolygon, IsStrictlyWithin, corner as corner_of}
 use Rattle.plane_polygon.proofs.Rounds.{step, step_below}
 use Rattle.off_text.specs.Reading.{IsVertex, IsFace, off_text}
-use Rattle.off_text.specs.Boundaries.{origin, corner, after, Faces, Covers}
+use Rattle.off_text.specs.Boundaries.{origin, corner, grid_corner, after, Faces, Covers}
 use Rattle.off_text.specs.Texts.{same_point, distinct, number_among, from_least, printed_corners, vertices_of, faces_of, AreCornersOf}
 use Rattle.off_text.specs.Numbering.{AreNumbered}
 use Rattle.off_text.specs.Prints.{IsFaceOf, AreFacesOf, Prints}
 use Rattle.off_text.proofs.Numbers.{Known, AllKnown, place_below, same_equal, grown_knows}
 use Rattle.off_text.proofs.Distinct.{grown_from_none}
 use Rattle.off_text.proofs.Gathered.{joined, known_parts}
+use Rattle.off_text.proofs.Scaled.{AreOnePoint, printed_is}
 use Rattle.off_text.proofs.Cornered.{ArePrinted, printed, found_are_vertices, All-from_least}
 use Rattle.off_text.proofs.Rounded.{points_on, points_left, left_from_within, within_from_left, one_plane, below_three, not_two}
 
@@ -47,53 +50,59 @@ corner-at vertices (p ∷ points) h zero l = known-at vertices p h.0
 corner-at vertices (p ∷ points) h (suc i) l = corner-at vertices points h.1 i (omega arith)
 
 -- ---- one face
-module _ (s : Outline) (polygon : IsPolygon s) (vertices points : List Coordinates) (printed : ArePrinted s points) (known : AllKnown vertices points) where
+module _ (unit : LengthUnit) (s : Outline) (polygon : IsPolygon s) (vertices points : List Coordinates) (printed : ArePrinted unit s points) (known : AllKnown vertices points) where
   abbrev pub face : List ℕ
   face = map (number_among vertices) points
 
   count : length face ≡ sides s
   count = length-map points (number_among vertices) ∙ printed.count
 
-  is : (i : ℕ) → i < sides s → IsPointTimes (corner_of s (step (sides s) printed.start i)) (corner vertices face i)
-  is i l = subst (λ (q : Coordinates). IsPointTimes (corner_of s (step (sides s) printed.start i)) q)
+  times : (i : ℕ) → i < sides s → IsPointTimes (in_units unit (corner_of s (step (sides s) printed.start i))) (corner vertices face i)
+  times i l = subst (λ (q : Coordinates). IsPointTimes (in_units unit (corner_of s (step (sides s) printed.start i))) q)
       (sym (corner-at vertices points known i (omega (arith, printed.count, l)))) (printed.at i l)
 
-  facing : Faces vertices s.plane face
+  abbrev on_grid : ℕ → Coordinates
+  on_grid i = grid_corner unit vertices face i
+
+  is : (i : ℕ) → i < sides s → AreOnePoint (corner_of s (step (sides s) printed.start i)) (on_grid i)
+  is i l = printed_is unit (corner_of s (step (sides s) printed.start i)) (corner vertices face i) (times i l)
+
+  facing : Faces unit vertices s.plane face
   facing = record {
-    on = subst (λ (k : ℕ). (i : ℕ) → i < k → value s.plane (corner vertices face i) ≡ pos 0) (sym count)
-        (points_on s polygon printed.start printed.starts (corner vertices face) is);
-    left = subst (λ (k : ℕ). (i j : ℕ) → i < k → j < k → j ≢ i → j ≢ after k i → pos 0 <ℤ turn s.plane (corner vertices face i) (corner vertices face (after k i)) (corner vertices face j)) (sym count)
-        (points_left s polygon printed.start printed.starts (corner vertices face) is);
+    on = subst (λ (k : ℕ). (i : ℕ) → i < k → value s.plane (on_grid i) ≡ pos 0) (sym count)
+        (points_on s polygon printed.start printed.starts on_grid is);
+    left = subst (λ (k : ℕ). (i j : ℕ) → i < k → j < k → j ≢ i → j ≢ after k i → pos 0 <ℤ turn s.plane (on_grid i) (on_grid (after k i)) (on_grid j)) (sym count)
+        (points_left s polygon printed.start printed.starts on_grid is);
   }
 
-  covering-in : (p : Coordinates) → IsStrictlyWithin s p → Covers vertices s.plane p face
+  covering-in : (p : Coordinates) → IsStrictlyWithin s (in_steps unit p) → Covers unit vertices s.plane p face
   covering-in p w = record {
     faces = facing;
     on = w.on;
-    left = subst (λ (k : ℕ). (i : ℕ) → i < k → pos 0 <ℤ turn s.plane (corner vertices face i) (corner vertices face (after k i)) p) (sym count)
-        (left_from_within s polygon printed.start printed.starts (corner vertices face) is p w);
+    left = subst (λ (k : ℕ). (i : ℕ) → i < k → pos 0 <ℤ turn s.plane (on_grid i) (on_grid (after k i)) (in_steps unit p)) (sym count)
+        (left_from_within s polygon printed.start printed.starts on_grid is (in_steps unit p) w);
   }
 
-  covering-out : (p : Coordinates) → Covers vertices s.plane p face → IsStrictlyWithin s p
+  covering-out : (p : Coordinates) → Covers unit vertices s.plane p face → IsStrictlyWithin s (in_steps unit p)
   covering-out p c =
-      within_from_left s polygon printed.start printed.starts (corner vertices face) is p c.on
-      (subst (λ (k : ℕ). (i : ℕ) → i < k → pos 0 <ℤ turn s.plane (corner vertices face i) (corner vertices face (after k i)) p) count c.left)
+      within_from_left s polygon printed.start printed.starts on_grid is (in_steps unit p) c.on
+      (subst (λ (k : ℕ). (i : ℕ) → i < k → pos 0 <ℤ turn s.plane (on_grid i) (on_grid (after k i)) (in_steps unit p)) count c.left)
 
-  faced_plane : (n : Coefficients) → IsPlane s.plane → IsPlane n → Faces vertices n face → s.plane ≡ n
+  faced_plane : (n : Coefficients) → IsPlane s.plane → IsPlane n → Faces unit vertices n face → s.plane ≡ n
   faced_plane n hs hn f =
-      let left = subst (λ (k : ℕ). (i j : ℕ) → i < k → j < k → j ≢ i → j ≢ after k i → pos 0 <ℤ turn n (corner vertices face i) (corner vertices face (after k i)) (corner vertices face j)) count f.left in
-      one_plane s polygon printed.start printed.starts (corner vertices face) is n hs hn
-      (subst (λ (k : ℕ). (i : ℕ) → i < k → value n (corner vertices face i) ≡ pos 0) count f.on)
+      let left = subst (λ (k : ℕ). (i j : ℕ) → i < k → j < k → j ≢ i → j ≢ after k i → pos 0 <ℤ turn n (on_grid i) (on_grid (after k i)) (on_grid j)) count f.left in
+      one_plane s polygon printed.start printed.starts on_grid is n hs hn
+      (subst (λ (k : ℕ). (i : ℕ) → i < k → value n (on_grid i) ≡ pos 0) count f.on)
       (left 0 2 (below_three 0 (sides s) polygon.three (omega arith)) (below_three 2 (sides s) polygon.three (omega arith)) (omega arith) (not_two (sides s) polygon.three))
 
-  pub drawn : IsFaceOf vertices s face
+  pub drawn : IsFaceOf unit vertices s face
   drawn = record {
     corners = λ i l. (let b : i < sides s = omega (arith, count, l) in
-        record { place = step (sides s) printed.start i; within = step_below (sides s) printed.start i printed.starts; times = is i b });
+        record { place = step (sides s) printed.start i; within = step_below (sides s) printed.start i printed.starts; times = times i b });
     facing = facing;
     covering = λ n p hs hn. (
-      (λ c. let e = faced_plane n hs hn c.faces in (e, covering-out p (subst (λ (m : Coefficients). Covers vertices m p face) (sym e) c))),
-      (λ w. subst (λ (m : Coefficients). Covers vertices m p face) w.0 (covering-in p w.1)),
+      (λ c. let e = faced_plane n hs hn c.faces in (e, covering-out p (subst (λ (m : Coefficients). Covers unit vertices m p face) (sym e) c))),
+      (λ w. subst (λ (m : Coefficients). Covers unit vertices m p face) w.0 (covering-in p w.1)),
     );
   }
 
@@ -105,19 +114,19 @@ module _ (s : Outline) (polygon : IsPolygon s) (vertices points : List Coordinat
   is_face = record { three = subst (λ (k : ℕ). 3 ≤ k) (sym count) polygon.three; known = known_indices }
 
 -- ---- all faces
-faces_drawn : (polygons : List Outline) (found : List (List Coordinates)) (vertices : List Coordinates) → All IsPolygon polygons → AreCornersOf polygons found →
+faces_drawn : (unit : LengthUnit) (polygons : List Outline) (found : List (List Coordinates)) (vertices : List Coordinates) → All IsPolygon polygons → AreCornersOf unit polygons found →
     AllKnown vertices (joined (printed_corners found)) →
-    AreFacesOf vertices polygons (map (map (number_among vertices)) (printed_corners found)) × All (IsFace (length vertices)) (map (map (number_among vertices)) (printed_corners found))
-faces_drawn [] [] vertices h c k = (tt, none_all (IsFace (length vertices)))
-faces_drawn [] (f ∷ found) vertices h c k = absurd c
-faces_drawn (s ∷ polygons) [] vertices h c k = absurd c
-faces_drawn (s ∷ polygons) (f ∷ found) vertices h c k =
+    AreFacesOf unit vertices polygons (map (map (number_among vertices)) (printed_corners found)) × All (IsFace (length vertices)) (map (map (number_among vertices)) (printed_corners found))
+faces_drawn unit [] [] vertices h c k = (tt, none_all (IsFace (length vertices)))
+faces_drawn unit [] (f ∷ found) vertices h c k = absurd c
+faces_drawn unit (s ∷ polygons) [] vertices h c k = absurd c
+faces_drawn unit (s ∷ polygons) (f ∷ found) vertices h c k =
     let parts = known_parts (from_least f) (joined (printed_corners found)) vertices k in
     let polygon = first_of IsPolygon s polygons h in
-    let points = printed s f polygon c.0 in
-    let rest = faces_drawn polygons found vertices (rest_of IsPolygon s polygons h) c.1 parts.1 in (
-      (drawn s polygon vertices (from_least f) points parts.0, rest.0),
-      more_all (IsFace (length vertices)) (map (number_among vertices) (from_least f)) (map (map (number_among vertices)) (printed_corners found)) (is_face s polygon vertices (from_least f) points parts.0) rest.1,
+    let points = printed unit s f polygon c.0 in
+    let rest = faces_drawn unit polygons found vertices (rest_of IsPolygon s polygons h) c.1 parts.1 in (
+      (drawn unit s polygon vertices (from_least f) points parts.0, rest.0),
+      more_all (IsFace (length vertices)) (map (number_among vertices) (from_least f)) (map (map (number_among vertices)) (printed_corners found)) (is_face unit s polygon vertices (from_least f) points parts.0) rest.1,
     )
 
 -- ---- all vertices
@@ -127,27 +136,27 @@ distinct_all (p ∷ points) h =
     more_all IsVertex p (filter (λ q. not (same_point p q)) (distinct points)) (first_of IsVertex p points h)
     (All-filter (λ q. not (same_point p q)) IsVertex (distinct points) (distinct_all points (rest_of IsVertex p points h)))
 
-joined_all : (polygons : List Outline) (found : List (List Coordinates)) → All IsPolygon polygons → AreCornersOf polygons found → All IsVertex (joined (printed_corners found))
-joined_all [] [] h c = none_all IsVertex
-joined_all [] (f ∷ found) h c = absurd c
-joined_all (s ∷ polygons) [] h c = absurd c
-joined_all (s ∷ polygons) (f ∷ found) h c =
-    All-append IsVertex (from_least f) (joined (printed_corners found)) (All-from_least IsVertex f (found_are_vertices s f c.0 (first_of IsPolygon s polygons h)))
-    (joined_all polygons found (rest_of IsPolygon s polygons h) c.1)
+joined_all : (unit : LengthUnit) (polygons : List Outline) (found : List (List Coordinates)) → All IsPolygon polygons → AreCornersOf unit polygons found → All IsVertex (joined (printed_corners found))
+joined_all unit [] [] h c = none_all IsVertex
+joined_all unit [] (f ∷ found) h c = absurd c
+joined_all unit (s ∷ polygons) [] h c = absurd c
+joined_all unit (s ∷ polygons) (f ∷ found) h c =
+    All-append IsVertex (from_least f) (joined (printed_corners found)) (All-from_least IsVertex f (found_are_vertices unit s f c.0 (first_of IsPolygon s polygons h)))
+    (joined_all unit polygons found (rest_of IsPolygon s polygons h) c.1)
 
 all_are_known : (found : List (List Coordinates)) → AllKnown (vertices_of found) (joined (printed_corners found))
 all_are_known found =
     subst (λ (v : List Coordinates). AllKnown v (joined (printed_corners found))) (grown_from_none (joined (printed_corners found))) (grown_knows (joined (printed_corners found)) [])
 
-pub prints : (polygons : List Outline) (vertices : List Coordinates) (faces : List (List ℕ)) (bytes : List ℕ) → AreNumbered polygons vertices faces → bytes ≡ off_text vertices faces → All IsPolygon polygons → Prints polygons bytes
-prints polygons vertices faces bytes h e all_polygons =
-    let all = faces_drawn polygons h.found (vertices_of h.found) all_polygons h.corners (all_are_known h.found) in
+pub prints : (unit : LengthUnit) (polygons : List Outline) (vertices : List Coordinates) (faces : List (List ℕ)) (bytes : List ℕ) → AreNumbered unit polygons vertices faces → bytes ≡ off_text vertices faces → Prints unit polygons bytes
+prints unit polygons vertices faces bytes h e =
+    let all = faces_drawn unit polygons h.found (vertices_of h.found) h.all_polygons h.corners (all_are_known h.found) in
     record {
       vertices = vertices_of h.found;
       faces = faces_of h.found;
       read = record {
         spelled = e ∙ ap (λ (v : List Coordinates). off_text v faces) h.vertices_are ∙ ap (off_text (vertices_of h.found)) h.faces_are;
-        points = distinct_all (joined (printed_corners h.found)) (joined_all polygons h.found all_polygons h.corners);
+        points = distinct_all (joined (printed_corners h.found)) (joined_all unit polygons h.found h.all_polygons h.corners);
         loops = all.1;
       };
       drawn = all.0;

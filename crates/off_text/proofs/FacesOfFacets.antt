@@ -2,8 +2,10 @@
 use Rattle.std.proofs.Common.{◌⊎◌, inl, inr, ℕ, ◌<◌, Bool, not, ◌&&◌, List, [], ◌∷◌, slice_index_or, ap₂, subst}
 use Rattle.std.specs.List.{All}
 use Rattle.std.proofs.lemmas.List.Elements.{All-nil, All-cons, All-head, All-tail, All-weaker}
+use Rattle.plane_predicate.specs.declared.unit.Unit.{Unit as LengthUnit}
 use Rattle.plane_predicate.specs.Space.{Coefficients, Coordinates, opposite_of, IsInClosedWorld}
-use Rattle.plane_polygon.specs.Polygons.{Outline, sides, corner as corner_of, IsPolygon}
+use Rattle.plane_predicate.specs.InUnits.{in_steps}
+use Rattle.plane_polygon.specs.Polygons.{Outline, sides, corner as corner_of}
 use Rattle.csg_tree.specs.Formulas.{Formula}
 use Rattle.csg_tree.specs.FacePlanes.{IsFacePlane, IsOnOneFacePlane, just_behind, just_ahead, bounds}
 use Rattle.csg_tree.specs.ProperTrees.{IsProper}
@@ -39,29 +41,26 @@ formula_facets f h k d l =
       boxed = world_corners (solid_of f) h.world k d l;
     }
 
-pub facet_polygons : (f : Formula) → IsProper f → All IsPolygon (facets_of (solid_of f))
-facet_polygons f h k d l = (all_facets (solid_of f) world_box (tree_is_solid f h.leaves).world k d l).polygon
-
 -- each printed face is a face of the boundary
-module _ (f : Formula) (vertices : List Coordinates) where
-  face_bounds : (s : Outline) (face : List ℕ) → IsFaceOf vertices s face → IsFacetOfFormula f s →
-      IsBoundaryFace f vertices face
+module _ (unit : LengthUnit) (f : Formula) (vertices : List Coordinates) where
+  face_bounds : (s : Outline) (face : List ℕ) → IsFaceOf unit vertices s face → IsFacetOfFormula f s →
+      IsBoundaryFace unit f vertices face
   face_bounds s face h k = record {
     plane = s.plane;
     of_formula = k.plane;
     faces = h.facing;
     boxed = λ i l. (
         let c = h.corners i l in
-        in_world_reduced (corner_of s c.place) (corner vertices face i) c.times (k.boxed c.place c.within));
+        in_world_reduced unit (corner_of s c.place) (corner vertices face i) c.times (k.boxed c.place c.within));
   }
 
-  faces_bound : (polygons : List Outline) (faces : List (List ℕ)) → AreFacesOf vertices polygons faces →
-      All (IsFacetOfFormula f) polygons → All (IsBoundaryFace f vertices) faces
-  faces_bound [] [] h k = All-nil (IsBoundaryFace f vertices)
+  faces_bound : (polygons : List Outline) (faces : List (List ℕ)) → AreFacesOf unit vertices polygons faces →
+      All (IsFacetOfFormula f) polygons → All (IsBoundaryFace unit f vertices) faces
+  faces_bound [] [] h k = All-nil (IsBoundaryFace unit f vertices)
   faces_bound [] (face ∷ faces) h k = absurd h
   faces_bound (s ∷ polygons) [] h k = absurd h
   faces_bound (s ∷ polygons) (face ∷ faces) h k =
-      All-cons (IsBoundaryFace f vertices) face faces
+      All-cons (IsBoundaryFace unit f vertices) face faces
       (face_bounds s face h.0 (All-head (IsFacetOfFormula f) s polygons k))
       (faces_bound polygons faces h.1 (All-tail (IsFacetOfFormula f) s polygons k))
 
@@ -72,34 +71,35 @@ on_one_plane : (f : Formula) (n : Coefficients) (p : Coordinates) → IsSolidOf 
 on_one_plane f n p solid h =
     record { point_in = (open_world p).1 h.world; on = h.on; alone = λ m k. h.alone m (solid.planes m k) }
 
-covered_where : (f : Formula) (bytes : List ℕ) → IsProper f → IsSolidOf f (solid_of f) →
-    (text : Prints (facets_of (solid_of f)) bytes) → BesideLeaves f → (n : Coefficients) (p : Coordinates) →
-    IsOnOneFacePlane f n p → OneExactlyWhere (bounds f n p) (Covers text.vertices n p) text.faces
-covered_where f bytes h solid text beside n p o =
+covered_where : (unit : LengthUnit) (f : Formula) (bytes : List ℕ) → IsProper f → IsSolidOf f (solid_of f) →
+    (text : Prints unit (facets_of (solid_of f)) bytes) → BesideLeaves f → (n : Coefficients) (p : Coordinates) →
+    IsOnOneFacePlane f n (in_steps unit p) → OneExactlyWhere (bounds f n (in_steps unit p)) (Covers unit text.vertices n p) text.faces
+covered_where unit f bytes h solid text beside n p o =
     let t = solid_of f in
-    let low = just_behind n p in
-    let high = just_ahead n p in
-    let b = beside n p o in
-    subst (λ (c : Bool). OneExactlyWhere c (Covers text.vertices n p) text.faces)
+    let q = in_steps unit p in
+    let low = just_behind n q in
+    let high = just_ahead n q in
+    let b = beside n q o in
+    subst (λ (c : Bool). OneExactlyWhere c (Covers unit text.vertices n p) text.faces)
     (ap₂ (λ (i j : Bool). i && not j) b.2 b.3)
-    (as_facets text.vertices n (face_plane_is_plane f n h.leaves o.face_plane) p (facets_of t) text.faces
+    (as_facets unit text.vertices n (face_plane_is_plane f n h.leaves o.face_plane) p (facets_of t) text.faces
     (All-weaker (IsFacetOfFormula f) HasPlane (λ s k. face_plane_is_plane f s.plane h.leaves k.plane)
     (facets_of t) (formula_facets f solid))
     text.drawn (walk_by t low && not (walk_by t high))
-    (facets_bound world_box t solid.world n p (on_one_plane f n p solid o) low high b.0 b.1))
+    (facets_bound world_box t solid.world n q (on_one_plane f n q solid o) low high b.0 b.1))
 
-pub boundary_from : (f : Formula) (bytes : List ℕ) → IsProper f → Prints (facets_of (solid_of f)) bytes →
-    BesideLeaves f → IsBoundary bytes f
-boundary_from f bytes h text beside =
+pub boundary_from : (unit : LengthUnit) (f : Formula) (bytes : List ℕ) → IsProper f → Prints unit (facets_of (solid_of f)) bytes →
+    BesideLeaves f → IsBoundary unit bytes f
+boundary_from unit f bytes h text beside =
     let solid = tree_is_solid f h.leaves in
     let facets = facets_of (solid_of f) in record {
       vertices = text.vertices;
       faces = text.faces;
       read = text.read;
-      bounding = faces_bound f text.vertices facets text.faces text.drawn (formula_facets f solid);
-      covered = covered_where f bytes h solid text beside;
+      bounding = faces_bound unit f text.vertices facets text.faces text.drawn (formula_facets f solid);
+      covered = covered_where unit f bytes h solid text beside;
     }
 
 -- the text of the facets of a proper tree's solid is the tree's boundary
-pub boundary : (f : Formula) (bytes : List ℕ) → IsProper f → Prints (facets_of (solid_of f)) bytes → IsBoundary bytes f
-boundary f bytes h text = boundary_from f bytes h text (beside_leaves f h.leaves)
+pub boundary : (unit : LengthUnit) (f : Formula) (bytes : List ℕ) → IsProper f → Prints unit (facets_of (solid_of f)) bytes → IsBoundary unit bytes f
+boundary unit f bytes h text = boundary_from unit f bytes h text (beside_leaves f h.leaves)

@@ -1,11 +1,12 @@
 -- The faces of polygons, numbered one after another.
-use Rattle.std.proofs.Common.{◌≡◌, ℕ, List, [], ◌∷◌, ◌++◌, map, flat_map, refl, sym, ap, ap₂, ◌∙◌, subst, subst₂, append-nil, add-one, take, take-suc, get_or, length, ◌<◌, ◌≤◌, ◌+◌}
+use Rattle.std.proofs.Common.{◌≡◌, ℕ, List, [], ◌∷◌, ◌++◌, map, flat_map, refl, sym, ap, ap₂, ◌∙◌, subst, subst₂, append-nil, add-one, All, take, take-suc, get_or, length, ◌<◌, ◌≤◌, ◌+◌}
 use Rattle.std.proofs.lemmas.List.{map-append, take_all}
+use Rattle.std.proofs.lemmas.List.Elements.{All-append, All-cons, All-nil}
 use Rattle.std.proofs.lemmas.Grind.{flat_map-append}
+use Rattle.plane_predicate.specs.declared.unit.Unit.{Unit as LengthUnit}
 use Rattle.plane_predicate.specs.Space.{Coordinates}
-use Rattle.plane_polygon.specs.Polygons.{Outline, AreReducedFrom}
-use Rattle.plane_polygon.specs.Parts.{corners}
-use Rattle.off_text.specs.Texts.{from_least, number_among, printed_corners, vertices_of, AreCornersOf}
+use Rattle.plane_polygon.specs.Polygons.{Outline, AreReducedFrom, IsPolygon}
+use Rattle.off_text.specs.Texts.{corners_in_units, from_least, number_among, printed_corners, vertices_of, AreCornersOf}
 use Rattle.off_text.specs.Numbering.{grown, AddsFace, AreNumbered}
 use Rattle.off_text.proofs.Numbers.{AllKnown, all_kept, grown_knows, grown-append}
 use Rattle.off_text.proofs.Distinct.{grown_from_none}
@@ -15,17 +16,18 @@ abbrev pub joined : List (List Coordinates) → List Coordinates
 joined faces = flat_map (λ corners. corners) faces
 
 -- the vertices and the faces of these polygons, numbered from none on
-pub record AreGathered (polygons : List Outline) (vertices : List Coordinates) (faces : List (List ℕ)) : Type 0 where
+pub record AreGathered (unit : LengthUnit) (polygons : List Outline) (vertices : List Coordinates) (faces : List (List ℕ)) : Type 0 where
+  pub all_polygons : All IsPolygon polygons
   pub found : List (List Coordinates)
-  pub corners : AreCornersOf polygons found
+  pub corners : AreCornersOf unit polygons found
   pub vertices_are : vertices ≡ grown [] (joined (printed_corners found))
   pub faces_are : faces ≡ map (map (number_among vertices)) (printed_corners found)
 
-corners_more : (polygons : List Outline) (found : List (List Coordinates)) (s : Outline) (last : List Coordinates) → AreCornersOf polygons found → AreReducedFrom (corners s) last → AreCornersOf (polygons ++ s ∷ []) (found ++ last ∷ [])
-corners_more [] [] s last h l = (l, tt)
-corners_more [] (f ∷ found) s last h l = absurd h
-corners_more (t ∷ polygons) [] s last h l = absurd h
-corners_more (t ∷ polygons) (f ∷ found) s last h l = (h.0, corners_more polygons found s last h.1 l)
+corners_more : (unit : LengthUnit) (polygons : List Outline) (found : List (List Coordinates)) (s : Outline) (last : List Coordinates) → AreCornersOf unit polygons found → AreReducedFrom (corners_in_units unit s) last → AreCornersOf unit (polygons ++ s ∷ []) (found ++ last ∷ [])
+corners_more unit [] [] s last h l = (l, tt)
+corners_more unit [] (f ∷ found) s last h l = absurd h
+corners_more unit (t ∷ polygons) [] s last h l = absurd h
+corners_more unit (t ∷ polygons) (f ∷ found) s last h l = (h.0, corners_more unit polygons found s last h.1 l)
 
 pub known_parts : (xs ys vertices : List Coordinates) → AllKnown vertices (xs ++ ys) → AllKnown vertices xs × AllKnown vertices ys
 known_parts [] ys vertices h = (tt, h)
@@ -38,14 +40,15 @@ faces_kept (f ∷ faces) vertices more h =
     ap₂ (λ (x : List ℕ) (l : List (List ℕ)). x ∷ l) (all_kept more vertices f parts.0).1 (faces_kept faces vertices more parts.1)
 
 -- a polygon more
-gathered_more : (polygons : List Outline) (vertices : List Coordinates) (faces : List (List ℕ)) → AreGathered polygons vertices faces →
-    (s : Outline) (new : List Coordinates) (face : List ℕ) → AddsFace s vertices new face → AreGathered (polygons ++ s ∷ []) new (faces ++ face ∷ [])
-gathered_more polygons vertices faces h s new face a =
+gathered_more : (unit : LengthUnit) (polygons : List Outline) (vertices : List Coordinates) (faces : List (List ℕ)) → AreGathered unit polygons vertices faces →
+    (s : Outline) (new : List Coordinates) (face : List ℕ) → AddsFace unit s vertices new face → AreGathered unit (polygons ++ s ∷ []) new (faces ++ face ∷ [])
+gathered_more unit polygons vertices faces h s new face a =
     let known : AllKnown vertices (joined (printed_corners h.found)) =
     subst (λ (v : List Coordinates). AllKnown v (joined (printed_corners h.found))) (sym h.vertices_are) (grown_knows (joined (printed_corners h.found)) []) in
     record {
+      all_polygons = All-append IsPolygon polygons (s ∷ []) h.all_polygons (All-cons IsPolygon s [] a.polygon (All-nil IsPolygon));
       found = h.found ++ a.found ∷ [];
-      corners = corners_more polygons h.found s a.found h.corners a.corners;
+      corners = corners_more unit polygons h.found s a.found h.corners a.corners;
       vertices_are = a.grows ∙ ap (λ (v : List Coordinates). grown v (from_least a.found)) h.vertices_are
           ∙ sym (grown-append (joined (printed_corners h.found)) (from_least a.found) [])
           ∙ ap (λ (l : List Coordinates). grown [] (joined (printed_corners h.found) ++ l)) (sym (append-nil (from_least a.found)))
@@ -57,10 +60,11 @@ gathered_more polygons vertices faces h s new face a =
           ∙ ap (map (map (number_among new))) (sym (map-append from_least h.found (a.found ∷ [])));
     }
 
-pub gathered_all : (polygons : List Outline) (vertices : List Coordinates) (faces : List (List ℕ)) → AreGathered polygons vertices faces → AreNumbered polygons vertices faces
-gathered_all polygons vertices faces h =
+pub gathered_all : (unit : LengthUnit) (polygons : List Outline) (vertices : List Coordinates) (faces : List (List ℕ)) → AreGathered unit polygons vertices faces → AreNumbered unit polygons vertices faces
+gathered_all unit polygons vertices faces h =
     let e : vertices ≡ vertices_of h.found = h.vertices_are ∙ grown_from_none (joined (printed_corners h.found)) in
     record {
+      all_polygons = h.all_polygons;
       found = h.found;
       corners = h.corners;
       vertices_are = e;
@@ -68,15 +72,15 @@ gathered_all polygons vertices faces h =
     }
 
 -- a polygon more of a list
-pub gathered_next : (polygons : List Outline) (i : ℕ) (s : Outline) → i < length polygons → s ≡ get_or polygons i s →
-    (vertices : List Coordinates) (faces : List (List ℕ)) → AreGathered (take i polygons) vertices faces →
-    (new : List Coordinates) (face : List ℕ) (all : List (List ℕ)) → AddsFace s vertices new face → all ≡ faces ++ face ∷ [] → AreGathered (take (i + 1) polygons) new all
-gathered_next polygons i s h is vertices faces g new face all a e =
+pub gathered_next : (unit : LengthUnit) (polygons : List Outline) (i : ℕ) (s : Outline) → i < length polygons → s ≡ get_or polygons i s →
+    (vertices : List Coordinates) (faces : List (List ℕ)) → AreGathered unit (take i polygons) vertices faces →
+    (new : List Coordinates) (face : List ℕ) (all : List (List ℕ)) → AddsFace unit s vertices new face → all ≡ faces ++ face ∷ [] → AreGathered unit (take (i + 1) polygons) new all
+gathered_next unit polygons i s h is vertices faces g new face all a e =
     let more : take i polygons ++ s ∷ [] ≡ take (i + 1) polygons =
     ap (λ (t : Outline). take i polygons ++ t ∷ []) is ∙ sym (take-suc polygons i s h) ∙ ap (λ (n : ℕ). take n polygons) (sym (add-one i)) in
-    subst₂ (λ (ps : List Outline) (fs : List (List ℕ)). AreGathered ps new fs) more (sym e)
-    (gathered_more (take i polygons) vertices faces g s new face a)
+    subst₂ (λ (ps : List Outline) (fs : List (List ℕ)). AreGathered unit ps new fs) more (sym e)
+    (gathered_more unit (take i polygons) vertices faces g s new face a)
 
-pub gathered_end : (polygons : List Outline) (i : ℕ) (vertices : List Coordinates) (faces : List (List ℕ)) → length polygons ≤ i → AreGathered (take i polygons) vertices faces → AreNumbered polygons vertices faces
-gathered_end polygons i vertices faces h g =
-    gathered_all polygons vertices faces (subst (λ (ps : List Outline). AreGathered ps vertices faces) (take_all i polygons h) g)
+pub gathered_end : (unit : LengthUnit) (polygons : List Outline) (i : ℕ) (vertices : List Coordinates) (faces : List (List ℕ)) → length polygons ≤ i → AreGathered unit (take i polygons) vertices faces → AreNumbered unit polygons vertices faces
+gathered_end unit polygons i vertices faces h g =
+    gathered_all unit polygons vertices faces (subst (λ (ps : List Outline). AreGathered unit ps vertices faces) (take_all i polygons h) g)

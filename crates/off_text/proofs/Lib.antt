@@ -9,6 +9,8 @@ pub mod Pieces
 pub mod Scaled
 pub mod Rounded
 pub mod Cornered
+pub mod Halves
+pub mod Printed
 pub mod Drawn
 pub mod Covered
 pub mod Unique

@@ -10,7 +10,7 @@ use Rattle.std.proofs.lemmas.List.Sums.{prefix_len-le-length}
 use Rattle.indexmap.specs.IndexSet.{insert_key}
 use Rattle.plane_predicate.specs.Space.{Coordinates}
 use Rattle.plane_predicate.proofs.Opposites.{same_point as equal_points}
-use Rattle.off_text.specs.Texts.{same_point, number_among, place_of_least, from_least}
+use Rattle.off_text.specs.Texts.{same_point, number_among}
 use Rattle.off_text.specs.Numbering.{grown}
 
 -- the point is numbered
@@ -154,5 +154,5 @@ face_numbers old new last back front first indices e f h k =
 pub place_at_most : (p : Coordinates → Bool) (corners : List Coordinates) → position_or_len p corners ≤ length corners
 place_at_most p corners = prefix_len-le-length (λ c. not (p c)) corners
 
-pub round_parts : (corners : List Coordinates) (n : ℕ) (front back : List Coordinates) → n ≡ place_of_least corners → front ≡ take n corners → back ≡ drop n corners → back ++ front ≡ from_least corners
-round_parts corners n front back e f g = ap₂ (λ (x y : List Coordinates). x ++ y) g f ∙ ap (λ (m : ℕ). drop m corners ++ take m corners) e
+pub round_parts : (corners : List Coordinates) (n : ℕ) (front back : List Coordinates) → front ≡ take n corners → back ≡ drop n corners → back ++ front ≡ drop n corners ++ take n corners
+round_parts corners n front back f g = ap₂ (λ (x y : List Coordinates). x ++ y) g f

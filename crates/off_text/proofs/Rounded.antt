@@ -2,7 +2,7 @@
 use Rattle.std.proofs.Common.{◌≡◌, ◌≢◌, inl, inr, ⊎_elim, ℕ, suc, ◌+◌, ◌-◌, ◌<◌, ◌≤◌, sym, ap, ◌∙◌, subst, arith, ℤ, pos, ◌<ℤ◌, ◌*ℤ◌, ◌+ℤ◌, ◌-ℤ◌}
 use Rattle.std.proofs.Math.IntN.{*ℤ-zero}
 use Rattle.std.proofs.lemmas.Bool.{cases_lt}
-use Rattle.plane_predicate.specs.Space.{Coefficients, Coordinates, value, turn, IsPointTimes, IsPlane}
+use Rattle.plane_predicate.specs.Space.{Coefficients, Coordinates, value, turn, IsPlane}
 use Rattle.plane_predicate.proofs.IntegerRing.{sums}
 use Rattle.plane_predicate.proofs.Signs.{zero_cancel}
 use Rattle.plane_predicate.proofs.SamePlanes.{equal_or_opposite}
@@ -11,7 +11,7 @@ use Rattle.plane_polygon.proofs.Hull.{after_is, after_below, corner_on, plane_di
 use Rattle.plane_polygon.proofs.FourPoints.{four_points}
 use Rattle.plane_polygon.proofs.Rounds.{step, step_below, step_is, step_apart, step_round}
 use Rattle.plane_polygon.proofs.Faces.{others_left, turns_by_within, within_by_turns}
-use Rattle.off_text.proofs.Scaled.{on_down, on_up, two_down, two_up, three_down, no_two_sides}
+use Rattle.off_text.proofs.Scaled.{AreOnePoint, other_way, on_alike, two_alike, three_alike, no_two_sides}
 
 step_next : (k a t : ℕ) → a < k → t < k → step k a (after k t) ≡ after k (step k a t)
 step_next k a t h l = elim (after_is k t) [ inl p ↦ ap (step k a) p.1 ∙ sym (step_round k a t h p.0) | inr p ↦ ap (step k a) p.1 ]
@@ -52,28 +52,31 @@ through_three s h n e p on =
     (e 0 one) (e (after (sides s) 0) next) (e 2 two))
 
 -- points that are the corners, from corner a on
-module _ (s : Outline) (h : IsPolygon s) (a : ℕ) (l : a < sides s) (c : ℕ → Coordinates) (is : (i : ℕ) → i < sides s → IsPointTimes (corner s (step (sides s) a i)) (c i)) where
-  next_is : (i : ℕ) → i < sides s → IsPointTimes (corner s (after (sides s) (step (sides s) a i))) (c (after (sides s) i))
-  next_is i b = subst (λ (j : ℕ). IsPointTimes (corner s j) (c (after (sides s) i))) (step_next (sides s) a i l b) (is (after (sides s) i) (after_below (sides s) i b))
+module _ (s : Outline) (h : IsPolygon s) (a : ℕ) (l : a < sides s) (c : ℕ → Coordinates) (is : (i : ℕ) → i < sides s → AreOnePoint (corner s (step (sides s) a i)) (c i)) where
+  next_is : (i : ℕ) → i < sides s → AreOnePoint (corner s (after (sides s) (step (sides s) a i))) (c (after (sides s) i))
+  next_is i b = subst (λ (j : ℕ). AreOnePoint (corner s j) (c (after (sides s) i))) (step_next (sides s) a i l b) (is (after (sides s) i) (after_below (sides s) i b))
 
   pub points_on : (i : ℕ) → i < sides s → value s.plane (c i) ≡ pos 0
-  points_on i b = on_down s.plane (corner s (step (sides s) a i)) (c i) (is i b) (corner_on s (step (sides s) a i))
+  points_on i b = on_alike s.plane (corner s (step (sides s) a i)) (c i) (is i b) (corner_on s (step (sides s) a i))
 
   pub points_left : (i j : ℕ) → i < sides s → j < sides s → j ≢ i → j ≢ after (sides s) i → pos 0 <ℤ turn s.plane (c i) (c (after (sides s) i)) (c j)
   points_left i j b d m n =
-      three_down s.plane (corner s (step (sides s) a i)) (c i) (corner s (after (sides s) (step (sides s) a i))) (c (after (sides s) i)) (corner s (step (sides s) a j)) (c j) (is i b) (next_is i b) (is j d)
+      three_alike s.plane (corner s (step (sides s) a i)) (c i) (corner s (after (sides s) (step (sides s) a i))) (c (after (sides s) i)) (corner s (step (sides s) a j)) (c j) (is i b) (next_is i b) (is j d)
       (others_left s h (step (sides s) a i) (step (sides s) a j) (step_below (sides s) a i l) (step_below (sides s) a j l)
       (step_apart (sides s) a i j l b d m)
       (λ e. step_apart (sides s) a (after (sides s) i) j l (after_below (sides s) i b) d n (e ∙ sym (step_next (sides s) a i l b))))
 
   pub left_from_within : (p : Coordinates) → IsStrictlyWithin s p → (i : ℕ) → i < sides s → pos 0 <ℤ turn s.plane (c i) (c (after (sides s) i)) p
   left_from_within p w i b =
-      two_down s.plane (corner s (step (sides s) a i)) (c i) (corner s (after (sides s) (step (sides s) a i))) (c (after (sides s) i)) p (is i b) (next_is i b)
+      two_alike s.plane (corner s (step (sides s) a i)) (c i) (corner s (after (sides s) (step (sides s) a i))) (c (after (sides s) i)) p (is i b) (next_is i b)
       (turns_by_within s h p w.on w.behind (step (sides s) a i) (step_below (sides s) a i l))
 
   left_at : (p : Coordinates) → ((i : ℕ) → i < sides s → pos 0 <ℤ turn s.plane (c i) (c (after (sides s) i)) p) → (i : ℕ) → i < sides s →
       pos 0 <ℤ turn s.plane (corner s (step (sides s) a i)) (corner s (after (sides s) (step (sides s) a i))) p
-  left_at p t i b = two_up s.plane (corner s (step (sides s) a i)) (c i) (corner s (after (sides s) (step (sides s) a i))) (c (after (sides s) i)) p (is i b) (next_is i b) (t i b)
+  left_at p t i b =
+      let here = other_way (corner s (step (sides s) a i)) (c i) (is i b) in
+      let next = other_way (corner s (after (sides s) (step (sides s) a i))) (c (after (sides s) i)) (next_is i b) in
+      two_alike s.plane (c i) (corner s (step (sides s) a i)) (c (after (sides s) i)) (corner s (after (sides s) (step (sides s) a i))) p here next (t i b)
 
   pub within_from_left : (p : Coordinates) → value s.plane p ≡ pos 0 → ((i : ℕ) → i < sides s → pos 0 <ℤ turn s.plane (c i) (c (after (sides s) i)) p) → IsStrictlyWithin s p
   within_from_left p e t = record {
@@ -86,7 +89,7 @@ module _ (s : Outline) (h : IsPolygon s) (a : ℕ) (l : a < sides s) (c : ℕ �
   corners_on : (n : Coefficients) → ((i : ℕ) → i < sides s → value n (c i) ≡ pos 0) → (j : ℕ) → j < sides s → value n (corner s j) ≡ pos 0
   corners_on n e j b =
       let r = reached (sides s) a j l b in
-      subst (λ (m : ℕ). value n (corner s m) ≡ pos 0) r.2 (on_up n (corner s (step (sides s) a r.0)) (c r.0) (is r.0 r.1) (e r.0 r.1))
+      subst (λ (m : ℕ). value n (corner s m) ≡ pos 0) r.2 (on_alike n (c r.0) (corner s (step (sides s) a r.0)) (other_way (corner s (step (sides s) a r.0)) (c r.0) (is r.0 r.1)) (e r.0 r.1))
 
   -- the plane that they face is the polygon's
   pub one_plane : (n : Coefficients) → IsPlane s.plane → IsPlane n → ((i : ℕ) → i < sides s → value n (c i) ≡ pos 0) → pos 0 <ℤ turn n (c 0) (c (after (sides s) 0)) (c 2) → s.plane ≡ n

@@ -1,9 +1,11 @@
--- Worked rows, computed by the definitions: the faces of a box of 1 by 2 by 3, and of a cube from which a cube is cut at a corner.
+-- Worked rows, computed by the definitions: the faces of a box of 1 by 2 by 3, of a centred cube of 3 in half units, and of a
+-- cube from which a cube is cut at a corner.
 use Rattle.std.proofs.Common.{◌≡◌, List, [], ◌∷◌, map, refl, ℤ, pos, negsuc}
+use Rattle.plane_predicate.specs.declared.unit.Unit.TheVariants.{Half}
 use Rattle.plane_predicate.specs.Space.{Coefficients, Coordinates}
 use Rattle.plane_polygon.specs.Polygons.{Outline}
 use Rattle.plane_polygon.specs.Parts.{corners}
-use Rattle.off_text.specs.Texts.{vertices_of, faces_of}
+use Rattle.off_text.specs.Texts.{corners_in_units, vertices_of, faces_of}
 
 abbrev plane : ℤ → ℤ → ℤ → ℤ → Coefficients
 plane a b c d = record { a = a; b = b; c = c; d = d }
@@ -30,6 +32,23 @@ box_vertices = refl
 
 box_faces : faces_of (map corners box_polygons) ≡ (0 ∷ 1 ∷ 2 ∷ 3 ∷ []) ∷ (4 ∷ 5 ∷ 6 ∷ 7 ∷ []) ∷ (0 ∷ 4 ∷ 7 ∷ 1 ∷ []) ∷ (3 ∷ 2 ∷ 6 ∷ 5 ∷ []) ∷ (0 ∷ 3 ∷ 5 ∷ 4 ∷ []) ∷ (1 ∷ 7 ∷ 6 ∷ 2 ∷ []) ∷ []
 box_faces = refl
+
+-- in half units: a cube from -3 to 3 grid steps
+abbrev centred_polygons : List Outline
+centred_polygons =
+    polygon (plane (negsuc 0) (pos 0) (pos 0) (pos 3)) (plane (pos 0) (negsuc 0) (pos 0) (pos 3) ∷ plane (pos 0) (pos 0) (pos 1) (pos 3) ∷ plane (pos 0) (pos 1) (pos 0) (pos 3) ∷ plane (pos 0) (pos 0) (negsuc 0) (pos 3) ∷ [])
+    ∷ polygon (plane (pos 1) (pos 0) (pos 0) (pos 3)) (plane (pos 0) (pos 0) (pos 1) (pos 3) ∷ plane (pos 0) (negsuc 0) (pos 0) (pos 3) ∷ plane (pos 0) (pos 0) (negsuc 0) (pos 3) ∷ plane (pos 0) (pos 1) (pos 0) (pos 3) ∷ [])
+    ∷ polygon (plane (pos 0) (negsuc 0) (pos 0) (pos 3)) (plane (pos 0) (pos 0) (negsuc 0) (pos 3) ∷ plane (pos 1) (pos 0) (pos 0) (pos 3) ∷ plane (pos 0) (pos 0) (pos 1) (pos 3) ∷ plane (negsuc 0) (pos 0) (pos 0) (pos 3) ∷ [])
+    ∷ polygon (plane (pos 0) (pos 1) (pos 0) (pos 3)) (plane (pos 1) (pos 0) (pos 0) (pos 3) ∷ plane (pos 0) (pos 0) (negsuc 0) (pos 3) ∷ plane (negsuc 0) (pos 0) (pos 0) (pos 3) ∷ plane (pos 0) (pos 0) (pos 1) (pos 3) ∷ [])
+    ∷ polygon (plane (pos 0) (pos 0) (negsuc 0) (pos 3)) (plane (negsuc 0) (pos 0) (pos 0) (pos 3) ∷ plane (pos 0) (pos 1) (pos 0) (pos 3) ∷ plane (pos 1) (pos 0) (pos 0) (pos 3) ∷ plane (pos 0) (negsuc 0) (pos 0) (pos 3) ∷ [])
+    ∷ polygon (plane (pos 0) (pos 0) (pos 1) (pos 3)) (plane (pos 0) (pos 1) (pos 0) (pos 3) ∷ plane (negsuc 0) (pos 0) (pos 0) (pos 3) ∷ plane (pos 0) (negsuc 0) (pos 0) (pos 3) ∷ plane (pos 1) (pos 0) (pos 0) (pos 3) ∷ [])
+    ∷ []
+
+centred_vertices : vertices_of (map (corners_in_units Half) centred_polygons) ≡ point (negsuc 2) (negsuc 2) (negsuc 2) (pos 2) ∷ point (negsuc 2) (negsuc 2) (pos 3) (pos 2) ∷ point (negsuc 2) (pos 3) (pos 3) (pos 2) ∷ point (negsuc 2) (pos 3) (negsuc 2) (pos 2) ∷ point (pos 3) (negsuc 2) (negsuc 2) (pos 2) ∷ point (pos 3) (pos 3) (negsuc 2) (pos 2) ∷ point (pos 3) (pos 3) (pos 3) (pos 2) ∷ point (pos 3) (negsuc 2) (pos 3) (pos 2) ∷ []
+centred_vertices = refl
+
+centred_faces : faces_of (map (corners_in_units Half) centred_polygons) ≡ (0 ∷ 1 ∷ 2 ∷ 3 ∷ []) ∷ (4 ∷ 5 ∷ 6 ∷ 7 ∷ []) ∷ (0 ∷ 4 ∷ 7 ∷ 1 ∷ []) ∷ (3 ∷ 2 ∷ 6 ∷ 5 ∷ []) ∷ (0 ∷ 3 ∷ 5 ∷ 4 ∷ []) ∷ (1 ∷ 7 ∷ 6 ∷ 2 ∷ []) ∷ []
+centred_faces = refl
 
 abbrev notch_polygons : List Outline
 notch_polygons =

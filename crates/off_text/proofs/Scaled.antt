@@ -1,7 +1,11 @@
--- Planes and turns see a point as its numbers times one above 0.
+-- Planes and turns see a point alike by all its numbers.
 use Rattle.std.proofs.Common.{◌≡◌, [], ◌∷◌, refl, sym, ap, ◌∙◌, subst, arith, ℤ, pos, ◌*ℤ◌, ◌<ℤ◌, ◌+ℤ◌, ◌-ℤ◌, neg_ℤ}
 use Rattle.std.proofs.Math.IntN.{*ℤ-zero}
+use Rattle.plane_predicate.specs.declared.unit.Unit.{Unit as LengthUnit}
 use Rattle.plane_predicate.specs.Space.{Coefficients, Coordinates, value, turn, product_with, opposite_of, IsPointTimes}
+use Rattle.plane_predicate.specs.InUnits.{in_steps, in_units}
+use Rattle.plane_predicate.specs.Units.{steps_of}
+use Rattle.plane_predicate.proofs.InUnits.{steps_above}
 use Rattle.plane_predicate.proofs.IntegerRing.{sums, mul_neg_left, mul_comm_ℤ}
 use Rattle.plane_predicate.proofs.Polynomials.{Poly, var, times, ring}
 use Rattle.plane_predicate.proofs.Vectors.{Place, form, place, of_plane, of_point, valueP, turnP}
@@ -15,9 +19,6 @@ scaled k p = record { x = k *ℤ p.x; y = k *ℤ p.y; z = k *ℤ p.z; w = k *ℤ
 abbrev scaledP : Poly → Place → Place
 scaledP k p = record { x = times k p.x; y = times k p.y; z = times k p.z; w = times k p.w }
 
-point_is : (p q : Coordinates) (t : IsPointTimes p q) → p ≡ scaled t.by q
-point_is p q t = same_point p.x p.y p.z p.w (t.by *ℤ q.x) (t.by *ℤ q.y) (t.by *ℤ q.z) (t.by *ℤ q.w) t.x t.y t.z t.w
-
 value-scaled : (n : Coefficients) (k : ℤ) (q : Coordinates) → value n (scaled k q) ≡ k *ℤ value n q
 value-scaled n k q =
     ring (of_plane n (of_point q (k ∷ []))) (valueP (form 0) (scaledP (var 8) (place 4))) (times (var 8) (valueP (form 0) (place 4))) refl
@@ -26,39 +27,81 @@ turn-scaled : (n : Coefficients) (k : ℤ) (p q r : Coordinates) → turn n (sca
 turn-scaled n k p q r =
     ring (of_plane n (of_point p (of_point q (of_point r (k ∷ []))))) (turnP (form 0) (scaledP (var 16) (place 4)) (place 8) (place 12)) (times (var 16) (turnP (form 0) (place 4) (place 8) (place 12))) refl
 
-value-times : (n : Coefficients) (p q : Coordinates) (t : IsPointTimes p q) → value n p ≡ t.by *ℤ value n q
-value-times n p q t = ap (value n) (point_is p q t) ∙ value-scaled n t.by q
+-- two lists of numbers of one point: multiples of both are the same
+pub record AreOnePoint (p q : Coordinates) : Type 0 where
+  pub first : ℤ
+  pub second : ℤ
+  pub first_above : pos 0 <ℤ first
+  pub second_above : pos 0 <ℤ second
+  pub x : first *ℤ p.x ≡ second *ℤ q.x
+  pub y : first *ℤ p.y ≡ second *ℤ q.y
+  pub z : first *ℤ p.z ≡ second *ℤ q.z
+  pub w : first *ℤ p.w ≡ second *ℤ q.w
+
+pub other_way : (p q : Coordinates) → AreOnePoint p q → AreOnePoint q p
+other_way p q t = record {
+  first = t.second;
+  second = t.first;
+  first_above = t.second_above;
+  second_above = t.first_above;
+  x = sym t.x;
+  y = sym t.y;
+  z = sym t.z;
+  w = sym t.w;
+}
+
+-- a printed corner in grid steps is the corner
+times_exchanged : (k l x y : ℤ) → x ≡ l *ℤ y → k *ℤ x ≡ l *ℤ (k *ℤ y)
+times_exchanged k l x y e =
+    ap (λ (v : ℤ). k *ℤ v) e
+    ∙ ring (k ∷ l ∷ y ∷ []) (times (var 0) (times (var 1) (var 2))) (times (var 1) (times (var 0) (var 2))) refl
+
+pub printed_is : (unit : LengthUnit) (p v : Coordinates) → IsPointTimes (in_units unit p) v → AreOnePoint p (in_steps unit v)
+printed_is unit p v t = record {
+  first = steps_of unit;
+  second = t.by;
+  first_above = steps_above unit;
+  second_above = t.above;
+  x = times_exchanged (steps_of unit) t.by p.x v.x t.x;
+  y = times_exchanged (steps_of unit) t.by p.y v.y t.y;
+  z = times_exchanged (steps_of unit) t.by p.z v.z t.z;
+  w = t.w;
+}
+
+scaled_alike : (p q : Coordinates) (t : AreOnePoint p q) → scaled t.first p ≡ scaled t.second q
+scaled_alike p q t =
+    same_point (t.first *ℤ p.x) (t.first *ℤ p.y) (t.first *ℤ p.z) (t.first *ℤ p.w)
+    (t.second *ℤ q.x) (t.second *ℤ q.y) (t.second *ℤ q.z) (t.second *ℤ q.w) t.x t.y t.z t.w
+
+value-alike : (n : Coefficients) (p q : Coordinates) (t : AreOnePoint p q) → t.first *ℤ value n p ≡ t.second *ℤ value n q
+value-alike n p q t = sym (value-scaled n t.first p) ∙ ap (value n) (scaled_alike p q t) ∙ value-scaled n t.second q
+
+turn-alike : (n : Coefficients) (p p' q r : Coordinates) (t : AreOnePoint p p') → t.first *ℤ turn n p q r ≡ t.second *ℤ turn n p' q r
+turn-alike n p p' q r t =
+    sym (turn-scaled n t.first p q r) ∙ ap (λ (c : Coordinates). turn n c q r) (scaled_alike p p' t) ∙ turn-scaled n t.second p' q r
 
 -- a plane has both or neither
-pub on_down : (n : Coefficients) (p q : Coordinates) → IsPointTimes p q → value n p ≡ pos 0 → value n q ≡ pos 0
-on_down n p q t e = zero_cancel t.by (value n q) t.above (sym (value-times n p q t) ∙ e)
+pub on_alike : (n : Coefficients) (p q : Coordinates) → AreOnePoint p q → value n p ≡ pos 0 → value n q ≡ pos 0
+on_alike n p q t e =
+    zero_cancel t.second (value n q) t.second_above
+    (sym (value-alike n p q t) ∙ ap (λ (v : ℤ). t.first *ℤ v) e ∙ *ℤ-zero t.first)
 
-pub on_up : (n : Coefficients) (p q : Coordinates) → IsPointTimes p q → value n q ≡ pos 0 → value n p ≡ pos 0
-on_up n p q t e = value-times n p q t ∙ ap (λ (v : ℤ). t.by *ℤ v) e ∙ *ℤ-zero t.by
-
-first_down : (n : Coefficients) (p p' q r : Coordinates) → IsPointTimes p p' → pos 0 <ℤ turn n p q r → pos 0 <ℤ turn n p' q r
-first_down n p p' q r t h =
-    pos_cancel t.by (turn n p' q r) t.above (subst (λ (v : ℤ). pos 0 <ℤ v) (ap (λ (c : Coordinates). turn n c q r) (point_is p p' t) ∙ turn-scaled n t.by p' q r) h)
-
-first_up : (n : Coefficients) (p p' q r : Coordinates) → IsPointTimes p p' → pos 0 <ℤ turn n p' q r → pos 0 <ℤ turn n p q r
-first_up n p p' q r t h =
-    subst (λ (v : ℤ). pos 0 <ℤ v) (sym (ap (λ (c : Coordinates). turn n c q r) (point_is p p' t) ∙ turn-scaled n t.by p' q r)) (pos_pos t.by (turn n p' q r) t.above h)
+-- a turn stays a left turn where its first point, the first two or all three are written by other numbers
+first_alike : (n : Coefficients) (p p' q r : Coordinates) → AreOnePoint p p' → pos 0 <ℤ turn n p q r → pos 0 <ℤ turn n p' q r
+first_alike n p p' q r t h =
+    pos_cancel t.second (turn n p' q r) t.second_above
+    (subst (λ (v : ℤ). pos 0 <ℤ v) (turn-alike n p p' q r t) (pos_pos t.first (turn n p q r) t.first_above h))
 
 round : (n : Coefficients) (p q r : Coordinates) → pos 0 <ℤ turn n p q r → pos 0 <ℤ turn n q r p
 round n p q r h = subst (λ (v : ℤ). pos 0 <ℤ v) (sym (turn_round n p q r)) h
 
--- a turn stays a left turn where the first two points, or all three, are written by other numbers
-pub two_down : (n : Coefficients) (p p' q q' r : Coordinates) → IsPointTimes p p' → IsPointTimes q q' → pos 0 <ℤ turn n p q r → pos 0 <ℤ turn n p' q' r
-two_down n p p' q q' r t u h =
-    round n r p' q' (round n q' r p' (first_down n q q' r p' u (round n p' q r (first_down n p p' q r t h))))
+pub two_alike : (n : Coefficients) (p p' q q' r : Coordinates) → AreOnePoint p p' → AreOnePoint q q' → pos 0 <ℤ turn n p q r → pos 0 <ℤ turn n p' q' r
+two_alike n p p' q q' r t u h =
+    round n r p' q' (round n q' r p' (first_alike n q q' r p' u (round n p' q r (first_alike n p p' q r t h))))
 
-pub two_up : (n : Coefficients) (p p' q q' r : Coordinates) → IsPointTimes p p' → IsPointTimes q q' → pos 0 <ℤ turn n p' q' r → pos 0 <ℤ turn n p q r
-two_up n p p' q q' r t u h =
-    round n r p q (round n q r p (first_up n q q' r p u (round n p q' r (first_up n p p' q' r t h))))
-
-pub three_down : (n : Coefficients) (p p' q q' r r' : Coordinates) → IsPointTimes p p' → IsPointTimes q q' → IsPointTimes r r' → pos 0 <ℤ turn n p q r → pos 0 <ℤ turn n p' q' r'
-three_down n p p' q q' r r' t u v h =
-    round n r' p' q' (first_down n r r' p' q' v (round n q' r p' (round n p' q' r (two_down n p p' q q' r t u h))))
+pub three_alike : (n : Coefficients) (p p' q q' r r' : Coordinates) → AreOnePoint p p' → AreOnePoint q q' → AreOnePoint r r' → pos 0 <ℤ turn n p q r → pos 0 <ℤ turn n p' q' r'
+three_alike n p p' q q' r r' t u v h =
+    round n r' p' q' (first_alike n r r' p' q' v (round n q' r p' (round n p' q' r (two_alike n p p' q q' r t u h))))
 
 product-opposite : (n : Coefficients) (p q : Coordinates) → product_with (opposite_of n) p q ≡ neg_ℤ (product_with n p q)
 product-opposite n p q =

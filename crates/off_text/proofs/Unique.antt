@@ -2,6 +2,7 @@
 use Rattle.std.proofs.Common.{◌≡◌, ℕ, zero, suc, ◌*◌, ◌<◌, List, [], ◌∷◌, refl, sym, ap, ap₂, ◌∙◌, arith, ℤ, pos, negsuc, ◌*ℤ◌, ◌-ℤ◌, ◌<ℤ◌, unsigned_abs}
 use Rattle.std.proofs.lemmas.Int.{unsigned_abs-mul}
 use Prim.Native.Nat.{◌∣◌}
+use Rattle.plane_predicate.specs.declared.unit.Unit.{Unit as LengthUnit}
 use Rattle.plane_predicate.specs.Space.{Coordinates, IsPointTimes, IsReduced}
 use Rattle.plane_predicate.proofs.IntegerRing.{sums}
 use Rattle.plane_predicate.proofs.Polynomials.{var, times, minus, ring}
@@ -9,8 +10,7 @@ use Rattle.plane_predicate.proofs.Opposites.{same_point}
 use Rattle.plane_predicate.proofs.Signs.{zero_cancel}
 use Rattle.plane_predicate.proofs.Coprime.{same_numbers}
 use Rattle.plane_polygon.specs.Polygons.{Outline, AreReducedFrom}
-use Rattle.plane_polygon.specs.Parts.{corners}
-use Rattle.off_text.specs.Texts.{AreCornersOf, IsTextOf, text_of}
+use Rattle.off_text.specs.Texts.{corners_in_units, AreCornersOf, IsTextOf, text_of}
 
 abbrev size_at : Coordinates → ℕ → ℕ
 size_at p zero = unsigned_abs p.x
@@ -64,14 +64,14 @@ one_list (p ∷ ps) [] rs h k = absurd h
 one_list (p ∷ ps) (q ∷ qs) [] h k = absurd k
 one_list (p ∷ ps) (q ∷ qs) (r ∷ rs) h k = ap₂ (λ (x : Coordinates) (l : List Coordinates). x ∷ l) (one_point p q r h.0 h.1 k.0 k.1) (one_list ps qs rs h.2 k.2)
 
-pub one_corners : (polygons : List Outline) (faces others : List (List Coordinates)) → AreCornersOf polygons faces → AreCornersOf polygons others → faces ≡ others
-one_corners [] [] [] h k = refl
-one_corners [] [] (o ∷ others) h k = absurd k
-one_corners [] (f ∷ faces) others h k = absurd h
-one_corners (s ∷ polygons) [] others h k = absurd h
-one_corners (s ∷ polygons) (f ∷ faces) [] h k = absurd k
-one_corners (s ∷ polygons) (f ∷ faces) (o ∷ others) h k =
-    ap₂ (λ (x : List Coordinates) (l : List (List Coordinates)). x ∷ l) (one_list (corners s) f o h.0 k.0) (one_corners polygons faces others h.1 k.1)
+pub one_corners : (unit : LengthUnit) (polygons : List Outline) (faces others : List (List Coordinates)) → AreCornersOf unit polygons faces → AreCornersOf unit polygons others → faces ≡ others
+one_corners unit [] [] [] h k = refl
+one_corners unit [] [] (o ∷ others) h k = absurd k
+one_corners unit [] (f ∷ faces) others h k = absurd h
+one_corners unit (s ∷ polygons) [] others h k = absurd h
+one_corners unit (s ∷ polygons) (f ∷ faces) [] h k = absurd k
+one_corners unit (s ∷ polygons) (f ∷ faces) (o ∷ others) h k =
+    ap₂ (λ (x : List Coordinates) (l : List (List Coordinates)). x ∷ l) (one_list (corners_in_units unit s) f o h.0 k.0) (one_corners unit polygons faces others h.1 k.1)
 
-pub one_text : (polygons : List Outline) (bytes others : List ℕ) → IsTextOf polygons bytes → IsTextOf polygons others → bytes ≡ others
-one_text polygons bytes others h k = h.spelled ∙ ap text_of (one_corners polygons h.faces k.faces h.corners k.corners) ∙ sym k.spelled
+pub one_text : (unit : LengthUnit) (polygons : List Outline) (bytes others : List ℕ) → IsTextOf unit polygons bytes → IsTextOf unit polygons others → bytes ≡ others
+one_text unit polygons bytes others h k = h.spelled ∙ ap text_of (one_corners unit polygons h.faces k.faces h.corners k.corners) ∙ sym k.spelled

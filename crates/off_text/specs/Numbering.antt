@@ -1,10 +1,35 @@
 -- How vertices are numbered, one after another.
-use Rattle.std.specs.Prelude.{◌≡◌, ℕ, List, [], ◌∷◌, map}
+use Rattle.std.specs.Prelude.{◌≡◌, ℕ, ◌^◌, ◌<◌, Bool, ℤ, pos, int_rem, unsigned_abs, List, [], ◌∷◌, map, All}
+use Rattle.std.specs.Ordering.{int_eq}
 use Rattle.indexmap.specs.IndexSet.{insert_key}
-use Rattle.plane_predicate.specs.Space.{Coordinates}
-use Rattle.plane_polygon.specs.Polygons.{Outline, AreReducedFrom}
-use Rattle.plane_polygon.specs.Parts.{corners as corners_of}
-use Rattle.off_text.specs.Texts.{same_point, from_least, number_among, AreCornersOf, vertices_of, faces_of}
+use Rattle.plane_predicate.specs.declared.unit.Unit.{Unit as LengthUnit}
+use Rattle.plane_predicate.specs.Space.{Coordinates, IsPointTimes, IsReduced}
+use Rattle.plane_predicate.specs.InUnits.{in_units}
+use Rattle.plane_polygon.specs.Polygons.{Outline, AreReducedFrom, IsPolygon}
+use Rattle.off_text.specs.Texts.{same_point, corners_in_units, from_least, number_among, AreCornersOf, vertices_of, faces_of}
+
+-- the numbers of a vertex of the program, which are written in decimal digits: each fits 128 bits with its sign changed
+pub record HasVertexSizes (p : Coordinates) : Type 0 where
+  pub x_size : unsigned_abs p.x < 2 ^ 127
+  pub y_size : unsigned_abs p.y < 2 ^ 127
+  pub z_size : unsigned_abs p.z < 2 ^ 127
+  pub w_size : unsigned_abs p.w < 2 ^ 127
+
+-- the number is even
+abbrev pub is_even : ℤ → Bool
+is_even x = int_eq (int_rem x (pos 2)) (pos 0)
+
+-- the vertex is a corner in units, without a common factor where the corner has none
+pub record IsVertexAt (unit : LengthUnit) (p v : Coordinates) : Type 0 where
+  pub times : IsPointTimes (in_units unit p) v
+  pub reduced : IsReduced p → IsReduced v
+
+-- so are the vertices, one after another
+abbrev pub AreVerticesAt : LengthUnit → List Coordinates → List Coordinates → Type 0
+AreVerticesAt unit [] [] = Unit {0}
+AreVerticesAt unit (p ∷ corners) (v ∷ vertices) = IsVertexAt unit p v × AreVerticesAt unit corners vertices
+AreVerticesAt unit [] (v ∷ vertices) = ⊥
+AreVerticesAt unit (p ∷ corners) [] = ⊥
 
 -- the vertices once these points are numbered too
 abbrev pub grown : List Coordinates → List Coordinates → List Coordinates
@@ -12,15 +37,17 @@ grown vertices [] = vertices
 grown vertices (p ∷ points) = grown (insert_key same_point vertices p) points
 
 -- a polygon's corners are numbered too, and these are their numbers
-pub record AddsFace (s : Outline) (old new : List Coordinates) (face : List ℕ) : Type 0 where
+pub record AddsFace (unit : LengthUnit) (s : Outline) (old new : List Coordinates) (face : List ℕ) : Type 0 where
+  pub polygon : IsPolygon s
   pub found : List Coordinates
-  pub corners : AreReducedFrom (corners_of s) found
+  pub corners : AreReducedFrom (corners_in_units unit s) found
   pub grows : new ≡ grown old (from_least found)
   pub numbers : face ≡ map (number_among new) (from_least found)
 
 -- the vertices and the faces of the text of these polygons
-pub record AreNumbered (polygons : List Outline) (vertices : List Coordinates) (faces : List (List ℕ)) : Type 0 where
+pub record AreNumbered (unit : LengthUnit) (polygons : List Outline) (vertices : List Coordinates) (faces : List (List ℕ)) : Type 0 where
+  pub all_polygons : All IsPolygon polygons
   pub found : List (List Coordinates)
-  pub corners : AreCornersOf polygons found
+  pub corners : AreCornersOf unit polygons found
   pub vertices_are : vertices ≡ vertices_of found
   pub faces_are : faces ≡ faces_of found

@@ -1,33 +1,35 @@
 -- Texts whose faces are polygons.
 use Rattle.std.specs.Prelude.{◌≡◌, ◌↔◌, ℕ, ◌<◌, List, [], ◌∷◌, length}
+use Rattle.plane_predicate.specs.declared.unit.Unit.{Unit as LengthUnit}
 use Rattle.plane_predicate.specs.Space.{Coefficients, Coordinates, IsPlane, IsPointTimes}
+use Rattle.plane_predicate.specs.InUnits.{in_steps, in_units}
 use Rattle.plane_polygon.specs.Polygons.{Outline, sides, corner as corner_of, IsStrictlyWithin}
 use Rattle.off_text.specs.Reading.{Reads}
 use Rattle.off_text.specs.Boundaries.{corner, Faces, Covers}
 
--- the point is a corner of the polygon, by numbers of its own
-pub record IsCornerOf (s : Outline) (p : Coordinates) : Type 0 where
+-- the point is a corner of the polygon in units, by numbers of its own
+pub record IsCornerOf (unit : LengthUnit) (s : Outline) (p : Coordinates) : Type 0 where
   pub place : ℕ
   pub within : place < sides s
-  pub times : IsPointTimes (corner_of s place) p
+  pub times : IsPointTimes (in_units unit (corner_of s place)) p
 
 -- the printed face is the polygon: its corners are the polygon's, it faces the polygon's plane, and it covers exactly the
 -- points strictly within the polygon, facing no other plane
-pub record IsFaceOf (vertices : List Coordinates) (s : Outline) (face : List ℕ) : Type 0 where
-  pub corners : (i : ℕ) → i < length face → IsCornerOf s (corner vertices face i)
-  pub facing : Faces vertices s.plane face
-  pub covering : (n : Coefficients) (p : Coordinates) → IsPlane s.plane → IsPlane n → Covers vertices n p face ↔ ((s.plane ≡ n) × IsStrictlyWithin s p)
+pub record IsFaceOf (unit : LengthUnit) (vertices : List Coordinates) (s : Outline) (face : List ℕ) : Type 0 where
+  pub corners : (i : ℕ) → i < length face → IsCornerOf unit s (corner vertices face i)
+  pub facing : Faces unit vertices s.plane face
+  pub covering : (n : Coefficients) (p : Coordinates) → IsPlane s.plane → IsPlane n → Covers unit vertices n p face ↔ ((s.plane ≡ n) × IsStrictlyWithin s (in_steps unit p))
 
 -- each printed face is the polygon at its place
-abbrev pub AreFacesOf : List Coordinates → List Outline → List (List ℕ) → Type 0
-AreFacesOf vertices [] [] = Unit {0}
-AreFacesOf vertices (s ∷ polygons) (face ∷ faces) = IsFaceOf vertices s face × AreFacesOf vertices polygons faces
-AreFacesOf vertices [] (face ∷ faces) = ⊥
-AreFacesOf vertices (s ∷ polygons) [] = ⊥
+abbrev pub AreFacesOf : LengthUnit → List Coordinates → List Outline → List (List ℕ) → Type 0
+AreFacesOf unit vertices [] [] = Unit {0}
+AreFacesOf unit vertices (s ∷ polygons) (face ∷ faces) = IsFaceOf unit vertices s face × AreFacesOf unit vertices polygons faces
+AreFacesOf unit vertices [] (face ∷ faces) = ⊥
+AreFacesOf unit vertices (s ∷ polygons) [] = ⊥
 
 -- the bytes are a 4OFF text whose faces are these polygons, one after another
-pub record Prints (polygons : List Outline) (bytes : List ℕ) : Type 0 where
+pub record Prints (unit : LengthUnit) (polygons : List Outline) (bytes : List ℕ) : Type 0 where
   pub vertices : List Coordinates
   pub faces : List (List ℕ)
   pub read : Reads bytes vertices faces
-  pub drawn : AreFacesOf vertices polygons faces
+  pub drawn : AreFacesOf unit vertices polygons faces

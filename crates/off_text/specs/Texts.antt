@@ -2,7 +2,9 @@
 use Rattle.std.specs.Prelude.{◌≡◌, ℕ, ◌+◌, Bool, not, ◌&&◌, ◌||◌, List, [], ◌∷◌, ◌++◌, map, flat_map, take, drop, filter, length, int_lt}
 use Rattle.std.specs.List.{list_any, position_or_len}
 use Rattle.std.specs.Ordering.{int_eq}
+use Rattle.plane_predicate.specs.declared.unit.Unit.{Unit as LengthUnit}
 use Rattle.plane_predicate.specs.Space.{Coordinates}
+use Rattle.plane_predicate.specs.InUnits.{in_units}
 use Rattle.plane_polygon.specs.Polygons.{Outline, sides, AreReducedFrom}
 use Rattle.plane_polygon.specs.Parts.{corners}
 use Rattle.off_text.specs.Reading.{off_text}
@@ -47,30 +49,42 @@ vertices_of faces = distinct (flat_map (λ corners. corners) (printed_corners fa
 abbrev pub faces_of : List (List Coordinates) → List (List ℕ)
 faces_of faces = map (map (number_among (vertices_of faces))) (printed_corners faces)
 
--- the text of faces that are given by their corners, reduced and counterclockwise seen from the side that they face
+-- the text of faces that are given by their corners in units, reduced and counterclockwise seen from the side that they face
 abbrev pub text_of : List (List Coordinates) → List ℕ
 text_of faces = off_text (vertices_of faces) (faces_of faces)
+
+-- the most corners of all faces of a text together
+abbrev pub most_corners : ℕ
+most_corners = 200000
+
+-- the most vertices of a text
+abbrev pub most_vertices : ℕ
+most_vertices = 60000
 
 -- how many corners polygons have together
 abbrev pub corner_count : List Outline → ℕ
 corner_count [] = 0
 corner_count (s ∷ polygons) = sides s + corner_count polygons
 
--- these are the reduced corners of these polygons
-abbrev pub AreCornersOf : List Outline → List (List Coordinates) → Type 0
-AreCornersOf [] [] = Unit {0}
-AreCornersOf (s ∷ polygons) (found ∷ faces) = AreReducedFrom (corners s) found × AreCornersOf polygons faces
-AreCornersOf [] (found ∷ faces) = ⊥
-AreCornersOf (s ∷ polygons) [] = ⊥
+-- the corners of a polygon in units
+abbrev pub corners_in_units : LengthUnit → Outline → List Coordinates
+corners_in_units unit s = map (in_units unit) (corners s)
+
+-- these are the corners of these polygons in units, reduced
+abbrev pub AreCornersOf : LengthUnit → List Outline → List (List Coordinates) → Type 0
+AreCornersOf unit [] [] = Unit {0}
+AreCornersOf unit (s ∷ polygons) (found ∷ faces) = AreReducedFrom (corners_in_units unit s) found × AreCornersOf unit polygons faces
+AreCornersOf unit [] (found ∷ faces) = ⊥
+AreCornersOf unit (s ∷ polygons) [] = ⊥
 
 -- the bytes are the text of these polygons
-pub record IsTextOf (polygons : List Outline) (bytes : List ℕ) : Type 0 where
+pub record IsTextOf (unit : LengthUnit) (polygons : List Outline) (bytes : List ℕ) : Type 0 where
   pub faces : List (List Coordinates)
-  pub corners : AreCornersOf polygons faces
+  pub corners : AreCornersOf unit polygons faces
   pub spelled : bytes ≡ text_of faces
 
 -- the polygons have a number of vertices with this property
-pub record HasVertices (P : ℕ → Type 0) (polygons : List Outline) : Type 0 where
+pub record HasVertices (unit : LengthUnit) (P : ℕ → Type 0) (polygons : List Outline) : Type 0 where
   pub faces : List (List Coordinates)
-  pub corners : AreCornersOf polygons faces
+  pub corners : AreCornersOf unit polygons faces
   pub count : P (length (vertices_of faces))

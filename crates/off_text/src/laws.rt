@@ -1,7 +1,9 @@
 //! Laws of texts, for the crates above. They are proved, and do nothing when they run.
 
 ghost use Rattle.std.specs.Prelude.{◌≡◌, ℕ, ◌+◌, ◌*◌, ◌^◌, ◌≤◌, Bool, List, length, All};
+ghost use Rattle.plane_predicate.specs.declared.unit.Unit.{Unit as LengthUnit};
 ghost use Rattle.plane_predicate.specs.Space.{Coefficients, Coordinates, IsInClosedWorld, IsPlane, IsPointTimes};
+ghost use Rattle.plane_predicate.specs.InUnits.{in_steps, in_units};
 ghost use Rattle.plane_polygon.specs.Polygons.{Outline};
 ghost use Rattle.csg_tree.specs.Formulas.{Formula, leaf, holds};
 ghost use Rattle.csg_tree.specs.FacePlanes.{IsOnOneFacePlane, just_ahead, just_behind};
@@ -22,23 +24,23 @@ pub fn one_reading()
         off_text vertices faces ≡ off_text vertices' faces' → (vertices ≡ vertices') × (faces ≡ faces') }
 {}
 
-/// Polygons have one list of reduced corners each, and one text.
+/// In each unit polygons have one list of reduced corners each, and one text.
 pub fn one_text()
-    ensures corners { (polygons : List Outline) (faces faces' : List (List Coordinates)) → AreCornersOf polygons faces → AreCornersOf polygons faces' → faces ≡ faces' }
-    ensures text { (polygons : List Outline) (bytes bytes' : List ℕ) → IsTextOf polygons bytes → IsTextOf polygons bytes' → bytes ≡ bytes' }
+    ensures corners { (unit : LengthUnit) (polygons : List Outline) (faces faces' : List (List Coordinates)) → AreCornersOf unit polygons faces → AreCornersOf unit polygons faces' → faces ≡ faces' }
+    ensures text { (unit : LengthUnit) (polygons : List Outline) (bytes bytes' : List ℕ) → IsTextOf unit polygons bytes → IsTextOf unit polygons bytes' → bytes ≡ bytes' }
 {}
 
 /// Printed faces cover a point as their facets do: where exactly one facet covers it facing a
 /// plane, exactly one face does, and where none does, none.
 pub fn faces_cover_as_facets()
-    ensures { (vertices : List Coordinates) (polygons : List Outline) (faces : List (List ℕ)) → AreFacesOf vertices polygons faces →
+    ensures { (unit : LengthUnit) (vertices : List Coordinates) (polygons : List Outline) (faces : List (List ℕ)) → AreFacesOf unit vertices polygons faces →
         All (λ s. IsPlane s.plane) polygons → (n : Coefficients) → IsPlane n → (p : Coordinates) → (b : Bool) →
-        HasOneWhere b (CoversFacing n p) polygons → OneExactlyWhere b (Covers vertices n p) faces }
+        HasOneWhere b (CoversFacing n (in_steps unit p)) polygons → OneExactlyWhere b (Covers unit vertices n p) faces }
 {}
 
 /// A corner that is in the closed world box is there by its printed numbers too.
 pub fn printed_corners_stay_in_the_world()
-    ensures { (p q : Coordinates) → IsPointTimes p q → IsInClosedWorld p → IsInClosedWorld q }
+    ensures { (unit : LengthUnit) (p q : Coordinates) → IsPointTimes (in_units unit p) q → IsInClosedWorld p → IsInClosedWorld (in_steps unit q) }
 {}
 
 /// The leaf beside a face plane: for a point on exactly one face plane of a proper tree, the leaf that
@@ -51,9 +53,9 @@ pub fn leaves_beside_face_planes()
         walk_by (solid_of f) (just_ahead n p) ≡ holds f (just_ahead n p) }
 {}
 
-/// The text of the facets of a proper tree's solid is the boundary of the tree.
+/// In each unit the text of the facets of a proper tree's solid is the boundary of the tree.
 pub fn texts_are_boundaries()
-    ensures { (f : Formula) (bytes : List ℕ) → IsProper f → Prints (facets_of (solid_of f)) bytes → IsBoundary bytes f }
+    ensures { (unit : LengthUnit) (f : Formula) (bytes : List ℕ) → IsProper f → Prints unit (facets_of (solid_of f)) bytes → IsBoundary unit bytes f }
 {}
 
 /// A leaf of n planes has a small solid, of at most n facets. A cut at most doubles the edges of a
@@ -67,5 +69,5 @@ pub fn leaves_stay_small()
 
 /// Polygons have at most as many vertices as corners.
 pub fn vertices_are_corners()
-    ensures { (polygons : List Outline) (faces : List (List Coordinates)) → AreCornersOf polygons faces → length (vertices_of faces) ≤ corner_count polygons }
+    ensures { (unit : LengthUnit) (polygons : List Outline) (faces : List (List Coordinates)) → AreCornersOf unit polygons faces → length (vertices_of faces) ≤ corner_count polygons }
 {}

@@ -3,7 +3,7 @@ ghost use Rattle.plane_predicate.specs.Space.{point_at, IsInReach, ComesInReach}
 use crate::{OffStop, off_bytes};
 use facet_cut::Facet;
 use plane_polygon::{Class, Polygon, box_polygon, cut, sort_by};
-use plane_predicate::{Plane, plane_through};
+use plane_predicate::{Plane, Unit, plane_through};
 use std::alloc::Global;
 use std::process::Abort;
 
@@ -91,7 +91,7 @@ fn box_planes(low: [i64; 3], high: [i64; 3]) -> [[[i64; 3]; 3]; 6] {
 fn text(rt: &impl Abort, alloc: Global, planes: &[[[i64; 3]; 3]]) -> Vec<u8> {
     let mut facets = Vec::new(alloc);
     add_faces(rt, alloc, &mut facets, planes, planes);
-    off_bytes(alloc, &facets).expect(rt, "within the limits")
+    off_bytes(alloc, &facets, Unit::Whole).expect(rt, "within the limits")
 }
 
 #[test]
@@ -147,13 +147,13 @@ fn writes_other_bodies(rt: HostRuntime) {
     );
     add_faces(&rt, alloc, &mut facets, &second, &second[1..]);
     assert_eq!(rt;
-        off_bytes(alloc, &facets)
+        off_bytes(alloc, &facets, Unit::Whole)
             .expect(&rt, "within the limits")
             .as_slice(),
         b"4OFF\n12 10 0\n0 0 0 1\n0 0 1 1\n0 1 1 1\n0 1 0 1\n1 0 0 1\n1 0 1 1\n1 1 1 1\n1 1 0 1\n2 0 0 1\n2 1 0 1\n2 1 1 1\n2 0 1 1\n4 0 1 2 3\n4 0 4 5 1\n4 3 2 6 7\n4 0 3 7 4\n4 1 5 6 2\n4 8 9 10 11\n4 4 8 11 5\n4 7 6 10 9\n4 4 7 9 8\n4 5 11 10 6\n".as_slice()
     );
     assert_eq!(rt;
-        off_bytes(alloc, &[])
+        off_bytes(alloc, &[], Unit::Whole)
             .expect(&rt, "within the limits")
             .as_slice(),
         b"4OFF\n0 0 0\n".as_slice()
@@ -181,14 +181,19 @@ fn counts_corners(rt: HostRuntime) {
     let alloc = rt.alloc();
     let mut facets = Vec::new(alloc);
     add_square(&rt, alloc, &mut facets, 0, 0, 50_000);
-    let text = off_bytes(alloc, &facets).expect(&rt, "within the limits");
+    let text = off_bytes(alloc, &facets, Unit::Whole).expect(&rt, "within the limits");
     assert!(rt;
         text.as_slice().starts_with(
             b"4OFF\n4 50000 0\n0 0 0 1\n0 1 0 1\n1 1 0 1\n1 0 0 1\n4 0 1 2 3\n4 0 1 2 3\n"
         )
     );
     add_square(&rt, alloc, &mut facets, 0, 0, 1);
-    assert!(rt; matches!(off_bytes(alloc, &facets), Err(OffStop::TooManyCorners)));
+    assert!(rt;
+        matches!(
+            off_bytes(alloc, &facets, Unit::Whole),
+            Err(OffStop::TooManyCorners)
+        )
+    );
 }
 
 // Adds 100 squares without a common corner, in a row.
@@ -205,12 +210,17 @@ fn counts_vertices(rt: HostRuntime) {
     for x in 0..150u16 {
         add_row(&rt, alloc, &mut facets, i64::from(x) * 2);
     }
-    let text = off_bytes(alloc, &facets).expect(&rt, "within the limits");
+    let text = off_bytes(alloc, &facets, Unit::Whole).expect(&rt, "within the limits");
     assert!(rt;
         text.as_slice().starts_with(
             b"4OFF\n60000 15000 0\n0 0 0 1\n0 1 0 1\n1 1 0 1\n1 0 0 1\n0 2 0 1\n"
         )
     );
     add_square(&rt, alloc, &mut facets, 1000, 1000, 1);
-    assert!(rt; matches!(off_bytes(alloc, &facets), Err(OffStop::TooManyVertices)));
+    assert!(rt;
+        matches!(
+            off_bytes(alloc, &facets, Unit::Whole),
+            Err(OffStop::TooManyVertices)
+        )
+    );
 }

@@ -1,19 +1,20 @@
 -- A tree has one answer, and an answer is a solid, a limit or a fault.
 use Rattle.std.proofs.Common.{◌≡◌, ◌≢◌, inl, inr, ◌<◌, ◌≤◌, List, length, sym, ap, ◌∙◌, subst, arith}
+use Rattle.plane_predicate.specs.declared.unit.Unit.TheVariants.{Whole}
 use Rattle.plane_polygon.specs.Polygons.{Outline}
 use Rattle.csg_tree.specs.Formulas.{Formula}
 use Rattle.bsp_tree.specs.Trees.{Tree}
 use Rattle.bsp_boolean.specs.Solids.{solid_of}
 use Rattle.facet_cut.specs.Facets.{facets_of}
-use Rattle.off_text.specs.Texts.{vertices_of, HasVertices}
+use Rattle.off_text.specs.Texts.{most_vertices, vertices_of, HasVertices}
 use Rattle.off_text.proofs.Unique.{one_corners, one_text}
 use Rattle.edit_session.specs.declared.fault.SessionFault.{SessionFault}
 use Rattle.reply_text.specs.declared.reply.Reply.{Reply}
 use Rattle.reply_text.specs.declared.reply.Reply.TheVariants as reply
 use Rattle.script_server.specs.Meaning.Solids.{IsWritten, IsCut, IsBuilt, IsAnswerTo}
 
-one_count : (facets : List Outline) → HasVertices (λ n. 60000 < n) facets → HasVertices (λ n. n ≤ 60000) facets → ⊥
-one_count facets h k = omega (arith, h.count, k.count, ap (λ faces. length (vertices_of faces)) (one_corners facets h.faces k.faces h.corners k.corners))
+one_count : (facets : List Outline) → HasVertices Whole (λ n. most_vertices < n) facets → HasVertices Whole (λ n. n ≤ most_vertices) facets → ⊥
+one_count facets h k = omega (arith, h.count, k.count, ap (λ faces. length (vertices_of faces)) (one_corners Whole facets h.faces k.faces h.corners k.corners))
 
 one_written : (facets : List Outline) (r q : Reply) → IsWritten facets r → IsWritten facets q → r ≡ q
 one_written facets r q (inl a) (inl b) = a.1 ∙ sym b.1
@@ -22,7 +23,7 @@ one_written facets r q (inr a) (inl b) = absurd (omega (arith, a.0, b.0))
 one_written facets r q (inr (few, inl a)) (inr (few', inl b)) = a.1 ∙ sym b.1
 one_written facets r q (inr (few, inl a)) (inr (few', inr b)) = absurd (one_count facets a.0 b.0)
 one_written facets r q (inr (few, inr a)) (inr (few', inl b)) = absurd (one_count facets b.0 a.0)
-one_written facets r q (inr (few, inr a)) (inr (few', inr b)) = a.1.2 ∙ ap reply.Solid (one_text facets a.1.0 b.1.0 a.1.1 b.1.1) ∙ sym b.1.2
+one_written facets r q (inr (few, inr a)) (inr (few', inr b)) = a.1.2 ∙ ap reply.Solid (one_text Whole facets a.1.0 b.1.0 a.1.1 b.1.1) ∙ sym b.1.2
 
 one_cut : (facets : List Outline) (r q : Reply) → IsCut facets r → IsCut facets q → r ≡ q
 one_cut facets r q (inl a) (inl b) = a.1 ∙ sym b.1

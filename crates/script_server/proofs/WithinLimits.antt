@@ -1,10 +1,11 @@
 -- A box passes no limit.
 use Rattle.std.proofs.Common.{inl, inr, ◌<◌, ◌≤◌, length, arith}
+use Rattle.plane_predicate.specs.declared.unit.Unit.TheVariants.{Whole}
 use Rattle.csg_tree.specs.Formulas.{leaf}
 use Rattle.bsp_tree.specs.Trees.{size}
 use Rattle.bsp_boolean.specs.Solids.{convex}
 use Rattle.facet_cut.specs.Facets.{facets_of}
-use Rattle.off_text.specs.Texts.{corner_count, HasVertices}
+use Rattle.off_text.specs.Texts.{corner_count, most_vertices, HasVertices}
 use Rattle.off_text.proofs.Bounds.Sizes.{leaf_size, leaf_facets, leaf_corners}
 use Rattle.off_text.proofs.Bounds.Vertices.{few_vertices}
 use Rattle.reply_text.specs.declared.reply.Reply.{Reply}
@@ -22,9 +23,9 @@ few_facets s = leaf_facets (box_planes s)
 few_corners : (s : Sides) → corner_count (facets_of (convex (box_planes s))) ≤ 6144
 few_corners s = leaf_corners (box_planes s)
 
-not_too_many : (s : Sides) → HasVertices (λ n. 60000 < n) (facets_of (convex (box_planes s))) → ⊥
+not_too_many : (s : Sides) → HasVertices Whole (λ n. most_vertices < n) (facets_of (convex (box_planes s))) → ⊥
 not_too_many s h =
-    omega (arith, h.count, few_vertices (facets_of (convex (box_planes s))) h.faces h.corners, few_corners s)
+    omega (arith, h.count, few_vertices Whole (facets_of (convex (box_planes s))) h.faces h.corners, few_corners s)
 
 pub box_text : (s : Sides) (r : Reply) → IsAnswerTo (leaf (box_planes s)) r → HasText (leaf (box_planes s)) r
 box_text s r (inl large) = absurd (omega (arith, large.0, small_size s))
@@ -47,7 +48,7 @@ text_answer s r text =
             record {
               faces = text.1.faces;
               corners = text.1.corners;
-              count = omega (arith, few_vertices facets text.1.faces text.1.corners, few_corners s);
+              count = omega (arith, few_vertices Whole facets text.1.faces text.1.corners, few_corners s);
             },
             text,
           ),

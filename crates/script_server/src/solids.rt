@@ -13,7 +13,7 @@ use bsp_boolean::{BuildStop, leaf_solid};
 use bsp_tree::Solid;
 use facet_cut::{CutStop, Facet, facets};
 use off_text::{OffStop, off_bytes};
-use plane_predicate::Plane;
+use plane_predicate::{Plane, Unit};
 use reply_text::{Complex, Reply};
 use std::alloc::Global;
 use text_place::{Bytes, NoMemory};
@@ -29,7 +29,7 @@ fn written(alloc: Global, facets: &[Facet]) -> Result<Reply, NoMemory>
     ensures answer { IfOk result (IsWritten facets.now) }
     ensures bounds { (f : Formula) → IsProper f → facets.now ≡ facets_of (solid_of f) → IfOk result (Bounds f) }
 {
-    match off_bytes(alloc, facets) {
+    match off_bytes(alloc, facets, Unit::Whole) {
         Ok(bytes) => Ok(Reply::Solid(Bytes::of(bytes))),
         Err(OffStop::TooManyCorners) => Ok(Reply::Complex(Complex::Corners)),
         Err(OffStop::TooManyVertices) => Ok(Reply::Complex(Complex::Vertices)),

@@ -6,7 +6,7 @@ use bsp_tree::Solid;
 use csg_tree::Op;
 use facet_cut::{CutStop, facets};
 use off_text::off_bytes;
-use plane_predicate::{Plane, plane_through};
+use plane_predicate::{Plane, Unit, plane_through};
 use std::alloc::Global;
 use std::process::Abort;
 
@@ -126,7 +126,7 @@ fn cuboid(rt: &impl Abort, alloc: Global, low: [i64; 3], high: [i64; 3]) -> Soli
 
 fn text(rt: &impl Abort, alloc: Global, solid: &Solid) -> Vec<u8> {
     let found = facets(alloc, solid, 20_000).expect(rt, "facets");
-    off_bytes(alloc, &found).expect(rt, "a text")
+    off_bytes(alloc, &found, Unit::Whole).expect(rt, "a text")
 }
 
 // The text of two solids joined.
@@ -194,7 +194,7 @@ fn booleans_have_their_texts(rt: HostRuntime) {
 fn flush_faces_leave_no_trace(rt: HostRuntime) {
     let alloc = rt.alloc();
     let large = cuboid(&rt, alloc, [0, 0, 0], [2, 2, 2]);
-    let top = cuboid(&rt, alloc, [0, 0, 1], [2, 2, 3]);
+    let top = cuboid(&rt, alloc, [0, 0, 1], [2, 2, 2]);
     let low = cuboid(&rt, alloc, [0, 0, 0], [2, 2, 1]);
     assert_eq!(rt;
         joined(&rt, alloc, Op::Difference, &large, &top).as_slice(),

@@ -1,6 +1,7 @@
 -- Polygons have no more vertices than corners.
 use Rattle.std.proofs.Common.{◌≡◌, ◌≤◌, Bool, true, false, cond, not, List, [], ◌∷◌, flat_map, filter, take, drop, length, refl, ap, arith}
 use Rattle.std.proofs.lemmas.List.{length-append, take-append-drop}
+use Rattle.plane_predicate.specs.declared.unit.Unit.{Unit as LengthUnit}
 use Rattle.plane_predicate.specs.Space.{Coordinates}
 use Rattle.plane_polygon.specs.Polygons.{Outline}
 use Rattle.off_text.specs.Texts.{same_point, place_of_least, from_least, distinct, printed_corners, vertices_of, corner_count, AreCornersOf}
@@ -27,17 +28,17 @@ turned_length points =
     let whole = length-append (take n points) (drop n points) in
     omega (arith, turned, whole, ap length (take-append-drop n points))
 
-printed_length : (polygons : List Outline) (faces : List (List Coordinates)) → AreCornersOf polygons faces →
+printed_length : (unit : LengthUnit) (polygons : List Outline) (faces : List (List Coordinates)) → AreCornersOf unit polygons faces →
     length (flat_map (λ corners. corners) (printed_corners faces)) ≡ corner_count polygons
-printed_length [] [] h = refl
-printed_length [] (found ∷ faces) h = absurd h
-printed_length (s ∷ polygons) [] h = absurd h
-printed_length (s ∷ polygons) (found ∷ faces) h =
+printed_length unit [] [] h = refl
+printed_length unit [] (found ∷ faces) h = absurd h
+printed_length unit (s ∷ polygons) [] h = absurd h
+printed_length unit (s ∷ polygons) (found ∷ faces) h =
     let both = length-append (from_least found) (flat_map (λ corners. corners) (printed_corners faces)) in
-    omega (arith, both, turned_length found, found-length s found h.0, printed_length polygons faces h.1)
+    omega (arith, both, turned_length found, found-length unit s found h.0, printed_length unit polygons faces h.1)
 
-pub few_vertices : (polygons : List Outline) (faces : List (List Coordinates)) → AreCornersOf polygons faces →
+pub few_vertices : (unit : LengthUnit) (polygons : List Outline) (faces : List (List Coordinates)) → AreCornersOf unit polygons faces →
     length (vertices_of faces) ≤ corner_count polygons
-few_vertices polygons faces h =
+few_vertices unit polygons faces h =
     let once = distinct_length (flat_map (λ corners. corners) (printed_corners faces)) in
-    omega (arith, once, printed_length polygons faces h)
+    omega (arith, once, printed_length unit polygons faces h)

@@ -8,6 +8,7 @@ use Rattle.edit_session.specs.Sessions.{State, source_of}
 use Rattle.reply_text.specs.declared.reply.Reply.{Reply}
 use Rattle.reply_text.specs.declared.reply.Reply.TheVariants as reply
 use Rattle.reply_text.specs.Answers.{state_after}
+use Rattle.plane_predicate.specs.declared.unit.Unit.TheVariants.{Whole}
 use Rattle.csg_tree.specs.Formulas.{Formula, leaf}
 use Rattle.off_text.specs.Bounding.{IsBoundary}
 use Rattle.script_server.specs.Meaning.Sources.{Writes, HasFault}
@@ -33,7 +34,7 @@ Exports source r =
 
 -- a solid's bytes are the boundary of what the source means
 abbrev pub IsBounded : List ℕ → Reply → Type 0
-IsBounded source (reply.Solid bytes) = (f : Formula) × Means source f × IsBoundary bytes f
+IsBounded source (reply.Solid bytes) = (f : Formula) × Means source f × IsBoundary Whole bytes f
 IsBounded source _ = Unit {0}
 
 -- each solid is the boundary of what the client's source meant at that command
