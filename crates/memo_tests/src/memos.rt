@@ -1,7 +1,8 @@
 ghost use Rattle.std.specs.Prelude.{◌≡◌, ℕ, ◌/◌, ◌%◌, ◌∷◌, nat_eq, replicate};
 ghost use Rattle.std.proofs.Common.{rules};
 
-use super::{Did, Fill, Fit, MemoCore, NAME_BYTES, Name, Namer, Probe};
+use crate::alike::Alike;
+use memo_core::{Did, Fill, Fit, MemoCore, NAME_BYTES, Name, Namer, Probe};
 use std::alloc::Global;
 use std::process::Abort;
 use std::sync::Arc;
@@ -36,18 +37,6 @@ impl Fit for Pieces {
     ghost same_is = { Prim.search rules };
 
     ghost same_refl = { Prim.search rules };
-}
-
-// Names all keys alike.
-#[derive(Drop)]
-struct Alike;
-
-impl Namer<u32> for Alike {
-    ghost name_of = { λ key. replicate 32 0 };
-
-    fn name(&self, key: &u32) -> Name {
-        [0; NAME_BYTES]
-    }
 }
 
 // Names a key by its last bit.
@@ -125,7 +114,7 @@ fn check<N: Namer<u32>>(
         let Some(item) = core.journal().last() else {
             return Err(Fail::from(NoMemory));
         };
-        assert_eq!(rt; item.did, *did, "at key {}", *item.key);
+        assert!(rt; item.did == *did, "at key {}", *item.key);
         assert_eq!(rt; item.caller, 7);
     }
     assert_eq!(rt; core.weight(), weight);
@@ -244,7 +233,7 @@ fn a_held_key_keeps_its_value(rt: HostRuntime) -> Result<(), Fail> {
     for weight in [4, 6] {
         core.room(alloc)?;
         let answer = core.fill(alloc, 0, &key, Arc::new(alloc, Piece { weight })?, weight);
-        assert_eq!(rt; answer, Fill::Kept);
+        assert!(rt; matches!(answer, Fill::Kept));
     }
     core.room(alloc)?;
     let Probe::Hit(piece) = core.probe(0, &key)? else {

@@ -1,9 +1,10 @@
-ghost use Rattle.std.specs.Prelude.{◌≡◌, ◌*◌, length, true, nat_eq, nat_lt, replicate, if◌then◌else◌};
+ghost use Rattle.std.specs.Prelude.{◌≡◌, ◌*◌, length, true, nat_eq, nat_lt, if◌then◌else◌};
 ghost use Rattle.std.specs.Arc.{arc_value};
 ghost use Rattle.std.proofs.Common.{rules};
 
-use super::{Act, Event, Stepped, Work, World, run};
-use memo_core::{Did, Fit, NAME_BYTES, Name, Namer};
+use crate::alike::Alike;
+use memo_core::{Did, Fit};
+use share_core::{Act, Event, Stepped, Work, World, run};
 use std::alloc::Global;
 use std::process::Abort;
 use std::sync::Arc;
@@ -32,18 +33,6 @@ impl Fit for Fives {
     ghost same_is = { Prim.search rules };
 
     ghost same_refl = { Prim.search rules };
-}
-
-// Names all keys alike.
-#[derive(Drop)]
-struct Alike;
-
-impl Namer<u32> for Alike {
-    ghost name_of = { λ key. replicate 32 0 };
-
-    fn name(&self, key: &u32) -> Name {
-        [0; NAME_BYTES]
-    }
 }
 
 // Two clients of one command, which has one node; all nodes have one key.
@@ -119,7 +108,7 @@ fn compare(rt: &impl Abort, world: &World<Fives, Alike, Pair>, journal: &[Noted]
     assert_eq!(rt; world.journal().len(), journal.len());
     for (item, (caller, did)) in world.journal().iter().zip(journal) {
         assert_eq!(rt; item.caller, *caller);
-        assert_eq!(rt; item.did, *did);
+        assert!(rt; item.did == *did);
     }
 }
 
@@ -137,7 +126,8 @@ fn check(rt: &impl Abort, alloc: Global, rows: &[Row], journal: &[Noted]) -> Res
             act: *act,
         };
         events.push(event)?;
-        assert_eq!(rt; world.step(alloc, event)?, *stepped, "at {event:?}");
+        let answer = world.step(alloc, event)?;
+        assert!(rt; answer == *stepped, "at event {}", events.len());
     }
     compare(rt, &world, journal);
     let world = run(alloc, Fives, Alike, Pair { key }, 2, 10, events.as_slice())?;
