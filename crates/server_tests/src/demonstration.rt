@@ -1,4 +1,4 @@
-use super::*;
+use big_input::make_script;
 use std::test::Fail;
 
 // The script of one part a client.

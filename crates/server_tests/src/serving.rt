@@ -1,7 +1,7 @@
 ghost use Rattle.std.specs.Prelude.{◌<◌};
 
-use super::*;
 use outside_io::{MemorySink, MemorySource};
+use script_server::{Status, serve};
 use std::alloc::Global;
 use std::sync::Wait;
 use std::test::Fail;
@@ -78,7 +78,7 @@ fn scripts_are_answered(rt: HostRuntime) -> Result<(), Fail> {
         ),
     ] {
         let (ended, held) = check(&rt, rt.alloc(), &["run"], script, (0, 0), 1000)?;
-        assert_eq!(rt; ended, status, "at {script:?}");
+        assert!(rt; ended == status, "at {script:?}");
         assert_eq!(rt; held.as_slice(), output.as_bytes(), "at {script:?}");
     }
     Ok(())
@@ -150,7 +150,7 @@ fn other_sources_are_told_their_fault(rt: HostRuntime) -> Result<(), Fail> {
 fn other_words_are_told_the_usage(rt: HostRuntime) -> Result<(), Fail> {
     for words in [["run", "x"].as_slice(), &[], &["Run"], &["run "], &["demo"]] {
         let (ended, held) = check(&rt, rt.alloc(), words, "a export\n", (1, 0), 1000)?;
-        assert_eq!(rt; ended, Status::BadWords);
+        assert!(rt; ended == Status::BadWords);
         assert_eq!(rt; held.as_slice(), USAGE_LINE.as_bytes());
     }
     Ok(())
@@ -159,10 +159,10 @@ fn other_words_are_told_the_usage(rt: HostRuntime) -> Result<(), Fail> {
 #[test]
 fn the_outside_may_fail(rt: HostRuntime) -> Result<(), Fail> {
     let (ended, held) = check(&rt, rt.alloc(), &["run"], "a export\n", (2, 0), 4)?;
-    assert_eq!(rt; ended, Status::ReadFault);
+    assert!(rt; ended == Status::ReadFault);
     assert_eq!(rt; held.as_slice(), b"".as_slice());
     let (ended, held) = check(&rt, rt.alloc(), &["run"], "a export\n", (0, 2), 5)?;
-    assert_eq!(rt; ended, Status::WriteFault);
+    assert!(rt; ended == Status::WriteFault);
     assert_eq!(rt; held.as_slice(), b"scrip".as_slice());
     Ok(())
 }
@@ -181,7 +181,7 @@ fn lines_and_scripts_have_a_length(rt: HostRuntime) -> Result<(), Fail> {
         }
         script.push_str("\na export\n")?;
         let (ended, _) = check(&rt, rt.alloc(), &["run"], script.as_str(), (0, 0), 4096)?;
-        assert_eq!(rt; ended, status, "at {text}");
+        assert!(rt; ended == status, "at {text}");
     }
     Ok(())
 }

@@ -1,5 +1,5 @@
-use super::*;
 use edit_session::SessionFault;
+use reply_text::{Complex, Reply, push_reply};
 use std::alloc::{AllocError, Global};
 use std::test::Fail;
 use text_place::{Bytes, Fault, FaultKind, Lines, Place};

@@ -1,4 +1,4 @@
-use super::*;
+use script_reader::{Command, Script, ScriptFault, read_script};
 use std::alloc::Global;
 use std::test::Fail;
 use text_place::{NoMemory, push_decimal};
