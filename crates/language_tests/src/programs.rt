@@ -1,40 +1,16 @@
+use crate::reading::{put_stop, read};
 use crate::show::show_statements;
 use scad_lexer::lex;
 use scad_parser::parse;
 use std::alloc::Global;
+use std::process::Abort;
 use std::test::Fail;
-use text_place::{Fault, Stop, push_decimal, word};
-
-fn put_fault(alloc: Global, out: &mut Vec<u8>, fault: Fault) -> Result<(), Fail> {
-    push_decimal(alloc, out, i128::from(fault.place.line))?;
-    out.push(b':')?;
-    push_decimal(alloc, out, i128::from(fault.place.column))?;
-    out.push(b' ')?;
-    out.extend_from_slice(word(fault.kind).as_bytes())?;
-    Ok(())
-}
-
-fn put_stop(alloc: Global, out: &mut Vec<u8>, stop: Stop) -> Result<(), Fail> {
-    match stop {
-        Stop::Fault(fault) => put_fault(alloc, out, fault),
-        Stop::NoMemory => {
-            out.extend_from_slice(b"no memory")?;
-            Ok(())
-        }
-    }
-}
 
 // The program or the first fault of a source, in words.
 fn told(alloc: Global, source: &[u8]) -> Result<Vec<u8>, Fail> {
     let mut out = Vec::new(alloc);
-    if source.len() > 100_000 {
-        return Ok(out);
-    }
-    match lex(alloc, source) {
-        Ok(tokens) => match parse(alloc, &tokens) {
-            Ok(program) => show_statements(alloc, &mut out, &program.statements)?,
-            Err(stop) => put_stop(alloc, &mut out, stop)?,
-        },
+    match read(alloc, source) {
+        Ok(program) => show_statements(alloc, &mut out, &program.statements)?,
         Err(stop) => put_stop(alloc, &mut out, stop)?,
     }
     Ok(out)
@@ -48,6 +24,23 @@ fn judged(alloc: Global, source: &[u8]) -> Result<Vec<u8>, Fail> {
         out.extend_from_slice(b"ok")?;
     }
     Ok(out)
+}
+
+// A source and what is told of it.
+type Row<'a> = (&'a [u8], &'a [u8]);
+
+fn are_told(rt: &impl Abort, alloc: Global, rows: &[Row]) -> Result<(), Fail> {
+    for (source, wanted) in rows {
+        assert_eq!(rt; told(alloc, source)?.as_slice(), *wanted, "at {source:?}");
+    }
+    Ok(())
+}
+
+fn are_judged(rt: &impl Abort, alloc: Global, rows: &[Row]) -> Result<(), Fail> {
+    for (source, wanted) in rows {
+        assert_eq!(rt; judged(alloc, source)?.as_slice(), *wanted, "at {source:?}");
+    }
+    Ok(())
 }
 
 // The same with the tokens of another source behind the end.
@@ -96,137 +89,137 @@ fn push_wrapped(
 
 #[test]
 fn reads_small_programs(rt: HostRuntime) -> Result<(), Fail> {
-    let cases: [(&[u8], &[u8]); 32] = [
-        (b"\n", b"{}"),
-        (
-            b"cube( [1, 2, 3] ) ; // box\n",
-            b"{<@1 cube@1 ((list@7 1@8 2@11 3@14 ));@19 >}",
-        ),
-        (
-            b"cube([1.0,2,3]);\n",
-            b"{<@1 cube@1 ((list@6 1@7 2@11 3@13 ));@16 >}",
-        ),
-        (b"cube(2);\n", b"{<@1 cube@1 (2@6 );@8 >}"),
-        (b"x=1-2-3;\n", b"{set x@1 (chain@3 1@3 -@4 2@5 -@6 3@7 )}"),
-        (
-            b"x=1+2*3;\n",
-            b"{set x@1 (chain@3 1@3 +@4 (chain@5 2@5 *@6 3@7 ))}",
-        ),
-        (b"x=1%2/3;\n", b"{set x@1 (chain@3 1@3 %@4 2@5 /@6 3@7 )}"),
-        (
-            b"x=a||b&&c==d<e+f*g;\n",
-            b"{set x@1 (chain@3 a@3 ||@4 (chain@6 b@6 &&@7 (chain@9 c@9 ==@10 (chain@12 d@12 <@13 (chain@14 e@14 +@15 (chain@16 f@16 *@17 g@18 ))))))}",
-        ),
-        (
-            b"x=a!=b;y=c<=d;z=e>f>=g;\n",
-            b"{set x@1 (chain@3 a@3 !=@4 b@6 )set y@8 (chain@10 c@10 <=@11 d@13 )set z@15 (chain@17 e@17 >@18 f@19 >=@20 g@22 )}",
-        ),
-        (b"x=-!+1;\n", b"{set x@1 (neg@3 (not@4 (keep@5 1@6 )))}"),
-        (
-            b"x=-a.x[1];\n",
-            b"{set x@1 (neg@3 (postfix@4 a@4 .@5 x@6 []@7 1@8 ))}",
-        ),
-        (
-            b"x=1?2:3?4:5;\n",
-            b"{set x@1 (choice@3 1@3 ?@4 2@5 (choice@7 3@7 ?@8 4@9 5@11 ))}",
-        ),
-        (b"x=[];\n", b"{set x@1 (list@3 )}"),
-        (b"x=[1:2];\n", b"{set x@1 (range@3 1@4 2@6 )}"),
-        (b"x=[1:2:3];\n", b"{set x@1 (range@3 1@4 2@6 3@8 )}"),
-        (b"x=(1);\n", b"{set x@1 (paren@3 1@4 )}"),
-        (b"x=f();\n", b"{set x@1 (call f@3 )}"),
-        (b"x=f(a=1,2);\n", b"{set x@1 (call f@3 a@5 = 1@7 2@9 )}"),
-        (
-            b"x=f(a,a==1);\n",
-            b"{set x@1 (call f@3 a@5 (chain@7 a@7 ==@8 1@10 ))}",
-        ),
-        (
-            b"x=true;y=false;z=undef;\n",
-            b"{set x@1 true@3 set y@8 false@10 set z@16 undef@18 }",
-        ),
-        (b"x=\"ab\";\n", b"{set x@1 'ab@3 }"),
-        (b"x=$children;\n", b"{set x@1 $children@3 }"),
-        (b";{;}\n", b"{;@1 block@2 {;@3 }}"),
-        (b"*%#!m();\n", b"{<@1 *@1 %@2 #@3 !@4 m@5 ();@8 >}"),
-        (
-            b"module m(a,b=1)n();\n",
-            b"{module@1 m@8 [a@10 b@12 = 1@14 ]<@16 n@16 ();@19 >}",
-        ),
-        (b"function f(a)=a;\n", b"{function@1 f@10 [a@12 ]a@15 }"),
-        (
-            b"for(i=[1:2],j=k)m();\n",
-            b"{<@1 for@1 i@5 = (range@7 1@8 2@10 )j@13 = k@15 <@17 m@17 ();@20 >>}",
-        ),
-        (
-            b"intersection_for(i=1);\n",
-            b"{<@1 intersection_for@1 i@18 = 1@20 ;@22 >}",
-        ),
-        (b"m(){n();}\n", b"{<@1 m@1 ()body@4 {<@5 n@5 ();@8 >}>}"),
-        (b"m()n()\n;\n", b"{<@1 m@1 ()<@4 n@4 ();@1 >>}"),
-        (b"f(x)[1];\n", b"1:5 Expected"),
-        (
-            b"x=f(1)[2].y;\n",
-            b"{set x@1 (postfix@3 (call f@3 1@5 )[]@7 2@8 .@10 y@11 )}",
-        ),
-    ];
-    for (source, program) in cases {
-        assert_eq!(rt; told(rt.alloc(), source)?.as_slice(), program);
-    }
-    Ok(())
+    are_told(
+        &rt,
+        rt.alloc(),
+        &[
+            (b"\n", b"{}"),
+            (
+                b"cube( [1, 2, 3] ) ; // box\n",
+                b"{<@1 cube@1 ((list@7 1@8 2@11 3@14 ));@19 >}",
+            ),
+            (
+                b"cube([1.0,2,3]);\n",
+                b"{<@1 cube@1 ((list@6 1@7 2@11 3@13 ));@16 >}",
+            ),
+            (b"cube(2);\n", b"{<@1 cube@1 (2@6 );@8 >}"),
+            (b"x=1-2-3;\n", b"{set x@1 (chain@3 1@3 -@4 2@5 -@6 3@7 )}"),
+            (
+                b"x=1+2*3;\n",
+                b"{set x@1 (chain@3 1@3 +@4 (chain@5 2@5 *@6 3@7 ))}",
+            ),
+            (b"x=1%2/3;\n", b"{set x@1 (chain@3 1@3 %@4 2@5 /@6 3@7 )}"),
+            (
+                b"x=a||b&&c==d<e+f*g;\n",
+                b"{set x@1 (chain@3 a@3 ||@4 (chain@6 b@6 &&@7 (chain@9 c@9 ==@10 (chain@12 d@12 <@13 (chain@14 e@14 +@15 (chain@16 f@16 *@17 g@18 ))))))}",
+            ),
+            (
+                b"x=a!=b;y=c<=d;z=e>f>=g;\n",
+                b"{set x@1 (chain@3 a@3 !=@4 b@6 )set y@8 (chain@10 c@10 <=@11 d@13 )set z@15 (chain@17 e@17 >@18 f@19 >=@20 g@22 )}",
+            ),
+            (b"x=-!+1;\n", b"{set x@1 (neg@3 (not@4 (keep@5 1@6 )))}"),
+            (
+                b"x=-a.x[1];\n",
+                b"{set x@1 (neg@3 (postfix@4 a@4 .@5 x@6 []@7 1@8 ))}",
+            ),
+            (
+                b"x=1?2:3?4:5;\n",
+                b"{set x@1 (choice@3 1@3 ?@4 2@5 (choice@7 3@7 ?@8 4@9 5@11 ))}",
+            ),
+            (b"x=[];\n", b"{set x@1 (list@3 )}"),
+            (b"x=[1:2];\n", b"{set x@1 (range@3 1@4 2@6 )}"),
+            (b"x=[1:2:3];\n", b"{set x@1 (range@3 1@4 2@6 3@8 )}"),
+            (b"x=(1);\n", b"{set x@1 (paren@3 1@4 )}"),
+            (b"x=f();\n", b"{set x@1 (call f@3 )}"),
+            (b"x=f(a=1,2);\n", b"{set x@1 (call f@3 a@5 = 1@7 2@9 )}"),
+            (
+                b"x=f(a,a==1);\n",
+                b"{set x@1 (call f@3 a@5 (chain@7 a@7 ==@8 1@10 ))}",
+            ),
+            (
+                b"x=true;y=false;z=undef;\n",
+                b"{set x@1 true@3 set y@8 false@10 set z@16 undef@18 }",
+            ),
+            (b"x=\"ab\";\n", b"{set x@1 'ab@3 }"),
+            (b"x=$children;\n", b"{set x@1 $children@3 }"),
+            (b";{;}\n", b"{;@1 block@2 {;@3 }}"),
+            (b"*%#!m();\n", b"{<@1 *@1 %@2 #@3 !@4 m@5 ();@8 >}"),
+            (
+                b"module m(a,b=1)n();\n",
+                b"{module@1 m@8 [a@10 b@12 = 1@14 ]<@16 n@16 ();@19 >}",
+            ),
+            (b"function f(a)=a;\n", b"{function@1 f@10 [a@12 ]a@15 }"),
+            (
+                b"for(i=[1:2],j=k)m();\n",
+                b"{<@1 for@1 i@5 = (range@7 1@8 2@10 )j@13 = k@15 <@17 m@17 ();@20 >>}",
+            ),
+            (
+                b"intersection_for(i=1);\n",
+                b"{<@1 intersection_for@1 i@18 = 1@20 ;@22 >}",
+            ),
+            (b"m(){n();}\n", b"{<@1 m@1 ()body@4 {<@5 n@5 ();@8 >}>}"),
+            (b"m()n()\n;\n", b"{<@1 m@1 ()<@4 n@4 ();@1 >>}"),
+            (b"f(x)[1];\n", b"1:5 Expected"),
+            (
+                b"x=f(1)[2].y;\n",
+                b"{set x@1 (postfix@3 (call f@3 1@5 )[]@7 2@8 .@10 y@11 )}",
+            ),
+        ],
+    )
 }
 
 // Several operators of a level, several indexes and members, and a choice before the `:` of another.
 #[test]
 fn reads_several_of_each(rt: HostRuntime) -> Result<(), Fail> {
-    let cases: [(&[u8], &[u8]); 3] = [
-        (
-            b"x=1-2+3-4;\n",
-            b"{set x@1 (chain@3 1@3 -@4 2@5 +@6 3@7 -@8 4@9 )}",
-        ),
-        (
-            b"x=a[1].x[2];\n",
-            b"{set x@1 (postfix@3 a@3 []@4 1@5 .@7 x@8 []@9 2@10 )}",
-        ),
-        (
-            b"x=1?2?3:4:5;\n",
-            b"{set x@1 (choice@3 1@3 ?@4 (choice@5 2@5 ?@6 3@7 4@9 )5@11 )}",
-        ),
-    ];
-    for (source, program) in cases {
-        assert_eq!(rt; told(rt.alloc(), source)?.as_slice(), program);
-    }
-    Ok(())
+    are_told(
+        &rt,
+        rt.alloc(),
+        &[
+            (
+                b"x=1-2+3-4;\n",
+                b"{set x@1 (chain@3 1@3 -@4 2@5 +@6 3@7 -@8 4@9 )}",
+            ),
+            (
+                b"x=a[1].x[2];\n",
+                b"{set x@1 (postfix@3 a@3 []@4 1@5 .@7 x@8 []@9 2@10 )}",
+            ),
+            (
+                b"x=1?2?3:4:5;\n",
+                b"{set x@1 (choice@3 1@3 ?@4 (choice@5 2@5 ?@6 3@7 4@9 )5@11 )}",
+            ),
+        ],
+    )
 }
 
 // A tighter level inside a looser one, on either side, and what goes on with an atom.
 #[test]
 fn groups_operators_by_level(rt: HostRuntime) -> Result<(), Fail> {
-    let cases: [(&[u8], &[u8]); 5] = [
-        (
-            b"x=f*g+e<d==c&&b||a;\n",
-            b"{set x@1 (chain@3 (chain@3 (chain@3 (chain@3 (chain@3 (chain@3 f@3 *@4 g@5 )+@6 e@7 )<@8 d@9 )==@10 c@12 )&&@13 b@15 )||@16 a@18 )}",
-        ),
-        (
-            b"x=a+b*c+d<e-f;\n",
-            b"{set x@1 (chain@3 (chain@3 a@3 +@4 (chain@5 b@5 *@6 c@7 )+@8 d@9 )<@10 (chain@11 e@11 -@12 f@13 ))}",
-        ),
-        (
-            b"x=a*b-c%d*e;\n",
-            b"{set x@1 (chain@3 (chain@3 a@3 *@4 b@5 )-@6 (chain@7 c@7 %@8 d@9 *@10 e@11 ))}",
-        ),
-        (
-            b"x=-a*!b.c;\n",
-            b"{set x@1 (chain@3 (neg@3 a@4 )*@5 (not@6 (postfix@7 b@7 .@8 c@9 )))}",
-        ),
-        (
-            b"x=[a,b.c,d(1),e[2],f?g:h,i];\n",
-            b"{set x@1 (list@3 a@4 (postfix@6 b@6 .@7 c@8 )(call d@10 1@12 )(postfix@15 e@15 []@16 2@17 )(choice@20 f@20 ?@21 g@22 h@24 )i@26 )}",
-        ),
-    ];
-    for (source, program) in cases {
-        assert_eq!(rt; told(rt.alloc(), source)?.as_slice(), program);
-    }
-    Ok(())
+    are_told(
+        &rt,
+        rt.alloc(),
+        &[
+            (
+                b"x=f*g+e<d==c&&b||a;\n",
+                b"{set x@1 (chain@3 (chain@3 (chain@3 (chain@3 (chain@3 (chain@3 f@3 *@4 g@5 )+@6 e@7 )<@8 d@9 )==@10 c@12 )&&@13 b@15 )||@16 a@18 )}",
+            ),
+            (
+                b"x=a+b*c+d<e-f;\n",
+                b"{set x@1 (chain@3 (chain@3 a@3 +@4 (chain@5 b@5 *@6 c@7 )+@8 d@9 )<@10 (chain@11 e@11 -@12 f@13 ))}",
+            ),
+            (
+                b"x=a*b-c%d*e;\n",
+                b"{set x@1 (chain@3 (chain@3 a@3 *@4 b@5 )-@6 (chain@7 c@7 %@8 d@9 *@10 e@11 ))}",
+            ),
+            (
+                b"x=-a*!b.c;\n",
+                b"{set x@1 (chain@3 (neg@3 a@4 )*@5 (not@6 (postfix@7 b@7 .@8 c@9 )))}",
+            ),
+            (
+                b"x=[a,b.c,d(1),e[2],f?g:h,i];\n",
+                b"{set x@1 (list@3 a@4 (postfix@6 b@6 .@7 c@8 )(call d@10 1@12 )(postfix@15 e@15 []@16 2@17 )(choice@20 f@20 ?@21 g@22 h@24 )i@26 )}",
+            ),
+        ],
+    )
 }
 
 // An operand of one token, alone and in every place: before each operator, index, member and `?`, behind an operator and
@@ -293,30 +286,30 @@ fn reads_operands_of_one_token(rt: HostRuntime) -> Result<(), Fail> {
 // An `else` belongs to the nearest `if`.
 #[test]
 fn reads_choices(rt: HostRuntime) -> Result<(), Fail> {
-    let cases: [(&[u8], &[u8]); 6] = [
-        (
-            b"if(1)if(2);else;\n",
-            b"{<@1 if@1 1@4 <@6 if@6 2@9 ;@11 else ;@16 >>}",
-        ),
-        (
-            b"if(1)if(2);else;else;\n",
-            b"{<@1 if@1 1@4 <@6 if@6 2@9 ;@11 else ;@16 >else ;@21 >}",
-        ),
-        (
-            b"if(1)m()if(2);else;\n",
-            b"{<@1 if@1 1@4 <@6 m@6 ()<@9 if@9 2@12 ;@14 else ;@19 >>>}",
-        ),
-        (
-            b"if(1){if(2);}else;\n",
-            b"{<@1 if@1 1@4 body@6 {<@7 if@7 2@10 ;@12 >}else ;@18 >}",
-        ),
-        (b"if(1);else;else;\n", b"1:12 Expected"),
-        (b"if (1) cube(1); else\n", b"2:1 Expected"),
-    ];
-    for (source, program) in cases {
-        assert_eq!(rt; told(rt.alloc(), source)?.as_slice(), program);
-    }
-    Ok(())
+    are_told(
+        &rt,
+        rt.alloc(),
+        &[
+            (
+                b"if(1)if(2);else;\n",
+                b"{<@1 if@1 1@4 <@6 if@6 2@9 ;@11 else ;@16 >>}",
+            ),
+            (
+                b"if(1)if(2);else;else;\n",
+                b"{<@1 if@1 1@4 <@6 if@6 2@9 ;@11 else ;@16 >else ;@21 >}",
+            ),
+            (
+                b"if(1)m()if(2);else;\n",
+                b"{<@1 if@1 1@4 <@6 m@6 ()<@9 if@9 2@12 ;@14 else ;@19 >>>}",
+            ),
+            (
+                b"if(1){if(2);}else;\n",
+                b"{<@1 if@1 1@4 body@6 {<@7 if@7 2@10 ;@12 >}else ;@18 >}",
+            ),
+            (b"if(1);else;else;\n", b"1:12 Expected"),
+            (b"if (1) cube(1); else\n", b"2:1 Expected"),
+        ],
+    )
 }
 
 #[test]
@@ -339,74 +332,74 @@ fn takes_nothing_behind_an_end(rt: HostRuntime) -> Result<(), Fail> {
 
 #[test]
 fn finds_the_first_fault(rt: HostRuntime) -> Result<(), Fail> {
-    let cases: [(&[u8], &[u8]); 27] = [
-        (b"cube([1.5,2,3]);\n", b"1:7 NotWhole"),
-        (b"cube(1.5);\n", b"1:6 NotWhole"),
-        (b"x = \"abc;\n", b"1:5 OpenText"),
-        (b"x = 3a;\n", b"1:6 BadCharacter"),
-        (b"/* open\n", b"1:1 OpenComment"),
-        (b"use <a>\n", b"1:1 NotInProfile"),
-        (b"include <a>\n", b"1:1 NotInProfile"),
-        (b"x=2^3;\n", b"1:4 NotInProfile"),
-        (b"cube(1)\n", b"2:1 Expected"),
-        (b"x=1\n", b"2:1 Expected"),
-        (b"x\n", b"2:1 Expected"),
-        (b"x;\n", b"1:2 Expected"),
-        (b"x=1:2;\n", b"1:4 Expected"),
-        (b"x=[1:2:3:4];\n", b"1:9 Expected"),
-        (b"x=1?2;\n", b"1:6 Expected"),
-        (b"x=1 2;\n", b"1:5 Expected"),
-        (b"x=a.0;\n", b"1:4 Expected"),
-        (b"x=a..b;\n", b"1:5 Expected"),
-        (b"x=(1](2);\n", b"1:5 Expected"),
-        (b"m(1;\n", b"1:4 Expected"),
-        (b"m(a=b=1);\n", b"1:6 Expected"),
-        (b"m((a)=1);\n", b"1:6 Expected"),
-        (b"module m(a=);\n", b"1:12 Expected"),
-        (b"module m(a 1);\n", b"1:12 Expected"),
-        (b"function f() 1;\n", b"1:14 Expected"),
-        (b"for(i)m();\n", b"1:6 Expected"),
-        (b"m(){\n\n", b"3:1 Expected"),
-    ];
-    for (source, fault) in cases {
-        assert_eq!(rt; told(rt.alloc(), source)?.as_slice(), fault);
-    }
-    Ok(())
+    are_told(
+        &rt,
+        rt.alloc(),
+        &[
+            (b"cube([1.5,2,3]);\n", b"1:7 NotWhole"),
+            (b"cube(1.5);\n", b"1:6 NotWhole"),
+            (b"x = \"abc;\n", b"1:5 OpenText"),
+            (b"x = 3a;\n", b"1:6 BadCharacter"),
+            (b"/* open\n", b"1:1 OpenComment"),
+            (b"use <a>\n", b"1:1 NotInProfile"),
+            (b"include <a>\n", b"1:1 NotInProfile"),
+            (b"x=2^3;\n", b"1:4 NotInProfile"),
+            (b"cube(1)\n", b"2:1 Expected"),
+            (b"x=1\n", b"2:1 Expected"),
+            (b"x\n", b"2:1 Expected"),
+            (b"x;\n", b"1:2 Expected"),
+            (b"x=1:2;\n", b"1:4 Expected"),
+            (b"x=[1:2:3:4];\n", b"1:9 Expected"),
+            (b"x=1?2;\n", b"1:6 Expected"),
+            (b"x=1 2;\n", b"1:5 Expected"),
+            (b"x=a.0;\n", b"1:4 Expected"),
+            (b"x=a..b;\n", b"1:5 Expected"),
+            (b"x=(1](2);\n", b"1:5 Expected"),
+            (b"m(1;\n", b"1:4 Expected"),
+            (b"m(a=b=1);\n", b"1:6 Expected"),
+            (b"m((a)=1);\n", b"1:6 Expected"),
+            (b"module m(a=);\n", b"1:12 Expected"),
+            (b"module m(a 1);\n", b"1:12 Expected"),
+            (b"function f() 1;\n", b"1:14 Expected"),
+            (b"for(i)m();\n", b"1:6 Expected"),
+            (b"m(){\n\n", b"3:1 Expected"),
+        ],
+    )
 }
 
 #[test]
 fn allows_a_last_comma(rt: HostRuntime) -> Result<(), Fail> {
-    let cases: [(&[u8], &[u8]); 25] = [
-        (b"m(1,);\n", b"ok"),
-        (b"m(a=1,);\n", b"ok"),
-        (b"x=f(1,);\n", b"ok"),
-        (b"x=[1,];\n", b"ok"),
-        (b"x=[1,2,];\n", b"ok"),
-        (b"module m(a,){}\n", b"ok"),
-        (b"module m(a=1,b,){}\n", b"ok"),
-        (b"function f(a,)=1;\n", b"ok"),
-        (b"for(i=1,);\n", b"ok"),
-        (b"for(i=1,j=2,);\n", b"ok"),
-        (b"m(,);\n", b"1:3 Expected"),
-        (b"m(1,,);\n", b"1:5 Expected"),
-        (b"x=f(,);\n", b"1:5 Expected"),
-        (b"x=[,];\n", b"1:4 Expected"),
-        (b"x=[1,,];\n", b"1:6 Expected"),
-        (b"x=[1,2:3];\n", b"1:7 Expected"),
-        (b"x=[1:2,];\n", b"1:7 Expected"),
-        (b"x=(1,);\n", b"1:5 Expected"),
-        (b"x=a[1,];\n", b"1:6 Expected"),
-        (b"if(1,);\n", b"1:5 Expected"),
-        (b"module m(,){}\n", b"1:10 Expected"),
-        (b"module m(a,,){}\n", b"1:12 Expected"),
-        (b"for();\n", b"1:5 Expected"),
-        (b"for(,);\n", b"1:5 Expected"),
-        (b"for(i=1,,);\n", b"1:9 Expected"),
-    ];
-    for (source, answer) in cases {
-        assert_eq!(rt; judged(rt.alloc(), source)?.as_slice(), answer);
-    }
-    Ok(())
+    are_judged(
+        &rt,
+        rt.alloc(),
+        &[
+            (b"m(1,);\n", b"ok"),
+            (b"m(a=1,);\n", b"ok"),
+            (b"x=f(1,);\n", b"ok"),
+            (b"x=[1,];\n", b"ok"),
+            (b"x=[1,2,];\n", b"ok"),
+            (b"module m(a,){}\n", b"ok"),
+            (b"module m(a=1,b,){}\n", b"ok"),
+            (b"function f(a,)=1;\n", b"ok"),
+            (b"for(i=1,);\n", b"ok"),
+            (b"for(i=1,j=2,);\n", b"ok"),
+            (b"m(,);\n", b"1:3 Expected"),
+            (b"m(1,,);\n", b"1:5 Expected"),
+            (b"x=f(,);\n", b"1:5 Expected"),
+            (b"x=[,];\n", b"1:4 Expected"),
+            (b"x=[1,,];\n", b"1:6 Expected"),
+            (b"x=[1,2:3];\n", b"1:7 Expected"),
+            (b"x=[1:2,];\n", b"1:7 Expected"),
+            (b"x=(1,);\n", b"1:5 Expected"),
+            (b"x=a[1,];\n", b"1:6 Expected"),
+            (b"if(1,);\n", b"1:5 Expected"),
+            (b"module m(,){}\n", b"1:10 Expected"),
+            (b"module m(a,,){}\n", b"1:12 Expected"),
+            (b"for();\n", b"1:5 Expected"),
+            (b"for(,);\n", b"1:5 Expected"),
+            (b"for(i=1,,);\n", b"1:9 Expected"),
+        ],
+    )
 }
 
 // Reserved names where a name is wanted.
@@ -512,34 +505,34 @@ fn reads_reserved_names_elsewhere(rt: HostRuntime) -> Result<(), Fail> {
 
 #[test]
 fn refuses_special_names(rt: HostRuntime) -> Result<(), Fail> {
-    let cases: [(&[u8], &[u8]); 22] = [
-        (b"$fn=1;\n", b"1:1 NotInProfile"),
-        (b"$children=1;\n", b"1:1 Expected"),
-        (b"x=$fn;\n", b"1:3 NotInProfile"),
-        (b"x=1+$children;\n", b"ok"),
-        (b"x=$fn(1);\n", b"1:3 NotInProfile"),
-        (b"m($fn=1);\n", b"1:3 NotInProfile"),
-        (b"m($children=1);\n", b"1:12 Expected"),
-        (b"m(1,$fn=1);\n", b"1:5 NotInProfile"),
-        (b"module m($fn){}\n", b"1:10 NotInProfile"),
-        (b"module m($children){}\n", b"1:10 Expected"),
-        (b"module $fn(){}\n", b"1:8 NotInProfile"),
-        (b"function $fn()=1;\n", b"1:10 NotInProfile"),
-        (b"for($i=1);\n", b"1:5 NotInProfile"),
-        (b"for($children=1);\n", b"1:5 Expected"),
-        (b"for(i=1,$t=1);\n", b"1:9 NotInProfile"),
-        (b"x=a.$fn;\n", b"1:5 NotInProfile"),
-        (b"x=a.$children;\n", b"1:5 Expected"),
-        (b"m()$fn();\n", b"1:4 NotInProfile"),
-        (b"m()$children;\n", b"1:4 Expected"),
-        (b"x=1 $fn;\n", b"1:5 NotInProfile"),
-        (b"x=1 $children;\n", b"1:5 Expected"),
-        (b"x=[$fn];\n", b"1:4 NotInProfile"),
-    ];
-    for (source, answer) in cases {
-        assert_eq!(rt; judged(rt.alloc(), source)?.as_slice(), answer);
-    }
-    Ok(())
+    are_judged(
+        &rt,
+        rt.alloc(),
+        &[
+            (b"$fn=1;\n", b"1:1 NotInProfile"),
+            (b"$children=1;\n", b"1:1 Expected"),
+            (b"x=$fn;\n", b"1:3 NotInProfile"),
+            (b"x=1+$children;\n", b"ok"),
+            (b"x=$fn(1);\n", b"1:3 NotInProfile"),
+            (b"m($fn=1);\n", b"1:3 NotInProfile"),
+            (b"m($children=1);\n", b"1:12 Expected"),
+            (b"m(1,$fn=1);\n", b"1:5 NotInProfile"),
+            (b"module m($fn){}\n", b"1:10 NotInProfile"),
+            (b"module m($children){}\n", b"1:10 Expected"),
+            (b"module $fn(){}\n", b"1:8 NotInProfile"),
+            (b"function $fn()=1;\n", b"1:10 NotInProfile"),
+            (b"for($i=1);\n", b"1:5 NotInProfile"),
+            (b"for($children=1);\n", b"1:5 Expected"),
+            (b"for(i=1,$t=1);\n", b"1:9 NotInProfile"),
+            (b"x=a.$fn;\n", b"1:5 NotInProfile"),
+            (b"x=a.$children;\n", b"1:5 Expected"),
+            (b"m()$fn();\n", b"1:4 NotInProfile"),
+            (b"m()$children;\n", b"1:4 Expected"),
+            (b"x=1 $fn;\n", b"1:5 NotInProfile"),
+            (b"x=1 $children;\n", b"1:5 Expected"),
+            (b"x=[$fn];\n", b"1:4 NotInProfile"),
+        ],
+    )
 }
 
 // The kind of fault that a symbol is where none of these may stand.

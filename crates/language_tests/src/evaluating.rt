@@ -1,27 +1,21 @@
 //! Evaluates the expression of a source, and writes its value or its fault.
 
+use crate::reading::{put, read};
 use scad_ast::{Expr, Program, Statement};
 use scad_func::{Meter, expr_has_small_numerals, has_small_numerals, value_of};
-use scad_lexer::lex;
-use scad_parser::parse;
 use scad_scope::Scopes;
 use scad_value::{Value, Values};
 use std::alloc::Global;
+use std::process::Abort;
 use std::test::Fail;
-use text_place::{Fault, Stop, push_decimal, word};
+use text_place::{Fault, NoMemory, Stop, push_decimal, word};
 
-fn put(out: &mut Vec<u8>, text: &[u8]) -> Result<(), Fail> {
-    out.extend_from_slice(text)?;
-    Ok(())
-}
-
-fn put_number(alloc: Global, out: &mut Vec<u8>, number: i64) -> Result<(), Fail> {
-    push_decimal(alloc, out, i128::from(number))?;
-    Ok(())
+fn put_number(alloc: Global, out: &mut Vec<u8>, number: i64) -> Result<(), NoMemory> {
+    push_decimal(alloc, out, i128::from(number))
 }
 
 #[cycle(show)]
-fn put_value(alloc: Global, out: &mut Vec<u8>, value: &Value, depth: u32) -> Result<(), Fail> {
+fn put_value(alloc: Global, out: &mut Vec<u8>, value: &Value, depth: u32) -> Result<(), NoMemory> {
     match value {
         Value::Number(n) => put_number(alloc, out, *n),
         Value::Truth(true) => put(out, b"true"),
@@ -41,7 +35,12 @@ fn put_value(alloc: Global, out: &mut Vec<u8>, value: &Value, depth: u32) -> Res
 }
 
 #[cycle(show)]
-fn put_values(alloc: Global, out: &mut Vec<u8>, values: &Values, depth: u32) -> Result<(), Fail> {
+fn put_values(
+    alloc: Global,
+    out: &mut Vec<u8>,
+    values: &Values,
+    depth: u32,
+) -> Result<(), NoMemory> {
     put(out, b"[")?;
     for value in values.items() {
         put_value(alloc, out, value, depth)?;
@@ -51,21 +50,21 @@ fn put_values(alloc: Global, out: &mut Vec<u8>, values: &Values, depth: u32) -> 
 }
 
 // A fault's column is counted from the one behind `x = `.
-fn put_fault(alloc: Global, out: &mut Vec<u8>, fault: Fault) -> Result<(), Fail> {
+fn put_fault(alloc: Global, out: &mut Vec<u8>, fault: Fault) -> Result<(), NoMemory> {
     let column = i64::from(fault.place.column) - 4;
     put_number(alloc, out, column)?;
     put(out, b" ")?;
     put(out, word(fault.kind).as_bytes())
 }
 
-fn put_stop(alloc: Global, out: &mut Vec<u8>, stop: Stop) -> Result<(), Fail> {
+fn put_stop(alloc: Global, out: &mut Vec<u8>, stop: Stop) -> Result<(), NoMemory> {
     match stop {
         Stop::Fault(fault) => put_fault(alloc, out, fault),
         Stop::NoMemory => put(out, b"no memory"),
     }
 }
 
-fn first_value(program: &Program) -> Option<&Expr> {
+pub fn first_value(program: &Program) -> Option<&Expr> {
     for statement in &program.statements.items {
         if let Statement::Assignment(_, _, value) = statement {
             return Some(value);
@@ -90,20 +89,22 @@ fn value_after(alloc: Global, program: &Program, expr: &Expr, turns: u64) -> Res
     value_of(alloc, &mut scopes, program, scope, expr, &mut meter)
 }
 
+// A value or a fault, in words.
+pub fn put_answer(
+    alloc: Global,
+    out: &mut Vec<u8>,
+    answer: Result<Value, Stop>,
+) -> Result<(), NoMemory> {
+    match answer {
+        Ok(value) => put_value(alloc, out, &value, 64),
+        Err(stop) => put_stop(alloc, out, stop),
+    }
+}
+
 // The value or the first fault of the first assignment of a source, where so many turns were counted.
 pub fn told_after(alloc: Global, source: &[u8], turns: u64) -> Result<Vec<u8>, Fail> {
     let mut out = Vec::new(alloc);
-    if source.len() > 100_000 {
-        return Ok(out);
-    }
-    let tokens = match lex(alloc, source) {
-        Ok(tokens) => tokens,
-        Err(stop) => {
-            put_stop(alloc, &mut out, stop)?;
-            return Ok(out);
-        }
-    };
-    let program = match parse(alloc, &tokens) {
+    let program = match read(alloc, source) {
         Ok(program) => program,
         Err(stop) => {
             put_stop(alloc, &mut out, stop)?;
@@ -111,14 +112,19 @@ pub fn told_after(alloc: Global, source: &[u8], turns: u64) -> Result<Vec<u8>, F
         }
     };
     if let Some(expr) = first_value(&program) {
-        match value_after(alloc, &program, expr, turns) {
-            Ok(value) => put_value(alloc, &mut out, &value, 64)?,
-            Err(stop) => put_stop(alloc, &mut out, stop)?,
-        }
+        put_answer(alloc, &mut out, value_after(alloc, &program, expr, turns))?;
     }
     Ok(out)
 }
 
 pub fn told(alloc: Global, source: &[u8]) -> Result<Vec<u8>, Fail> {
     told_after(alloc, source, 0)
+}
+
+// Whether the first assignment of each source has this value or first fault.
+pub fn have_values(rt: &impl Abort, alloc: Global, rows: &[(&[u8], &[u8])]) -> Result<(), Fail> {
+    for (source, wanted) in rows {
+        assert_eq!(rt; told(alloc, source)?.as_slice(), *wanted, "at {source:?}");
+    }
+    Ok(())
 }

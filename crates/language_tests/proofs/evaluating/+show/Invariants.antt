@@ -1,5 +1,5 @@
 use Rattle.std.proofs.Common.{◌+◌, ◌*◌}
-use Rattle.scad_func_tests.proofs.run.+show.Given as goal
+use Rattle.language_tests.proofs.evaluating.+show.Given as goal
 
 abbrev pub decreases-put_value : goal.decreases-put_value
 decreases-put_value l = 2 * l.depth

@@ -1,10 +1,6 @@
-use super::{BinaryOp, Chain, Choice, Expr, Link, Links};
+use crate::reading::at;
+use scad_ast::{BinaryOp, Chain, Choice, Expr, Link, Links};
 use std::test::Fail;
-use text_place::Place;
-
-fn at(column: u32) -> Place {
-    Place { line: 1, column }
-}
 
 // 1 ? 2 + 3 : 4
 #[test]

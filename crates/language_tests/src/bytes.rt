@@ -1,4 +1,4 @@
-use super::CompactBytes;
+use compact_bytes::CompactBytes;
 use std::test::Fail;
 
 const LETTERS: &[u8] = b"abcdefghijklmnopqrstuvwxyz";

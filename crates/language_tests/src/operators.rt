@@ -1,55 +1,22 @@
-use crate::compare::same;
-use crate::{Value, ValueStop, Values, binary, index, truth, unary};
+use crate::made_values::{LARGEST, equality_is, listed, nested, numbers, text, zeros};
 use scad_ast::{BinaryOp, UnaryOp};
+use scad_value::{Value, ValueStop, binary, index, truth, unary};
 use std::alloc::Global;
 use std::process::Abort;
 use std::test::Fail;
-use text_place::{Bytes, FaultKind, NoMemory};
-
-const LARGEST: i64 = 9007199254740991;
+use text_place::{FaultKind, NoMemory};
 
 fn number(n: i64) -> Value {
     Value::Number(n)
 }
 
-fn numbers(alloc: Global, of: &[i64]) -> Result<Value, NoMemory> {
-    let mut items = Vec::new(alloc);
-    for n in of {
-        items.push(Value::Number(*n))?;
-    }
-    Ok(Value::List(Values::of(items)))
+fn list_of(alloc: Global, of: &[i64]) -> Result<Value, NoMemory> {
+    Ok(listed(numbers(alloc, of)?))
 }
 
-fn listed(alloc: Global, inner: Value) -> Result<Value, NoMemory> {
-    let mut items = Vec::new(alloc);
-    items.push(inner)?;
-    Ok(Value::List(Values::of(items)))
-}
-
-/// The empty list in so many lists.
-fn nested(alloc: Global, times: u32) -> Result<Value, NoMemory> {
-    let mut value = numbers(alloc, &[])?;
-    for _ in 0..times {
-        value = listed(alloc, value)?;
-    }
-    Ok(value)
-}
-
-fn zeros(alloc: Global, count: u32) -> Result<Value, NoMemory> {
-    let mut items = Vec::new(alloc);
-    for _ in 0..count {
-        items.push(Value::Number(0))?;
-    }
-    Ok(Value::List(Values::of(items)))
-}
-
-fn text(alloc: Global, bytes: &[u8]) -> Result<Value, NoMemory> {
-    Ok(Value::Text(Bytes::of(bytes.to_vec(alloc)?)))
-}
-
-fn gives(got: &Result<Value, ValueStop>, wanted: &Value) -> bool {
+fn gives(rt: &impl Abort, alloc: Global, got: &Result<Value, ValueStop>, wanted: &Value) -> bool {
     match got {
-        Ok(value) => same(value, wanted),
+        Ok(value) => equality_is(rt, alloc, value, wanted, true),
         Err(_) => false,
     }
 }
@@ -97,7 +64,7 @@ fn counts_with_numbers(rt: HostRuntime) {
     ];
     for (left, op, right, wanted) in cases {
         let got = both(&rt, rt.alloc(), op, &number(left), &number(right));
-        assert!(rt; gives(&got, &number(wanted)));
+        assert!(rt; gives(&rt, rt.alloc(), &got, &number(wanted)));
     }
 }
 
@@ -129,32 +96,32 @@ fn compares_numbers(rt: HostRuntime) {
     ];
     for (op, wanted) in cases {
         let got = both(&rt, rt.alloc(), op, &number(-3), &number(-3));
-        assert!(rt; gives(&got, &Value::Truth(wanted)));
+        assert!(rt; gives(&rt, rt.alloc(), &got, &Value::Truth(wanted)));
     }
 }
 
 #[test]
 fn goes_by_parts(rt: HostRuntime) -> Result<(), Fail> {
     let alloc = rt.alloc();
-    let left = numbers(alloc, &[1, 2])?;
-    let right = numbers(alloc, &[3, 4])?;
+    let left = list_of(alloc, &[1, 2])?;
+    let right = list_of(alloc, &[3, 4])?;
     let sum = both(&rt, alloc, BinaryOp::Add, &left, &right);
-    assert!(rt; gives(&sum, &numbers(alloc, &[4, 6])?));
+    assert!(rt; gives(&rt, alloc, &sum, &list_of(alloc, &[4, 6])?));
     let dot = both(&rt, alloc, BinaryOp::Multiply, &left, &right);
-    assert!(rt; gives(&dot, &number(11)));
+    assert!(rt; gives(&rt, alloc, &dot, &number(11)));
     let halves = both(
         &rt,
         alloc,
         BinaryOp::Divide,
-        &numbers(alloc, &[4, 6])?,
+        &list_of(alloc, &[4, 6])?,
         &number(2),
     );
-    assert!(rt; gives(&halves, &numbers(alloc, &[2, 3])?));
+    assert!(rt; gives(&rt, alloc, &halves, &list_of(alloc, &[2, 3])?));
     let threefold = both(&rt, alloc, BinaryOp::Multiply, &number(3), &left);
-    assert!(rt; gives(&threefold, &numbers(alloc, &[3, 6])?));
+    assert!(rt; gives(&rt, alloc, &threefold, &list_of(alloc, &[3, 6])?));
     let negated = one(&rt, alloc, UnaryOp::Negate, &left);
-    assert!(rt; gives(&negated, &numbers(alloc, &[-1, -2])?));
-    let short = both(&rt, alloc, BinaryOp::Add, &left, &numbers(alloc, &[1])?);
+    assert!(rt; gives(&rt, alloc, &negated, &list_of(alloc, &[-1, -2])?));
+    let short = both(&rt, alloc, BinaryOp::Add, &left, &list_of(alloc, &[1])?);
     assert!(rt; stops(&short, FaultKind::TypeMismatch));
     Ok(())
 }
@@ -162,10 +129,10 @@ fn goes_by_parts(rt: HostRuntime) -> Result<(), Fail> {
 #[test]
 fn divides_empty_lists(rt: HostRuntime) -> Result<(), Fail> {
     let alloc = rt.alloc();
-    let empty = numbers(alloc, &[])?;
+    let empty = list_of(alloc, &[])?;
     let none = both(&rt, alloc, BinaryOp::Divide, &empty, &number(0));
-    assert!(rt; gives(&none, &empty));
-    let truths = listed(alloc, Value::Truth(true))?;
+    assert!(rt; gives(&rt, alloc, &none, &empty));
+    let truths = listed(vec![in alloc; Value::Truth(true)]?);
     let mixed = both(&rt, alloc, BinaryOp::Divide, &truths, &number(0));
     assert!(rt; stops(&mixed, FaultKind::TypeMismatch));
     let dot = both(&rt, alloc, BinaryOp::Multiply, &empty, &empty);
@@ -178,7 +145,7 @@ fn keeps_lists_short(rt: HostRuntime) -> Result<(), Fail> {
     let alloc = rt.alloc();
     let long = zeros(alloc, 4095)?;
     assert_eq!(rt; long.parts(), 4096);
-    assert!(rt; gives(&one(&rt, alloc, UnaryOp::Keep, &long), &long));
+    assert!(rt; gives(&rt, alloc, &one(&rt, alloc, UnaryOp::Keep, &long), &long));
     let longer = zeros(alloc, 4096)?;
     assert!(rt;
         stops(
@@ -187,7 +154,7 @@ fn keeps_lists_short(rt: HostRuntime) -> Result<(), Fail> {
         )
     );
     let deep = nested(alloc, 63)?;
-    assert!(rt; gives(&one(&rt, alloc, UnaryOp::Negate, &deep), &deep));
+    assert!(rt; gives(&rt, alloc, &one(&rt, alloc, UnaryOp::Negate, &deep), &deep));
     let deeper = nested(alloc, 64)?;
     assert!(rt;
         stops(
@@ -201,14 +168,14 @@ fn keeps_lists_short(rt: HostRuntime) -> Result<(), Fail> {
 #[test]
 fn takes_items(rt: HostRuntime) -> Result<(), Fail> {
     let alloc = rt.alloc();
-    let list = numbers(alloc, &[7, 8])?;
-    assert!(rt; gives(&at(&rt, alloc, &list, 0), &number(7)));
-    assert!(rt; gives(&at(&rt, alloc, &list, 1), &number(8)));
-    assert!(rt; gives(&at(&rt, alloc, &list, 5), &Value::Undef));
-    assert!(rt; gives(&at(&rt, alloc, &list, -1), &Value::Undef));
+    let list = list_of(alloc, &[7, 8])?;
+    assert!(rt; gives(&rt, alloc, &at(&rt, alloc, &list, 0), &number(7)));
+    assert!(rt; gives(&rt, alloc, &at(&rt, alloc, &list, 1), &number(8)));
+    assert!(rt; gives(&rt, alloc, &at(&rt, alloc, &list, 5), &Value::Undef));
+    assert!(rt; gives(&rt, alloc, &at(&rt, alloc, &list, -1), &Value::Undef));
     let word = text(alloc, b"ab")?;
-    assert!(rt; gives(&at(&rt, alloc, &word, 1), &text(alloc, b"b")?));
-    assert!(rt; gives(&at(&rt, alloc, &word, 2), &Value::Undef));
+    assert!(rt; gives(&rt, alloc, &at(&rt, alloc, &word, 1), &text(alloc, b"b")?));
+    assert!(rt; gives(&rt, alloc, &at(&rt, alloc, &word, 2), &Value::Undef));
     assert!(rt; stops(&at(&rt, alloc, &number(1), 0), FaultKind::TypeMismatch));
     Ok(())
 }
@@ -222,7 +189,7 @@ fn tells_truths_and_copies(rt: HostRuntime) -> Result<(), Fail> {
         upto: 0,
     };
     let nothing = text(alloc, b"")?;
-    let empty = numbers(alloc, &[])?;
+    let empty = list_of(alloc, &[])?;
     let cases = [
         (&number(0), false),
         (&number(-1), true),
@@ -233,8 +200,8 @@ fn tells_truths_and_copies(rt: HostRuntime) -> Result<(), Fail> {
     ];
     for (value, wanted) in cases {
         assert_eq!(rt; truth(value), wanted);
-        assert!(rt; same(&value.copy(alloc)?, value));
+        assert!(rt; equality_is(&rt, alloc, &value.copy(alloc)?, value, true));
     }
-    assert!(rt; !same(&range, &Value::Undef));
+    assert!(rt; equality_is(&rt, alloc, &range, &Value::Undef, false));
     Ok(())
 }

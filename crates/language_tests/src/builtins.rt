@@ -1,11 +1,9 @@
-use crate::{Builtin, are_bounded, builtin, is_left_out};
-use scad_ast::BinaryOp;
-use scad_value::{Value, ValueStop, Values, binary};
+use crate::made_values::{LARGEST, equality_is, listed, nested, numbers, text, zeros};
+use scad_builtin::{Builtin, are_bounded, builtin, is_left_out};
+use scad_value::{Value, ValueStop, Values};
 use std::alloc::Global;
 use std::process::Abort;
-use text_place::{Bytes, FaultKind, NoMemory};
-
-const LARGEST: i64 = 9007199254740991;
+use text_place::{FaultKind, NoMemory};
 
 const ALL: [(&[u8], Builtin); 14] = [
     (b"abs", Builtin::Abs),
@@ -40,18 +38,6 @@ enum Sample<'a> {
     Undef,
 }
 
-fn numbers(alloc: Global, of: &[i64]) -> Result<Vec<Value>, NoMemory> {
-    let mut items = Vec::new(alloc);
-    for n in of {
-        items.push(Value::Number(*n))?;
-    }
-    Ok(items)
-}
-
-fn listed(items: Vec<Value>) -> Value {
-    Value::List(Values::of(items))
-}
-
 fn mixed(alloc: Global, first: &[i64], lists: &[&[i64]]) -> Result<Value, NoMemory> {
     let mut items = numbers(alloc, first)?;
     for list in lists {
@@ -60,27 +46,11 @@ fn mixed(alloc: Global, first: &[i64], lists: &[&[i64]]) -> Result<Value, NoMemo
     Ok(listed(items))
 }
 
-fn zeros(alloc: Global, count: u32) -> Result<Value, NoMemory> {
-    let mut items = Vec::new(alloc);
-    for _ in 0..count {
-        items.push(Value::Number(0))?;
-    }
-    Ok(listed(items))
-}
-
-fn nested(alloc: Global, times: u32) -> Result<Value, NoMemory> {
-    let mut value = listed(Vec::new(alloc));
-    for _ in 0..times {
-        value = listed(vec![in alloc; value]?);
-    }
-    Ok(value)
-}
-
 fn made_of(alloc: Global, sample: Sample) -> Result<Value, NoMemory> {
     match sample {
         Sample::Number(n) => Ok(Value::Number(n)),
         Sample::Truth(truth) => Ok(Value::Truth(truth)),
-        Sample::Text(bytes) => Ok(Value::Text(Bytes::of(bytes.to_vec(alloc)?))),
+        Sample::Text(bytes) => text(alloc, bytes),
         Sample::List(of) => Ok(listed(numbers(alloc, of)?)),
         Sample::Mixed(first, lists) => mixed(alloc, first, lists),
         Sample::Zeros(count) => zeros(alloc, count),
@@ -113,15 +83,6 @@ fn call(
     function.apply(alloc, values)
 }
 
-fn same(rt: &impl Abort, alloc: Global, left: &Value, right: &Value) -> bool {
-    assert!(rt; left.is_bounded());
-    assert!(rt; right.is_bounded());
-    matches!(
-        binary(alloc, BinaryOp::Equal, left, right),
-        Ok(Value::Truth(true))
-    )
-}
-
 /// Whether a call gives this value.
 fn gives(
     rt: &impl Abort,
@@ -131,7 +92,7 @@ fn gives(
     wanted: Sample,
 ) -> bool {
     match (call(rt, alloc, function, given), made_of(alloc, wanted)) {
-        (Ok(got), Ok(wanted)) => same(rt, alloc, &got, &wanted),
+        (Ok(got), Ok(wanted)) => equality_is(rt, alloc, &got, &wanted, true),
         _ => false,
     }
 }
@@ -397,7 +358,7 @@ fn takes_so_many_arguments(rt: HostRuntime) {
 #[test]
 fn knows_names(rt: HostRuntime) {
     for (name, function) in ALL {
-        assert_eq!(rt; builtin(name), Some(function));
+        assert!(rt; builtin(name) == Some(function));
         assert!(rt; !is_left_out(name));
     }
     let near: [&[u8]; 9] = [
@@ -412,7 +373,7 @@ fn knows_names(rt: HostRuntime) {
         b"sin",
     ];
     for name in near {
-        assert_eq!(rt; builtin(name), None);
+        assert!(rt; builtin(name) == None);
     }
 }
 
@@ -446,7 +407,7 @@ fn knows_what_is_left_out(rt: HostRuntime) {
     ];
     for name in left_out {
         assert!(rt; is_left_out(name));
-        assert_eq!(rt; builtin(name), None);
+        assert!(rt; builtin(name) == None);
     }
     let near: [&[u8]; 8] = [
         b"",

@@ -1,4 +1,4 @@
-use crate::run::{told, told_after};
+use crate::evaluating::{have_values, told, told_after};
 use std::alloc::Global;
 use std::test::Fail;
 
@@ -20,30 +20,26 @@ fn repeated(
 
 #[test]
 fn stops_at_the_65th_call(rt: HostRuntime) -> Result<(), Fail> {
-    let cases: [(&[u8], &[u8]); 4] = [
-        (b"x = f(63); function f(n) = n < 1 ? 5 : f(n - 1);", b"5"),
-        (
-            b"x = f(64); function f(n) = n < 1 ? 5 : f(n - 1);",
-            b"36 TooDeep",
-        ),
-        // The argument is evaluated before the call is too deep, and isn't inside it.
-        (
-            b"x = f(64); function f(n) = n < 1 ? 5 : f(n < 2 ? 1/0 : n - 1);",
-            b"47 ZeroDivisor",
-        ),
-        (
-            b"x = f(63); function g(n) = n; function f(n) = n < 1 ? 5 : f(g(n - 1));",
-            b"5",
-        ),
-    ];
-    for (source, value) in cases {
-        assert_eq!(rt;
-            told(rt.alloc(), source)?.as_slice(),
-            value,
-            "at {source:?}"
-        );
-    }
-    Ok(())
+    have_values(
+        &rt,
+        rt.alloc(),
+        &[
+            (b"x = f(63); function f(n) = n < 1 ? 5 : f(n - 1);", b"5"),
+            (
+                b"x = f(64); function f(n) = n < 1 ? 5 : f(n - 1);",
+                b"36 TooDeep",
+            ),
+            // The argument is evaluated before the call is too deep, and isn't inside it.
+            (
+                b"x = f(64); function f(n) = n < 1 ? 5 : f(n < 2 ? 1/0 : n - 1);",
+                b"47 ZeroDivisor",
+            ),
+            (
+                b"x = f(63); function g(n) = n; function f(n) = n < 1 ? 5 : f(g(n - 1));",
+                b"5",
+            ),
+        ],
+    )
 }
 
 #[test]

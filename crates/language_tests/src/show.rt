@@ -1,5 +1,6 @@
 //! Writes programs for tests, each part with the column of its place.
 
+use crate::reading::put;
 use compact_bytes::CompactBytes;
 use scad_ast::{
     Arg, Args, BinaryOp, Binder, Body, Core, Expr, Exprs, Instance, Link, Mark, Modifier, Param,
@@ -7,11 +8,6 @@ use scad_ast::{
 };
 use std::alloc::Global;
 use text_place::{NoMemory, Place, push_decimal};
-
-fn put(out: &mut Vec<u8>, text: &[u8]) -> Result<(), NoMemory> {
-    out.extend_from_slice(text)?;
-    Ok(())
-}
 
 fn put_place(alloc: Global, out: &mut Vec<u8>, text: &[u8], place: Place) -> Result<(), NoMemory> {
     put(out, text)?;
