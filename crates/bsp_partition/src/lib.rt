@@ -216,6 +216,3 @@ fn made_ahead(
         Ok((a1, make_node(alloc, polygon, behind, a2)?))
     }
 }
-
-#[cfg(test)]
-mod tests;

@@ -7,7 +7,7 @@ use plane_predicate::Point;
 use std::marker::Model;
 
 /// A point as a key of the table that numbers vertices.
-#[derive(Clone, Copy, Debug, PartialEq, Eq, Hash)]
+#[derive(Clone, Copy, PartialEq, Eq, Hash)]
 pub struct Vertex {
     pub x: i128,
     pub y: i128,

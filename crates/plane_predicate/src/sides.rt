@@ -1,7 +1,7 @@
 //! The sides of a plane.
 
 /// Where a point lies as a plane sees it.
-#[derive(Clone, Copy, Debug, PartialEq, Eq)]
+#[derive(Clone, Copy, PartialEq, Eq)]
 pub enum Side {
     Behind,
     On,
