@@ -4,8 +4,8 @@
 # standard error. Each check is a process of the prover, which is looked at five times a second, so a crate's times are
 # a little low; the last line is the system's own count. Nothing else should run on the machine.
 set -u
-cd "$(dirname "$0")/.." || exit 1
-exec python3 - "$@" <<'PYTHON'
+top=$(cd "$(dirname "$0")/.." && pwd) || exit 1
+exec python3 - "$top" "$@" <<'PYTHON'
 import collections
 import os
 import resource
@@ -14,6 +14,8 @@ import sys
 import time
 
 TICKS = os.sysconf("SC_CLK_TCK")
+# What tells this run's processes from others: they inherit it.
+MARK = f"GATE_TIMES={os.getpid()}"
 
 
 def check_of(pid):
@@ -22,6 +24,9 @@ def check_of(pid):
         words = it.read().decode(errors="replace").split("\0")
     if os.path.basename(words[0]) != "rattle" or "--crate-name" not in words:
         return None
+    with open(f"/proc/{pid}/environ", "rb") as it:
+        if MARK.encode() not in it.read().split(b"\0"):
+            return None
     crate = words[words.index("--crate-name") + 1]
     is_edited = os.path.basename(os.readlink(f"/proc/{pid}/cwd")).startswith("rt-edit-")
     kind = "edits" if is_edited else "tests" if "--test" in words else "proof"
@@ -43,9 +48,12 @@ def look(seen):
 
 
 def main():
+    name, _, value = MARK.partition("=")
+    os.environ[name] = value
     seen, began = {}, time.time()
-    said = open(sys.argv[1], "w") if len(sys.argv) > 1 else sys.stderr
-    gate = subprocess.Popen(["rt", "ci", "--anew"], stdout=said, stderr=said, stdin=subprocess.DEVNULL)
+    top, *files = sys.argv[1:]
+    said = open(files[0], "w") if files else sys.stderr
+    gate = subprocess.Popen(["rt", "ci", "--anew"], cwd=top, stdout=said, stderr=said, stdin=subprocess.DEVNULL)
     while gate.poll() is None:
         look(seen)
         time.sleep(0.2)

@@ -7,9 +7,6 @@ ghost use Rattle.big_input.specs.DemoScript.{client_name, module_line, loop_line
 use std::alloc::Global;
 use text_place::{NoMemory, push_decimal};
 
-#[cfg(test)]
-mod tests;
-
 // The clients' numbers.
 const CLIENTS: [u32; 8] = [1, 2, 3, 4, 5, 6, 7, 8];
 

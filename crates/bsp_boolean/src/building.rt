@@ -13,7 +13,7 @@ use std::marker::Model;
 use text_place::NoMemory;
 
 /// Why a solid was not built.
-#[derive(Clone, Copy, Debug, PartialEq, Eq)]
+#[derive(Clone, Copy, Debug)]
 pub enum BuildStop {
     /// Its size is above the limit.
     TooBig,

@@ -12,6 +12,3 @@ pub use building::{BuildStop, Builder, PlainBuilder};
 pub use laws::{merges_are_operations, solids_are_their_trees};
 pub use leaves::leaf_solid;
 pub use merging::{merge, merge_within};
-
-#[cfg(test)]
-mod tests;

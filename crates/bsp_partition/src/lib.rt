@@ -210,6 +210,3 @@ fn made_ahead(
         Part::High => Ok((a1, make_node(alloc, polygon, behind, a2)?)),
     }
 }
-
-#[cfg(test)]
-mod tests;

@@ -160,6 +160,3 @@ fn exchanged(alloc: Global, solid: &Solid) -> Result<Solid, NoMemory>
         }
     }
 }
-
-#[cfg(test)]
-mod tests;

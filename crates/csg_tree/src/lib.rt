@@ -12,6 +12,3 @@ pub use laws::{balanced_by_halves, joins_are_proper, joins_keep_the_meaning};
 pub use op::Op;
 pub use planes::Planes;
 pub use tree::CsgTree;
-
-#[cfg(test)]
-mod tests;

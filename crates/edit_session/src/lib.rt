@@ -3,8 +3,6 @@
 
 mod fault;
 mod session;
-#[cfg(test)]
-mod tests;
 
 pub use fault::{Asked, SessionFault};
 pub use session::Session;

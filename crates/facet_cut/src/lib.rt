@@ -11,6 +11,3 @@ pub use cutting::facets;
 pub use facet::Facet;
 pub use laws::{facets_are_polygons, facets_bound_their_solid, reversed_polygons_are_polygons};
 pub use stops::CutStop;
-
-#[cfg(test)]
-mod tests;

@@ -3,7 +3,7 @@ ghost use Rattle.std.specs.Prelude.{◌≡◌};
 use text_place::NoMemory;
 
 /// Why no facets are given.
-#[derive(Clone, Copy, Debug, PartialEq, Eq)]
+#[derive(Clone, Copy, Debug)]
 pub enum CutStop {
     /// There are more than were allowed.
     TooMany,

@@ -6,7 +6,7 @@ ghost use Rattle.memo_core.specs.Fields.{item_of};
 use std::sync::Arc;
 
 /// What one call of a memo did.
-#[derive(Clone, Copy, Debug, PartialEq, Eq)]
+#[derive(Clone, Copy, PartialEq, Eq)]
 pub enum Did {
     /// A probe: whether it was a hit.
     Probed {

@@ -10,6 +10,3 @@ mod slots;
 pub use fit::{Fit, NAME_BYTES, Name, Namer};
 pub use journal::{Did, JournalItem};
 pub use memo::{Fill, MemoCore, Probe};
-
-#[cfg(test)]
-mod tests;

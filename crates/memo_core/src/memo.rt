@@ -21,7 +21,7 @@ pub enum Probe<V> {
 }
 
 /// What became of a fill.
-#[derive(Clone, Copy, Debug, PartialEq, Eq)]
+#[derive(Clone, Copy)]
 pub enum Fill {
     /// The key is held, by a new entry or by the one that was there.
     Kept,

@@ -9,7 +9,7 @@ use Rattle.std.proofs.lemmas.Nat.Gcd.{dvd_trans, dvd_of_mod-eq-zero, mod-eq-zero
 use Rattle.std.proofs.Math.Nat.{mul-div_cancel', dvd-mul_right, dvd-mul_left_of_dvd}
 use Prim.Native.Nat.{◌∣◌}
 use Rattle.plane_predicate.specs.declared.unit.Unit.TheVariants.{Half}
-use Rattle.plane_predicate.specs.Space.{Coordinates, IsPoint, IsPointTimes, IsReduced}
+use Rattle.plane_predicate.specs.Space.{Coordinates, most_direction, IsPoint, IsPointTimes, IsReduced}
 use Rattle.plane_predicate.specs.InUnits.{in_units}
 use Rattle.plane_predicate.proofs.IntegerRing.{sums, one_mul}
 use Rattle.off_text.specs.Numbering.{is_even, HasVertexSizes, IsVertexAt}
@@ -133,7 +133,7 @@ halved_sizes p v h ex ey ez ew =
       w_size = subst (λ (n : ℤ). unsigned_abs n < 2 ^ 127) (sym ew) s.w_size;
     }
 
-pub twice_size : (w : ℤ) → unsigned_abs w ≤ 6 * (134152200 * (134152200 * 134152200)) → unsigned_abs (pos 2 *ℤ w) < 2 ^ 127
+pub twice_size : (w : ℤ) → unsigned_abs w ≤ 6 * (most_direction * (most_direction * most_direction)) → unsigned_abs (pos 2 *ℤ w) < 2 ^ 127
 twice_size w h = omega (arith, h, unsigned_abs-mul (pos 2) w)
 
 pub doubled_sizes : (p : Coordinates) → IsPoint p → HasVertexSizes (record { x = p.x; y = p.y; z = p.z; w = pos 2 *ℤ p.w })

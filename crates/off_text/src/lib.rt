@@ -12,6 +12,3 @@ pub use laws::{
     printed_corners_stay_in_the_world, texts_are_boundaries, vertices_are_corners,
 };
 pub use text::{OffStop, off_bytes};
-
-#[cfg(test)]
-mod tests;

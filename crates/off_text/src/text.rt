@@ -28,7 +28,7 @@ const CORNERS: usize = 200_000;
 const VERTICES: usize = 60_000;
 
 /// Why faces have no text.
-#[derive(Clone, Copy, Debug, PartialEq, Eq)]
+#[derive(Clone, Copy, Debug)]
 pub enum OffStop {
     /// The faces have more than 200,000 corners together.
     TooManyCorners,

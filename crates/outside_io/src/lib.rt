@@ -15,6 +15,3 @@ pub use memory_sink::MemorySink;
 pub use memory_source::MemorySource;
 pub use traits::{Failed, Sink, Source};
 pub use whole::{PIECE_BYTES, ReadEnd, read_to_end, write_all};
-
-#[cfg(test)]
-mod tests;

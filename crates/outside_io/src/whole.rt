@@ -10,7 +10,7 @@ use std::alloc::Global;
 pub const PIECE_BYTES: usize = 4096;
 
 /// Why `read_to_end` gives no bytes. What was read from the source until then stays read.
-#[derive(Clone, Copy, Debug, PartialEq, Eq)]
+#[derive(Clone, Copy, Debug)]
 pub enum ReadEnd {
     /// A read failed.
     Failed,

@@ -1,5 +1,5 @@
 /// How a polygon lies against a plane.
-#[derive(Clone, Copy, Debug, PartialEq, Eq)]
+#[derive(Clone, Copy, PartialEq, Eq)]
 pub enum Class {
     /// Some corners are strictly behind the plane, and none is strictly ahead of it.
     Behind,

@@ -84,6 +84,3 @@ impl Polygon {
         &self.edges
     }
 }
-
-#[cfg(test)]
-mod tests;

@@ -14,7 +14,7 @@ pub use meeting::{meet, opposite, point_side, side};
 pub use reduction::reduce;
 pub use sides::Side;
 use std::marker::Model;
-pub use through::plane_through;
+pub use through::{plane_of, plane_through};
 pub use unit::Unit;
 
 /// The points with `a x + b y + c z = d`, where a point is behind the plane if the left side is
@@ -23,7 +23,7 @@ pub use unit::Unit;
 /// A plane keeps that its direction `(a, b, c)` is not zero, that its four numbers have no common
 /// factor above 1, and the sizes within which every test of four planes fits 128 bits: at most
 /// 134,152,200 for `a`, `b` and `c`, and at most 1,648,059,777,000 for `d`.
-#[derive(Clone, Copy, Debug, PartialEq, Eq)]
+#[derive(Clone, Copy, PartialEq, Eq)]
 pub struct Plane {
     pub a: i64,
     pub b: i64,
@@ -47,7 +47,7 @@ impl Model for Plane {
 ///
 /// A point keeps the sizes that a meeting of three planes has: at most 1.45 * 10^25 for `w`, and at
 /// most 1.79 * 10^29 for `x`, `y` and `z`.
-#[derive(Clone, Copy, Debug, PartialEq, Eq)]
+#[derive(Clone, Copy, PartialEq, Eq)]
 pub struct Point {
     pub x: i128,
     pub y: i128,
@@ -66,6 +66,3 @@ impl Model for Point {
 
     ghost invariant = { λ p. IsPoint (record { x = p.x; y = p.y; z = p.z; w = p.w }) };
 }
-
-#[cfg(test)]
-mod tests;

@@ -3,8 +3,6 @@
 
 mod laws;
 mod reply;
-#[cfg(test)]
-mod tests;
 mod text;
 
 pub use laws::{one_output, own_replies};

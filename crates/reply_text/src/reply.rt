@@ -4,7 +4,7 @@ use edit_session::SessionFault;
 use text_place::{Bytes, Fault, Lines};
 
 /// The limit that an export passes.
-#[derive(Clone, Copy, Debug, PartialEq, Eq)]
+#[derive(Clone, Copy)]
 pub enum Complex {
     /// The solid of this node is too large.
     Solid(u32),

@@ -5,9 +5,6 @@
 mod expression;
 mod operator;
 mod statement;
-#[cfg(test)]
-mod tests;
-
 pub use expression::{
     Arg, Args, Call, Chain, Choice, Expr, Exprs, Link, Links, Postfix, Range, SteppedRange, Suffix,
     Suffixes,

@@ -1,5 +1,5 @@
 /// An operator of two sides.
-#[derive(Clone, Copy, Debug, PartialEq, Eq)]
+#[derive(Clone, Copy)]
 pub enum BinaryOp {
     Or,
     And,
@@ -17,7 +17,7 @@ pub enum BinaryOp {
 }
 
 /// An operator before its operand.
-#[derive(Clone, Copy, Debug, PartialEq, Eq)]
+#[derive(Clone, Copy)]
 pub enum UnaryOp {
     /// `-`
     Negate,
@@ -28,7 +28,7 @@ pub enum UnaryOp {
 }
 
 /// A mark before an instance.
-#[derive(Clone, Copy, Debug, PartialEq, Eq)]
+#[derive(Clone, Copy)]
 pub enum Modifier {
     /// `*`: not evaluated.
     Disable,

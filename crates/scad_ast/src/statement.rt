@@ -31,7 +31,7 @@ pub struct Binders {
 }
 
 /// A modifier with its place.
-#[derive(Clone, Copy, Debug, PartialEq, Eq)]
+#[derive(Clone, Copy)]
 pub struct Mark {
     pub place: Place,
     pub modifier: Modifier,

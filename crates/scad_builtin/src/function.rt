@@ -13,7 +13,7 @@ use std::alloc::Global;
 use text_place::FaultKind;
 
 /// A built-in function.
-#[derive(Clone, Copy, Debug, PartialEq, Eq)]
+#[derive(Clone, Copy, PartialEq, Eq)]
 pub enum Builtin {
     Abs,
     Sign,

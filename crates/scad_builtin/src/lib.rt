@@ -8,9 +8,6 @@ mod function;
 mod list;
 mod name;
 mod number;
-#[cfg(test)]
-mod tests;
-
 pub use bound::are_bounded;
 pub use function::Builtin;
 pub use name::{builtin, is_left_out};

@@ -1,6 +1,6 @@
 ghost use Rattle.std.specs.Prelude.{◌≡◌, map};
 ghost use Rattle.std.specs.Str.{bytes_eq};
-ghost use Rattle.scad_builtin.specs.Builtins.{builtin_of, is_among as among, is_left_out as leaves_out};
+ghost use Rattle.scad_builtin.specs.Builtins.{builtin_of, named_in as named, is_among as among, is_left_out as leaves_out};
 
 use crate::function::Builtin;
 
@@ -10,41 +10,39 @@ fn same(known: &[u8], name: &[u8]) -> bool
     known == name
 }
 
+const BUILTINS: [(&[u8], Builtin); 14] = [
+    (b"abs", Builtin::Abs),
+    (b"sign", Builtin::Sign),
+    (b"floor", Builtin::Floor),
+    (b"ceil", Builtin::Ceil),
+    (b"round", Builtin::Round),
+    (b"min", Builtin::Min),
+    (b"max", Builtin::Max),
+    (b"len", Builtin::Len),
+    (b"concat", Builtin::Concat),
+    (b"pow", Builtin::Pow),
+    (b"is_undef", Builtin::IsUndef),
+    (b"is_num", Builtin::IsNum),
+    (b"is_bool", Builtin::IsBool),
+    (b"is_list", Builtin::IsList),
+];
+
 /// The built-in function of a name. Takes no memory.
 pub fn builtin(name: &[u8]) -> Option<Builtin>
     ensures { result ≡ builtin_of name.now }
 {
-    if same(b"abs", name) {
-        Some(Builtin::Abs)
-    } else if same(b"sign", name) {
-        Some(Builtin::Sign)
-    } else if same(b"floor", name) {
-        Some(Builtin::Floor)
-    } else if same(b"ceil", name) {
-        Some(Builtin::Ceil)
-    } else if same(b"round", name) {
-        Some(Builtin::Round)
-    } else if same(b"min", name) {
-        Some(Builtin::Min)
-    } else if same(b"max", name) {
-        Some(Builtin::Max)
-    } else if same(b"len", name) {
-        Some(Builtin::Len)
-    } else if same(b"concat", name) {
-        Some(Builtin::Concat)
-    } else if same(b"pow", name) {
-        Some(Builtin::Pow)
-    } else if same(b"is_undef", name) {
-        Some(Builtin::IsUndef)
-    } else if same(b"is_num", name) {
-        Some(Builtin::IsNum)
-    } else if same(b"is_bool", name) {
-        Some(Builtin::IsBool)
-    } else if same(b"is_list", name) {
-        Some(Builtin::IsList)
-    } else {
-        None
+    named_in(&BUILTINS, name)
+}
+
+fn named_in(names: &[(&[u8], Builtin)], name: &[u8]) -> Option<Builtin>
+    ensures { result ≡ named (map (λ known. (known.0.now, known.1)) names.now) name.now }
+{
+    for known in names {
+        if same(known.0, name) {
+            return Some(known.1);
+        }
     }
+    None
 }
 
 const LEFT_OUT: [&[u8]; 24] = [

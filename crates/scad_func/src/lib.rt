@@ -5,8 +5,6 @@ mod answer;
 mod bind;
 mod evaluate;
 mod functions;
-#[cfg(test)]
-mod functions_tests;
 mod meter;
 mod numerals;
 mod source;

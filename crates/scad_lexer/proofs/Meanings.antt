@@ -108,23 +108,3 @@ empty_decoded = refl
 
 pub decode_end : (t : List ℕ) (whole : Result (List ℕ) ℕ) (bs : List ℕ) (n : ℕ) → length t ≤ n → whole ≡ joined bs n (decoded (drop n t)) → whole ≡ Ok bs
 decode_end t whole bs n l h = h ∙ ap (λ u. joined bs n (decoded u)) (drop_past t n l) ∙ ap (joined bs n) empty_decoded ∙ ap Ok (append-nil bs)
-
--- these bytes stand in the word from n on
-abbrev pub AreAt : List ℕ → ℕ → List ℕ → Type 0
-AreAt [] n w = Unit {0}
-AreAt (b ∷ v) n w = (get_or w n 0 ≡ b) × AreAt v (suc n) w
-
--- the same without the first byte of the word
-are_behind : (v : List ℕ) (n c : ℕ) (w : List ℕ) → AreAt v (suc n) (c ∷ w) → AreAt v n w
-are_behind [] n c w h = tt
-are_behind (b ∷ v) n c w h = (h.0, are_behind v (suc n) c w h.1)
-
--- a word of the same length is these bytes
-pub spelled : (v w : List ℕ) → length w ≡ length v → AreAt v 0 w → w ≡ v
-spelled [] [] l h = refl
-spelled [] (c ∷ w) l h = absurd (omega arith)
-spelled (b ∷ v) [] l h = absurd (omega arith)
-spelled (b ∷ v) (c ∷ w) l h =
-    let first : c ≡ b = h.0 in
-    let rest : w ≡ v = spelled v w (omega arith) (are_behind v 0 c w h.1) in
-    cc

@@ -5,8 +5,6 @@
 mod class;
 mod meaning;
 mod scan;
-#[cfg(test)]
-mod tests;
 mod token;
 mod tokens;
 mod word;

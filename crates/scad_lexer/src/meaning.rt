@@ -1,4 +1,5 @@
 ghost use Rattle.std.specs.Prelude.{◌≡◌, ◌-◌, ◌^◌, ◌<◌, ◌≤◌, length, IfOk, IfErr, IfSome, IfNone, MatchOption, drop, nat_eq, MatchResult, Ok, Err};
+ghost use Rattle.std.specs.Str.{bytes_eq};
 ghost use Rattle.scad_lexer.specs.Words.{every};
 ghost use Rattle.scad_lexer.specs.Tokens.{reserved_of, escape_at, with_byte, zero_fraction, number_from, numeral_of, letter_behind, decoded, inside, text_of, meaning_of, name_of, IsWithin};
 
@@ -50,26 +51,33 @@ fn name(alloc: Global, bytes: &[u8]) -> Result<TokenKind, NoMemory>
     }
 }
 
-/// The reserved name that a word is, if it is one.
+/// The reserved name that a word is, if it is one. Only names of its length are compared with it.
 fn reserved(word: &[u8]) -> Option<Reserved>
     ensures { result ≡ reserved_of word.now }
 {
-    match word {
-        b"if" => Some(Reserved::If),
-        b"for" => Some(Reserved::For),
-        b"use" => Some(Reserved::Use),
-        b"let" => Some(Reserved::Let),
-        b"else" => Some(Reserved::Else),
-        b"true" => Some(Reserved::True),
-        b"each" => Some(Reserved::Each),
-        b"false" => Some(Reserved::False),
-        b"undef" => Some(Reserved::Undef),
-        b"module" => Some(Reserved::Module),
-        b"include" => Some(Reserved::Include),
-        b"function" => Some(Reserved::Function),
-        b"intersection_for" => Some(Reserved::IntersectionFor),
+    match word.len() {
+        2 if same(word, b"if") => Some(Reserved::If),
+        3 if same(word, b"for") => Some(Reserved::For),
+        3 if same(word, b"use") => Some(Reserved::Use),
+        3 if same(word, b"let") => Some(Reserved::Let),
+        4 if same(word, b"else") => Some(Reserved::Else),
+        4 if same(word, b"true") => Some(Reserved::True),
+        4 if same(word, b"each") => Some(Reserved::Each),
+        5 if same(word, b"false") => Some(Reserved::False),
+        5 if same(word, b"undef") => Some(Reserved::Undef),
+        6 if same(word, b"module") => Some(Reserved::Module),
+        7 if same(word, b"include") => Some(Reserved::Include),
+        8 if same(word, b"function") => Some(Reserved::Function),
+        16 if same(word, b"intersection_for") => Some(Reserved::IntersectionFor),
         _ => None,
     }
+}
+
+/// Whether a word has the bytes of a name.
+fn same(word: &[u8], name: &[u8]) -> bool
+    ensures { result ≡ bytes_eq word.now name.now }
+{
+    word == name
 }
 
 /// What a numeral stands for.

@@ -1,5 +1,5 @@
 -- A fault of a part goes on to what holds it.
-use Rattle.std.proofs.Common.{◌≡◌, List, map, Err, Vec, Global}
+use Rattle.std.proofs.Common.{◌≡◌, List, ◌∷◌, map, Err, Vec, Global}
 use Rattle.std.specs.Borrow.{Bor}
 use Rattle.scad_lexer.specs.declared.token.Token.{Token}
 use Rattle.scad_ast.specs.declared.expression.Link.{Link}
@@ -30,6 +30,13 @@ links_in links = map link_of links.items
 abbrev suffixes_in : Vec Suffix Global → List SuffixTerm
 suffixes_in suffixes = map suffix_of suffixes.items
 
+-- and a first one with more of them
+abbrev some_links_in : Link × Vec Link Global → List LinkTerm
+some_links_in links = link_of links.0 ∷ links_in links.1
+
+abbrev some_suffixes_in : Suffix × Vec Suffix Global → List SuffixTerm
+some_suffixes_in suffixes = suffix_of suffixes.0 ∷ suffixes_in suffixes.1
+
 pub operand_goes : GoesOn term_of term_of
 operand_goes = goes_on term_of term_of
 
@@ -39,20 +46,20 @@ item_goes = goes_on term_of terms_of
 pub link_goes : GoesOn link_of links_in
 link_goes = goes_on link_of links_in
 
-pub first_link_goes : GoesOn link_of term_of
-first_link_goes = goes_on link_of term_of
+pub first_link_goes : GoesOn link_of some_links_in
+first_link_goes = goes_on link_of some_links_in
 
-pub more_links_go : GoesOn links_in term_of
-more_links_go = goes_on links_in term_of
+pub more_links_go : GoesOn links_in some_links_in
+more_links_go = goes_on links_in some_links_in
 
 pub suffix_goes : GoesOn suffix_of suffixes_in
 suffix_goes = goes_on suffix_of suffixes_in
 
-pub first_suffix_goes : GoesOn suffix_of term_of
-first_suffix_goes = goes_on suffix_of term_of
+pub first_suffix_goes : GoesOn suffix_of some_suffixes_in
+first_suffix_goes = goes_on suffix_of some_suffixes_in
 
-pub more_suffixes_go : GoesOn suffixes_in term_of
-more_suffixes_go = goes_on suffixes_in term_of
+pub more_suffixes_go : GoesOn suffixes_in some_suffixes_in
+more_suffixes_go = goes_on suffixes_in some_suffixes_in
 
 pub arg_goes : GoesOn arg_of args_of
 arg_goes = goes_on arg_of args_of

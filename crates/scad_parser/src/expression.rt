@@ -1,7 +1,7 @@
 ghost use Rattle.std.specs.Prelude.{◌≡◌, ◌≤◌, ◌<◌, ◌∷◌, [], true, Some, IfOk, length, map};
 ghost use Rattle.scad_ast.specs.Terms.{Term, ArgTerm};
 ghost use Rattle.scad_ast.specs.ExprView.{term_of, terms_of, link_of, suffix_of, arg_of, args_of};
-ghost use Rattle.scad_grammar.specs.Classes.{among, is, other_than};
+ghost use Rattle.scad_grammar.specs.Classes.{among, is, other_than, symbol_class};
 ghost use Rattle.scad_grammar.specs.Classes.{comma_sign, close_bracket_sign, close_parenthesis_sign, colon_sign, question_sign};
 ghost use Rattle.scad_grammar.specs.Faults.{Reads, one};
 ghost use Rattle.scad_grammar.specs.Grammar.{levels, link as link_at, chain_of as chain_at, choice_of as choice_at, postfix_of as postfix_at, unary_of as unary_at, named_of, filled_of};
@@ -14,8 +14,8 @@ ghost use Rattle.scad_parser.specs.Views.{Gives, atom_of};
 
 use crate::class::{Class, Level};
 use crate::next::{
-    Parsed, behind_comma, binary, bytes, is_before, is_comma_before, is_named, lone_atom, number,
-    take, take_first, too_deep, unary_operator,
+    Parsed, behind_comma, binary, bytes, is_before, is_comma_before, is_named, list_of, lone_atom,
+    number, take, take_first, too_deep, unary_operator, with,
 };
 use scad_ast::{
     Arg, Args, Call, Chain, Choice, Expr, Exprs, Link, Links, Postfix, Range, SteppedRange, Suffix,
@@ -67,10 +67,7 @@ fn chosen<'a>(alloc: Global, test: Expr, tokens: &'a [Token], depth: u32) -> Par
     ensures value { Gives (λ p. (term_of p.0, p.1.now)) result (mapped (choice_at (term_of test)) (mapped Some (both pair_of (one (is question_sign)) (both pair_of (expr_read depth) (both second_of (one (is colon_sign)) (expr_read depth))))) tokens.now) }
     ensures rest { IfOk result (λ p. length p.1.now ≤ length tokens.now) }
 {
-    let (mark, rest) = take(Class::Sign(Symbol::Question), tokens)?;
-    let (yes, rest) = expr(alloc, rest, depth)?;
-    let (_, rest) = take(Class::Sign(Symbol::Colon), rest)?;
-    let (no, rest) = expr(alloc, rest, depth)?;
+    let ((test, (mark, (yes, no))), rest) = with(test, sides(alloc, tokens, depth))?;
     let place = test.place();
     let choice = Choice {
         test,
@@ -79,6 +76,34 @@ fn chosen<'a>(alloc: Global, test: Expr, tokens: &'a [Token], depth: u32) -> Par
         no,
     };
     Ok((Expr::Choice(place, Box::new(alloc, choice)?), rest))
+}
+
+/// The mark of a choice and its two sides.
+#[cycle(expression)]
+#[inline(always)]
+fn sides<'a>(
+    alloc: Global,
+    tokens: &'a [Token],
+    depth: u32,
+) -> Parsed<'a, (&'a Token, (Expr, Expr))>
+    ensures value { Gives (λ p. ((p.0.0.now, (term_of p.0.1.0, term_of p.0.1.1)), p.1.now)) result (both pair_of (one (is question_sign)) (both pair_of (expr_read depth) (both second_of (one (is colon_sign)) (expr_read depth))) tokens.now) }
+    ensures rest { IfOk result (λ p. length p.1.now ≤ length tokens.now) }
+{
+    let (mark, rest) = take(Class::Sign(Symbol::Question), tokens)?;
+    let (yes, rest) = expr(alloc, rest, depth)?;
+    let (sides, rest) = with(yes, behind(alloc, Symbol::Colon, rest, depth))?;
+    Ok(((mark, sides), rest))
+}
+
+/// A sign and the expression behind it.
+#[cycle(expression)]
+#[inline(always)]
+pub fn behind<'a>(alloc: Global, sign: Symbol, tokens: &'a [Token], depth: u32) -> Parsed<'a, Expr>
+    ensures value { Gives (λ p. (term_of p.0, p.1.now)) result (both second_of (one (is (symbol_class sign))) (expr_read depth) tokens.now) }
+    ensures rest { IfOk result (λ p. length p.1.now ≤ length tokens.now) }
+{
+    let (_, rest) = take(Class::Sign(sign), tokens)?;
+    expr(alloc, rest, depth)
 }
 
 /// Operands with operators between them.
@@ -165,12 +190,29 @@ fn linked<'a>(
     ensures value { Gives (λ p. (term_of p.0, p.1.now)) result (mapped (chain_at (term_of first)) (many (among (operators_at level)) (both link_at (one (among (operators_at level))) (chain_read (levels_below level) (unary_read (expr_read depth) (operand_read depth) (primary_read (expr_read depth) (arg_in depth (expr_read depth))))))) tokens.now) }
     ensures rest { IfOk result (λ p. length p.1.now ≤ length tokens.now) }
 {
-    let (next, rest) = link(alloc, tokens, depth, level)?;
-    let (more, rest) = links(alloc, rest, depth, level)?;
+    let ((first, (next, more)), rest) = with(first, some_links(alloc, tokens, depth, level))?;
     let place = first.place();
     let links = Links { first: next, more };
     let chain = Chain { first, links };
     Ok((Expr::Chain(place, Box::new(alloc, chain)?), rest))
+}
+
+/// An operator of a level and what stands behind it, and more of them.
+#[cycle(expression)]
+#[inline(always)]
+fn some_links<'a>(
+    alloc: Global,
+    tokens: &'a [Token],
+    depth: u32,
+    level: Level,
+) -> Parsed<'a, (Link, Vec<Link>)>
+    requires { starts (among (operators_at level)) tokens.now ≡ true }
+    ensures value { Gives (λ p. (link_of p.0.0 ∷ map link_of p.0.1.items, p.1.now)) result (many (among (operators_at level)) (both link_at (one (among (operators_at level))) (chain_read (levels_below level) (unary_read (expr_read depth) (operand_read depth) (primary_read (expr_read depth) (arg_in depth (expr_read depth)))))) tokens.now) }
+    ensures rest { IfOk result (λ p. length p.1.now ≤ length tokens.now) }
+{
+    let (next, rest) = link(alloc, tokens, depth, level)?;
+    let (links, rest) = with(next, links(alloc, rest, depth, level))?;
+    Ok((links, rest))
 }
 
 /// More operators of a level and what stands behind each.
@@ -263,12 +305,28 @@ fn suffixed<'a>(alloc: Global, of: Expr, tokens: &'a [Token], depth: u32) -> Par
     ensures value { Gives (λ p. (term_of p.0, p.1.now)) result (mapped (postfix_at (term_of of)) (many (among suffix_signs) (suffix_read (expr_read depth))) tokens.now) }
     ensures rest { IfOk result (λ p. length p.1.now ≤ length tokens.now) }
 {
-    let (next, rest) = suffix(alloc, tokens, depth)?;
-    let (more, rest) = suffixes(alloc, rest, depth)?;
+    let ((of, (next, more)), rest) = with(of, some_suffixes(alloc, tokens, depth))?;
     let place = of.place();
     let suffixes = Suffixes { first: next, more };
     let postfix = Postfix { of, suffixes };
     Ok((Expr::Postfix(place, Box::new(alloc, postfix)?), rest))
+}
+
+/// An index or a member, and more of them.
+#[cycle(expression)]
+#[inline(always)]
+fn some_suffixes<'a>(
+    alloc: Global,
+    tokens: &'a [Token],
+    depth: u32,
+) -> Parsed<'a, (Suffix, Vec<Suffix>)>
+    requires { starts (among suffix_signs) tokens.now ≡ true }
+    ensures value { Gives (λ p. (suffix_of p.0.0 ∷ map suffix_of p.0.1.items, p.1.now)) result (many (among suffix_signs) (suffix_read (expr_read depth)) tokens.now) }
+    ensures rest { IfOk result (λ p. length p.1.now ≤ length tokens.now) }
+{
+    let (next, rest) = suffix(alloc, tokens, depth)?;
+    let (suffixes, rest) = with(next, suffixes(alloc, rest, depth))?;
+    Ok((suffixes, rest))
 }
 
 /// More indexes and members.
@@ -296,7 +354,7 @@ fn suffix<'a>(alloc: Global, tokens: &'a [Token], depth: u32) -> Parsed<'a, Suff
     if Class::Sign(Symbol::OpenBracket).begins(tokens) {
         let (open, rest) = take(Class::Sign(Symbol::OpenBracket), tokens)?;
         let (index, rest) = expr(alloc, rest, depth)?;
-        let (_, rest) = take(Class::Sign(Symbol::CloseBracket), rest)?;
+        let ((index, _), rest) = with(index, take(Class::Sign(Symbol::CloseBracket), rest))?;
         Ok((Suffix::Index(open.place, index), rest))
     } else {
         let (dot, rest) = take(Class::Sign(Symbol::Dot), tokens)?;
@@ -332,7 +390,7 @@ fn paren<'a>(alloc: Global, tokens: &'a [Token], depth: u32) -> Parsed<'a, Expr>
 {
     let (open, rest) = take(Class::Sign(Symbol::OpenParenthesis), tokens)?;
     let (inner, rest) = expr(alloc, rest, depth)?;
-    let (_, rest) = take(Class::Sign(Symbol::CloseParenthesis), rest)?;
+    let ((inner, _), rest) = with(inner, take(Class::Sign(Symbol::CloseParenthesis), rest))?;
     Ok((Expr::Paren(open.place, Box::new(alloc, inner)?), rest))
 }
 
@@ -386,9 +444,7 @@ fn called<'a>(alloc: Global, name: &Token, tokens: &'a [Token], depth: u32) -> P
     ensures rest { IfOk result (λ p. length p.1.now ≤ length tokens.now) }
 {
     let bytes = bytes(alloc, &name.kind)?;
-    let (_, rest) = take(Class::Sign(Symbol::OpenParenthesis), tokens)?;
-    let (args, rest) = args(alloc, rest, depth)?;
-    let (_, rest) = take(Class::Sign(Symbol::CloseParenthesis), rest)?;
+    let ((bytes, args), rest) = with(bytes, arguments(alloc, tokens, depth))?;
     let call = Call { name: bytes, args };
     Ok((Expr::Call(name.place, Box::new(alloc, call)?), rest))
 }
@@ -408,7 +464,7 @@ fn bracket<'a>(alloc: Global, tokens: &'a [Token], depth: u32) -> Parsed<'a, Exp
     }
     let (first, rest) = expr(alloc, rest, depth)?;
     let (list, rest) = filled(alloc, open, first, rest, depth)?;
-    let (_, rest) = take(Class::Sign(Symbol::CloseBracket), rest)?;
+    let ((list, _), rest) = with(list, take(Class::Sign(Symbol::CloseBracket), rest))?;
     Ok((list, rest))
 }
 
@@ -426,8 +482,7 @@ fn filled<'a>(
 {
     if !Class::Sign(Symbol::Colon).begins(tokens) {
         let more = is_comma_before(Symbol::CloseBracket, tokens);
-        let mut items = Vec::with_capacity(alloc, if more { 3 } else { 1 })?;
-        items.push(first)?;
+        let items = list_of(alloc, first, if more { 3 } else { 1 })?;
         let (items, rest) = more_items(alloc, items, tokens, depth)?;
         let items = Box::new(alloc, items)?;
         return Ok((Expr::List(bracket.place, items), rest));
@@ -449,14 +504,13 @@ fn range<'a>(
     ensures rest { IfOk result (λ p. length p.1.now ≤ length tokens.now) }
 {
     let place = bracket.place;
-    let (_, rest) = take(Class::Sign(Symbol::Colon), tokens)?;
-    let (next, rest) = expr(alloc, rest, depth)?;
+    let ((from, _), rest) = with(from, take(Class::Sign(Symbol::Colon), tokens))?;
+    let ((from, next), rest) = with(from, expr(alloc, rest, depth))?;
     if !Class::Sign(Symbol::Colon).begins(rest) {
         let range = Range { from, to: next };
         return Ok((Expr::Range(place, Box::new(alloc, range)?), rest));
     }
-    let (_, rest) = take(Class::Sign(Symbol::Colon), rest)?;
-    let (to, rest) = expr(alloc, rest, depth)?;
+    let (((from, next), to), rest) = with((from, next), behind(alloc, Symbol::Colon, rest, depth))?;
     let range = SteppedRange {
         from,
         step: next,
@@ -485,9 +539,22 @@ fn more_items<'a>(
     Ok((Exprs { items }, behind_comma(rest)))
 }
 
+/// Arguments in parentheses.
+#[cycle(expression)]
+#[inline(always)]
+pub fn arguments<'a>(alloc: Global, tokens: &'a [Token], depth: u32) -> Parsed<'a, Args>
+    ensures value { Gives (λ p. (args_of p.0, p.1.now)) result (in_parentheses (args_read (arg_in depth (expr_read depth))) tokens.now) }
+    ensures rest { IfOk result (λ p. length p.1.now ≤ length tokens.now) }
+{
+    let (_, rest) = take(Class::Sign(Symbol::OpenParenthesis), tokens)?;
+    let (args, rest) = args(alloc, rest, depth)?;
+    let ((args, _), rest) = with(args, take(Class::Sign(Symbol::CloseParenthesis), rest))?;
+    Ok((args, rest))
+}
+
 /// Arguments, and maybe a comma behind the last.
 #[cycle(expression)]
-pub fn args<'a>(alloc: Global, tokens: &'a [Token], depth: u32) -> Parsed<'a, Args>
+fn args<'a>(alloc: Global, tokens: &'a [Token], depth: u32) -> Parsed<'a, Args>
     ensures value { Gives (λ p. (args_of p.0, p.1.now)) result (args_read (arg_in depth (expr_read depth)) tokens.now) }
     ensures rest { IfOk result (λ p. length p.1.now ≤ length tokens.now) }
 {
@@ -496,8 +563,7 @@ pub fn args<'a>(alloc: Global, tokens: &'a [Token], depth: u32) -> Parsed<'a, Ar
     }
     let (first, rest) = arg(alloc, tokens, depth)?;
     let more = is_comma_before(Symbol::CloseParenthesis, rest);
-    let mut items = Vec::with_capacity(alloc, if more { 2 } else { 1 })?;
-    items.push(first)?;
+    let items = list_of(alloc, first, if more { 2 } else { 1 })?;
     more_args(alloc, items, rest, depth)
 }
 
@@ -538,7 +604,7 @@ fn arg<'a>(alloc: Global, tokens: &'a [Token], depth: u32) -> Parsed<'a, Arg>
     let (name, rest) = take(Class::Name, tokens)?;
     let (_, rest) = take(Class::Sign(Symbol::Assign), rest)?;
     let bytes = bytes(alloc, &name.kind)?;
-    let (value, rest) = expr(alloc, rest, depth)?;
+    let ((bytes, value), rest) = with(bytes, expr(alloc, rest, depth))?;
     Ok((Arg::Named(name.place, bytes, value), rest))
 }
 

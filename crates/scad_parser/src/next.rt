@@ -1,4 +1,4 @@
-ghost use Rattle.std.specs.Prelude.{◌≡◌, ◌<◌, ◌≤◌, ◌∷◌, [], true, false, IfOk, IfSome, IfNone, length};
+ghost use Rattle.std.specs.Prelude.{◌≡◌, ◌<◌, ◌≤◌, ◌∷◌, [], true, false, Ok, Err, IfOk, IfErr, IfSome, IfNone, length};
 ghost use Rattle.scad_grammar.specs.Classes.{class_of, number_of, bytes_of, symbol_class, among, is, other_than};
 ghost use Rattle.scad_grammar.specs.Classes.{name};
 ghost use Rattle.scad_grammar.specs.Grammar.{binary_at, unary_at, modifier_at};
@@ -46,6 +46,29 @@ impl<'a, T: Drop> From<AllocFailed<T>> for Stopped<'a> {
 
 /// A value and the tokens behind it.
 pub type Parsed<'a, T> = Result<(T, &'a [Token]), Stopped<'a>>;
+
+/// What was read before, with what is read behind it. Where nothing is read, what was read before is dropped: here, for
+/// every type alike, and not in each function that holds something while it reads on.
+#[inline(always)]
+pub fn with<'a, A: Drop, B>(before: A, read: Parsed<'a, B>) -> Parsed<'a, (A, B)>
+    ensures ok { IfOk result (λ p. (p.0.0 ≡ before) × (read.entry ≡ Ok (p.0.1, p.1))) }
+    ensures err { IfErr result (λ stopped. read.entry ≡ Err stopped) }
+{
+    match read {
+        Ok((value, rest)) => Ok(((before, value), rest)),
+        Err(stopped) => Err(stopped),
+    }
+}
+
+/// A list of one item, with room for so many.
+#[inline(always)]
+pub fn list_of<T: Drop>(alloc: Global, first: T, room: usize) -> Result<Vec<T>, AllocError>
+    ensures { IfOk result (λ list. list.items ≡ first ∷ []) }
+{
+    let mut items = Vec::with_capacity(alloc, room)?;
+    items.push(first)?;
+    Ok(items)
+}
 
 impl Class {
     /// Whether the next token is of this class.

@@ -1,23 +1,24 @@
-ghost use Rattle.std.specs.Prelude.{◌≡◌, ◌≤◌, ◌<◌, true, IfOk, length, map};
+ghost use Rattle.std.specs.Prelude.{◌≡◌, ◌≤◌, ◌<◌, [], true, IfOk, length, map};
 ghost use Rattle.scad_ast.specs.Terms.{StatementTerm};
-ghost use Rattle.scad_ast.specs.ExprView.{term_of, args_of};
+ghost use Rattle.scad_ast.specs.ExprView.{term_of};
 ghost use Rattle.scad_ast.specs.StatementView.{statement_of, statements_of, instance_of, core_of, body_of, param_of, params_of, binder_of, binders_of, mark_of, marks_of};
-ghost use Rattle.scad_grammar.specs.Classes.{among, is, name, comma_sign, assign_sign};
+ghost use Rattle.scad_grammar.specs.Classes.{among, is, name, comma_sign, assign_sign, else_word};
+ghost use Rattle.scad_grammar.specs.Languages.{second_of};
 ghost use Rattle.scad_grammar.specs.Faults.{Reads, one};
 ghost use Rattle.scad_grammar.specs.Grammar.{mark_of as mark_at, instance_of as instance_at, core_place};
-ghost use Rattle.scad_grammar.specs.Reading.{ahead, many, mapped, trailing, in_front};
-ghost use Rattle.scad_grammar.specs.Reads.{expr_read, arg_in, args_read, in_parentheses};
+ghost use Rattle.scad_grammar.specs.Reading.{ahead, both, many, mapped, trailing, in_front};
+ghost use Rattle.scad_grammar.specs.Reads.{expr_read, arg_in, in_parentheses};
 ghost use Rattle.scad_grammar.specs.StatementReads.{mark_signs, firsts_of_statement, param_in, params_read, binder_in, binders_read, if_read, loop_read, call_read, core_read, marks_read, instance_in, braces_read, body_read, body_over as body_from, module_read, function_read, ended_read, definition_read, assigned, statement_over as statement_from, statement_read};
 ghost use Rattle.scad_parser.specs.Views.{Gives, names_value};
 
 use crate::class::Class;
-use crate::expression::{args, expr};
+use crate::expression::{arguments, behind, expr};
 use crate::next::{
-    Parsed, behind_comma, bytes, is_comma_and_name, is_named, modifier, take, too_deep,
+    Parsed, behind_comma, bytes, is_comma_and_name, is_named, list_of, modifier, take, too_deep,
+    with,
 };
 use scad_ast::{
-    Args, Binder, Binders, Body, Core, Expr, Instance, Mark, Marks, Param, Params, Statement,
-    Statements,
+    Binder, Binders, Body, Core, Expr, Instance, Mark, Marks, Param, Params, Statement, Statements,
 };
 use scad_lexer::{Reserved, Symbol, Token};
 use std::alloc::Global;
@@ -70,7 +71,7 @@ fn braces<'a>(alloc: Global, tokens: &'a [Token], depth: u32) -> Parsed<'a, Stat
     ensures rest { IfOk result (λ p. length p.1.now ≤ length tokens.now) }
 {
     let (statements, rest) = statements(alloc, tokens, depth)?;
-    let (_, rest) = take(Class::Sign(Symbol::CloseBrace), rest)?;
+    let ((statements, _), rest) = with(statements, take(Class::Sign(Symbol::CloseBrace), rest))?;
     Ok((statements, rest))
 }
 
@@ -110,7 +111,7 @@ fn ended<'a>(alloc: Global, tokens: &'a [Token], depth: u32) -> Parsed<'a, Expr>
     ensures rest { IfOk result (λ p. length p.1.now ≤ length tokens.now) }
 {
     let (value, rest) = expr(alloc, tokens, depth)?;
-    let (_, rest) = take(Class::Sign(Symbol::Semicolon), rest)?;
+    let ((value, _), rest) = with(value, take(Class::Sign(Symbol::Semicolon), rest))?;
     Ok((value, rest))
 }
 
@@ -145,9 +146,9 @@ fn module<'a>(alloc: Global, tokens: &'a [Token], depth: u32) -> Parsed<'a, Stat
 {
     let (word, rest) = take(Class::Word(Reserved::Module), tokens)?;
     let (name, rest) = take(Class::Name, rest)?;
-    let (params, rest) = params(alloc, rest, depth)?;
-    let (body, rest) = body(alloc, rest, depth)?;
     let bytes = bytes(alloc, &name.kind)?;
+    let ((bytes, params), rest) = with(bytes, params(alloc, rest, depth))?;
+    let (((bytes, params), body), rest) = with((bytes, params), body(alloc, rest, depth))?;
     Ok((
         Statement::Module(word.place, bytes, name.place, params, body),
         rest,
@@ -162,10 +163,13 @@ fn function<'a>(alloc: Global, tokens: &'a [Token], depth: u32, inner: u32) -> P
 {
     let (word, rest) = take(Class::Word(Reserved::Function), tokens)?;
     let (name, rest) = take(Class::Name, rest)?;
-    let (params, rest) = params(alloc, rest, inner)?;
-    let (_, rest) = take(Class::Sign(Symbol::Assign), rest)?;
-    let (value, rest) = ended(alloc, rest, depth)?;
     let bytes = bytes(alloc, &name.kind)?;
+    let ((bytes, params), rest) = with(bytes, params(alloc, rest, inner))?;
+    let (((bytes, params), _), rest) = with(
+        (bytes, params),
+        take(Class::Sign(Symbol::Assign), rest),
+    )?;
+    let (((bytes, params), value), rest) = with((bytes, params), ended(alloc, rest, depth))?;
     Ok((
         Statement::Function(word.place, bytes, name.place, params, value),
         rest,
@@ -179,7 +183,7 @@ fn params<'a>(alloc: Global, tokens: &'a [Token], depth: u32) -> Parsed<'a, Para
 {
     let (_, rest) = take(Class::Sign(Symbol::OpenParenthesis), tokens)?;
     let (params, rest) = param_list(alloc, rest, depth)?;
-    let (_, rest) = take(Class::Sign(Symbol::CloseParenthesis), rest)?;
+    let ((params, _), rest) = with(params, take(Class::Sign(Symbol::CloseParenthesis), rest))?;
     Ok((params, rest))
 }
 
@@ -188,13 +192,21 @@ fn param_list<'a>(alloc: Global, tokens: &'a [Token], depth: u32) -> Parsed<'a, 
     ensures value { Gives (λ p. (params_of p.0, p.1.now)) result (params_read (param_in depth (expr_read depth)) tokens.now) }
     ensures rest { IfOk result (λ p. length p.1.now ≤ length tokens.now) }
 {
-    let mut items = Vec::new(alloc);
     if !Class::Name.begins(tokens) {
-        return Ok((Params { items }, tokens));
+        return Ok((no_params(alloc), tokens));
     }
     let (first, rest) = param(alloc, tokens, depth)?;
-    items.push(first)?;
+    let items = list_of(alloc, first, 4)?;
     more_params(alloc, items, rest, depth)
+}
+
+/// No parameters.
+fn no_params(alloc: Global) -> Params
+    ensures { params_of result ≡ [] }
+{
+    Params {
+        items: Vec::new(alloc),
+    }
 }
 
 /// More parameters, each behind a comma, and maybe a comma behind the last.
@@ -229,8 +241,7 @@ fn param<'a>(alloc: Global, tokens: &'a [Token], depth: u32) -> Parsed<'a, Param
     if !Class::Sign(Symbol::Assign).begins(rest) {
         return Ok((Param::Plain(name.place, bytes), rest));
     }
-    let (_, rest) = take(Class::Sign(Symbol::Assign), rest)?;
-    let (value, rest) = expr(alloc, rest, depth)?;
+    let ((bytes, value), rest) = with(bytes, behind(alloc, Symbol::Assign, rest, depth))?;
     Ok((Param::WithDefault(name.place, bytes, value), rest))
 }
 
@@ -241,7 +252,7 @@ fn instance<'a>(alloc: Global, tokens: &'a [Token], depth: u32) -> Parsed<'a, In
     ensures shorter { IfOk result (λ p. length p.1.now < length tokens.now) }
 {
     let (marks, rest) = marks(alloc, tokens)?;
-    let (core, rest) = core(alloc, rest, depth)?;
+    let ((marks, core), rest) = with(marks, core(alloc, rest, depth))?;
     Ok((instance_from(marks, core), rest))
 }
 
@@ -321,15 +332,34 @@ fn branch<'a>(alloc: Global, tokens: &'a [Token], depth: u32) -> Parsed<'a, Core
 {
     let (word, rest) = take(Class::Word(Reserved::If), tokens)?;
     let (test, rest) = condition(alloc, rest, depth)?;
-    let (then, rest) = body(alloc, rest, depth)?;
-    let then = Box::new(alloc, then)?;
+    let ((test, then), rest) = with(test, boxed_body(alloc, rest, depth))?;
     if !Class::Word(Reserved::Else).begins(rest) {
         return Ok((Core::If(word.place, test, then), rest));
     }
-    let (_, rest) = take(Class::Word(Reserved::Else), rest)?;
-    let (other, rest) = body(alloc, rest, depth)?;
-    let other = Box::new(alloc, other)?;
+    let (((test, then), other), rest) = with((test, then), otherwise(alloc, rest, depth))?;
     Ok((Core::IfElse(word.place, test, then, other), rest))
+}
+
+/// An `else` and its body.
+#[cycle(statement)]
+#[inline(always)]
+fn otherwise<'a>(alloc: Global, tokens: &'a [Token], depth: u32) -> Parsed<'a, Box<Body>>
+    ensures value { Gives (λ p. (body_of p.0.value, p.1.now)) result (both second_of (one (is else_word)) (body_read depth) tokens.now) }
+    ensures rest { IfOk result (λ p. length p.1.now ≤ length tokens.now) }
+{
+    let (_, rest) = take(Class::Word(Reserved::Else), tokens)?;
+    boxed_body(alloc, rest, depth)
+}
+
+/// A body in a box.
+#[cycle(statement)]
+#[inline(always)]
+fn boxed_body<'a>(alloc: Global, tokens: &'a [Token], depth: u32) -> Parsed<'a, Box<Body>>
+    ensures value { Gives (λ p. (body_of p.0.value, p.1.now)) result (body_read depth tokens.now) }
+    ensures rest { IfOk result (λ p. length p.1.now ≤ length tokens.now) }
+{
+    let (body, rest) = body(alloc, tokens, depth)?;
+    Ok((Box::new(alloc, body)?, rest))
 }
 
 /// An expression in parentheses.
@@ -339,7 +369,7 @@ fn condition<'a>(alloc: Global, tokens: &'a [Token], depth: u32) -> Parsed<'a, E
 {
     let (_, rest) = take(Class::Sign(Symbol::OpenParenthesis), tokens)?;
     let (test, rest) = expr(alloc, rest, depth)?;
-    let (_, rest) = take(Class::Sign(Symbol::CloseParenthesis), rest)?;
+    let ((test, _), rest) = with(test, take(Class::Sign(Symbol::CloseParenthesis), rest))?;
     Ok((test, rest))
 }
 
@@ -352,8 +382,7 @@ fn repetition<'a>(alloc: Global, tokens: &'a [Token], depth: u32) -> Parsed<'a, 
 {
     let (word, rest) = take(Class::LoopWord, tokens)?;
     let (binders, rest) = binders(alloc, rest, depth)?;
-    let (body, rest) = body(alloc, rest, depth)?;
-    let body = Box::new(alloc, body)?;
+    let ((binders, body), rest) = with(binders, boxed_body(alloc, rest, depth))?;
     if Class::Word(Reserved::For).has(&word.kind) {
         Ok((Core::For(word.place, binders, body), rest))
     } else {
@@ -368,10 +397,9 @@ fn binders<'a>(alloc: Global, tokens: &'a [Token], depth: u32) -> Parsed<'a, Bin
 {
     let (_, rest) = take(Class::Sign(Symbol::OpenParenthesis), tokens)?;
     let (first, rest) = binder(alloc, rest, depth)?;
-    let mut items = Vec::new(alloc);
-    items.push(first)?;
+    let items = list_of(alloc, first, 4)?;
     let (binders, rest) = more_binders(alloc, items, rest, depth)?;
-    let (_, rest) = take(Class::Sign(Symbol::CloseParenthesis), rest)?;
+    let ((binders, _), rest) = with(binders, take(Class::Sign(Symbol::CloseParenthesis), rest))?;
     Ok((binders, rest))
 }
 
@@ -403,10 +431,9 @@ fn binder<'a>(alloc: Global, tokens: &'a [Token], depth: u32) -> Parsed<'a, Bind
         return Err(too_deep(Class::Name, Class::LeftOut, tokens));
     }
     let (token, rest) = take(Class::Name, tokens)?;
-    let (_, rest) = take(Class::Sign(Symbol::Assign), rest)?;
-    let (values, rest) = expr(alloc, rest, depth)?;
-    let place = token.place;
     let name = bytes(alloc, &token.kind)?;
+    let ((name, values), rest) = with(name, behind(alloc, Symbol::Assign, rest, depth))?;
+    let place = token.place;
     Ok((
         Binder {
             place,
@@ -424,22 +451,10 @@ fn call<'a>(alloc: Global, tokens: &'a [Token], depth: u32) -> Parsed<'a, Core>
     ensures shorter { IfOk result (λ p. length p.1.now < length tokens.now) }
 {
     let (name, rest) = take(Class::Name, tokens)?;
-    let (args, rest) = arguments(alloc, rest, depth)?;
-    let (body, rest) = body(alloc, rest, depth)?;
     let bytes = bytes(alloc, &name.kind)?;
-    let body = Box::new(alloc, body)?;
+    let ((bytes, args), rest) = with(bytes, arguments(alloc, rest, depth))?;
+    let (((bytes, args), body), rest) = with((bytes, args), boxed_body(alloc, rest, depth))?;
     Ok((Core::Call(name.place, bytes, args, body), rest))
-}
-
-/// Arguments in parentheses.
-fn arguments<'a>(alloc: Global, tokens: &'a [Token], depth: u32) -> Parsed<'a, Args>
-    ensures value { Gives (λ p. (args_of p.0, p.1.now)) result (in_parentheses (args_read (arg_in depth (expr_read depth))) tokens.now) }
-    ensures rest { IfOk result (λ p. length p.1.now ≤ length tokens.now) }
-{
-    let (_, rest) = take(Class::Sign(Symbol::OpenParenthesis), tokens)?;
-    let (args, rest) = args(alloc, rest, depth)?;
-    let (_, rest) = take(Class::Sign(Symbol::CloseParenthesis), rest)?;
-    Ok((args, rest))
 }
 
 /// A body whose tokens are less deep than so much.

@@ -2,3 +2,4 @@ pub mod Envs
 pub mod Bound
 pub mod Scans
 pub mod Numbered
+pub mod Matched

@@ -1,12 +1,13 @@
 -- A walk through a text, part by part.
-use Rattle.std.proofs.Common.{◌≡◌, ℕ, zero, suc, ◌+◌, ◌<◌, List, [], ◌∷◌, ◌++◌, length, map, drop, get_or, refl, ap, ◌∙◌, arith, add-one, drop-cons}
+use Rattle.std.proofs.Common.{◌≡◌, ℕ, zero, suc, ◌+◌, ◌<◌, ◌≤◌, List, [], ◌∷◌, ◌++◌, length, map, drop, get_or, refl, sym, ap, ◌∙◌, arith, add-one, drop-cons, append_assoc, append-nil}
 use Rattle.scad_ast.specs.declared.statement.Statement.{Statement}
-use Rattle.scad_ast.specs.Terms.{and_statement, statements_from}
+use Rattle.scad_ast.specs.Terms.{StatementTerm, StatementTerms, no_statements, and_statement, statements_from}
 use Rattle.scad_ast.specs.StatementView.{statement_of}
 use Rattle.scad_scope.specs.declared.blocks.Seek.{Seek}
 use Rattle.scad_scope.specs.declared.blocks.Sought.{Sought}
 use Rattle.scad_scope.specs.declared.blocks.Sought.TheVariants.{Reached as ReachedIn, Passed as PassedIn, TooMany}
 use Rattle.scad_scope.specs.Blocks.{Mark, a_block, a_function, a_module, Block, Scan, Reached, Passed, scan, marks_of, marks_in, functions_among, modules_among}
+use Rattle.scad_scope.specs.Names.{Pairs}
 use Rattle.scad_scope.specs.Seeking.{TellsSought}
 
 -- a walk that goes on
@@ -72,3 +73,31 @@ pub marks_from : (ss : List Statement) (i : ℕ) (s : Statement) → i < length 
     → marks_in (statements_from (map statement_of (drop i ss))) ≡ marks_of (statement_of s) ++ marks_in
     (statements_from (map statement_of (drop (i + 1) ss)))
 marks_from ss i s h e = ap marks_in (statements_here ss i s h e)
+
+statements_past : (ss : List Statement) (i : ℕ) → length ss ≤ i → statements_from (map statement_of (drop i ss)) ≡ no_statements
+statements_past [] zero h = refl
+statements_past [] (suc i) h = refl
+statements_past (s ∷ ss) zero h = absurd (omega arith)
+statements_past (s ∷ ss) (suc i) h = statements_past ss i (omega arith)
+
+-- the definitions of one kind that stand in a block: one statement more, and at the end
+module _ (one : ℕ → StatementTerm → Pairs ℕ) (all : ℕ → StatementTerms → Pairs ℕ) (among : StatementTerm → ℕ) where
+  pub own_more : ((n : ℕ) (s : StatementTerm) (rest : StatementTerms) → all n (and_statement s rest) ≡ one n s ++ all (n + among s) rest)
+      → (ss : List Statement) (i : ℕ) (s : Statement) (n m : ℕ) (before after whole : Pairs ℕ)
+      → i < length ss → s ≡ get_or ss i s → after ≡ before ++ one n (statement_of s) → m ≡ n + among (statement_of s)
+      → before ++ all n (statements_from (map statement_of (drop i ss))) ≡ whole
+      → after ++ all m (statements_from (map statement_of (drop (i + 1) ss))) ≡ whole
+  own_more step ss i s n m before after whole h e a b told =
+      let rest = statements_from (map statement_of (drop (i + 1) ss)) in
+      ap (λ l. l ++ all m rest) a
+      ∙ ap (λ k. (before ++ one n (statement_of s)) ++ all k rest) b
+      ∙ append_assoc before (one n (statement_of s)) (all (n + among (statement_of s)) rest)
+      ∙ ap (λ l. before ++ l) (sym (step n (statement_of s) rest))
+      ∙ ap (λ l. before ++ all n l) (sym (statements_here ss i s h e))
+      ∙ told
+
+  pub own_end : ((n : ℕ) → all n no_statements ≡ []) → (ss : List Statement) (i n : ℕ) (before whole : Pairs ℕ) → length ss ≤ i
+      → before ++ all n (statements_from (map statement_of (drop i ss))) ≡ whole → before ≡ whole
+  own_end none ss i n before whole h told =
+      sym (append-nil before) ∙ ap (λ l. before ++ l) (sym (none n))
+      ∙ ap (λ l. before ++ all n l) (sym (statements_past ss i h)) ∙ told

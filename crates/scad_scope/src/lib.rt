@@ -7,9 +7,6 @@ mod own;
 mod parameters;
 mod scopes;
 mod table;
-#[cfg(test)]
-mod tests;
-
 pub use parameters::{Matching, arguments, taken_by};
 pub use scopes::Scopes;
 pub use table::Found;

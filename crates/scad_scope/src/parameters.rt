@@ -1,7 +1,7 @@
-ghost use Rattle.std.specs.Prelude.{◌≡◌, ◌<◌, length, map, None, slice_index_or, replicate, IfSome, IfOk};
+ghost use Rattle.std.specs.Prelude.{◌≡◌, ◌+◌, ◌^◌, ◌<◌, ◌≤◌, length, map, None, slice_index_or, replicate, IfSome, IfOk};
 ghost use Rattle.scad_ast.specs.ExprView.{arg_of};
 ghost use Rattle.scad_ast.specs.StatementView.{param_of};
-ghost use Rattle.scad_scope.specs.Arguments.{name_of as name_at, first_named as first_of, taken_by as taken_at, argument_place as place_at, matching_of, free_at, TellsMatching};
+ghost use Rattle.scad_scope.specs.Arguments.{name_of as name_at, first_named as first_of, taken_by as taken_at, argument_place as place_at, positional_after as positional_at, matching_of, free_at, TellsMatching};
 
 use scad_ast::{Arg, Param};
 use std::alloc::Global;
@@ -65,11 +65,21 @@ pub fn arguments(
             return Err(Stop::NoMemory);
         }
         given[param] = Some(number as u32);
-        if let Arg::Positional(_) = arg {
-            positional += 1;
-        }
+        positional = positional_after(positional, arg);
     }
     Ok(Matching { given })
+}
+
+/// How many positional arguments there are with this one.
+fn positional_after(positional: usize, arg: &Arg) -> usize
+    requires { positional + 1 < 2 ^ 64 }
+    ensures value { result ≡ positional_at positional (arg_of arg.now) }
+    ensures within { result ≤ positional + 1 }
+{
+    match arg {
+        Arg::Positional(_) => positional + 1,
+        Arg::Named(_, _, _) => positional,
+    }
 }
 
 fn none_given(alloc: Global, params: usize) -> Result<Vec<Option<u32>>, NoMemory>

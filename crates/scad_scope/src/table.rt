@@ -49,7 +49,7 @@ pub(crate) enum Family {
 }
 
 /// Where a definition was found.
-#[derive(Clone, Copy, Debug, PartialEq, Eq)]
+#[derive(Clone, Copy, PartialEq, Eq)]
 pub struct Found {
     /// The number of the scope in which it stands.
     pub scope: u32,

@@ -1,5 +1,5 @@
 -- Quotients, remainders and sums of whole numbers, as the code computes them.
-use Rattle.std.proofs.Common.{◌≡◌, ℕ, zero, suc, ◌+◌, ◌*◌, ◌/◌, ◌^◌, ◌<◌, ◌≤◌, ℤ, pos, negsuc, ◌+ℤ◌, ◌*ℤ◌, neg_ℤ, refl, sym, ap, subst, ◌∙◌, arith, ◌≤ℤ◌, ◌<ℤ◌, List, Ok, Err, to_z, of_z}
+use Rattle.std.proofs.Common.{◌≡◌, ℕ, zero, suc, ◌+◌, ◌*◌, ◌/◌, ◌^◌, ◌<◌, ◌≤◌, ℤ, pos, negsuc, ◌+ℤ◌, ◌-ℤ◌, ◌*ℤ◌, neg_ℤ, refl, sym, ap, subst, ◌∙◌, arith, ◌≤ℤ◌, ◌<ℤ◌, List, Ok, Err, to_z, of_z}
 use Rattle.std.specs.Prelude.{unsigned_abs, int_div, int_rem, IsTrue}
 use Rattle.std.proofs.lemmas.Int.{to_z-of_z, ints, fits_signed_from_abs, unsigned_abs-mul}
 use Rattle.std.proofs.Math.Nat.{div-le_self, mul-le-mul}
@@ -7,7 +7,7 @@ use Rattle.std.proofs.lemmas.Bool.{ltb-true}
 use mir.Syntax.{w64, w128}
 use mir.Val.{SFits}
 use lib.Signed.{mag_rem}
-use Rattle.text_place.specs.declared.fault.FaultKind.TheVariants.{NotWhole}
+use Rattle.text_place.specs.declared.fault.FaultKind.TheVariants.{NotWhole, ZeroDivisor}
 use Rattle.scad_value.specs.Values.{is_small, Vals, ListVal, TextVal, NumberVal, UndefVal}
 use Rattle.scad_value.specs.Operators.{Answer, sized, unless_zero, exact, quotient_row, remainder_row, plus, index_of, item_at, byte_at}
 
@@ -59,6 +59,26 @@ nonzero (negsuc n) answer h = refl
 zero_from : (z : ℤ) → SFits w128 z → of_z w128 z ≡ 0 → z ≡ pos 0
 zero_from z f h = sym (to_z-of_z w128 z f) ∙ ap (to_z w128) h
 
+-- a divisor that is 0, and one that isn't, as the code widens it
+pub by_zero : (d : ℤ) (answer : Answer ℤ) → SFits w64 d → of_z w64 d ≡ 0 → Err ZeroDivisor ≡ unless_zero d answer
+by_zero d answer g z = sym (ap (λ x. unless_zero x answer) (sym (to_z-of_z w64 d g) ∙ ap (to_z w64) z))
+
+not_zero : (n : ℕ) → (n ≡ 0 → ⊥) → 0 < n
+not_zero zero h = absurd (h refl)
+not_zero (suc n) h = omega arith
+
+pub widens : (z : ℤ) → SFits w64 z → SFits w128 (to_z w64 (of_z w64 z))
+widens z h = subst (SFits w128) (sym (to_z-of_z w64 z h)) (wide z h)
+
+pub divides : (a d : ℤ) → (of_z w64 d ≡ 0 → ⊥) → SFits w64 a → SFits w64 d
+    → (0 < of_z w128 (to_z w64 (of_z w64 d))) × SFits w128 (int_div (to_z w128 (of_z w128 (to_z w64 (of_z w64 a))))
+    (to_z w128 (of_z w128 (to_z w64 (of_z w64 d)))))
+divides a d n f g = (
+  not_zero _ (λ z. n (ap (of_z w64) (zero_from d (wide d g) (ap (of_z w128) (sym (to_z-of_z w64 d g)) ∙ z)))),
+  subst (λ x. SFits w128 (int_div x (to_z w128 (of_z w128 (to_z w64 (of_z w64 d)))))) (sym (widened a f))
+      (quotient_fits a _ f),
+)
+
 -- a quotient without a remainder
 pub exact_quotient : (a d : ℤ) → (of_z w64 d ≡ 0 → ⊥) → SFits w64 a → SFits w64 d
     → of_z w128 (int_rem (to_z w128 (of_z w128 (to_z w64 (of_z w64 a)))) (to_z w128 (of_z w128 (to_z w64
@@ -105,13 +125,68 @@ pub plus_plus : (a b : ℤ) (answer : Answer ℤ) → plus a (plus b answer) ≡
 plus_plus a b (Ok n) = ap (λ x. Ok x) (omega (arith, ints))
 plus_plus a b (Err kind) = refl
 
--- a sum of small products
+-- the size of a sum and of a difference
 pub abs_sum : (a b : ℤ) → unsigned_abs (a +ℤ b) ≤ unsigned_abs a + unsigned_abs b
 abs_sum (pos a) (pos b) = omega arith
 abs_sum (pos a) (negsuc b) = omega (arith, ints)
 abs_sum (negsuc a) (pos b) = omega (arith, ints)
 abs_sum (negsuc a) (negsuc b) = omega arith
 
+abs_difference : (a b : ℤ) → unsigned_abs (a -ℤ b) ≤ unsigned_abs a + unsigned_abs b
+abs_difference (pos a) (pos b) = omega (arith, ints)
+abs_difference (pos a) (negsuc b) = omega (arith, ints)
+abs_difference (negsuc a) (pos b) = omega (arith, ints)
+abs_difference (negsuc a) (negsuc b) = omega (arith, ints)
+
+-- what the code does with two numbers of 64 bits in 128 bits
+module _ (f : ℤ → ℤ → ℤ) (size : (a b : ℤ) → unsigned_abs (f a b) ≤ unsigned_abs a + unsigned_abs b)
+    (a b : ℤ) (h : SFits w64 a) (k : SFits w64 b) where
+  both_fit : SFits w128 (f a b)
+  both_fit = fits_signed_from_abs w128 (f a b) (omega (arith, size a b, abs_fits a h, abs_fits b k))
+
+  wide_fits : SFits w128 (f (to_z w128 (of_z w128 (to_z w64 (of_z w64 a)))) (to_z w128 (of_z w128 (to_z w64
+      (of_z w64 b)))))
+  wide_fits = subst (λ x. SFits w128 (f x (to_z w128 (of_z w128 (to_z w64 (of_z w64 b)))))) (sym (widened a h))
+      (subst (λ x. SFits w128 (f a x)) (sym (widened b k)) both_fit)
+
+  wide_is : to_z w128 (of_z w128 (f (to_z w128 (of_z w128 (to_z w64 (of_z w64 a)))) (to_z w128 (of_z w128
+      (to_z w64 (of_z w64 b)))))) ≡ f a b
+  wide_is = ap (λ x. to_z w128 (of_z w128 (f x (to_z w128 (of_z w128 (to_z w64 (of_z w64 b))))))) (widened a h)
+      ∙ ap (λ x. to_z w128 (of_z w128 (f a x))) (widened b k) ∙ to_z-of_z w128 (f a b) both_fit
+
+module _ (a b : ℤ) (h : SFits w64 a) (k : SFits w64 b) where
+  pub sum_wide : SFits w128 (to_z w128 (of_z w128 (to_z w64 (of_z w64 a))) +ℤ to_z w128 (of_z w128 (to_z w64
+      (of_z w64 b))))
+  sum_wide = wide_fits (λ x y. x +ℤ y) abs_sum a b h k
+
+  pub sum_told : to_z w128 (of_z w128 (to_z w128 (of_z w128 (to_z w64 (of_z w64 a))) +ℤ to_z w128 (of_z w128
+      (to_z w64 (of_z w64 b))))) ≡ a +ℤ b
+  sum_told = wide_is (λ x y. x +ℤ y) abs_sum a b h k
+
+  pub difference_wide : SFits w128 (to_z w128 (of_z w128 (to_z w64 (of_z w64 a))) -ℤ to_z w128 (of_z w128 (to_z w64
+      (of_z w64 b))))
+  difference_wide = wide_fits (λ x y. x -ℤ y) abs_difference a b h k
+
+  pub difference_told : to_z w128 (of_z w128 (to_z w128 (of_z w128 (to_z w64 (of_z w64 a))) -ℤ to_z w128 (of_z w128
+      (to_z w64 (of_z w64 b))))) ≡ a -ℤ b
+  difference_told = wide_is (λ x y. x -ℤ y) abs_difference a b h k
+
+-- a number with the other sign
+zero_less : (z : ℤ) → pos 0 -ℤ z ≡ neg_ℤ z
+zero_less z = omega (arith, ints)
+
+module _ (z : ℤ) (h : SFits w64 z) where
+  negated_fits : SFits w128 (pos 0 -ℤ z)
+  negated_fits = fits_signed_from_abs w128 (pos 0 -ℤ z) (omega (arith, abs_difference (pos 0) z, abs_fits z h))
+
+  pub negated_wide : SFits w128 (pos 0 -ℤ to_z w128 (of_z w128 (to_z w64 (of_z w64 z))))
+  negated_wide = subst (λ x. SFits w128 (pos 0 -ℤ x)) (sym (widened z h)) negated_fits
+
+  pub negated_told : to_z w128 (of_z w128 (pos 0 -ℤ to_z w128 (of_z w128 (to_z w64 (of_z w64 z))))) ≡ neg_ℤ z
+  negated_told = ap (λ x. to_z w128 (of_z w128 (pos 0 -ℤ x))) (widened z h)
+      ∙ to_z-of_z w128 (pos 0 -ℤ z) negated_fits ∙ zero_less z
+
+-- a sum of small products
 small_size : (a : ℤ) → IsTrue (is_small a) → unsigned_abs a < 2 ^ 53
 small_size a h = ltb-true (unsigned_abs a) (2 ^ 53) h
 

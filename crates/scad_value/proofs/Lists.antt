@@ -4,6 +4,8 @@ use Rattle.std.proofs.lemmas.List.{map-append}
 use Rattle.std.proofs.Common.{ℤ}
 use Rattle.std.specs.Prelude.{IsTrue}
 use Rattle.std.proofs.lemmas.Bool.{eq-eqb, ne_eqb, and_parts}
+use Rattle.scad_value.specs.declared.stop.ValueStop.{ValueStop}
+use Rattle.scad_value.specs.declared.stop.ValueStop.TheVariants.{Kind, NoMemory}
 use Rattle.scad_value.specs.declared.value.Value.{Value}
 use Rattle.scad_value.specs.declared.value.Values.{Values, roll-Values}
 use Rattle.scad_value.specs.declared.value.Value.TheOpen.{Values-F}
@@ -11,8 +13,8 @@ use Rattle.scad_value.specs.declared.value.Value.TheFolds.{fold_out-Values, fold
 use Rattle.scad_value.specs.Values.{Val, NumberVal, TruthVal, TextVal, ListVal, RangeVal, UndefVal, Vals, no_vals, and_val, vals_from, count_of, parts_in, parts_of, truth_of, are_same, all_same, has_small_numbers, have_small_numbers}
 use Rattle.text_place.specs.declared.fault.FaultKind.{FaultKind}
 use Rattle.text_place.specs.declared.fault.FaultKind.TheVariants.{TypeMismatch}
-use Rattle.scad_value.specs.Operators.{Answer, in_front, if_equal, by_parts, pairs_by_parts, and_then, dot_of, product_at, plus, dot_row, number, sized, item_at, byte_at}
-use Rattle.scad_value.specs.View.{val_of, vals_of, vals_in, value_step, values_step}
+use Rattle.scad_value.specs.Operators.{Answer, in_front, if_equal, by_parts, pairs_by_parts, each_part, each_of_parts, and_then, dot_of, product_at, plus, dot_row, number, sized, item_at, byte_at}
+use Rattle.scad_value.specs.View.{val_of, vals_of, vals_in, value_step, values_step, Tells, TellsAll}
 
 -- what a list in memory stands for
 pub vals_out : (vs : Values) → vals_of vs ≡ vals_in vs.items.items
@@ -105,6 +107,53 @@ pub pairs_end : (row : _) (vs items : List Value) (ws : Vals) (i : ℕ) → leng
     ≡ Ok (vals_in items)
 pairs_end row vs items ws i h =
     ap (λ (l : Vals). in_front (vals_in items) (pairs_by_parts row l ws)) (from_end vs i h)
+    ∙ ap (λ l. Ok l) (append-nil (vals_in items))
+
+-- each part of a list: at the start, one more, a fault, and at the end
+none_in_front : (answer : Answer (List Val)) → answer ≡ in_front [] answer
+none_in_front (Ok vs) = refl
+none_in_front (Err kind) = refl
+
+pub parts_begin : (row : _) (of : Values) (items : List Value) → items ≡ []
+    → each_of_parts row (vals_from (vals_of of))
+    ≡ in_front (vals_in items) (each_of_parts row (vals_from (vals_in of.items.items)))
+parts_begin row of items e =
+    ap (λ xs. each_of_parts row (vals_from xs)) (vals_out of)
+    ∙ none_in_front (each_of_parts row (vals_from (vals_in of.items.items)))
+    ∙ ap (λ (l : List Value). in_front (vals_in l) (each_of_parts row (vals_from (vals_in of.items.items)))) (sym e)
+
+part_here : (row : _) (vs items : List Value) (i : ℕ) (v : Value) (answer : Answer Val) → i < length vs
+    → v ≡ get_or vs i v → each_part row (val_of v) ≡ answer
+    → in_front (vals_in items) (each_of_parts row (vals_from (vals_in (drop i vs))))
+    ≡ in_front (vals_in items) (and_then answer (λ x. in_front (x ∷ []) (each_of_parts row (vals_from (vals_in
+    (drop (i + 1) vs))))))
+part_here row vs items i v answer h e g =
+    ap (λ (l : Vals). in_front (vals_in items) (each_of_parts row l)) (from_here vs i v h e)
+    ∙ ap (λ (a : Answer Val). in_front (vals_in items) (and_then a (λ x. in_front (x ∷ []) (each_of_parts row
+    (vals_from (vals_in (drop (i + 1) vs))))))) g
+
+pub parts_more : (row : _) (vs items : List Value) (i : ℕ) (v x : Value) → i < length vs
+    → v ≡ get_or vs i v → each_part row (val_of v) ≡ Ok (val_of x)
+    → in_front (vals_in items) (each_of_parts row (vals_from (vals_in (drop i vs))))
+    ≡ in_front (vals_in (items ++ x ∷ [])) (each_of_parts row (vals_from (vals_in (drop (i + 1) vs))))
+parts_more row vs items i v x h e g =
+    let tail = each_of_parts row (vals_from (vals_in (drop (i + 1) vs))) in
+    part_here row vs items i v (Ok (val_of x)) h e g
+    ∙ front_of_front (vals_in items) (val_of x) tail
+    ∙ ap (λ l. in_front l tail) (sym (map-append val_of items (x ∷ [])))
+
+pub parts_stop : (row : _) (of : Values) (items : List Value) (i : ℕ) (v : Value) (stop : ValueStop)
+    → i < length of.items.items → v ≡ get_or of.items.items i v → Tells (Err stop) (each_part row (val_of v))
+    → each_of_parts row (vals_from (vals_of of))
+    ≡ in_front (vals_in items) (each_of_parts row (vals_from (vals_in (drop i of.items.items))))
+    → TellsAll (Err stop) (each_of_parts row (vals_from (vals_of of)))
+parts_stop row of items i v (Kind kind) h e g told = told ∙ part_here row of.items.items items i v (Err kind) h e g
+parts_stop row of items i v NoMemory h e g told = tt
+
+pub parts_end : (row : _) (vs items : List Value) (i : ℕ) → length vs ≤ i
+    → in_front (vals_in items) (each_of_parts row (vals_from (vals_in (drop i vs)))) ≡ Ok (vals_in items)
+parts_end row vs items i h =
+    ap (λ (l : Vals). in_front (vals_in items) (each_of_parts row l)) (from_end vs i h)
     ∙ ap (λ l. Ok l) (append-nil (vals_in items))
 
 -- lists of one length, and of two

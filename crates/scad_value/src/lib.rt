@@ -5,8 +5,6 @@ mod arithmetic;
 mod compare;
 mod operator;
 mod stop;
-#[cfg(test)]
-mod tests;
 mod value;
 
 pub use arithmetic::{product_of_two, sized};

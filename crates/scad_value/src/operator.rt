@@ -1,6 +1,6 @@
 ghost use Rattle.std.specs.Prelude.{◌≡◌, ◌<◌, ◌^◌, IsTrue, IfOk, Ok, length};
-ghost use Rattle.scad_value.specs.Values.{is_bounded, vals_from, has_small_numbers, have_small_numbers, parts_in, NumberVal, TextVal, ListVal, UndefVal};
-ghost use Rattle.scad_value.specs.Operators.{binary_of, unary_of, index_of, made as made_at, product_of, quotient_of, remainder_of, dot_row, dot_of, and_then, sized as sized_at, number as number_at, order_of, item_at, byte_at};
+ghost use Rattle.scad_value.specs.Values.{Val, is_bounded, vals_from, has_small_numbers, have_small_numbers, parts_in, NumberVal, TextVal, ListVal, UndefVal};
+ghost use Rattle.scad_value.specs.Operators.{Answer, binary_of, unary_of, index_of, made as made_at, product_of, quotient_of, remainder_of, dot_row, dot_of, and_then, sized as sized_at, number as number_at, order_of, item_at, byte_at};
 ghost use Rattle.scad_value.specs.View.{val_of, vals_of, Answers, Tells, GivesBounded};
 
 use crate::arithmetic::{
@@ -39,10 +39,10 @@ fn operate(alloc: Global, op: BinaryOp, left: &Value, right: &Value) -> Result<V
         BinaryOp::LessEqual => Ok(Value::Truth(order(left, right)?.is_le())),
         BinaryOp::Greater => Ok(Value::Truth(order(left, right)?.is_gt())),
         BinaryOp::GreaterEqual => Ok(Value::Truth(order(left, right)?.is_ge())),
-        BinaryOp::Add => Ok(made(by_parts(alloc, PairRow::Sum, left, right)?)?),
-        BinaryOp::Subtract => Ok(made(by_parts(alloc, PairRow::Difference, left, right)?)?),
-        BinaryOp::Multiply => Ok(made(product(alloc, left, right)?)?),
-        BinaryOp::Divide => Ok(made(quotient(alloc, left, right)?)?),
+        BinaryOp::Add => made_of(by_parts(alloc, PairRow::Sum, left, right)),
+        BinaryOp::Subtract => made_of(by_parts(alloc, PairRow::Difference, left, right)),
+        BinaryOp::Multiply => made_of(product(alloc, left, right)),
+        BinaryOp::Divide => made_of(quotient(alloc, left, right)),
         BinaryOp::Remainder => remainder_of_two(left, right),
     }
 }
@@ -60,8 +60,8 @@ fn operate_on(alloc: Global, op: UnaryOp, of: &Value) -> Result<Value, ValueStop
     ensures { Tells result (unary_of op (val_of of.now)) }
 {
     match op {
-        UnaryOp::Negate => Ok(made(each_part(alloc, PartRow::Negate, of)?)?),
-        UnaryOp::Keep => Ok(made(each_part(alloc, PartRow::Keep, of)?)?),
+        UnaryOp::Negate => made_of(each_part(alloc, PartRow::Negate, of)),
+        UnaryOp::Keep => made_of(each_part(alloc, PartRow::Keep, of)),
         UnaryOp::Not => Ok(Value::Truth(!truth(of))),
     }
 }
@@ -146,6 +146,13 @@ pub fn made(value: Value) -> Result<Value, FaultKind>
         return Err(FaultKind::LongList);
     }
     Ok(value)
+}
+
+/// The value that was given, unless it is LongList, or why none was.
+fn made_of(given: Result<Value, ValueStop>) -> Result<Value, ValueStop>
+    ensures { (answer : Answer Val) → Tells given answer → Tells result (made_at answer) }
+{
+    Ok(made(given?)?)
 }
 
 fn order(left: &Value, right: &Value) -> Result<Ordering, FaultKind>

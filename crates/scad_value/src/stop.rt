@@ -2,7 +2,7 @@ use std::alloc::{AllocError, AllocFailed};
 use text_place::{FaultKind, NoMemory};
 
 /// Why an operator gives no value.
-#[derive(Clone, Copy, Debug, PartialEq, Eq)]
+#[derive(Clone, Copy)]
 pub enum ValueStop {
     /// TypeMismatch, ZeroDivisor, NotWhole, TooLarge or LongList.
     Kind(FaultKind),

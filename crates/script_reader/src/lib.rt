@@ -8,6 +8,3 @@ mod script;
 
 pub use reader::read_script;
 pub use script::{ClientScript, ClientScripts, Command, Commands, Script, ScriptFault};
-
-#[cfg(test)]
-mod tests;

@@ -12,6 +12,3 @@ mod slices;
 mod solids;
 
 pub use server::{Status, serve};
-
-#[cfg(test)]
-mod tests;

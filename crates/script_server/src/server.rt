@@ -23,7 +23,7 @@ const SCRIPT_FAULT: &[u8] = b"script 1 NotYet\n";
 const SCRIPT_BYTES: usize = 1_048_576;
 
 /// How a call of the server ended. The number is the program's exit status.
-#[derive(Clone, Copy, Debug, PartialEq, Eq)]
+#[derive(Clone, Copy, PartialEq, Eq)]
 pub enum Status {
     /// The whole output was written.
     Done = 0,

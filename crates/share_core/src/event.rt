@@ -1,5 +1,5 @@
 /// What a client does in one step. Nodes are numbered from 0.
-#[derive(Clone, Copy, Debug, PartialEq, Eq)]
+#[derive(Clone, Copy)]
 pub enum Act {
     /// It comes to its next command.
     Command,
@@ -14,14 +14,14 @@ pub enum Act {
 }
 
 /// One step of one client. Clients are numbered from 0.
-#[derive(Clone, Copy, Debug, PartialEq, Eq)]
+#[derive(Clone, Copy)]
 pub struct Event {
     pub client: u32,
     pub act: Act,
 }
 
 /// What became of an event.
-#[derive(Clone, Copy, Debug, PartialEq, Eq)]
+#[derive(Clone, Copy, PartialEq, Eq)]
 pub enum Stepped {
     Taken,
     /// The event is not possible in this state, which is unchanged.

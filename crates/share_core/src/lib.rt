@@ -11,6 +11,3 @@ mod world;
 pub use event::{Act, Event, Stepped};
 pub use work::Work;
 pub use world::{World, isolated, run};
-
-#[cfg(test)]
-mod tests;

@@ -157,20 +157,3 @@ impl From<Fault> for Stop {
         Stop::Fault(fault)
     }
 }
-
-#[cfg(test)]
-mod tests {
-    use super::*;
-
-    #[test]
-    fn names_kinds(rt: HostRuntime) {
-        let cases = [
-            (FaultKind::BadCharacter, "BadCharacter"),
-            (FaultKind::ZeroDivisor, "ZeroDivisor"),
-            (FaultKind::NotYet, "NotYet"),
-        ];
-        for (kind, name) in cases {
-            assert_eq!(rt; word(kind), name);
-        }
-    }
-}

@@ -3,8 +3,8 @@ use Rattle.std.proofs.lemmas.List.{map-append}
 use Rattle.std.proofs.lemmas.Result.{err_from_is_err_and}
 use Rattle.scad_ast.specs.ExprView.{term_of, link_of, suffix_of, arg_of}
 use Rattle.scad_grammar.specs.Classes.{close_bracket_sign, close_parenthesis_sign, among, other_than}
-use Rattle.scad_grammar.specs.Grammar.{levels, chain_of, postfix_of}
-use Rattle.scad_grammar.specs.Reading.{after}
+use Rattle.scad_grammar.specs.Grammar.{levels}
+use Rattle.scad_grammar.specs.Reading.{with_front}
 use Rattle.scad_grammar.specs.Reads.{expr_read, operand_read, arg_in, suffix_read}
 use Rattle.scad_grammar.proofs.Readers.{loop_more, loop_end, loop_fault}
 use Rattle.scad_parser.specs.declared.class.Level.TheVariants.{Or}
@@ -15,7 +15,7 @@ use Rattle.scad_parser.proofs.Atoms.{atom_is_operand, atom_is_side, atom_is_expr
 use Rattle.scad_parser.proofs.Levels.{same_level, looser_step}
 use Rattle.scad_parser.proofs.Depths.{expr_none, expr_deeper, operand_none, operand_deeper}
 use Rattle.scad_parser.proofs.Lengths.{link_strict, suffix_strict, expr_shorter, arg_shorter}
-use Rattle.scad_parser.proofs.Loops.{first_of_many, many_more, many_end, many_stop, trailing_more, trailing_end, trailing_stop}
+use Rattle.scad_parser.proofs.Loops.{many_more, many_end, many_stop, trailing_more, trailing_end, trailing_stop}
 use Rattle.scad_parser.proofs.Stops.{operand_goes, item_goes, link_goes, first_link_goes, more_links_go, suffix_goes, first_suffix_goes, more_suffixes_go, arg_goes}
 use Rattle.scad_parser.proofs.Trees.{terms_roll, chain_made, postfix_made, args_roll}
 use Rattle.scad_parser.proofs.expression.+expression.Goals as goal
@@ -105,20 +105,6 @@ postfix-returns-in_default-clause-value t c =
 pub primary-returns-then-begins-clause-value : goal.primary-returns-then-begins-clause-value
 primary-returns-then-begins-clause-value t c = c.literal.ensures.value (expr_read c.args.depth) (arg_in c.args.depth (expr_read c.args.depth))
 
-pub linked-returns-in_err-next-clause-value : goal.linked-returns-in_err-next-clause-value
-linked-returns-in_err-next-clause-value t c =
-    let p = err_from_is_err_and c.from_residual.result c.from_residual.ensures.1 in
-    rw (p.1, p.2) (first_link_goes c.in_err-next.field-0.0 _ _ (λ x e. ap (λ q. after q (λ xs vs. Ok (chain_of (term_of c.args.first) xs, vs))) (many_stop (among (operators_at c.args.level)) _ (link_strict c.args.level c.args.depth) c.args.tokens.now x c.requires e)) c.in_err-next.ensures.value)
-
-pub linked-returns-in_err-more-clause-value : goal.linked-returns-in_err-more-clause-value
-linked-returns-in_err-more-clause-value t c =
-    let p = err_from_is_err_and c.from_residual-in_err-more.result c.from_residual-in_err-more.ensures.1 in
-    rw (p.1, p.2) (more_links_go c.in_err-more.field-0.0 _ _ (λ x e. first_of_many (among (operators_at c.args.level)) _ (link_strict c.args.level c.args.depth) (chain_of (term_of c.args.first)) c.args.tokens.now (link_of c.in_ok-next.next) c.in_ok-next.rest.now c.requires c.in_ok-next.ensures.value ∙ ap (λ q. after q (λ xs vs. Ok (chain_of (term_of c.args.first) (link_of c.in_ok-next.next ∷ xs), vs))) e) c.in_err-more.ensures.value)
-
-pub linked-returns-clause-value : goal.linked-returns-clause-value
-linked-returns-clause-value t c =
-    rw (first_of_many (among (operators_at c.args.level)) _ (link_strict c.args.level c.args.depth) (chain_of (term_of c.args.first)) c.args.tokens.now (link_of c.in_ok-next.next) c.in_ok-next.rest.now c.requires c.in_ok-next.ensures.value, c.in_ok-more.ensures.value, chain_made c.place-place.result c.in_ok-new.field-0 c.args.first c.in_ok-next.next c.in_ok-more.more c.in_ok-new.ensures.ok, c.place-place.ensures) refl
-
 pub links-returns-in_err-item-clause-value : goal.links-returns-in_err-item-clause-value
 links-returns-in_err-item-clause-value t c =
     let p = err_from_is_err_and c.from_residual.result c.from_residual.ensures.1 in
@@ -132,20 +118,6 @@ links-links-preserved t c = record {
 
 pub links-returns-clause-value : goal.links-returns-clause-value
 links-returns-clause-value t c = loop_end _ _ _ _ c.links.invariant.told (many_end (among (operators_at c.args.level)) _ (link_strict c.args.level c.args.depth) c.links.rest.now (sym c.begins.ensures ∙ c.links-test.false))
-
-pub suffixed-returns-in_err-next-clause-value : goal.suffixed-returns-in_err-next-clause-value
-suffixed-returns-in_err-next-clause-value t c =
-    let p = err_from_is_err_and c.from_residual.result c.from_residual.ensures.1 in
-    rw (p.1, p.2) (first_suffix_goes c.in_err-next.field-0.0 _ _ (λ x e. ap (λ q. after q (λ xs vs. Ok (postfix_of (term_of c.args.of) xs, vs))) (many_stop (among suffix_signs) _ (suffix_strict c.args.depth) c.args.tokens.now x c.requires e)) c.in_err-next.ensures.value)
-
-pub suffixed-returns-in_err-more-clause-value : goal.suffixed-returns-in_err-more-clause-value
-suffixed-returns-in_err-more-clause-value t c =
-    let p = err_from_is_err_and c.from_residual-in_err-more.result c.from_residual-in_err-more.ensures.1 in
-    rw (p.1, p.2) (more_suffixes_go c.in_err-more.field-0.0 _ _ (λ x e. first_of_many (among suffix_signs) _ (suffix_strict c.args.depth) (postfix_of (term_of c.args.of)) c.args.tokens.now (suffix_of c.in_ok-next.next) c.in_ok-next.rest.now c.requires c.in_ok-next.ensures.value ∙ ap (λ q. after q (λ xs vs. Ok (postfix_of (term_of c.args.of) (suffix_of c.in_ok-next.next ∷ xs), vs))) e) c.in_err-more.ensures.value)
-
-pub suffixed-returns-clause-value : goal.suffixed-returns-clause-value
-suffixed-returns-clause-value t c =
-    rw (first_of_many (among suffix_signs) _ (suffix_strict c.args.depth) (postfix_of (term_of c.args.of)) c.args.tokens.now (suffix_of c.in_ok-next.next) c.in_ok-next.rest.now c.requires c.in_ok-next.ensures.value, c.in_ok-more.ensures.value, postfix_made c.place-place.result c.in_ok-new.field-0 c.args.of c.in_ok-next.next c.in_ok-more.more c.in_ok-new.ensures.ok, c.place-place.ensures) refl
 
 pub suffixes-returns-in_err-item-clause-value : goal.suffixes-returns-in_err-item-clause-value
 suffixes-returns-in_err-item-clause-value t c =
@@ -188,3 +160,49 @@ more_items-commas-preserved t c = record {
 
 pub more_items-returns-clause-value : goal.more_items-returns-clause-value
 more_items-returns-clause-value t c = rw (terms_roll (record { items = c.commas.items }), c.behind_comma-2.ensures.rest) (loop_end _ _ _ _ c.commas.invariant.told (trailing_end (other_than (close_bracket_sign ∷ [])) _ (expr_shorter c.args.depth) c.commas.rest.now (sym c.is_comma_before.ensures ∙ c.commas-test.false)))
+
+pub some_links-returns-in_err-next-clause-value : goal.some_links-returns-in_err-next-clause-value
+some_links-returns-in_err-next-clause-value t c =
+    let p = err_from_is_err_and c.from_residual.result c.from_residual.ensures.1 in
+    rw (p.1, p.2) (first_link_goes c.in_err-next.field-0.0 _ _ (λ x e. many_stop (among (operators_at c.args.level)) _ (link_strict c.args.level c.args.depth) c.args.tokens.now x c.requires e) c.in_err-next.ensures.value)
+
+pub some_links-returns-in_err-links-clause-value : goal.some_links-returns-in_err-links-clause-value
+some_links-returns-in_err-links-clause-value t c =
+    let p = err_from_is_err_and c.from_residual-in_err-links.result c.from_residual-in_err-links.ensures.1 in
+    let read = rw c.in_err-links.ensures.err at c.links.ensures.value in
+    rw (p.1, p.2) (more_links_go c.in_err-links.field-0.0 _ _ (λ x e. many_more (among (operators_at c.args.level)) _ (link_strict c.args.level c.args.depth) c.args.tokens.now (link_of c.in_ok-next.next) c.in_ok-next.rest.now c.requires c.in_ok-next.ensures.value ∙ ap (with_front _) e) read)
+
+pub some_links-returns-clause-value : goal.some_links-returns-clause-value
+some_links-returns-clause-value t c =
+    let made = c.in_ok-links.ensures.ok in
+    let read = rw made.1 at c.links.ensures.value in
+    rw (many_more (among (operators_at c.args.level)) _ (link_strict c.args.level c.args.depth) c.args.tokens.now (link_of c.in_ok-next.next) c.in_ok-next.rest.now c.requires c.in_ok-next.ensures.value, read, made.0) refl
+
+pub linked-returns-clause-value : goal.linked-returns-clause-value
+linked-returns-clause-value t c =
+    let made = c.in_ok-first.ensures.ok in
+    let read = rw made.1 at c.some_links.ensures.value in
+    rw (read, chain_made c.place-place.result c.in_ok-new.field-0 c.in_ok-first.first c.in_ok-first.next c.in_ok-first.more c.in_ok-new.ensures.ok, c.place-place.ensures, made.0) refl
+
+pub some_suffixes-returns-in_err-next-clause-value : goal.some_suffixes-returns-in_err-next-clause-value
+some_suffixes-returns-in_err-next-clause-value t c =
+    let p = err_from_is_err_and c.from_residual.result c.from_residual.ensures.1 in
+    rw (p.1, p.2) (first_suffix_goes c.in_err-next.field-0.0 _ _ (λ x e. many_stop (among suffix_signs) _ (suffix_strict c.args.depth) c.args.tokens.now x c.requires e) c.in_err-next.ensures.value)
+
+pub some_suffixes-returns-in_err-suffixes-clause-value : goal.some_suffixes-returns-in_err-suffixes-clause-value
+some_suffixes-returns-in_err-suffixes-clause-value t c =
+    let p = err_from_is_err_and c.from_residual-in_err-suffixes.result c.from_residual-in_err-suffixes.ensures.1 in
+    let read = rw c.in_err-suffixes.ensures.err at c.suffixes.ensures.value in
+    rw (p.1, p.2) (more_suffixes_go c.in_err-suffixes.field-0.0 _ _ (λ x e. many_more (among suffix_signs) _ (suffix_strict c.args.depth) c.args.tokens.now (suffix_of c.in_ok-next.next) c.in_ok-next.rest.now c.requires c.in_ok-next.ensures.value ∙ ap (with_front _) e) read)
+
+pub some_suffixes-returns-clause-value : goal.some_suffixes-returns-clause-value
+some_suffixes-returns-clause-value t c =
+    let made = c.in_ok-suffixes.ensures.ok in
+    let read = rw made.1 at c.suffixes.ensures.value in
+    rw (many_more (among suffix_signs) _ (suffix_strict c.args.depth) c.args.tokens.now (suffix_of c.in_ok-next.next) c.in_ok-next.rest.now c.requires c.in_ok-next.ensures.value, read, made.0) refl
+
+pub suffixed-returns-clause-value : goal.suffixed-returns-clause-value
+suffixed-returns-clause-value t c =
+    let made = c.in_ok-of.ensures.ok in
+    let read = rw made.1 at c.some_suffixes.ensures.value in
+    rw (read, postfix_made c.place-place.result c.in_ok-new.field-0 c.in_ok-of.of c.in_ok-of.next c.in_ok-of.more c.in_ok-new.ensures.ok, c.place-place.ensures, made.0) refl

@@ -31,40 +31,40 @@ abbrev pub decreases-args : goal.decreases-args
 decreases-args l = 64 * l.depth + 3
 
 abbrev pub decreases-called : goal.decreases-called
-decreases-called l = 64 * l.depth + 4
+decreases-called l = 64 * l.depth + 5
 
 abbrev pub decreases-named : goal.decreases-named
-decreases-named l = 64 * l.depth + 5
+decreases-named l = 64 * l.depth + 6
 
 abbrev pub decreases-more_items : goal.decreases-more_items
 decreases-more_items l = 64 * l.depth + 1
 
 abbrev pub decreases-range : goal.decreases-range
-decreases-range l = 64 * l.depth + 1
+decreases-range l = 64 * l.depth + 2
 
 abbrev pub decreases-filled : goal.decreases-filled
-decreases-filled l = 64 * l.depth + 2
+decreases-filled l = 64 * l.depth + 3
 
 abbrev pub decreases-bracket : goal.decreases-bracket
-decreases-bracket l = 64 * l.depth + 3
+decreases-bracket l = 64 * l.depth + 4
 
 abbrev pub decreases-paren : goal.decreases-paren
 decreases-paren l = 64 * l.depth + 1
 
 abbrev pub decreases-primary : goal.decreases-primary
-decreases-primary l = 64 * l.depth + 6
+decreases-primary l = 64 * l.depth + 7
 
 abbrev pub decreases-suffixed : goal.decreases-suffixed
-decreases-suffixed l = 64 * l.depth + 3
+decreases-suffixed l = 64 * l.depth + 4
 
 abbrev pub decreases-postfix : goal.decreases-postfix
-decreases-postfix l = 64 * l.depth + 7
+decreases-postfix l = 64 * l.depth + 8
 
 abbrev pub decreases-signed : goal.decreases-signed
 decreases-signed l = 64 * l.depth + 1
 
 abbrev pub decreases-unary : goal.decreases-unary
-decreases-unary l = 64 * l.depth + 8
+decreases-unary l = 64 * l.depth + 9
 
 abbrev pub decreases-climb_below : goal.decreases-climb_below
 decreases-climb_below l = 64 * l.depth + (7 * tighter_levels l.level + 9)
@@ -79,19 +79,34 @@ abbrev pub decreases-links : goal.decreases-links
 decreases-links l = 64 * l.depth + (7 * tighter_levels l.level + 12)
 
 abbrev pub decreases-linked : goal.decreases-linked
-decreases-linked l = 64 * l.depth + (7 * tighter_levels l.level + 13)
+decreases-linked l = 64 * l.depth + (7 * tighter_levels l.level + 14)
 
 abbrev pub decreases-climbed : goal.decreases-climbed
-decreases-climbed l = 64 * l.depth + 49
+decreases-climbed l = 64 * l.depth + 50
 
 abbrev pub decreases-chain : goal.decreases-chain
-decreases-chain l = 64 * l.depth + 50
+decreases-chain l = 64 * l.depth + 51
 
 abbrev pub decreases-choice : goal.decreases-choice
-decreases-choice l = 64 * l.depth + 51
+decreases-choice l = 64 * l.depth + 52
 
 abbrev pub decreases-chosen : goal.decreases-chosen
-decreases-chosen l = 64 * l.depth + 1
+decreases-chosen l = 64 * l.depth + 3
+
+abbrev pub decreases-behind : goal.decreases-behind
+decreases-behind l = 64 * l.depth + 1
+
+abbrev pub decreases-sides : goal.decreases-sides
+decreases-sides l = 64 * l.depth + 2
+
+abbrev pub decreases-arguments : goal.decreases-arguments
+decreases-arguments l = 64 * l.depth + 4
+
+abbrev pub decreases-some_suffixes : goal.decreases-some_suffixes
+decreases-some_suffixes l = 64 * l.depth + 3
+
+abbrev pub decreases-some_links : goal.decreases-some_links
+decreases-some_links l = 64 * l.depth + (7 * tighter_levels l.level + 13)
 
 abbrev pub invariant-links-links : goal.invariant-links-links
 invariant-links-links l = record {

@@ -18,31 +18,37 @@ abbrev pub decreases-braces : goal.decreases-braces
 decreases-braces l = 16 * l.depth + 2
 
 abbrev pub decreases-branch : goal.decreases-branch
-decreases-branch l = 16 * l.depth + 1
+decreases-branch l = 16 * l.depth + 3
 
 abbrev pub decreases-repetition : goal.decreases-repetition
-decreases-repetition l = 16 * l.depth + 1
+decreases-repetition l = 16 * l.depth + 2
 
 abbrev pub decreases-call : goal.decreases-call
-decreases-call l = 16 * l.depth + 1
+decreases-call l = 16 * l.depth + 2
 
 abbrev pub decreases-core : goal.decreases-core
-decreases-core l = 16 * l.depth + 2
+decreases-core l = 16 * l.depth + 4
 
 abbrev pub decreases-instance : goal.decreases-instance
-decreases-instance l = 16 * l.depth + 3
+decreases-instance l = 16 * l.depth + 5
 
 abbrev pub decreases-module : goal.decreases-module
 decreases-module l = 16 * l.depth + 1
 
 abbrev pub decreases-definition : goal.decreases-definition
-decreases-definition l = 16 * l.inner + 4
+decreases-definition l = 16 * l.inner + 6
 
 abbrev pub decreases-body_over : goal.decreases-body_over
-decreases-body_over l = 16 * l.depth + 5
+decreases-body_over l = 16 * l.depth + 7
 
 abbrev pub decreases-statement_over : goal.decreases-statement_over
-decreases-statement_over l = 16 * l.inner + 5
+decreases-statement_over l = 16 * l.inner + 7
+
+abbrev pub decreases-boxed_body : goal.decreases-boxed_body
+decreases-boxed_body l = 16 * l.depth + 1
+
+abbrev pub decreases-otherwise : goal.decreases-otherwise
+decreases-otherwise l = 16 * l.depth + 2
 
 abbrev pub invariant-statements-statements : goal.invariant-statements-statements
 invariant-statements-statements l = record {

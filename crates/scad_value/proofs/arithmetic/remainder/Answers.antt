@@ -1,6 +1,18 @@
 use Rattle.std.proofs.Common.{◌∙◌}
-use Rattle.scad_value.proofs.Integers.{remainder_told}
+use Rattle.scad_value.proofs.Integers.{by_zero, divides, widens, remainder_told}
 use Rattle.scad_value.proofs.arithmetic.remainder.Goals as goal
+
+pub returns-then-right-eq0 : goal.returns-then-right-eq0
+returns-then-right-eq0 c = by_zero c.args.right _ c.ranges.right c.if-right-eq0.true
+
+pub overflow_cast-left : goal.overflow_cast-left
+overflow_cast-left c = widens c.args.left c.ranges.left
+
+pub overflow_cast-right : goal.overflow_cast-right
+overflow_cast-right c = widens c.args.right c.ranges.right
+
+pub nonzero_rem-left : goal.nonzero_rem-left
+nonzero_rem-left c = divides c.args.left c.args.right c.if-right-eq0.false c.ranges.left c.ranges.right
 
 pub returns : goal.returns
 returns c = c.sized.ensures

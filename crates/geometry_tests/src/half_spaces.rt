@@ -1,0 +1,73 @@
+use crate::laying::{high, plane_at, point};
+use bsp_tree::{Solid, exchange, half, holds, new_node};
+use std::alloc::Global;
+use std::process::Abort;
+
+// The half space of the points whose x is below 1.
+fn below_one(rt: &impl Abort, alloc: Global) -> Solid {
+    half(alloc, &plane_at(rt, high(0, 1))).expect(rt, "memory")
+}
+
+// As many nodes ahead of one another, with In at the end.
+fn chain(rt: &impl Abort, alloc: Global, nodes: usize) -> Solid {
+    let mut solid = Solid::In;
+    for _ in 0..nodes {
+        if let Solid::Node(inner) = below_one(rt, alloc) {
+            let polygon = inner.polygon.copy(alloc).expect(rt, "memory");
+            solid = new_node(alloc, polygon, Solid::Out, solid).expect(rt, "memory");
+        }
+    }
+    solid
+}
+
+#[test]
+fn a_half_space_is_one_node(rt: HostRuntime) {
+    let alloc = rt.alloc();
+    let solid = below_one(&rt, alloc);
+    assert_eq!(rt; solid.count(), 5);
+    let copied = solid.copy(alloc).expect(&rt, "memory");
+    assert_eq!(rt; copied.count(), 5);
+    let exchanged = exchange(alloc, &solid).expect(&rt, "memory");
+    assert_eq!(rt; exchanged.count(), 5);
+    let rows = [
+        (point(1, 1, 1, 1), true),
+        (point(3, 3, 3, 1), false),
+        (point(-9, 4000, 0, 0), true),
+    ];
+    for (at, inside) in rows {
+        assert_eq!(rt; holds(&solid, &at), inside);
+        assert_eq!(rt; holds(&copied, &at), inside);
+        assert_eq!(rt; holds(&exchanged, &at), !inside);
+    }
+}
+
+#[test]
+fn leaves_are_solids(rt: HostRuntime) {
+    let alloc = rt.alloc();
+    let at = point(0, 0, 0, 0);
+    for inside in [true, false] {
+        let leaf = if inside { Solid::In } else { Solid::Out };
+        let copied = leaf.copy(alloc).expect(&rt, "memory");
+        let exchanged = exchange(alloc, &leaf).expect(&rt, "memory");
+        assert_eq!(rt; leaf.count() + copied.count() + exchanged.count(), 0);
+        assert_eq!(rt; holds(&copied, &at), inside);
+        assert_eq!(rt; holds(&exchanged, &at), !inside);
+    }
+}
+
+// A walk through 1024 planes, as long as one in an export can be.
+#[test]
+fn calls_go_to_the_end_of_long_walks(rt: HostRuntime) {
+    let alloc = rt.alloc();
+    let solid = chain(&rt, alloc, 1024);
+    assert_eq!(rt; solid.count(), 5120);
+    let copied = solid.copy(alloc).expect(&rt, "memory");
+    let exchanged = exchange(alloc, &solid).expect(&rt, "memory");
+    assert_eq!(rt; copied.count(), 5120);
+    assert_eq!(rt; exchanged.count(), 5120);
+    let end = point(2, 0, 0, 0);
+    assert!(rt; holds(&solid, &end) && holds(&copied, &end));
+    assert!(rt; !holds(&exchanged, &end));
+    let start = point(0, 0, 0, 0);
+    assert!(rt; !holds(&solid, &start) && holds(&exchanged, &start));
+}

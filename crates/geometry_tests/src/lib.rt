@@ -1,0 +1,33 @@
+//! Tests of planes, polygons, trees and solids, up to the bytes of their texts.
+#![tactic(auto)]
+
+#[cfg(test)]
+mod boxes;
+#[cfg(test)]
+mod cut_facets;
+#[cfg(test)]
+mod cutting;
+#[cfg(test)]
+mod half_spaces;
+#[cfg(test)]
+mod half_units;
+#[cfg(test)]
+mod joins;
+#[cfg(test)]
+mod known_texts;
+#[cfg(test)]
+mod large_solids;
+#[cfg(test)]
+mod laying;
+#[cfg(test)]
+mod merges;
+#[cfg(test)]
+mod partitions;
+#[cfg(test)]
+mod planes;
+#[cfg(test)]
+mod polygons;
+#[cfg(test)]
+mod solids;
+#[cfg(test)]
+mod texts;

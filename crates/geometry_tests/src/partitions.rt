@@ -1,0 +1,106 @@
+use crate::cutting::parts;
+use crate::laying::{high, low, plane_at, point, through};
+use bsp_partition::{partition, split};
+use bsp_tree::{Solid, half, holds, new_node};
+use plane_polygon::{Class, Polygon, box_polygon, sort_by};
+use std::alloc::Global;
+use std::process::Abort;
+
+// The box polygon of the points with this x, seen from where x is greater, or turned.
+fn walled(rt: &impl Abort, alloc: Global, x: i64, turned: bool) -> Polygon {
+    let wall = if turned { low(0, x) } else { high(0, x) };
+    box_polygon(alloc, &plane_at(rt, wall)).expect(rt, "memory")
+}
+
+// The box polygon of the points whose y is 0.
+fn flat(rt: &impl Abort, alloc: Global) -> Polygon {
+    box_polygon(alloc, &plane_at(rt, high(1, 0))).expect(rt, "memory")
+}
+
+// What the two parts are: their sizes, and whether they hold a point whose x is -9, and 9.
+fn has_parts(
+    rt: &impl Abort,
+    alloc: Global,
+    by: &Polygon,
+    sizes: [u64; 2],
+    held: [[bool; 2]; 2],
+) -> bool {
+    let solid = half(alloc, &plane_at(rt, high(0, 0))).expect(rt, "memory");
+    let (behind, ahead) = partition(alloc, &solid, by).expect(rt, "memory");
+    let [low, high] = held;
+    let [left, right] = [point(-9, 1, 0, 0), point(9, 1, 0, 0)];
+    [behind.count(), ahead.count()] == sizes
+        && [holds(&behind, &left), holds(&behind, &right)] == low
+        && [holds(&ahead, &left), holds(&ahead, &right)] == high
+}
+
+// The points whose x is below 0, parted by its own plane, by the opposite, by planes behind it and
+// ahead of it that are seen from either side, and by a plane that is across it.
+#[test]
+fn a_half_space_is_parted(rt: HostRuntime) {
+    let alloc = rt.alloc();
+    let all = [true, true];
+    let none = [false, false];
+    let left = [true, false];
+    let rows = [
+        (0, false, [0, 0], [all, none]),
+        (0, true, [0, 0], [none, all]),
+        (-5, false, [0, 5], [all, left]),
+        (5, false, [5, 0], [left, none]),
+        (-5, true, [5, 0], [left, all]),
+        (5, true, [0, 5], [none, left]),
+    ];
+    for (x, turned, sizes, held) in rows {
+        let by = walled(&rt, alloc, x, turned);
+        assert!(rt; has_parts(&rt, alloc, &by, sizes, held), "at {x} {turned}");
+    }
+    assert!(rt; has_parts(&rt, alloc, &flat(&rt, alloc), [5, 5], [left, left]));
+}
+
+// In the cell of the points whose x is below 0, the polygons of y = 0 and of x = y meet on the
+// edge of the cell alone.
+#[test]
+fn polygons_that_only_touch_leave_the_sides_whole(rt: HostRuntime) {
+    let alloc = rt.alloc();
+    let edge = plane_at(&rt, high(0, 0));
+    let diagonal = through(&rt, [[0, 0, 0], [1, 1, 0], [0, 0, 1]]);
+    let slope = box_polygon(alloc, &diagonal).expect(&rt, "memory");
+    let (polygon, _ahead) = parts(&rt, alloc, &slope, &edge);
+    let (by, _ahead) = parts(&rt, alloc, &flat(&rt, alloc), &edge);
+    assert!(rt; sort_by(&polygon, by.plane()) == Class::Behind);
+    assert!(rt; sort_by(&by, polygon.plane()) == Class::Behind);
+    let solid = new_node(alloc, polygon, Solid::In, Solid::Out).expect(&rt, "memory");
+    let (behind, ahead) = split(alloc, solid, &by).expect(&rt, "memory");
+    assert_eq!(rt; behind.count(), 5);
+    assert_eq!(rt; ahead.count(), 0);
+    assert!(rt; holds(&behind, &point(-2, -1, 0, 0)) && !holds(&behind, &point(-1, -2, 0, 0)));
+    assert!(rt; holds(&ahead, &point(-1, 1, 0, 0)));
+}
+
+// Nodes on planes x = -512 .. 511, each ahead of the one before it, with In at the end.
+fn chain(rt: &impl Abort, alloc: Global) -> Solid {
+    let mut solid = Solid::In;
+    for k in 0..1024 {
+        let polygon = walled(rt, alloc, 511_i64.saturating_sub(k), false);
+        solid = new_node(alloc, polygon, Solid::Out, solid).expect(rt, "memory");
+    }
+    solid
+}
+
+// A walk through 1024 planes, as long as one in an export can be.
+#[test]
+fn parts_go_to_the_end_of_long_walks(rt: HostRuntime) {
+    let alloc = rt.alloc();
+    let solid = chain(&rt, alloc);
+    let by = flat(&rt, alloc);
+    let (behind, ahead) = partition(alloc, &solid, &by).expect(&rt, "memory");
+    assert_eq!(rt; behind.count(), 5120);
+    assert_eq!(rt; ahead.count(), 5120);
+    assert!(rt; holds(&behind, &point(4000, -1, 0, 0)) && holds(&ahead, &point(4000, 1, 0, 0)));
+    assert!(rt; !holds(&behind, &point(-4000, -1, 0, 0)) && !holds(&ahead, &point(-4000, 1, 0, 0)));
+    let last = walled(&rt, alloc, 512, false);
+    let (near, far) = split(alloc, solid, &last).expect(&rt, "memory");
+    assert_eq!(rt; near.count(), 5120);
+    assert_eq!(rt; far.count(), 0);
+    assert!(rt; holds(&far, &point(513, 0, 0, 0)));
+}

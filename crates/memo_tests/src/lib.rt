@@ -1,0 +1,9 @@
+//! Tests of the memo, and of clients that share one.
+#![tactic(auto)]
+
+#[cfg(test)]
+mod alike;
+#[cfg(test)]
+mod memos;
+#[cfg(test)]
+mod sharing;
