@@ -3,10 +3,10 @@ use Rattle.std.proofs.Common.{◌≡◌, List, [], ◌∷◌, ◌++◌, refl, sy
 use Rattle.plane_predicate.specs.Space.{Coordinates}
 use Rattle.plane_predicate.proofs.Opposites.{same_point}
 use Rattle.plane_predicate.proofs.Polynomials.{Poly, var, num, plus, times, ring}
-use Rattle.plane_predicate.proofs.Vectors.{Form, Place, form, place, of_point}
+use Rattle.plane_predicate.proofs.Vectors.{Form, Place, form, place, of_point, determinantP}
 use Rattle.int_transform.specs.declared.affine.Row.{Row}
 use Rattle.int_transform.specs.declared.affine.Affine.{Affine}
-use Rattle.int_transform.specs.Maps.{row_at, row_after, image, composed, identity, map_of}
+use Rattle.int_transform.specs.Maps.{row_at, row_after, image, composed, identity, map_of, determinant_of}
 
 abbrev pub of_row : Row → List ℤ → List ℤ
 of_row r rest = r.a ∷ r.b ∷ r.c ∷ r.d ∷ rest
@@ -56,3 +56,10 @@ image-step (x ∷ steps) s p =
     image-composed (map_of (steps ++ s ∷ [])) x p
     ∙ image-step steps s (image x p)
     ∙ ap (image s) (sym (image-composed (map_of steps) x p))
+
+-- the determinant of a product
+pub determinant-composed : (n m : Affine) → determinant_of (composed n m) ≡ determinant_of n *ℤ determinant_of m
+determinant-composed n m =
+    let A = form 0 in let B = form 4 in let C = form 8 in let X = form 12 in let Y = form 16 in let Z = form 20 in
+    let P = row_afterP A X Y Z in let Q = row_afterP B X Y Z in let R = row_afterP C X Y Z in
+    ring (of_map n (of_map m [])) (determinantP P.a P.b P.c Q.a Q.b Q.c R.a R.b R.c) (times (determinantP A.a A.b A.c B.a B.b B.c C.a C.b C.c) (determinantP X.a X.b X.c Y.a Y.b Y.c Z.a Z.b Z.c)) refl

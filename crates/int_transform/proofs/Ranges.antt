@@ -2,12 +2,14 @@
 use Rattle.std.proofs.Common.{◌≡◌, ℕ, ◌+◌, ◌<◌, ◌≤◌, List, [], ◌∷◌, ◌++◌, length, get_or, take, refl, sym, ap, ◌∙◌, subst, arith, ℤ, pos, ◌+ℤ◌, ◌*ℤ◌, inl, inr, map, All}
 use Rattle.std.proofs.lemmas.Bool.{cases_lt}
 use Rattle.std.proofs.lemmas.List.{take_more, map-append}
-use Rattle.std.proofs.lemmas.List.Elements.{All-push}
+use Rattle.std.proofs.Math.Seq.{take-length}
+use Rattle.std.proofs.lemmas.List.Elements.{All-head, All-push, All-tail}
 use Rattle.plane_predicate.specs.Space.{Coordinates, point_at}
-use Rattle.plane_predicate.proofs.IntegerRing.{mul_comm_ℤ, one_mul}
+use Rattle.plane_predicate.proofs.IntegerRing.{mul_comm_ℤ, one_mul, sums}
 use Rattle.int_transform.specs.declared.affine.Affine.{Affine}
-use Rattle.int_transform.specs.Maps.{coordinates, image, map_of, HasSafeCoordinates, LeavesRange}
-use Rattle.int_transform.proofs.Images.{image-identity, image-step}
+use Rattle.int_transform.specs.Maps.{composed, coordinates, determinant_of, image, map_of, HasSafeCoordinates, LeavesRange}
+use Rattle.int_transform.proofs.Images.{image-identity, image-step, determinant-composed}
+use Rattle.int_transform.proofs.Regular.{no_product}
 
 times_one : (d : ℤ) → d *ℤ pos 1 ≡ d
 times_one d = mul_comm_ℤ d (pos 1) ∙ one_mul d
@@ -53,3 +55,21 @@ images_next f points images i d q lt e eq =
 
 pub all_next : (P : List ℤ → Type 0) (points : List (List ℤ)) (i : ℕ) (d : List ℤ) → i < length points → All P (take i points) → P (get_or points i d) → All P (take (i + 1) points)
 all_next P points i d lt h here = subst (All P) (sym (take_more points i d lt)) (All-push P (take i points) (get_or points i d) h here)
+
+-- ---- steps that are not singular
+abbrev pub IsRegular : Affine → Type 0
+IsRegular s = determinant_of s ≡ pos 0 → ⊥
+
+pub regular_next : (steps : List Affine) (i : ℕ) (s : Affine) → i < length steps → s ≡ get_or steps i s → All IsRegular (take i steps) → IsRegular s → All IsRegular (take (i + 1) steps)
+regular_next steps i s lt is h here = subst (All IsRegular) (sym (take_more steps i s lt ∙ ap (λ (m : Affine). take i steps ++ m ∷ []) (sym is))) (All-push IsRegular (take i steps) s h here)
+
+one_is_not_zero : pos 1 ≡ pos 0 → ⊥
+one_is_not_zero e = omega (arith, sums, e)
+
+regular_map : (steps : List Affine) → All IsRegular steps → IsRegular (map_of steps)
+regular_map [] h e = one_is_not_zero e
+regular_map (s ∷ steps) h e =
+    no_product (determinant_of (map_of steps)) (determinant_of s) (regular_map steps (All-tail IsRegular s steps h)) (All-head IsRegular s steps h) (sym (determinant-composed (map_of steps) s) ∙ e)
+
+pub regular_steps : (steps : List Affine) (i : ℕ) → i ≡ length steps → All IsRegular (take i steps) → IsRegular (map_of steps)
+regular_steps steps i e h = regular_map steps (subst (All IsRegular) (take-length steps) (subst (λ (n : ℕ). All IsRegular (take n steps)) e h))

@@ -86,6 +86,7 @@ impl Step {
         requires { HasSafeCoordinates (point_at point) }
         ensures some { IfSome result (λ q. (q ≡ coordinates (image self.now (point_at point))) × HasSafeCoordinates (image self.now (point_at point))) }
         ensures none { IsNone result → HasSafeCoordinates (image self.now (point_at point)) → ⊥ }
+        ensures regular { determinant_of self.now ≡ pos 0 → ⊥ }
     {
         let x = safe_value(&self.map.x, point)?;
         let y = safe_value(&self.map.y, point)?;
