@@ -7,6 +7,7 @@ mod meeting;
 mod reduction;
 mod sides;
 mod through;
+mod unit;
 
 pub use laws::planes_with_the_same_points;
 pub use meeting::{meet, opposite, point_side, side};
@@ -14,6 +15,7 @@ pub use reduction::reduce;
 pub use sides::Side;
 use std::marker::Model;
 pub use through::{plane_of, plane_through};
+pub use unit::Unit;
 
 /// The points with `a x + b y + c z = d`, where a point is behind the plane if the left side is
 /// smaller, and ahead of it if the left side is greater.
