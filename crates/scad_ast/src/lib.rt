@@ -5,6 +5,7 @@
 mod expression;
 mod operator;
 mod statement;
+
 pub use expression::{
     Arg, Args, Call, Chain, Choice, Expr, Exprs, Link, Links, Postfix, Range, SteppedRange, Suffix,
     Suffixes,

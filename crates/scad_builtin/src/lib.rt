@@ -8,6 +8,7 @@ mod function;
 mod list;
 mod name;
 mod number;
+
 pub use bound::are_bounded;
 pub use function::Builtin;
 pub use name::{builtin, is_left_out};

@@ -4,7 +4,7 @@ use Rattle.scad_lexer.specs.declared.token.Token.{Token}
 use Rattle.scad_grammar.specs.declared.SyntaxFault.{SyntaxFault}
 use Rattle.scad_grammar.specs.Classes.{comma_sign, is}
 use Rattle.scad_grammar.specs.Faults.{Reads}
-use Rattle.scad_grammar.specs.Reading.{Read, after, starts, mapped, with_front, many_times, many, trailing_times, trailing}
+use Rattle.scad_grammar.specs.Reading.{Read, after, starts, with_front, many_times, many, trailing_times, trailing}
 use Rattle.scad_parser.specs.Views.{item_stands, past_comma}
 
 -- no more tokens are left than there were, and fewer
@@ -45,15 +45,6 @@ module _ {A : Type 0} (test : Token → Bool) (r : Reads A) (strict : Strictly r
 
   pub many_more : (ts : List Token) (x : A) (us : List Token) → starts test ts ≡ true → r ts ≡ Ok (x, us) → many test r ts ≡ with_front x (many test r us)
   many_more ts x us a b = many_step ts ∙ ap (λ c. cond c (after (r ts) (λ x us. with_front x (many test r us))) (Ok ([], ts))) a ∙ ap (λ q. after q (λ x us. with_front x (many test r us))) b
-
-  -- at least one item, with the first apart
-  pub first_of_many : {B : Type 0} (f : List A → B) (ts : List Token) (x : A) (us : List Token) → starts test ts ≡ true → r ts ≡ Ok (x, us)
-      → mapped f (many test r) ts ≡ after (many test r us) (λ xs vs. Ok (f (x ∷ xs), vs))
-  first_of_many f ts x us a b = ap (λ q. after q (λ xs vs. Ok (f xs, vs))) (many_more ts x us a b) ∙ in_front (many test r us)
-    where
-      in_front : (q : Read Token SyntaxFault (List A)) → after (with_front x q) (λ xs vs. Ok (f xs, vs)) ≡ after q (λ xs vs. Ok (f (x ∷ xs), vs))
-      in_front (Ok p) = refl
-      in_front (Err e) = refl
 
   pub many_end : (ts : List Token) → starts test ts ≡ false → many test r ts ≡ Ok ([], ts)
   many_end ts a = many_step ts ∙ ap (λ c. cond c (after (r ts) (λ x us. with_front x (many test r us))) (Ok ([], ts))) a

@@ -7,6 +7,7 @@ mod own;
 mod parameters;
 mod scopes;
 mod table;
+
 pub use parameters::{Matching, arguments, taken_by};
 pub use scopes::Scopes;
 pub use table::Found;

@@ -1,4 +1,4 @@
-use Rattle.std.proofs.Common.{◌-◌, Ok, rules, refl, ◌∙◌, [], ◌∷◌, sym, ap, arith}
+use Rattle.std.proofs.Common.{◌-◌, rules, refl, ◌∙◌, [], ◌∷◌, sym, ap, arith}
 use Rattle.std.proofs.lemmas.List.{map-append}
 use Rattle.std.proofs.lemmas.Result.{err_from_is_err_and}
 use Rattle.scad_ast.specs.ExprView.{term_of, link_of, suffix_of, arg_of}

@@ -1,0 +1,3 @@
+pub mod Images
+mod Ranges
+pub mod Regular

@@ -1,0 +1,10 @@
+pub mod Distinct
+pub mod FacePlanes
+pub mod Lists
+pub mod Moves
+pub mod OnePlane
+pub mod Placed
+pub mod Sides
+pub mod Stops
+pub mod Transforms
+pub mod Triangles

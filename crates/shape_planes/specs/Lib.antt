@@ -1,0 +1,4 @@
+pub mod Shapes
+pub mod Placing
+pub mod Stops
+pub mod Spanning
