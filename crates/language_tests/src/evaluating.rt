@@ -1,13 +1,9 @@
-//! Evaluates the expression of a source, and writes its value or its fault.
+//! Values and their faults in words.
 
-use crate::reading::{put, read};
+use crate::reading::put;
 use scad_ast::{Expr, Program, Statement};
-use scad_func::{Meter, expr_has_small_numerals, has_small_numerals, value_of};
-use scad_scope::Scopes;
 use scad_value::{Value, Values};
 use std::alloc::Global;
-use std::process::Abort;
-use std::test::Fail;
 use text_place::{Fault, NoMemory, Stop, push_decimal, word};
 
 fn put_number(alloc: Global, out: &mut Vec<u8>, number: i64) -> Result<(), NoMemory> {
@@ -73,22 +69,6 @@ pub fn first_value(program: &Program) -> Option<&Expr> {
     None
 }
 
-// The value where so many turns were counted, with `later` as 7 and `list` as [1, 2, 3].
-fn value_after(alloc: Global, program: &Program, expr: &Expr, turns: u64) -> Result<Value, Stop> {
-    if !has_small_numerals(program) || !expr_has_small_numerals(expr) || turns > 100_000 {
-        return Ok(Value::Undef);
-    }
-    let mut scopes = Scopes::new(alloc)?;
-    let scope = scopes.enter(alloc, 0, program, 0)?;
-    scopes.bind(alloc, scope, b"later", Value::Number(7))?;
-    let mut meter = Meter {
-        calls: 0,
-        depth: 0,
-        turns,
-    };
-    value_of(alloc, &mut scopes, program, scope, expr, &mut meter)
-}
-
 // A value or a fault, in words.
 pub fn put_answer(
     alloc: Global,
@@ -99,32 +79,4 @@ pub fn put_answer(
         Ok(value) => put_value(alloc, out, &value, 64),
         Err(stop) => put_stop(alloc, out, stop),
     }
-}
-
-// The value or the first fault of the first assignment of a source, where so many turns were counted.
-pub fn told_after(alloc: Global, source: &[u8], turns: u64) -> Result<Vec<u8>, Fail> {
-    let mut out = Vec::new(alloc);
-    let program = match read(alloc, source) {
-        Ok(program) => program,
-        Err(stop) => {
-            put_stop(alloc, &mut out, stop)?;
-            return Ok(out);
-        }
-    };
-    if let Some(expr) = first_value(&program) {
-        put_answer(alloc, &mut out, value_after(alloc, &program, expr, turns))?;
-    }
-    Ok(out)
-}
-
-pub fn told(alloc: Global, source: &[u8]) -> Result<Vec<u8>, Fail> {
-    told_after(alloc, source, 0)
-}
-
-// Whether the first assignment of each source has this value or first fault.
-pub fn have_values(rt: &impl Abort, alloc: Global, rows: &[(&[u8], &[u8])]) -> Result<(), Fail> {
-    for (source, wanted) in rows {
-        assert_eq!(rt; told(alloc, source)?.as_slice(), *wanted, "at {source:?}");
-    }
-    Ok(())
 }

@@ -1,31 +1,20 @@
-//! Tests of the language: its tokens, programs, values, scopes and functions.
+//! Tests of the language's public calls that no source shows: bytes, places, values, scopes and functions by number. What
+//! sources show stands in `language_cases`.
 #![tactic(auto)]
 
 #[cfg(test)]
-mod builtins;
-#[cfg(test)]
 mod bytes;
+#[cfg(test)]
+mod ends;
 #[cfg(test)]
 mod evaluating;
 #[cfg(test)]
-mod expression_values;
-#[cfg(test)]
 mod functions;
 #[cfg(test)]
-mod limits;
-#[cfg(test)]
-mod made_values;
-#[cfg(test)]
-mod operators;
-#[cfg(test)]
 mod places;
-#[cfg(test)]
-mod programs;
 #[cfg(test)]
 mod reading;
 #[cfg(test)]
 mod scopes;
 #[cfg(test)]
-mod show;
-#[cfg(test)]
-mod tokens;
+mod values;

@@ -1,0 +1,63 @@
+//! One case and its answer.
+
+use crate::program::{put_program, put_reads};
+use crate::repeat::unfolded;
+use crate::text::{cut, put};
+use crate::tokens::put_tokens;
+use crate::value::put_value_after;
+use std::alloc::Global;
+use text_place::{NoMemory, read_decimal};
+
+/// The most bytes of a source.
+const SOURCE_BYTES: usize = 1 << 20;
+
+/// The answer of a case of a source.
+fn put_answer(
+    alloc: Global,
+    out: &mut Vec<u8>,
+    asked: &[u8],
+    source: &[u8],
+) -> Result<(), NoMemory> {
+    if source.len() > SOURCE_BYTES {
+        put(out, b"too long")
+    } else if asked == b"tokens".as_slice() {
+        put_tokens(alloc, out, source)
+    } else if asked == b"program".as_slice() {
+        put_program(alloc, out, source)
+    } else if asked == b"reads".as_slice() {
+        put_reads(alloc, out, source)
+    } else if asked == b"value".as_slice() {
+        put_value_after(alloc, out, source, 0)
+    } else {
+        put(out, b"no case")
+    }
+}
+
+/// The value of a source where the turns were counted that stand before it.
+fn put_turns(alloc: Global, out: &mut Vec<u8>, text: &[u8]) -> Result<(), NoMemory> {
+    let (turns, source) = cut(text);
+    let source = unfolded(alloc, source)?;
+    if source.len() > SOURCE_BYTES {
+        put(out, b"too long")
+    } else {
+        put_value_after(alloc, out, &source, read_decimal(turns).unwrap_or(0))
+    }
+}
+
+/// A line, and the answer of the case that it has.
+pub fn put_case(alloc: Global, out: &mut Vec<u8>, line: &[u8]) -> Result<(), NoMemory> {
+    put(out, line)?;
+    put(out, b"\n")?;
+    if line.is_empty() || line.starts_with(b"#") {
+        return Ok(());
+    }
+    put(out, b"    ")?;
+    let (asked, text) = cut(line);
+    if asked == b"turns".as_slice() {
+        put_turns(alloc, out, text)?;
+    } else {
+        let source = unfolded(alloc, text)?;
+        put_answer(alloc, out, asked, &source)?;
+    }
+    put(out, b"\n")
+}
