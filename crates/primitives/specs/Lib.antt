@@ -1,0 +1,4 @@
+pub mod Sizes
+pub mod Boxes
+pub mod Polygons
+pub mod Prisms
