@@ -81,29 +81,55 @@ pub record IsCorner (a b c d e f : ℤ) (p : Coordinates) : Type 0 where
 box_corners : (a b c d e f : ℤ) → a <ℤ b → c <ℤ d → e <ℤ f → All (λ (p : List ℤ). IsCorner a b c d e f (point_at p)) (box_points a b c d e f)
 box_corners a b c d e f hx hy hz =
     let xl = at_low a b hx in let xh = at_high a b hx in let yl = at_low c d hy in let yh = at_high c d hy in let zl = at_low e f hz in let zh = at_high e f hz in
-    All-from_recursion (λ (p : List ℤ). IsCorner a b c d e f (point_at p)) (box_points a b c d e f)
-    (record { x = a; y = c; z = e; is = refl; x_in = xl; y_in = yl; z_in = zl },
-    (record { x = b; y = c; z = e; is = refl; x_in = xh; y_in = yl; z_in = zl },
-    (record { x = a; y = d; z = e; is = refl; x_in = xl; y_in = yh; z_in = zl },
-    (record { x = b; y = d; z = e; is = refl; x_in = xh; y_in = yh; z_in = zl },
-    (record { x = a; y = c; z = f; is = refl; x_in = xl; y_in = yl; z_in = zh },
-    (record { x = b; y = c; z = f; is = refl; x_in = xh; y_in = yl; z_in = zh },
-    (record { x = a; y = d; z = f; is = refl; x_in = xl; y_in = yh; z_in = zh },
-    (record { x = b; y = d; z = f; is = refl; x_in = xh; y_in = yh; z_in = zh },
-    tt))))))))
+    All-from_recursion (λ (p : List ℤ). IsCorner a b c d e f (point_at p)) (box_points a b c d e f) (
+      record { x = a; y = c; z = e; is = refl; x_in = xl; y_in = yl; z_in = zl },
+      (
+        record { x = b; y = c; z = e; is = refl; x_in = xh; y_in = yl; z_in = zl },
+        (
+          record { x = a; y = d; z = e; is = refl; x_in = xl; y_in = yh; z_in = zl },
+          (
+            record { x = b; y = d; z = e; is = refl; x_in = xh; y_in = yh; z_in = zl },
+            (
+              record { x = a; y = c; z = f; is = refl; x_in = xl; y_in = yl; z_in = zh },
+              (
+                record { x = b; y = c; z = f; is = refl; x_in = xh; y_in = yl; z_in = zh },
+                (
+                  record { x = a; y = d; z = f; is = refl; x_in = xl; y_in = yh; z_in = zh },
+                  (
+                    record { x = b; y = d; z = f; is = refl; x_in = xh; y_in = yh; z_in = zh },
+                    tt,
+                  ),
+                ),
+              ),
+            ),
+          ),
+        ),
+      ),
+    )
 
 -- the corners of the faces are there
 box_there : All (λ (g : List ℕ). All (λ (i : ℕ). i < 8) g) box_faces
 box_there =
     let P : ℕ → Type 0 = λ i. i < 8 in
-    All-from_recursion (λ (g : List ℕ). All P g) box_faces
-    (All-from_recursion P (0 ∷ 2 ∷ 6 ∷ 4 ∷ []) (omega arith, (omega arith, (omega arith, (omega arith, tt)))),
-    (All-from_recursion P (1 ∷ 3 ∷ 7 ∷ 5 ∷ []) (omega arith, (omega arith, (omega arith, (omega arith, tt)))),
-    (All-from_recursion P (0 ∷ 4 ∷ 5 ∷ 1 ∷ []) (omega arith, (omega arith, (omega arith, (omega arith, tt)))),
-    (All-from_recursion P (2 ∷ 6 ∷ 7 ∷ 3 ∷ []) (omega arith, (omega arith, (omega arith, (omega arith, tt)))),
-    (All-from_recursion P (0 ∷ 1 ∷ 3 ∷ 2 ∷ []) (omega arith, (omega arith, (omega arith, (omega arith, tt)))),
-    (All-from_recursion P (4 ∷ 5 ∷ 7 ∷ 6 ∷ []) (omega arith, (omega arith, (omega arith, (omega arith, tt)))),
-    tt))))))
+    All-from_recursion (λ (g : List ℕ). All P g) box_faces (
+      All-from_recursion P (0 ∷ 2 ∷ 6 ∷ 4 ∷ []) (omega arith, (omega arith, (omega arith, (omega arith, tt)))),
+      (
+        All-from_recursion P (1 ∷ 3 ∷ 7 ∷ 5 ∷ []) (omega arith, (omega arith, (omega arith, (omega arith, tt)))),
+        (
+          All-from_recursion P (0 ∷ 4 ∷ 5 ∷ 1 ∷ []) (omega arith, (omega arith, (omega arith, (omega arith, tt)))),
+          (
+            All-from_recursion P (2 ∷ 6 ∷ 7 ∷ 3 ∷ []) (omega arith, (omega arith, (omega arith, (omega arith, tt)))),
+            (
+              All-from_recursion P (0 ∷ 1 ∷ 3 ∷ 2 ∷ []) (omega arith, (omega arith, (omega arith, (omega arith, tt)))),
+              (
+                All-from_recursion P (4 ∷ 5 ∷ 7 ∷ 6 ∷ []) (omega arith, (omega arith, (omega arith, (omega arith, tt)))),
+                tt,
+              ),
+            ),
+          ),
+        ),
+      ),
+    )
 
 on_face : (a b c d e f : ℤ) (m : Coefficients) (i j k l : ℕ) → value_at (box_points a b c d e f) m i ≡ pos 0 → value_at (box_points a b c d e f) m j ≡ pos 0 → value_at (box_points a b c d e f) m k ≡ pos 0 → value_at (box_points a b c d e f) m l ≡ pos 0 →
     All (λ (n : ℕ). value_at (box_points a b c d e f) m n ≡ pos 0) (i ∷ j ∷ k ∷ l ∷ [])
@@ -221,28 +247,54 @@ side_high_z a b c d e f hx hy hz =
 box_sides : (a b c d e f : ℤ) → a <ℤ b → c <ℤ d → e <ℤ f → All (IsFace (box_of a b c d e f)) box_faces
 box_sides a b c d e f hx hy hz =
     let face = box_side a b c d e f hx hy hz in
-    All-from_recursion (IsFace (box_of a b c d e f)) box_faces
-    (face (0 ∷ 2 ∷ 6 ∷ 4 ∷ []) (side_low_x a b c d e f hx hy hz),
-    (face (1 ∷ 3 ∷ 7 ∷ 5 ∷ []) (side_high_x a b c d e f hx hy hz),
-    (face (0 ∷ 4 ∷ 5 ∷ 1 ∷ []) (side_low_y a b c d e f hx hy hz),
-    (face (2 ∷ 6 ∷ 7 ∷ 3 ∷ []) (side_high_y a b c d e f hx hy hz),
-    (face (0 ∷ 1 ∷ 3 ∷ 2 ∷ []) (side_low_z a b c d e f hx hy hz),
-    (face (4 ∷ 5 ∷ 7 ∷ 6 ∷ []) (side_high_z a b c d e f hx hy hz),
-    tt))))))
+    All-from_recursion (IsFace (box_of a b c d e f)) box_faces (
+      face (0 ∷ 2 ∷ 6 ∷ 4 ∷ []) (side_low_x a b c d e f hx hy hz),
+      (
+        face (1 ∷ 3 ∷ 7 ∷ 5 ∷ []) (side_high_x a b c d e f hx hy hz),
+        (
+          face (0 ∷ 4 ∷ 5 ∷ 1 ∷ []) (side_low_y a b c d e f hx hy hz),
+          (
+            face (2 ∷ 6 ∷ 7 ∷ 3 ∷ []) (side_high_y a b c d e f hx hy hz),
+            (
+              face (0 ∷ 1 ∷ 3 ∷ 2 ∷ []) (side_low_z a b c d e f hx hy hz),
+              (
+                face (4 ∷ 5 ∷ 7 ∷ 6 ∷ []) (side_high_z a b c d e f hx hy hz),
+                tt,
+              ),
+            ),
+          ),
+        ),
+      ),
+    )
 
 -- coordinates taken from those of the lowest and the highest corner
 box_safe : (a b c d e f : ℤ) → HasSafeCoordinates (whole a c e) → HasSafeCoordinates (whole b d f) → All (λ (p : List ℤ). HasSafeCoordinates (point_at p)) (box_points a b c d e f)
 box_safe a b c d e f l h =
-    All-from_recursion (λ (p : List ℤ). HasSafeCoordinates (point_at p)) (box_points a b c d e f)
-    (record { x_size = l.x_size; y_size = l.y_size; z_size = l.z_size },
-    (record { x_size = h.x_size; y_size = l.y_size; z_size = l.z_size },
-    (record { x_size = l.x_size; y_size = h.y_size; z_size = l.z_size },
-    (record { x_size = h.x_size; y_size = h.y_size; z_size = l.z_size },
-    (record { x_size = l.x_size; y_size = l.y_size; z_size = h.z_size },
-    (record { x_size = h.x_size; y_size = l.y_size; z_size = h.z_size },
-    (record { x_size = l.x_size; y_size = h.y_size; z_size = h.z_size },
-    (record { x_size = h.x_size; y_size = h.y_size; z_size = h.z_size },
-    tt))))))))
+    All-from_recursion (λ (p : List ℤ). HasSafeCoordinates (point_at p)) (box_points a b c d e f) (
+      record { x_size = l.x_size; y_size = l.y_size; z_size = l.z_size },
+      (
+        record { x_size = h.x_size; y_size = l.y_size; z_size = l.z_size },
+        (
+          record { x_size = l.x_size; y_size = h.y_size; z_size = l.z_size },
+          (
+            record { x_size = h.x_size; y_size = h.y_size; z_size = l.z_size },
+            (
+              record { x_size = l.x_size; y_size = l.y_size; z_size = h.z_size },
+              (
+                record { x_size = h.x_size; y_size = l.y_size; z_size = h.z_size },
+                (
+                  record { x_size = l.x_size; y_size = h.y_size; z_size = h.z_size },
+                  (
+                    record { x_size = h.x_size; y_size = h.y_size; z_size = h.z_size },
+                    tt,
+                  ),
+                ),
+              ),
+            ),
+          ),
+        ),
+      ),
+    )
 
 pub box_is_shape : (a b c d e f : ℤ) → a <ℤ b → c <ℤ d → e <ℤ f → HasSafeCoordinates (whole a c e) → HasSafeCoordinates (whole b d f) → IsShape (box_of a b c d e f)
 box_is_shape a b c d e f hx hy hz l h = record {

@@ -78,6 +78,11 @@ pub record IsInRange (p : List ℤ) : Type 0 where
   pub x_size : unsigned_abs (x_of p) ≤ 65535
   pub y_size : unsigned_abs (y_of p) ≤ 65535
 
+-- coordinates of written points in grid steps: at most 2 times 65535 in size
+pub record IsNear (p : List ℤ) : Type 0 where
+  pub x_size : unsigned_abs (x_of p) ≤ 131070
+  pub y_size : unsigned_abs (y_of p) ≤ 131070
+
 -- a written point in grid steps
 abbrev pub on_grid : LengthUnit → List ℤ → List ℤ
 on_grid unit p = grid_steps unit (x_of p) ∷ grid_steps unit (y_of p) ∷ []

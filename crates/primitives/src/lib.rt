@@ -1,7 +1,14 @@
 //! Boxes, rectangles, polygons and extrusions, from their arguments or with their first fault.
 #![tactic(auto)]
 
+mod convex;
 mod cube;
+mod flat;
+mod polygon;
 mod sizes;
+mod square;
 
 pub use cube::cube_shape;
+pub use flat::Flat;
+pub use polygon::polygon_flat;
+pub use square::square_flat;

@@ -1,0 +1,138 @@
+//! Whether a polygon is convex.
+
+ghost use Rattle.std.specs.Prelude.{◌≡◌, ◌*◌, ◌<◌, ◌≤◌, ◌≤ℤ◌, ◌-ℤ◌, pos, unsigned_abs, All, Any, length};
+ghost use Rattle.std.specs.Bool.{OnTrue, OnFalse};
+ghost use Rattle.plane_predicate.specs.Space.{minor};
+ghost use Rattle.primitives.specs.Polygons.{after as after_of, point, turn, GoesLeft, GoesRight, IsConvex, IsNear};
+
+/// Whether a polygon is convex: in one of its two directions no point lies strictly to the right of
+/// a way from a point to the next, and not all points lie on one line.
+pub fn is_convex(points: &[[i64; 2]]) -> bool
+    requires some { 0 < length points.now }
+    requires near { All IsNear points.now }
+    ensures yes { OnTrue result (IsConvex points.now) }
+    ensures no { OnFalse result (IsConvex points.now → ⊥) }
+{
+    has_corner(points) && (goes_left(points) || goes_right(points))
+}
+
+/// Whether the first point and two others are not on one line.
+fn has_corner(points: &[[i64; 2]]) -> bool
+    requires some { 0 < length points.now }
+    requires near { All IsNear points.now }
+    ensures yes { OnTrue result (Any (λ q. Any (λ r. turn (point points.now 0) q r ≡ pos 0 → ⊥) points.now) points.now) }
+    ensures no { OnFalse result (All (λ q. All (λ r. turn (point points.now 0) q r ≡ pos 0) points.now) points.now) }
+{
+    for second in points {
+        if bends(points, points[0], *second) {
+            return true;
+        }
+    }
+    false
+}
+
+/// Whether some point is not on one line with two others.
+fn bends(points: &[[i64; 2]], first: [i64; 2], second: [i64; 2]) -> bool
+    requires near { All IsNear points.now }
+    requires first_near { IsNear first }
+    requires second_near { IsNear second }
+    ensures yes { OnTrue result (Any (λ r. turn first second r ≡ pos 0 → ⊥) points.now) }
+    ensures no { OnFalse result (All (λ r. turn first second r ≡ pos 0) points.now) }
+{
+    for third in points {
+        if turn_of(first, second, *third) != 0 {
+            return true;
+        }
+    }
+    false
+}
+
+/// Whether no point lies strictly to the right of a way from a point to the next.
+fn goes_left(points: &[[i64; 2]]) -> bool
+    requires { All IsNear points.now }
+    ensures yes { OnTrue result (GoesLeft points.now) }
+    ensures no { OnFalse result (GoesLeft points.now → ⊥) }
+{
+    for i in 0..points.len() {
+        if !stays_left(points, points[i], points[after(points.len(), i)]) {
+            return false;
+        }
+    }
+    true
+}
+
+/// Whether no point lies strictly to the right of a way from a point back to the one before.
+fn goes_right(points: &[[i64; 2]]) -> bool
+    requires { All IsNear points.now }
+    ensures yes { OnTrue result (GoesRight points.now) }
+    ensures no { OnFalse result (GoesRight points.now → ⊥) }
+{
+    for i in 0..points.len() {
+        if !stays_left(points, points[after(points.len(), i)], points[i]) {
+            return false;
+        }
+    }
+    true
+}
+
+/// The number of the point that follows point `i` of so many, round the polygon.
+pub fn after(count: usize, i: usize) -> usize
+    requires { i < count }
+    ensures value { result ≡ after_of count i }
+    ensures there { result < count }
+{
+    if i + 1 == count { 0 } else { i + 1 }
+}
+
+/// Whether no point lies strictly to the right of one way.
+fn stays_left(points: &[[i64; 2]], from: [i64; 2], to: [i64; 2]) -> bool
+    requires near { All IsNear points.now }
+    requires from_near { IsNear from }
+    requires to_near { IsNear to }
+    ensures yes { OnTrue result (All (λ r. pos 0 ≤ℤ turn from to r) points.now) }
+    ensures no { OnFalse result (All (λ r. pos 0 ≤ℤ turn from to r) points.now → ⊥) }
+{
+    for point in points {
+        if turn_of(from, to, *point) < 0 {
+            return false;
+        }
+    }
+    true
+}
+
+/// The turn of the way from `p` to `q`, and on to `r`: above 0 where it goes left.
+fn turn_of(p: [i64; 2], q: [i64; 2], r: [i64; 2]) -> i64
+    requires p_near { IsNear p }
+    requires q_near { IsNear q }
+    requires r_near { IsNear r }
+    ensures { result ≡ turn p q r }
+{
+    let [px, py] = p;
+    let [qx, qy] = q;
+    let [rx, ry] = r;
+    minor_between(px, py, qx, qy, rx, ry)
+}
+
+/// The cross product of the ways from `p` to `q` and from `p` to `r`.
+fn minor_between(px: i64, py: i64, qx: i64, qy: i64, rx: i64, ry: i64) -> i64
+    requires px_size { unsigned_abs px ≤ 131070 }
+    requires py_size { unsigned_abs py ≤ 131070 }
+    requires qx_size { unsigned_abs qx ≤ 131070 }
+    requires qy_size { unsigned_abs qy ≤ 131070 }
+    requires rx_size { unsigned_abs rx ≤ 131070 }
+    requires ry_size { unsigned_abs ry ≤ 131070 }
+    ensures { result ≡ minor (qx -ℤ px) (qy -ℤ py) (rx -ℤ px) (ry -ℤ py) }
+{
+    minor_of(qx - px, qy - py, rx - px, ry - py)
+}
+
+/// `a d - b c` of differences of coordinates.
+fn minor_of(a: i64, b: i64, c: i64, d: i64) -> i64
+    requires a_size { unsigned_abs a ≤ 262140 }
+    requires b_size { unsigned_abs b ≤ 262140 }
+    requires c_size { unsigned_abs c ≤ 262140 }
+    requires d_size { unsigned_abs d ≤ 262140 }
+    ensures { result ≡ minor a b c d }
+{
+    a * d - b * c
+}

@@ -1,0 +1,43 @@
+ghost use Rattle.std.specs.Prelude.{◌≡◌};
+ghost use Rattle.primitives.specs.Polygons.{IsFlat};
+
+use std::marker::Model;
+
+/// A convex polygon in the plane, which contracts see as its points in grid steps.
+///
+/// A flat keeps that it has at most 64 points, that they are not all on one line, that in one of its
+/// two directions no point lies strictly to the right of a way from a point to the next, and that
+/// coordinates are at most 2^53 - 1 in size.
+#[derive(Drop)]
+pub struct Flat {
+    points: Vec<[i64; 2]>,
+}
+
+impl Model for Flat {
+    ghost use Rattle.std.specs.Prelude.{List, ℤ};
+    ghost use Rattle.primitives.specs.Polygons.{IsFlat};
+
+    ghost Value = { List (List ℤ) };
+
+    ghost view = { λ f. f.points.items };
+
+    ghost invariant = { λ f. IsFlat f.points.items };
+}
+
+impl Flat {
+    /// The flat of points that meet what a flat keeps. Takes no memory.
+    pub fn of(points: Vec<[i64; 2]>) -> Self
+        requires { IsFlat points.items }
+        ensures { result ≡ points.items }
+    {
+        Flat { points }
+    }
+
+    /// Its points in grid steps, in order. Takes no memory.
+    pub fn points(&self) -> &[[i64; 2]]
+        ensures points { result.now ≡ self.now }
+        ensures flat { IsFlat self.now }
+    {
+        &self.points
+    }
+}
