@@ -152,11 +152,7 @@ side_low_x a b c d e f hx hy hz =
       directed = omega arith;
       on = on_face a b c d e f m 0 2 6 4 (same_on _ a (low_x a a c e)) (same_on _ a (low_x a a d e)) (same_on _ a (low_x a a d f)) (same_on _ a (low_x a a c f));
       within = λ i lt. (let p = at_corner a b c d e f hx hy hz i lt in most_within _ a p.x (ap (value m) p.is ∙ low_x a p.x p.y p.z) p.x_in.0);
-      at_face = 1;
-      at = 0;
-      at_face_in = omega arith;
-      at_in = omega arith;
-      behind = less_behind _ a b (low_x a b c e) hx;
+      far = record { at_face = 1; at = 0; at_face_in = omega arith; at_in = omega arith; behind = less_behind _ a b (low_x a b c e) hx };
     }
 
 side_high_x : (a b c d e f : ℤ) → a <ℤ b → c <ℤ d → e <ℤ f → IsOutside (box_of a b c d e f) (1 ∷ 3 ∷ 7 ∷ 5 ∷ [])
@@ -169,11 +165,7 @@ side_high_x a b c d e f hx hy hz =
       directed = omega arith;
       on = on_face a b c d e f m 1 3 7 5 (same_on _ b (high_x b b c e)) (same_on _ b (high_x b b d e)) (same_on _ b (high_x b b d f)) (same_on _ b (high_x b b c f));
       within = λ i lt. (let p = at_corner a b c d e f hx hy hz i lt in most_within _ p.x b (ap (value m) p.is ∙ high_x b p.x p.y p.z) p.x_in.1);
-      at_face = 0;
-      at = 0;
-      at_face_in = omega arith;
-      at_in = omega arith;
-      behind = less_behind _ a b (high_x b a c e) hx;
+      far = record { at_face = 0; at = 0; at_face_in = omega arith; at_in = omega arith; behind = less_behind _ a b (high_x b a c e) hx };
     }
 
 side_low_y : (a b c d e f : ℤ) → a <ℤ b → c <ℤ d → e <ℤ f → IsOutside (box_of a b c d e f) (0 ∷ 4 ∷ 5 ∷ 1 ∷ [])
@@ -186,11 +178,7 @@ side_low_y a b c d e f hx hy hz =
       directed = omega arith;
       on = on_face a b c d e f m 0 4 5 1 (same_on _ c (low_y c a c e)) (same_on _ c (low_y c a c f)) (same_on _ c (low_y c b c f)) (same_on _ c (low_y c b c e));
       within = λ i lt. (let p = at_corner a b c d e f hx hy hz i lt in most_within _ c p.y (ap (value m) p.is ∙ low_y c p.x p.y p.z) p.y_in.0);
-      at_face = 3;
-      at = 0;
-      at_face_in = omega arith;
-      at_in = omega arith;
-      behind = less_behind _ c d (low_y c a d e) hy;
+      far = record { at_face = 3; at = 0; at_face_in = omega arith; at_in = omega arith; behind = less_behind _ c d (low_y c a d e) hy };
     }
 
 side_high_y : (a b c d e f : ℤ) → a <ℤ b → c <ℤ d → e <ℤ f → IsOutside (box_of a b c d e f) (2 ∷ 6 ∷ 7 ∷ 3 ∷ [])
@@ -203,11 +191,7 @@ side_high_y a b c d e f hx hy hz =
       directed = omega arith;
       on = on_face a b c d e f m 2 6 7 3 (same_on _ d (high_y d a d e)) (same_on _ d (high_y d a d f)) (same_on _ d (high_y d b d f)) (same_on _ d (high_y d b d e));
       within = λ i lt. (let p = at_corner a b c d e f hx hy hz i lt in most_within _ p.y d (ap (value m) p.is ∙ high_y d p.x p.y p.z) p.y_in.1);
-      at_face = 2;
-      at = 0;
-      at_face_in = omega arith;
-      at_in = omega arith;
-      behind = less_behind _ c d (high_y d a c e) hy;
+      far = record { at_face = 2; at = 0; at_face_in = omega arith; at_in = omega arith; behind = less_behind _ c d (high_y d a c e) hy };
     }
 
 side_low_z : (a b c d e f : ℤ) → a <ℤ b → c <ℤ d → e <ℤ f → IsOutside (box_of a b c d e f) (0 ∷ 1 ∷ 3 ∷ 2 ∷ [])
@@ -220,11 +204,7 @@ side_low_z a b c d e f hx hy hz =
       directed = omega arith;
       on = on_face a b c d e f m 0 1 3 2 (same_on _ e (low_z e a c e)) (same_on _ e (low_z e b c e)) (same_on _ e (low_z e b d e)) (same_on _ e (low_z e a d e));
       within = λ i lt. (let p = at_corner a b c d e f hx hy hz i lt in most_within _ e p.z (ap (value m) p.is ∙ low_z e p.x p.y p.z) p.z_in.0);
-      at_face = 5;
-      at = 0;
-      at_face_in = omega arith;
-      at_in = omega arith;
-      behind = less_behind _ e f (low_z e a c f) hz;
+      far = record { at_face = 5; at = 0; at_face_in = omega arith; at_in = omega arith; behind = less_behind _ e f (low_z e a c f) hz };
     }
 
 side_high_z : (a b c d e f : ℤ) → a <ℤ b → c <ℤ d → e <ℤ f → IsOutside (box_of a b c d e f) (4 ∷ 5 ∷ 7 ∷ 6 ∷ [])
@@ -237,11 +217,7 @@ side_high_z a b c d e f hx hy hz =
       directed = omega arith;
       on = on_face a b c d e f m 4 5 7 6 (same_on _ f (high_z f a c f)) (same_on _ f (high_z f b c f)) (same_on _ f (high_z f b d f)) (same_on _ f (high_z f a d f));
       within = λ i lt. (let p = at_corner a b c d e f hx hy hz i lt in most_within _ p.z f (ap (value m) p.is ∙ high_z f p.x p.y p.z) p.z_in.1);
-      at_face = 4;
-      at = 0;
-      at_face_in = omega arith;
-      at_in = omega arith;
-      behind = less_behind _ e f (high_z f a c e) hz;
+      far = record { at_face = 4; at = 0; at_face_in = omega arith; at_in = omega arith; behind = less_behind _ e f (high_z f a c e) hz };
     }
 
 box_sides : (a b c d e f : ℤ) → a <ℤ b → c <ℤ d → e <ℤ f → All (IsFace (box_of a b c d e f)) box_faces

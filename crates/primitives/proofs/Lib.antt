@@ -4,3 +4,6 @@ pub mod Corners
 pub mod Ends
 pub mod Rectangles
 pub mod Grids
+pub mod PrismLists
+pub mod SidePlanes
+pub mod PrismBodies

@@ -74,7 +74,7 @@ rectangle_is_flat a b c d x y = record {
   most = omega arith;
   convex = rectangle_convex a b c d x.apart y.apart;
   safe = All-from_recursion IsSafePoint (rectangle_of a b c d)
-    (record { x_safe = x.low_safe; y_safe = y.low_safe }, (record { x_safe = x.high_safe; y_safe = y.low_safe }, (record { x_safe = x.high_safe; y_safe = y.high_safe }, (record { x_safe = x.low_safe; y_safe = y.high_safe }, tt))));
+      (record { x_safe = x.low_safe; y_safe = y.low_safe }, (record { x_safe = x.high_safe; y_safe = y.low_safe }, (record { x_safe = x.high_safe; y_safe = y.high_safe }, (record { x_safe = x.low_safe; y_safe = y.high_safe }, tt))));
 }
 
 pub same_rectangle : (a b c d e f g h : ℤ) → a ≡ e → b ≡ f → c ≡ g → d ≡ h → rectangle_of a b c d ≡ rectangle_of e f g h

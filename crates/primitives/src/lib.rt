@@ -3,12 +3,14 @@
 
 mod convex;
 mod cube;
+mod extrusion;
 mod flat;
 mod polygon;
 mod sizes;
 mod square;
 
 pub use cube::cube_shape;
+pub use extrusion::extrude;
 pub use flat::Flat;
 pub use polygon::polygon_flat;
 pub use square::square_flat;

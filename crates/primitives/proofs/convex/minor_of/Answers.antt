@@ -22,4 +22,3 @@ returns c =
     let s = size_minor c.args.a c.args.b c.args.c c.args.d 262140 262140 c.requires.a_size c.requires.b_size c.requires.c_size c.requires.d_size in
     let f3 : FitsSigned w64 (c.args.a *ℤ c.args.d -ℤ c.args.b *ℤ c.args.c) = fits_by_size w64 (c.args.a *ℤ c.args.d -ℤ c.args.b *ℤ c.args.c) (omega arith) in
     simp to_z-of_z
-
