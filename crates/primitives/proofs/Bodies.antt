@@ -1,5 +1,5 @@
 -- What shows that a face is one of a shape.
-use Rattle.std.proofs.Common.{◌≡◌, ℕ, ◌+◌, ◌<◌, List, [], length, get_or, ℤ, pos, ◌<ℤ◌, ◌≤ℤ◌, unsigned_abs, All}
+use Rattle.std.proofs.Common.{◌≡◌, ℕ, ◌+◌, ◌<◌, List, [], length, get_or, pos, ◌<ℤ◌, ◌≤ℤ◌, unsigned_abs, All}
 use Rattle.plane_predicate.specs.Space.{Coefficients}
 use Rattle.shape_planes.specs.Shapes.{Mesh, value_at, HasTriangle, IsFace}
 

@@ -1,10 +1,10 @@
 -- A box of sides above 0 is a shape.
-use Rattle.std.proofs.Common.{◌≡◌, ℕ, ◌+◌, ◌<◌, ◌≤◌, Bool, List, [], ◌∷◌, get_or, length, ap, sym, ◌∙◌, subst, refl, arith, ℤ, pos, negsuc, ◌-ℤ◌, ◌*ℤ◌, ◌<ℤ◌, ◌≤ℤ◌, All}
+use Rattle.std.proofs.Common.{◌≡◌, ℕ, ◌<◌, ◌≤◌, Bool, List, [], ◌∷◌, get_or, length, ap, ◌∙◌, refl, arith, ℤ, pos, negsuc, ◌-ℤ◌, ◌<ℤ◌, ◌≤ℤ◌, All}
 use Rattle.std.proofs.lemmas.List.Elements.{All-from_recursion}
 use Rattle.plane_predicate.specs.declared.unit.Unit.{Unit as LengthUnit}
 use Rattle.plane_predicate.specs.Space.{Coefficients, Coordinates, point_at, value, minor}
 use Rattle.plane_predicate.proofs.IntegerRing.{sums}
-use Rattle.plane_predicate.proofs.Polynomials.{Poly, var, num, plus, times, minus, ring}
+use Rattle.plane_predicate.proofs.Polynomials.{Poly, var, num, times, minus, ring}
 use Rattle.plane_predicate.proofs.Signs.{pos_pos}
 use Rattle.plane_predicate.proofs.Vectors.{Form, valueP, minorP}
 use Rattle.int_transform.specs.Maps.{HasSafeCoordinates}

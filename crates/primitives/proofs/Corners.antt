@@ -1,5 +1,5 @@
 -- Corners of polygons, and tests that tell whether a polygon is convex.
-use Rattle.std.proofs.Common.{◌≡◌, ℕ, ◌<◌, Bool, true, false, List, [], ◌∷◌, length, sym, ap, ◌∙◌, subst, refl, arith, ℤ, pos, ◌-ℤ◌, get_or, All, Any, inl, inr}
+use Rattle.std.proofs.Common.{◌≡◌, ℕ, ◌<◌, Bool, true, false, List, [], ◌∷◌, length, sym, ap, ◌∙◌, refl, arith, ℤ, pos, ◌-ℤ◌, get_or, All, Any, inl, inr}
 use Rattle.std.specs.Bool.{OnTrue, OnFalse}
 use Rattle.std.proofs.lemmas.List.{get_or_default}
 use Rattle.plane_predicate.specs.Space.{minor}

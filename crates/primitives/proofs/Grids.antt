@@ -1,12 +1,11 @@
 -- Written points in grid steps.
-use Rattle.std.proofs.Common.{◌≡◌, ℕ, ◌*◌, ◌≤◌, List, length, sym, arith, ℤ, unsigned_abs, map, All}
+use Rattle.std.proofs.Common.{◌≤◌, List, arith, ℤ, unsigned_abs, All}
 use Rattle.std.proofs.lemmas.List.{length-map}
 use Rattle.std.proofs.lemmas.List.Elements.{All-map, All-weaker}
 use Rattle.plane_predicate.specs.declared.unit.Unit.{Unit as LengthUnit}
 use Rattle.plane_predicate.specs.declared.unit.Unit.TheVariants.{Whole, Half}
 use Rattle.plane_predicate.specs.Units.{steps_of}
 use Rattle.plane_predicate.proofs.Sizes.{size_product}
-use Rattle.primitives.specs.Sizes.{grid_steps}
 use Rattle.primitives.specs.Polygons.{x_of, y_of, on_grid, polygon_of, IsFlat, IsInRange, IsNear, IsPolygon, IsSafePoint}
 
 steps_most : (unit : LengthUnit) → unsigned_abs (steps_of unit) ≤ 2

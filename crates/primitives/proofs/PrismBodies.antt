@@ -1,12 +1,12 @@
 -- A convex polygon that is moved through a height above 0 is a shape.
-use Rattle.std.proofs.Common.{◌≡◌, ℕ, ◌+◌, ◌<◌, false, List, [], ◌∷◌, length, get_or, map, sym, ap, ◌∙◌, subst, refl, arith, ℤ, pos, negsuc, ◌-ℤ◌, ◌<ℤ◌, ◌≤ℤ◌, All, inl, inr}
+use Rattle.std.proofs.Common.{◌≡◌, ℕ, ◌+◌, ◌<◌, false, List, [], length, get_or, map, sym, ap, ◌∙◌, subst, arith, ℤ, pos, negsuc, ◌-ℤ◌, ◌<ℤ◌, ◌≤ℤ◌, All, inl, inr}
 use Rattle.std.specs.List.{range_with_len}
 use Rattle.std.proofs.lemmas.List.Elements.{All-append, All-from_recursion, All-map, All-weaker}
 use Rattle.std.proofs.lemmas.List.FromFn.{get_or-range_with_len, length-range_with_len}
 use Rattle.plane_predicate.specs.Space.{Coefficients, Coordinates, point_at, value, AreCollinear}
 use Rattle.plane_predicate.proofs.IntegerRing.{sums}
 use Rattle.int_transform.specs.Maps.{HasSafeCoordinates}
-use Rattle.shape_planes.specs.Shapes.{Mesh, corner, value_at, HasTriangle, IsFace, IsShape}
+use Rattle.shape_planes.specs.Shapes.{corner, value_at, IsFace, IsShape}
 use Rattle.shape_planes.proofs.Moves.{whole}
 use Rattle.primitives.specs.Sizes.{IsSafe}
 use Rattle.primitives.specs.Polygons.{x_of, y_of, turn, after, point, HasCorner, IsFlat, IsSafePoint}
@@ -96,22 +96,33 @@ side_outside points low high i j a b lt three hi hj apart way on_i on_j left =
     record {
       there = side_there n (length (prism_points points low high)) i j hi hj (length_points points low high);
       triangle = record {
-        first = 0; second = 1; third = 2;
-        first_in = omega arith; second_in = omega arith; third_in = omega arith;
+        first = 0;
+        second = 1;
+        third = 2;
+        first_in = omega arith;
+        second_in = omega arith;
+        third_in = omega arith;
         apart = λ k. side_triangle (point points i) (point points j) low high lt apart (same_line _ _ _ _ _ _ (low_corner points low high i hi) (low_corner points low high j hj) (high_corner points low high j hj) k);
       };
       plane = m;
       directed = side_directed a b way;
-      on = All-from_recursion (λ (k : ℕ). value_at (prism_points points low high) m k ≡ pos 0) (side_face n i j)
-        (no_value _ _ (low_value points low high m i hi ∙ side_value a b (point points i) low) on_i,
-        (no_value _ _ (low_value points low high m j hj ∙ side_value a b (point points j) low) on_j,
-        (no_value _ _ (high_value points low high m j hj ∙ side_value a b (point points j) high) on_j,
-        (no_value _ _ (high_value points low high m i hi ∙ side_value a b (point points i) high) on_i,
-        tt))));
+      on = All-from_recursion (λ (k : ℕ). value_at (prism_points points low high) m k ≡ pos 0) (side_face n i j) (
+        no_value _ _ (low_value points low high m i hi ∙ side_value a b (point points i) low) on_i,
+        (
+          no_value _ _ (low_value points low high m j hj ∙ side_value a b (point points j) low) on_j,
+          (
+            no_value _ _ (high_value points low high m j hj ∙ side_value a b (point points j) high) on_j,
+            (
+              no_value _ _ (high_value points low high m i hi ∙ side_value a b (point points i) high) on_i,
+              tt,
+            ),
+          ),
+        ),
+      );
       within = λ k in_points. each_corner (λ (c : ℕ). value_at (prism_points points low high) m c ≤ℤ pos 0) n
-        (λ c lt. most_value _ _ (low_value points low high m c lt ∙ side_value a b (point points c) low) (left c [] lt))
-        (λ c lt. most_value _ _ (high_value points low high m c lt ∙ side_value a b (point points c) high) (left c [] lt))
-        k (omega (arith, in_points, length_points points low high));
+          (λ c lt. most_value _ _ (low_value points low high m c lt ∙ side_value a b (point points c) low) (left c [] lt))
+          (λ c lt. most_value _ _ (high_value points low high m c lt ∙ side_value a b (point points c) high) (left c [] lt))
+          k (omega (arith, in_points, length_points points low high));
       far = far_low points low high m far.at far.at_in (less_value _ _ (low_value points low high m far.at far.at_in ∙ side_value a b (point points far.at) low) far.left);
     }
 
@@ -126,7 +137,9 @@ low_outside points low high lt three =
     record {
       there = low_there n (length (prism_points points low high)) (length_points points low high);
       triangle = record {
-        first = three.first; second = three.second; third = three.third;
+        first = three.first;
+        second = three.second;
+        third = three.third;
         first_in = omega (arith, three.first_in, length-range_with_len 0 n);
         second_in = omega (arith, three.second_in, length-range_with_len 0 n);
         third_in = omega (arith, three.third_in, length-range_with_len 0 n);
@@ -136,9 +149,9 @@ low_outside points low high lt three =
       directed = omega arith;
       on = all_range (λ (k : ℕ). value_at (prism_points points low high) m k ≡ pos 0) 0 n (λ i here. (let e : i ≡ 0 + i = omega arith in subst (λ (k : ℕ). value_at (prism_points points low high) m k ≡ pos 0) e (same_on _ low (at_low i here))));
       within = λ k in_points. each_corner (λ (c : ℕ). value_at (prism_points points low high) m c ≤ℤ pos 0) n
-        (λ c here. most_within _ low low (at_low c here) (omega (arith, sums)))
-        (λ c here. most_within _ low high (at_high c here) (omega (arith, sums, lt)))
-        k (omega (arith, in_points, length_points points low high));
+          (λ c here. most_within _ low low (at_low c here) (omega (arith, sums)))
+          (λ c here. most_within _ low high (at_high c here) (omega (arith, sums, lt)))
+          k (omega (arith, in_points, length_points points low high));
       far = far_high points low high m three.first three.first_in (less_behind _ low high (at_high three.first three.first_in) lt);
     }
 
@@ -152,7 +165,9 @@ high_outside points low high lt three =
     record {
       there = high_there n (length (prism_points points low high)) (length_points points low high);
       triangle = record {
-        first = three.first; second = three.second; third = three.third;
+        first = three.first;
+        second = three.second;
+        third = three.third;
         first_in = omega (arith, three.first_in, length-range_with_len n n);
         second_in = omega (arith, three.second_in, length-range_with_len n n);
         third_in = omega (arith, three.third_in, length-range_with_len n n);
@@ -162,9 +177,9 @@ high_outside points low high lt three =
       directed = omega arith;
       on = all_range (λ (k : ℕ). value_at (prism_points points low high) m k ≡ pos 0) n n (λ i here. same_on _ high (at_high i here));
       within = λ k in_points. each_corner (λ (c : ℕ). value_at (prism_points points low high) m c ≤ℤ pos 0) n
-        (λ c here. most_within _ low high (at_low c here) (omega (arith, sums, lt)))
-        (λ c here. most_within _ high high (at_high c here) (omega (arith, sums)))
-        k (omega (arith, in_points, length_points points low high));
+          (λ c here. most_within _ low high (at_low c here) (omega (arith, sums, lt)))
+          (λ c here. most_within _ high high (at_high c here) (omega (arith, sums)))
+          k (omega (arith, in_points, length_points points low high));
       far = far_low points low high m three.first three.first_in (less_behind _ low high (at_low three.first three.first_in) lt);
     }
 

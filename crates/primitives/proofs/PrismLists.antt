@@ -1,11 +1,10 @@
 -- The lists of corners and faces of a prism.
-use Rattle.std.proofs.Common.{◌≡◌, ℕ, suc, ◌+◌, ◌-◌, ◌<◌, ◌≤◌, Bool, true, false, cond, eqb, List, [], ◌∷◌, ◌++◌, length, get_or, map, take, sym, ap, ap₂, ◌∙◌, subst, refl, arith, ℤ, All, inl, inr, append-nil, append_assoc}
+use Rattle.std.proofs.Common.{◌≡◌, ℕ, suc, ◌+◌, ◌-◌, ◌<◌, Bool, true, false, cond, eqb, List, [], ◌∷◌, ◌++◌, length, get_or, map, take, sym, ap, ap₂, ◌∙◌, subst, refl, arith, ℤ, All, inl, inr, append-nil, append_assoc}
 use Rattle.std.specs.List.{flat_map, range_with_len}
-use Rattle.std.proofs.lemmas.Bool.{cases_lt, eqb-true, eqb-false}
-use Rattle.std.proofs.lemmas.Bool.Decides.{eqb_tells}
+use Rattle.std.proofs.lemmas.Bool.{cases_lt, eqb-false}
 use Rattle.std.proofs.lemmas.List.{get_or-append-add, get_or-map, get_or_append_left, length-append, length-map, map-id, map_more}
 use Rattle.std.proofs.lemmas.List.Concat.{flat_map-append}
-use Rattle.std.proofs.lemmas.List.Elements.{All-append, All-cons, All-head, All-map, All-nil, All-tail}
+use Rattle.std.proofs.lemmas.List.Elements.{All-append, All-cons, All-head, All-nil, All-tail}
 use Rattle.std.proofs.lemmas.List.FromFn.{get_or-range_with_len, length-range_with_len, map-range_with_len_more}
 use Rattle.plane_predicate.specs.Space.{point_at}
 use Rattle.shape_planes.specs.Shapes.{corner}
@@ -20,16 +19,16 @@ length_points points low high = omega (arith, length-append (map (at_height low)
 pub low_corner : (points : List (List ℤ)) (low high : ℤ) (i : ℕ) → i < length points → corner (prism_points points low high) i ≡ whole (x_of (point points i)) (y_of (point points i)) low
 low_corner points low high i lt =
     ap point_at (
-      get_or_append_left (map (at_height low) points) (map (at_height high) points) [] i (omega (arith, lt, length-map points (at_height low)))
-      ∙ get_or-map (at_height low) points i [] [] lt
+    get_or_append_left (map (at_height low) points) (map (at_height high) points) [] i (omega (arith, lt, length-map points (at_height low)))
+    ∙ get_or-map (at_height low) points i [] [] lt
     )
 
 pub high_corner : (points : List (List ℤ)) (low high : ℤ) (i : ℕ) → i < length points → corner (prism_points points low high) (length points + i) ≡ whole (x_of (point points i)) (y_of (point points i)) high
 high_corner points low high i lt =
     ap point_at (
-      ap (λ (n : ℕ). get_or (prism_points points low high) (n + i) []) (sym (length-map points (at_height low)))
-      ∙ get_or-append-add (map (at_height low) points) (map (at_height high) points) i []
-      ∙ get_or-map (at_height high) points i [] [] lt
+    ap (λ (n : ℕ). get_or (prism_points points low high) (n + i) []) (sym (length-map points (at_height low)))
+    ∙ get_or-append-add (map (at_height low) points) (map (at_height high) points) i []
+    ∙ get_or-map (at_height high) points i [] [] lt
     )
 
 -- what holds of each point at both ends holds of each corner

@@ -1,13 +1,13 @@
 -- A rectangle of sides above 0 is a convex polygon.
-use Rattle.std.proofs.Common.{◌≡◌, ℕ, zero, suc, ◌<◌, ◌≤◌, Bool, List, [], ◌∷◌, get_or, length, sym, ◌∙◌, refl, arith, ℤ, pos, ◌-ℤ◌, ◌*ℤ◌, ◌<ℤ◌, ◌≤ℤ◌, All, inl}
+use Rattle.std.proofs.Common.{◌≡◌, zero, suc, ◌≤◌, Bool, List, [], ◌∷◌, get_or, length, refl, arith, ℤ, pos, ◌-ℤ◌, ◌*ℤ◌, ◌<ℤ◌, ◌≤ℤ◌, inl}
 use Rattle.std.proofs.lemmas.List.Elements.{All-from_recursion}
 use Rattle.plane_predicate.specs.declared.unit.Unit.{Unit as LengthUnit}
 use Rattle.plane_predicate.proofs.IntegerRing.{sums}
 use Rattle.plane_predicate.proofs.Polynomials.{Poly, var, minus, times, ring}
 use Rattle.plane_predicate.proofs.Signs.{least_least, pos_pos}
 use Rattle.plane_predicate.proofs.Vectors.{minorP}
-use Rattle.primitives.specs.Sizes.{AreSizes, IsSafe}
-use Rattle.primitives.specs.Polygons.{after, point, turn, rectangle_of, square_of, GoesLeft, IsConvex, IsFlat, IsSafePoint}
+use Rattle.primitives.specs.Sizes.{AreSizes}
+use Rattle.primitives.specs.Polygons.{turn, rectangle_of, square_of, GoesLeft, IsConvex, IsFlat, IsSafePoint}
 use Rattle.primitives.proofs.Ends.{AreEnds, ends_of_side}
 
 abbrev turnP : Poly → Poly → Poly → Poly → Poly → Poly → Poly

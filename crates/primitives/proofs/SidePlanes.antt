@@ -1,10 +1,10 @@
 -- The plane over a way of a polygon.
-use Rattle.std.proofs.Common.{◌≡◌, ℕ, ◌+◌, ◌<◌, Bool, true, false, List, [], ◌∷◌, length, sym, ap, ◌∙◌, refl, arith, ℤ, pos, ◌-ℤ◌, ◌*ℤ◌, ◌<ℤ◌, ◌≤ℤ◌, unsigned_abs, ◌&&◌, inl, inr, All}
+use Rattle.std.proofs.Common.{◌≡◌, ℕ, ◌+◌, ◌<◌, true, false, List, [], ◌∷◌, length, sym, ◌∙◌, refl, arith, ℤ, pos, ◌-ℤ◌, ◌*ℤ◌, ◌<ℤ◌, ◌≤ℤ◌, unsigned_abs, ◌&&◌, inl, inr, All}
 use Rattle.std.specs.Ordering.{int_eq}
 use Rattle.std.proofs.lemmas.Int.{ints}
-use Rattle.plane_predicate.specs.Space.{Coefficients, Coordinates, value, minor, AreCollinear}
-use Rattle.plane_predicate.proofs.IntegerRing.{sums, mul_comm_ℤ}
-use Rattle.plane_predicate.proofs.Polynomials.{Poly, var, num, plus, times, minus, ring}
+use Rattle.plane_predicate.specs.Space.{Coefficients, value, minor, AreCollinear}
+use Rattle.plane_predicate.proofs.IntegerRing.{sums}
+use Rattle.plane_predicate.proofs.Polynomials.{Poly, var, num, times, minus, ring}
 use Rattle.plane_predicate.proofs.Signs.{signs, zero_cancel}
 use Rattle.plane_predicate.proofs.Vectors.{valueP, minorP}
 use Rattle.shape_planes.proofs.Moves.{cancelled, whole, wholeP}

@@ -1,5 +1,5 @@
 -- Convex polygons in the plane.
-use Rattle.std.specs.Prelude.{◌≡◌, ℕ, suc, ◌<◌, ◌≤◌, eqb, cond, ℤ, pos, ◌-ℤ◌, ◌*ℤ◌, ◌<ℤ◌, ◌≤ℤ◌, unsigned_abs, Bool, ◌⊎◌, List, [], ◌∷◌, get_or, length, map, All, Any, ⊤}
+use Rattle.std.specs.Prelude.{◌≡◌, ℕ, suc, ◌<◌, ◌≤◌, eqb, cond, ℤ, pos, ◌-ℤ◌, ◌≤ℤ◌, unsigned_abs, Bool, ◌⊎◌, List, [], ◌∷◌, get_or, length, map, All, Any, ⊤}
 use Rattle.text_place.specs.declared.fault.FaultKind.{FaultKind}
 use Rattle.text_place.specs.declared.fault.FaultKind.TheVariants.{LongList, FewPoints, OutOfRange, NotConvex}
 use Rattle.plane_predicate.specs.Space.{minor}

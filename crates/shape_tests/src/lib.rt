@@ -2,4 +2,14 @@
 #![tactic(auto)]
 
 #[cfg(test)]
+mod boxes;
+#[cfg(test)]
+mod extrusions;
+#[cfg(test)]
+mod flats;
+#[cfg(test)]
+mod looks;
+#[cfg(test)]
 mod transforms;
+#[cfg(test)]
+mod turned_boxes;

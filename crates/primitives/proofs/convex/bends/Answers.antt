@@ -1,4 +1,4 @@
-use Rattle.std.proofs.Common.{rules, ◌≡◌, arith, get_or, List, [], ℤ, pos, sym, ◌∙◌, ap, to_z, to_z-of_z, FitsSigned, w64}
+use Rattle.std.proofs.Common.{rules, ◌≡◌, arith, List, [], ℤ, pos, sym, ◌∙◌, ap, to_z, to_z-of_z, FitsSigned, w64}
 use Rattle.shape_planes.proofs.Lists.{all_done, all_next}
 use Rattle.primitives.specs.Polygons.{turn}
 use Rattle.primitives.proofs.convex.bends.Goals as goal

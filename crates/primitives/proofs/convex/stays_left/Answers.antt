@@ -1,4 +1,4 @@
-use Rattle.std.proofs.Common.{rules, ◌≡◌, ◌≤ℤ◌, arith, get_or, List, [], ℤ, pos, sym, subst, ◌∙◌, to_z-of_z, FitsSigned, w64}
+use Rattle.std.proofs.Common.{rules, ◌≤ℤ◌, arith, List, [], ℤ, pos, subst, to_z-of_z, FitsSigned, w64}
 use Rattle.std.proofs.lemmas.Int.{ints}
 use Rattle.shape_planes.proofs.Lists.{all_done, all_next}
 use Rattle.primitives.specs.Polygons.{turn}

@@ -1,5 +1,4 @@
-use Rattle.std.proofs.Common.{◌≡◌, ◌+◌, ◌++◌, List, ℕ, [], ◌∷◌, sym, ap, ◌∙◌}
-use Rattle.std.specs.List.{range_with_len}
+use Rattle.std.proofs.Common.{◌+◌, ◌++◌, List, ℕ, [], ◌∷◌, sym, ap, ◌∙◌}
 use Rattle.primitives.proofs.PrismLists.{range_next}
 use Rattle.primitives.proofs.extrusion.end_of.Goals as goal
 

@@ -1,6 +1,5 @@
-use Rattle.std.proofs.Common.{rules, ◌≡◌, ℕ, ◌+◌, ◌++◌, List, ℤ, pos, [], ◌∷◌, get_or, length, take, map, sym, ap, ◌∙◌, append_assoc, arith, to_z-of_z, FitsSigned, w64}
+use Rattle.std.proofs.Common.{rules, ◌≡◌, ℕ, ◌++◌, List, ℤ, pos, [], get_or, length, take, map, ap, ◌∙◌, arith, to_z-of_z, FitsSigned, w64}
 use Rattle.std.proofs.Math.Seq.{take-length}
-use Rattle.std.proofs.lemmas.List.{map_more}
 use Rattle.primitives.specs.Prisms.{at_height}
 use Rattle.primitives.proofs.PrismLists.{end_next}
 use Rattle.primitives.proofs.extrusion.push_end.Goals as goal
