@@ -1,0 +1,11 @@
+//! Circles and cylinders with four fragments, from their arguments or with their first fault.
+#![tactic(auto)]
+
+mod circle;
+mod cylinder;
+mod laws;
+mod sizes;
+
+pub use circle::circle_flat;
+pub use cylinder::cylinder_shape;
+pub use laws::corners_are_behind_or_on_planes;
