@@ -4,6 +4,8 @@
 #[cfg(test)]
 mod boxes;
 #[cfg(test)]
+mod cylinders;
+#[cfg(test)]
 mod extrusions;
 #[cfg(test)]
 mod flats;
