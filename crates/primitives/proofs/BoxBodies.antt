@@ -13,7 +13,7 @@ use Rattle.shape_planes.proofs.Moves.{whole, wholeP}
 use Rattle.primitives.specs.Boxes.{box_of, box_points, box_faces, cube_of}
 use Rattle.primitives.specs.Sizes.{AreSizes}
 use Rattle.primitives.proofs.Bodies.{IsOutside, outside_is_face}
-use Rattle.primitives.proofs.Ends.{ends_of_side}
+use Rattle.primitives.proofs.EndFaces.{ends_of_side}
 
 -- ---- the planes of a box
 abbrev plane : ℤ → ℤ → ℤ → ℤ → Coefficients

@@ -1,7 +1,7 @@
 pub mod Bodies
 pub mod BoxBodies
 pub mod Corners
-pub mod Ends
+pub mod EndFaces
 pub mod Rectangles
 pub mod Grids
 pub mod PrismLists

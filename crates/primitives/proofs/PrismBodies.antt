@@ -13,7 +13,7 @@ use Rattle.primitives.specs.Polygons.{x_of, y_of, turn, after, point, HasCorner,
 use Rattle.primitives.specs.Prisms.{at_height, is_same_point, prism_faces, prism_of, prism_points, sides_over}
 use Rattle.primitives.proofs.Bodies.{HasFar, IsOutside, outside_is_face}
 use Rattle.primitives.proofs.BoxBodies.{low_z, high_z, same_on, most_within, less_behind}
-use Rattle.primitives.proofs.Ends.{AreEnds}
+use Rattle.primitives.proofs.EndFaces.{AreEnds}
 use Rattle.primitives.proofs.PrismLists.{after_in, all_faces, all_range, all_sides, each_corner, high_corner, high_face, length_faces, length_points, low_corner, low_face, side_face}
 use Rattle.primitives.proofs.SidePlanes.{Differ, differ_back, left_of_way, less_value, most_value, no_value, points_differ, side_directed, side_plane, side_triangle, side_value, turn_first, turn_second}
 

@@ -8,7 +8,7 @@ use Rattle.plane_predicate.proofs.Signs.{least_least, pos_pos}
 use Rattle.plane_predicate.proofs.Vectors.{minorP}
 use Rattle.primitives.specs.Sizes.{AreSizes}
 use Rattle.primitives.specs.Polygons.{turn, rectangle_of, square_of, GoesLeft, IsConvex, IsFlat, IsSafePoint}
-use Rattle.primitives.proofs.Ends.{AreEnds, ends_of_side}
+use Rattle.primitives.proofs.EndFaces.{AreEnds, ends_of_side}
 
 abbrev turnP : Poly → Poly → Poly → Poly → Poly → Poly → Poly
 turnP p q s t u v = minorP (minus s p) (minus t q) (minus u p) (minus v q)

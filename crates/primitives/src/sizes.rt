@@ -1,6 +1,6 @@
 //! Sides and heights.
 
-ghost use Rattle.std.specs.Prelude.{◌≡◌, ℤ, pos, ◌%◌, ◌<ℤ◌, ◌≤ℤ◌, unsigned_abs, All, Any, IfSome, IsNone};
+ghost use Rattle.std.specs.Prelude.{◌≡◌, ◌≤◌, ℤ, pos, ◌%◌, ◌<ℤ◌, ◌≤ℤ◌, unsigned_abs, All, Any, IfSome, IsNone};
 ghost use Rattle.std.specs.Bool.{OnTrue, OnFalse};
 ghost use Rattle.plane_predicate.specs.Units.{steps_of};
 ghost use Rattle.primitives.specs.Sizes.{grid_steps, high_end, low_at, low_end, AreSizes, IsEven, IsLong, IsSafe, IsSizeFault};
@@ -95,8 +95,7 @@ pub fn in_steps(length: i64, unit: Unit) -> i64
 
 /// The ends of a side or height in grid steps.
 pub fn ends_of(side: i64, center: bool, unit: Unit) -> Ends
-    requires side_safe { IsSafe side }
-    requires steps_safe { IsSafe (grid_steps unit side) }
+    requires { IsSafe side }
     ensures low { result.low ≡ low_end unit center side }
     ensures high { result.high ≡ high_end unit center side }
 {
@@ -110,7 +109,8 @@ pub fn ends_of(side: i64, center: bool, unit: Unit) -> Ends
 
 /// Where so many grid steps begin: at 0, or where centred at minus one half of them.
 fn low_of(steps: i64, center: bool) -> i64
-    requires { IsSafe steps }
+    // (twice 2^53 - 1)
+    requires { unsigned_abs steps ≤ 18014398509481982 }
     ensures { result ≡ low_at center steps }
 {
     if center {

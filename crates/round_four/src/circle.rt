@@ -4,9 +4,9 @@ ghost use Rattle.std.specs.Prelude.{◌≡◌, ◌≤◌, unsigned_abs, IfOk, If
 ghost use Rattle.primitives.specs.Sizes.{IsSafe};
 ghost use Rattle.round_four.specs.Circles.{circle_of, circle_points, IsCircleSize, IsCircleStop};
 
-use crate::sizes::{in_steps, is_near};
+use crate::sizes::is_near;
 use plane_predicate::Unit;
-use primitives::Flat;
+use primitives::{Flat, in_steps};
 use shape_planes::ShapeStop;
 use std::alloc::{AllocError, Global};
 use text_place::FaultKind;

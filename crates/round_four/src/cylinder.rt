@@ -4,8 +4,9 @@ ghost use Rattle.std.specs.Prelude.{◌≡◌, ◌≤◌, pos, ◌≤ℤ◌, ◌
 ghost use Rattle.primitives.specs.Sizes.{IsSafe};
 ghost use Rattle.round_four.specs.Cylinders.{cylinder_faces, cylinder_of, end_points, AreCylinderSizes, IsCylinderStop};
 
-use crate::sizes::{Ends, cylinder_fault, ends_of, in_steps};
+use crate::sizes::cylinder_fault;
 use plane_predicate::Unit;
+use primitives::{Ends, ends_of, in_steps};
 use shape_planes::{Corners, Shape, ShapeStop};
 use std::alloc::{AllocError, Global};
 

@@ -2,18 +2,12 @@
 
 ghost use Rattle.std.specs.Prelude.{◌≡◌, ◌≤◌, ◌%◌, true, unsigned_abs, IfSome, IsNone};
 ghost use Rattle.std.specs.Bool.{OnTrue, OnFalse};
-ghost use Rattle.primitives.specs.Sizes.{grid_steps, high_end, low_at, low_end, IsEven, IsSafe};
+ghost use Rattle.primitives.specs.Sizes.{grid_steps, IsEven, IsSafe};
 ghost use Rattle.round_four.specs.Cylinders.{AreCylinderSizes, AreNear, HasBody, IsCylinderFault, IsInRange, IsOnGrid};
 
 use plane_predicate::Unit;
+use primitives::{Ends, ends_of, in_steps};
 use text_place::FaultKind;
-
-/// Where a height begins and ends, in grid steps.
-#[derive(Clone, Copy, Debug, PartialEq, Eq)]
-pub struct Ends {
-    pub low: i64,
-    pub high: i64,
-}
 
 /// The first fault of the sizes of a cylinder in units. `None` where nothing is wrong.
 pub fn cylinder_fault(
@@ -96,38 +90,4 @@ pub fn is_near(number: i64) -> bool
     ensures far { OnFalse result (unsigned_abs number ≤ 65535 → ⊥) }
 {
     number.unsigned_abs() <= 65535
-}
-
-/// A length in grid steps.
-pub fn in_steps(length: i64, unit: Unit) -> i64
-    requires { IsSafe length }
-    ensures { result ≡ grid_steps unit length }
-{
-    unit.per() * length
-}
-
-/// The ends of a height in grid steps.
-pub fn ends_of(height: i64, center: bool, unit: Unit) -> Ends
-    requires { IsSafe height }
-    ensures low { result.low ≡ low_end unit center height }
-    ensures high { result.high ≡ high_end unit center height }
-{
-    let steps = in_steps(height, unit);
-    let low = low_of(steps, center);
-    Ends {
-        low,
-        high: low + steps,
-    }
-}
-
-/// Where so many grid steps begin: at 0, or where centred at minus one half of them.
-fn low_of(steps: i64, center: bool) -> i64
-    requires { unsigned_abs steps ≤ 18014398509481982 }
-    ensures { result ≡ low_at center steps }
-{
-    if center {
-        -((steps.unsigned_abs() / 2) as i64)
-    } else {
-        0
-    }
 }
