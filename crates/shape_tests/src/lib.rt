@@ -12,6 +12,8 @@ mod flats;
 #[cfg(test)]
 mod looks;
 #[cfg(test)]
+mod surfaces;
+#[cfg(test)]
 mod transforms;
 #[cfg(test)]
 mod turned_boxes;

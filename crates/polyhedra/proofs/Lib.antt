@@ -1,0 +1,10 @@
+pub mod Steps
+pub mod Triangles
+pub mod Searches
+pub mod Planes
+pub mod Rounds
+pub mod OuterPlanes
+pub mod Sets
+pub mod Grids
+pub mod FirstFaults
+pub mod Solids

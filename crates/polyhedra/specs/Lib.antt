@@ -1,0 +1,6 @@
+pub mod Sizes
+pub mod Ways
+pub mod Checks
+pub mod Spanning
+pub mod Bounding
+pub mod Polyhedra
