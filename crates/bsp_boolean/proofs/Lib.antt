@@ -3,3 +3,4 @@ pub mod Combined
 pub mod Merged
 pub mod Solids
 mod Examples
+pub mod TreeSolids

@@ -1,3 +1,4 @@
 pub mod Merges
 pub mod MadeSolids
 pub mod Solids
+pub mod TreeSolids

@@ -1,5 +1,12 @@
 pub mod Formulas
 pub mod FacePlanes
+pub mod Interned
 pub mod Joins
 pub mod ProperTrees
+pub mod TreeKeys
 pub mod Trees
+pub mod Keys
+pub mod Codes
+pub mod Numberings
+pub mod Levels
+pub mod Nodes

@@ -1,14 +1,27 @@
-//! Trees of constructive solid geometry over half spaces, what they mean, and how they are joined.
+//! Trees of constructive solid geometry over half spaces, what they mean, how they are joined, and
+//! their distinct subtrees as nodes that are linked by number.
 #![tactic(auto)]
 
+mod interner;
 mod joining;
+mod key;
 mod laws;
+mod levels;
+mod naming;
+mod node;
+mod numbering;
 mod op;
+mod parts;
 mod planes;
+mod store;
 mod tree;
+mod tree_key;
 
 pub use joining::{balanced, join};
 pub use laws::{balanced_by_halves, joins_are_proper, joins_keep_the_meaning};
+pub use node::CsgNode;
 pub use op::Op;
 pub use planes::Planes;
+pub use store::CsgStore;
 pub use tree::CsgTree;
+pub use tree_key::TreeKey;

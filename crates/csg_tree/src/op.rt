@@ -1,5 +1,5 @@
 /// An operation on two solids.
-#[derive(Clone, Copy, PartialEq, Eq)]
+#[derive(Clone, Copy, PartialEq, Eq, PartialOrd, Ord)]
 pub enum Op {
     /// What lies in one of them.
     Union,

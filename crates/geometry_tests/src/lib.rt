@@ -30,4 +30,8 @@ mod polygons;
 #[cfg(test)]
 mod solids;
 #[cfg(test)]
+mod stores;
+#[cfg(test)]
 mod texts;
+#[cfg(test)]
+mod tree_solids;

@@ -1,0 +1,75 @@
+-- The solid of a tree, made node by node, and the first node that passes a limit of size.
+use Rattle.std.specs.Prelude.{◌≡◌, ℕ, ◌-◌, ◌≤◌, ◌<◌, List, map, take, length, get_or, sum_by, All}
+use Rattle.plane_predicate.specs.Space.{ComesInReach}
+use Rattle.csg_tree.specs.declared.node.CsgNode.{CsgNode}
+use Rattle.csg_tree.specs.declared.node.CsgNode.TheVariants.{Leaf, Join}
+use Rattle.csg_tree.specs.Formulas.{Formula, nothing, leaf, joined}
+use Rattle.csg_tree.specs.Numberings.{tree_numbered, IsNumberIn}
+use Rattle.bsp_tree.specs.declared.Solid.{Solid}
+use Rattle.bsp_tree.specs.Trees.{Tree, outside, size}
+use Rattle.bsp_tree.specs.Shapes.{tree_of}
+use Rattle.bsp_boolean.specs.Merges.{merged}
+use Rattle.bsp_boolean.specs.Solids.{convex, solid_of}
+use Rattle.bsp_boolean.specs.declared.tree_solids.TreeStop.{TreeStop}
+use Rattle.bsp_boolean.specs.declared.tree_solids.TreeStop.TheVariants.{TooBig, SumTooBig, NoMemory}
+use Rattle.bsp_boolean.specs.declared.tree_solids.Growth.{Growth}
+
+-- the most that the size of one node's solid may be
+abbrev pub most_of_one : ℕ
+most_of_one = 50000
+
+-- the most that the sizes of all nodes' solids may be together
+abbrev pub most_of_all : ℕ
+most_of_all = 500000
+
+-- the size of a tree's solid
+abbrev pub solid_size : Formula → ℕ
+solid_size tree = size (solid_of tree)
+
+-- what the solids of some trees are in size together
+abbrev pub total_size : List Formula → ℕ
+total_size trees = sum_by solid_size trees
+
+-- the solids of some trees are within both limits
+pub record AreWithin (trees : List Formula) : Type 0 where
+  pub each : All (λ tree. solid_size tree ≤ most_of_one) trees
+  pub together : total_size trees ≤ most_of_all
+
+-- how many of some trees are joins
+abbrev pub is_join : Formula → ℕ
+is_join nothing = 0
+is_join (leaf planes) = 0
+is_join (joined op left right) = 1
+
+abbrev pub joins : List Formula → ℕ
+joins trees = sum_by is_join trees
+
+-- Why the nodes of a tree, in order of number, give no solid: at the first node at which a limit is passed, its own
+-- solid is too big, or it isn't and the sum up to it is.
+abbrev pub IsTreeStop : List Formula → TreeStop → Type 0
+IsTreeStop trees (TooBig number) = IsNumberIn trees number × AreWithin (take (number - 1) trees)
+    × (most_of_one < solid_size (tree_numbered trees number))
+IsTreeStop trees (SumTooBig number) = IsNumberIn trees number × AreWithin (take (number - 1) trees)
+    × (solid_size (tree_numbered trees number) ≤ most_of_one) × (most_of_all < total_size (take number trees))
+IsTreeStop trees NoMemory = Unit {0}
+
+-- the first n nodes have their solids, which are within the limits
+pub record IsGrown (trees : List Formula) (n : ℕ) (growth : Growth) : Type 0 where
+  pub solids : map tree_of growth.solids.items ≡ map solid_of (take n trees)
+  pub sum : growth.sum ≡ total_size (take n trees)
+  pub within : AreWithin (take n trees)
+
+-- the solid of a node, over those of the nodes before it
+abbrev pub solid_over : List Tree → CsgNode → Tree
+solid_over solids (Leaf planes) = convex planes.now
+solid_over solids (Join op left right) = merged op (get_or solids (left - 1) outside) (get_or solids (right - 1) outside)
+
+-- a node over solids: a leaf has planes that come in reach, and the two numbers of a join are those of solids
+abbrev pub IsOverSolids : List Solid → CsgNode → Type 0
+IsOverSolids solids (Leaf planes) = (0 < length planes.now) × All ComesInReach planes.now
+IsOverSolids solids (Join op left right) = (1 ≤ left) × (left ≤ length solids) × (1 ≤ right) × (right ≤ length solids)
+
+-- how often a node's solid takes a merge
+abbrev pub merges_of : CsgNode → ℕ
+merges_of (Leaf planes) = 0
+merges_of (Join op left right) = 1

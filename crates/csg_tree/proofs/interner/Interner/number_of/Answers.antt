@@ -1,0 +1,53 @@
+use Rattle.std.proofs.Common.{◌≡◌, [], List, Some, None, sym, ap, subst, ◌∙◌}
+use Rattle.std.specs.BTreeMap.{get}
+use Rattle.csg_tree.specs.declared.node.StoredNode.{StoredNode}
+use Rattle.csg_tree.specs.Nodes.{node_of, tree_over, trees_of}
+use Rattle.csg_tree.specs.Interned.{key_cmp, AreInterned, HasNumber, TheyStay}
+use Rattle.csg_tree.proofs.Linked.{behind_more}
+use Rattle.csg_tree.proofs.Interning.{known_number, no_number, interned_push, new_number, they_stay}
+use Rattle.csg_tree.proofs.Distinct.{distinct_known, distinct_new}
+use Rattle.csg_tree.proofs.interner.Interner.number_of.Goals as goal
+
+pub returns-in-Some-clause-number : goal.returns-in-Some-clause-number
+returns-in-Some-clause-number c =
+    let look : get key_cmp c.args.self.now.found c.in_ok-key.key ≡ Some c.in-Some.number = sym c.look_up.ensures ∙ c.in-Some.is in
+    known_number c.args.self.now.found c.args.self.now.nodes.items c.in_ok-key.key (node_of c.args.node) c.in-Some.number
+    c.requires.interned c.in_ok-key.ensures look
+
+pub returns-in-Some-clause-distinct : goal.returns-in-Some-clause-distinct
+returns-in-Some-clause-distinct c = λ trees e.
+    let look : get key_cmp c.args.self.now.found c.in_ok-key.key ≡ Some c.in-Some.number = sym c.look_up.ensures ∙ c.in-Some.is in
+    let ts = trees_of c.args.self.now.nodes.items in
+    distinct_known ts trees (tree_over ts (node_of c.args.node)) c.in-Some.number e
+    (known_number c.args.self.now.found c.args.self.now.nodes.items c.in_ok-key.key (node_of c.args.node) c.in-Some.number
+    c.requires.interned c.in_ok-key.ensures look)
+
+pub returns-in_ok-number-in-None-clause-interned : goal.returns-in_ok-number-in-None-clause-interned
+returns-in_ok-number-in-None-clause-interned c =
+    let look : get key_cmp c.args.self.now.found c.in_ok-key.key ≡ None = sym c.look_up.ensures ∙ c.in-None.is in
+    subst (λ (nodes : List StoredNode). AreInterned c.add.new.self.found nodes) (sym c.in_ok-number-in-None.ensures.nodes)
+    (interned_push c.args.self.now.found c.add.new.self.found c.args.self.now.nodes.items c.in_ok-key.key (node_of c.args.node)
+    c.requires.interned c.in_ok-key.ensures look c.requires.over c.in_ok-number-in-None.ensures.found)
+
+pub returns-in_ok-number-in-None-clause-number : goal.returns-in_ok-number-in-None-clause-number
+returns-in_ok-number-in-None-clause-number c =
+    let old = c.args.self.now.nodes.items in
+    let node = node_of c.args.node in
+    let number = c.in_ok-number-in-None.number in
+    subst (λ (nodes : List StoredNode). HasNumber (trees_of nodes) (tree_over (trees_of old) node) number)
+    (sym c.in_ok-number-in-None.ensures.nodes) (new_number old node number c.in_ok-number-in-None.ensures.number)
+
+pub returns-in_ok-number-in-None-clause-stay : goal.returns-in_ok-number-in-None-clause-stay
+returns-in_ok-number-in-None-clause-stay c =
+    let old = c.args.self.now.nodes.items in
+    subst (λ (nodes : List StoredNode). TheyStay (trees_of old) (trees_of nodes)) (sym c.in_ok-number-in-None.ensures.nodes)
+    (they_stay old (node_of c.args.node))
+
+pub returns-in_ok-number-in-None-clause-distinct : goal.returns-in_ok-number-in-None-clause-distinct
+returns-in_ok-number-in-None-clause-distinct c = λ trees e.
+    let look : get key_cmp c.args.self.now.found c.in_ok-key.key ≡ None = sym c.look_up.ensures ∙ c.in-None.is in
+    let old = c.args.self.now.nodes.items in
+    let node = node_of c.args.node in
+    ap trees_of c.in_ok-number-in-None.ensures.nodes ∙ behind_more [] old node
+    ∙ distinct_new (trees_of old) trees (tree_over (trees_of old) node) e
+    (no_number c.args.self.now.found old c.in_ok-key.key node c.requires.interned c.in_ok-key.ensures look c.requires.over)

@@ -1,0 +1,57 @@
+use Rattle.std.proofs.Common.{◌≡◌, ℕ, ◌+◌, ◌-◌, ◌∷◌, ◌++◌, [], List, get_or, take, map, sym, ap, subst, ◌∙◌, inl, inr, arith, append_assoc}
+use Rattle.std.proofs.lemmas.Bool.{cases_lt}
+use Rattle.std.proofs.lemmas.List.{map-append, take_more}
+use Rattle.csg_tree.specs.Formulas.{Formula}
+use Rattle.csg_tree.specs.Numberings.{tree_numbered, IsNumberIn}
+use Rattle.csg_tree.specs.Numberings as numberings
+use Rattle.csg_tree.specs.Nodes.{node_of, trees_of, trees_of_lent}
+use Rattle.csg_tree.specs.Interned.{IsPlaced}
+use Rattle.csg_tree.proofs.Linked.{length_lent}
+use Rattle.csg_tree.proofs.Placing.{lent_number}
+use Rattle.csg_tree.proofs.Heights.{ready_stay}
+use Rattle.csg_tree.proofs.numbering.number_level.Goals as goal
+
+pub number_part-requires-clause-within : goal.number_part-requires-clause-within
+number_part-requires-clause-within c = (c.requires.ready c.loop-number.number-index (omega arith)).0
+
+pub number_part-requires-clause-ready : goal.number_part-requires-clause-ready
+number_part-requires-clause-ready c = λ d.
+    let parts = c.args.parts.now in
+    let ready = c.requires.ready c.loop-number.number-index (omega arith) in
+    let m = get_or c.args.level.now c.loop-number.number-index 0 in
+    let node = node_of (get_or parts (m - 1) d) in
+    ready_stay (trees_of_lent parts) (trees_of c.args.interner.now.nodes.items) (trees_of c.loop-number.interner.nodes.items)
+    c.args.numbers.now.items c.loop-number.numbers.items node (lent_number parts m d c.requires.linked ready.0).0
+    c.loop-number.invariant.stay (ready.1 d)
+
+pub loop-number-preserved : goal.loop-number-preserved
+loop-number-preserved c =
+    let parts = c.args.parts.now in
+    let ps = trees_of_lent parts in
+    let level = c.args.level.now in
+    let i = c.loop-number.number-index in
+    let now = c.in_ok-number_part.ensures in
+    let before = c.loop-number.invariant in
+    let us = trees_of c.number_part.new.interner.nodes.items in
+    let count = length_lent parts in
+    let taken : map (tree_numbered ps) (take (i + 1) level) ≡ map (tree_numbered ps) (take i level) ++ tree_numbered ps (get_or level i 0) ∷ [] =
+    ap (map (tree_numbered ps)) (take_more level i 0 (omega arith)) ∙ map-append (tree_numbered ps) (take i level) (get_or level i 0 ∷ []) in
+    record {
+      room = c.number_part.ensures.room;
+      interned = now.interned;
+      few = omega (arith, now.few, before.few);
+      placed = λ j j_in.
+          elim (cases_lt j i) as (λ _. IsPlaced ps us c.number_part.new.numbers.items (get_or level j 0)) [
+            | inl h ↦
+                let within = (c.requires.ready j (omega arith)).0 in
+                now.stay (get_or level j 0) (within.0, omega (arith, within.1, count)) (before.placed j h)
+            | inr h ↦
+                let e : i ≡ j = omega arith in
+                subst (λ (k : ℕ). IsPlaced ps us c.number_part.new.numbers.items (get_or level k 0)) e now.placed
+          ];
+      stay = λ m within placed. now.stay m within (before.stay m within placed);
+      distinct = λ trees e.
+          now.distinct (trees ++ map (tree_numbered ps) (take i level)) (before.distinct trees e)
+          ∙ ap numberings.distinct (append_assoc trees (map (tree_numbered ps) (take i level)) (tree_numbered ps (get_or level i 0) ∷ [])
+          ∙ ap (λ (xs : List Formula). trees ++ xs) (sym taken));
+    }

@@ -1,0 +1,74 @@
+-- How trees are told apart as data.
+use Rattle.std.specs.Prelude.{◌≡◌, ℕ, zero, suc, ℤ, List, [], ◌∷◌, ◌++◌, ◌⊎◌, refl}
+use Rattle.std.specs.Coded.{Coded, code_by, coded×, coded_ℕ, coded_ℤ, coded_list, coded⊎}
+use Rattle.std.proofs.Common.{sym, ap, ◌∙◌, inl, inr, append-nil, append_assoc}
+use Rattle.plane_predicate.specs.Space.{Coefficients}
+use Rattle.csg_tree.specs.declared.op.Op.{Op}
+use Rattle.csg_tree.specs.declared.op.Op.TheVariants.{Union, Intersection, Difference}
+use Rattle.csg_tree.specs.Formulas.{Formula, nothing, leaf, joined}
+
+-- a plane is stored as its four numbers
+abbrev pub coded_plane : Coded Coefficients
+coded_plane =
+    code_by (ℤ × (ℤ × (ℤ × ℤ))) (coded× coded_ℤ (coded× coded_ℤ (coded× coded_ℤ coded_ℤ)))
+    (λ m. (m.a, (m.b, (m.c, m.d)))) (λ p. record { a = p.0; b = p.1.0; c = p.1.1.0; d = p.1.1.1 }) (λ _. refl)
+
+-- an operation is stored as a number above 0
+abbrev op_number : Op → ℕ
+op_number Union = 1
+op_number Intersection = 2
+op_number Difference = 3
+
+abbrev op_numbered : ℕ → Op
+op_numbered (suc zero) = Union
+op_numbered (suc (suc zero)) = Intersection
+op_numbered _ = Difference
+
+pub op_back : (op : Op) → op_numbered (op_number op) ≡ op
+op_back Union = refl
+op_back Intersection = refl
+op_back Difference = refl
+
+-- a tree is stored as a list of its leaves and joins, a join behind its two trees, and 0 for Nothing
+abbrev Cell : Type 0
+Cell = List Coefficients ⊎ ℕ
+
+abbrev cells : Formula → List Cell
+cells nothing = inr 0 ∷ []
+cells (leaf planes) = inl planes ∷ []
+cells (joined op left right) = cells left ++ (cells right ++ inr (op_number op) ∷ [])
+
+abbrev put_together : ℕ → List Formula → List Formula
+put_together zero stack = nothing ∷ stack
+put_together (suc n) (right ∷ left ∷ stack) = joined (op_numbered (suc n)) left right ∷ stack
+put_together (suc n) stack = stack
+
+abbrev built : List Cell → List Formula → List Formula
+built [] stack = stack
+built (inl planes ∷ cs) stack = built cs (leaf planes ∷ stack)
+built (inr n ∷ cs) stack = built cs (put_together n stack)
+
+abbrev top : List Formula → Formula
+top [] = nothing
+top (t ∷ ts) = t
+
+put_joined : (op : Op) (left right : Formula) (stack : List Formula) → put_together (op_number op) (right ∷ left ∷ stack) ≡ joined op left right ∷ stack
+put_joined Union left right stack = refl
+put_joined Intersection left right stack = refl
+put_joined Difference left right stack = refl
+
+built-cells : (t : Formula) (cs : List Cell) (stack : List Formula) → built (cells t ++ cs) stack ≡ built cs (t ∷ stack)
+built-cells nothing cs stack = refl
+built-cells (leaf planes) cs stack = refl
+built-cells (joined op left right) cs stack =
+    ap (λ x. built x stack) (append_assoc (cells left) (cells right ++ inr (op_number op) ∷ []) cs)
+    ∙ built-cells left ((cells right ++ inr (op_number op) ∷ []) ++ cs) stack
+    ∙ ap (λ x. built x (left ∷ stack)) (append_assoc (cells right) (inr (op_number op) ∷ []) cs)
+    ∙ built-cells right (inr (op_number op) ∷ cs) (left ∷ stack)
+    ∙ ap (built cs) (put_joined op left right stack)
+
+pub back : (t : Formula) → top (built (cells t) []) ≡ t
+back t = ap (λ x. top (built x [])) (sym (append-nil (cells t))) ∙ ap top (built-cells t [] [])
+
+abbrev pub coded_formula : Coded Formula
+coded_formula = code_by (List Cell) (coded_list (coded⊎ (coded_list coded_plane) coded_ℕ)) cells (λ cs. top (built cs [])) back

@@ -1,0 +1,59 @@
+-- Nodes that are linked by number, and the trees that they are.
+use Rattle.std.specs.Prelude.{◌≡◌, ℕ, ◌^◌, ◌<◌, ◌≤◌, List, [], ◌∷◌, ◌++◌, length, map, All}
+use Rattle.csg_tree.specs.declared.node.StoredNode.{StoredNode}
+use Rattle.csg_tree.specs.declared.node.StoredNode.TheVariants.{Leaf, Join}
+use Rattle.csg_tree.specs.declared.node.CsgNode.{CsgNode}
+use Rattle.csg_tree.specs.declared.node.CsgNode.TheVariants as told
+use Rattle.csg_tree.specs.Formulas.{Formula, leaf, joined}
+use Rattle.csg_tree.specs.ProperTrees.{IsProper}
+use Rattle.csg_tree.specs.Numberings.{tree_numbered, IsNumberIn}
+
+-- a node that is lent is this node
+abbrev pub node_of : CsgNode → StoredNode
+node_of (told.Leaf planes) = Leaf planes.now
+node_of (told.Join op left right) = Join op left right
+
+-- the tree of a node, over the trees of the nodes before it
+abbrev pub tree_over : List Formula → StoredNode → Formula
+tree_over trees (Leaf planes) = leaf planes
+tree_over trees (Join op left right) = joined op (tree_numbered trees left) (tree_numbered trees right)
+
+-- the numbers of a node are those of the things that stand for the nodes before it
+abbrev pub IsOver : {X : Type 0} → List X → StoredNode → Type 0
+IsOver things (Leaf planes) = Unit {0}
+IsOver things (Join op left right) = IsNumberIn things left × IsNumberIn things right
+
+-- the trees of nodes in order, behind those of the nodes before them
+abbrev pub trees_behind : List Formula → List StoredNode → List Formula
+trees_behind trees [] = trees
+trees_behind trees (node ∷ nodes) = trees_behind (trees ++ tree_over trees node ∷ []) nodes
+
+abbrev pub trees_of : List StoredNode → List Formula
+trees_of nodes = trees_behind [] nodes
+
+-- each node is over those before it
+abbrev pub AreLinkedBehind : List Formula → List StoredNode → Type 0
+AreLinkedBehind trees [] = Unit {0}
+AreLinkedBehind trees (node ∷ nodes) = IsOver trees node × AreLinkedBehind (trees ++ tree_over trees node ∷ []) nodes
+
+abbrev pub AreLinked : List StoredNode → Type 0
+AreLinked nodes = AreLinkedBehind [] nodes
+
+-- the same of nodes that are lent
+abbrev pub trees_of_lent : List CsgNode → List Formula
+trees_of_lent nodes = trees_of (map node_of nodes)
+
+abbrev pub AreLinkedLent : List CsgNode → Type 0
+AreLinkedLent nodes = AreLinked (map node_of nodes)
+
+-- what is told of the node of a number: its planes, or its operation and the smaller numbers of its two trees
+abbrev pub IsNodeOf : List Formula → ℕ → CsgNode → Type 0
+IsNodeOf trees number (told.Leaf planes) = tree_numbered trees number ≡ leaf planes.now
+IsNodeOf trees number (told.Join op left right) = (1 ≤ left) × (left < number) × (1 ≤ right) × (right < number)
+    × (tree_numbered trees number ≡ joined op (tree_numbered trees left) (tree_numbered trees right))
+
+-- the nodes of a store: each is over those before it, their trees are proper, and their numbers fit 32 bits
+pub record IsStore (nodes : List StoredNode) : Type 0 where
+  pub linked : AreLinked nodes
+  pub proper : All IsProper (trees_of nodes)
+  pub few : length nodes < 2 ^ 32

@@ -1,0 +1,104 @@
+//! The nodes of parts in order of height.
+
+ghost use Rattle.std.specs.Prelude.{◌≡◌, ℕ, List, ◌+◌, ◌-◌, ◌^◌, ◌<◌, ◌≤◌, ◌∷◌, ◌++◌, [], IfOk, OnOk, length, get_or, map};
+ghost use Rattle.csg_tree.specs.declared.node.CsgNode.{CsgNode};
+ghost use Rattle.csg_tree.specs.Formulas.{Formula};
+ghost use Rattle.csg_tree.specs.Numberings.{by_height, distinct, tree_numbered, IsNumberIn};
+ghost use Rattle.csg_tree.specs.Nodes.{node_of, trees_of, trees_of_lent, AreLinked, AreLinkedLent, IsOver};
+ghost use Rattle.csg_tree.specs.Levels.{level_at, numbers_of_height};
+ghost use Rattle.csg_tree.specs.Interned.{renumbered, AreInterned, AreReady, IsPlaced, IsReady, StayPlaced};
+
+use crate::interner::Interner;
+use crate::node::{CsgNode, StoredNode};
+use std::alloc::Global;
+use text_place::NoMemory;
+
+/// The distinct trees of parts as nodes, the lower ones first and those of one height in order of
+/// appearance. The levels have the numbers of the parts by height.
+pub fn nodes_of_levels(
+    alloc: Global,
+    parts: &[CsgNode<'_>],
+    levels: &[Vec<u32>],
+) -> Result<Vec<StoredNode>, NoMemory>
+    requires linked { AreLinkedLent parts.now }
+    requires few { length parts.now < 2 ^ 32 }
+    requires levels { (h : ℕ) → level_at levels.now h ≡ numbers_of_height h (trees_of_lent parts.now) }
+    ensures trees { IfOk result (λ nodes. trees_of nodes.items ≡ distinct (by_height (length levels.now) (trees_of_lent parts.now))) }
+    ensures linked { IfOk result (λ nodes. AreLinked nodes.items) }
+{
+    let mut numbers = vec![in alloc; 0; parts.len()]?;
+    let mut interner = Interner::new(alloc);
+    for level in levels {
+        number_level(alloc, parts, level, &mut numbers, &mut interner)?;
+    }
+    Ok(interner.nodes)
+}
+
+/// Numbers the parts of one level, where the two parts of each of them are numbered.
+fn number_level(
+    alloc: Global,
+    parts: &[CsgNode<'_>],
+    level: &[u32],
+    numbers: &mut Vec<u32>,
+    interner: &mut Interner,
+) -> Result<(), NoMemory>
+    requires linked { AreLinkedLent parts.now }
+    requires ready { AreReady parts.now (trees_of interner.old.nodes.items) numbers.old.items level.now }
+    requires room { length numbers.old.items ≡ length parts.now }
+    requires interned { AreInterned interner.old.found interner.old.nodes.items }
+    requires few { length interner.old.nodes.items + length level.now < 2 ^ 32 }
+    ensures room { length numbers.new.items ≡ length parts.now }
+    ensures interned { OnOk result (AreInterned interner.new.found interner.new.nodes.items) }
+    ensures placed { OnOk result ((j : ℕ) → j < length level.now → IsPlaced (trees_of_lent parts.now) (trees_of interner.new.nodes.items) numbers.new.items (get_or level.now j 0)) }
+    ensures stay { OnOk result (StayPlaced (trees_of_lent parts.now) (trees_of interner.old.nodes.items) numbers.old.items (trees_of interner.new.nodes.items) numbers.new.items) }
+    ensures distinct { OnOk result ((trees : List Formula) → trees_of interner.old.nodes.items ≡ distinct trees →
+        trees_of interner.new.nodes.items ≡ distinct (trees ++ map (tree_numbered (trees_of_lent parts.now)) level.now)) }
+{
+    for number in level {
+        number_part(alloc, parts, *number, numbers, interner)?;
+    }
+    Ok(())
+}
+
+/// Numbers a part, where its two parts are numbered.
+fn number_part(
+    alloc: Global,
+    parts: &[CsgNode<'_>],
+    number: u32,
+    numbers: &mut Vec<u32>,
+    interner: &mut Interner,
+) -> Result<(), NoMemory>
+    requires linked { AreLinkedLent parts.now }
+    requires within { IsNumberIn parts.now number }
+    requires ready { (d : CsgNode) → IsReady (trees_of_lent parts.now) (trees_of interner.old.nodes.items) numbers.old.items (node_of (get_or parts.now (number - 1) d)) }
+    requires room { length numbers.old.items ≡ length parts.now }
+    requires interned { AreInterned interner.old.found interner.old.nodes.items }
+    requires few { length interner.old.nodes.items + 1 < 2 ^ 32 }
+    ensures room { length numbers.new.items ≡ length parts.now }
+    ensures interned { OnOk result (AreInterned interner.new.found interner.new.nodes.items) }
+    ensures placed { OnOk result (IsPlaced (trees_of_lent parts.now) (trees_of interner.new.nodes.items) numbers.new.items number) }
+    ensures stay { OnOk result (StayPlaced (trees_of_lent parts.now) (trees_of interner.old.nodes.items) numbers.old.items (trees_of interner.new.nodes.items) numbers.new.items) }
+    ensures distinct { OnOk result ((trees : List Formula) → trees_of interner.old.nodes.items ≡ distinct trees →
+        trees_of interner.new.nodes.items ≡ distinct (trees ++ tree_numbered (trees_of_lent parts.now) number ∷ [])) }
+    ensures few { OnOk result (length interner.new.nodes.items ≤ length interner.old.nodes.items + 1) }
+{
+    let index = number as usize - 1;
+    let node = linked(parts[index], numbers);
+    numbers[index] = interner.number_of(alloc, node)?;
+    Ok(())
+}
+
+/// A part with the numbers of its two trees among the nodes.
+fn linked<'a>(part: CsgNode<'a>, numbers: &[u32]) -> CsgNode<'a>
+    requires { IsOver numbers.now (node_of part) }
+    ensures { node_of result ≡ renumbered numbers.now (node_of part.entry) }
+{
+    match part {
+        CsgNode::Leaf(planes) => CsgNode::Leaf(planes),
+        CsgNode::Join(op, left, right) => CsgNode::Join(
+            op,
+            numbers[left as usize - 1],
+            numbers[right as usize - 1],
+        ),
+    }
+}
