@@ -1,102 +1,81 @@
--- What a fill keeps.
-use Rattle.std.proofs.Common.{◌≡◌, ℕ, zero, suc, ◌+◌, ◌-◌, ◌≤◌, Bool, true, false, ◌&&◌, List, [], ◌∷◌, map, refl, ap, sym, ◌∙◌, cond, length, arith, take}
-use Rattle.std.specs.Prelude.{sum_by, nat_le, nat_lt}
-use Rattle.std.specs.List.{AllByRecursion, IsDistinct}
-use Rattle.std.proofs.lemmas.List.{length-map, take-map, length-take}
-use Rattle.std.proofs.lemmas.List.Sums.{sum_by-cons}
-use Rattle.memo_core.specs.Memo.{without_first, brought_to_front, same_name, has_key, has_name, holds, itself, Entry, Mark, Item, Fill_said, item, replay, entries_max, fits_in, dropped_to_fit, trimmed, put_in_front, pushed, filled, fill_said, mark_of, after_said, says_at}
-use Rattle.memo_core.specs.Views.{Core, IsSound, mark_in, marks, after_fill}
-use Rattle.memo_core.proofs.Lists.{cond_through, brought_map, without_map, all_brought, all_without, length_without}
-use Rattle.memo_core.proofs.Kept.{holds_marks}
-use Rattle.memo_core.proofs.Journals.{replay_more, legal_more}
+-- A fill of the fields is a fill of what they stand for.
+use Rattle.std.proofs.Common.{◌≡◌, ℕ, ◌+◌, ◌-◌, ◌≤◌, Bool, true, false, List, [], ◌∷◌, ◌++◌, map, refl, ap, sym, subst, ◌∙◌, cond, length, arith, Some, None, option_map}
+use Rattle.std.specs.Prelude.{Option, sum_by, is_some, IfNone, IfSome}
+use Rattle.std.specs.Option.{option_map_or, unwrap_or}
+use Rattle.std.specs.List.{IsDistinct}
+use Rattle.std.specs.Map.{keys_of}
+use Rattle.std.proofs.lemmas.List.{length-map, map-append, length-append}
+use Rattle.memo_core.specs.Memo.{evicted_by, evicted_in, brought_to_front, same_name, has_key, holds, itself, Entry, Mark, Item, Said, Fill_said, item, offered_where, offered, filled, fill_said, after_said, says_at, replay, entries_max}
+use Rattle.memo_core.specs.Views.{Core, IsSound, mark_in, marks, new_entry, after_fill}
+use Rattle.memo_core.specs.Fields.{entry_of, entries_of, item_of, items_of}
+use Rattle.memo_core.specs.Plans.{IsKept, IsShelf, slot_mark}
+use Rattle.memo_core.specs.declared.slots.Slot.{Slot}
+use Rattle.memo_core.specs.declared.slots.Shelf.{Shelf}
+use Rattle.memo_core.specs.declared.journal.JournalItem.{JournalItem}
+use Rattle.memo_core.proofs.Lists.{brought_map}
+use Rattle.memo_core.proofs.Maps.{where_map, sum_by_map}
+use Rattle.memo_core.proofs.Journals.{evicted_more, replay_more, legal_more}
+use Rattle.memo_core.proofs.Kept.{core_is, holds_marks, names_are}
+use Rattle.memo_core.proofs.Shares.{all_filled, filled_shorter}
 
-pub sum_by_map : {A B : Type 0} (f : A → B) (w : B → ℕ) (es : List A) → sum_by w (map f es) ≡ sum_by (λ e. w (f e)) es
-sum_by_map f w [] = refl
-sum_by_map f w (e ∷ es) = sum_by-cons w (f e) (map f es) ∙ ap (λ n. w (f e) + n) (sum_by_map f w es) ∙ sym (sum_by-cons (λ x. w (f x)) e es)
+module _ {K V : Type 0} (same : K → K → Bool) (budget share : ℕ) (new : Entry K V) (es : List (Entry K V)) where
+  abbrev test : Entry K V → Bool
+  test = has_key same mark_in new.mark.key
 
-module _ {A B : Type 0} (f : A → B) (w : B → ℕ) (budget : ℕ) where
-  fits_map : (es : List A) → fits_in w budget (map f es) ≡ fits_in (λ e. w (f e)) budget es
-  fits_map es = ap (λ n. nat_le n budget && nat_le (length (map f es)) entries_max) (sum_by_map f w es) ∙ ap (λ n. nat_le (sum_by (λ e. w (f e)) es) budget && nat_le n entries_max) (length-map es f)
+  offered_marks : offered same itself budget share new.mark (marks es) ≡ option_map marks (offered same mark_in budget share new es)
+  offered_marks =
+      ap (λ b. offered_where itself budget share b (brought_to_front (has_key same itself new.mark.key) (marks es)) new.mark (marks es)) (holds_marks same new.mark.key es)
+      ∙ ap (λ x. offered_where itself budget share (holds same mark_in new.mark.key es) x new.mark (marks es)) (brought_map mark_in (has_key same itself new.mark.key) es)
+      ∙ where_map mark_in itself budget share (holds same mark_in new.mark.key es) (brought_to_front test es) new es
 
-  dropped_map : (n : ℕ) (es : List A) → dropped_to_fit w budget n (map f es) ≡ map f (dropped_to_fit (λ e. w (f e)) budget n es)
-  dropped_map zero es = refl
-  dropped_map (suc n) es =
-      ap (λ x. cond (fits_in w budget x) x (dropped_to_fit w budget n (map f es))) (take-map f (suc n) es)
-      ∙ ap (λ b. cond b (map f (take (suc n) es)) (dropped_to_fit w budget n (map f es))) (fits_map (take (suc n) es))
-      ∙ ap (cond (fits_in (λ e. w (f e)) budget (take (suc n) es)) (map f (take (suc n) es))) (dropped_map n es)
-      ∙ sym (cond_through (map f) (fits_in (λ e. w (f e)) budget (take (suc n) es)) (take (suc n) es) (dropped_to_fit (λ e. w (f e)) budget n es))
+  pub filled_marks : filled same itself budget share new.mark (marks es) ≡ marks (filled same mark_in budget share new es)
+  filled_marks = ap (λ o. option_map_or (λ kept. kept) o (marks es)) offered_marks ∙ go (offered same mark_in budget share new es) where
+    go : (o : Option (List (Entry K V))) → option_map_or (λ kept. kept) (option_map marks o) (marks es) ≡ marks (option_map_or (λ kept. kept) o es)
+    go None = refl
+    go (Some x) = refl
 
-  pub trimmed_map : (es : List A) → trimmed w budget (map f es) ≡ map f (trimmed (λ e. w (f e)) budget es)
-  trimmed_map es = ap (λ n. dropped_to_fit w budget n (map f es)) (length-map es f) ∙ dropped_map (length es) es
+  abbrev said : Bool → ℕ → ℕ → Said
+  said held before after = Fill_said new.mark.weight true (cond held 0 (before + 1 - after))
 
-module _ {E : Type 0} (P : E → Type 0) where
-  all_take : (n : ℕ) (es : List E) → AllByRecursion P es → AllByRecursion P (take n es)
-  all_take zero es a = tt
-  all_take (suc n) [] a = tt
-  all_take (suc n) (e ∷ es) a = (a.0, all_take n es a.1)
+  pub said_marks : fill_said same itself budget share new.mark (marks es) ≡ fill_said same mark_in budget share new es
+  said_marks =
+      ap (λ b. option_map_or (λ kept. said b (length (marks es)) (length kept)) (offered same itself budget share new.mark (marks es)) (Fill_said new.mark.weight false 0)) (holds_marks same new.mark.key es)
+      ∙ ap (λ o. option_map_or (λ kept. said (holds same mark_in new.mark.key es) (length (marks es)) (length kept)) o (Fill_said new.mark.weight false 0)) offered_marks
+      ∙ go (offered same mark_in budget share new es) where
+        go : (o : Option (List (Entry K V)))
+            → option_map_or (λ kept. said (holds same mark_in new.mark.key es) (length (marks es)) (length kept)) (option_map marks o) (Fill_said new.mark.weight false 0)
+            ≡ option_map_or (λ kept. said (holds same mark_in new.mark.key es) (length es) (length kept)) o (Fill_said new.mark.weight false 0)
+        go None = refl
+        go (Some x) =
+            ap (λ n. said (holds same mark_in new.mark.key es) n (length (marks x))) (length-map es mark_in)
+            ∙ ap (λ n. said (holds same mark_in new.mark.key es) (length es) n) (length-map x mark_in)
 
-  all_dropped : (w : E → ℕ) (budget n : ℕ) (es : List E) → AllByRecursion P es → AllByRecursion P (dropped_to_fit w budget n es)
-  all_dropped w budget zero es a = tt
-  all_dropped w budget (suc n) es a = go (fits_in w budget (take (suc n) es)) (all_take (suc n) es a) (all_dropped w budget n es a) where
-    go : (b : Bool) → AllByRecursion P (take (suc n) es) → AllByRecursion P (dropped_to_fit w budget n es) → AllByRecursion P (cond b (take (suc n) es) (dropped_to_fit w budget n es))
-    go true x y = x
-    go false x y = y
+  -- the entries that a fill drops were there, or are the new one
+  pub filled_counted : evicted_by (fill_said same mark_in budget share new es) + length (filled same mark_in budget share new es) ≤ length es + 1
+  filled_counted = go (offered same mark_in budget share new es) (holds same mark_in new.mark.key es) (filled_shorter same mark_in budget share new es) where
+    go : (o : Option (List (Entry K V))) (b : Bool) → length (option_map_or (λ kept. kept) o es) ≤ length es + 1
+        → evicted_by (option_map_or (λ kept. said b (length es) (length kept)) o (Fill_said new.mark.weight false 0)) + length (option_map_or (λ kept. kept) o es) ≤ length es + 1
+    go None b l = omega (arith, l)
+    go (Some x) true l = omega (arith, l)
+    go (Some x) false l = omega (arith, l)
 
-module _ {K V : Type 0} (same : K → K → Bool) (budget : ℕ) where
-  pub pushed_marks : (new : Entry K V) (es : List (Entry K V)) → pushed itself budget new.mark (marks es) ≡ marks (pushed mark_in budget new es)
-  pushed_marks new es =
-      ap (λ r. trimmed (λ m. m.weight) budget (new.mark ∷ r)) (without_map mark_in (has_name itself new.mark.name) es)
-      ∙ trimmed_map mark_in (λ m. m.weight) budget (put_in_front mark_in new es)
+module _ {K V : Type 0} (same : K → K → Bool) (name_of : K → List ℕ) (budget share caller : ℕ) (key : K) (value : V) (weight : ℕ) (es : List (Entry K V)) (ms : List (Mark K)) where
+  abbrev new : Entry K V
+  new = new_entry name_of caller key value weight
 
-  pub filled_marks : (new : Entry K V) (es : List (Entry K V)) → filled same itself budget new.mark (marks es) ≡ marks (filled same mark_in budget new es)
-  filled_marks new es =
-      let heavy = nat_lt budget new.mark.weight in
-      let held = holds same mark_in new.mark.key es in
-      ap (λ b. cond heavy (marks es) (cond b (brought_to_front (has_key same itself new.mark.key) (marks es)) (pushed itself budget new.mark (marks es)))) (holds_marks same new.mark.key es)
-      ∙ ap (λ x. cond heavy (marks es) (cond held x (pushed itself budget new.mark (marks es)))) (brought_map mark_in (has_key same itself new.mark.key) es)
-      ∙ ap (λ x. cond heavy (marks es) (cond held (marks (brought_to_front (has_key same mark_in new.mark.key) es)) x)) (pushed_marks new es)
-      ∙ ap (cond heavy (marks es)) (sym (cond_through marks held (brought_to_front (has_key same mark_in new.mark.key) es) (pushed mark_in budget new es)))
-      ∙ sym (cond_through marks heavy es (cond held (brought_to_front (has_key same mark_in new.mark.key) es) (pushed mark_in budget new es)))
+  after_case : after_said same name_of budget share caller key (fill_said same mark_in budget share new es) ms ≡ filled same itself budget share new.mark ms
+  after_case = go (offered same mark_in budget share new es) where
+    go : (o : Option (List (Entry K V)))
+        → after_said same name_of budget share caller key (option_map_or (λ kept. Fill_said weight true (cond (holds same mark_in key es) 0 (length es + 1 - length kept))) o (Fill_said weight false 0)) ms ≡ filled same itself budget share new.mark ms
+    go None = refl
+    go (Some x) = refl
 
-  pub said_marks : (new : Entry K V) (es : List (Entry K V)) → fill_said same itself budget new.mark (marks es) ≡ fill_said same mark_in budget new es
-  said_marks new es =
-      let heavy = nat_lt budget new.mark.weight in
-      let n : length (marks es) + 1 - length (pushed itself budget new.mark (marks es)) ≡ length es + 1 - length (pushed mark_in budget new es) =
-      ap (λ k. k + 1 - length (pushed itself budget new.mark (marks es))) (length-map es mark_in) ∙ ap (λ k. length es + 1 - k) (ap length (pushed_marks new es) ∙ length-map (pushed mark_in budget new es) mark_in) in
-      ap (λ b. cond heavy (Fill_said new.mark.weight false 0) (cond b (Fill_said new.mark.weight true 0) (Fill_said new.mark.weight true (length (marks es) + 1 - length (pushed itself budget new.mark (marks es)))))) (holds_marks same new.mark.key es)
-      ∙ ap (λ k. cond heavy (Fill_said new.mark.weight false 0) (cond (holds same mark_in new.mark.key es) (Fill_said new.mark.weight true 0) (Fill_said new.mark.weight true k))) n
-
-  pub all_filled : (P : Entry K V → Type 0) (new : Entry K V) (es : List (Entry K V)) → P new → AllByRecursion P es → AllByRecursion P (filled same mark_in budget new es)
-  all_filled P new es p a =
-      go (nat_lt budget new.mark.weight) (holds same mark_in new.mark.key es)
-      (all_brought (has_key same mark_in new.mark.key) P es a)
-      (all_dropped P (λ e. e.mark.weight) budget (length (put_in_front mark_in new es)) (put_in_front mark_in new es) (p, all_without (has_name mark_in new.mark.name) P es a)) where
-        go : (b c : Bool) → AllByRecursion P (brought_to_front (has_key same mark_in new.mark.key) es) → AllByRecursion P (pushed mark_in budget new es)
-            → AllByRecursion P (cond b es (cond c (brought_to_front (has_key same mark_in new.mark.key) es) (pushed mark_in budget new es)))
-        go true c x y = a
-        go false true x y = x
-        go false false x y = y
-
-module _ {K : Type 0} (same : K → K → Bool) (name_of : K → List ℕ) (budget : ℕ) (key : K) (weight : ℕ) where
-  after_case : (b c : Bool) (n : ℕ) (es : List (Mark K)) → after_said same name_of budget key (cond b (Fill_said weight false 0) (cond c (Fill_said weight true 0) (Fill_said weight true n))) es ≡ filled same itself budget (mark_of same name_of budget key weight) es
-  after_case true c n es = refl
-  after_case false true n es = refl
-  after_case false false n es = refl
-
-  says_case : (b c : Bool) (n : ℕ) (es : List (Mark K)) → says_at same name_of budget key (cond b (Fill_said weight false 0) (cond c (Fill_said weight true 0) (Fill_said weight true n))) es ≡ fill_said same itself budget (mark_of same name_of budget key weight) es
-  says_case true c n es = refl
-  says_case false true n es = refl
-  says_case false false n es = refl
-
-pub dropped_shorter : {E : Type 0} (w : E → ℕ) (budget n : ℕ) (es : List E) → length (dropped_to_fit w budget n es) ≤ length es
-dropped_shorter w budget zero es = omega arith
-dropped_shorter w budget (suc n) es = go (fits_in w budget (take (suc n) es)) (dropped_shorter w budget n es) where
-  go : (b : Bool) → length (dropped_to_fit w budget n es) ≤ length es → length (cond b (take (suc n) es) (dropped_to_fit w budget n es)) ≤ length es
-  go true h = omega (arith, length-take (suc n) es)
-  go false h = h
-
-pub without_shorter : {E : Type 0} (test : E → Bool) (es : List E) → length (without_first test es) ≤ length es
-without_shorter test es = let h = length_without test es in omega (arith, h)
+  says_case : says_at same name_of budget share caller key (fill_said same mark_in budget share new es) ms ≡ fill_said same itself budget share new.mark ms
+  says_case = go (offered same mark_in budget share new es) where
+    go : (o : Option (List (Entry K V)))
+        → says_at same name_of budget share caller key (option_map_or (λ kept. Fill_said weight true (cond (holds same mark_in key es) 0 (length es + 1 - length kept))) o (Fill_said weight false 0)) ms ≡ fill_said same itself budget share new.mark ms
+    go None = refl
+    go (Some x) = refl
 
 module _ {K V : Type 0} (same : K → K → Bool) (name_of : K → List ℕ) where
   pub after_fill_sound : (fits : K → V → Type 0) (weighs : V → ℕ) (caller : ℕ) (key : K) (value : V) (weight : ℕ) (core : Core K V)
@@ -106,28 +85,112 @@ module _ {K V : Type 0} (same : K → K → Bool) (name_of : K → List ℕ) whe
       → length (after_fill same name_of caller key value weight core).entries ≤ entries_max
       → IsSound same name_of fits weighs (after_fill same name_of caller key value weight core)
   after_fill_sound fits weighs caller key value weight core s f w d within few =
-      let new : Entry K V = record { mark = mark_of same name_of core.budget key weight; value = value } in
-      let i : Item K = item caller key (fill_said same mark_in core.budget new core.entries) in
+      let new : Entry K V = new_entry name_of caller key value weight in
+      let before : List (Mark K) = replay same name_of core.budget core.share [] core.journal in
+      let i : Item K = item caller key (fill_said same mark_in core.budget core.share new core.entries) in
       record {
-        fit = all_filled same core.budget (λ e. fits e.mark.key e.value) new core.entries f s.fit;
-        weighed = all_filled same core.budget (λ e. e.mark.weight ≡ weighs e.value) new core.entries w s.weighed;
-        named = all_filled same core.budget (λ e. e.mark.name ≡ name_of e.mark.key) new core.entries refl s.named;
+        fit = all_filled same mark_in core.budget core.share new core.entries (λ e. fits e.mark.key e.value) f s.fit;
+        weighed = all_filled same mark_in core.budget core.share new core.entries (λ e. e.mark.weight ≡ weighs e.value) w s.weighed;
+        named = all_filled same mark_in core.budget core.share new core.entries (λ e. e.mark.name ≡ name_of e.mark.key) refl s.named;
         distinct = d;
         within = within;
         few = few;
-        legal = legal_more same name_of core.budget [] core.journal i s.legal
-            (sym (says_case same name_of core.budget key weight (nat_lt core.budget weight) (holds same mark_in key core.entries) (length core.entries + 1 - length (pushed mark_in core.budget new core.entries)) (replay same name_of core.budget [] core.journal)
-            ∙ ap (fill_said same itself core.budget new.mark) (sym s.replayed) ∙ said_marks same core.budget new core.entries));
+        legal = legal_more same name_of core.budget core.share [] core.journal i s.legal
+            (sym (says_case same name_of core.budget core.share caller key value weight core.entries before
+            ∙ ap (fill_said same itself core.budget core.share new.mark) (sym s.replayed) ∙ said_marks same core.budget core.share new core.entries));
         replayed =
-            sym (filled_marks same core.budget new core.entries) ∙ ap (filled same itself core.budget new.mark) s.replayed
-            ∙ sym (after_case same name_of core.budget key weight (nat_lt core.budget weight) (holds same mark_in key core.entries) (length core.entries + 1 - length (pushed mark_in core.budget new core.entries)) (replay same name_of core.budget [] core.journal))
-            ∙ sym (replay_more same name_of core.budget [] core.journal i);
+            sym (filled_marks same core.budget core.share new core.entries) ∙ ap (filled same itself core.budget core.share new.mark) s.replayed
+            ∙ sym (after_case same name_of core.budget core.share caller key value weight core.entries before)
+            ∙ sym (replay_more same name_of core.budget core.share [] core.journal i);
       }
 
-pub pushed_length : {K V X : Type 0} (f : X → Entry K V) (budget : ℕ) (es fs gs : List X) (new : Entry K V) → map f fs ≡ put_in_front mark_in new (map f es) → map f gs ≡ trimmed (λ e. e.mark.weight) budget (map f fs) → length gs ≤ length es + 1
-pushed_length f budget es fs gs new p q =
-    let all = ap length p in
-    let rest = ap length q in
-    let short = dropped_shorter (λ e. e.mark.weight) budget (length (map f fs)) (map f fs) in
-    let out = without_shorter (has_name mark_in new.mark.name) (map f es) in
-    omega (arith, all, rest, short, out, length-map es f, length-map gs f, length-map fs f)
+module _ {K V : Type 0} (same : K → K → Bool) (name_of : K → List ℕ) (caller : ℕ) (key : K) (value : V) (weight : ℕ) (b h s t : ℕ) (shelf shelf' : Shelf K V) where
+  abbrev es : List (Entry K V)
+  es = entries_of shelf.cache.entries
+
+  abbrev fs : List (Entry K V)
+  fs = entries_of shelf'.cache.entries
+
+  abbrev made : Entry K V
+  made = new_entry name_of caller key value weight
+
+  abbrev old : List (JournalItem K) → Core K V
+  old js = record { entries = es; budget = b; share = h; journal = items_of js; spare = s }
+
+  same_where : (held : Bool) (x y : List (Entry K V)) → (held ≡ true → x ≡ y) → offered_where mark_in b h held x made es ≡ offered_where mark_in b h held y made es
+  same_where true x y e = ap (λ z. offered_where mark_in b h true z made es) (e refl)
+  same_where false x y e = refl
+
+  -- what an offer to the shelf is of the entries
+  pub offer_is : (held : Bool) (front : List (List ℕ × Slot K V)) (offer : List ℕ × Slot K V) (r : Option ℕ)
+      → offered_where slot_mark b h held front offer shelf.cache.entries ≡ option_map (λ _. shelf'.cache.entries) r
+      → entry_of offer ≡ made → held ≡ holds same mark_in key es → (held ≡ true → entries_of front ≡ brought_to_front (has_key same mark_in key) es)
+      → offered same mark_in b h made es ≡ option_map (λ _. fs) r
+  offer_is held front offer r o n k f =
+      ap (λ x. offered_where mark_in b h x (brought_to_front (has_key same mark_in key) es) made es) (sym k)
+      ∙ sym (same_where held (entries_of front) (brought_to_front (has_key same mark_in key) es) f)
+      ∙ ap (λ e. offered_where mark_in b h held (entries_of front) e es) (sym n)
+      ∙ where_map entry_of mark_in b h held front offer shelf.cache.entries
+      ∙ ap (option_map entries_of) o ∙ go r where
+        go : (x : Option ℕ) → option_map entries_of (option_map (λ _. shelf'.cache.entries) x) ≡ option_map (λ _. fs) x
+        go None = refl
+        go (Some n) = refl
+
+  module _ (held : Bool) (r : Option ℕ) (o : offered same mark_in b h made es ≡ option_map (λ _. fs) r) (k : held ≡ holds same mark_in key es) (stays : IfNone r (shelf' ≡ shelf))
+      (counts : IfSome r (λ n. n ≡ cond held 0 (length shelf.cache.entries + 1 - length shelf'.cache.entries))) where
+    pub entries_are : fs ≡ filled same mark_in b h made es
+    entries_are = go r stays ∙ ap (λ x. option_map_or (λ kept. kept) x es) (sym o) where
+      go : (x : Option ℕ) → IfNone x (shelf' ≡ shelf) → fs ≡ option_map_or (λ kept. kept) (option_map (λ _. fs) x) es
+      go None p = ap (λ (z : Shelf K V). entries_of z.cache.entries) p
+      go (Some n) p = refl
+
+    pub said_is : Fill_said weight (is_some r) (unwrap_or r 0) ≡ fill_said same mark_in b h made es
+    said_is = go r counts ∙ ap (λ x. option_map_or (λ kept. Fill_said weight true (cond (holds same mark_in key es) 0 (length es + 1 - length kept))) x (Fill_said weight false 0)) (sym o) where
+      go : (x : Option ℕ) → IfSome x (λ n. n ≡ cond held 0 (length shelf.cache.entries + 1 - length shelf'.cache.entries))
+          → Fill_said weight (is_some x) (unwrap_or x 0) ≡ option_map_or (λ kept. Fill_said weight true (cond (holds same mark_in key es) 0 (length es + 1 - length kept))) (option_map (λ _. fs) x) (Fill_said weight false 0)
+      go None c = refl
+      go (Some n) c =
+          ap (Fill_said weight true) (c ∙ ap (λ x. cond x 0 (length shelf.cache.entries + 1 - length shelf'.cache.entries)) k
+          ∙ ap (λ x. cond (holds same mark_in key es) 0 (x + 1 - length shelf'.cache.entries)) (sym (length-map shelf.cache.entries entry_of))
+          ∙ ap (λ x. cond (holds same mark_in key es) 0 (length es + 1 - x)) (sym (length-map shelf'.cache.entries entry_of)))
+
+    pub keeps_is : is_some r ≡ is_some (offered same mark_in b h made es)
+    keeps_is = go r ∙ ap is_some (sym o) where
+      go : (x : Option ℕ) → is_some x ≡ is_some (option_map (λ _. fs) x)
+      go None = refl
+      go (Some n) = refl
+
+    pub filled_is : (js ks : List (JournalItem K)) (j : JournalItem K) → ks ≡ js ++ j ∷ [] → item_of j ≡ item caller key (Fill_said weight (is_some r) (unwrap_or r 0)) → t ≡ s - 1
+        → ◌≡◌ {A = Core K V} (record { entries = fs; budget = b; share = h; journal = items_of ks; spare = t }) (after_fill same name_of caller key value weight (old js))
+    filled_is js ks j k i r = core_is entries_are (ap items_of k ∙ map-append item_of js (j ∷ []) ∙ ap (λ x. items_of js ++ x ∷ []) (i ∙ ap (item caller key) said_is)) r
+
+  pub fill_kept : (fits : K → V → Type 0) (weighs : V → ℕ) (d d' : ℕ) (js ks : List (JournalItem K))
+      → IsKept same name_of fits weighs shelf d (old js) → fits key value → weight ≡ weighs value → IsShelf b shelf' → IsDistinct same_name (keys_of shelf'.cache.entries)
+      → d' ≡ d + evicted_by (fill_said same mark_in b h made es)
+      → ◌≡◌ {A = Core K V} (record { entries = fs; budget = b; share = h; journal = items_of ks; spare = t }) (after_fill same name_of caller key value weight (old js))
+      → IsKept same name_of fits weighs shelf' d' (record { entries = fs; budget = b; share = h; journal = items_of ks; spare = t })
+  fill_kept fits weighs n n' js ks kept f g shelved d count is =
+      let e : fs ≡ (after_fill same name_of caller key value weight (old js)).entries = ap (λ (x : Core K V). x.entries) is in
+      let i : Item K = item caller key (fill_said same mark_in b h made es) in record {
+        shelved = shelved;
+        counted =
+            let more = evicted_more (items_of js) i in
+            omega (arith, count, kept.counted, more) ∙ ap (λ (x : Core K V). evicted_in x.journal) (sym is);
+        filled_before =
+            let longer = ap (λ (x : Core K V). length x.journal) is in
+            let more = length-append (items_of js) (i ∷ []) in
+            let rest = ap length e in
+            omega (arith, count, kept.filled_before, longer, more, rest, filled_counted same b h made es);
+        sound =
+            subst (λ (x : Core K V). IsSound same name_of fits weighs x) (sym is)
+            (after_fill_sound same name_of fits weighs caller key value weight (old js) kept.sound f g
+            (subst (IsDistinct same_name) (sym (names_are shelf'.cache.entries) ∙ ap (map (λ x. x.mark.name)) e) d)
+            (subst (λ xs. sum_by (λ x. x.mark.weight) xs ≤ b) e (let w = sum_by_map entry_of (λ x. x.mark.weight) shelf'.cache.entries in omega (arith, w, shelved.kept_weight, shelved.within)))
+            (subst (λ xs. length xs ≤ entries_max) e (omega (arith, shelved.few, length-map shelf'.cache.entries entry_of))));
+      }
+
+pub entry_is : {K V : Type 0} (m n : List ℕ) (j k : K) (w o : ℕ) (v : V) → m ≡ n → j ≡ k
+    → ◌≡◌ {A = Entry K V} (record { mark = record { name = m; key = j; weight = w; owner = o }; value = v }) (record { mark = record { name = n; key = k; weight = w; owner = o }; value = v })
+entry_is {K} {V} m n j k w o v p q =
+    ap (λ (x : List ℕ). record { mark = record { name = x; key = j; weight = w; owner = o }; value = v }) p
+    ∙ ap (λ (x : K). record { mark = record { name = n; key = x; weight = w; owner = o }; value = v }) q

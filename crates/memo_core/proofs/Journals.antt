@@ -6,11 +6,11 @@ use Rattle.std.proofs.lemmas.List.Sums.{sum_by_push}
 pub evicted_more : {K : Type 0} (is : List (Item K)) (i : Item K) → evicted_in (is ++ i ∷ []) ≡ evicted_in is + evicted_by i.said
 evicted_more is i = sum_by_push (λ x. evicted_by x.said) is i
 
-module _ {K : Type 0} (same : K → K → Bool) (name_of : K → List ℕ) (budget : ℕ) where
-  pub replay_more : (es : List (Mark K)) (is : List (Item K)) (i : Item K) → replay same name_of budget es (is ++ i ∷ []) ≡ after_said same name_of budget i.key i.said (replay same name_of budget es is)
+module _ {K : Type 0} (same : K → K → Bool) (name_of : K → List ℕ) (budget share : ℕ) where
+  pub replay_more : (es : List (Mark K)) (is : List (Item K)) (i : Item K) → replay same name_of budget share es (is ++ i ∷ []) ≡ after_said same name_of budget share i.caller i.key i.said (replay same name_of budget share es is)
   replay_more es [] i = refl
-  replay_more es (x ∷ xs) i = replay_more (after_said same name_of budget x.key x.said es) xs i
+  replay_more es (x ∷ xs) i = replay_more (after_said same name_of budget share x.caller x.key x.said es) xs i
 
-  pub legal_more : (es : List (Mark K)) (is : List (Item K)) (i : Item K) → IsLegal same name_of budget es is → i.said ≡ says_at same name_of budget i.key i.said (replay same name_of budget es is) → IsLegal same name_of budget es (is ++ i ∷ [])
+  pub legal_more : (es : List (Mark K)) (is : List (Item K)) (i : Item K) → IsLegal same name_of budget share es is → i.said ≡ says_at same name_of budget share i.caller i.key i.said (replay same name_of budget share es is) → IsLegal same name_of budget share es (is ++ i ∷ [])
   legal_more es [] i l h = (h, tt)
-  legal_more es (x ∷ xs) i l h = (l.0, legal_more (after_said same name_of budget x.key x.said es) xs i l.1 h)
+  legal_more es (x ∷ xs) i l h = (l.0, legal_more (after_said same name_of budget share x.caller x.key x.said es) xs i l.1 h)

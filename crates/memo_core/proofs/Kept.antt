@@ -1,37 +1,23 @@
 -- What a probe keeps.
-use Rattle.std.proofs.Common.{◌≡◌, ℕ, Bool, List, [], ◌∷◌, map, refl, ap, sym, ◌∙◌, cond, Some, None, option_map}
+use Rattle.std.proofs.Common.{◌≡◌, ℕ, Bool, List, [], ◌∷◌, map, refl, ap, sym, ◌∙◌, Some, None, option_map}
 use Rattle.std.specs.Prelude.{Option, is_some}
-use Rattle.std.specs.Option.{option_map_or}
 use Rattle.std.specs.List.{AllByRecursion, IsDistinct}
-use Rattle.std.specs.Map.{lookup_entry, remove_entry, keys_of}
+use Rattle.std.specs.Map.{keys_of}
 use Rattle.lru.specs.LruCache.{promoted}
-use Rattle.memo_core.specs.Memo.{first_with, without_first, brought_to_front, same_name, has_key, holds, itself, Entry, Item, Probe_said, item, replay}
+use Rattle.memo_core.specs.Memo.{first_with, brought_to_front, same_name, has_key, holds, itself, Entry, Item, Probe_said, item, replay}
 use Rattle.memo_core.specs.Views.{Core, IsSound, mark_in, marks, after_probe}
 use Rattle.memo_core.specs.Fields.{entry_of, entries_of}
 use Rattle.memo_core.specs.declared.slots.Slot.{Slot}
 use Rattle.memo_core.proofs.Lists.{first_map, brought_map, brought_agree, all_brought, sum_brought, length_brought}
+use Rattle.memo_core.proofs.Shelves.{promoted_brought}
 use Rattle.memo_core.proofs.Journals.{replay_more, legal_more}
 
-module _ {X : Type 0} (test : List ℕ → Bool) where
-  pub lookup_first : (es : List (List ℕ × X)) → lookup_entry test es ≡ first_with (λ e. test e.0) es
-  lookup_first [] = refl
-  lookup_first (e ∷ es) = ap (cond (test e.0) (Some e)) (lookup_first es)
-
-  pub remove_without : (es : List (List ℕ × X)) → remove_entry test es ≡ without_first (λ e. test e.0) es
-  remove_without [] = refl
-  remove_without (e ∷ es) = ap (λ r. cond (test e.0) es (e ∷ r)) (remove_without es)
-
-  pub promoted_brought : (es : List (List ℕ × X)) → promoted test es ≡ brought_to_front (λ e. test e.0) es
-  promoted_brought es =
-      ap (λ o. option_map_or (λ e. e ∷ remove_entry test es) o es) (lookup_first es)
-      ∙ ap (λ r. option_map_or (λ e. e ∷ r) (first_with (λ e. test e.0) es) es) (remove_without es)
-
 module _ {K V : Type 0} where
-  pub core_is : {e f : List (Entry K V)} {b : ℕ} {j k : List (Item K)} {s t : ℕ} → e ≡ f → j ≡ k → s ≡ t → ◌≡◌ {A = Core K V} (record { entries = e; budget = b; journal = j; spare = s }) (record { entries = f; budget = b; journal = k; spare = t })
-  core_is {e} {f} {b} {j} {k} {s} {t} p q r =
-      ap (λ (x : List (Entry K V)). record { entries = x; budget = b; journal = j; spare = s }) p
-      ∙ ap (λ (x : List (Item K)). record { entries = f; budget = b; journal = x; spare = s }) q
-      ∙ ap (λ (x : ℕ). record { entries = f; budget = b; journal = k; spare = x }) r
+  pub core_is : {e f : List (Entry K V)} {b h : ℕ} {j k : List (Item K)} {s t : ℕ} → e ≡ f → j ≡ k → s ≡ t → ◌≡◌ {A = Core K V} (record { entries = e; budget = b; share = h; journal = j; spare = s }) (record { entries = f; budget = b; share = h; journal = k; spare = t })
+  core_is {e} {f} {b} {h} {j} {k} {s} {t} p q r =
+      ap (λ (x : List (Entry K V)). record { entries = x; budget = b; share = h; journal = j; spare = s }) p
+      ∙ ap (λ (x : List (Item K)). record { entries = f; budget = b; share = h; journal = x; spare = s }) q
+      ∙ ap (λ (x : ℕ). record { entries = f; budget = b; share = h; journal = k; spare = x }) r
 
   module _ (same : K → K → Bool) where
     pub holds_marks : (key : K) (es : List (Entry K V)) → holds same itself key (marks es) ≡ holds same mark_in key es
@@ -46,7 +32,7 @@ module _ {K V : Type 0} where
         → IsSound same name_of fits weighs (after_probe same caller key core)
     after_probe_sound name_of fits weighs caller key core s d =
         let S : Entry K V → Bool = has_key same mark_in key in
-        let now : holds same itself key (replay same name_of core.budget [] core.journal) ≡ holds same mark_in key core.entries = ap (holds same itself key) (sym s.replayed) ∙ holds_marks key core.entries in
+        let now : holds same itself key (replay same name_of core.budget core.share [] core.journal) ≡ holds same mark_in key core.entries = ap (holds same itself key) (sym s.replayed) ∙ holds_marks key core.entries in
         record {
           fit = all_brought S (λ e. fits e.mark.key e.value) core.entries s.fit;
           weighed = all_brought S (λ e. e.mark.weight ≡ weighs e.value) core.entries s.weighed;
@@ -54,11 +40,11 @@ module _ {K V : Type 0} where
           distinct = d;
           within = rw (sum_brought S (λ e. e.mark.weight) core.entries) s.within;
           few = rw (length_brought S core.entries) s.few;
-          legal = legal_more same name_of core.budget [] core.journal (item caller key (Probe_said (holds same mark_in key core.entries))) s.legal (ap Probe_said (sym now));
+          legal = legal_more same name_of core.budget core.share [] core.journal (item caller key (Probe_said (holds same mark_in key core.entries))) s.legal (ap Probe_said (sym now));
           replayed =
               sym (brought_map mark_in (has_key same itself key) core.entries)
               ∙ ap (brought_to_front (has_key same itself key)) s.replayed
-              ∙ sym (replay_more same name_of core.budget [] core.journal (item caller key (Probe_said (holds same mark_in key core.entries))));
+              ∙ sym (replay_more same name_of core.budget core.share [] core.journal (item caller key (Probe_said (holds same mark_in key core.entries))));
         }
 
     -- the entries after the cache's promotion of a name at which the key was found

@@ -1,16 +1,18 @@
 -- A probe of the fields is a probe of what they stand for.
 use Rattle.std.proofs.Common.{◌≡◌, ℕ, ◌-◌, arith, length, Bool, true, false, List, [], ◌∷◌, ◌++◌, map, refl, ap, sym, subst, ◌∙◌, cond, Some, None, option_map}
-use Rattle.std.specs.Prelude.{Option, is_some, IfSome, sum_by}
+use Rattle.std.specs.Prelude.{Option, is_some, IfSome}
 use Rattle.std.specs.List.{AllByRecursion, IsDistinct}
 use Rattle.std.specs.Map.{lookup, keys_of}
 use Rattle.std.proofs.lemmas.List.{map-append, length-append}
 use Rattle.lru.specs.LruCache.{promoted}
 use Rattle.memo_core.specs.Memo.{evicted_in, first_with, brought_to_front, same_name, has_key, holds, Entry, Item, Probe_said, item}
 use Rattle.memo_core.specs.Views.{Core, IsSound, mark_in, after_probe}
-use Rattle.memo_core.specs.Fields.{entries_of, value_at, item_of, items_of, IsKept}
+use Rattle.memo_core.specs.Fields.{entries_of, value_at, item_of, items_of}
+use Rattle.memo_core.specs.Plans.{IsKept, IsShelf}
+use Rattle.memo_core.specs.declared.slots.Shelf.{Shelf}
 use Rattle.memo_core.specs.declared.slots.Slot.{Slot}
 use Rattle.memo_core.specs.declared.journal.JournalItem.{JournalItem}
-use Rattle.memo_core.proofs.Lists.{brought_none, sum_brought, length_brought}
+use Rattle.memo_core.proofs.Lists.{brought_none, length_brought}
 use Rattle.memo_core.proofs.Journals.{evicted_more}
 use Rattle.memo_core.proofs.Hits.{Named, value_is, agree}
 use Rattle.memo_core.proofs.Kept.{promoted_entries, core_is, after_probe_sound, names_are}
@@ -45,34 +47,35 @@ module _ {K V : Type 0} (same : K → K → Bool) (name_of : K → List ℕ) (sa
     h ∙ ap is_some (f ∙ value_is same name_of same_is key es n d) ∙ is_some_map (λ x. x.value) (first_with (has_key same mark_in key) (entries_of es)),
   )
 
-  pub probed_is : (caller b s t : ℕ) (es fs : List (List ℕ × Slot K V)) (js ks : List (JournalItem K)) (j : JournalItem K) (hit : Bool)
+  pub probed_is : (caller b h s t : ℕ) (es fs : List (List ℕ × Slot K V)) (js ks : List (JournalItem K)) (j : JournalItem K) (hit : Bool)
       → entries_of fs ≡ brought_to_front (has_key same mark_in key) (entries_of es) → hit ≡ holds same mark_in key (entries_of es)
       → ks ≡ js ++ j ∷ [] → item_of j ≡ item caller key (Probe_said hit) → t ≡ s - 1
-      → ◌≡◌ {A = Core K V} (record { entries = entries_of fs; budget = b; journal = items_of ks; spare = t }) (after_probe same caller key (record { entries = entries_of es; budget = b; journal = items_of js; spare = s }))
-  probed_is caller b s t es fs js ks j hit e h k i r =
-      core_is e (ap items_of k ∙ map-append item_of js (j ∷ []) ∙ ap (λ x. items_of js ++ x ∷ []) (i ∙ ap (λ x. item caller key (Probe_said x)) h)) r
+      → ◌≡◌ {A = Core K V} (record { entries = entries_of fs; budget = b; share = h; journal = items_of ks; spare = t }) (after_probe same caller key (record { entries = entries_of es; budget = b; share = h; journal = items_of js; spare = s }))
+  probed_is caller b h s t es fs js ks j hit e f k i r =
+      core_is e (ap items_of k ∙ map-append item_of js (j ∷ []) ∙ ap (λ x. items_of js ++ x ∷ []) (i ∙ ap (λ x. item caller key (Probe_said x)) f)) r
 
-  pub probed_kept : (fits : K → V → Type 0) (weighs : V → ℕ) (caller b s t cap cap' w d : ℕ) (es fs : List (List ℕ × Slot K V)) (js : List (Item K)) (ks : List (Item K))
-      → IsKept same name_of fits weighs cap w d (record { entries = entries_of es; budget = b; journal = js; spare = s })
-      → entries_of fs ≡ brought_to_front (has_key same mark_in key) (entries_of es) → IsDistinct same_name (keys_of fs) → cap' ≡ cap
-      → ◌≡◌ {A = Core K V} (record { entries = entries_of fs; budget = b; journal = ks; spare = t }) (after_probe same caller key (record { entries = entries_of es; budget = b; journal = js; spare = s }))
-      → IsKept same name_of fits weighs cap' w d (record { entries = entries_of fs; budget = b; journal = ks; spare = t })
-  probed_kept fits weighs caller b s t cap cap' w n es fs js ks kept e d c is = record {
-    unbounded = c ∙ kept.unbounded;
-    kept_weight = kept.kept_weight ∙ sym (sum_brought (has_key same mark_in key) (λ x. x.mark.weight) (entries_of es)) ∙ ap (sum_by (λ x. x.mark.weight)) (sym e);
-    counted =
-        kept.counted ∙ omega (arith, evicted_more js (item caller key (Probe_said (holds same mark_in key (entries_of es)))))
-        ∙ ap (λ (x : Core K V). evicted_in x.journal) (sym is);
-    filled_before =
-        let longer = ap (λ (x : Core K V). length x.journal) is in
-        let more = length-append js (item caller key (Probe_said (holds same mark_in key (entries_of es))) ∷ []) in
-        let same_length = ap length e in
-        omega (arith, kept.filled_before, longer, more, same_length, length_brought (has_key same mark_in key) (entries_of es));
-    sound =
-        subst (λ (x : Core K V). IsSound same name_of fits weighs x) (sym is)
-        (after_probe_sound same name_of fits weighs caller key (record { entries = entries_of es; budget = b; journal = js; spare = s }) kept.sound
-        (subst (IsDistinct same_name) (sym (names_are fs) ∙ ap (map (λ x. x.mark.name)) e) d));
-  }
+  pub probed_kept : (fits : K → V → Type 0) (weighs : V → ℕ) (caller h s t d : ℕ) (shelf shelf' : Shelf K V) (js : List (Item K)) (ks : List (Item K)) (b : ℕ)
+      → IsKept same name_of fits weighs shelf d (record { entries = entries_of shelf.cache.entries; budget = b; share = h; journal = js; spare = s })
+      → entries_of shelf'.cache.entries ≡ brought_to_front (has_key same mark_in key) (entries_of shelf.cache.entries) → IsDistinct same_name (keys_of shelf'.cache.entries) → IsShelf b shelf'
+      → ◌≡◌ {A = Core K V} (record { entries = entries_of shelf'.cache.entries; budget = b; share = h; journal = ks; spare = t }) (after_probe same caller key (record { entries = entries_of shelf.cache.entries; budget = b; share = h; journal = js; spare = s }))
+      → IsKept same name_of fits weighs shelf' d (record { entries = entries_of shelf'.cache.entries; budget = b; share = h; journal = ks; spare = t })
+  probed_kept fits weighs caller h s t n shelf shelf' js ks b kept e d shelved is =
+      let es = shelf.cache.entries in
+      let fs = shelf'.cache.entries in record {
+        shelved = shelved;
+        counted =
+            kept.counted ∙ omega (arith, evicted_more js (item caller key (Probe_said (holds same mark_in key (entries_of es)))))
+            ∙ ap (λ (x : Core K V). evicted_in x.journal) (sym is);
+        filled_before =
+            let longer = ap (λ (x : Core K V). length x.journal) is in
+            let more = length-append js (item caller key (Probe_said (holds same mark_in key (entries_of es))) ∷ []) in
+            let same_length = ap length e in
+            omega (arith, kept.filled_before, longer, more, same_length, length_brought (has_key same mark_in key) (entries_of es));
+        sound =
+            subst (λ (x : Core K V). IsSound same name_of fits weighs x) (sym is)
+            (after_probe_sound same name_of fits weighs caller key (record { entries = entries_of es; budget = b; share = h; journal = js; spare = s }) kept.sound
+            (subst (IsDistinct same_name) (sym (names_are fs) ∙ ap (map (λ x. x.mark.name)) e) d));
+      }
 
   -- what is found by this key fits it
   pub first_fits : (fits : K → V → Type 0) (es : List (Entry K V)) → AllByRecursion (λ e. fits e.mark.key e.value) es → IfSome (first_with (has_key same mark_in key) es) (λ e. fits key e.value)

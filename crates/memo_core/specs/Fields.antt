@@ -1,9 +1,9 @@
 -- How the fields of a memo stand for what contracts see.
-use Rattle.std.specs.Prelude.{◌≡◌, ℕ, ◌^◌, ◌+◌, ◌-◌, ◌≤◌, length, Bool, true, false, List, map, sum_by, Option, Some, None, if◌then◌else◌}
+use Rattle.std.specs.Prelude.{ℕ, suc, ◌^◌, ◌-◌, Bool, true, false, List, [], ◌∷◌, nat_eq, map, Option, Some, None, option_map, if◌then◌else◌}
 use Rattle.std.specs.Arc.{arc_value}
-use Rattle.memo_core.specs.Memo.{Entry, Item, Said, Probe_said, Fill_said, evicted_in}
-use Rattle.memo_core.specs.Views.{Core, IsSound}
+use Rattle.memo_core.specs.Memo.{Entry, Item, Said, Probe_said, Fill_said}
 use Rattle.memo_core.specs.declared.slots.Slot.{Slot}
+use Rattle.memo_core.specs.declared.owners.OwnerWeight.{OwnerWeight}
 use Rattle.memo_core.specs.declared.journal.JournalItem.{JournalItem}
 use Rattle.memo_core.specs.declared.journal.Did.{Did}
 use Rattle.memo_core.specs.declared.journal.Did.TheVariants.{Probed, Filled}
@@ -15,6 +15,16 @@ abbrev pub said_of : Did → Said
 said_of (Probed hit) = Probe_said hit
 said_of (Filled weight kept evicted) = Fill_said weight kept evicted
 
+-- what the rows say that an owner's entries weigh: the first row counts
+abbrev pub weight_at : ℕ → List OwnerWeight → ℕ
+weight_at owner [] = 0
+weight_at owner (r ∷ rs) = if nat_eq r.owner owner then r.weight else weight_at owner rs
+
+-- the place of that row
+abbrev pub place_at : ℕ → List OwnerWeight → Option ℕ
+place_at owner [] = None
+place_at owner (r ∷ rs) = if nat_eq r.owner owner then Some 0 else option_map (λ n. suc n) (place_at owner rs)
+
 -- the capacity of a cache that drops nothing by itself
 abbrev pub no_bound : ℕ
 no_bound = 2 ^ 64 - 1
@@ -22,19 +32,11 @@ no_bound = 2 ^ 64 - 1
 module _ {K V : Type 0} where
   -- the entry that a slot of the cache stands for
   abbrev pub entry_of : List ℕ × Slot K V → Entry K V
-  entry_of e = record { mark = record { name = e.0; key = arc_value e.1.key; weight = e.1.weight }; value = arc_value e.1.value }
+  entry_of e = record { mark = record { name = e.0; key = arc_value e.1.key; weight = e.1.weight; owner = e.1.owner }; value = arc_value e.1.value }
 
   -- the entries that the cache stands for
   abbrev pub entries_of : List (List ℕ × Slot K V) → List (Entry K V)
   entries_of es = map entry_of es
-
-  -- what the capacity of the cache and the counters have to do with the entries and the journal
-  pub record IsKept (same : K → K → Bool) (name_of : K → List ℕ) (fits : K → V → Type 0) (weighs : V → ℕ) (cap kept evicted : ℕ) (core : Core K V) : Type 0 where
-    pub unbounded : cap ≡ no_bound
-    pub kept_weight : kept ≡ sum_by (λ e. e.mark.weight) core.entries
-    pub counted : evicted ≡ evicted_in core.journal
-    pub filled_before : evicted + length core.entries ≤ length core.journal
-    pub sound : IsSound same name_of fits weighs core
 
 module _ {K : Type 0} where
   -- the item of the journal as contracts see it

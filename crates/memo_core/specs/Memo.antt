@@ -1,7 +1,8 @@
--- The sequential memo: a list of entries, most recent first, a budget and a journal. It knows of no
--- cache: the list is searched from its front.
-use Rattle.std.specs.Prelude.{◌≡◌, ℕ, zero, suc, ◌+◌, ◌-◌, Bool, true, false, ◌&&◌, if◌then◌else◌, nat_le, nat_eq, nat_lt, List, [], ◌∷◌, length, take, sum_by, Option, Some, None, is_some}
+-- The sequential memo: a list of entries, most recent first, a budget, a share and a journal. It knows
+-- of no cache: the list is searched from its front.
+use Rattle.std.specs.Prelude.{◌≡◌, ◌≢◌, ℕ, zero, suc, ◌+◌, ◌-◌, ◌≤◌, Bool, true, false, ◌&&◌, ◌||◌, not, if◌then◌else◌, nat_le, nat_eq, nat_lt, List, [], ◌∷◌, length, sum_by, Option, Some, None, is_some, option_map, Contains}
 use Rattle.std.specs.Option.{option_map_or}
+use Rattle.std.specs.List.{AllByRecursion}
 use Rattle.std.specs.Cmp.Lexicographic.{pointwise}
 
 -- Lists of anything, by a test
@@ -17,6 +18,11 @@ module _ {E : Type 0} (test : E → Bool) where
   without_first [] = []
   without_first (e ∷ es) = if test e then es else e ∷ without_first es
 
+  -- all but the last that passes
+  abbrev pub without_last : List E → List E
+  without_last [] = []
+  without_last (e ∷ es) = if is_some (first_with es) then e ∷ without_last es else if test e then es else e ∷ es
+
   -- the first that passes stands in front, and the others keep their order
   abbrev pub brought_to_front : List E → List E
   brought_to_front es = option_map_or (λ e. e ∷ without_first es) (first_with es) es
@@ -25,11 +31,12 @@ module _ {E : Type 0} (test : E → Bool) where
 abbrev pub entries_max : ℕ
 entries_max = 4096
 
--- an entry without its value: its name, its key and its weight
+-- an entry without its value: its name, its key, its weight and its owner, the caller who brought it
 pub record Mark (K : Type 0) : Type 0 where
   pub name : List ℕ
   pub key : K
   pub weight : ℕ
+  pub owner : ℕ
 
 -- an entry: what it is, and its value
 pub record Entry (K V : Type 0) : Type 0 where
@@ -56,20 +63,6 @@ item caller key said = record { caller = caller; key = key; said = said }
 abbrev pub same_name : List ℕ → List ℕ → Bool
 same_name a b = pointwise nat_eq a b
 
-module _ {E : Type 0} (weigh : E → ℕ) (budget : ℕ) where
-  -- the weights sum to at most the budget, and there are not too many
-  abbrev pub fits_in : List E → Bool
-  fits_in es = nat_le (sum_by weigh es) budget && nat_le (length es) entries_max
-
-  -- the first n, of which the last ones are dropped until the rest fits
-  abbrev pub dropped_to_fit : ℕ → List E → List E
-  dropped_to_fit zero es = []
-  dropped_to_fit (suc n) es = if fits_in (take (suc n) es) then take (suc n) es else dropped_to_fit n es
-
-  -- the last ones are dropped until the rest fits
-  abbrev pub trimmed : List E → List E
-  trimmed es = dropped_to_fit (length es) es
-
 -- over any entries that have a mark
 module _ {K E : Type 0} (same : K → K → Bool) (mark : E → Mark K) where
   -- whether an entry has this very key
@@ -85,58 +78,104 @@ module _ {K E : Type 0} (mark : E → Mark K) where
   abbrev pub has_name : List ℕ → E → Bool
   has_name name e = same_name name (mark e).name
 
-  -- the new entry stands in front, and the one of the same name is gone
-  abbrev pub put_in_front : E → List E → List E
-  put_in_front new es = new ∷ without_first (has_name (mark new).name) es
+  -- what the entries of an owner weigh together
+  abbrev pub owned : ℕ → List E → ℕ
+  owned owner es = sum_by (λ e. if nat_eq (mark e).owner owner then (mark e).weight else 0) es
 
-  -- the same, and then the last ones are dropped until the rest fits
-  abbrev pub pushed : ℕ → E → List E → List E
-  pushed budget new es = trimmed (λ e. (mark e).weight) budget (put_in_front new es)
+  -- Whether one of these entries is free to a caller: it is the caller's own, or nothing is reserved, or
+  -- its owner's entries weigh more than the share together.
+  abbrev pub is_free : ℕ → ℕ → List E → E → Bool
+  is_free share caller es e = nat_eq (mark e).owner caller || (nat_eq share 0 || nat_lt share (owned (mark e).owner es))
 
-module _ {K E : Type 0} (same : K → K → Bool) (mark : E → Mark K) (budget : ℕ) where
-  -- the entries after a fill: too heavy, nothing changes; a held key comes to the front as it is; a new
-  -- entry stands in front of the others
+  -- each entry of this owner stands in the other list too
+  abbrev pub StandIn : ℕ → List E → List E → Type 0
+  StandIn owner es fs = AllByRecursion (λ e. (mark e).owner ≡ owner → Contains fs e) es
+
+  -- the weights sum to at most the budget, and there are not too many
+  abbrev pub fits_in : ℕ → List E → Bool
+  fits_in budget es = nat_le (sum_by (λ e. (mark e).weight) es) budget && nat_le (length es) entries_max
+
+module _ {K E : Type 0} (mark : E → Mark K) (budget share : ℕ) where
+  -- The others that are left beside a new entry, where fewer than n of them are dropped: while it doesn't
+  -- fit, the last one that is free to its owner goes. None where no other is free, so that the new entry
+  -- itself would go. It is its owner's own, so it adds nothing to what another owner's entries weigh.
+  abbrev pub room_within : ℕ → E → List E → Option (List E)
+  room_within zero new es = None
+  room_within (suc n) new es =
+      if fits_in mark budget (new ∷ es) then Some es
+      else if is_some (first_with (is_free mark share (mark new).owner es) es) then room_within n new (without_last (is_free mark share (mark new).owner es) es)
+      else None
+
+  -- the same, where all of them may be dropped
+  abbrev pub room_beside : E → List E → Option (List E)
+  room_beside new es = room_within (suc (length es)) new es
+
+  -- The entries after a fill of a key that is not held, or none where it is not kept: an entry of the same
+  -- name goes, if it is free, and the new one stands in front of those that are left beside it.
+  abbrev pub pushed : E → List E → Option (List E)
+  pushed new es =
+      if option_map_or (λ e. not (is_free mark share (mark new).owner es e)) (first_with (has_name mark (mark new).name) es) false then None
+      else option_map (λ rest. new ∷ rest) (room_beside new (without_first (has_name mark (mark new).name) es))
+
+  -- The entries after a fill, or none where it is not kept: one above the budget is not; where the key is
+  -- held, they are those with its entry in front; and another key is pushed.
+  abbrev pub offered_where : (held : Bool) → (in_front : List E) → E → List E → Option (List E)
+  offered_where held in_front new es =
+      if nat_lt budget (mark new).weight then None
+      else if held then Some in_front
+      else pushed new es
+
+module _ {K E : Type 0} (same : K → K → Bool) (mark : E → Mark K) (budget share : ℕ) where
+  -- the entries after a fill, or none where it is not kept: a held key comes to the front as it is
+  abbrev pub offered : E → List E → Option (List E)
+  offered new es = offered_where mark budget share (holds same mark (mark new).key es) (brought_to_front (has_key same mark (mark new).key) es) new es
+
+  -- the entries after a fill: one that is not kept changes nothing
   abbrev pub filled : E → List E → List E
-  filled new es =
-      if nat_lt budget (mark new).weight then es
-      else if holds same mark (mark new).key es then brought_to_front (has_key same mark (mark new).key) es
-      else pushed mark budget new es
+  filled new es = option_map_or (λ kept. kept) (offered new es) es
 
-  -- what a fill says: each entry that is dropped counts as evicted
+  -- what a fill says: each entry that a kept fill drops counts as evicted
   abbrev pub fill_said : E → List E → Said
   fill_said new es =
-      if nat_lt budget (mark new).weight then Fill_said (mark new).weight false 0
-      else if holds same mark (mark new).key es then Fill_said (mark new).weight true 0
-      else Fill_said (mark new).weight true (length es + 1 - length (pushed mark budget new es))
+      option_map_or (λ kept. Fill_said (mark new).weight true (if holds same mark (mark new).key es then 0 else length es + 1 - length kept)) (offered new es)
+      (Fill_said (mark new).weight false 0)
 
 -- a mark is the mark of itself
 abbrev pub itself : {K : Type 0} → Mark K → Mark K
 itself m = m
 
-module _ {K : Type 0} (same : K → K → Bool) (name_of : K → List ℕ) (budget : ℕ) where
-  -- the mark of a new entry
-  abbrev pub mark_of : K → ℕ → Mark K
-  mark_of key weight = record { name = name_of key; key = key; weight = weight }
+-- the mark of the entry that a fill offers
+abbrev pub mark_of : {K : Type 0} → (K → List ℕ) → ℕ → K → ℕ → Mark K
+mark_of name_of caller key weight = record { name = name_of key; key = key; weight = weight; owner = caller }
 
+module _ {K : Type 0} (same : K → K → Bool) (name_of : K → List ℕ) (budget share : ℕ) where
   -- the entries after a call
-  abbrev pub after_said : K → Said → List (Mark K) → List (Mark K)
-  after_said key (Probe_said hit) es = brought_to_front (has_key same itself key) es
-  after_said key (Fill_said weight kept evicted) es = filled same itself budget (mark_of key weight) es
+  abbrev pub after_said : ℕ → K → Said → List (Mark K) → List (Mark K)
+  after_said caller key (Probe_said hit) es = brought_to_front (has_key same itself key) es
+  after_said caller key (Fill_said weight kept evicted) es = filled same itself budget share (mark_of name_of caller key weight) es
 
   -- what the sequential memo says at a call
-  abbrev pub says_at : K → Said → List (Mark K) → Said
-  says_at key (Probe_said hit) es = Probe_said (holds same itself key es)
-  says_at key (Fill_said weight kept evicted) es = fill_said same itself budget (mark_of key weight) es
+  abbrev pub says_at : ℕ → K → Said → List (Mark K) → Said
+  says_at caller key (Probe_said hit) es = Probe_said (holds same itself key es)
+  says_at caller key (Fill_said weight kept evicted) es = fill_said same itself budget share (mark_of name_of caller key weight) es
 
   -- the entries after these items
   abbrev pub replay : List (Mark K) → List (Item K) → List (Mark K)
   replay es [] = es
-  replay es (i ∷ is) = replay (after_said i.key i.said es) is
+  replay es (i ∷ is) = replay (after_said i.caller i.key i.said es) is
 
   -- each item says what the sequential memo says there
   abbrev pub IsLegal : List (Mark K) → List (Item K) → Type 0
   IsLegal es [] = Unit {0}
-  IsLegal es (i ∷ is) = (i.said ≡ says_at i.key i.said es) × IsLegal (after_said i.key i.said es) is
+  IsLegal es (i ∷ is) = (i.said ≡ says_at i.caller i.key i.said es) × IsLegal (after_said i.caller i.key i.said es) is
+
+  -- at each item, where the entries of another caller weigh at most the share before it, all of them stand
+  -- after it
+  abbrev pub KeepsShares : List (Mark K) → List (Item K) → Type 0
+  KeepsShares es [] = Unit {0}
+  KeepsShares es (i ∷ is) =
+      ((owner : ℕ) → owner ≢ i.caller → owned itself owner es ≤ share → StandIn itself owner es (after_said i.caller i.key i.said es))
+      × KeepsShares (after_said i.caller i.key i.said es) is
 
 -- how many entries a call dropped
 abbrev pub evicted_by : Said → ℕ

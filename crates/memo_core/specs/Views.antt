@@ -1,12 +1,14 @@
 -- What contracts see of a memo, and its steps.
-use Rattle.std.specs.Prelude.{◌≡◌, ℕ, ◌-◌, ◌≤◌, Bool, List, [], ◌∷◌, ◌++◌, map, length, sum_by}
+use Rattle.std.specs.Prelude.{◌≡◌, ℕ, ◌-◌, ◌≤◌, Bool, List, [], ◌∷◌, ◌++◌, map, length, sum_by, is_some}
 use Rattle.std.specs.List.{AllByRecursion, IsDistinct}
-use Rattle.memo_core.specs.Memo.{Entry, Item, Mark, item, same_name, Probe_said, brought_to_front, holds, has_key, filled, fill_said, replay, IsLegal, entries_max, mark_of}
+use Rattle.memo_core.specs.Memo.{Entry, Item, Mark, item, same_name, Probe_said, brought_to_front, holds, has_key, offered, filled, fill_said, replay, IsLegal, entries_max, mark_of}
 
 -- what contracts see of a memo
 pub record Core (K V : Type 0) : Type 0 where
   pub entries : List (Entry K V)
   pub budget : ℕ
+  -- what each owner's entries may weigh together and be safe from other callers, or 0
+  pub share : ℕ
   pub journal : List (Item K)
   -- for how many more items the journal has room
   pub spare : ℕ
@@ -20,6 +22,10 @@ module _ {K V : Type 0} where
   abbrev pub marks : List (Entry K V) → List (Mark K)
   marks es = map mark_in es
 
+  -- the entry that a fill offers
+  abbrev pub new_entry : (K → List ℕ) → ℕ → K → V → ℕ → Entry K V
+  new_entry name_of caller key value weight = record { mark = mark_of name_of caller key weight; value = value }
+
   module _ (same : K → K → Bool) (name_of : K → List ℕ) where
     -- what every memo keeps: held values fit their keys and weigh what their entries say; names are
     -- those of the keys, and distinct; the weights sum to at most the budget, and there are not too many
@@ -31,18 +37,22 @@ module _ {K V : Type 0} where
       pub distinct : IsDistinct same_name (map (λ e. e.mark.name) core.entries)
       pub within : sum_by (λ e. e.mark.weight) core.entries ≤ core.budget
       pub few : length core.entries ≤ entries_max
-      pub legal : IsLegal same name_of core.budget [] core.journal
-      pub replayed : marks core.entries ≡ replay same name_of core.budget [] core.journal
+      pub legal : IsLegal same name_of core.budget core.share [] core.journal
+      pub replayed : marks core.entries ≡ replay same name_of core.budget core.share [] core.journal
+
+    -- whether a fill is kept
+    abbrev pub keeps : ℕ → K → V → ℕ → Core K V → Bool
+    keeps caller key value weight core = is_some (offered same mark_in core.budget core.share (new_entry name_of caller key value weight) core.entries)
 
     -- the memo after a fill that found memory
     abbrev pub after_fill : ℕ → K → V → ℕ → Core K V → Core K V
-    after_fill caller key value weight core =
-        let new : Entry K V = record { mark = mark_of same name_of core.budget key weight; value = value } in record {
-          entries = filled same mark_in core.budget new core.entries;
-          budget = core.budget;
-          journal = core.journal ++ item caller key (fill_said same mark_in core.budget new core.entries) ∷ [];
-          spare = core.spare - 1;
-        }
+    after_fill caller key value weight core = record {
+      entries = filled same mark_in core.budget core.share (new_entry name_of caller key value weight) core.entries;
+      budget = core.budget;
+      share = core.share;
+      journal = core.journal ++ item caller key (fill_said same mark_in core.budget core.share (new_entry name_of caller key value weight) core.entries) ∷ [];
+      spare = core.spare - 1;
+    }
 
   module _ (same : K → K → Bool) where
     -- the memo after a probe that found memory
@@ -50,6 +60,7 @@ module _ {K V : Type 0} where
     after_probe caller key core = record {
       entries = brought_to_front (has_key same mark_in key) core.entries;
       budget = core.budget;
+      share = core.share;
       journal = core.journal ++ item caller key (Probe_said (holds same mark_in key core.entries)) ∷ [];
       spare = core.spare - 1;
     }

@@ -5,6 +5,8 @@
 mod fit;
 mod journal;
 mod memo;
+mod owners;
+mod plan;
 mod slots;
 
 pub use fit::{Fit, NAME_BYTES, Name, Namer};

@@ -1,10 +1,12 @@
-ghost use Rattle.std.specs.Prelude.{◌≡◌, option_map, is_some};
+ghost use Rattle.std.specs.Prelude.{◌≡◌, true, false, option_map, is_some, if◌then◌else◌};
 ghost use Rattle.std.specs.Arc.{arc_value};
 ghost use Rattle.memo_core.specs.Fields.{value_in, is_hit};
 
 use crate::fit::{Fit, Namer};
 use crate::journal::{JournalItem, filled, probed};
-use crate::slots::{Slot, Slots, filled_with, has_slot, touch, value_of};
+use crate::owners::weight_in;
+use crate::plan::Limits;
+use crate::slots::{Shelf, Slot, has_slot, offer, touch, value_of};
 use lru::LruCache;
 use std::alloc::Global;
 use std::marker::Model;
@@ -25,22 +27,24 @@ pub enum Probe<V> {
 pub enum Fill {
     /// The key is held, by a new entry or by the one that was there.
     Kept,
-    /// The weight is above the budget, and no entry changed.
+    /// The weight is above the budget, or what would have to go is not free to the caller. No entry
+    /// changed.
     TooHeavy,
     /// Memory ran out, and nothing changed.
     NoMemory,
 }
 
 /// A memo: a list of entries, most recent first, whose weights sum to at most a budget and of which
-/// there are at most 4,096, and the journal of its calls.
+/// there are at most 4,096, and the journal of its calls. Each entry has an owner, the caller who
+/// brought it. With a share above 0, entries of one owner that weigh at most the share together are
+/// dropped by no fill of another caller.
 #[derive(Drop)]
 pub struct MemoCore<F: Fit, N: Namer<F::Key>> {
     fit: F,
     namer: N,
-    budget: u64,
-    weight: u64,
+    limits: Limits,
+    shelf: Shelf<F::Key, F::Value>,
     evicted: u64,
-    cache: Slots<F::Key, F::Value>,
     journal: Vec<JournalItem<F::Key>>,
 }
 
@@ -50,42 +54,49 @@ impl<F: Fit, N: Namer<F::Key>> Model for MemoCore<F, N> {
 
     ghost Value = { Core F.Key F.Value };
 
-    ghost use Rattle.memo_core.specs.Fields.{entries_of, items_of, IsKept};
+    ghost use Rattle.memo_core.specs.Fields.{entries_of, items_of};
+    ghost use Rattle.memo_core.specs.Plans.{IsKept};
 
     ghost view = { λ m. record {
-      entries = entries_of m.cache.entries;
-      budget = m.budget;
+      entries = entries_of m.shelf.cache.entries;
+      budget = m.limits.budget;
+      share = m.limits.share;
       journal = items_of m.journal.items;
       spare = vec_capacity m.journal - vec_len m.journal;
     } };
 
-    ghost invariant = { λ m. IsKept F.same_key N.name_of F.fits F.weighs m.cache.cap m.weight m.evicted (record {
-      entries = entries_of m.cache.entries;
-      budget = m.budget;
+    ghost invariant = { λ m. IsKept F.same_key N.name_of F.fits F.weighs m.shelf m.evicted (record {
+      entries = entries_of m.shelf.cache.entries;
+      budget = m.limits.budget;
+      share = m.limits.share;
       journal = items_of m.journal.items;
       spare = vec_capacity m.journal - vec_len m.journal;
     }) };
 }
 
 impl<F: Fit, N: Namer<F::Key>> MemoCore<F, N> {
-    ghost use Rattle.std.specs.Prelude.{◌≡◌, ◌≢◌, ℕ, ◌≤◌, ◌<◌, List, [], ◌∷◌, ◌++◌, IfOk, OnOk, OnErr, length, option_map, IfSome, sum_by, true, false};
+    ghost use Rattle.std.specs.Prelude.{◌≡◌, ◌≢◌, ℕ, ◌≤◌, ◌<◌, [], ◌∷◌, ◌++◌, IfOk, OnOk, OnErr, option_map, IfSome, sum_by, true, false};
     ghost use Rattle.std.specs.Arc.{arc_value};
-    ghost use Rattle.memo_core.specs.Views.{Core, IsSound, after_probe, after_fill, mark_in};
-    ghost use Rattle.memo_core.specs.Memo.{first_with, has_key, item, Probe_said, Fill_said, evicted_in};
+    ghost use Rattle.memo_core.specs.Views.{IsSound, after_probe, after_fill, keeps, mark_in};
+    ghost use Rattle.memo_core.specs.Memo.{first_with, has_key, item, owned, KeepsShares, StandIn, Probe_said, Fill_said, evicted_in};
     ghost use Rattle.memo_core.specs.Fields.{items_of};
 
     /// A memo without entries, whose journal is empty.
-    pub fn new(alloc: Global, fit: F, namer: N, budget: u64) -> Result<Self, NoMemory>
-        ensures { IfOk result (λ m. (m.entries ≡ []) × (m.journal ≡ []) × (m.budget ≡ budget)) }
+    pub fn new(alloc: Global, fit: F, namer: N, budget: u64, share: u64) -> Result<Self, NoMemory>
+        ensures { IfOk result (λ m. (m.entries ≡ []) × (m.journal ≡ []) × (m.budget ≡ budget)
+            × (m.share ≡ share)) }
     {
-        let cache = LruCache::unbounded(alloc)?;
+        let shelf = Shelf {
+            cache: LruCache::unbounded(alloc)?,
+            weight: 0,
+            owners: Vec::new(alloc),
+        };
         Ok(MemoCore {
             fit,
             namer,
-            budget,
-            weight: 0,
+            limits: Limits { budget, share },
+            shelf,
             evicted: 0,
-            cache,
             journal: Vec::new(alloc),
         })
     }
@@ -95,6 +106,7 @@ impl<F: Fit, N: Namer<F::Key>> MemoCore<F, N> {
         ensures room { OnOk result (0 < self.new.spare) }
         ensures entries { self.new.entries ≡ self.old.entries }
         ensures budget { self.new.budget ≡ self.old.budget }
+        ensures share { self.new.share ≡ self.old.share }
         ensures journal { self.new.journal ≡ self.old.journal }
         ensures err { OnErr result (self.new ≡ self.old) }
     {
@@ -108,7 +120,14 @@ impl<F: Fit, N: Namer<F::Key>> MemoCore<F, N> {
         ensures within { result ≤ self.now.budget }
         ensures sound { IsSound F.same_key N.name_of F.fits F.weighs self.now }
     {
-        self.weight
+        self.shelf.weight
+    }
+
+    /// The sum of the weights of this owner's entries. Takes no memory.
+    pub fn weight_of(&self, owner: u32) -> u64
+        ensures { result ≡ owned mark_in owner self.now.entries }
+    {
+        weight_in(self.shelf.owners.as_slice(), owner)
     }
 
     /// How many entries were dropped so far. Takes no memory.
@@ -118,10 +137,13 @@ impl<F: Fit, N: Namer<F::Key>> MemoCore<F, N> {
         self.evicted
     }
 
-    /// The calls so far, each with what it said. Takes no memory.
+    /// The calls so far, each with what it said. With a share above 0, at each of them the entries of
+    /// another caller that weigh at most the share together all stand after it. Takes no memory.
     pub fn journal(&self) -> &[JournalItem<F::Key>]
         ensures is { items_of result.now ≡ self.now.journal }
         ensures sound { IsSound F.same_key N.name_of F.fits F.weighs self.now }
+        ensures shares { 0 < self.now.share →
+            KeepsShares F.same_key N.name_of self.now.budget self.now.share [] self.now.journal }
     {
         self.journal.as_slice()
     }
@@ -138,23 +160,27 @@ impl<F: Fit, N: Namer<F::Key>> MemoCore<F, N> {
             self.old.journal ++ item caller (arc_value key.now) (Probe_said (is_hit p)) ∷ []) }
         ensures core { OnOk result (self.new ≡
             after_probe F.same_key caller (arc_value key.now) self.old) }
+        ensures stand { (owner : ℕ) → StandIn mark_in owner self.old.entries self.new.entries }
         ensures err { OnErr result (self.new ≡ self.old) }
     {
         let name = self.namer.name(&**key);
-        let found = value_of(&self.fit, &self.cache, &name, &**key)?;
+        let found = value_of(&self.fit, &self.shelf.cache, &name, &**key)?;
         let key = Arc::try_clone(key)?;
         let hit = found.is_some();
-        touch(&mut self.cache, &name, hit);
+        touch(&mut self.shelf.cache, &name, hit);
         let item = probed(caller, key, hit);
         self.journal.push_reserved(item);
         Ok(answer(found))
     }
 
-    /// Offers a value for a key. An entry of the same name and another key is dropped, and then entries
-    /// from the end until the rest fits; a key that is held keeps its value.
+    /// Offers a value for a key. A key that is held keeps its value and its owner. Else an entry of the
+    /// same name and another key goes, and then, while the rest does not fit, the last entry that is
+    /// free to the caller: its own one, any one without a share, and else one whose owner's entries
+    /// weigh more than the share together. Where such an entry of the same name is not free, or the new
+    /// one itself would have to go, the fill is not kept.
     pub fn fill(
         &mut self,
-        _alloc: Global,
+        alloc: Global,
         caller: u32,
         key: &Arc<F::Key>,
         value: Arc<F::Value>,
@@ -163,8 +189,11 @@ impl<F: Fit, N: Namer<F::Key>> MemoCore<F, N> {
         requires room { 0 < self.old.spare }
         requires fits { F.fits (arc_value key.now) (arc_value value) }
         requires weight { weight ≡ F.weighs (arc_value value) }
-        ensures kept { result ≡ Fill.Kept → weight ≤ self.old.budget }
-        ensures heavy { result ≡ Fill.TooHeavy → self.old.budget < weight }
+        ensures kept { result ≡ Fill.Kept → keeps F.same_key N.name_of caller
+            (arc_value key.now) (arc_value value) weight self.old ≡ true }
+        ensures heavy { result ≡ Fill.TooHeavy → keeps F.same_key N.name_of caller
+            (arc_value key.now) (arc_value value) weight self.old ≡ false }
+        ensures heavy_entries { result ≡ Fill.TooHeavy → self.new.entries ≡ self.old.entries }
         ensures journal_kept { result ≡ Fill.Kept → (evicted : ℕ) × (self.new.journal ≡
             self.old.journal ++ item caller (arc_value key.now) (Fill_said weight true evicted) ∷ []) }
         ensures journal_heavy { result ≡ Fill.TooHeavy → self.new.journal ≡
@@ -172,42 +201,44 @@ impl<F: Fit, N: Namer<F::Key>> MemoCore<F, N> {
         ensures core { result ≢ Fill.NoMemory → self.new ≡
             after_fill F.same_key N.name_of caller (arc_value key.now) (arc_value value) weight
             self.old }
+        ensures reserved { 0 < self.old.share → (owner : ℕ) → owner ≢ caller →
+            owned mark_in owner self.old.entries ≤ self.old.share →
+            StandIn mark_in owner self.old.entries self.new.entries }
         ensures none { result ≡ Fill.NoMemory → self.new ≡ self.old }
     {
         let Ok(noted) = Arc::try_clone(key) else {
             return Fill::NoMemory;
         };
-        if weight > self.budget {
-            let heavy = filled(caller, noted, weight, false, 0);
-            self.journal.push_reserved(heavy);
-            return Fill::TooHeavy;
-        }
         let Ok(held) = Arc::try_clone(key) else {
             return Fill::NoMemory;
         };
         let name = self.namer.name(&**key);
-        let is_held = has_slot(&self.fit, &self.cache, &name, &**key);
+        let is_held = has_slot(&self.fit, &self.shelf.cache, &name, &**key);
         let slot = Slot {
             key: held,
             value,
             weight,
+            owner: caller,
         };
-        let Some((weight_now, evicted)) = filled_with(
-            &mut self.cache,
-            is_held,
-            name,
-            slot,
-            self.weight,
-            self.budget,
-        ) else {
+        let Ok(offered) = offer(alloc, &mut self.shelf, is_held, name, slot, self.limits) else {
             return Fill::NoMemory;
         };
-        let kept = filled(caller, noted, weight, true, evicted);
-        self.journal.push_reserved(kept);
-        self.weight = weight_now;
+        let evicted = offered.unwrap_or(0);
+        let is_kept = offered.is_some();
+        self.journal
+            .push_reserved(filled(caller, noted, weight, is_kept, evicted));
         self.evicted += u64::from(evicted);
-        Fill::Kept
+        kept_or_not(is_kept)
     }
+}
+
+// The answer of a fill that found memory.
+fn kept_or_not(is_kept: bool) -> Fill
+    ensures is { result ≡ (if is_kept then Fill.Kept else Fill.TooHeavy) }
+    ensures kept { result ≡ Fill.Kept → is_kept ≡ true }
+    ensures heavy { result ≡ Fill.TooHeavy → is_kept ≡ false }
+{
+    if is_kept { Fill::Kept } else { Fill::TooHeavy }
 }
 
 // The answer of a probe that found this.

@@ -1,14 +1,17 @@
-ghost use Rattle.std.specs.Prelude.{◌≡◌, true, false, ◌+◌, ◌-◌, ◌^◌, ◌≤◌, option_map, length, sum_by, take, [], ◌<◌, IfSome, IfNone, IfOk, OnOk, OnErr, if◌then◌else◌, is_some};
+ghost use Rattle.std.specs.Prelude.{◌≡◌, true, false, ◌+◌, ◌-◌, ◌≤◌, option_map, length, ◌∷◌, IfSome, IfNone, IfOk, OnOk, OnErr, if◌then◌else◌, is_some};
 ghost use Rattle.std.specs.Arc.{arc_value};
-ghost use Rattle.std.specs.Map.{lookup, keys_of};
+ghost use Rattle.std.specs.Map.{lookup, keys_of, remove_entry};
 ghost use Rattle.std.specs.List.{IsDistinct};
 ghost use Rattle.lru.specs.LruCache.{promoted};
-ghost use Rattle.memo_core.specs.Memo.{same_name, put_in_front, trimmed, pushed, entries_max};
-ghost use Rattle.memo_core.specs.Views.{mark_in};
-ghost use Rattle.memo_core.specs.Fields.{value_at, entry_of, entries_of, no_bound};
+ghost use Rattle.memo_core.specs.Memo.{same_name, pushed, offered_where, entries_max};
+ghost use Rattle.memo_core.specs.Fields.{value_at, no_bound};
+ghost use Rattle.memo_core.specs.Plans.{removed, slot_mark, IsShelf};
 
 use crate::fit::{Fit, Name};
+use crate::owners::OwnerWeight;
+use crate::plan::{Limits, plan_for};
 use lru::LruCache;
+use std::alloc::Global;
 use std::sync::Arc;
 use text_place::NoMemory;
 
@@ -18,10 +21,19 @@ pub struct Slot<K, V> {
     pub key: Arc<K>,
     pub value: Arc<V>,
     pub weight: u64,
+    pub owner: u32,
 }
 
 /// A cache of slots by name, the most recently used first.
 pub type Slots<K, V> = LruCache<Name, Slot<K, V>>;
+
+/// A cache of slots, and beside it what they weigh, all together and by their owners.
+#[derive(Drop)]
+pub struct Shelf<K, V> {
+    pub cache: Slots<K, V>,
+    pub weight: u64,
+    pub owners: Vec<OwnerWeight>,
+}
 
 /// How many entries there may be.
 pub const ENTRIES_MAX: usize = 4096;
@@ -38,40 +50,78 @@ pub fn has_slot<F: Fit>(fit: &F, cache: &Slots<F::Key, F::Value>, name: &Name, k
     fit.same(&*slot.key, key)
 }
 
-/// The cache after a fill that is not too heavy: what it weighs then, and how many slots were dropped.
-pub fn filled_with<K: Drop, V: Drop>(
-    cache: &mut Slots<K, V>,
+/// Offers a slot to a shelf: one above the budget is not kept, one whose key is held brings that one to
+/// the front, and else it is pushed. Answers how many slots were dropped, or none where it is not kept.
+pub fn offer<K: Drop, V: Drop>(
+    alloc: Global,
+    shelf: &mut Shelf<K, V>,
     is_held: bool,
     name: Name,
     slot: Slot<K, V>,
-    weight: u64,
-    budget: u64,
-) -> Option<(u64, u32)>
-    requires cap { cache.old.cap ≡ no_bound }
-    requires few { length cache.old.entries ≤ entries_max }
-    requires weight { weight ≡ sum_by (λ e. e.mark.weight) (entries_of cache.old.entries) }
-    ensures held { is_held ≡ true → IfSome result (λ r. (r.0 ≡ weight) × (r.1 ≡ 0) × (cache.new.entries ≡ promoted (same_name name) cache.old.entries)) }
-    ensures new { is_held ≡ false → IfSome result (λ r.
-        (entries_of cache.new.entries ≡ pushed mark_in budget (entry_of (name, slot)) (entries_of cache.old.entries))
-        × (r.0 ≡ sum_by (λ e. e.mark.weight) (entries_of cache.new.entries)) × (r.0 ≤ budget)
-        × (length cache.new.entries ≤ entries_max)
-        × (r.1 ≡ length cache.old.entries + 1 - length cache.new.entries)) }
-    ensures some { IfSome result (λ r. (cache.new.cap ≡ cache.old.cap) × IsDistinct same_name (keys_of cache.new.entries)) }
-    ensures none { IfNone result (cache.new ≡ cache.old) }
+    limits: Limits,
+) -> Result<Option<u32>, NoMemory>
+    requires { IsShelf limits.budget shelf.old }
+    ensures slots { IfOk result (λ r. offered_where slot_mark limits.budget limits.share is_held
+        (promoted (same_name name) shelf.old.cache.entries) (name, slot) shelf.old.cache.entries
+        ≡ option_map (λ _. shelf.new.cache.entries) r) }
+    ensures evicted { IfOk result (λ r. IfSome r (λ n. n ≡ (if is_held then 0
+        else length shelf.old.cache.entries + 1 - length shelf.new.cache.entries))) }
+    ensures refused { IfOk result (λ r. IfNone r (shelf.new ≡ shelf.old)) }
+    ensures shelf { IsShelf limits.budget shelf.new }
+    ensures distinct { OnOk result (IsDistinct same_name (keys_of shelf.new.cache.entries)) }
+    ensures err { OnErr result (shelf.new ≡ shelf.old) }
 {
-    if is_held {
-        touch(cache, &name, true);
-        return Some((weight, 0));
+    if slot.weight > limits.budget {
+        let _len = shelf.cache.len();
+        return Ok(None);
     }
-    let before = cache.len();
-    let added = slot.weight;
-    let Ok(was) = stack(cache, name, slot) else {
-        return None;
+    if is_held {
+        touch(&mut shelf.cache, &name, true);
+        return Ok(Some(0));
+    }
+    push(alloc, shelf, name, slot, limits)
+}
+
+// Puts a slot in front, where it is kept, and drops what has to go for it.
+fn push<K: Drop, V: Drop>(
+    alloc: Global,
+    shelf: &mut Shelf<K, V>,
+    name: Name,
+    slot: Slot<K, V>,
+    limits: Limits,
+) -> Result<Option<u32>, NoMemory>
+    requires shelf { IsShelf limits.budget shelf.old }
+    requires light { slot.weight ≤ limits.budget }
+    ensures slots { IfOk result (λ r. pushed slot_mark limits.budget limits.share (name, slot)
+        shelf.old.cache.entries ≡ option_map (λ _. shelf.new.cache.entries) r) }
+    ensures evicted { IfOk result (λ r. IfSome r (λ n. n ≡
+        length shelf.old.cache.entries + 1 - length shelf.new.cache.entries)) }
+    ensures refused { IfOk result (λ r. IfNone r (shelf.new ≡ shelf.old)) }
+    ensures shelf { IsShelf limits.budget shelf.new }
+    ensures distinct { OnOk result (IsDistinct same_name (keys_of shelf.new.cache.entries)) }
+    ensures err { OnErr result (shelf.new ≡ shelf.old) }
+{
+    let plan = plan_for(alloc, shelf, &name, &slot, limits)?;
+    let before = shelf.cache.len();
+    let Some(plan) = plan else {
+        return Ok(None);
     };
-    let total = u128::from(weight) + u128::from(added) - u128::from(was);
-    let rest = trim(cache, total, budget);
-    let evicted = (before + 1 - cache.len()) as u32;
-    Some((rest, evicted))
+    stack(&mut shelf.cache, name, slot)?;
+    drop_named(&mut shelf.cache, plan.names.as_slice());
+    shelf.weight = plan.total as u64;
+    shelf.owners = plan.owners;
+    let evicted = before + 1 - shelf.cache.len();
+    Ok(Some(evicted as u32))
+}
+
+// Drops the slots of these names.
+fn drop_named<K: Drop, V: Drop>(cache: &mut Slots<K, V>, names: &[Name])
+    ensures entries { cache.new.entries ≡ removed names.now cache.old.entries }
+    ensures cap { cache.new.cap ≡ cache.old.cap }
+{
+    for name in names {
+        cache.pop(name);
+    }
 }
 
 /// Brings the slot of this name to the front, if it was hit.
@@ -107,55 +157,20 @@ pub fn value_of<F: Fit>(
     }
 }
 
-// Puts a slot in front, in place of the one of its name. Answers the weight that was there before.
+// Puts a slot in front, in place of the one of its name.
 fn stack<K: Drop, V: Drop>(
     cache: &mut Slots<K, V>,
     name: Name,
     slot: Slot<K, V>,
-) -> Result<u64, NoMemory>
+) -> Result<(), NoMemory>
     requires cap { cache.old.cap ≡ no_bound }
     requires few { length cache.old.entries ≤ entries_max }
-    ensures entries { OnOk result (entries_of cache.new.entries ≡ put_in_front mark_in (entry_of (name, slot)) (entries_of cache.old.entries)) }
-    ensures weight { IfOk result (λ w. sum_by (λ e. e.mark.weight) (entries_of cache.new.entries) + w ≡ sum_by (λ e. e.mark.weight) (entries_of cache.old.entries) + slot.weight) }
+    ensures entries { OnOk result (cache.new.entries ≡ (name, slot) ∷ remove_entry (same_name name) cache.old.entries) }
     ensures cap { cache.new.cap ≡ cache.old.cap }
     ensures err { OnErr result (cache.new ≡ cache.old) }
 {
     match cache.put(name, slot) {
-        Ok(Some(old)) => Ok(old.weight),
-        Ok(None) => Ok(0),
+        Ok(_) => Ok(()),
         Err(_) => Err(NoMemory),
-    }
-}
-
-// Drops slots from the end until the rest weighs at most the budget and is not too long. Answers what the rest weighs.
-fn trim<K: Drop, V: Drop>(cache: &mut Slots<K, V>, total: u128, budget: u64) -> u64
-    requires { total ≡ sum_by (λ e. e.mark.weight) (entries_of cache.old.entries) }
-    ensures entries { entries_of cache.new.entries ≡ trimmed (λ e. e.mark.weight) budget (entries_of cache.old.entries) }
-    ensures weight { result ≡ sum_by (λ e. e.mark.weight) (entries_of cache.new.entries) }
-    ensures within { result ≤ budget }
-    ensures few { length cache.new.entries ≤ entries_max }
-    ensures cap { cache.new.cap ≡ cache.old.cap }
-    ensures distinct { IsDistinct same_name (keys_of cache.new.entries) }
-{
-    let mut total = total;
-    while total > u128::from(budget) || cache.len() > ENTRIES_MAX {
-        match pop(cache) {
-            Some(weight) => total -= u128::from(weight),
-            None => break,
-        }
-    }
-    let _len = cache.len();
-    total as u64
-}
-
-// Drops the last slot, and answers what it weighed.
-fn pop<K: Drop, V: Drop>(cache: &mut Slots<K, V>) -> Option<u64>
-    ensures some { IfSome result (λ w. (0 < length cache.old.entries) × (cache.new.entries ≡ take (length cache.old.entries - 1) cache.old.entries) × (sum_by (λ e. e.mark.weight) (entries_of cache.new.entries) + w ≡ sum_by (λ e. e.mark.weight) (entries_of cache.old.entries))) }
-    ensures none { IfNone result ((cache.old.entries ≡ []) × (cache.new.entries ≡ [])) }
-    ensures cap { cache.new.cap ≡ cache.old.cap }
-{
-    match cache.pop_lru() {
-        Some((_, slot)) => Some(slot.weight),
-        None => None,
     }
 }

@@ -6,4 +6,8 @@ mod alike;
 #[cfg(test)]
 mod memos;
 #[cfg(test)]
+mod pieces;
+#[cfg(test)]
+mod shares;
+#[cfg(test)]
 mod sharing;

@@ -1,43 +1,13 @@
-ghost use Rattle.std.specs.Prelude.{◌≡◌, ℕ, ◌/◌, ◌%◌, ◌∷◌, nat_eq, replicate};
-ghost use Rattle.std.proofs.Common.{rules};
+ghost use Rattle.std.specs.Prelude.{◌≡◌, ◌%◌, replicate};
 
 use crate::alike::Alike;
-use memo_core::{Did, Fill, Fit, MemoCore, NAME_BYTES, Name, Namer, Probe};
+use crate::pieces::{Bytes, Piece, Pieces};
+use memo_core::{Did, Fill, MemoCore, NAME_BYTES, Name, Namer, Probe};
 use std::alloc::Global;
 use std::process::Abort;
 use std::sync::Arc;
 use std::test::Fail;
 use text_place::NoMemory;
-
-// A value with a weight of its own.
-#[derive(Drop)]
-struct Piece {
-    weight: u64,
-}
-
-// Any piece fits any number.
-#[derive(Drop)]
-struct Pieces;
-
-impl Fit for Pieces {
-    type Key = u32;
-
-    type Value = Piece;
-
-    ghost fits = { λ key piece. Unit {0} };
-
-    ghost weighs = { λ piece. piece.weight };
-
-    ghost same_key = { nat_eq };
-
-    fn same(&self, a: &u32, b: &u32) -> bool {
-        *a == *b
-    }
-
-    ghost same_is = { Prim.search rules };
-
-    ghost same_refl = { Prim.search rules };
-}
 
 // Names a key by its last bit.
 #[derive(Drop)]
@@ -48,21 +18,6 @@ impl Namer<u32> for Parity {
 
     fn name(&self, key: &u32) -> Name {
         [(*key % 2) as u8; NAME_BYTES]
-    }
-}
-
-// Names a key by two of its bytes.
-#[derive(Drop)]
-struct Bytes;
-
-impl Namer<u32> for Bytes {
-    ghost name_of = { λ key. key / 256 % 256 ∷ key % 256 ∷ replicate 30 0 };
-
-    fn name(&self, key: &u32) -> Name {
-        let mut name = [0; NAME_BYTES];
-        name[0] = (*key / 256 % 256) as u8;
-        name[1] = (*key % 256) as u8;
-        name
     }
 }
 
@@ -98,7 +53,7 @@ fn check<N: Namer<u32>>(
     weight: u64,
     evicted: u64,
 ) -> Result<(), Fail> {
-    let mut core = MemoCore::new(alloc, Pieces, namer, budget)?;
+    let mut core = MemoCore::new(alloc, Pieces, namer, budget, 0)?;
     for (key, offered, did) in rows {
         let key = Arc::new(alloc, *key)?;
         core.room(alloc)?;
@@ -118,6 +73,8 @@ fn check<N: Namer<u32>>(
         assert_eq!(rt; item.caller, 7);
     }
     assert_eq!(rt; core.weight(), weight);
+    assert_eq!(rt; core.weight_of(7), weight);
+    assert_eq!(rt; core.weight_of(8), 0);
     assert_eq!(rt; core.evicted(), evicted);
     Ok(())
 }
@@ -210,7 +167,7 @@ fn a_budget_of_zero_keeps_what_weighs_nothing(rt: HostRuntime) -> Result<(), Fai
 #[test]
 fn keeps_4096_entries(rt: HostRuntime) -> Result<(), Fail> {
     let alloc = rt.alloc();
-    let mut core = MemoCore::new(alloc, Pieces, Bytes, 0)?;
+    let mut core = MemoCore::new(alloc, Pieces, Bytes, 0, 0)?;
     for key in 0..4097 {
         let key = Arc::new(alloc, key)?;
         core.room(alloc)?;
@@ -228,7 +185,7 @@ fn keeps_4096_entries(rt: HostRuntime) -> Result<(), Fail> {
 #[test]
 fn a_held_key_keeps_its_value(rt: HostRuntime) -> Result<(), Fail> {
     let alloc = rt.alloc();
-    let mut core = MemoCore::new(alloc, Pieces, Bytes, 10)?;
+    let mut core = MemoCore::new(alloc, Pieces, Bytes, 10, 0)?;
     let key = Arc::new(alloc, 1)?;
     for weight in [4, 6] {
         core.room(alloc)?;

@@ -113,12 +113,18 @@ fn compare(rt: &impl Abort, world: &World<Fives, Alike, Pair>, journal: &[Noted]
 }
 
 // Takes the events one by one and as a whole run, and compares.
-fn check(rt: &impl Abort, alloc: Global, rows: &[Row], journal: &[Noted]) -> Result<(), Fail> {
+fn check(
+    rt: &impl Abort,
+    alloc: Global,
+    share: u64,
+    rows: &[Row],
+    journal: &[Noted],
+) -> Result<(), Fail> {
     let key = Arc::new(alloc, 1)?;
     let work = Pair {
         key: Arc::try_clone(&key)?,
     };
-    let mut world = World::new(alloc, Fives, Alike, work, 2, 10)?;
+    let mut world = World::new(alloc, Fives, Alike, work, 2, 10, share)?;
     let mut events = Vec::new(alloc);
     for (client, act, stepped) in rows {
         let event = Event {
@@ -130,7 +136,16 @@ fn check(rt: &impl Abort, alloc: Global, rows: &[Row], journal: &[Noted]) -> Res
         assert!(rt; answer == *stepped, "at event {}", events.len());
     }
     compare(rt, &world, journal);
-    let world = run(alloc, Fives, Alike, Pair { key }, 2, 10, events.as_slice())?;
+    let world = run(
+        alloc,
+        Fives,
+        Alike,
+        Pair { key },
+        2,
+        10,
+        share,
+        events.as_slice(),
+    )?;
     compare(rt, &world, journal);
     Ok(())
 }
@@ -146,6 +161,7 @@ fn both_miss(rt: HostRuntime) -> Result<(), Fail> {
     check(
         &rt,
         rt.alloc(),
+        0,
         &[
             (0, Act::Command, Stepped::Taken),
             (1, Act::Command, Stepped::Taken),
@@ -172,6 +188,7 @@ fn one_is_hit(rt: HostRuntime) -> Result<(), Fail> {
     check(
         &rt,
         rt.alloc(),
+        5,
         &[
             (0, Act::Reply, Stepped::NotReady),
             (2, Act::Command, Stepped::NotReady),

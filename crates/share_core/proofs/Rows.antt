@@ -38,7 +38,7 @@ abbrev event : ℕ → Act → Event
 event client act = record { client = client; act = act }
 
 abbrev entry : Entry ℕ ℕ
-entry = record { mark = record { name = 0 ∷ []; key = 7; weight = 5 }; value = 5 }
+entry = record { mark = record { name = 0 ∷ []; key = 7; weight = 5; owner = 0 }; value = 5 }
 
 abbrev part : Option (List (Node ℕ)) → List ℕ → Part ℕ ℕ
 part nodes replies = record { nodes = nodes; replies = replies }
@@ -54,7 +54,7 @@ answered = part None (35 ∷ [])
 
 abbrev machine : List (Entry ℕ ℕ) → List (Item ℕ) → Part ℕ ℕ → Part ℕ ℕ → Machine ℕ ℕ ℕ
 machine entries journal first second = record {
-  memo = record { entries = entries; budget = 10; journal = journal; spare = 0 };
+  memo = record { entries = entries; budget = 10; share = 0; journal = journal; spare = 0 };
   parts = first ∷ second ∷ [];
 }
 
@@ -73,7 +73,7 @@ both_miss =
     event 0 Command ∷ event 1 Command ∷ event 0 (Probe 0) ∷ event 1 (Probe 0) ∷ event 0 (Build 0)
     ∷ event 0 (Fill 0) ∷ event 1 (Build 0) ∷ event 1 (Fill 0) ∷ event 1 Reply ∷ event 0 Reply ∷ []
 
-both_answer : TwoRun (first_machine 2 10) both_miss both_miss
+both_answer : TwoRun (first_machine 2 10 0) both_miss both_miss
     (machine (entry ∷ []) (miss 0 ∷ miss 1 ∷ kept 0 ∷ kept 1 ∷ []) answered answered)
 both_answer =
     inr (
@@ -183,7 +183,7 @@ one_hit_taken =
     event 0 Command ∷ event 1 Command ∷ event 0 (Probe 0) ∷ event 0 (Build 0) ∷ event 0 (Fill 0)
     ∷ event 1 (Probe 0) ∷ event 1 Reply ∷ event 0 Reply ∷ []
 
-one_is_hit : TwoRun (first_machine 2 10) one_hit one_hit_taken
+one_is_hit : TwoRun (first_machine 2 10 0) one_hit one_hit_taken
     (machine (entry ∷ []) (miss 0 ∷ kept 0 ∷ hit 1 ∷ []) answered answered)
 one_is_hit =
     inr (
@@ -270,14 +270,14 @@ one_is_hit =
 
 -- ---- what is not possible
 -- of a client that there isn't
-no_client : is_possible tasks (first_machine 2 10) (event 2 Command) ≡ false
+no_client : is_possible tasks (first_machine 2 10 0) (event 2 Command) ≡ false
 no_client = refl
 
 -- between commands, or with no command left
-nothing_to_reply : is_possible tasks (first_machine 2 10) (event 0 Reply) ≡ false
+nothing_to_reply : is_possible tasks (first_machine 2 10 0) (event 0 Reply) ≡ false
 nothing_to_reply = refl
 
-nothing_to_probe : is_possible tasks (first_machine 2 10) (event 0 (Probe 0)) ≡ false
+nothing_to_probe : is_possible tasks (first_machine 2 10 0) (event 0 (Probe 0)) ≡ false
 nothing_to_probe = refl
 
 no_command_left : is_possible tasks (machine [] [] answered idle) (event 0 Command) ≡ false
@@ -305,7 +305,7 @@ not_there_yet = refl
 -- ---- a fill that is too heavy is noted, and its node is there all the same
 abbrev without_budget : List (Item ℕ) → Part ℕ ℕ → Machine ℕ ℕ ℕ
 without_budget journal first = record {
-  memo = record { entries = []; budget = 4; journal = journal; spare = 0 };
+  memo = record { entries = []; budget = 4; share = 0; journal = journal; spare = 0 };
   parts = first ∷ [];
 }
 

@@ -1,11 +1,12 @@
 -- What whole runs leave.
-use Rattle.std.proofs.Common.{◌≡◌, ℕ, zero, suc, ◌+◌, ◌-◌, ◌<◌, ◌≤◌, take, Bool, true, false, cond, inl, inr, List, [], ◌∷◌, ◌++◌, length, refl, ap, sym, subst, ◌∙◌, arith, Some, replicate, set, nat_eq}
-use Rattle.std.specs.Prelude.{slice_get, if◌then◌else◌, nat_lt}
+use Rattle.std.proofs.Common.{◌≡◌, ℕ, zero, suc, ◌+◌, ◌-◌, ◌<◌, ◌≤◌, take, Bool, true, false, cond, inl, inr, List, [], ◌∷◌, ◌++◌, length, refl, ap, sym, subst, ◌∙◌, arith, Some, None, replicate, set, nat_eq}
+use Rattle.std.specs.Prelude.{Option, slice_get, if◌then◌else◌}
+use Rattle.std.specs.Option.{option_map_or}
 use Rattle.std.proofs.lemmas.Option.{none-some, same_Some}
 use Rattle.std.proofs.lemmas.List.{map-append, append-nil, append_assoc, length-append}
 use Rattle.std.proofs.lemmas.Bool.Decides.{nat_tests}
-use Rattle.memo_core.specs.Memo.{Fill_said, Entry, holds, fill_said, pushed, mark_of}
-use Rattle.memo_core.specs.Views.{Core, mark_in}
+use Rattle.memo_core.specs.Memo.{Fill_said, Entry, holds, offered, fill_said}
+use Rattle.memo_core.specs.Views.{Core, mark_in, new_entry}
 use Rattle.share_core.specs.Views.{Part, Tasks, Machine}
 use Rattle.share_core.specs.Fields.{AreRepliesFrom, nobody}
 use Rattle.share_core.specs.Steps.{Answers, Steps, Changes, is_possible, key_at, first_machine}
@@ -32,12 +33,12 @@ module _ {K V R : Type 0} (tasks : Tasks K V R) where
       ∙ sym (append_assoc (call_by tasks t.client (replies_in t.client before) t.act) (calls_after tasks (before ++ t ∷ []) ts) _)
 
 -- a fill's item is a fill
-fill_fills : {K V : Type 0} (same : K → K → Bool) (budget : ℕ) (new : Entry K V) (es : List (Entry K V)) → fills (fill_said same mark_in budget new es) ≡ true
-fill_fills same budget new es = go (nat_lt budget new.mark.weight) (holds same mark_in new.mark.key es) where
-  go : (b c : Bool) → fills (cond b (Fill_said new.mark.weight false 0) (cond c (Fill_said new.mark.weight true 0) (Fill_said new.mark.weight true (length es + 1 - length (pushed mark_in budget new es))))) ≡ true
-  go true c = refl
-  go false true = refl
-  go false false = refl
+fill_fills : {K V : Type 0} (same : K → K → Bool) (budget share : ℕ) (new : Entry K V) (es : List (Entry K V)) → fills (fill_said same mark_in budget share new es) ≡ true
+fill_fills {K} {V} same budget share new es = go (offered same mark_in budget share new es) where
+  go : (o : Option (List (Entry K V)))
+      → fills (option_map_or (λ kept. Fill_said new.mark.weight true (cond (holds same mark_in new.mark.key es) 0 (length es + 1 - length kept))) o (Fill_said new.mark.weight false 0)) ≡ true
+  go None = refl
+  go (Some kept) = refl
 
 module _ {K V R : Type 0} (same : K → K → Bool) (name_of : K → List ℕ) (fits : K → V → Type 0) (weighs : V → ℕ) (tasks : Tasks K V R) where
   -- the calls that an act makes
@@ -47,9 +48,9 @@ module _ {K V R : Type 0} (same : K → K → Bool) (name_of : K → List ℕ) (
   act_calls client (Probe k) m p n q c = ap (λ x. calls_of x.journal) c.0 ∙ map-append call_of m.journal _
   act_calls client (Build k) m p n q c = ap (λ x. calls_of x.journal) c.4 ∙ sym (append-nil _)
   act_calls client (Fill k) m p n q c =
-      let new : Entry K V = record { mark = mark_of same name_of m.budget (key_at tasks client k p) c.1; value = c.0 } in
+      let new : Entry K V = new_entry name_of client (key_at tasks client k p) c.0 c.1 in
       ap (λ x. calls_of x.journal) c.3 ∙ map-append call_of m.journal _
-      ∙ ap (λ (b : Bool). calls_of m.journal ++ record { caller = client; key = key_at tasks client k p; is_fill = b } ∷ []) (fill_fills same m.budget new m.entries)
+      ∙ ap (λ (b : Bool). calls_of m.journal ++ record { caller = client; key = key_at tasks client k p; is_fill = b } ∷ []) (fill_fills same m.budget m.share new m.entries)
   act_calls client Reply m p n q c = ap (λ x. calls_of x.journal) c.0 ∙ sym (append-nil _)
 
   -- the replies that an act gives
@@ -90,24 +91,28 @@ module _ {K V R : Type 0} (same : K → K → Bool) (name_of : K → List ℕ) (
   passed_more m (x ∷ xs) ts n e n' (inl r) p s = inl (r.0, passed_more m xs ts n e n' r.1 p s)
   passed_more m (x ∷ xs) ts n e n' (inr r) p s = inr (r.0, (r.1.0, r.1.1, r.1.2, r.1.3, passed_more r.1.0 xs r.1.1 n e n' r.1.4 p s))
 
-  -- no act changes the budget
-  pub act_budget : (client : ℕ) (act : Act) (m : Core K V) (p : Part V R) (n : Core K V) (q : Part V R) → Changes same name_of fits weighs tasks client act m p n q
-      → n.budget ≡ m.budget
-  act_budget client Command m p n q c = ap (λ x. x.budget) c.0
-  act_budget client (Probe k) m p n q c = ap (λ x. x.budget) c.0
-  act_budget client (Build k) m p n q c = ap (λ x. x.budget) c.4
-  act_budget client (Fill k) m p n q c = ap (λ x. x.budget) c.3
-  act_budget client Reply m p n q c = ap (λ x. x.budget) c.0
+  -- no act changes the budget or the share
+  pub act_limits : (client : ℕ) (act : Act) (m : Core K V) (p : Part V R) (n : Core K V) (q : Part V R) → Changes same name_of fits weighs tasks client act m p n q
+      → (n.budget ≡ m.budget) × (n.share ≡ m.share)
+  act_limits client Command m p n q c = (ap (λ x. x.budget) c.0, ap (λ x. x.share) c.0)
+  act_limits client (Probe k) m p n q c = (ap (λ x. x.budget) c.0, ap (λ x. x.share) c.0)
+  act_limits client (Build k) m p n q c = (ap (λ x. x.budget) c.4, ap (λ x. x.share) c.4)
+  act_limits client (Fill k) m p n q c = (ap (λ x. x.budget) c.3, ap (λ x. x.share) c.3)
+  act_limits client Reply m p n q c = (ap (λ x. x.budget) c.0, ap (λ x. x.share) c.0)
 
   -- nor does a run
-  pub run_budget : (m : Machine K V R) (es ts : List Event) (n : Machine K V R) → Runs same name_of fits weighs tasks m es ts n → n.memo.budget ≡ m.memo.budget
-  run_budget m [] ts n r = ap (λ x. x.memo.budget) r.1
-  run_budget m (x ∷ xs) ts n (inl r) = run_budget m xs ts n r.1
-  run_budget m (x ∷ xs) ts n (inr r) = let s = r.1.2 in run_budget r.1.0 xs r.1.1 n r.1.4 ∙ act_budget x.client x.act m.memo s.0 r.1.0.memo s.1 s.3
+  pub run_limits : (m : Machine K V R) (es ts : List Event) (n : Machine K V R) → Runs same name_of fits weighs tasks m es ts n → (n.memo.budget ≡ m.memo.budget) × (n.memo.share ≡ m.memo.share)
+  run_limits m [] ts n r = (ap (λ x. x.memo.budget) r.1, ap (λ x. x.memo.share) r.1)
+  run_limits m (x ∷ xs) ts n (inl r) = run_limits m xs ts n r.1
+  run_limits m (x ∷ xs) ts n (inr r) =
+      let s = r.1.2 in
+      let rest = run_limits r.1.0 xs r.1.1 n r.1.4 in
+      let here = act_limits x.client x.act m.memo s.0 r.1.0.memo s.1 s.3 in
+      (rest.0 ∙ here.0, rest.1 ∙ here.1)
 
   -- at first nothing has happened
-  pub first_leaves : (clients budget : ℕ) → Leaves tasks [] (first_machine clients budget)
-  first_leaves clients budget = record {
+  pub first_leaves : (clients budget share : ℕ) → Leaves tasks [] (first_machine clients budget share)
+  first_leaves clients budget share = record {
     calls = refl;
     count = λ client part e. ap (λ x. length x.replies) (of_nobody clients client part e);
     answered = λ client part e. subst (λ x. AreRepliesFrom (tasks.reply client) 0 x.replies) (sym (of_nobody clients client part e)) tt;

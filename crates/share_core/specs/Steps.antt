@@ -123,5 +123,5 @@ module _ {K V R : Type 0} (same : K → K → Bool) (name_of : K → List ℕ) (
 module _ {K V R : Type 0} where
   -- the first machine: no entries and an empty journal, and every client is between commands, with no
   -- replies
-  abbrev pub first_machine : ℕ → ℕ → Machine K V R
-  first_machine clients budget = record { memo = record { entries = []; budget = budget; journal = []; spare = 0 }; parts = replicate clients nobody }
+  abbrev pub first_machine : ℕ → ℕ → ℕ → Machine K V R
+  first_machine clients budget share = record { memo = record { entries = []; budget = budget; share = share; journal = []; spare = 0 }; parts = replicate clients nobody }

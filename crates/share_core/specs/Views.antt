@@ -32,7 +32,7 @@ pub record Machine (K V R : Type 0) : Type 0 where
 module _ {K V : Type 0} where
   -- a memo without the room of its journal, which is no part of the state
   abbrev pub settled : Core K V → Core K V
-  settled core = record { entries = core.entries; budget = core.budget; journal = core.journal; spare = 0 }
+  settled core = record { entries = core.entries; budget = core.budget; share = core.share; journal = core.journal; spare = 0 }
 
 module _ {K V : Type 0} where
   -- each value that is there fits its node's key

@@ -55,11 +55,12 @@ impl<F: Fit, N: Namer<F::Key>, W: Work<F>> World<F, N, W> {
         work: W,
         clients: u32,
         budget: u64,
+        share: u64,
     ) -> Result<World<F, N, W>, NoMemory>
         ensures work { IfOk result (λ w. w.0 ≡ work) }
-        ensures first { IfOk result (λ w. w.1 ≡ first_machine clients budget) }
+        ensures first { IfOk result (λ w. w.1 ≡ first_machine clients budget share) }
     {
-        let memo = MemoCore::new(alloc, fit, namer, budget)?;
+        let memo = MemoCore::new(alloc, fit, namer, budget, share)?;
         let parts = nobodies(alloc, clients)?;
         Ok(World { memo, work, parts })
     }
@@ -93,10 +94,11 @@ impl<F: Fit, N: Namer<F::Key>, W: Work<F>> World<F, N, W> {
     /// The journal of the memo. Takes no memory.
     pub fn journal(&self) -> &[JournalItem<F::Key>]
         ensures is { items_of result.now ≡ self.now.1.memo.journal }
-        ensures legal { IsLegal F.same_key N.name_of self.now.1.memo.budget []
-            self.now.1.memo.journal }
+        ensures legal { IsLegal F.same_key N.name_of self.now.1.memo.budget
+            self.now.1.memo.share [] self.now.1.memo.journal }
         ensures replayed { marks self.now.1.memo.entries ≡
-            replay F.same_key N.name_of self.now.1.memo.budget [] self.now.1.memo.journal }
+            replay F.same_key N.name_of self.now.1.memo.budget self.now.1.memo.share []
+            self.now.1.memo.journal }
     {
         self.memo.journal()
     }
@@ -148,19 +150,21 @@ pub fn run<F: Fit, N: Namer<F::Key>, W: Work<F>>(
     work: W,
     clients: u32,
     budget: u64,
+    share: u64,
     events: &[Event],
 ) -> Result<World<F, N, W>, NoMemory>
     ensures work { IfOk result (λ w. w.0 ≡ work) }
     ensures clients { IfOk result (λ w. length w.1.parts ≡ clients) }
     ensures runs { IfOk result (λ w. (taken : List Event)
         × Runs F.same_key N.name_of F.fits F.weighs (W.tasks work)
-        (first_machine clients budget) events.now taken w.1
+        (first_machine clients budget share) events.now taken w.1
         × Leaves (W.tasks work) taken w.1) }
-    ensures legal { IfOk result (λ w. IsLegal F.same_key N.name_of budget [] w.1.memo.journal) }
+    ensures legal { IfOk result (λ w. IsLegal F.same_key N.name_of budget share []
+        w.1.memo.journal) }
     ensures replayed { IfOk result (λ w. marks w.1.memo.entries ≡
-        replay F.same_key N.name_of budget [] w.1.memo.journal) }
+        replay F.same_key N.name_of budget share [] w.1.memo.journal) }
 {
-    let mut world = World::new(alloc, fit, namer, work, clients, budget)?;
+    let mut world = World::new(alloc, fit, namer, work, clients, budget, share)?;
     for event in events {
         world.step(alloc, *event)?;
     }
@@ -169,8 +173,8 @@ pub fn run<F: Fit, N: Namer<F::Key>, W: Work<F>>(
 }
 
 /// Isolation: two works that agree on a client's commands give that client equal replies, for as
-/// many commands as both answered, whatever the other clients, the names, the budgets and the
-/// events are.
+/// many commands as both answered, whatever the other clients, the names, the budgets, the
+/// shares and the events are.
 pub fn isolated<
     F: Fit,
     N: Namer<F::Key>,

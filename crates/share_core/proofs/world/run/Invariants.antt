@@ -8,5 +8,5 @@ abbrev pub invariant-loop-event : goal.invariant-loop-event
 invariant-loop-event g l =
     (l.world.0 ≡ l.fn.work) × (length l.world.1.parts ≡ l.fn.clients)
     × ((taken : List Event)
-    × Runs g.F.Fit.same_key g.N.Namer.name_of g.F.Fit.fits g.F.Fit.weighs (g.W.Work.tasks l.fn.work) (first_machine l.fn.clients l.fn.budget) (take l.event-index l.events) taken l.world.1
+    × Runs g.F.Fit.same_key g.N.Namer.name_of g.F.Fit.fits g.F.Fit.weighs (g.W.Work.tasks l.fn.work) (first_machine l.fn.clients l.fn.budget l.fn.share) (take l.event-index l.events) taken l.world.1
     × Leaves (g.W.Work.tasks l.fn.work) taken l.world.1)

@@ -1,4 +1,4 @@
-use Rattle.std.proofs.Common.{rules, ◌≡◌, ◌∙◌, sym, ap, arith, subst, List, ℕ, option_map, ◌-◌}
+use Rattle.std.proofs.Common.{rules, ◌≡◌, ◌∙◌, sym, ap, arith, subst, List, ℕ, option_map, ◌-◌, refl}
 use Rattle.std.specs.Prelude.{vec_len, vec_capacity, cond}
 use Rattle.std.specs.Arc.{arc_value}
 use Rattle.lru.specs.LruCache.{promoted}
@@ -8,43 +8,59 @@ use Rattle.memo_core.specs.Memo.{same_name, brought_to_front, has_key, holds, fi
 use Rattle.std.specs.Map.{lookup}
 use Rattle.memo_core.proofs.Hits.{value_is}
 use Rattle.memo_core.proofs.Probed.{touched, probed_is, probed_kept, some_first, is_some_map, first_fits}
+use Rattle.memo_core.proofs.Shelves.{shelf_touched}
+use Rattle.memo_core.proofs.Rooms.{stand_same, stand_front}
 use Rattle.memo_core.proofs.memo.MemoCore.probe.Goals as goal
 
 named : (g : _) (c : goal.After-answer g) → c.name-name.result ≡ g.N.Namer.name_of (arc_value c.args.key.now)
 named g c = search rules
 
-found : (g : _) (c : goal.After-answer g) → option_map arc_value c.in_ok-found.found ≡ value_at g.F.Fit.same_key (arc_value c.args.key.now) (lookup (same_name (g.N.Namer.name_of (arc_value c.args.key.now))) c.self.inside.cache.entries)
-found g c = subst (λ (n : List ℕ). option_map arc_value c.in_ok-found.found ≡ value_at g.F.Fit.same_key (arc_value c.args.key.now) (lookup (same_name n) c.self.inside.cache.entries)) (named g c) (search rules)
+found : (g : _) (c : goal.After-answer g) → option_map arc_value c.in_ok-found.found ≡ value_at g.F.Fit.same_key (arc_value c.args.key.now) (lookup (same_name (g.N.Namer.name_of (arc_value c.args.key.now))) c.self.inside.shelf.cache.entries)
+found g c = subst (λ (n : List ℕ). option_map arc_value c.in_ok-found.found ≡ value_at g.F.Fit.same_key (arc_value c.args.key.now) (lookup (same_name n) c.self.inside.shelf.cache.entries)) (named g c) (search rules)
 
 touch : (g : _) (c : goal.After-answer g)
-    → (entries_of c.touch.new.cache.entries ≡ brought_to_front (has_key g.F.Fit.same_key mark_in (arc_value c.args.key.now)) (entries_of c.self.inside.cache.entries))
-    × (c.is_some-hit.result ≡ holds g.F.Fit.same_key mark_in (arc_value c.args.key.now) (entries_of c.self.inside.cache.entries))
-touch g c = touched g.F.Fit.same_key g.N.Namer.name_of g.met.F.Fit.same_is (arc_value c.args.key.now) c.self.inside.cache.entries c.touch.new.cache.entries (option_map arc_value c.in_ok-found.found) c.is_some-hit.result
-    c.self.invariant.sound.named c.in_ok-found.ensures.distinct (found g c) (c.is_some-hit.ensures ∙ sym (is_some_map arc_value c.in_ok-found.found)) (subst (λ (n : List ℕ). c.touch.new.cache.entries ≡ cond c.is_some-hit.result (promoted (same_name n) c.self.inside.cache.entries) c.self.inside.cache.entries) (named g c) c.touch.ensures.entries)
+    → (entries_of c.touch.new.cache.entries ≡ brought_to_front (has_key g.F.Fit.same_key mark_in (arc_value c.args.key.now)) (entries_of c.self.inside.shelf.cache.entries))
+    × (c.is_some-hit.result ≡ holds g.F.Fit.same_key mark_in (arc_value c.args.key.now) (entries_of c.self.inside.shelf.cache.entries))
+touch g c = touched g.F.Fit.same_key g.N.Namer.name_of g.met.F.Fit.same_is (arc_value c.args.key.now) c.self.inside.shelf.cache.entries c.touch.new.cache.entries (option_map arc_value c.in_ok-found.found) c.is_some-hit.result
+    c.self.invariant.sound.named c.in_ok-found.ensures.distinct (found g c) (c.is_some-hit.ensures ∙ sym (is_some_map arc_value c.in_ok-found.found)) (subst (λ (n : List ℕ). c.touch.new.cache.entries ≡ cond c.is_some-hit.result (promoted (same_name n) c.self.inside.shelf.cache.entries) c.self.inside.shelf.cache.entries) (named g c) c.touch.ensures.entries)
 
 core : (g : _) (c : goal.After-answer g)
     → ◌≡◌ {A = Core g.row.F-Key.Denot g.row.F-Value.Denot}
-    (record { entries = entries_of c.touch.new.cache.entries; budget = c.self.inside.budget; journal = items_of c.push_reserved.new.self.items; spare = vec_capacity c.push_reserved.new.self - vec_len c.push_reserved.new.self })
-    (after_probe g.F.Fit.same_key c.args.caller (arc_value c.args.key.now) (record { entries = entries_of c.self.inside.cache.entries; budget = c.self.inside.budget; journal = items_of c.self.inside.journal.items; spare = vec_capacity c.self.inside.journal - vec_len c.self.inside.journal }))
-core g c = probed_is g.F.Fit.same_key g.N.Namer.name_of g.met.F.Fit.same_is (arc_value c.args.key.now) c.args.caller c.self.inside.budget (vec_capacity c.self.inside.journal - vec_len c.self.inside.journal) (vec_capacity c.push_reserved.new.self - vec_len c.push_reserved.new.self)
-    c.self.inside.cache.entries c.touch.new.cache.entries c.self.inside.journal.items c.push_reserved.new.self.items _ c.is_some-hit.result
+    (record { entries = entries_of c.touch.new.cache.entries; budget = c.self.inside.limits.budget; share = c.self.inside.limits.share; journal = items_of c.push_reserved.new.self.items; spare = vec_capacity c.push_reserved.new.self - vec_len c.push_reserved.new.self })
+    (after_probe g.F.Fit.same_key c.args.caller (arc_value c.args.key.now) (record { entries = entries_of c.self.inside.shelf.cache.entries; budget = c.self.inside.limits.budget; share = c.self.inside.limits.share; journal = items_of c.self.inside.journal.items; spare = vec_capacity c.self.inside.journal - vec_len c.self.inside.journal }))
+core g c = probed_is g.F.Fit.same_key g.N.Namer.name_of g.met.F.Fit.same_is (arc_value c.args.key.now) c.args.caller c.self.inside.limits.budget c.self.inside.limits.share (vec_capacity c.self.inside.journal - vec_len c.self.inside.journal) (vec_capacity c.push_reserved.new.self - vec_len c.push_reserved.new.self)
+    c.self.inside.shelf.cache.entries c.touch.new.cache.entries c.self.inside.journal.items c.push_reserved.new.self.items _ c.is_some-hit.result
     (touch g c).0 (touch g c).1 c.push_reserved.ensures.items (search rules) (omega (arith, c.push_reserved.ensures.len, c.push_reserved.ensures.capacity))
 
 pub invariant_of-self : goal.invariant_of-self
 invariant_of-self g c =
-    probed_kept g.F.Fit.same_key g.N.Namer.name_of g.met.F.Fit.same_is (arc_value c.args.key.now) g.F.Fit.fits g.F.Fit.weighs c.args.caller c.self.inside.budget (vec_capacity c.self.inside.journal - vec_len c.self.inside.journal) (vec_capacity c.push_reserved.new.self - vec_len c.push_reserved.new.self)
-    c.self.inside.cache.cap c.touch.new.cache.cap c.self.inside.weight c.self.inside.evicted c.self.inside.cache.entries c.touch.new.cache.entries (items_of c.self.inside.journal.items) (items_of c.push_reserved.new.self.items)
-    c.self.invariant (touch g c).0 c.touch.ensures.distinct c.touch.ensures.cap (core g c)
+    let hit = c.is_some-hit.result in
+    let same_names = subst (λ (n : List ℕ). c.touch.new.cache.entries ≡ cond hit (promoted (same_name n) c.self.inside.shelf.cache.entries) c.self.inside.shelf.cache.entries) (named g c) c.touch.ensures.entries in
+    probed_kept g.F.Fit.same_key g.N.Namer.name_of g.met.F.Fit.same_is (arc_value c.args.key.now) g.F.Fit.fits g.F.Fit.weighs c.args.caller c.self.inside.limits.share (vec_capacity c.self.inside.journal - vec_len c.self.inside.journal) (vec_capacity c.push_reserved.new.self - vec_len c.push_reserved.new.self)
+    c.self.inside.evicted c.self.inside.shelf _ (items_of c.self.inside.journal.items) (items_of c.push_reserved.new.self.items) c.self.inside.limits.budget
+    c.self.invariant (touch g c).0 c.touch.ensures.distinct
+    (shelf_touched c.self.inside.limits.budget (same_name (g.N.Namer.name_of (arc_value c.args.key.now))) hit c.self.inside.shelf _ c.self.invariant.shelved same_names c.touch.ensures.cap refl refl) (core g c)
 
-value : (g : _) (c : goal.After-answer g) → value_in c.answer.result ≡ option_map (λ e. e.value) (first_with (has_key g.F.Fit.same_key mark_in (arc_value c.args.key.now)) (entries_of c.self.inside.cache.entries))
-value g c = c.answer.ensures.value ∙ (found g c ∙ value_is g.F.Fit.same_key g.N.Namer.name_of g.met.F.Fit.same_is (arc_value c.args.key.now) c.self.inside.cache.entries c.self.invariant.sound.named c.in_ok-found.ensures.distinct)
+value : (g : _) (c : goal.After-answer g) → value_in c.answer.result ≡ option_map (λ e. e.value) (first_with (has_key g.F.Fit.same_key mark_in (arc_value c.args.key.now)) (entries_of c.self.inside.shelf.cache.entries))
+value g c = c.answer.ensures.value ∙ (found g c ∙ value_is g.F.Fit.same_key g.N.Namer.name_of g.met.F.Fit.same_is (arc_value c.args.key.now) c.self.inside.shelf.cache.entries c.self.invariant.sound.named c.in_ok-found.ensures.distinct)
 
 pub returns-clause-found : goal.returns-clause-found
 returns-clause-found g c = value g c ∙ ap (λ (x : Core g.row.F-Key.Denot g.row.F-Value.Denot). option_map (λ e. e.value) (first_with (has_key g.F.Fit.same_key mark_in (arc_value c.args.key.now)) x.entries)) c.self.view_is
 
 pub returns-clause-fits : goal.returns-clause-fits
 returns-clause-fits g c =
-    some_first (g.F.Fit.fits (arc_value c.args.key.now)) (λ e. e.value) _ _ (value g c) (first_fits g.F.Fit.same_key g.N.Namer.name_of g.met.F.Fit.same_is (arc_value c.args.key.now) g.F.Fit.fits (entries_of c.self.inside.cache.entries) c.self.invariant.sound.fit)
+    some_first (g.F.Fit.fits (arc_value c.args.key.now)) (λ e. e.value) _ _ (value g c) (first_fits g.F.Fit.same_key g.N.Namer.name_of g.met.F.Fit.same_is (arc_value c.args.key.now) g.F.Fit.fits (entries_of c.self.inside.shelf.cache.entries) c.self.invariant.sound.fit)
 
 pub returns-clause-core : goal.returns-clause-core
 returns-clause-core g c = core g c ∙ ap (after_probe g.F.Fit.same_key c.args.caller (arc_value c.args.key.now)) c.self.view_is
+
+pub returns-in_err-found-clause-stand : goal.returns-in_err-found-clause-stand
+returns-in_err-found-clause-stand g c owner = stand_same mark_in owner c.args.self.now.entries c.args.self.now.entries refl
+
+pub returns-in_err-key-clause-stand : goal.returns-in_err-key-clause-stand
+returns-in_err-key-clause-stand g c owner = stand_same mark_in owner c.args.self.now.entries c.args.self.now.entries refl
+
+pub returns-clause-stand : goal.returns-clause-stand
+returns-clause-stand g c owner =
+    stand_front mark_in (has_key g.F.Fit.same_key mark_in (arc_value c.args.key.now)) owner c.args.self.now.entries _
+    ((touch g c).0 ∙ ap (λ (x : Core g.row.F-Key.Denot g.row.F-Value.Denot). brought_to_front (has_key g.F.Fit.same_key mark_in (arc_value c.args.key.now)) x.entries) c.self.view_is)

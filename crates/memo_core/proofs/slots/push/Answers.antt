@@ -1,0 +1,20 @@
+use Rattle.std.proofs.Common.{rules, arith, refl}
+use Rattle.memo_core.specs.Plans.{IsPlanFor}
+use Rattle.memo_core.proofs.Shelves.{carried_pushed, carried_shorter, shelf_carried}
+use Rattle.memo_core.proofs.slots.push.Goals as goal
+
+pub overflow_sub-evicted : goal.overflow_sub-evicted
+overflow_sub-evicted g c =
+    let p : IsPlanFor c.args.limits.budget c.args.limits.share c.args.name c.args.slot c.args.shelf.now.cache.entries c.in-Some.plan = search rules in
+    let h = carried_shorter c.args.limits.budget c.args.limits.share c.args.name c.args.slot c.args.shelf.now c.requires.shelf c.in-Some.plan p c.stack.new.cache.entries c.drop_named.new.cache.entries (search rules) (search rules) in
+    omega (arith, h, c.len.ensures.len, c.len-before.ensures.len)
+
+pub returns-clause-slots : goal.returns-clause-slots
+returns-clause-slots g c =
+    let p : IsPlanFor c.args.limits.budget c.args.limits.share c.args.name c.args.slot c.args.shelf.now.cache.entries c.in-Some.plan = search rules in
+    carried_pushed c.args.limits.budget c.args.limits.share c.args.name c.args.slot c.args.shelf.now c.requires.shelf c.in-Some.plan p c.stack.new.cache.entries c.drop_named.new.cache.entries (search rules) (search rules)
+
+pub returns-clause-shelf : goal.returns-clause-shelf
+returns-clause-shelf g c =
+    let p : IsPlanFor c.args.limits.budget c.args.limits.share c.args.name c.args.slot c.args.shelf.now.cache.entries c.in-Some.plan = search rules in
+    shelf_carried c.args.limits.budget c.args.limits.share c.args.name c.args.slot c.args.shelf.now c.requires.shelf c.in-Some.plan p c.stack.new.cache.entries _ (search rules) (search rules) (search rules) refl refl

@@ -1,0 +1,84 @@
+-- What a new slot pushes out of a cache, and what is kept beside the cache.
+use Rattle.std.specs.Prelude.{◌≡◌, ℕ, ◌+◌, ◌≤◌, List, [], ◌∷◌, ◌++◌, length, nat_eq, if◌then◌else◌, sum_by, Bool, ◌||◌, nat_lt, false, Some}
+use Rattle.std.specs.List.{AllByRecursion}
+use Rattle.std.specs.Map.{remove_entry}
+use Rattle.memo_core.specs.Memo.{Mark, same_name, owned, room_beside, pushed, entries_max, evicted_in}
+use Rattle.memo_core.specs.Views.{Core, IsSound}
+use Rattle.memo_core.specs.Fields.{entry_of, no_bound, weight_at}
+use Rattle.memo_core.specs.declared.plan.Plan.{Plan}
+use Rattle.memo_core.specs.declared.slots.Slot.{Slot}
+use Rattle.memo_core.specs.declared.slots.Shelf.{Shelf}
+
+module _ {X : Type 0} where
+  -- the pairs that are left after these names went
+  abbrev pub removed : List (List ℕ) → List (List ℕ × X) → List (List ℕ × X)
+  removed [] es = es
+  removed (n ∷ ns) es = removed ns (remove_entry (same_name n) es)
+
+-- all of these names are other ones
+abbrev pub AreOthers : List ℕ → List (List ℕ) → Type 0
+AreOthers name names = AllByRecursion (λ n. same_name n name ≡ false) names
+
+-- whether a plan's numbers say that an owner's slots are free to a caller
+abbrev pub frees_by : (caller share owner : ℕ) → Plan → Bool
+frees_by caller share owner plan = nat_eq owner caller || (nat_eq share 0 || nat_lt share (weight_at owner plan.owners.items))
+
+-- one plan is another without a slot of this name, owner and weight
+pub record IsWithout (name : List ℕ) (owner weight : ℕ) (plan plan' : Plan) : Type 0 where
+  pub names : plan'.names.items ≡ plan.names.items ++ name ∷ []
+  pub total : plan'.total + weight ≡ plan.total
+  pub count : plan'.count + 1 ≡ plan.count
+  pub owned : (other : ℕ) → weight_at other plan'.owners.items + (if nat_eq owner other then weight else 0) ≡ weight_at other plan.owners.items
+
+module _ {K V : Type 0} where
+  -- the mark of the entry that a slot stands for
+  abbrev pub slot_mark : List ℕ × Slot K V → Mark K
+  slot_mark e = (entry_of e).mark
+
+  -- what slots weigh together
+  abbrev pub weight_of_slots : List (List ℕ × Slot K V) → ℕ
+  weight_of_slots es = sum_by (λ e. (slot_mark e).weight) es
+
+  -- what the numbers beside the cache have to do with its slots
+  pub record IsShelf (budget : ℕ) (shelf : Shelf K V) : Type 0 where
+    pub unbounded : shelf.cache.cap ≡ no_bound
+    pub kept_weight : shelf.weight ≡ weight_of_slots shelf.cache.entries
+    pub owned_weights : (owner : ℕ) → weight_at owner shelf.owners.items ≡ owned slot_mark owner shelf.cache.entries
+    pub within : shelf.weight ≤ budget
+    pub few : length shelf.cache.entries ≤ entries_max
+
+  -- what the numbers of a plan have to do with the slots that are left beside a new one of this weight
+  pub record IsPlan (weight : ℕ) (left : List (List ℕ × Slot K V)) (plan : Plan) : Type 0 where
+    pub total : plan.total ≡ weight + weight_of_slots left
+    pub count : plan.count ≡ 1 + length left
+    pub owned_weights : (owner : ℕ) → weight_at owner plan.owners.items ≡ owned slot_mark owner left
+
+  module _ (budget share : ℕ) (name : List ℕ) (slot : Slot K V) (es : List (List ℕ × Slot K V)) where
+    -- the slots that are left after a plan's names went, and the one of the new slot's name
+    abbrev pub left_by : Plan → List (List ℕ × Slot K V)
+    left_by plan = removed plan.names.items (remove_entry (same_name name) es)
+
+    -- a plan that makes room for a new slot
+    pub record HasRoom (plan : Plan) : Type 0 where
+      pub room : room_beside slot_mark budget share (name, slot) (remove_entry (same_name name) es) ≡ Some (left_by plan)
+      pub plan_is : IsPlan slot.weight (left_by plan) plan
+      pub within : plan.total ≤ budget
+      pub few : plan.count ≤ entries_max
+      pub others : AreOthers name plan.names.items
+
+    -- a plan by which a new slot is pushed
+    pub record IsPlanFor (plan : Plan) : Type 0 where
+      pub pushes : pushed slot_mark budget share (name, slot) es ≡ Some ((name, slot) ∷ left_by plan)
+      pub weighs : plan.total ≡ weight_of_slots ((name, slot) ∷ left_by plan)
+      pub within : plan.total ≤ budget
+      pub few : length ((name, slot) ∷ left_by plan) ≤ entries_max
+      pub owned_weights : (owner : ℕ) → weight_at owner plan.owners.items ≡ owned slot_mark owner ((name, slot) ∷ left_by plan)
+      pub others : AreOthers name plan.names.items
+
+module _ {K V : Type 0} where
+  -- what the shelf and the counter of evictions have to do with the entries and the journal
+  pub record IsKept (same : K → K → Bool) (name_of : K → List ℕ) (fits : K → V → Type 0) (weighs : V → ℕ) (shelf : Shelf K V) (evicted : ℕ) (core : Core K V) : Type 0 where
+    pub shelved : IsShelf core.budget shelf
+    pub counted : evicted ≡ evicted_in core.journal
+    pub filled_before : evicted + length core.entries ≤ length core.journal
+    pub sound : IsSound same name_of fits weighs core
