@@ -10,3 +10,5 @@ pub mod Steps
 pub mod Again
 pub mod ProgramNumerals
 pub mod Forms
+pub mod Kept
+pub mod Holding

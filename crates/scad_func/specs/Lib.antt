@@ -4,3 +4,4 @@ pub mod Functions
 pub mod Numerals
 pub mod Slots
 pub mod View
+pub mod Evaluations

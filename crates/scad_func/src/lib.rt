@@ -3,8 +3,10 @@
 
 mod answer;
 mod bind;
-mod evaluate;
+mod evaluation;
+mod evaluator;
 mod functions;
+mod held;
 mod meter;
 mod numerals;
 mod source;

@@ -11,7 +11,7 @@ ghost use Rattle.scad_func.specs.Definitions.{env_in, functions_of_program, modu
 ghost use Rattle.scad_func.specs.Numerals.{has_small_numerals, functions_have_small, program_has_small};
 ghost use Rattle.scad_func.specs.View.{Tells, Grows, functions_held, seen};
 
-use crate::evaluate::expression;
+use crate::evaluation::Evaluation;
 use crate::meter::Meter;
 use crate::source::Source;
 use scad_ast::{Expr, Program};
@@ -24,6 +24,7 @@ use text_place::Stop;
 /// are as before, and its turns have grown by those that were counted; the scopes that were there
 /// are always as they were. TooDeep comes at the 65th call and at the 513th evaluation in one
 /// another, TooManyTurns at turn 100,001.
+#[tactic(auto, using(crate::proofs::Growth::functions_stay, crate::proofs::Growth::modules_stay))]
 pub fn value_in(
     alloc: Global,
     scopes: &mut Scopes,
@@ -49,7 +50,17 @@ pub fn value_in(
     ensures depth { OnOk result (meter.new.depth ≡ meter.old.depth) }
     ensures turns { OnOk result (meter.new.turns ≤ 100000) }
 {
-    expression(alloc, scopes, source, scope, expr, meter)
+    let mut evaluation = Evaluation {
+        alloc,
+        source,
+        scopes,
+        calls: meter.calls,
+        depth: meter.depth,
+        turns: meter.turns,
+    };
+    let value = evaluation.expression(scope, expr);
+    meter.turns = evaluation.turns;
+    value
 }
 
 /// The value of one expression of a program in a scope, or its first fault, as `value_in` gives it.

@@ -1,0 +1,169 @@
+-- Work that is left counts for more than any body is deep; in one call the trees get smaller.
+use Rattle.std.proofs.Common.{◌≡◌, ◌+◌, ◌*◌, ◌≤◌, max, drop, map, length, None, replicate}
+use Rattle.std.specs.Prelude.{IsTrue}
+use Rattle.scad_ast.specs.declared.expression.Expr.{size-Expr}
+use Rattle.scad_ast.specs.declared.expression.Exprs.{size-Exprs}
+use Rattle.scad_ast.specs.declared.expression.Link.{size-Link}
+use Rattle.scad_ast.specs.declared.expression.Links.{size-Links}
+use Rattle.scad_ast.specs.declared.expression.Suffix.{size-Suffix}
+use Rattle.scad_ast.specs.declared.expression.Suffixes.{size-Suffixes}
+use Rattle.scad_ast.specs.declared.expression.Args.{size-Args}
+use Rattle.scad_ast.specs.Terms.{terms_from, args_from, suffixes_from, links_from}
+use Rattle.scad_ast.specs.ExprView.{term_of, terms_of, args_of, arg_of, suffix_of, suffixes_of, link_of, links_of}
+use Rattle.scad_ast.specs.StatementView.{param_of, params_of}
+use Rattle.scad_value.specs.Values.{is_bounded}
+use Rattle.scad_value.specs.View.{val_of, vals_in}
+use Rattle.scad_scope.specs.Names.{env_of}
+use Rattle.scad_scope.specs.Table.{rows_of}
+use Rattle.scad_builtin.specs.Builtins.{are_bounded}
+use Rattle.scad_func.specs.Meaning.{each_value, each_suffix, each_link}
+use Rattle.scad_func.specs.Slots.{each_slot, each_filled, all_values}
+use Rattle.scad_func.specs.Numerals.{terms_have_small, args_have_small, suffixes_have_small, links_have_small, params_have_small}
+use Rattle.scad_func.specs.View.{indexed_val, slots_in, slots_bounded, function_size, param_size, params_size}
+use Rattle.scad_func.specs.Evaluations.{Keeps, work_left, setting}
+use Rattle.scad_func.proofs.Calls.{in_front}
+use Rattle.scad_func.proofs.evaluation.Evaluation.+value.Given as goal
+
+abbrev pub decreases-expression : goal.decreases-expression
+decreases-expression l = work_left l.self.now.source.now l.self.now.calls + (4 * size-Expr l.expr.now + 2)
+
+abbrev pub decreases-deeper : goal.decreases-deeper
+decreases-deeper l = work_left l.self.now.source.now l.self.now.calls + (4 * size-Expr l.expr.now + 1)
+
+abbrev pub decreases-operand : goal.decreases-operand
+decreases-operand l = work_left l.self.now.source.now l.self.now.calls + 4 * size-Expr l.expr.now
+
+abbrev pub decreases-each_value : goal.decreases-each_value
+decreases-each_value l = work_left l.self.now.source.now l.self.now.calls + (4 * size-Exprs l.exprs.now + 2)
+
+abbrev pub decreases-range : goal.decreases-range
+decreases-range l = work_left l.self.now.source.now l.self.now.calls +
+    (4 * max (size-Expr l.from.now) (size-Expr l.upto.now) + 3)
+
+abbrev pub decreases-stepped_range : goal.decreases-stepped_range
+decreases-stepped_range l = work_left l.self.now.source.now l.self.now.calls +
+    (4 * max (size-Expr l.from.now) (max (size-Expr l.by.now) (size-Expr l.upto.now)) + 3)
+
+abbrev pub decreases-postfix : goal.decreases-postfix
+decreases-postfix l = work_left l.self.now.source.now l.self.now.calls +
+    (4 * max (size-Expr l.of.now) (size-Suffixes l.rest.now) + 3)
+
+abbrev pub decreases-suffixes : goal.decreases-suffixes
+decreases-suffixes l = work_left l.self.now.source.now l.self.now.calls + (4 * size-Suffixes l.rest.now + 2)
+
+abbrev pub decreases-suffix : goal.decreases-suffix
+decreases-suffix l = work_left l.self.now.source.now l.self.now.calls + (4 * size-Suffix l.part.now + 1)
+
+abbrev pub decreases-chain : goal.decreases-chain
+decreases-chain l = work_left l.self.now.source.now l.self.now.calls +
+    (4 * max (size-Expr l.first.now) (size-Links l.rest.now) + 3)
+
+abbrev pub decreases-links : goal.decreases-links
+decreases-links l = work_left l.self.now.source.now l.self.now.calls + (4 * size-Links l.rest.now + 2)
+
+abbrev pub decreases-link : goal.decreases-link
+decreases-link l = work_left l.self.now.source.now l.self.now.calls + (4 * size-Link l.part.now + 1)
+
+abbrev pub decreases-choice : goal.decreases-choice
+decreases-choice l = work_left l.self.now.source.now l.self.now.calls +
+    (4 * max (size-Expr l.test.now) (max (size-Expr l.yes.now) (size-Expr l.no.now)) + 3)
+
+abbrev pub decreases-call : goal.decreases-call
+decreases-call l = work_left l.self.now.source.now l.self.now.calls + (4 * size-Args l.args.now + 3)
+
+abbrev pub decreases-each_argument : goal.decreases-each_argument
+decreases-each_argument l = work_left l.self.now.source.now l.self.now.calls + (4 * size-Args l.args.now + 2)
+
+abbrev pub decreases-enter : goal.decreases-enter
+decreases-enter l = work_left l.self.now.source.now l.self.now.calls
+
+abbrev pub decreases-body : goal.decreases-body
+decreases-body l = work_left l.self.now.source.now l.self.now.calls + (4 * function_size l.function + 5)
+
+abbrev pub decreases-each_parameter : goal.decreases-each_parameter
+decreases-each_parameter l = work_left l.self.now.source.now l.self.now.calls + (4 * params_size l.params.now.items.items + 4)
+
+abbrev pub decreases-parameter : goal.decreases-parameter
+decreases-parameter l = work_left l.self.now.source.now l.self.now.calls + (4 * param_size l.param.now + 3)
+
+abbrev pub decreases-each_positional : goal.decreases-each_positional
+decreases-each_positional l = work_left l.self.now.source.now l.self.now.calls + (4 * size-Args l.args.now + 1)
+
+abbrev pub invariant-each_value-each : goal.invariant-each_value-each
+invariant-each_value-each l =
+    let here = setting l.fn.self l.scope in
+    record {
+      told : each_value here (terms_from (terms_of l.exprs)) l.fn.self.turns
+          ≡ in_front (vals_in l.values.items) (each_value here
+          (terms_from (map term_of (drop l.expr-index l.exprs.items.items))) l.self.turns);
+      bounded : IsTrue (are_bounded (vals_in l.values.items));
+      small : IsTrue (terms_have_small (terms_from (map term_of (drop l.expr-index l.exprs.items.items))));
+      kept : Keeps l.fn.self l.self;
+    }
+
+abbrev pub invariant-each_positional-each : goal.invariant-each_positional-each
+invariant-each_positional-each l =
+    let here = setting l.fn.self l.scope in
+    record {
+      told : each_value here (all_values (args_from (args_of l.args))) l.fn.self.turns
+          ≡ in_front (vals_in l.values.items) (each_value here
+          (all_values (args_from (map arg_of (drop l.arg-index l.args.items.items)))) l.self.turns);
+      bounded : IsTrue (are_bounded (vals_in l.values.items));
+      small : IsTrue (args_have_small (args_from (map arg_of (drop l.arg-index l.args.items.items))));
+      kept : Keeps l.fn.self l.self;
+    }
+
+abbrev pub invariant-suffixes-each : goal.invariant-suffixes-each
+invariant-suffixes-each l =
+    let here = setting l.fn.self l.scope in
+    record {
+      told : each_suffix here (indexed_val (env_of (rows_of l.fn.self.scopes.now) l.scope) l.fn.of)
+          (suffixes_from (suffixes_of l.rest)) l.fn.self.turns
+          ≡ each_suffix here (val_of l.so_far)
+          (suffixes_from (map suffix_of (drop l.part-index l.rest.more.items))) l.self.turns;
+      bounded : IsTrue (is_bounded (val_of l.so_far));
+      small : IsTrue (suffixes_have_small (suffixes_from (map suffix_of (drop l.part-index l.rest.more.items))));
+      kept : Keeps l.fn.self l.self;
+    }
+
+abbrev pub invariant-links-each : goal.invariant-links-each
+invariant-links-each l =
+    let here = setting l.fn.self l.scope in
+    record {
+      told : each_link here (val_of l.fn.left) (links_from (links_of l.rest)) l.fn.self.turns
+          ≡ each_link here (val_of l.so_far)
+          (links_from (map link_of (drop l.part-index l.part-items))) l.self.turns;
+      bounded : IsTrue (is_bounded (val_of l.so_far));
+      small : IsTrue (links_have_small (links_from (map link_of (drop l.part-index l.part-items))));
+      kept : Keeps l.fn.self l.self;
+    }
+
+abbrev pub invariant-each_argument-each : goal.invariant-each_argument-each
+invariant-each_argument-each l =
+    let here = setting l.fn.self l.scope in
+    record {
+      told : each_slot here (params_of l.params) 0 (args_from (args_of l.args))
+          (replicate (length (params_of l.params)) None) l.fn.self.turns
+          ≡ each_slot here (params_of l.params) l.positional
+          (args_from (map arg_of (drop l.arg-index l.args.items.items))) (slots_in l.slots.items) l.self.turns;
+      count : length l.slots.items ≡ length l.params.items.items;
+      few : l.positional ≤ l.arg-index;
+      filled : IsTrue (slots_bounded (slots_in l.slots.items));
+      small : IsTrue (args_have_small (args_from (map arg_of (drop l.arg-index l.args.items.items))));
+      kept : Keeps l.fn.self l.self;
+    }
+
+abbrev pub invariant-each_parameter-each : goal.invariant-each_parameter-each
+invariant-each_parameter-each l =
+    let here = setting l.fn.self l.scope in
+    record {
+      told : each_filled here (params_of l.params) (slots_in l.fn.slots.items) l.fn.self.turns
+          ≡ in_front (vals_in l.values.items) (each_filled here
+          (map param_of (drop l.i l.params.items.items)) (slots_in (drop l.i l.open.items)) l.self.turns);
+      count : length l.open.items ≡ length l.params.items.items;
+      got : length l.values.items ≡ l.i;
+      bounded : IsTrue (are_bounded (vals_in l.values.items));
+      filled : IsTrue (slots_bounded (slots_in (drop l.i l.open.items)));
+      small : IsTrue (params_have_small (map param_of (drop l.i l.params.items.items)));
+      kept : Keeps l.fn.self l.self;
+    }

@@ -1,0 +1,530 @@
+ghost use Rattle.std.specs.Prelude.{◌≡◌, ◌-◌, ◌<◌, ◌≤◌, ℕ, IsTrue, IfOk, IfErr, OnOk, Err, None, length, true, false, replicate, if◌then◌else◌};
+ghost use Rattle.scad_ast.specs.Terms.{terms_from, args_from, suffixes_from, links_from};
+ghost use Rattle.scad_ast.specs.ExprView.{term_of, terms_of, args_of, suffix_of, suffixes_of, link_of, links_of};
+ghost use Rattle.scad_ast.specs.StatementView.{param_of, params_of};
+ghost use Rattle.scad_value.specs.Values.{Val, is_bounded, truth_of as truth_at};
+ghost use Rattle.scad_value.specs.View.{val_of, vals_in};
+ghost use Rattle.scad_scope.specs.Names.{env_of};
+ghost use Rattle.scad_scope.specs.Table.{rows_of};
+ghost use Rattle.scad_builtin.specs.Builtins.{are_bounded};
+ghost use Rattle.scad_func.specs.Meaning.{Outcome, Gives, one_call_fewer, turn, then_with, answered, value_at, operand as operand_at, each_value as values_at, each_suffix, each_link, called, function_in, range_of as range_at, stepped_range_of as stepped_at, counted as counted_at};
+ghost use Rattle.scad_func.specs.Slots.{each_slot, each_filled, filled, body_filled, entered_filled, all_values, suffixed, linked};
+ghost use Rattle.scad_func.specs.Numerals.{has_small_numerals, terms_have_small, args_have_small, suffixes_have_small, links_have_small, params_have_small, param_has_small, function_has_small, suffix_has_small};
+ghost use Rattle.scad_func.specs.Functions.{function_of};
+ghost use Rattle.scad_func.specs.View.{Tells, TellsAll, TellsSlots, function_size, deepest, indexed_val, IsThere, slot_of, slots_in, slots_bounded, slot_is_bounded};
+ghost use Rattle.scad_func.specs.Evaluations.{Keeps, scopes_there, setting};
+
+use crate::answer::{
+    Indexed, after, applied_to, argument_value, built_in_for, child_count, item_of, listed,
+    member_item, no_slots, operate, operate_on, operate_with_variable, range_of, slot_for,
+    stepped_range_of, text_of, truth_of, variable_of, variable_there, wants_right,
+};
+use crate::bind::bind_all;
+use crate::evaluation::Evaluation;
+use crate::functions::{Function, find};
+use crate::held::{filled_at, with, with_next};
+use scad_ast::{Args, Expr, Exprs, Link, Links, Param, Params, Suffix, Suffixes};
+use scad_value::Value;
+use std::mem;
+use text_place::{Fault, FaultKind, Place, Stop};
+
+impl Evaluation<'_, '_> {
+    /// The value of an expression, whose parts are counted where it is a list.
+    #[cycle(value)]
+    #[tactic(auto, using(crate::proofs::Kept::keeps_trans))]
+    pub(crate) fn expression(&mut self, scope: u32, expr: &Expr) -> Result<Value, Stop>
+        requires scope { scope < scopes_there self.old }
+        requires numerals { IsTrue (has_small_numerals (term_of expr.now)) }
+        ensures value { Tells result self.new.turns (value_at (setting self.old scope) true (term_of expr.now) self.old.turns) }
+        ensures bounded { IfOk result (λ v. IsTrue (is_bounded (val_of v))) }
+        ensures kept { Keeps self.old self.new }
+    {
+        let value = self.deeper(scope, expr)?;
+        self.counted(value, expr.place())
+    }
+
+    /// A value whose parts are counted as turns, where it is a list. TooManyTurns where they are
+    /// too many.
+    fn counted(&mut self, value: Value, place: Place) -> Result<Value, Stop>
+        requires { IsTrue (is_bounded (val_of value)) }
+        ensures value { Tells result self.new.turns (counted_at place (Gives self.old.turns (val_of value))) }
+        ensures bounded { IfOk result (λ v. IsTrue (is_bounded (val_of v))) }
+        ensures kept { Keeps self.old self.new }
+    {
+        if let Value::List(_) = value {
+            let turns = self.turns + value.parts();
+            if turns > 100000 {
+                return Err(Stop::Fault(Fault {
+                    kind: FaultKind::TooManyTurns,
+                    place,
+                }));
+            }
+            self.turns = turns;
+        }
+        Ok(value)
+    }
+
+    /// The value of an expression, one evaluation deeper.
+    #[cycle(value)]
+    fn deeper(&mut self, scope: u32, expr: &Expr) -> Result<Value, Stop>
+        requires scope { scope < scopes_there self.old }
+        requires numerals { IsTrue (has_small_numerals (term_of expr.now)) }
+        ensures value { Tells result self.new.turns (value_at (setting self.old scope) false (term_of expr.now) self.old.turns) }
+        ensures bounded { IfOk result (λ v. IsTrue (is_bounded (val_of v))) }
+        ensures kept { Keeps self.old self.new }
+    {
+        if self.depth == 512 {
+            return Err(Stop::Fault(Fault {
+                kind: FaultKind::TooDeep,
+                place: expr.place(),
+            }));
+        }
+        self.depth += 1;
+        let value = self.operand(scope, expr);
+        self.depth -= 1;
+        value
+    }
+
+    /// The value of an expression at its own depth.
+    #[cycle(value)]
+    fn operand(&mut self, scope: u32, expr: &Expr) -> Result<Value, Stop>
+        requires scope { scope < scopes_there self.old }
+        requires numerals { IsTrue (has_small_numerals (term_of expr.now)) }
+        ensures value { Tells result self.new.turns (operand_at (setting self.old scope) (term_of expr.now) self.old.turns) }
+        ensures bounded { IfOk result (λ v. IsTrue (is_bounded (val_of v))) }
+        ensures kept { Keeps self.old self.new }
+    {
+        match expr {
+            Expr::Number(_, n) => Ok(Value::Number(*n as i64)),
+            Expr::Text(_, bytes) => Ok(text_of(self.alloc, bytes)?),
+            Expr::Truth(_, truth) => Ok(Value::Truth(*truth)),
+            Expr::Undef(_) => Ok(Value::Undef),
+            Expr::ChildCount(place) => Ok(child_count(self.alloc, self.scopes, scope, *place)?),
+            Expr::Name(place, name) => {
+                variable_of(self.alloc, self.scopes, scope, name.items(), *place)
+            }
+            Expr::Call(place, parts) => self.call(scope, parts.name.items(), *place, &parts.args),
+            Expr::Paren(_, inner) => self.expression(scope, inner),
+            Expr::List(place, items) => {
+                let values = self.each_value(scope, items)?;
+                listed(values, *place)
+            }
+            Expr::Range(place, parts) => self.range(scope, &parts.from, &parts.to, *place),
+            Expr::SteppedRange(place, parts) => {
+                self.stepped_range(scope, &parts.from, &parts.step, &parts.to, *place)
+            }
+            Expr::Postfix(_, parts) => self.postfix(scope, &parts.of, &parts.suffixes),
+            Expr::Unary(place, op, of) => {
+                let value = self.deeper(scope, of)?;
+                operate_on(self.alloc, *op, value, *place)
+            }
+            Expr::Chain(_, parts) => self.chain(scope, &parts.first, &parts.links),
+            Expr::Choice(_, parts) => self.choice(scope, &parts.test, &parts.yes, &parts.no),
+        }
+    }
+
+    /// The values of expressions, from the first on.
+    #[cycle(value)]
+    #[tactic(auto, using(crate::proofs::Kept::keeps_trans))]
+    fn each_value(&mut self, scope: u32, exprs: &Exprs) -> Result<Vec<Value>, Stop>
+        requires scope { scope < scopes_there self.old }
+        requires numerals { IsTrue (terms_have_small (terms_from (terms_of exprs.now))) }
+        ensures value { TellsAll result self.new.turns (values_at (setting self.old scope) (terms_from (terms_of exprs.now)) self.old.turns) }
+        ensures bounded { IfOk result (λ vs. IsTrue (are_bounded (vals_in vs.items))) }
+        ensures kept { Keeps self.old self.new }
+    {
+        let mut values = Vec::new(self.alloc);
+        'each: for expr in &exprs.items {
+            let next = self.expression(scope, expr);
+            values = with_next(values, next)?;
+        }
+        Ok(values)
+    }
+
+    /// The range of two expressions.
+    #[cycle(value)]
+    #[tactic(auto, using(crate::proofs::Kept::keeps_trans))]
+    fn range(&mut self, scope: u32, from: &Expr, upto: &Expr, place: Place) -> Result<Value, Stop>
+        requires scope { scope < scopes_there self.old }
+        requires from { IsTrue (has_small_numerals (term_of from.now)) }
+        requires upto { IsTrue (has_small_numerals (term_of upto.now)) }
+        ensures value { let here = setting self.old scope in
+            Tells result self.new.turns (
+            then_with (value_at here true (term_of from.now) self.old.turns) (λ turns a.
+            then_with (value_at here true (term_of upto.now) turns) (λ turns b.
+            answered (range_at a b) place turns))) }
+        ensures bounded { IfOk result (λ v. IsTrue (is_bounded (val_of v))) }
+        ensures kept { Keeps self.old self.new }
+    {
+        let a = self.expression(scope, from)?;
+        let next = self.expression(scope, upto);
+        let (a, b) = with(a, next)?;
+        range_of(a, b, place)
+    }
+
+    /// The range of three expressions.
+    #[cycle(value)]
+    #[tactic(auto, using(crate::proofs::Kept::keeps_trans))]
+    fn stepped_range(
+        &mut self,
+        scope: u32,
+        from: &Expr,
+        by: &Expr,
+        upto: &Expr,
+        place: Place,
+    ) -> Result<Value, Stop>
+        requires scope { scope < scopes_there self.old }
+        requires from { IsTrue (has_small_numerals (term_of from.now)) }
+        requires by { IsTrue (has_small_numerals (term_of by.now)) }
+        requires upto { IsTrue (has_small_numerals (term_of upto.now)) }
+        ensures value { let here = setting self.old scope in
+            Tells result self.new.turns (
+            then_with (value_at here true (term_of from.now) self.old.turns) (λ turns a.
+            then_with (value_at here true (term_of by.now) turns) (λ turns s.
+            then_with (value_at here true (term_of upto.now) turns) (λ turns b.
+            answered (stepped_at a s b) place turns)))) }
+        ensures bounded { IfOk result (λ v. IsTrue (is_bounded (val_of v))) }
+        ensures kept { Keeps self.old self.new }
+    {
+        let a = self.expression(scope, from)?;
+        let second = self.expression(scope, by);
+        let (a, s) = with(a, second)?;
+        let third = self.expression(scope, upto);
+        let ((a, s), b) = with((a, s), third)?;
+        stepped_range_of(a, s, b, place)
+    }
+
+    /// The indexes and members behind an expression. A variable is lent where it stands.
+    #[cycle(value)]
+    #[tactic(auto, using(crate::proofs::Kept::keeps_trans))]
+    fn postfix(&mut self, scope: u32, of: &Expr, rest: &Suffixes) -> Result<Value, Stop>
+        requires scope { scope < scopes_there self.old }
+        requires of { IsTrue (has_small_numerals (term_of of.now)) }
+        requires rest { IsTrue (suffixes_have_small (suffixes_from (suffixes_of rest.now))) }
+        ensures value { let here = setting self.old scope in
+            Tells result self.new.turns (then_with (operand_at here (term_of of.now) self.old.turns)
+            (λ turns v. each_suffix here v (suffixes_from (suffixes_of rest.now)) turns)) }
+        ensures bounded { IfOk result (λ v. IsTrue (is_bounded (val_of v))) }
+        ensures kept { Keeps self.old self.new }
+    {
+        if let Expr::Name(place, name) = of {
+            let variable = variable_there(self.scopes, scope, name.items(), *place)?;
+            return self.suffixes(scope, variable, rest);
+        }
+        let value = self.operand(scope, of)?;
+        self.suffixes(scope, Indexed::Made(value), rest)
+    }
+
+    /// The indexes and members behind what is indexed.
+    #[cycle(value)]
+    #[tactic(auto, using(crate::proofs::Kept::keeps_trans))]
+    fn suffixes(&mut self, scope: u32, of: Indexed<'_>, rest: &Suffixes) -> Result<Value, Stop>
+        requires scope { scope < scopes_there self.old }
+        requires there { IsThere (env_of (rows_of self.old.scopes.now) scope) of }
+        requires numerals { IsTrue (suffixes_have_small (suffixes_from (suffixes_of rest.now))) }
+        ensures value { Tells result self.new.turns (each_suffix (setting self.old scope) (indexed_val (env_of (rows_of self.old.scopes.now) scope) of.entry) (suffixes_from (suffixes_of rest.now)) self.old.turns) }
+        ensures bounded { IfOk result (λ v. IsTrue (is_bounded (val_of v))) }
+        ensures kept { Keeps self.old self.new }
+    {
+        let mut so_far = self.suffix(scope, of, &rest.first)?;
+        'each: for part in &rest.more {
+            so_far = self.suffix(scope, Indexed::Made(so_far), part)?;
+        }
+        Ok(so_far)
+    }
+
+    /// An index or a member.
+    #[cycle(value)]
+    fn suffix(&mut self, scope: u32, of: Indexed<'_>, part: &Suffix) -> Result<Value, Stop>
+        requires scope { scope < scopes_there self.old }
+        requires there { IsThere (env_of (rows_of self.old.scopes.now) scope) of }
+        requires numerals { IsTrue (suffix_has_small (suffix_of part.now)) }
+        ensures value { Tells result self.new.turns (suffixed (setting self.old scope) (indexed_val (env_of (rows_of self.old.scopes.now) scope) of.entry) (suffix_of part.now) self.old.turns) }
+        ensures bounded { IfOk result (λ v. IsTrue (is_bounded (val_of v))) }
+        ensures kept { Keeps self.old self.new }
+    {
+        match part {
+            Suffix::Index(place, index) => {
+                let next = self.expression(scope, index);
+                let (of, at) = with(of, next)?;
+                item_of(self.alloc, self.scopes, scope, of, at, *place)
+            }
+            Suffix::Member(place, name, name_place) => {
+                member_item(
+                    self.alloc,
+                    self.scopes,
+                    scope,
+                    of,
+                    name,
+                    *name_place,
+                    *place,
+                )
+            }
+        }
+    }
+
+    /// Operators of one level and what stands between them, from the left.
+    #[cycle(value)]
+    #[tactic(auto, using(crate::proofs::Kept::keeps_trans))]
+    fn chain(&mut self, scope: u32, first: &Expr, rest: &Links) -> Result<Value, Stop>
+        requires scope { scope < scopes_there self.old }
+        requires first { IsTrue (has_small_numerals (term_of first.now)) }
+        requires rest { IsTrue (links_have_small (links_from (links_of rest.now))) }
+        ensures value { let here = setting self.old scope in
+            Tells result self.new.turns (then_with (operand_at here (term_of first.now) self.old.turns)
+            (λ turns v. each_link here v (links_from (links_of rest.now)) turns)) }
+        ensures bounded { IfOk result (λ v. IsTrue (is_bounded (val_of v))) }
+        ensures kept { Keeps self.old self.new }
+    {
+        let left = self.operand(scope, first)?;
+        self.links(scope, left, rest)
+    }
+
+    /// Operators of one level behind a value, from the left.
+    #[cycle(value)]
+    #[tactic(auto, using(crate::proofs::Kept::keeps_trans))]
+    fn links(&mut self, scope: u32, left: Value, rest: &Links) -> Result<Value, Stop>
+        requires scope { scope < scopes_there self.old }
+        requires left { IsTrue (is_bounded (val_of left)) }
+        requires numerals { IsTrue (links_have_small (links_from (links_of rest.now))) }
+        ensures value { Tells result self.new.turns (each_link (setting self.old scope) (val_of left) (links_from (links_of rest.now)) self.old.turns) }
+        ensures bounded { IfOk result (λ v. IsTrue (is_bounded (val_of v))) }
+        ensures kept { Keeps self.old self.new }
+    {
+        let mut so_far = self.link(scope, left, &rest.first)?;
+        'each: for part in &rest.more {
+            so_far = self.link(scope, so_far, part)?;
+        }
+        Ok(so_far)
+    }
+
+    /// An operator and its right side. A variable on the right is lent where it stands.
+    #[cycle(value)]
+    fn link(&mut self, scope: u32, left: Value, part: &Link) -> Result<Value, Stop>
+        requires scope { scope < scopes_there self.old }
+        requires left { IsTrue (is_bounded (val_of left)) }
+        requires numerals { IsTrue (has_small_numerals (term_of part.now.right)) }
+        ensures value { Tells result self.new.turns (linked (setting self.old scope) (val_of left) (link_of part.now) self.old.turns) }
+        ensures bounded { IfOk result (λ v. IsTrue (is_bounded (val_of v))) }
+        ensures kept { Keeps self.old self.new }
+    {
+        if !wants_right(part.op, &left) {
+            return Ok(Value::Truth(truth_of(left)));
+        }
+        if let Expr::Name(at, name) = &part.right {
+            return operate_with_variable(self.alloc, self.scopes, scope, left, part, name, *at);
+        }
+        let next = self.operand(scope, &part.right);
+        let (left, right) = with(left, next)?;
+        operate(self.alloc, part.op, left, right, part.place)
+    }
+
+    /// One of two expressions, by a test.
+    #[cycle(value)]
+    #[tactic(auto, using(crate::proofs::Kept::keeps_trans))]
+    fn choice(&mut self, scope: u32, test: &Expr, yes: &Expr, no: &Expr) -> Result<Value, Stop>
+        requires scope { scope < scopes_there self.old }
+        requires test { IsTrue (has_small_numerals (term_of test.now)) }
+        requires yes { IsTrue (has_small_numerals (term_of yes.now)) }
+        requires no { IsTrue (has_small_numerals (term_of no.now)) }
+        ensures value { let here = setting self.old scope in
+            Tells result self.new.turns (then_with (operand_at here (term_of test.now) self.old.turns)
+            (λ turns v. value_at here true (if truth_at v then term_of yes.now else term_of no.now) turns)) }
+        ensures bounded { IfOk result (λ v. IsTrue (is_bounded (val_of v))) }
+        ensures kept { Keeps self.old self.new }
+    {
+        let value = self.operand(scope, test)?;
+        if truth_of(value) {
+            self.expression(scope, yes)
+        } else {
+            self.expression(scope, no)
+        }
+    }
+
+    /// A call: the source's functions go before built-in ones.
+    #[cycle(value)]
+    fn call(&mut self, scope: u32, name: &[u8], place: Place, args: &Args) -> Result<Value, Stop>
+        requires scope { scope < scopes_there self.old }
+        requires numerals { IsTrue (args_have_small (args_from (args_of args.now))) }
+        ensures value { let here = setting self.old scope in
+            Tells result self.new.turns (called here place name.now (args_from (args_of args.now)) self.old.turns (function_in here.env name.now)) }
+        ensures bounded { IfOk result (λ v. IsTrue (is_bounded (val_of v))) }
+        ensures kept { Keeps self.old self.new }
+    {
+        let source = self.source;
+        match find(&source.functions, self.scopes, scope, name) {
+            Some((function, home)) => {
+                let slots = self.each_argument(scope, function.params, args)?;
+                self.enter(home, function, slots, place)
+            }
+            None => {
+                let function = built_in_for(name, place, args)?;
+                let values = self.each_positional(scope, args)?;
+                applied_to(self.alloc, function, values, place)
+            }
+        }
+    }
+
+    /// The arguments of a call, from the first on: each is matched to its parameter and then
+    /// evaluated.
+    #[cycle(value)]
+    #[tactic(auto, using(crate::proofs::Kept::keeps_trans))]
+    fn each_argument(
+        &mut self,
+        scope: u32,
+        params: &Params,
+        args: &Args,
+    ) -> Result<Vec<Option<Value>>, Stop>
+        requires scope { scope < scopes_there self.old }
+        requires numerals { IsTrue (args_have_small (args_from (args_of args.now))) }
+        ensures value { TellsSlots result self.new.turns (each_slot (setting self.old scope) (params_of params.now) 0 (args_from (args_of args.now)) (replicate (length (params_of params.now)) None) self.old.turns) }
+        ensures bounded { IfOk result (λ slots. (length slots.items ≡ length (params_of params.now)) × IsTrue (slots_bounded (slots_in slots.items))) }
+        ensures kept { Keeps self.old self.new }
+    {
+        let mut slots = no_slots(self.alloc, params.items.len())?;
+        let mut positional: usize = 0;
+        'each: for arg in &args.items {
+            let free = slot_for(&params.items, &slots, positional, arg);
+            let (open, param) = with(slots, free)?;
+            let next = self.expression(scope, argument_value(arg));
+            slots = filled_at(open, param, next)?;
+            positional = after(positional, arg);
+        }
+        Ok(slots)
+    }
+
+    /// A call of a function of the source, one call deeper, in the scope of its definition.
+    #[cycle(value)]
+    fn enter(
+        &mut self,
+        scope: u32,
+        function: Function<'_>,
+        slots: Vec<Option<Value>>,
+        place: Place,
+    ) -> Result<Value, Stop>
+        requires scope { scope < scopes_there self.old }
+        requires function { IsTrue (function_has_small (function_of function)) }
+        requires within { function_size function ≤ deepest self.old.source.now.functions.items.items }
+        requires count { length slots.items ≡ length (params_of function.params.now) }
+        requires filled { IsTrue (slots_bounded (slots_in slots.items)) }
+        ensures value { Tells result self.new.turns (entered_filled (setting self.old scope) place (function_of function.entry) (slots_in slots.items) self.old.turns) }
+        ensures bounded { IfOk result (λ v. IsTrue (is_bounded (val_of v))) }
+        ensures kept { Keeps self.old self.new }
+    {
+        let (slots, ()) = with(slots, self.may_call(place))?;
+        self.turns += 1;
+        self.calls += 1;
+        let value = self.body(scope, function, slots);
+        self.calls -= 1;
+        value
+    }
+
+    /// Whether one call more, one call deeper, is within the limits. TooDeep goes before TooManyTurns.
+    fn may_call(&self, place: Place) -> Result<(), Stop>
+        ensures within { OnOk result ((self.now.calls < 64) × (self.now.turns < 100000)) }
+        ensures refused { IfErr result (λ stop. (go : ℕ → ℕ → Outcome Val) (n : ℕ) →
+            Tells (Err stop) n (one_call_fewer (64 - self.now.calls) place (λ calls. turn place self.now.turns (go calls)))) }
+    {
+        if self.calls == 64 {
+            return Err(Stop::Fault(Fault {
+                kind: FaultKind::TooDeep,
+                place,
+            }));
+        }
+        if self.turns == 100000 {
+            return Err(Stop::Fault(Fault {
+                kind: FaultKind::TooManyTurns,
+                place,
+            }));
+        }
+        Ok(())
+    }
+
+    /// The value of a function: its parameters without an argument have their defaults, which are
+    /// evaluated in the scope of its definition.
+    #[cycle(value)]
+    fn body(
+        &mut self,
+        scope: u32,
+        function: Function<'_>,
+        slots: Vec<Option<Value>>,
+    ) -> Result<Value, Stop>
+        requires scope { scope < scopes_there self.old }
+        requires function { IsTrue (function_has_small (function_of function)) }
+        requires count { length slots.items ≡ length (params_of function.params.now) }
+        requires filled { IsTrue (slots_bounded (slots_in slots.items)) }
+        ensures value { Tells result self.new.turns (body_filled (setting self.old scope) (function_of function.entry) (slots_in slots.items) self.old.turns) }
+        ensures bounded { IfOk result (λ v. IsTrue (is_bounded (val_of v))) }
+        ensures kept { Keeps self.old self.new }
+    {
+        let values = self.each_parameter(scope, function.params, slots)?;
+        let inner = bind_all(self.alloc, self.scopes, scope, function.params, values)?;
+        self.expression(inner, function.value)
+    }
+
+    /// The values of parameters, from the first on.
+    #[cycle(value)]
+    #[tactic(auto, using(crate::proofs::Kept::keeps_trans))]
+    fn each_parameter(
+        &mut self,
+        scope: u32,
+        params: &Params,
+        slots: Vec<Option<Value>>,
+    ) -> Result<Vec<Value>, Stop>
+        requires scope { scope < scopes_there self.old }
+        requires numerals { IsTrue (params_have_small (params_of params.now)) }
+        requires count { length slots.items ≡ length params.now.items.items }
+        requires filled { IsTrue (slots_bounded (slots_in slots.items)) }
+        ensures value { TellsAll result self.new.turns (each_filled (setting self.old scope) (params_of params.now) (slots_in slots.items) self.old.turns) }
+        ensures bounded { IfOk result (λ vs. (length vs.items ≡ length params.now.items.items) × IsTrue (are_bounded (vals_in vs.items))) }
+        ensures kept { Keeps self.old self.new }
+    {
+        let mut open = slots;
+        let mut values = Vec::new(self.alloc);
+        'each: for (i, param) in params.items.iter().enumerate() {
+            let given = mem::replace(&mut open[i], None);
+            let next = self.parameter(scope, param, given);
+            let longer = with_next(values, next);
+            (open, values) = with(open, longer)?;
+        }
+        drop(open);
+        Ok(values)
+    }
+
+    /// A parameter's value: what it was given, its default, or undef.
+    #[cycle(value)]
+    fn parameter(&mut self, scope: u32, param: &Param, given: Option<Value>) -> Result<Value, Stop>
+        requires scope { scope < scopes_there self.old }
+        requires numerals { IsTrue (param_has_small (param_of param.now)) }
+        requires filled { IsTrue (slot_is_bounded (slot_of given)) }
+        ensures value { Tells result self.new.turns (filled (setting self.old scope) (param_of param.now) (slot_of given) self.old.turns) }
+        ensures bounded { IfOk result (λ v. IsTrue (is_bounded (val_of v))) }
+        ensures kept { Keeps self.old self.new }
+    {
+        match given {
+            Some(value) => Ok(value),
+            None => match param {
+                Param::Plain(_, _) => Ok(Value::Undef),
+                Param::WithDefault(_, _, value) => self.expression(scope, value),
+            },
+        }
+    }
+
+    /// The values of all arguments, from the first on.
+    #[cycle(value)]
+    #[tactic(auto, using(crate::proofs::Kept::keeps_trans))]
+    fn each_positional(&mut self, scope: u32, args: &Args) -> Result<Vec<Value>, Stop>
+        requires scope { scope < scopes_there self.old }
+        requires numerals { IsTrue (args_have_small (args_from (args_of args.now))) }
+        ensures value { TellsAll result self.new.turns (values_at (setting self.old scope) (all_values (args_from (args_of args.now))) self.old.turns) }
+        ensures bounded { IfOk result (λ vs. IsTrue (are_bounded (vals_in vs.items))) }
+        ensures kept { Keeps self.old self.new }
+    {
+        let mut values = Vec::new(self.alloc);
+        'each: for arg in &args.items {
+            let next = self.expression(scope, argument_value(arg));
+            values = with_next(values, next)?;
+        }
+        Ok(values)
+    }
+}

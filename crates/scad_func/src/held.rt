@@ -1,0 +1,55 @@
+//! What is held while something else is made. Where that fails, what is held is dropped: here, for every type alike,
+//! and not in each function that holds something.
+
+ghost use Rattle.std.specs.Prelude.{◌≡◌, ◌<◌, Ok, Err, Some, IfOk, IfErr, length, slice_set};
+ghost use Rattle.scad_func.specs.View.{IsLonger};
+
+use text_place::Stop;
+
+/// What was made before, with what is made next.
+pub(crate) fn with<A: Drop, B>(before: A, next: Result<B, Stop>) -> Result<(A, B), Stop>
+    ensures ok { IfOk result (λ both. (both.0 ≡ before) × (next ≡ Ok both.1)) }
+    ensures err { IfErr result (λ stop. next ≡ Err stop) }
+{
+    match next {
+        Ok(value) => Ok((before, value)),
+        Err(stop) => Err(stop),
+    }
+}
+
+/// A list with one item more.
+pub(crate) fn with_next<T: Drop>(items: Vec<T>, next: Result<T, Stop>) -> Result<Vec<T>, Stop>
+    ensures { IsLonger items.items next result }
+{
+    match next {
+        Ok(item) => {
+            let mut longer = items;
+            match longer.push(item) {
+                Ok(()) => Ok(longer),
+                Err(_) => Err(Stop::NoMemory),
+            }
+        }
+        Err(stop) => Err(stop),
+    }
+}
+
+/// Slots of which one more is filled.
+pub(crate) fn filled_at<T: Drop>(
+    slots: Vec<Option<T>>,
+    slot: usize,
+    next: Result<T, Stop>,
+) -> Result<Vec<Option<T>>, Stop>
+    requires { slot < length slots.items }
+    ensures ok { IfOk result (λ filled. IfOk next (λ item. filled.items ≡ slice_set slots.items slot (Some item))) }
+    ensures err { IfErr result (λ stop. next ≡ Err stop) }
+    ensures both { IfErr next (λ stop. result ≡ Err stop) }
+{
+    match next {
+        Ok(item) => {
+            let mut filled = slots;
+            filled[slot] = Some(item);
+            Ok(filled)
+        }
+        Err(stop) => Err(stop),
+    }
+}
