@@ -1,10 +1,14 @@
 -- A journal with one item more.
 use Rattle.std.proofs.Common.{◌≡◌, ℕ, ◌+◌, Bool, List, [], ◌∷◌, ◌++◌, refl}
-use Rattle.memo_core.specs.Memo.{Mark, Item, after_said, says_at, replay, IsLegal, evicted_by, evicted_in}
+use Rattle.memo_core.specs.Memo.{Mark, Item, after_said, says_at, replay, IsLegal, Said, count_in, evicted_by, evicted_in}
 use Rattle.std.proofs.lemmas.List.Sums.{sum_by_push}
 
+-- every count adds what the item counts
+pub count_more : {K : Type 0} (by : Said → ℕ) (is : List (Item K)) (i : Item K) → count_in by (is ++ i ∷ []) ≡ count_in by is + by i.said
+count_more by is i = sum_by_push (λ x. by x.said) is i
+
 pub evicted_more : {K : Type 0} (is : List (Item K)) (i : Item K) → evicted_in (is ++ i ∷ []) ≡ evicted_in is + evicted_by i.said
-evicted_more is i = sum_by_push (λ x. evicted_by x.said) is i
+evicted_more is i = count_more evicted_by is i
 
 module _ {K : Type 0} (same : K → K → Bool) (name_of : K → List ℕ) (budget share : ℕ) where
   pub replay_more : (es : List (Mark K)) (is : List (Item K)) (i : Item K) → replay same name_of budget share es (is ++ i ∷ []) ≡ after_said same name_of budget share i.caller i.key i.said (replay same name_of budget share es is)

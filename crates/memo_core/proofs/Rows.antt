@@ -1,6 +1,6 @@
 -- Calls of a memo that are written out, with what the journal says of each.
 use Rattle.std.proofs.Common.{◌≡◌, ℕ, Bool, true, false, List, [], ◌∷◌, replicate, take, refl, nat_eq}
-use Rattle.memo_core.specs.Memo.{Mark, Item, Probe_said, Fill_said, item, itself, filled, fill_said, replay, IsLegal, evicted_in}
+use Rattle.memo_core.specs.Memo.{Mark, Item, Probe_said, Fill_said, item, itself, filled, fill_said, replay, IsLegal, count_in, hit_by, missed_by, kept_by, heavy_by, evicted_in}
 
 -- each key has a name of its own
 abbrev own : ℕ → List ℕ
@@ -47,6 +47,16 @@ one_fits_leaves = refl
 
 three_are_dropped : evicted_in one_fits ≡ 3
 three_are_dropped = refl
+
+-- hits, misses, fills that were kept, and fills that were not
+abbrev counts : List (Item ℕ) → List ℕ
+counts items = count_in hit_by items ∷ count_in missed_by items ∷ count_in kept_by items ∷ count_in heavy_by items ∷ []
+
+both_fit_counts : counts both_fit ≡ 2 ∷ 2 ∷ 2 ∷ 0 ∷ []
+both_fit_counts = refl
+
+one_fits_counts : counts one_fits ≡ 0 ∷ 4 ∷ 4 ∷ 0 ∷ []
+one_fits_counts = refl
 
 -- the same with room for both, where they have one name
 one_name_is_legal : IsLegal nat_eq alike 500000 0 [] one_fits

@@ -177,11 +177,36 @@ module _ {K : Type 0} (same : K → K → Bool) (name_of : K → List ℕ) (budg
       ((owner : ℕ) → owner ≢ i.caller → owned itself owner es ≤ share → StandIn itself owner es (after_said i.caller i.key i.said es))
       × KeepsShares (after_said i.caller i.key i.said es) is
 
--- how many entries a call dropped
+-- What the items of a journal count, all together, where each counts by what it said. Every count over a
+-- journal is this one: hits, misses, fills that were kept or not, and entries that were dropped.
+abbrev pub count_in : {K : Type 0} → (Said → ℕ) → List (Item K) → ℕ
+count_in by items = sum_by (λ i. by i.said) items
+
+-- a probe that was a hit counts 1
+abbrev pub hit_by : Said → ℕ
+hit_by (Probe_said hit) = if hit then 1 else 0
+hit_by (Fill_said weight kept evicted) = 0
+
+-- a probe that was a miss counts 1
+abbrev pub missed_by : Said → ℕ
+missed_by (Probe_said hit) = if hit then 0 else 1
+missed_by (Fill_said weight kept evicted) = 0
+
+-- a fill that was kept counts 1
+abbrev pub kept_by : Said → ℕ
+kept_by (Probe_said hit) = 0
+kept_by (Fill_said weight kept evicted) = if kept then 1 else 0
+
+-- a fill that was not kept counts 1
+abbrev pub heavy_by : Said → ℕ
+heavy_by (Probe_said hit) = 0
+heavy_by (Fill_said weight kept evicted) = if kept then 0 else 1
+
+-- a call counts the entries that it dropped
 abbrev pub evicted_by : Said → ℕ
 evicted_by (Probe_said hit) = 0
 evicted_by (Fill_said weight kept evicted) = evicted
 
 -- how many entries the calls of a journal dropped
 abbrev pub evicted_in : {K : Type 0} → List (Item K) → ℕ
-evicted_in items = sum_by (λ i. evicted_by i.said) items
+evicted_in items = count_in evicted_by items

@@ -1,6 +1,6 @@
-ghost use Rattle.std.specs.Prelude.{◌≡◌};
+ghost use Rattle.std.specs.Prelude.{◌≡◌, ℕ, ◌+◌, List, [], ◌∷◌, ◌++◌};
 ghost use Rattle.std.specs.Arc.{arc_value};
-ghost use Rattle.memo_core.specs.Memo.{item, Probe_said, Fill_said};
+ghost use Rattle.memo_core.specs.Memo.{Item, Said, item, Probe_said, Fill_said, count_in};
 ghost use Rattle.memo_core.specs.Fields.{item_of};
 
 use std::sync::Arc;
@@ -47,3 +47,11 @@ pub fn filled<K>(caller: u32, key: Arc<K>, weight: u64, kept: bool, evicted: u32
     };
     JournalItem { caller, key, did }
 }
+
+/// Every count over a journal, whatever it counts by, grows with one item more by what that item
+/// counts.
+#[tactic(auto, using(crate::proofs::Journals::count_more))]
+pub fn counts_one_more<K: Drop>()
+    ensures { (by : Said → ℕ) → (items : List (Item K)) → (more : Item K) →
+        count_in by (items ++ more ∷ []) ≡ count_in by items + by more.said }
+{}

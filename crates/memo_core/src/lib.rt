@@ -10,5 +10,5 @@ mod plan;
 mod slots;
 
 pub use fit::{Fit, NAME_BYTES, Name, Namer};
-pub use journal::{Did, JournalItem};
-pub use memo::{Fill, MemoCore, Probe};
+pub use journal::{Did, JournalItem, counts_one_more};
+pub use memo::{Dropped, Fill, MemoCore, Probe};

@@ -10,6 +10,7 @@ use crate::slots::{Shelf, Slot, has_slot, offer, touch, value_of};
 use lru::LruCache;
 use std::alloc::Global;
 use std::marker::Model;
+use std::mem;
 use std::sync::Arc;
 use text_place::NoMemory;
 
@@ -44,6 +45,7 @@ pub struct MemoCore<F: Fit, N: Namer<F::Key>> {
     namer: N,
     limits: Limits,
     shelf: Shelf<F::Key, F::Value>,
+    gone: Vec<Slot<F::Key, F::Value>>,
     evicted: u64,
     journal: Vec<JournalItem<F::Key>>,
 }
@@ -96,6 +98,7 @@ impl<F: Fit, N: Namer<F::Key>> MemoCore<F, N> {
             namer,
             limits: Limits { budget, share },
             shelf,
+            gone: Vec::new(alloc),
             evicted: 0,
             journal: Vec::new(alloc),
         })
@@ -220,7 +223,15 @@ impl<F: Fit, N: Namer<F::Key>> MemoCore<F, N> {
             weight,
             owner: caller,
         };
-        let Ok(offered) = offer(alloc, &mut self.shelf, is_held, name, slot, self.limits) else {
+        let Ok(offered) = offer(
+            alloc,
+            &mut self.shelf,
+            &mut self.gone,
+            is_held,
+            name,
+            slot,
+            self.limits,
+        ) else {
             return Fill::NoMemory;
         };
         let evicted = offered.unwrap_or(0);
@@ -230,6 +241,21 @@ impl<F: Fit, N: Namer<F::Key>> MemoCore<F, N> {
         self.evicted += u64::from(evicted);
         kept_or_not(is_kept)
     }
+
+    /// Hands out what the fills dropped since it was last taken, so that the caller frees it where no
+    /// lock is held. The memo, as contracts see it, stays as it is. Takes no memory.
+    pub fn take_dropped(&mut self, alloc: Global) -> Dropped<F::Key, F::Value>
+        ensures { self.new ≡ self.old }
+    {
+        let slots = mem::replace(&mut self.gone, Vec::new(alloc));
+        Dropped { slots }
+    }
+}
+
+/// Entries that fills dropped. Their keys and values are freed with it.
+#[derive(Drop)]
+pub struct Dropped<K, V> {
+    slots: Vec<Slot<K, V>>,
 }
 
 // The answer of a fill that found memory.

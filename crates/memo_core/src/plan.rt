@@ -137,6 +137,7 @@ fn makes_room<K: Drop, V: Drop>(
     ensures no { IfOk result (λ r. r ≡ false → room_beside slot_mark limits.budget limits.share
         (name.now, slot.now) (remove_entry (same_name name.now) cache.now.entries) ≡ None) }
 {
+    // The cache says that its names are distinct where it is asked for its length.
     let _len = cache.len();
     let mut rest = cache.iter();
     while plan.total > u128::from(limits.budget) || plan.count > ENTRIES_MAX {

@@ -43,6 +43,7 @@ pub fn has_slot<F: Fit>(fit: &F, cache: &Slots<F::Key, F::Value>, name: &Name, k
     ensures value { result ≡ is_some (value_at F.same_key key.now (lookup (same_name name.now) cache.now.entries)) }
     ensures distinct { IsDistinct same_name (keys_of cache.now.entries) }
 {
+    // The cache says that its names are distinct where it is asked for its length.
     let _len = cache.len();
     let Some(slot) = cache.peek(name) else {
         return false;
@@ -52,9 +53,11 @@ pub fn has_slot<F: Fit>(fit: &F, cache: &Slots<F::Key, F::Value>, name: &Name, k
 
 /// Offers a slot to a shelf: one above the budget is not kept, one whose key is held brings that one to
 /// the front, and else it is pushed. Answers how many slots were dropped, or none where it is not kept.
+/// What was dropped is among those that are gone.
 pub fn offer<K: Drop, V: Drop>(
     alloc: Global,
     shelf: &mut Shelf<K, V>,
+    gone: &mut Vec<Slot<K, V>>,
     is_held: bool,
     name: Name,
     slot: Slot<K, V>,
@@ -72,6 +75,7 @@ pub fn offer<K: Drop, V: Drop>(
     ensures err { OnErr result (shelf.new ≡ shelf.old) }
 {
     if slot.weight > limits.budget {
+        // The cache says that its names are distinct where it is asked for its length.
         let _len = shelf.cache.len();
         return Ok(None);
     }
@@ -79,13 +83,14 @@ pub fn offer<K: Drop, V: Drop>(
         touch(&mut shelf.cache, &name, true);
         return Ok(Some(0));
     }
-    push(alloc, shelf, name, slot, limits)
+    push(alloc, shelf, gone, name, slot, limits)
 }
 
 // Puts a slot in front, where it is kept, and drops what has to go for it.
 fn push<K: Drop, V: Drop>(
     alloc: Global,
     shelf: &mut Shelf<K, V>,
+    gone: &mut Vec<Slot<K, V>>,
     name: Name,
     slot: Slot<K, V>,
     limits: Limits,
@@ -106,21 +111,23 @@ fn push<K: Drop, V: Drop>(
     let Some(plan) = plan else {
         return Ok(None);
     };
-    stack(&mut shelf.cache, name, slot)?;
-    drop_named(&mut shelf.cache, plan.names.as_slice());
+    let going = plan.names.len();
+    gone.reserve(going + 1)?;
+    stack(&mut shelf.cache, gone, name, slot)?;
+    drop_named(&mut shelf.cache, gone, plan.names.as_slice());
     shelf.weight = plan.total as u64;
     shelf.owners = plan.owners;
     let evicted = before + 1 - shelf.cache.len();
     Ok(Some(evicted as u32))
 }
 
-// Drops the slots of these names.
-fn drop_named<K: Drop, V: Drop>(cache: &mut Slots<K, V>, names: &[Name])
+// Drops the slots of these names, which are gone then.
+fn drop_named<K: Drop, V: Drop>(cache: &mut Slots<K, V>, gone: &mut Vec<Slot<K, V>>, names: &[Name])
     ensures entries { cache.new.entries ≡ removed names.now cache.old.entries }
     ensures cap { cache.new.cap ≡ cache.old.cap }
 {
     for name in names {
-        cache.pop(name);
+        hand_out(gone, cache.pop(name));
     }
 }
 
@@ -133,6 +140,7 @@ pub fn touch<K: Drop, V: Drop>(cache: &mut Slots<K, V>, name: &Name, hit: bool)
     if hit {
         cache.promote(name);
     }
+    // The cache says that its names are distinct where it is asked for its length.
     let _len = cache.len();
 }
 
@@ -146,6 +154,7 @@ pub fn value_of<F: Fit>(
     ensures value { IfOk result (λ r. option_map arc_value r ≡ value_at F.same_key key.now (lookup (same_name name.now) cache.now.entries)) }
     ensures distinct { IsDistinct same_name (keys_of cache.now.entries) }
 {
+    // The cache says that its names are distinct where it is asked for its length.
     let _len = cache.len();
     let Some(slot) = cache.peek(name) else {
         return Ok(None);
@@ -157,9 +166,17 @@ pub fn value_of<F: Fit>(
     }
 }
 
-// Puts a slot in front, in place of the one of its name.
+// Puts a slot among those that are gone. Where there is no room, which its caller has reserved, it is freed.
+fn hand_out<K: Drop, V: Drop>(gone: &mut Vec<Slot<K, V>>, slot: Option<Slot<K, V>>) {
+    if let Some(slot) = slot {
+        let _full = gone.push(slot);
+    }
+}
+
+// Puts a slot in front, in place of the one of its name, which is gone then.
 fn stack<K: Drop, V: Drop>(
     cache: &mut Slots<K, V>,
+    gone: &mut Vec<Slot<K, V>>,
     name: Name,
     slot: Slot<K, V>,
 ) -> Result<(), NoMemory>
@@ -170,7 +187,10 @@ fn stack<K: Drop, V: Drop>(
     ensures err { OnErr result (cache.new ≡ cache.old) }
 {
     match cache.put(name, slot) {
-        Ok(_) => Ok(()),
+        Ok(old) => {
+            hand_out(gone, old);
+            Ok(())
+        }
         Err(_) => Err(NoMemory),
     }
 }

@@ -1,5 +1,6 @@
 pub mod Lists
 pub mod Nodes
+pub mod KeptLists
 pub mod Sound
 pub mod Clients
 pub mod Whole

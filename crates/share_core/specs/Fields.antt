@@ -1,20 +1,10 @@
 -- How the fields of a world stand for what contracts see, and what each part keeps.
-use Rattle.std.specs.Prelude.{◌≡◌, ℕ, ◌+◌, ◌<◌, ◌≤◌, true, List, [], ◌∷◌, map, length, Option, Some, None, option_map, IfSome}
-use Rattle.std.specs.Arc.{arc_value}
+use Rattle.std.specs.Prelude.{◌≡◌, ℕ, ◌+◌, ◌<◌, ◌≤◌, true, List, [], ◌∷◌, map, length, Option, Some, None, IfSome}
 use Rattle.memo_core.specs.Views.{Core}
 use Rattle.share_core.specs.Views.{Node, Unasked, Missed, Built, There, Part, Tasks, Machine, settled}
-use Rattle.share_core.specs.declared.parts.NodeState.{NodeState}
-use Rattle.share_core.specs.declared.parts.NodeState.TheVariants as state
 use Rattle.share_core.specs.declared.parts.ClientPart.{ClientPart}
 
 module _ {V : Type 0} where
-  -- a node as contracts see it
-  abbrev pub node_of : NodeState V → Node V
-  node_of state.Unasked = Unasked
-  node_of state.Missed = Missed
-  node_of (state.Built value weight) = Built (arc_value value) weight
-  node_of (state.There value) = There (arc_value value)
-
   -- the value of a node that is there
   abbrev pub value_of : Node V → Option V
   value_of Unasked = None
@@ -33,7 +23,7 @@ module _ {V : Type 0} where
 module _ {V R : Type 0} where
   -- a client's part as contracts see it
   abbrev pub part_of : ClientPart V R → Part V R
-  part_of p = record { nodes = option_map (λ v. map node_of v.items) p.nodes; replies = p.replies.items }
+  part_of p = record { nodes = p.nodes; replies = p.replies.items }
 
 module _ {R : Type 0} where
   -- the replies are those of the commands from the n-th on

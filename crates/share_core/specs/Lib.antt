@@ -1,4 +1,5 @@
 pub mod Views
+pub mod KeptNodes
 pub mod Fields
 pub mod Steps
 pub mod Runs

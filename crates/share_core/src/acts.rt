@@ -3,14 +3,15 @@ ghost use Rattle.std.specs.Prelude.{IfOk, OnOk, OnErr, IfNone, IfSome, MatchOpti
 ghost use Rattle.std.specs.Arc.{arc_value};
 ghost use Rattle.memo_core.specs.Fields.{value_in};
 ghost use Rattle.memo_core.specs.Views.{after_probe, after_fill};
-ghost use Rattle.share_core.specs.Views.{Node, Missed, Built, There, settled};
-ghost use Rattle.share_core.specs.Fields.{node_of, part_of, IsSoundPart};
+ghost use Rattle.share_core.specs.Views.{Built, There, settled};
+ghost use Rattle.share_core.specs.Fields.{part_of, IsSoundPart};
 ghost use Rattle.share_core.specs.Steps.{Answers, Changes, can_do, is_at, is_built, node_at, key_at};
 ghost use Rattle.share_core.specs.Steps.{begun, replied, with_node, probed};
 ghost use Rattle.std.specs.Option.{option_map_or};
 
 use crate::event::{Act, Stepped};
-use crate::parts::{ClientPart, NodeState, are_there, is_missed_at, put_node, unasked, values};
+use crate::kept_nodes::{NodeState, Nodes};
+use crate::parts::{ClientPart, put_node};
 use crate::work::Work;
 use memo_core::{Fill, Fit, MemoCore, Namer, Probe};
 use std::alloc::Global;
@@ -49,41 +50,38 @@ pub fn command<F: Fit, W: Work<F>>(
     if part.nodes.is_some() || command >= work.commands(client) {
         return Ok(Stepped::NotReady);
     }
-    let nodes = unasked(alloc, work.nodes(client, command))?;
+    let nodes = Nodes::unasked(alloc, work.nodes(client, command))?;
     part.nodes = Some(nodes);
     Ok(Stepped::Taken)
 }
 
 // Whether a client may ask the memo for this node.
 fn can_probe<F: Fit, W: Work<F>>(
-    alloc: Global,
     work: &W,
     part: &ClientPart<F::Value, W::Reply>,
     client: u32,
     node: u32,
-) -> Result<bool, NoMemory>
+) -> bool
     requires { IsSoundPart F.fits F.weighs (W.tasks work.now) client (part_of part.now) }
-    ensures { IfOk result (λ b. b ≡
-        can_do (W.tasks work.now) client (Act.Probe node) (part_of part.now)) }
+    ensures { result ≡ can_do (W.tasks work.now) client (Act.Probe node) (part_of part.now) }
 {
     let Some(nodes) = &part.nodes else {
-        return Ok(false);
+        return false;
     };
-    let Some(NodeState::Unasked) = nodes.get(node as usize) else {
-        return Ok(false);
-    };
-    let have = values(alloc, nodes.as_slice())?;
+    if !nodes.is_unasked_at(node) {
+        return false;
+    }
     let command = command_of(work, part, client);
-    Ok(work.ready(client, command, node, have.as_slice()))
+    work.ready(client, command, node, nodes.have())
 }
 
-// The state of a node after this probe.
-fn probed_state<V>(probe: Probe<V>) -> NodeState<V>
-    ensures { node_of result ≡ option_map_or There (value_in probe) Missed }
+// The value that a probe found.
+fn found<V>(probe: Probe<V>) -> Option<Arc<V>>
+    ensures { option_map arc_value result ≡ value_in probe }
 {
     match probe {
-        Probe::Hit(value) => NodeState::There(value),
-        Probe::Miss => NodeState::Missed,
+        Probe::Hit(value) => Some(value),
+        Probe::Miss => None,
     }
 }
 
@@ -109,13 +107,13 @@ pub fn probe<F: Fit, N: Namer<F::Key>, W: Work<F>>(
     ensures err { OnErr result
         ((settled memo.new ≡ settled memo.old) × (part_of part.new ≡ part_of part.old)) }
 {
-    if !can_probe(alloc, work, part, client, node)? {
+    if !can_probe(work, part, client, node) {
         return Ok(Stepped::NotReady);
     }
     let command = command_of(work, part, client);
     memo.room(alloc)?;
     let probe = memo.probe(client, work.key(client, command, node))?;
-    put_node(part, node, probed_state(probe));
+    put_node(part, node, NodeState::Missed, found(probe));
     Ok(Stepped::Taken)
 }
 
@@ -137,12 +135,11 @@ fn built<F: Fit, W: Work<F>>(
     let Some(nodes) = &part.nodes else {
         return Ok(None);
     };
-    if !is_missed_at(nodes.as_slice(), node) {
+    if !nodes.is_missed_at(node) {
         return Ok(None);
     }
-    let have = values(alloc, nodes.as_slice())?;
     let command = command_of(work, part, client);
-    let made = work.build(alloc, client, command, node, have.as_slice())?;
+    let made = work.build(alloc, client, command, node, nodes.have())?;
     Ok(Some(made))
 }
 
@@ -167,7 +164,7 @@ pub fn build<F: Fit, W: Work<F>>(
     let Some((value, weight)) = built(alloc, work, part, client, node)? else {
         return Ok(Stepped::NotReady);
     };
-    put_node(part, node, NodeState::Built(value, weight));
+    put_node(part, node, NodeState::Built(value, weight), None);
     Ok(Stepped::Taken)
 }
 
@@ -184,12 +181,12 @@ fn offered<V: Drop, R: Drop>(
     let Some(nodes) = &part.nodes else {
         return Ok(None);
     };
-    let Some(NodeState::Built(value, weight)) = nodes.get(node as usize) else {
+    let Some((value, weight)) = nodes.built_at(node) else {
         return Ok(None);
     };
     let given = Arc::try_clone(value)?;
     let kept = Arc::try_clone(value)?;
-    Ok(Some((given, kept, *weight)))
+    Ok(Some((given, kept, weight)))
 }
 
 // Offers a value to the memo, which keeps it or not.
@@ -248,7 +245,7 @@ pub fn fill<F: Fit, N: Namer<F::Key>, W: Work<F>>(
         given,
         weight,
     )?;
-    put_node(part, node, NodeState::There(kept));
+    put_node(part, node, NodeState::Missed, Some(kept));
     Ok(Stepped::Taken)
 }
 
@@ -268,12 +265,11 @@ fn answer<F: Fit, W: Work<F>>(
     let Some(nodes) = &part.nodes else {
         return Ok(None);
     };
-    if !are_there(nodes.as_slice()) {
+    if !nodes.are_there() {
         return Ok(None);
     }
-    let have = values(alloc, nodes.as_slice())?;
     let command = command_of(work, part, client);
-    let reply = work.reply(alloc, client, command, have.as_slice())?;
+    let reply = work.reply(alloc, client, command, nodes.have())?;
     Ok(Some(reply))
 }
 

@@ -4,6 +4,7 @@
 
 mod acts;
 mod event;
+mod kept_nodes;
 mod parts;
 mod work;
 mod world;

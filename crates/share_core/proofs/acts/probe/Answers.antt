@@ -12,4 +12,4 @@ returns-clause-sound g c =
     let can : can_do (g.W.Work.tasks c.args.work.now) c.args.client (Probe c.args.node) (part_of c.args.part.now) ≡ true = search rules in
     let fits : IfSome (value_in c.in_ok-probe.probe) (g.F.Fit.fits (key_at (g.W.Work.tasks c.args.work.now) c.args.client c.args.node (part_of c.args.part.now))) =
     subst (λ k. IfSome (value_in c.in_ok-probe.probe) (g.F.Fit.fits k)) (c.key.ensures ∙ ap (λ n. (g.W.Work.tasks c.args.work.now).key c.args.client n c.args.node) c.command_of-command.ensures) c.in_ok-probe.ensures.fits in
-    rw c.put_node.ensures (rw c.probed_state.ensures (probed_sound g.F.Fit.fits g.F.Fit.weighs (g.W.Work.tasks c.args.work.now) c.args.client (part_of c.args.part.now) c.requires (λ command node. g.met.W.Work.stays_ready c.args.work.now c.args.client command node) c.args.node (value_in c.in_ok-probe.probe) can fits))
+    rw c.put_node.ensures (rw c.found.ensures (probed_sound g.F.Fit.fits g.F.Fit.weighs (g.W.Work.tasks c.args.work.now) c.args.client (part_of c.args.part.now) c.requires (λ command node. g.met.W.Work.stays_ready c.args.work.now c.args.client command node) c.args.node (value_in c.in_ok-probe.probe) can fits))
