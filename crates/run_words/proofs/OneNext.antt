@@ -1,7 +1,7 @@
 -- Words have one option at their front at most.
 use Rattle.std.proofs.Common.{◌≡◌, ◌≢◌, inl, inr, ℕ, ◌<◌, List, [], ◌∷◌, ◌++◌, length, get_or, refl, sym, ap, ap₂, ◌∙◌, subst, arith, length-append, map, String, Global}
 use Rattle.std.proofs.lemmas.List.{append_cancel_left}
-use Rattle.std.specs.Prelude.{Option, Some, None, IfNone, string_bytes}
+use Rattle.std.specs.Prelude.{Option, Some, None, IfSome, IfNone, string_bytes}
 use Rattle.std.specs.Str.Parse.{digits_value}
 use Rattle.run_words.specs.declared.option.Key.{Key}
 use Rattle.run_words.specs.declared.option.Key.TheVariants.{Workers, Memo, Share}
@@ -195,3 +195,9 @@ gathered_more given more ws rest o next free e = (
   λ all h. gathers_forth given all ws rest o next free (subst (λ (g : Given). Gathers g rest all) e h),
   λ all h. subst (λ (g : Given). Gathers g rest all) (sym e) (gathers_back given all ws rest o next h).1,
 )
+
+pub one_chosen : (r : Option Settings) (words : List (List ℕ)) (given : Given) (ones : Settings) → ones ≡ chosen given → ((all : Given) → Gathers no_options words all → all ≡ given)
+    → IfSome r (λ same. (same ≡ ones) × AreInRange ones) → IfSome r (λ same. (other : Settings) → AreRunOptions words other → other ≡ same)
+one_chosen None words given ones e only found = tt
+one_chosen (Some same) words given ones e only found =
+    λ other h. h.4 ∙ ap (λ (g : Given). chosen g) (only h.1 (h.0, h.2, h.3)) ∙ sym e ∙ sym found.0

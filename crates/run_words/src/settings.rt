@@ -74,6 +74,7 @@ fn with_defaults(given: Given) -> Settings
 // The settings of the words behind `run`.
 fn run_settings(words: &[String]) -> Option<Settings>
     ensures found { IfSome result (λ settings. AreRunOptions (map string_bytes words.now) settings × AreInRange settings) }
+    ensures only { IfSome result (λ settings. (other : Settings) → AreRunOptions (map string_bytes words.now) other → other ≡ settings) }
     ensures none { IfNone result ((settings : Settings) → AreRunOptions (map string_bytes words.now) settings → AreInRange settings → ⊥) }
 {
     let given = gather(words)?;
@@ -83,6 +84,7 @@ fn run_settings(words: &[String]) -> Option<Settings>
 // The settings of the words behind `demo`.
 fn demo_settings(words: &[String]) -> Option<Settings>
     ensures found { IfSome result (λ settings. AreDemoWords (map string_bytes words.now) settings × AreInRange settings) }
+    ensures only { IfSome result (λ settings. (other : Settings) → AreDemoWords (map string_bytes words.now) other → other ≡ settings) }
     ensures none { IfNone result ((settings : Settings) → AreDemoWords (map string_bytes words.now) settings → AreInRange settings → ⊥) }
 {
     let (digits, rest) = words.split_first()?;
@@ -96,6 +98,7 @@ fn demo_settings(words: &[String]) -> Option<Settings>
 // The settings of all words.
 fn settings_of(words: &[String]) -> Option<Settings>
     ensures found { IfSome result (λ settings. Chooses (map string_bytes words.now) settings) }
+    ensures only { IfSome result (λ settings. (other : Settings) → Chooses (map string_bytes words.now) other → other ≡ settings) }
     ensures none { IfNone result (AreOutside (map string_bytes words.now)) }
 {
     let (first, rest) = words.split_first()?;
@@ -110,6 +113,7 @@ fn settings_of(words: &[String]) -> Option<Settings>
 /// the grammar. Takes no memory.
 pub fn read_words(words: &[String]) -> Result<Settings, WordsFault>
     ensures found { IfOk result (λ settings. Chooses (map string_bytes words.now) settings) }
+    ensures only { IfOk result (λ settings. (other : Settings) → Chooses (map string_bytes words.now) other → other ≡ settings) }
     ensures fault { OnErr result (AreOutside (map string_bytes words.now)) }
 {
     settings_of(words).ok_or(WordsFault::BadWords)
