@@ -6,3 +6,4 @@ pub mod Matched
 pub mod Chain
 pub mod Walks
 pub mod Held
+pub mod Order

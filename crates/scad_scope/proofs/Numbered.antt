@@ -12,13 +12,13 @@ use Rattle.scad_scope.specs.Tables.{text_held, functions_held, modules_held}
 use Rattle.scad_scope.specs.TextView.{function_of, module_of}
 use Rattle.scad_scope.specs.Numbered.{numbers_below, each_row, entries_below}
 
-functions_joined : (xs ys : List Mark) → count_functions (xs ++ ys) ≡ count_functions xs + count_functions ys
+pub functions_joined : (xs ys : List Mark) → count_functions (xs ++ ys) ≡ count_functions xs + count_functions ys
 functions_joined [] ys = omega arith
 functions_joined (a_block s ∷ xs) ys = functions_joined xs ys
 functions_joined (a_function g ∷ xs) ys = omega (arith, functions_joined xs ys)
 functions_joined (a_module d ∷ xs) ys = functions_joined xs ys
 
-modules_joined : (xs ys : List Mark) → count_modules (xs ++ ys) ≡ count_modules xs + count_modules ys
+pub modules_joined : (xs ys : List Mark) → count_modules (xs ++ ys) ≡ count_modules xs + count_modules ys
 modules_joined [] ys = omega arith
 modules_joined (a_block s ∷ xs) ys = modules_joined xs ys
 modules_joined (a_function g ∷ xs) ys = modules_joined xs ys

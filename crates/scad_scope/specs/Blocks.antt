@@ -1,5 +1,5 @@
 -- The blocks of a program, the definitions that stand in each, and their numbers.
-use Rattle.std.specs.Prelude.{ℕ, zero, suc, ◌+◌, List, [], ◌∷◌, ◌++◌, length, reverse, slice_index_or, Bool, true, false, ◌&&◌, if◌then◌else◌, Option, Some, None}
+use Rattle.std.specs.Prelude.{◌≡◌, ◌<◌, ℕ, zero, suc, ◌+◌, List, [], ◌∷◌, ◌++◌, length, reverse, slice_index_or, Bool, true, false, ◌&&◌, if◌then◌else◌, Option, Some, None}
 use Rattle.std.specs.Bool.{beq}
 use Rattle.std.specs.Str.{bytes_eq}
 use Rattle.text_place.specs.declared.fault.Place.{Place}
@@ -235,6 +235,23 @@ numbered_text program = record {
   modules = modules_of_program program;
   bodies = bodies_from 0 (marks_of_program program);
 }
+
+-- that the blocks from a number on are those of these marks: whoever walks the statements of a block in order meets
+-- their blocks one behind the other
+abbrev pub StandAt : NumberedText → ℕ → List Mark → Type 0
+StandAt text number [] = Unit {0}
+StandAt text number (a_block statements ∷ marks) =
+    (number < length text.entries) × ((slice_index_or text.entries number nothing_there).statements ≡ statements)
+    × StandAt text (number + 1) marks
+StandAt text number (a_function f ∷ marks) = StandAt text number marks
+StandAt text number (a_module d ∷ marks) = StandAt text number marks
+
+-- what stands in a block begins behind it, and a module's body at the number that the module has
+pub record StandsInOrder (text : NumberedText) : Type 0 where
+  pub blocks : (n : ℕ) → n < length text.entries
+      → StandAt text (n + 1) (marks_in (slice_index_or text.entries n nothing_there).statements)
+  pub bodies : (k : ℕ) (d : Module) → k < length text.modules → d ≡ slice_index_or text.modules k d
+      → StandAt text (slice_index_or text.bodies k 0) (marks_of_body d.body)
 
 -- a new scope with a block's own definitions, inside another one
 abbrev pub own_row : ℕ → Own → Row

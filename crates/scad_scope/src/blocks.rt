@@ -23,14 +23,18 @@ pub struct Blocks<'a> {
 impl<'a> Blocks<'a> {
     ghost use Rattle.std.specs.Prelude.{◌≡◌, ◌<◌, IfOk, slice_index_or};
     ghost use Rattle.scad_ast.specs.StatementView.{program_of};
-    ghost use Rattle.scad_scope.specs.Blocks.{numbered_text, nothing_there};
+    ghost use Rattle.scad_scope.specs.Blocks.{numbered_text, nothing_there, StandsInOrder};
+    ghost use Rattle.scad_scope.specs.Numbered.{count_of_functions, count_of_modules};
     ghost use Rattle.scad_scope.specs.Tables.{text_held, functions_held, modules_held};
     ghost use Rattle.scad_scope.specs.TextView.{function_of, module_of, assigned_of, text_of};
 
     /// The blocks, functions and modules of a program, by one walk through its text. `NoMemory` comes
     /// also where there are more of them than 2^32 - 1.
     pub fn of(alloc: Global, program: &'a Program) -> Result<Blocks<'a>, NoMemory>
-        ensures { IfOk result (λ blocks. text_held blocks ≡ numbered_text (program_of program.now)) }
+        ensures text { IfOk result (λ blocks. text_held blocks ≡ numbered_text (program_of program.now)) }
+        ensures order { IfOk result (λ blocks. StandsInOrder (text_held blocks)) }
+        ensures functions { IfOk result (λ blocks. length (functions_held blocks) ≡ count_of_functions (program_of program.now)) }
+        ensures modules { IfOk result (λ blocks. length (modules_held blocks) ≡ count_of_modules (program_of program.now)) }
     {
         let walk = walk_program(alloc, program)?;
         Ok(Blocks {

@@ -1,4 +1,4 @@
-use Rattle.std.proofs.Common.{refl, ap, length, subst, ◌≡◌, [], ◌∷◌, ◌++◌}
+use Rattle.std.proofs.Common.{refl, length, subst, ◌≡◌, [], ◌∷◌, ◌++◌}
 use Rattle.std.specs.Prelude.{OnOk}
 use Rattle.scad_scope.specs.Names.{Row, no_numbered_call}
 use Rattle.scad_scope.specs.Blocks.{row_of_block}

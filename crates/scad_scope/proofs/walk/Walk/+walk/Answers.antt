@@ -1,9 +1,9 @@
-use Rattle.std.proofs.Common.{◌≡◌, ◌∙◌, ◌<◌, ◌≤◌, List, [], length, get_or, refl, sym, ap, arith}
+use Rattle.std.proofs.Common.{◌≡◌, ◌∙◌, ◌<◌, List, length, get_or, refl, sym, ap, arith}
 use Rattle.scad_ast.specs.declared.statement.Statement.{Statement}
 use Rattle.scad_ast.specs.Terms.{statements_from, no_statements, and_statement, InstanceStatement}
-use Rattle.scad_ast.specs.StatementView.{statement_of, statements_of, instance_of, core_of, body_of}
-use Rattle.scad_scope.specs.Blocks.{marks_in, marks_of_core, marks_of_body, marks_of_instance, Own, no_own, own_of_block, NumberedText}
-use Rattle.scad_scope.specs.Walk.{walked, after, with_text, own_with}
+use Rattle.scad_ast.specs.StatementView.{statements_of, instance_of, body_of}
+use Rattle.scad_scope.specs.Blocks.{marks_in, marks_of_body, marks_of_instance, Own, own_of_block, NumberedText}
+use Rattle.scad_scope.specs.Walk.{walked, after, own_with}
 use Rattle.scad_scope.specs.TextView.{own_of}
 use Rattle.scad_scope.proofs.Scans.{instance_marks}
 use Rattle.scad_scope.proofs.Walks.{ending, begun_there, joined_told, walked_more, own_more, own_single, single_blocks}
