@@ -4,3 +4,5 @@ pub mod Scans
 pub mod Numbered
 pub mod Matched
 pub mod Chain
+pub mod Walks
+pub mod Held
