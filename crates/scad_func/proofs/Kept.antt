@@ -60,7 +60,7 @@ moved F scope k = ap F (sym (k.same scope))
 
 -- one call deeper
 pub work_falls : (source : Source) (calls : ℕ) → calls < 64
-    → work_left source (calls + 1) + (4 * deepest source.functions.items.items + 8) ≤ work_left source calls
+    → work_left source (calls + 1) + (4 * deepest source.blocks.functions.items + 8) ≤ work_left source calls
 unfolding work_left
 work_falls source calls h =
     let k : 64 - calls ≡ (64 - (calls + 1)) + 1 = omega arith in

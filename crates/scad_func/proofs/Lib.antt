@@ -1,5 +1,4 @@
 mod Rows
-pub mod Counts
 pub mod Environments
 pub mod Calls
 pub mod Growth

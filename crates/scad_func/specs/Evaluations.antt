@@ -21,7 +21,7 @@ setting e scope = record {
 
 -- the calls that are left, times more than any function is deep
 unfoldable pub work_left : Source → ℕ → ℕ
-work_left source calls = (64 - calls) * (4 * deepest source.functions.items.items + 8)
+work_left source calls = (64 - calls) * (4 * deepest source.blocks.functions.items + 8)
 
 -- what stays, after a fault too: all but the turns
 pub record Keeps (old new : Evaluation) : Type 0 where

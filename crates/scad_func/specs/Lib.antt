@@ -1,6 +1,5 @@
 pub mod Meaning
 pub mod Definitions
-pub mod Functions
 pub mod Steps
 pub mod View
 pub mod Evaluations

@@ -10,7 +10,7 @@ ghost use Rattle.scad_scope.specs.Arguments.{names_of};
 ghost use Rattle.scad_builtin.specs.Builtins.{are_bounded};
 ghost use Rattle.scad_func.specs.Meaning.{Outcome, Gives, one_call_fewer, turn, then_with, answered, value_at, operand as operand_at, each_value as values_at, each_argument as arguments_at, each_parameter as parameters_at, parameter_value, function_value as function_value_at, function_called, nothing_given as nothing_at, paired, in_scope, Within, no_call, each_suffix, each_link, called, function_in, range_of as range_at, stepped_range_of as stepped_at, counted as counted_at};
 ghost use Rattle.scad_func.specs.Steps.{all_values, suffixed, linked};
-ghost use Rattle.scad_func.specs.Functions.{function_of};
+ghost use Rattle.scad_scope.specs.TextView.{function_of};
 ghost use Rattle.scad_func.specs.View.{Tells, TellsAll, TellsArguments, function_size, deepest, indexed_val, IsThere, slot_of, slots_in, slots_bounded, slot_is_bounded, arguments_of, arguments_bounded, names_in};
 ghost use Rattle.scad_func.specs.Evaluations.{Keeps, scopes_there, setting};
 
@@ -25,9 +25,10 @@ use crate::arguments::{
 };
 use crate::bind::bind_all;
 use crate::evaluation::Evaluation;
-use crate::functions::{Function, find};
+use crate::functions::find;
 use crate::held::{with, with_next};
 use scad_ast::{Args, Expr, Exprs, Link, Links, Param, Params, Suffix, Suffixes};
+use scad_scope::Function;
 use scad_value::Value;
 use std::mem;
 use text_place::{Fault, FaultKind, Place, Stop};
@@ -389,7 +390,7 @@ impl Evaluation<'_, '_> {
         place: Place,
     ) -> Result<Value, Stop>
         requires scope { scope < scopes_there self.old }
-        requires within { function_size function ≤ deepest self.old.source.now.functions.items.items }
+        requires within { function_size function ≤ deepest self.old.source.now.blocks.functions.items }
         requires count { length given.slots.items ≡ length (params_of function.params.now) }
         requires bounded { IsTrue (arguments_bounded (arguments_of given)) }
         ensures value { Tells result self.new.turns (function_called (setting self.old scope) place (function_of function.entry) (arguments_of given.entry) self.old.turns) }

@@ -12,7 +12,6 @@ mod meter;
 mod source;
 mod value;
 
-pub use functions::{Function, Functions};
 pub use meter::Meter;
 pub use source::Source;
 pub use value::{value_in, value_of};

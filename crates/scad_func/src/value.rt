@@ -4,10 +4,11 @@ ghost use Rattle.scad_ast.specs.StatementView.{program_of};
 ghost use Rattle.scad_value.specs.Values.{is_bounded};
 ghost use Rattle.scad_value.specs.View.{val_of};
 ghost use Rattle.scad_scope.specs.Names.{env_of};
-ghost use Rattle.scad_scope.specs.Numbered.{functions_below, count_of_functions};
+ghost use Rattle.scad_scope.specs.Numbered.{functions_below};
+ghost use Rattle.scad_scope.specs.Blocks.{functions_of_program, numbered_text};
 ghost use Rattle.scad_scope.specs.Table.{rows_of, chain_of};
 ghost use Rattle.scad_func.specs.Meaning.{evaluated};
-ghost use Rattle.scad_func.specs.Definitions.{env_in, functions_of_program};
+ghost use Rattle.scad_func.specs.Definitions.{env_in};
 ghost use Rattle.scad_func.specs.View.{Tells, IsNumbered, seen};
 
 use crate::evaluation::Evaluation;
@@ -69,12 +70,12 @@ pub fn value_of(
     meter: &mut Meter,
 ) -> Result<Value, Stop>
     requires scope { scope < length (rows_of scopes.old) }
-    requires numbered { IsTrue (functions_below (count_of_functions (program_of program.now)) (rows_of scopes.old)) }
+    requires numbered { IsTrue (functions_below (length (functions_of_program (program_of program.now))) (rows_of scopes.old)) }
     requires calls { meter.old.calls ≤ 64 }
     requires depth { meter.old.depth ≤ 512 }
     requires turns { meter.old.turns ≤ 100000 }
     ensures value { Tells result meter.new.turns (evaluated (512 - meter.old.depth) true (64 - meter.old.calls)
-        (env_in (functions_of_program (program_of program.now)) (program_of program.now) (env_of (rows_of scopes.old) scope)) (chain_of scopes.old) (term_of expr.now) meter.old.turns) }
+        (env_in (numbered_text (program_of program.now)) (env_of (rows_of scopes.old) scope)) (chain_of scopes.old) (term_of expr.now) meter.old.turns) }
     ensures bounded { IfOk result (λ v. IsTrue (is_bounded (val_of v))) }
     ensures scopes { rows_of scopes.new ≡ rows_of scopes.old }
     ensures chain { chain_of scopes.new ≡ chain_of scopes.old }

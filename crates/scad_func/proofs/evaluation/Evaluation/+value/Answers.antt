@@ -20,10 +20,10 @@ use Rattle.scad_value.specs.View.{val_of, vals_in}
 use Rattle.scad_scope.specs.Arguments.{name_of}
 use Rattle.scad_scope.specs.Names.{env_of, find_in, variable_in as numbered_variable_in}
 use Rattle.scad_scope.specs.Table.{rows_of, chain_of}
-use Rattle.scad_func.specs.Functions.{function_of}
+use Rattle.scad_scope.specs.TextView.{function_of}
 use Rattle.scad_func.specs.Meaning.{Outcome, Gives, Faults, value_at, with_calls, one_call_fewer, turn, Arguments, nothing_given, taker_of, each_argument, each_parameter, parameter_value, function_value, operand, each_value, each_suffix, each_link, called, answered, or_fault, or_zero}
 use Rattle.scad_func.specs.Steps.{all_values, suffixed, linked, argument_of}
-use Rattle.scad_func.specs.View.{Tells, IsLonger, IsGiven, program_held, functions_held, slots_in, slot_of, indexed_val, arguments_of, arguments_bounded, names_in, taker_seen}
+use Rattle.scad_func.specs.View.{Tells, IsLonger, IsGiven, text_of, slots_in, slot_of, indexed_val, arguments_of, arguments_bounded, names_in, taker_seen}
 use Rattle.scad_func.specs.declared.arguments.ArgumentValues.{ArgumentValues}
 use Rattle.scad_func.specs.declared.arguments.Destination.{Destination}
 use Rattle.scad_func.specs.Evaluations.{setting}
@@ -67,7 +67,7 @@ operand-returns-in_ok-child_count-in-ChildCount-clause-value t c =
     ap (λ x. operand (setting e c.args.scope) x e.turns)
     (ap term_of c.in-ChildCount.is ∙ count_form c.in-ChildCount.place)
     ∙ ap (λ o. Gives e.turns (or_zero o))
-    (variable_same (functions_held e.source.now) (program_held e.source.now) (env_of (rows_of e.scopes.now) c.args.scope) (codes "$children"))
+    (variable_same (text_of e.source.now) (env_of (rows_of e.scopes.now) c.args.scope) (codes "$children"))
     ∙ ap (Gives e.turns) (sym c.in_ok-child_count-in-ChildCount.ensures.value)
 
 pub operand-returns-in-Name-clause-value : goal.operand-returns-in-Name-clause-value
@@ -77,7 +77,7 @@ operand-returns-in-Name-clause-value t c =
     (ap (λ x. operand (setting e c.args.scope) x e.turns)
     (ap term_of c.in-Name.is ∙ name_form c.in-Name.place c.in-Name.name)
     ∙ ap (λ o. or_fault o UnknownName c.in-Name.place (λ x. Gives e.turns x))
-    (variable_same (functions_held e.source.now) (program_held e.source.now) (env_of (rows_of e.scopes.now) c.args.scope) c.in-Name.name ∙ ap
+    (variable_same (text_of e.source.now) (env_of (rows_of e.scopes.now) c.args.scope) c.in-Name.name ∙ ap
     (λ n. numbered_variable_in (env_of (rows_of e.scopes.now) c.args.scope) n)
     (sym c.items.ensures)))
     (c.variable_of.ensures.value e.turns)
@@ -188,7 +188,7 @@ postfix-returns-in_err-variable-clause-value t c =
     let e = c.args.self.now in
     let here = setting e c.args.scope in
     let missing = c.in_err-variable.ensures.missing in
-    let none = variable_same (functions_held e.source.now) (program_held e.source.now) (env_of (rows_of e.scopes.now) c.args.scope) c.in-Name.name ∙ ap
+    let none = variable_same (text_of e.source.now) (env_of (rows_of e.scopes.now) c.args.scope) c.in-Name.name ∙ ap
     (λ n. numbered_variable_in (env_of (rows_of e.scopes.now) c.args.scope) n) (sym c.items.ensures)
     ∙ missing.0 in
     rw (p.1, p.2) (fault_at c.in_err-variable.field-0.0 e.turns UnknownName c.in-Name.place _
@@ -200,7 +200,7 @@ pub postfix-returns-in-Name-clause-value : goal.postfix-returns-in-Name-clause-v
 postfix-returns-in-Name-clause-value t c =
     let e = c.args.self.now in
     let here = setting e c.args.scope in
-    let found = variable_same (functions_held e.source.now) (program_held e.source.now) (env_of (rows_of e.scopes.now) c.args.scope) c.in-Name.name ∙ ap
+    let found = variable_same (text_of e.source.now) (env_of (rows_of e.scopes.now) c.args.scope) c.in-Name.name ∙ ap
     (λ n. numbered_variable_in (env_of (rows_of e.scopes.now) c.args.scope) n) (sym c.items.ensures)
     ∙ c.in_ok-variable.ensures.found in
     tells_along c.suffixes.result c.suffixes.new.self.turns _ _
@@ -311,7 +311,7 @@ link-returns-in-Name-clause-value t c =
     ∙ name_then here (term_of part.right) c.in-Name.at c.in-Name.name e.turns _
     (λ turns w. answered (binary_of part.op (val_of c.args.left) w) part.place turns)
     (ap term_of c.in-Name.is ∙ name_form c.in-Name.at c.in-Name.name)
-    (variable_same (functions_held e.source.now) (program_held e.source.now) (env_of (rows_of e.scopes.now) c.args.scope) c.in-Name.name))
+    (variable_same (text_of e.source.now) (env_of (rows_of e.scopes.now) c.args.scope) c.in-Name.name))
     (c.operate_with_variable.ensures.value e.turns)
 
 pub call-returns-in_err-given-in-Some-clause-value : goal.call-returns-in_err-given-in-Some-clause-value
