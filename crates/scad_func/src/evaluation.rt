@@ -9,16 +9,16 @@ use std::alloc::Global;
 /// An evaluation under way: what it reads, the scopes and special names that it adds to, and what it counts. The type
 /// keeps each limit, and that the scopes name functions of the source alone.
 #[derive(Drop)]
-pub(crate) struct Evaluation<'a, 's> {
-    pub(crate) alloc: Global,
-    pub(crate) source: &'a Source<'a>,
-    pub(crate) scopes: &'s mut Scopes,
+pub struct Evaluation<'a, 's> {
+    pub alloc: Global,
+    pub source: &'a Source<'a>,
+    pub scopes: &'s mut Scopes,
     /// Calls in one another.
-    pub(crate) calls: u32,
+    pub calls: u32,
     /// Evaluations in one another.
-    pub(crate) depth: u32,
+    pub depth: u32,
     /// Turns so far.
-    pub(crate) turns: u64,
+    pub turns: u64,
     ghost numbered: { IsNumbered source.now (rows_of scopes.now) },
     ghost few_calls: { calls ≤ 64 },
     ghost shallow: { depth ≤ 512 },

@@ -37,7 +37,7 @@ impl Evaluation<'_, '_> {
     /// The value of an expression, whose parts are counted where it is a list.
     #[cycle(value)]
     #[tactic(auto, using(crate::proofs::Kept::keeps_trans))]
-    pub(crate) fn expression(&mut self, scope: u32, expr: &Expr) -> Result<Value, Stop>
+    pub fn expression(&mut self, scope: u32, expr: &Expr) -> Result<Value, Stop>
         requires scope { scope < scopes_there self.old }
         ensures value { Tells result self.new.turns (value_at (setting self.old scope) true (term_of expr.now) self.old.turns) }
         ensures bounded { IfOk result (λ v. IsTrue (is_bounded (val_of v))) }
@@ -357,7 +357,7 @@ impl Evaluation<'_, '_> {
     /// name, and then evaluated.
     #[cycle(value)]
     #[tactic(auto, using(crate::proofs::Kept::keeps_trans))]
-    fn each_argument<'b>(
+    pub fn each_argument<'b>(
         &mut self,
         scope: u32,
         names: Names<'_>,
@@ -506,7 +506,7 @@ impl Evaluation<'_, '_> {
     /// The values of parameters, from the first on.
     #[cycle(value)]
     #[tactic(auto, using(crate::proofs::Kept::keeps_trans))]
-    fn each_parameter(
+    pub fn each_parameter(
         &mut self,
         scope: u32,
         params: &Params,

@@ -8,10 +8,14 @@ mod evaluation;
 mod evaluator;
 mod functions;
 mod held;
+mod limits;
 mod meter;
+mod scoping;
 mod source;
 mod value;
 
+pub use arguments::{ArgumentValues, Names, SpecialArgument};
+pub use evaluation::Evaluation;
 pub use meter::Meter;
 pub use source::Source;
 pub use value::{value_in, value_of};
