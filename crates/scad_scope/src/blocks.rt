@@ -54,7 +54,8 @@ impl<'a> Blocks<'a> {
     /// The function of a number. Takes no memory.
     pub fn function(&self, number: u32) -> Function<'a>
         requires { number < length (functions_held self.now) }
-        ensures { function_of result ≡ slice_index_or (functions_held self.now) number (function_of result) }
+        ensures same { function_of result ≡ slice_index_or (functions_held self.now) number (function_of result) }
+        ensures item { result ≡ slice_index_or self.now.functions.items number result }
     {
         self.functions[number as usize]
     }
@@ -63,6 +64,7 @@ impl<'a> Blocks<'a> {
     pub fn module(&self, number: u32) -> Module<'a>
         requires { number < length (modules_held self.now) }
         ensures same { module_of result ≡ slice_index_or (modules_held self.now) number (module_of result) }
+        ensures item { result ≡ slice_index_or self.now.modules.items number result }
         ensures block { result.block ≡ slice_index_or (text_held self.now).bodies number result.block }
     {
         self.modules[number as usize]
