@@ -1,6 +1,10 @@
 //! The built-in modules of the modelling language: their names and parameters, and what the arguments of a call mean.
 #![tactic(auto)]
 
+mod effects;
+mod name;
 mod table;
 
+pub use effects::{Chosen, Effect, FlatShape, SolidShape};
+pub use name::{builtin_module, is_left_out};
 pub use table::BuiltinModule;
