@@ -7,7 +7,7 @@ use Rattle.plane_predicate.specs.Units.{steps_of}
 use Rattle.plane_predicate.specs.Space.{point_at}
 use Rattle.int_transform.specs.declared.affine.Affine.{Affine}
 use Rattle.int_transform.specs.Maps.{moving, scaling, mirroring, quarter_turn, repeated, affine_of, determinant_of}
-use Rattle.scad_value.specs.Values.{Val, NumberVal}
+use Rattle.scad_value.specs.Values.{Val, NumberVal, is_small}
 use Rattle.scad_value.specs.Operators.{Answer}
 use Rattle.scad_modules.specs.Effects.{EffectCall, a_move}
 use Rattle.scad_modules.specs.Reading.{Slots, slot, vector_in, coordinates_in, points_in, required, left_out, of_type, refused_where}
@@ -20,7 +20,7 @@ is_zero n = int_eq n (pos 0)
 
 -- a number that is past 2^53 - 1 in size
 abbrev pub is_past : ℤ → Bool
-is_past n = nat_lt 9007199254740991 (unsigned_abs n)
+is_past n = not (is_small n)
 
 -- a length in units, in grid steps
 abbrev pub in_steps : LengthUnit → ℤ → ℤ
@@ -34,12 +34,16 @@ on_grid unit by = in_steps unit (part by 0) ∷ in_steps unit (part by 1) ∷ in
 abbrev pub some_part : (ℤ → Bool) → List ℤ → Bool
 some_part test by = test (part by 0) || (test (part by 1) || test (part by 2))
 
+-- inside an extrusion, a vector that leaves the plane
+abbrev pub leaves_plane : Bool → List ℤ → Bool
+leaves_plane inside by = inside && not (is_zero (part by 2))
+
 -- translate(v): 2 or 3 numbers
 abbrev pub translate_call : LengthUnit → Bool → Slots → Answer EffectCall
 translate_call unit inside slots =
     required (slot slots 0) (λ v.
     of_type (coordinates_in (pos 0) v) (λ by.
-    refused_where (inside && not (is_zero (part by 2))) WrongDimension
+    refused_where (leaves_plane inside by) WrongDimension
     (refused_where (some_part is_past (on_grid unit by)) TooLarge
     (Ok (a_move (moving (point_at (on_grid unit by)) ∷ []))))))
 
@@ -61,6 +65,13 @@ quarters_of angle =
 abbrev pub turned : ℕ → ℤ → Affine
 turned axis angle = repeated (quarter_turn axis) (quarters_of angle)
 
+-- inside an extrusion, turns about x or y
+abbrev pub tilts_plane : Bool → List ℤ → Bool
+tilts_plane inside angles = inside && not (is_zero (part angles 0) && is_zero (part angles 1))
+
+abbrev pub turns_of : List ℤ → List Affine
+turns_of angles = turned 0 (part angles 0) ∷ turned 1 (part angles 1) ∷ turned 2 (part angles 2) ∷ []
+
 -- rotate(a): about x, then y, then z
 abbrev pub rotate_call : Bool → Slots → Answer EffectCall
 rotate_call inside slots =
@@ -68,8 +79,8 @@ rotate_call inside slots =
     left_out (slot slots 1)
     (of_type (angles_in v) (λ angles.
     refused_where (some_part is_skew angles) NotQuarter
-    (refused_where (inside && not (is_zero (part angles 0) && is_zero (part angles 1))) WrongDimension
-    (Ok (a_move (turned 0 (part angles 0) ∷ turned 1 (part angles 1) ∷ turned 2 (part angles 2) ∷ [])))))))
+    (refused_where (tilts_plane inside angles) WrongDimension
+    (Ok (a_move (turns_of angles)))))))
 
 -- a number that isn't 0, beside two that are
 abbrev pub is_alone : ℤ → ℤ → ℤ → Bool
@@ -147,6 +158,10 @@ keeps_plane rows =
     is_zero (part x 2) && (is_zero (part y 2) && (is_zero (part z 0) && (is_zero (part z 1)
     && (int_eq (part z 2) (pos 1) && is_zero (part z 3)))))
 
+-- inside an extrusion, a matrix that leaves the plane
+abbrev pub leaves_plane_by : Bool → List (List ℤ) → Bool
+leaves_plane_by inside rows = inside && not (keeps_plane rows)
+
 -- the rows with their moves in grid steps
 abbrev pub row_on_grid : LengthUnit → List ℤ → List ℤ
 row_on_grid unit row = part row 0 ∷ part row 1 ∷ part row 2 ∷ in_steps unit (part row 3) ∷ []
@@ -165,6 +180,6 @@ multmatrix_call unit inside slots =
     of_type (rows_in v) (λ rows.
     refused_where (some_row (some_part is_past_matrix) rows) TooLarge
     (refused_where (is_zero (determinant_of (affine_of rows))) Singular
-    (refused_where (inside && not (keeps_plane rows)) WrongDimension
+    (refused_where (leaves_plane_by inside rows) WrongDimension
     (refused_where (some_row (moves_past unit) rows) TooLarge
     (Ok (a_move (affine_of (rows_on_grid unit rows) ∷ []))))))))

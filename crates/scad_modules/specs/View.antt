@@ -1,10 +1,12 @@
 -- The plain effect that an effect in memory stands for, and what the code's readers answer.
 use Rattle.std.specs.Prelude.{◌≡◌, List, map, Option, Some, None, option_map, Result, Ok, Err}
+use Rattle.std.specs.Borrow.{Bor}
 use Rattle.text_place.specs.declared.fault.FaultKind.{FaultKind}
 use Rattle.text_place.specs.declared.fault.FaultKind.TheVariants.{TypeMismatch}
 use Rattle.scad_value.specs.declared.value.Value.{Value}
 use Rattle.scad_value.specs.declared.stop.ValueStop.{ValueStop}
 use Rattle.scad_value.specs.declared.stop.ValueStop.TheVariants.{Kind, NoMemory}
+use Rattle.scad_value.specs.Values.{Val}
 use Rattle.scad_value.specs.Operators.{Answer}
 use Rattle.scad_value.specs.View.{val_of}
 use Rattle.scad_modules.specs.declared.effects.SolidShape.{SolidShape}
@@ -21,6 +23,10 @@ use Rattle.scad_modules.specs.Bounds.{IsSafeCall}
 
 abbrev pub slots_of : List (Option Value) → Slots
 slots_of = map (option_map val_of)
+
+-- the value of `$fn`
+abbrev pub fragments_of : Option (Bor Value) → Option Val
+fragments_of = option_map (λ value. val_of value.now)
 
 abbrev pub solid_of : SolidShape → SolidCall
 solid_of (Cube size center) = cube_call center size
