@@ -1,0 +1,7 @@
+pub mod Designs
+pub mod Verdicts
+pub mod Bodies
+pub mod Loops
+pub mod Meaning
+pub mod Placing
+pub mod Sources
