@@ -55,7 +55,7 @@ by_test false x v other b go g = go g
 none_some : (o : Option Val) (v : Val) → o ≡ None → o ≡ Some v → ⊥
 none_some o v g h = cc
 
-found_bounded : (ps : Pairs Val) (name : List ℕ) (v : Val) → IsTrue (have_bounded ps) →
+pub found_bounded : (ps : Pairs Val) (name : List ℕ) (v : Val) → IsTrue (have_bounded ps) →
     find_in ps name ≡ Some v → IsTrue (is_bounded v)
 found_bounded [] name v b f = absurd (none_some None v refl f)
 found_bounded (p ∷ ps) name v b f = by_test (bytes_eq p.0 name) p.1 v (find_in ps name) (and_parts _ _ b).0

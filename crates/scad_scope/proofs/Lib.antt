@@ -3,3 +3,4 @@ pub mod Bound
 pub mod Scans
 pub mod Numbered
 pub mod Matched
+pub mod Chain

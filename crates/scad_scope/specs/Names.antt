@@ -1,7 +1,7 @@
 -- Scopes as lists of pairs of a name and what it stands for, searched from the newest.
-use Rattle.std.specs.Prelude.{ℕ, zero, suc, ◌-◌, ◌^◌, List, [], ◌∷◌, ◌++◌, length, Bool, true, ◌&&◌, Option, Some, None, slice_index_or, if◌then◌else◌}
+use Rattle.std.specs.Prelude.{ℕ, zero, suc, ◌-◌, ◌^◌, pos, List, [], ◌∷◌, ◌++◌, length, drop, Bool, true, ◌&&◌, Option, Some, None, slice_index_or, if◌then◌else◌, codes}
 use Rattle.std.specs.Str.{bytes_eq}
-use Rattle.scad_value.specs.Values.{Val, is_bounded}
+use Rattle.scad_value.specs.Values.{Val, NumberVal, is_bounded}
 
 -- pairs of a name and what it stands for, the newest first
 abbrev pub Pairs : Type 0 → Type 0
@@ -90,3 +90,12 @@ all_bounded (r ∷ rs) = have_bounded r.variables && all_bounded rs
 abbrev pub with_pair : List ℕ → Val → Env → Env
 with_pair name value Outermost = Outermost
 with_pair name value (Within number row outer) = Within number (with_variable name value row) outer
+
+-- The chain of special variables (OpenSCAD User Manual, "Special variables"): pairs of a name, without its `$`, and
+-- its value, the newest first. It begins with these.
+abbrev pub first_chain : Pairs Val
+first_chain = (codes "fs", NumberVal (pos 2)) ∷ (codes "fa", NumberVal (pos 12)) ∷ (codes "fn", NumberVal (pos 0)) ∷ []
+
+-- so many of the oldest pairs, where the newest stands first
+abbrev pub oldest : {A : Type 0} → ℕ → List A → List A
+oldest n xs = drop (length xs - n) xs

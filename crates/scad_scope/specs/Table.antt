@@ -8,12 +8,16 @@ use Rattle.scad_value.specs.Values.{Val, is_bounded}
 use Rattle.scad_value.specs.View.{val_of}
 use Rattle.scad_scope.specs.declared.scopes.Scopes.{Scopes}
 use Rattle.scad_scope.specs.declared.table.Found.{Found}
-use Rattle.scad_scope.specs.Names.{Row, Env, env_of}
-use Rattle.scad_scope.specs.View.{rows_in}
+use Rattle.scad_scope.specs.Names.{Pairs, Row, Env, env_of}
+use Rattle.scad_scope.specs.View.{variables_of, rows_in}
 
 -- the scopes by number
 abbrev pub rows_of : Scopes → List Row
 rows_of s = rows_in s.scopes.items
+
+-- the chain of special variables, the newest first
+abbrev pub chain_of : Scopes → Pairs Val
+chain_of s = variables_of s.chain.items
 
 -- the number of a scope that is there, and of a definition that stands in it
 pub record IsFound (rows : List Row) (wanted : Option (Env × ℕ)) (found : Found) : Type 0 where

@@ -1,37 +1,44 @@
 ghost use Rattle.std.specs.Prelude.{IsTrue};
-ghost use Rattle.scad_scope.specs.Names.{all_bounded};
-ghost use Rattle.scad_scope.specs.View.{rows_in};
+ghost use Rattle.scad_scope.specs.Names.{all_bounded, have_bounded};
+ghost use Rattle.scad_scope.specs.View.{rows_in, variables_of};
 
 use crate::own::{empty, scope_of_block};
-use crate::table::{Family, Found, Scope, definitions, find_definition, find_variable};
+use crate::table::{
+    Family, Found, Scope, Variable, definitions, find_definition, find_variable, first,
+};
 use scad_ast::Program;
 use scad_value::Value;
 use std::alloc::Global;
 use text_place::{Bytes, Fault, FaultKind, NoMemory, Place};
 
 /// Scopes by number. The first one, 0, is outside all others; each other one is entered inside one
-/// that is there. Each value in them is bounded, which the type keeps.
+/// that is there. Beside them stands the chain of special variables, which belong to no scope: a name
+/// stands for its newest value. Each value in them is bounded, which the type keeps.
 #[derive(Drop)]
 pub struct Scopes {
     pub(crate) scopes: Vec<Scope>,
+    /// The chain, the newest last.
+    pub(crate) chain: Vec<Variable>,
     ghost bounded: { IsTrue (all_bounded (rows_in scopes.items)) },
+    ghost chain_bounded: { IsTrue (have_bounded (variables_of chain.items)) },
 }
 
 impl Scopes {
-    ghost use Rattle.std.specs.Prelude.{◌≡◌, ◌<◌, ℕ, List, [], ◌∷◌, ◌++◌, length, IfOk, IfErr, OnOk, OnErr, MatchResult, IsTrue, MatchOption, Some, None, IfSome};
+    ghost use Rattle.std.specs.Prelude.{◌≡◌, ◌<◌, ℕ, List, [], ◌∷◌, ◌++◌, length, IfOk, IfErr, OnOk, OnErr, MatchResult, IsTrue, MatchOption, Some, None, IfSome, ◌≤◌, ◌-◌};
     ghost use Rattle.text_place.specs.declared.fault.FaultKind.TheVariants.{UnknownName, UnknownFunction, UnknownModule};
-    ghost use Rattle.scad_value.specs.Values.{is_bounded};
+    ghost use Rattle.scad_value.specs.Values.{Val, is_bounded};
     ghost use Rattle.scad_value.specs.View.{val_of};
-    ghost use Rattle.scad_scope.specs.Names.{env_of, variable_in, function_in, module_in, have_bounded, first_row, empty_row, bound_in, with_pair, Within};
+    ghost use Rattle.scad_scope.specs.Names.{Pairs, find_in, env_of, variable_in, function_in, module_in, have_bounded, first_row, empty_row, bound_in, with_pair, Within, first_chain, oldest};
     ghost use Rattle.scad_ast.specs.StatementView.{program_of};
     ghost use Rattle.scad_scope.specs.Blocks.{entered, block_of};
     ghost use Rattle.scad_scope.specs.Numbered.{functions_below, modules_below, count_of_functions, count_of_modules};
     ghost use Rattle.scad_scope.specs.View.{definition_in, row_of};
-    ghost use Rattle.scad_scope.specs.Table.{rows_of, IsFound, IsMissing, IsVariable};
+    ghost use Rattle.scad_scope.specs.Table.{rows_of, chain_of, IsFound, IsMissing, IsVariable};
 
-    /// One empty scope, number 0, outside all others.
+    /// One empty scope, number 0, outside all others, and the chain with `$fn` 0, `$fa` 12 and `$fs` 2.
     pub fn new(alloc: Global) -> Result<Scopes, NoMemory>
         ensures rows { IfOk result (λ s. rows_of s ≡ first_row ∷ []) }
+        ensures chain { IfOk result (λ s. chain_of s ≡ first_chain) }
         ensures functions { IfOk result (λ s. (n : ℕ) → IsTrue (functions_below n (rows_of s))) }
         ensures modules { IfOk result (λ s. (n : ℕ) → IsTrue (modules_below n (rows_of s))) }
     {
@@ -42,7 +49,12 @@ impl Scopes {
             modules: Vec::new(alloc),
             outer: u32::MAX,
         })?;
-        Ok(Scopes { scopes })
+        let chain = vec![in alloc;
+            first(alloc, b"fn", 0)?,
+            first(alloc, b"fa", 12)?,
+            first(alloc, b"fs", 2)?,
+        ]?;
+        Ok(Scopes { scopes, chain })
     }
 
     /// A new scope of a block of the program, inside another scope, and its number. Block 0 is the
@@ -67,6 +79,7 @@ impl Scopes {
         ensures inside { IfOk result (λ n. env_of (rows_of self.new) n ≡
             Within n (entered outer (block_of (program_of program.now) block)) (env_of (rows_of self.old) outer)) }
         ensures kept { (k : ℕ) → k < length (rows_of self.old) → env_of (rows_of self.new) k ≡ env_of (rows_of self.old) k }
+        ensures chain { chain_of self.new ≡ chain_of self.old }
         ensures functions { let n = count_of_functions (program_of program.now) in
             IsTrue (functions_below n (rows_of self.old)) → IsTrue (functions_below n (rows_of self.new)) }
         ensures modules { let n = count_of_modules (program_of program.now) in
@@ -87,6 +100,7 @@ impl Scopes {
         ensures inside { IfOk result (λ n. env_of (rows_of self.new) n ≡
             Within n (empty_row outer) (env_of (rows_of self.old) outer)) }
         ensures kept { (k : ℕ) → k < length (rows_of self.old) → env_of (rows_of self.new) k ≡ env_of (rows_of self.old) k }
+        ensures chain { chain_of self.new ≡ chain_of self.old }
         ensures functions { (n : ℕ) →
             IsTrue (functions_below n (rows_of self.old)) → IsTrue (functions_below n (rows_of self.new)) }
         ensures modules { (n : ℕ) →
@@ -100,6 +114,7 @@ impl Scopes {
         ensures number { IfOk result (λ n. n ≡ length (rows_of self.old)) }
         ensures added { OnOk result (rows_of self.new ≡ rows_of self.old ++ row_of scope ∷ []) }
         ensures unchanged { OnErr result (rows_of self.new ≡ rows_of self.old) }
+        ensures chain { chain_of self.new ≡ chain_of self.old }
     {
         let number = self.scopes.len();
         if number > u32::MAX as usize {
@@ -125,6 +140,7 @@ impl Scopes {
         ensures here { OnOk result (env_of (rows_of self.new) scope ≡
             with_pair name.now (val_of value) (env_of (rows_of self.old) scope)) }
         ensures kept { (k : ℕ) → k < scope → env_of (rows_of self.new) k ≡ env_of (rows_of self.old) k }
+        ensures chain { chain_of self.new ≡ chain_of self.old }
         ensures functions { (n : ℕ) →
             IsTrue (functions_below n (rows_of self.old)) → IsTrue (functions_below n (rows_of self.new)) }
         ensures modules { (n : ℕ) →
@@ -144,6 +160,7 @@ impl Scopes {
         requires bounded { IsTrue (is_bounded (val_of value)) }
         ensures bound { OnOk result (rows_of self.new ≡ bound_in (rows_of self.old) scope name.now (val_of value)) }
         ensures unchanged { OnErr result (rows_of self.new ≡ rows_of self.old) }
+        ensures chain { chain_of self.new ≡ chain_of self.old }
     {
         let name = Bytes::of(Vec::from_slice(alloc, name)?);
         self.scopes[scope as usize].bind(name, value)
@@ -170,6 +187,62 @@ impl Scopes {
             }
             at = here.outer;
         }
+    }
+
+    /// Gives a special name, without its `$`, a value, as the newest of the chain, and answers how long
+    /// the chain was before. `NoMemory` leaves the chain as it was; it also comes where the chain is
+    /// 2^32 pairs long.
+    pub fn bind_special(
+        &mut self,
+        alloc: Global,
+        name: &[u8],
+        value: Value,
+    ) -> Result<u32, NoMemory>
+        requires { IsTrue (is_bounded (val_of value)) }
+        ensures length { IfOk result (λ n. n ≡ length (chain_of self.old)) }
+        ensures bound { OnOk result (chain_of self.new ≡ (name.now, val_of value) ∷ chain_of self.old) }
+        ensures unchanged { OnErr result (chain_of self.new ≡ chain_of self.old) }
+        ensures rows { rows_of self.new ≡ rows_of self.old }
+    {
+        let before = self.chain.len();
+        if before > u32::MAX as usize {
+            return Err(NoMemory);
+        }
+        let name = Bytes::of(Vec::from_slice(alloc, name)?);
+        self.chain.push(Variable { name, value })?;
+        Ok(before as u32)
+    }
+
+    /// The newest value of a special name, given without its `$`; it is bounded. UnknownName at the
+    /// place exactly where the chain has no such name. Takes no memory.
+    pub fn special(&self, name: &[u8], place: Place) -> Result<&Value, Fault>
+        ensures { MatchResult result (λ v. IsVariable (find_in (chain_of self.now) name.now) v.now)
+            (IsMissing UnknownName place (find_in (chain_of self.now) name.now)) }
+    {
+        match find_variable(&self.chain, name) {
+            Some(value) => Ok(value),
+            None => Err(Fault {
+                kind: FaultKind::UnknownName,
+                place,
+            }),
+        }
+    }
+
+    /// How many pairs the chain has. Takes no memory.
+    pub fn chain_length(&self) -> usize
+        ensures { result ≡ length (chain_of self.now) }
+    {
+        self.chain.len()
+    }
+
+    /// Cuts the chain to its oldest pairs, so many of them. Takes no memory.
+    pub fn unwind(&mut self, to: u32)
+        requires { to ≤ length (chain_of self.old) }
+        ensures chain { chain_of self.new ≡ oldest to (chain_of self.old) }
+        ensures back { (newer older : Pairs Val) → chain_of self.old ≡ newer ++ older → length older ≡ to → chain_of self.new ≡ older }
+        ensures rows { rows_of self.new ≡ rows_of self.old }
+    {
+        self.chain.truncate(to as usize);
     }
 
     /// The function of a name, from a scope outward. UnknownFunction exactly where no scope outward

@@ -1,9 +1,11 @@
-ghost use Rattle.std.specs.Prelude.{◌≡◌, OnOk, OnErr};
+ghost use Rattle.std.specs.Prelude.{◌≡◌, OnOk, OnErr, IfOk};
+ghost use Rattle.scad_value.specs.Values.{NumberVal};
 ghost use Rattle.scad_value.specs.View.{val_of};
 ghost use Rattle.scad_scope.specs.Names.{find_in, with_variable};
-ghost use Rattle.scad_scope.specs.View.{variables_of, definitions_of, IsValueFound, pairs_of, row_of};
+ghost use Rattle.scad_scope.specs.View.{variable_of, variables_of, definitions_of, IsValueFound, pairs_of, row_of};
 
 use scad_value::Value;
+use std::alloc::Global;
 use text_place::{Bytes, NoMemory};
 
 /// A name and its value.
@@ -96,4 +98,15 @@ pub(crate) fn definitions(family: Family, scope: &Scope) -> &[Definition]
         Family::Functions => &scope.functions,
         Family::Modules => &scope.modules,
     }
+}
+
+/// A name and a number as its value.
+pub(crate) fn first(alloc: Global, name: &[u8], number: i64) -> Result<Variable, NoMemory>
+    ensures { IfOk result (λ v. variable_of v ≡ (name.now, NumberVal number)) }
+{
+    let name = Bytes::of(Vec::from_slice(alloc, name)?);
+    Ok(Variable {
+        name,
+        value: Value::Number(number),
+    })
 }
