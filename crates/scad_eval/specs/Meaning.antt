@@ -11,7 +11,8 @@ use Rattle.scad_ast.specs.Terms.{Term, BinderTerm, StatementTerms, no_statements
 use Rattle.scad_value.specs.Values.{Val, NumberVal, Vals, no_vals, and_val, truth_of}
 use Rattle.scad_value.specs.Operators.{Answer}
 use Rattle.scad_scope.specs.Names.{Pairs, find_in}
-use Rattle.scad_func.specs.Meaning.{Outcome, Gives, Faults, then_with, or_fault, Function, Module, Env, Outermost, Within, Opened, no_call, opened, module_in, call_in, functions_standing_in, modules_standing_in, entered_scope, with_variable, turn, Setting, value_at, in_scope, with_calls, with_specials, one_call_fewer, Arguments, nothing_given, taker_of, given_to, each_argument, each_parameter, paired, names_of, evaluated}
+use Rattle.scad_scope.specs.Arguments.{names_of}
+use Rattle.scad_func.specs.Meaning.{Outcome, Gives, Faults, then_with, or_fault, Function, Module, Env, Outermost, Within, Opened, no_call, opened, module_in, call_in, functions_standing_in, modules_standing_in, entered_scope, with_variable, turn, Setting, value_at, in_scope, with_calls, with_specials, one_call_fewer, Arguments, nothing_given, taker_of, with_argument, each_argument, each_parameter, paired, evaluated}
 use Rattle.scad_modules.specs.declared.table.BuiltinModule.{BuiltinModule}
 use Rattle.scad_modules.specs.declared.table.BuiltinModule.TheVariants.{Echo, Assert}
 use Rattle.scad_modules.specs.Table.{module_named, is_left_out, parameters_of}
@@ -207,7 +208,7 @@ each_said here (and_named at name value rest) given turns =
     then_with (value_at here true value turns) (λ turns v. each_said here rest given turns)
 each_said here (and_special at name value rest) given turns =
     or_fault (taker_of [] 0 given (SpecialArgTerm at name value)) BadArgument at (λ taker.
-    then_with (value_at here true value turns) (λ turns v. each_said here rest (given_to given taker v) turns))
+    then_with (value_at here true value turns) (λ turns v. each_said here rest (with_argument given taker v) turns))
 each_said here (and_positional value rest) given turns =
     then_with (value_at here true value turns) (λ turns v. each_said here rest given turns)
 

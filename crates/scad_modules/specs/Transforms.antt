@@ -133,7 +133,7 @@ keeps_plane rows =
 
 -- the rows with their moves in grid steps
 abbrev pub row_on_grid : LengthUnit → List ℤ → List ℤ
-row_on_grid unit row = part row 0 ∷ part row 1 ∷ part row 2 ∷ steps_of unit *ℤ part row 3 ∷ []
+row_on_grid unit row = part row 0 ∷ part row 1 ∷ part row 2 ∷ (steps_of unit *ℤ part row 3) ∷ []
 
 abbrev pub moves_past : LengthUnit → List ℤ → Bool
 moves_past unit row = is_past (steps_of unit *ℤ part row 3)
