@@ -1,7 +1,5 @@
-pub mod Designs
 pub mod Verdicts
 pub mod Bodies
 pub mod Loops
 pub mod Meaning
-pub mod Placing
 pub mod Sources
