@@ -4,3 +4,4 @@ pub mod PartFaults
 pub mod FullTrees
 pub mod DesignTrees
 pub mod OnePlacing
+pub mod TrimDesigns

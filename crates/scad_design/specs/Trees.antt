@@ -35,6 +35,23 @@ abbrev pub IsStopOf : Design → List Coefficients → Stop → Type 0
 IsStopOf design known (Fault fault) = Places design known (unplaced fault.kind fault.place)
 IsStopOf design known NoMemory = Unit {0}
 
+-- how many parts it has
+abbrev pub parts_in : Design → ℕ
+parts_in empty = 0
+parts_in (a_part part) = 1
+parts_in (joined op left right) = parts_in left + parts_in right
+
+-- no side of a join is empty
+abbrev pub IsPresent : Design → Type 0
+IsPresent empty = ⊥
+IsPresent (a_part part) = Unit {0}
+IsPresent (joined op left right) = Unit {0}
+
+abbrev pub IsTrim : Design → Type 0
+IsTrim empty = Unit {0}
+IsTrim (a_part part) = Unit {0}
+IsTrim (joined op left right) = IsPresent left × IsPresent right × IsTrim left × IsTrim right
+
 -- a stop of a part by itself: its first fault, whatever planes were there before it, or want of memory
 abbrev pub IsRangeStop : Part → Stop → Type 0
 IsRangeStop part (Fault fault) = ((known : List Coefficients) → IsPlacingFault part known fault.kind) × (fault.place ≡ part.at)

@@ -39,7 +39,6 @@ pub fn place(alloc: Global, design: &Design) -> Result<CsgTree, Stop>
 }
 
 /// The tree of a design behind the distinct planes of those before it.
-#[tactic(auto, using(crate::proofs::FullTrees::few_joined))]
 fn place_after(
     alloc: Global,
     known: &mut IndexSet<PlaneKey>,
