@@ -1,0 +1,2 @@
+//! What a source means.
+#![tactic(auto)]
