@@ -1,5 +1,5 @@
 -- What stands in a body: its assignments, its instances, and which of these are children.
-use Rattle.std.specs.Prelude.{ℕ, suc, Bool, true, false, not, ◌&&◌, ◌||◌, List, [], ◌∷◌, ◌++◌, length, filter, Option, Some, None, is_some, codes, if◌then◌else◌}
+use Rattle.std.specs.Prelude.{◌≡◌, ⊤, ℕ, suc, Bool, true, false, not, ◌&&◌, ◌||◌, List, [], ◌∷◌, ◌++◌, length, filter, Option, Some, None, is_some, option_map, codes, if◌then◌else◌}
 use Rattle.std.specs.List.{list_any}
 use Rattle.std.specs.Str.{bytes_eq}
 use Rattle.text_place.specs.declared.fault.Place.{Place}
@@ -34,20 +34,49 @@ abbrev pub same_truth : Bool → Bool → Bool
 same_truth true other = other
 same_truth false other = not other
 
-abbrev pub is_of_name : Assignment → Assignment → Bool
-is_of_name a b = same_truth a.special b.special && bytes_eq a.name b.name
+-- an assignment to this name
+abbrev pub is_to : Bool → List ℕ → Assignment → Bool
+is_to special name b = same_truth special b.special && bytes_eq name b.name
 
--- the last expression that an assignment's name is given
-abbrev pub last_value : Assignment → List Assignment → Term
-last_value a [] = a.value
-last_value a (b ∷ bs) = if is_of_name a b then last_value b bs else last_value a bs
+-- whether some assignments have a name
+abbrev pub is_named_in : List Assignment → Assignment → Bool
+is_named_in earlier a = list_any (is_to a.special a.name) earlier
 
--- each name once, at the place of its first assignment, with its last expression; `earlier` are the names that came before
+-- the last expression that a name is given, or else this one
+abbrev pub last_value : Bool → List ℕ → Term → List Assignment → Term
+last_value special name value [] = value
+last_value special name value (b ∷ bs) =
+    if is_to special name b then last_value special name b.value bs else last_value special name value bs
+
+-- each name once, at the place of its first assignment, with its last expression; `earlier` are the assignments before
 abbrev pub once_each : List Assignment → List Assignment → List Assignment
 once_each earlier [] = []
 once_each earlier (a ∷ as_) =
-    if list_any (is_of_name a) earlier then once_each earlier as_
-    else record { special = a.special; name = a.name; at = a.at; value = last_value a as_ } ∷ once_each (a ∷ earlier) as_
+    if is_named_in earlier a then once_each earlier as_
+    else record { special = a.special; name = a.name; at = a.at; value = last_value a.special a.name a.value as_ } ∷ once_each (a ∷ earlier) as_
+
+-- the first and the last assignment of a name
+abbrev pub first_of : Bool → List ℕ → List Assignment → Option Assignment
+first_of special name [] = None
+first_of special name (b ∷ bs) = if is_to special name b then Some b else first_of special name bs
+
+abbrev pub or_later : Option Assignment → Option Assignment → Option Assignment
+or_later earlier None = earlier
+or_later earlier (Some b) = Some b
+
+abbrev pub last_of : Bool → List ℕ → List Assignment → Option Assignment
+last_of special name [] = None
+last_of special name (b ∷ bs) = or_later (if is_to special name b then Some b else None) (last_of special name bs)
+
+-- an assignment that stands for all of its name: it has the value of the last one, at the place of the first one
+pub record StandsForAll (assignments : List Assignment) (a : Assignment) : Type 0 where
+  pub last : option_map (λ b. b.value) (last_of a.special a.name assignments) ≡ Some a.value
+  pub first : option_map (λ b. b.at) (first_of a.special a.name assignments) ≡ Some a.at
+
+-- assignments to different names
+abbrev pub HaveOwnNames : List Assignment → Type 0
+HaveOwnNames [] = ⊤
+HaveOwnNames (a ∷ as_) = (is_named_in as_ a ≡ false) × HaveOwnNames as_
 
 -- the instances of a body in order
 abbrev mutual

@@ -1,2 +1,6 @@
-//! What a source means.
+//! What a source means: definitions, with laws and worked rows.
 #![tactic(auto)]
+
+mod laws;
+
+pub use laws::last_assignments_count;

@@ -1,0 +1,2 @@
+mod Assignments
+mod Rows
