@@ -6,7 +6,8 @@ use Rattle.std.specs.Str.{bytes_eq}
 use Rattle.std.proofs.lemmas.Slice.Eq.{bytes_eq-Decides}
 use Rattle.std.proofs.lemmas.Bool.{false≢true}
 use Rattle.scad_ast.specs.Terms.{Term}
-use Rattle.scad_eval.specs.Bodies.{Assignment, same_truth, is_to, is_named_in, last_value, once_each, first_of, or_later, last_of, StandsForAll, HaveOwnNames}
+use Rattle.scad_value.specs.Values.{same_truth}
+use Rattle.scad_eval.specs.Bodies.{Assignment, is_to, is_named_in, last_value, once_each, first_of, or_later, last_of, StandsForAll, HaveOwnNames}
 
 either : (b : Bool) → (b ≡ true) ⊎ (b ≡ false)
 either true = inl refl

@@ -6,6 +6,7 @@ use Rattle.text_place.specs.declared.fault.Place.{Place}
 use Rattle.scad_ast.specs.declared.operator.Modifier.{Modifier}
 use Rattle.scad_ast.specs.declared.operator.Modifier.TheVariants.{Disable, Background, Highlight, Root}
 use Rattle.scad_ast.specs.Terms.{Term, MarkTerm, StatementTerm, EmptyStatement, BlockStatement, AssignmentTerm, SpecialAssignmentTerm, ModuleTerm, FunctionTerm, InstanceStatement, StatementTerms, no_statements, and_statement, InstanceTerm, AnInstance, CoreTerm, IfTerm, IfElseTerm, ForTerm, IntersectionForTerm, ModuleCallTerm, BodyTerm, EmptyBody, BlockBody, InstanceBody}
+use Rattle.scad_value.specs.Values.{same_truth}
 use Rattle.scad_func.specs.Meaning.{Env, module_in}
 
 -- an assignment to a variable, or to a special one, with the place of its statement
@@ -29,10 +30,6 @@ abbrev mutual
   assignments_of (ModuleTerm at name name_at params body) = []
   assignments_of (FunctionTerm at name name_at params value) = []
   assignments_of (InstanceStatement instance) = []
-
-abbrev pub same_truth : Bool → Bool → Bool
-same_truth true other = other
-same_truth false other = not other
 
 -- an assignment to this name
 abbrev pub is_to : Bool → List ℕ → Assignment → Bool
