@@ -1,2 +1,3 @@
 mod Assignments
 mod Rows
+mod Verdicts

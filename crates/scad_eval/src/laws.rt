@@ -1,8 +1,11 @@
 //! Laws of the meaning of sources, on functions that do nothing.
 
-ghost use Rattle.std.specs.Prelude.{◌≡◌, List, [], true};
+ghost use Rattle.std.specs.Prelude.{◌≡◌, ℤ, Bool, List, [], true};
 ghost use Rattle.std.specs.List.{AllByRecursion};
 ghost use Rattle.scad_eval.specs.Bodies.{Assignment, StandsForAll, HaveOwnNames, is_named_in, once_each};
+ghost use Rattle.plane_predicate.specs.declared.unit.Unit.{Unit as LengthUnit};
+ghost use Rattle.scad_modules.specs.Effects.{SolidCall, FlatCall};
+ghost use Rattle.scad_eval.specs.Verdicts.{Verdict, IsSolidVerdict, IsFlatVerdict, IsHeightVerdict};
 
 /// The last assignment of a name in a scope counts everywhere in it (OpenSCAD User Manual, "Variables"): of all
 /// assignments of a body, those that are evaluated have each name once, with its last expression, in the place of its
@@ -11,5 +14,16 @@ pub fn last_assignments_count()
     ensures counts { (assignments : List Assignment) → AllByRecursion (StandsForAll assignments) (once_each [] assignments) }
     ensures once { (assignments : List Assignment) → HaveOwnNames (once_each [] assignments) }
     ensures all { (assignments : List Assignment) → AllByRecursion (λ a. is_named_in (once_each [] assignments) a ≡ true) assignments }
+{
+}
+
+/// What is wrong with a shape, or with the height of an extrusion, is one thing: no two verdicts are right.
+pub fn shapes_have_one_verdict()
+    ensures solids { (unit : LengthUnit) (call : SolidCall) (v w : Verdict) →
+        IsSolidVerdict unit call v → IsSolidVerdict unit call w → v ≡ w }
+    ensures flats { (unit : LengthUnit) (call : FlatCall) (v w : Verdict) →
+        IsFlatVerdict unit call v → IsFlatVerdict unit call w → v ≡ w }
+    ensures heights { (unit : LengthUnit) (center : Bool) (height : ℤ) (v w : Verdict) →
+        IsHeightVerdict unit center height v → IsHeightVerdict unit center height w → v ≡ w }
 {
 }

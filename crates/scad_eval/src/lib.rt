@@ -3,4 +3,4 @@
 
 mod laws;
 
-pub use laws::last_assignments_count;
+pub use laws::{last_assignments_count, shapes_have_one_verdict};
