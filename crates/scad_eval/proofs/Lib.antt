@@ -1,3 +1,5 @@
 mod Assignments
+mod Deciding
+mod Judges
 mod Rows
 mod Verdicts

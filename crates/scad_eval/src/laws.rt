@@ -5,7 +5,7 @@ ghost use Rattle.std.specs.List.{AllByRecursion};
 ghost use Rattle.scad_eval.specs.Bodies.{Assignment, StandsForAll, HaveOwnNames, is_named_in, once_each};
 ghost use Rattle.plane_predicate.specs.declared.unit.Unit.{Unit as LengthUnit};
 ghost use Rattle.scad_modules.specs.Effects.{SolidCall, FlatCall};
-ghost use Rattle.scad_eval.specs.Verdicts.{Verdict, IsSolidVerdict, IsFlatVerdict, IsHeightVerdict};
+ghost use Rattle.scad_eval.specs.Verdicts.{Verdict, Judge, IsRight, IsSolidVerdict, IsFlatVerdict, IsHeightVerdict};
 
 /// The last assignment of a name in a scope counts everywhere in it (OpenSCAD User Manual, "Variables"): of all
 /// assignments of a body, those that are evaluated have each name once, with its last expression, in the place of its
@@ -17,8 +17,10 @@ pub fn last_assignments_count()
 {
 }
 
-/// What is wrong with a shape, or with the height of an extrusion, is one thing: no two verdicts are right.
+/// What is wrong with a shape, or with the height of an extrusion, is one thing: some judge is always right, and no two
+/// verdicts are.
 pub fn shapes_have_one_verdict()
+    ensures some { (judge : Judge) × IsRight judge }
     ensures solids { (unit : LengthUnit) (call : SolidCall) (v w : Verdict) →
         IsSolidVerdict unit call v → IsSolidVerdict unit call w → v ≡ w }
     ensures flats { (unit : LengthUnit) (call : FlatCall) (v w : Verdict) →
