@@ -1,5 +1,6 @@
 mod Assignments
 mod Deciding
 mod Judges
+mod Made
 mod Rows
 mod Verdicts

@@ -1,5 +1,6 @@
 pub mod Designs
 pub mod Verdicts
+pub mod Answers
 pub mod Bodies
 pub mod Loops
 pub mod Meaning

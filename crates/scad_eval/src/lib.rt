@@ -2,5 +2,7 @@
 #![tactic(auto)]
 
 mod laws;
+mod shapes;
 
 pub use laws::{last_assignments_count, shapes_have_one_verdict};
+pub use shapes::{flat_shape, solid_shape};
