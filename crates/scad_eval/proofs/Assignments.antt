@@ -5,7 +5,6 @@ use Rattle.std.specs.List.{list_any, AllByRecursion}
 use Rattle.std.specs.Str.{bytes_eq}
 use Rattle.std.proofs.lemmas.Slice.Eq.{bytes_eq-Decides}
 use Rattle.std.proofs.lemmas.Bool.{false≢true}
-use Rattle.scad_ast.specs.Terms.{Term}
 use Rattle.scad_value.specs.Values.{same_truth}
 use Rattle.scad_eval.specs.Bodies.{Assignment, is_to, is_named_in, last_value, once_each, first_of, or_later, last_of, StandsForAll, HaveOwnNames}
 
@@ -115,12 +114,12 @@ with_one_more : (earlier : List Assignment) (b : Assignment) (bs : List Assignme
 with_one_more earlier b bs true h before behind =
     mapped (λ a s. record { new = s.new; stands = further a b bs (other_name a.special a.name b earlier s.new h) s.stands }) (once_each earlier bs) before
 with_one_more earlier b bs false h before behind = (
-    record { new = h; stands = heading b bs },
-    mapped (λ a s. record {
-      new = or_right (is_to a.special a.name b) (list_any (is_to a.special a.name) earlier) s.new;
-      stands = further a b bs (or_left (is_to a.special a.name b) (list_any (is_to a.special a.name) earlier) s.new) s.stands;
-    }) (once_each (b ∷ earlier) bs) behind,
-  )
+  record { new = h; stands = heading b bs },
+  mapped (λ a s. record {
+    new = or_right (is_to a.special a.name b) (list_any (is_to a.special a.name) earlier) s.new;
+    stands = further a b bs (or_left (is_to a.special a.name b) (list_any (is_to a.special a.name) earlier) s.new) s.stands;
+  }) (once_each (b ∷ earlier) bs) behind,
+)
 
 all_settled : (earlier as_ : List Assignment) → AllByRecursion (Settled earlier as_) (once_each earlier as_)
 all_settled earlier [] = tt
@@ -171,9 +170,9 @@ with_names : (earlier : List Assignment) (b : Assignment) (bs : List Assignment)
     AllByRecursion (IsThere earlier (cond t (once_each earlier bs) (record { special = b.special; name = b.name; at = b.at; value = last_value b.special b.name b.value bs } ∷ once_each (b ∷ earlier) bs))) (b ∷ bs)
 with_names earlier b bs true h before behind = (on_the_right (is_named_in (once_each earlier bs) b) (is_named_in earlier b) h, before)
 with_names earlier b bs false h before behind = (
-    ap (λ (t : Bool). (t || is_named_in (once_each (b ∷ earlier) bs) b) || is_named_in earlier b) (same_itself b.special b.name),
-    mapped (λ c k. swapped (is_named_in (once_each (b ∷ earlier) bs) c) (is_to c.special c.name b) (is_named_in earlier c) k) bs behind,
-  )
+  ap (λ (t : Bool). (t || is_named_in (once_each (b ∷ earlier) bs) b) || is_named_in earlier b) (same_itself b.special b.name),
+  mapped (λ c k. swapped (is_named_in (once_each (b ∷ earlier) bs) c) (is_to c.special c.name b) (is_named_in earlier c) k) bs behind,
+)
 
 all_there : (earlier as_ : List Assignment) → AllByRecursion (IsThere earlier (once_each earlier as_)) as_
 all_there earlier [] = tt

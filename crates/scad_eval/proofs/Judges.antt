@@ -1,5 +1,5 @@
 -- A judge that is always right: each check of shapes can be decided.
-use Rattle.std.proofs.Common.{◌≡◌, ◌⊎◌, inl, inr, ⊎_elim, ℕ, zero, suc, ◌+◌, ◌*◌, ◌<◌, ◌≤◌, ◌%◌, ℤ, pos, ◌<ℤ◌, ◌≤ℤ◌, unsigned_abs, Bool, true, false, List, [], ◌∷◌, length, get_or, map, All, Any, Option, Some, None, refl, sym, ap, ap₂, subst, ◌∙◌, arith}
+use Rattle.std.proofs.Common.{◌≡◌, ◌⊎◌, inl, inr, ⊎_elim, ℕ, ◌<◌, ◌≤◌, ◌%◌, ℤ, pos, ◌<ℤ◌, ◌≤ℤ◌, unsigned_abs, Bool, true, false, List, [], ◌∷◌, length, get_or, All, Any, Some, None, refl, ap, ap₂, subst, arith}
 use Rattle.std.proofs.lemmas.Int.{by_lt_z}
 use Rattle.std.proofs.lemmas.List.{get_or_default}
 use Rattle.text_place.specs.declared.fault.FaultKind.{FaultKind}
@@ -13,7 +13,7 @@ use Rattle.round_four.specs.Circles.{IsCircleSize, IsCircleFault}
 use Rattle.round_four.specs.Cylinders.{AreCylinderSizes, IsCylinderFault, HasBody, AreNear, IsOnGrid as IsCentredOnGrid, IsInRange as IsCylinderInRange}
 use Rattle.polyhedra.specs.declared.ways.Way.{Way}
 use Rattle.polyhedra.specs.Checks.{IsWithinLimits, HasEnoughCorners, AreThere, IsInRange as IsPointInRange, IsFlat, IsClosed, HasOuterPlane, IsOnOnePlane, IsConvex as IsConvexMesh}
-use Rattle.polyhedra.specs.Ways.{nowhere, turned, all_ways, ways_of, IsMetOnce, AreMetBothWays, HasNoneLeft, IsClockwise}
+use Rattle.polyhedra.specs.Ways.{nowhere, turned, all_ways, ways_of, IsMetOnce, HasNoneLeft}
 use Rattle.polyhedra.specs.Spanning.{SpansFace}
 use Rattle.polyhedra.specs.Bounding.{Bounds, IsBounded}
 use Rattle.polyhedra.specs.Polyhedra.{mesh_of, IsPolyhedron, IsFaultOf, IsFirstToFail, checks, faults}
@@ -402,8 +402,11 @@ abbrev the_judge : Judge
 the_judge = record { solid = judged_solid; flat = judged_flat; height = λ unit center height. told (size_verdict unit center (height ∷ [])) }
 
 pub some_judge : (judge : Judge) × IsRight judge
-some_judge = (the_judge, record {
-  solid = solid_right;
-  flat = flat_right;
-  height = λ unit center height. height_right unit center height (size_verdict unit center (height ∷ []));
-})
+some_judge = (
+  the_judge,
+  record {
+    solid = solid_right;
+    flat = flat_right;
+    height = λ unit center height. height_right unit center height (size_verdict unit center (height ∷ []));
+  },
+)

@@ -1,6 +1,5 @@
 -- The answers of the calls that make shapes, by a judge that is right.
-use Rattle.std.proofs.Common.{◌≡◌, ℤ, ℕ, Bool, List, [], ◌∷◌, Some, None, Result, Ok, Err, IfOk, OnOk, IfErr}
-use Rattle.text_place.specs.declared.fault.FaultKind.{FaultKind}
+use Rattle.std.proofs.Common.{◌≡◌, ℤ, ℕ, Bool, List, Some, None, Result, Ok, Err, IfOk, OnOk, IfErr}
 use Rattle.plane_predicate.specs.declared.unit.Unit.{Unit as LengthUnit}
 use Rattle.shape_planes.specs.declared.stop.ShapeStop.{ShapeStop}
 use Rattle.shape_planes.specs.declared.stop.ShapeStop.TheVariants.{Kind, NoMemory}

@@ -1,18 +1,18 @@
 -- Worked rows of the meaning of programs, which compute. Each comment is the source whose syntax stands below it.
-use Rattle.std.proofs.Common.{◌≡◌, ℕ, ℤ, pos, negsuc, Bool, true, false, List, [], ◌∷◌, map, Option, Some, None, refl}
+use Rattle.std.proofs.Common.{◌≡◌, ℕ, ℤ, Bool, true, false, List, [], ◌∷◌, map, None, refl}
 use Rattle.std.specs.Prelude.{codes}
 use Rattle.text_place.specs.declared.fault.Place.{Place}
 use Rattle.text_place.specs.declared.fault.FaultKind.TheVariants.{TooDeep, UnknownName, RangeOrder, UnknownModule, NotInProfile, NotQuarter, WrongDimension, AssertFailed, TypeMismatch, Singular, BadArgument, TooManyTurns, TooManyParts}
 use Rattle.plane_predicate.specs.declared.unit.Unit.TheVariants.{Whole}
-use Rattle.plane_predicate.specs.Space.{Coordinates, point_at}
+use Rattle.plane_predicate.specs.Space.{point_at}
 use Rattle.csg_tree.specs.declared.op.Op.{Op}
 use Rattle.int_transform.specs.Maps.{map_of, image, coordinates}
-use Rattle.scad_ast.specs.declared.operator.BinaryOp.TheVariants.{Or, And, Equal, NotEqual, Less, LessEqual, Greater, GreaterEqual, Add, Subtract, Multiply, Divide, Remainder}
-use Rattle.scad_ast.specs.declared.operator.UnaryOp.TheVariants.{Negate, Keep, Not}
-use Rattle.scad_ast.specs.declared.operator.Modifier.TheVariants.{Disable, Background, Highlight, Root}
-use Rattle.scad_ast.specs.Terms.{Term, NumberTerm, TextTerm, TruthTerm, UndefTerm, ChildCountTerm, SpecialTerm, NameTerm, CallTerm, ParenTerm, ListTerm, RangeTerm, SteppedRangeTerm, PostfixTerm, UnaryTerm, ChainTerm, ChoiceTerm, Terms, no_terms, and_term, ArgTerms, no_args, and_named, and_special, and_positional, SuffixTerms, no_suffixes, and_index, and_member, LinkTerms, no_links, and_link, ParamTerm, PlainTerm, DefaultTerm, ArgTerm, NamedTerm, SpecialArgTerm, PositionalTerm, StatementTerm, EmptyStatement, BlockStatement, AssignmentTerm, SpecialAssignmentTerm, ModuleTerm, FunctionTerm, InstanceStatement, StatementTerms, no_statements, and_statement, InstanceTerm, AnInstance, CoreTerm, IfTerm, IfElseTerm, ForTerm, IntersectionForTerm, ModuleCallTerm, BodyTerm, EmptyBody, BlockBody, InstanceBody}
+use Rattle.scad_ast.specs.declared.operator.BinaryOp.TheVariants.{Equal, Greater, Add, Subtract, Divide}
+use Rattle.scad_ast.specs.declared.operator.UnaryOp.TheVariants.{Negate}
+use Rattle.scad_ast.specs.declared.operator.Modifier.TheVariants.{Disable, Highlight, Root}
+use Rattle.scad_ast.specs.Terms.{NumberTerm, TextTerm, TruthTerm, ChildCountTerm, SpecialTerm, NameTerm, CallTerm, ListTerm, RangeTerm, SteppedRangeTerm, UnaryTerm, ChainTerm, no_terms, and_term, no_args, and_positional, no_links, and_link, PlainTerm, DefaultTerm, NamedTerm, SpecialArgTerm, PositionalTerm, BlockStatement, AssignmentTerm, SpecialAssignmentTerm, ModuleTerm, FunctionTerm, InstanceStatement, StatementTerms, no_statements, and_statement, AnInstance, IfTerm, IfElseTerm, ForTerm, IntersectionForTerm, ModuleCallTerm, EmptyBody, BlockBody, InstanceBody}
 use Rattle.scad_scope.specs.Names.{first_chain}
-use Rattle.scad_func.specs.Meaning.{Outcome, Gives, Faults, then_with, evaluated}
+use Rattle.scad_func.specs.Meaning.{Outcome, Gives, Faults, evaluated}
 use Rattle.scad_eval.specs.Designs.{Design, empty, a_part, joined}
 use Rattle.scad_eval.specs.Verdicts.{Judge}
 use Rattle.scad_eval.specs.Meaning.{Members, each_in_scope, program_stand, made_within, design_of}
@@ -502,4 +502,3 @@ leaf_too_many = refl
 flat_leaf_too_many : begun 0 1024 (and_statement (InstanceStatement (AnInstance (at 1 1) ([]) (ModuleCallTerm (at 1 1) (codes "linear_extrude") ((PositionalTerm (NumberTerm (at 1 16) 1)) ∷ []) (InstanceBody (AnInstance (at 1 19) ([]) (ModuleCallTerm (at 1 19) (codes "square") ((PositionalTerm (NumberTerm (at 1 26) 1)) ∷ []) (EmptyBody (at 1 28)))))))) no_statements) ≡ Faults TooManyParts (at 1 19)
 unfolding made_within evaluated
 flat_leaf_too_many = refl
-

@@ -1,5 +1,5 @@
 -- Each shape and height has at most one verdict: of checks in an order, one at most is the first to fail.
-use Rattle.std.proofs.Common.{◌≡◌, ◌⊎◌, inl, inr, ℕ, zero, suc, ◌+◌, ◌*◌, ◌<◌, ◌≤◌, ◌%◌, ℤ, pos, ◌<ℤ◌, ◌≤ℤ◌, unsigned_abs, Bool, true, false, List, [], ◌∷◌, length, get_or, All, Any, Option, Some, None, refl, sym, ap, subst, ◌∙◌, arith}
+use Rattle.std.proofs.Common.{◌≡◌, ℕ, zero, suc, ◌<◌, ◌≤◌, ◌%◌, ℤ, pos, ◌<ℤ◌, ◌≤ℤ◌, unsigned_abs, Bool, true, false, List, [], ◌∷◌, length, get_or, All, Any, Some, None, refl, sym, ap, subst, ◌∙◌, arith}
 use Rattle.std.specs.Prelude.{⊤}
 use Rattle.std.specs.Int.Signed.{clash_ℤ}
 use Rattle.std.proofs.lemmas.Bool.{false≢true}
@@ -7,9 +7,9 @@ use Rattle.text_place.specs.declared.fault.FaultKind.{FaultKind}
 use Rattle.text_place.specs.declared.fault.FaultKind.TheVariants.{BadSize, NotOnGrid, TooLarge, OutOfRange, LongList, FewPoints, NotConvex}
 use Rattle.plane_predicate.specs.declared.unit.Unit.{Unit as LengthUnit}
 use Rattle.primitives.specs.Sizes.{AreSizes, IsSizeFault, IsLong, IsEven, IsSafe, AreOnGrid, grid_steps}
-use Rattle.primitives.specs.Polygons.{polygon_of, IsPolygon, IsPolygonFault, IsInRange, IsConvex}
-use Rattle.round_four.specs.Circles.{IsCircleSize, IsCircleFault}
-use Rattle.round_four.specs.Cylinders.{AreCylinderSizes, IsCylinderFault, HasBody, IsOnGrid as IsCentredOnGrid, IsInRange as IsCylinderInRange}
+use Rattle.primitives.specs.Polygons.{polygon_of, IsPolygonFault, IsInRange, IsConvex}
+use Rattle.round_four.specs.Circles.{IsCircleFault}
+use Rattle.round_four.specs.Cylinders.{IsCylinderFault, HasBody, IsOnGrid as IsCentredOnGrid, IsInRange as IsCylinderInRange}
 use Rattle.polyhedra.specs.Polyhedra.{IsPolyhedron, IsFaultOf, IsFirstToFail, checks, faults}
 use Rattle.scad_modules.specs.Effects.{SolidCall, cube_call, polyhedron_call, cylinder_call, FlatCall, square_call, polygon_call, circle_call}
 use Rattle.scad_eval.specs.Verdicts.{Verdict, IsSolidVerdict, IsFlatVerdict, IsHeightVerdict}

@@ -1,22 +1,22 @@
 -- The meaning of instances: equations over the syntax and lists of pairs, as those of expressions are. The calls and the
 -- evaluations that are left go in; the turns and the leaves so far go through.
-use Rattle.std.specs.Prelude.{ℕ, zero, suc, ◌+◌, pos, Bool, true, false, ◌&&◌, List, [], ◌∷◌, ◌++◌, length, map, Option, Some, None, is_some, Ok, Err, nat_lt, codes, if◌then◌else◌}
+use Rattle.std.specs.Prelude.{ℕ, zero, suc, ◌+◌, pos, Bool, true, false, List, [], ◌∷◌, ◌++◌, length, Option, Some, None, is_some, Ok, Err, nat_lt, codes, if◌then◌else◌}
 use Rattle.text_place.specs.declared.fault.Place.{Place}
 use Rattle.text_place.specs.declared.fault.FaultKind.TheVariants.{TypeMismatch, UnknownModule, BadArgument, TooDeep, NotInProfile, WrongDimension, TooManyParts}
 use Rattle.csg_tree.specs.declared.op.Op.{Op}
 use Rattle.csg_tree.specs.declared.op.Op.TheVariants.{Union, Intersection}
 use Rattle.plane_predicate.specs.declared.unit.Unit.{Unit as LengthUnit}
 use Rattle.shape_planes.specs.Shapes.{Mesh}
-use Rattle.scad_ast.specs.Terms.{Term, BinderTerm, StatementTerms, no_statements, InstanceTerm, AnInstance, CoreTerm, IfTerm, IfElseTerm, ForTerm, IntersectionForTerm, ModuleCallTerm, BodyTerm, ArgTerm, ArgTerms, no_args, and_named, and_special, and_positional, SpecialArgTerm, args_from}
+use Rattle.scad_ast.specs.Terms.{BinderTerm, StatementTerms, InstanceTerm, AnInstance, CoreTerm, IfTerm, IfElseTerm, ForTerm, IntersectionForTerm, ModuleCallTerm, BodyTerm, ArgTerm, ArgTerms, no_args, and_named, and_special, and_positional, SpecialArgTerm, args_from}
 use Rattle.scad_value.specs.Values.{Val, NumberVal, Vals, no_vals, and_val, truth_of}
 use Rattle.scad_value.specs.Operators.{Answer}
 use Rattle.scad_scope.specs.Names.{Pairs, find_in}
 use Rattle.scad_scope.specs.Arguments.{names_of}
-use Rattle.scad_func.specs.Meaning.{Outcome, Gives, Faults, then_with, or_fault, Function, Module, Env, Outermost, Within, Opened, no_call, opened, module_in, call_in, functions_standing_in, modules_standing_in, entered_scope, with_variable, turn, Setting, value_at, in_scope, with_calls, with_specials, one_call_fewer, Arguments, nothing_given, taker_of, with_argument, each_argument, each_parameter, paired, evaluated}
+use Rattle.scad_func.specs.Meaning.{Outcome, Gives, Faults, then_with, or_fault, Module, Env, Outermost, Within, Opened, no_call, opened, module_in, call_in, functions_standing_in, modules_standing_in, entered_scope, with_variable, turn, Setting, value_at, one_call_fewer, Arguments, nothing_given, taker_of, with_argument, each_argument, each_parameter, paired, evaluated}
 use Rattle.scad_modules.specs.declared.table.BuiltinModule.{BuiltinModule}
-use Rattle.scad_modules.specs.declared.table.BuiltinModule.TheVariants.{Echo, Assert}
+use Rattle.scad_modules.specs.declared.table.BuiltinModule.TheVariants.{Echo}
 use Rattle.scad_modules.specs.Table.{module_named, is_left_out, parameters_of}
-use Rattle.scad_modules.specs.Effects.{EffectCall, a_solid, a_flat, a_move, a_join, an_extrusion, silence, some_children, SolidCall, FlatCall, ChosenCall}
+use Rattle.scad_modules.specs.Effects.{EffectCall, a_solid, a_flat, a_move, a_join, an_extrusion, silence, some_children, FlatCall, ChosenCall}
 use Rattle.scad_modules.specs.Calls.{effect_of}
 use Rattle.scad_eval.specs.Designs.{Design, empty, a_part, balanced, grouped, moved_by}
 use Rattle.scad_eval.specs.Verdicts.{Judge, Verdict, solid_of, extruded, Extrusion}
@@ -287,8 +287,8 @@ module _ (unit : LengthUnit) (judge : Judge) where
   instance_made left make here i turns leaves =
       if is_marked i
       then (if is_some here.inside then Faults WrongDimension (core_place (core_of i))
-            else then_with (core_made left make here (core_of i) turns leaves) (λ turns m.
-            Gives turns (record { leaves = m.leaves; design = m.design; marked = Some m.design })))
+      else then_with (core_made left make here (core_of i) turns leaves) (λ turns m.
+      Gives turns (record { leaves = m.leaves; design = m.design; marked = Some m.design })))
       else core_made left make here (core_of i) turns leaves
 
   -- with so many evaluations in one another left

@@ -1,11 +1,11 @@
 -- Placing: the leaves of a design from left to right, as planes in world position.
-use Rattle.std.specs.Prelude.{◌≡◌, ℕ, ◌<◌, ◌≤◌, List, [], ◌∷◌, ◌++◌, length, map, filter, not, All, Any, Bool, true, false, ◌||◌}
+use Rattle.std.specs.Prelude.{◌≡◌, ◌<◌, ◌≤◌, List, [], ◌∷◌, ◌++◌, length, All, Bool, true, false, ◌||◌}
 use Rattle.std.specs.List.{list_any}
 use Rattle.text_place.specs.declared.fault.Place.{Place}
 use Rattle.text_place.specs.declared.fault.FaultKind.{FaultKind}
 use Rattle.text_place.specs.declared.fault.FaultKind.TheVariants.{TooLarge, OutOfRange, TooManyPlanes}
 use Rattle.plane_predicate.specs.Space.{Coefficients, point_at, opposite_of, is_same, IsInReach, IsPlane}
-use Rattle.int_transform.specs.Maps.{map_of, image, StaysInRange, LeavesRange}
+use Rattle.int_transform.specs.Maps.{map_of, image, StaysInRange}
 use Rattle.shape_planes.specs.Placing.{moved, ArePlanesOf}
 use Rattle.csg_tree.specs.declared.op.Op.{Op}
 use Rattle.csg_tree.specs.Formulas.{Formula, nothing, leaf}

@@ -14,8 +14,7 @@ pub fn last_assignments_count()
     ensures counts { (assignments : List Assignment) → AllByRecursion (StandsForAll assignments) (once_each [] assignments) }
     ensures once { (assignments : List Assignment) → HaveOwnNames (once_each [] assignments) }
     ensures all { (assignments : List Assignment) → AllByRecursion (λ a. is_named_in (once_each [] assignments) a ≡ true) assignments }
-{
-}
+{}
 
 /// What is wrong with a shape, or with the height of an extrusion, is one thing: some judge is always right, and no two
 /// verdicts are.
@@ -27,5 +26,4 @@ pub fn shapes_have_one_verdict()
         IsFlatVerdict unit call v → IsFlatVerdict unit call w → v ≡ w }
     ensures heights { (unit : LengthUnit) (center : Bool) (height : ℤ) (v w : Verdict) →
         IsHeightVerdict unit center height v → IsHeightVerdict unit center height w → v ≡ w }
-{
-}
+{}

@@ -1,4 +1,4 @@
-use Rattle.std.proofs.Common.{◌≡◌, ◌+◌, ◌*◌, ◌++◌, map, drop}
+use Rattle.std.proofs.Common.{◌≡◌, ◌*◌, ◌++◌, map, drop}
 use Rattle.scad_ast.specs.declared.statement.Statements.{size-Statements}
 use Rattle.scad_ast.specs.declared.statement.Statement.{size-Statement}
 use Rattle.scad_ast.specs.Terms.{statements_from}
