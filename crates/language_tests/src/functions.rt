@@ -7,7 +7,7 @@ use crate::evaluating::{first_value, put_answer};
 use crate::reading::{at, read};
 use crate::scopes::bind;
 use scad_ast::{Expr, Program};
-use scad_func::{Meter, expr_has_small_numerals, has_small_numerals, value_of};
+use scad_func::{Meter, value_of};
 use scad_scope::{Found, Scopes};
 use scad_value::Value;
 use std::alloc::Global;
@@ -58,7 +58,7 @@ fn value_within(
     scope: u32,
     expr: &Expr,
 ) -> Result<Value, Stop> {
-    if !has_small_numerals(program) || !expr_has_small_numerals(expr) || scope >= 6 {
+    if scope >= 6 {
         return Ok(Value::Undef);
     }
     let mut scopes = scopes(rt, alloc, program)?;

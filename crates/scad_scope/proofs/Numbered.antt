@@ -1,23 +1,23 @@
 -- The numbers of a block's definitions are below the program's counts, and a table keeps that.
-use Rattle.std.proofs.Common.{◌≡◌, ℕ, zero, suc, ◌+◌, ◌≤◌, List, [], ◌∷◌, ◌++◌, reverse, Bool, refl, ap, sym, subst, ◌&&◌, ◌∙◌, arith, Result, Ok, Err}
+use Rattle.std.proofs.Common.{◌≡◌, ℕ, zero, suc, ◌+◌, ◌≤◌, List, [], ◌∷◌, ◌++◌, take, reverse, Bool, refl, ap, sym, subst, ◌&&◌, ◌∙◌, arith, Result, Ok, Err}
 use Rattle.std.specs.Prelude.{IsTrue, OnOk, OnErr}
 use Rattle.std.proofs.lemmas.Bool.{and_parts, and_from, lt-ltb}
 use Rattle.std.proofs.lemmas.List.{reverse-append}
 use Rattle.scad_value.specs.Values.{Val}
-use Rattle.scad_ast.specs.Terms.{StatementTerm, EmptyStatement, BlockStatement, AssignmentTerm, ModuleTerm, FunctionTerm, InstanceStatement, StatementTerms, no_statements, and_statement, InstanceTerm, AnInstance, CoreTerm, IfTerm, IfElseTerm, ForTerm, IntersectionForTerm, ModuleCallTerm, BodyTerm, EmptyBody, BlockBody, InstanceBody, statements_from}
+use Rattle.scad_ast.specs.Terms.{StatementTerm, EmptyStatement, BlockStatement, AssignmentTerm, SpecialAssignmentTerm, ModuleTerm, FunctionTerm, InstanceStatement, StatementTerms, no_statements, and_statement, InstanceTerm, AnInstance, CoreTerm, IfTerm, IfElseTerm, ForTerm, IntersectionForTerm, ModuleCallTerm, BodyTerm, EmptyBody, BlockBody, InstanceBody, statements_from}
 use Rattle.scad_scope.specs.Names.{Pairs, Row, with_variable, bound_in}
-use Rattle.scad_scope.specs.Blocks.{Mark, a_block, a_function, a_module, Block, Scan, Reached, Passed, scan, marks_of, marks_in, marks_of_instance, marks_of_core, marks_of_body, marks_of_program, block_of, functions_among, modules_among, own_functions, own_function, own_modules, own_module, entered}
+use Rattle.scad_scope.specs.Blocks.{Mark, a_block, a_function, a_module, Block, Scan, Reached, Passed, scan, marks_of, marks_in, marks_of_instance, marks_of_core, marks_of_body, marks_of_program, block_of, count_functions, count_modules, own_functions, own_function, own_modules, own_module, row_of_block}
 use Rattle.scad_scope.specs.Numbered.{numbers_below, each_row, count_of_functions, count_of_modules}
 use Rattle.scad_scope.proofs.Scans.{walked, scan_append, scan_counts}
 
-pub functions_joined : (xs ys : List Mark) → functions_among (xs ++ ys)
-    ≡ functions_among xs + functions_among ys
+pub functions_joined : (xs ys : List Mark) → count_functions (xs ++ ys)
+    ≡ count_functions xs + count_functions ys
 functions_joined [] ys = omega arith
 functions_joined (a_block s ∷ xs) ys = functions_joined xs ys
 functions_joined (a_function ∷ xs) ys = omega (arith, functions_joined xs ys)
 functions_joined (a_module ∷ xs) ys = functions_joined xs ys
 
-pub modules_joined : (xs ys : List Mark) → modules_among (xs ++ ys) ≡ modules_among xs + modules_among ys
+pub modules_joined : (xs ys : List Mark) → count_modules (xs ++ ys) ≡ count_modules xs + count_modules ys
 modules_joined [] ys = omega arith
 modules_joined (a_block s ∷ xs) ys = modules_joined xs ys
 modules_joined (a_function ∷ xs) ys = modules_joined xs ys
@@ -26,8 +26,8 @@ modules_joined (a_module ∷ xs) ys = omega (arith, modules_joined xs ys)
 -- A block that was reached, behind so many functions and modules, holds no more of them than the text that it
 -- stands in.
 abbrev Holds : Block → ℕ → ℕ → List Mark → Type 0
-Holds block f m xs = (block.functions + functions_among (marks_in block.statements) ≤ f + functions_among xs)
-    × (block.modules + modules_among (marks_in block.statements) ≤ m + modules_among xs)
+Holds block f m xs = (block.functions + count_functions (marks_in block.statements) ≤ f + count_functions xs)
+    × (block.modules + count_modules (marks_in block.statements) ≤ m + count_modules xs)
 
 -- a text in which each block is followed by what stands in it
 abbrev IsText : List Mark → Type 0
@@ -41,7 +41,7 @@ empty_text b f m block h = absurd (passed_reached block b f m h)
 
 joined_at : (xs ys : List Mark) (f m : ℕ) (block : Block) (s : Scan)
     → ((inner : Block) → s ≡ Reached inner → Holds inner f m xs)
-    → ((b' f' m' : ℕ) → s ≡ Passed b' f' m' → (f' ≡ f + functions_among xs) × (m' ≡ m + modules_among xs))
+    → ((b' f' m' : ℕ) → s ≡ Passed b' f' m' → (f' ≡ f + count_functions xs) × (m' ≡ m + count_modules xs))
     → IsText ys → walked s ys ≡ Reached block → Holds block f m (xs ++ ys)
 joined_at xs ys f m block (Reached inner) front pass behind h =
     let e : inner ≡ block = cc in
@@ -82,6 +82,7 @@ mutual
   text_of (EmptyStatement at) = empty_text
   text_of (BlockStatement at statements) = text_in statements
   text_of (AssignmentTerm at name value) = empty_text
+  text_of (SpecialAssignmentTerm at name value) = empty_text
   text_of (ModuleTerm at name name_at params body) = module_text (marks_of_body body) (text_of_body body)
   text_of (FunctionTerm at name name_at params value) = function_text (a_block no_statements ∷ []) no_body
   text_of (InstanceStatement instance) = text_of_instance instance
@@ -123,7 +124,7 @@ below_reversed n (p ∷ ps) h =
 
 -- what stands in a text and in no inner block is counted in it
 abbrev Fit : ℕ → ℕ → ℕ → ℕ → List Mark → Pairs ℕ → Pairs ℕ → Type 0
-Fit f m n k xs fs ms = f + functions_among xs ≤ n → m + modules_among xs ≤ k
+Fit f m n k xs fs ms = f + count_functions xs ≤ n → m + count_modules xs ≤ k
     → IsTrue (numbers_below n fs) × IsTrue (numbers_below k ms)
 
 mutual
@@ -131,6 +132,7 @@ mutual
   own_fit f m n k (EmptyStatement at) p q = (refl, refl)
   own_fit f m n k (BlockStatement at statements) p q = all_fit f m n k statements p q
   own_fit f m n k (AssignmentTerm at name value) p q = (refl, refl)
+  own_fit f m n k (SpecialAssignmentTerm at name value) p q = (refl, refl)
   own_fit f m n k (ModuleTerm at name name_at params body) p q =
       (refl, and_from _ _ (lt-ltb m k (omega (arith, q))) refl)
   own_fit f m n k (FunctionTerm at name name_at params value) p q =
@@ -144,15 +146,15 @@ mutual
       let fs = functions_joined (marks_of s) (marks_in rest) in
       let ms = modules_joined (marks_of s) (marks_in rest) in
       let here = own_fit f m n k s (omega (arith, p, fs)) (omega (arith, q, ms)) in
-      let behind = all_fit (f + functions_among (marks_of s)) (m + modules_among (marks_of s)) n k rest
+      let behind = all_fit (f + count_functions (marks_of s)) (m + count_modules (marks_of s)) n k rest
       (omega (arith, p, fs)) (omega (arith, q, ms)) in
       (below_joined n _ _ here.0 behind.0, below_joined k _ _ here.1 behind.1)
 
 module _ (outer : ℕ) (program : List StatementTerm) where
   entered_fits : (s : Scan) → ((block : Block) → s ≡ Reached block
       → Holds block 0 0 (marks_of_program program))
-      → IsTrue (numbers_below (count_of_functions program) (entered outer s).functions)
-      × IsTrue (numbers_below (count_of_modules program) (entered outer s).modules)
+      → IsTrue (numbers_below (count_of_functions program) (row_of_block outer s).functions)
+      × IsTrue (numbers_below (count_of_modules program) (row_of_block outer s).modules)
   entered_fits (Reached block) held =
       let h = held block refl in
       let fit = all_fit block.functions block.modules (count_of_functions program) (count_of_modules program)
@@ -165,8 +167,8 @@ module _ (outer : ℕ) (program : List StatementTerm) where
   -- a block of a program has no function and no module beyond the program's
   pub entered_below : (number : ℕ)
       → IsTrue (numbers_below (count_of_functions program)
-      (entered outer (block_of program number)).functions)
-      × IsTrue (numbers_below (count_of_modules program) (entered outer (block_of program number)).modules)
+      (row_of_block outer (block_of program number)).functions)
+      × IsTrue (numbers_below (count_of_modules program) (row_of_block outer (block_of program number)).modules)
   entered_below number = entered_fits (block_of program number)
       (λ block e. block_text (statements_from program) (text_in (statements_from program)) number 0 0 block e)
 
@@ -198,3 +200,9 @@ module _ {A E : Type 0} (test : Row → Bool) (old new : List Row) (k : ℕ) (na
   binding_passes (Ok x) f g h = subst (λ b. IsTrue b)
       (sym (each_bound test name value same old k) ∙ ap (each_row test) (sym f)) h
   binding_passes (Err e) f g h = subst (λ rs. IsTrue (each_row test rs)) (sym g) h
+
+-- a cut leaves what passes
+pub cut_passes : (test : Row → Bool) (n : ℕ) (rs : List Row) → IsTrue (each_row test rs) → IsTrue (each_row test (take n rs))
+cut_passes test zero rs h = refl
+cut_passes test (suc n) [] h = refl
+cut_passes test (suc n) (r ∷ rs) h = let p = and_parts _ _ h in and_from _ _ p.0 (cut_passes test n rs p.1)

@@ -6,7 +6,7 @@ use Rattle.scad_ast.specs.StatementView.{statement_of}
 use Rattle.scad_scope.specs.declared.blocks.Seek.{Seek}
 use Rattle.scad_scope.specs.declared.blocks.Sought.{Sought}
 use Rattle.scad_scope.specs.declared.blocks.Sought.TheVariants.{Reached as ReachedIn, Passed as PassedIn, TooMany}
-use Rattle.scad_scope.specs.Blocks.{Mark, a_block, a_function, a_module, Block, Scan, Reached, Passed, scan, marks_of, marks_in, functions_among, modules_among}
+use Rattle.scad_scope.specs.Blocks.{Mark, a_block, a_function, a_module, Block, Scan, Reached, Passed, scan, marks_of, marks_in, count_functions, count_modules}
 use Rattle.scad_scope.specs.Names.{Pairs}
 use Rattle.scad_scope.specs.Seeking.{TellsSought}
 
@@ -44,7 +44,7 @@ reached_passed p b f m h = cc
 
 -- what a walk counts
 pub scan_counts : (b f m : ℕ) (xs : List Mark) (b' f' m' : ℕ) → scan b f m xs ≡ Passed b' f' m' →
-    (f' ≡ f + functions_among xs) × (m' ≡ m + modules_among xs)
+    (f' ≡ f + count_functions xs) × (m' ≡ m + count_modules xs)
 scan_counts b f m [] b' f' m' h = let e = passed_is f m f' m' b b' h in
     (omega (arith, e.0), omega (arith, e.1))
 scan_counts zero f m (a_block s ∷ xs) b' f' m' h = absurd (reached_passed _ _ _ _ h)

@@ -1,4 +1,5 @@
 pub mod Arguments
+pub mod ArgumentsView
 pub mod Names
 pub mod Table
 pub mod View

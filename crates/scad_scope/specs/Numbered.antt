@@ -2,7 +2,7 @@
 use Rattle.std.specs.Prelude.{ℕ, List, [], ◌∷◌, Bool, true, ◌&&◌, nat_lt}
 use Rattle.scad_ast.specs.Terms.{StatementTerm}
 use Rattle.scad_scope.specs.Names.{Pairs, Row}
-use Rattle.scad_scope.specs.Blocks.{marks_of_program, functions_among, modules_among}
+use Rattle.scad_scope.specs.Blocks.{marks_of_program, count_functions, count_modules}
 
 -- each number is below this one
 abbrev pub numbers_below : ℕ → Pairs ℕ → Bool
@@ -23,7 +23,7 @@ modules_below n = each_row (λ r. numbers_below n r.modules)
 
 -- how many functions and modules a program has
 abbrev pub count_of_functions : List StatementTerm → ℕ
-count_of_functions program = functions_among (marks_of_program program)
+count_of_functions program = count_functions (marks_of_program program)
 
 abbrev pub count_of_modules : List StatementTerm → ℕ
-count_of_modules program = modules_among (marks_of_program program)
+count_of_modules program = count_modules (marks_of_program program)

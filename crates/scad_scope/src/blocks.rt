@@ -76,6 +76,7 @@ pub(crate) fn in_statement(statement: &Statement, seek: Seek) -> Sought<'_>
     match statement {
         Statement::Empty(_) => Sought::Passed(seek),
         Statement::Assignment(_, _, _) => Sought::Passed(seek),
+        Statement::SpecialAssignment(_, _, _) => Sought::Passed(seek),
         Statement::Block(_, statements) => in_statements(statements, seek),
         Statement::Module(_, _, _, _, body) => {
             if seek.modules == u32::MAX {

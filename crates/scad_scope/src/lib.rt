@@ -8,6 +8,6 @@ mod parameters;
 mod scopes;
 mod table;
 
-pub use parameters::{Matching, arguments, taken_by};
+pub use parameters::{Matching, arguments, arguments_by_name, taken_by};
 pub use scopes::Scopes;
-pub use table::Found;
+pub use table::{Call, Found};

@@ -1,7 +1,7 @@
 ghost use Rattle.std.specs.Prelude.{◌≡◌, ◌+◌, ◌++◌, [], ◌∷◌, map, IfOk, OnOk};
 ghost use Rattle.scad_ast.specs.Terms.{statements_from};
 ghost use Rattle.scad_ast.specs.StatementView.{statement_of, statements_of, program_of};
-ghost use Rattle.scad_scope.specs.Blocks.{Reached, marks_of, functions_among, modules_among, own_functions, own_function, own_modules, own_module, block_of, entered};
+ghost use Rattle.scad_scope.specs.Blocks.{Reached, marks_of, count_functions, count_modules, own_functions, own_function, own_modules, own_module, block_of, row_of_block};
 ghost use Rattle.scad_scope.specs.Names.{empty_row};
 ghost use Rattle.scad_scope.specs.View.{definition_of, row_of};
 
@@ -18,7 +18,7 @@ pub(crate) fn scope_of_block(
     program: &Program,
     block: u32,
 ) -> Result<Scope, NoMemory>
-    ensures { IfOk result (λ s. row_of s ≡ entered outer (block_of (program_of program.now) block)) }
+    ensures { IfOk result (λ s. row_of s ≡ row_of_block outer (block_of (program_of program.now) block)) }
 {
     match in_program(program, block) {
         Sought::Reached(Some(statements), seek) => filled(alloc, outer, statements, seek),
@@ -37,6 +37,7 @@ pub(crate) fn empty(alloc: Global, outer: u32) -> Scope
         functions: Vec::new(alloc),
         modules: Vec::new(alloc),
         outer,
+        call: None,
     }
 }
 
@@ -46,7 +47,7 @@ fn filled(
     statements: &Statements,
     before: Seek,
 ) -> Result<Scope, NoMemory>
-    ensures { IfOk result (λ s. row_of s ≡ entered outer (Reached (record {
+    ensures { IfOk result (λ s. row_of s ≡ row_of_block outer (Reached (record {
       statements = statements_from (statements_of statements.now);
       functions = before.functions;
       modules = before.modules;
@@ -60,6 +61,7 @@ fn filled(
         functions,
         modules,
         outer,
+        call: None,
     })
 }
 
@@ -111,6 +113,7 @@ fn own(
         }
         Statement::Empty(_) => Ok(()),
         Statement::Assignment(_, _, _) => Ok(()),
+        Statement::SpecialAssignment(_, _, _) => Ok(()),
         Statement::Instantiation(_) => Ok(()),
     }
 }
@@ -130,8 +133,8 @@ fn define(
 
 /// How many functions and modules begin before what follows a statement.
 fn after(statement: &Statement, before: Seek) -> Result<Seek, NoMemory>
-    ensures functions { IfOk result (λ s. s.functions ≡ before.functions + functions_among (marks_of (statement_of statement.now))) }
-    ensures modules { IfOk result (λ s. s.modules ≡ before.modules + modules_among (marks_of (statement_of statement.now))) }
+    ensures functions { IfOk result (λ s. s.functions ≡ before.functions + count_functions (marks_of (statement_of statement.now))) }
+    ensures modules { IfOk result (λ s. s.modules ≡ before.modules + count_modules (marks_of (statement_of statement.now))) }
 {
     let seek = Seek {
         blocks: u32::MAX,

@@ -4,7 +4,8 @@ ghost use Rattle.scad_scope.specs.View.{rows_in, variables_of};
 
 use crate::own::{empty, scope_of_block};
 use crate::table::{
-    Family, Found, Scope, Variable, definitions, find_definition, find_variable, first,
+    Call, Family, Found, Scope, Variable, call_before, definitions, find_definition, find_variable,
+    first,
 };
 use scad_ast::Program;
 use scad_value::Value;
@@ -24,16 +25,16 @@ pub struct Scopes {
 }
 
 impl Scopes {
-    ghost use Rattle.std.specs.Prelude.{◌≡◌, ◌<◌, ℕ, List, [], ◌∷◌, ◌++◌, length, IfOk, IfErr, OnOk, OnErr, MatchResult, IsTrue, MatchOption, Some, None, IfSome, ◌≤◌, ◌-◌};
+    ghost use Rattle.std.specs.Prelude.{◌≡◌, ◌<◌, ℕ, List, [], ◌∷◌, ◌++◌, length, take, IfOk, IfErr, OnOk, OnErr, MatchResult, IsTrue, MatchOption, Some, None, IfSome, ◌≤◌, ◌-◌};
     ghost use Rattle.text_place.specs.declared.fault.FaultKind.TheVariants.{UnknownName, UnknownFunction, UnknownModule};
     ghost use Rattle.scad_value.specs.Values.{Val, is_bounded};
     ghost use Rattle.scad_value.specs.View.{val_of};
-    ghost use Rattle.scad_scope.specs.Names.{Pairs, find_in, env_of, variable_in, function_in, module_in, have_bounded, first_row, empty_row, bound_in, with_pair, Within, first_chain, oldest};
+    ghost use Rattle.scad_scope.specs.Names.{Pairs, find_in, env_of, variable_in, function_in, module_in, have_bounded, first_row, empty_row, bound_in, with_pair, NumberedWithin, no_numbered_call, numbered_call, enclosing_call, called_row, first_chain, oldest, Row};
     ghost use Rattle.scad_ast.specs.StatementView.{program_of};
-    ghost use Rattle.scad_scope.specs.Blocks.{entered, block_of};
+    ghost use Rattle.scad_scope.specs.Blocks.{row_of_block, block_of};
     ghost use Rattle.scad_scope.specs.Numbered.{functions_below, modules_below, count_of_functions, count_of_modules};
     ghost use Rattle.scad_scope.specs.View.{definition_in, row_of};
-    ghost use Rattle.scad_scope.specs.Table.{rows_of, chain_of, IsFound, IsMissing, IsVariable};
+    ghost use Rattle.scad_scope.specs.Table.{rows_of, chain_of, call_told, IsFound, IsMissing, IsVariable};
 
     /// One empty scope, number 0, outside all others, and the chain with `$fn` 0, `$fa` 12 and `$fs` 2.
     pub fn new(alloc: Global) -> Result<Scopes, NoMemory>
@@ -48,6 +49,7 @@ impl Scopes {
             functions: Vec::new(alloc),
             modules: Vec::new(alloc),
             outer: u32::MAX,
+            call: None,
         })?;
         let chain = vec![in alloc;
             first(alloc, b"fn", 0)?,
@@ -74,10 +76,10 @@ impl Scopes {
         requires { outer < length (rows_of self.old) }
         ensures number { IfOk result (λ n. n ≡ length (rows_of self.old)) }
         ensures entered { OnOk result (rows_of self.new ≡
-            rows_of self.old ++ entered outer (block_of (program_of program.now) block) ∷ []) }
+            rows_of self.old ++ row_of_block outer (block_of (program_of program.now) block) ∷ []) }
         ensures unchanged { OnErr result (rows_of self.new ≡ rows_of self.old) }
         ensures inside { IfOk result (λ n. env_of (rows_of self.new) n ≡
-            Within n (entered outer (block_of (program_of program.now) block)) (env_of (rows_of self.old) outer)) }
+            NumberedWithin n (row_of_block outer (block_of (program_of program.now) block)) no_numbered_call (env_of (rows_of self.old) outer)) }
         ensures kept { (k : ℕ) → k < length (rows_of self.old) → env_of (rows_of self.new) k ≡ env_of (rows_of self.old) k }
         ensures chain { chain_of self.new ≡ chain_of self.old }
         ensures functions { let n = count_of_functions (program_of program.now) in
@@ -89,6 +91,36 @@ impl Scopes {
         self.add(scope)
     }
 
+    /// A new scope of a block of the program, as `enter` makes it, which is that of a call of a module
+    /// of the source: the call encloses what is evaluated in this scope or in a scope inside.
+    pub fn enter_call(
+        &mut self,
+        alloc: Global,
+        outer: u32,
+        program: &Program,
+        block: u32,
+        call: Call,
+    ) -> Result<u32, NoMemory>
+        requires outer { outer < length (rows_of self.old) }
+        requires caller { call.caller < length (rows_of self.old) }
+        ensures number { IfOk result (λ n. n ≡ length (rows_of self.old)) }
+        ensures entered { OnOk result (rows_of self.new ≡ rows_of self.old ++
+            called_row call.children call.caller (row_of_block outer (block_of (program_of program.now) block)) ∷ []) }
+        ensures unchanged { OnErr result (rows_of self.new ≡ rows_of self.old) }
+        ensures inside { IfOk result (λ n. env_of (rows_of self.new) n ≡ NumberedWithin n
+            (called_row call.children call.caller (row_of_block outer (block_of (program_of program.now) block)))
+            (numbered_call call.children (env_of (rows_of self.old) call.caller)) (env_of (rows_of self.old) outer)) }
+        ensures kept { (k : ℕ) → k < length (rows_of self.old) → env_of (rows_of self.new) k ≡ env_of (rows_of self.old) k }
+        ensures chain { chain_of self.new ≡ chain_of self.old }
+        ensures functions { let n = count_of_functions (program_of program.now) in
+            IsTrue (functions_below n (rows_of self.old)) → IsTrue (functions_below n (rows_of self.new)) }
+        ensures modules { let n = count_of_modules (program_of program.now) in
+            IsTrue (modules_below n (rows_of self.old)) → IsTrue (modules_below n (rows_of self.new)) }
+    {
+        let scope = scope_of_block(alloc, outer, program, block)?;
+        self.add(scope.of_call(call))
+    }
+
     /// A new scope without definitions, inside another scope, and its number: what the expression of
     /// a function is as a block. Its time does not depend on the program. `NoMemory` leaves all
     /// scopes as they were; it also comes where a number would be past 2^32 - 1.
@@ -98,7 +130,7 @@ impl Scopes {
         ensures entered { OnOk result (rows_of self.new ≡ rows_of self.old ++ empty_row outer ∷ []) }
         ensures unchanged { OnErr result (rows_of self.new ≡ rows_of self.old) }
         ensures inside { IfOk result (λ n. env_of (rows_of self.new) n ≡
-            Within n (empty_row outer) (env_of (rows_of self.old) outer)) }
+            NumberedWithin n (empty_row outer) no_numbered_call (env_of (rows_of self.old) outer)) }
         ensures kept { (k : ℕ) → k < length (rows_of self.old) → env_of (rows_of self.new) k ≡ env_of (rows_of self.old) k }
         ensures chain { chain_of self.new ≡ chain_of self.old }
         ensures functions { (n : ℕ) →
@@ -122,6 +154,49 @@ impl Scopes {
         }
         self.scopes.push(scope)?;
         Ok(number as u32)
+    }
+
+    /// Cuts the table to its first scopes, so many of them. Takes no memory.
+    pub fn leave(&mut self, to: u32)
+        requires some { 1 ≤ to }
+        requires there { to ≤ length (rows_of self.old) }
+        ensures rows { rows_of self.new ≡ take to (rows_of self.old) }
+        ensures back { (front behind : List Row) → rows_of self.old ≡ front ++ behind → length front ≡ to → rows_of self.new ≡ front }
+        ensures kept { (k : ℕ) → k < to → env_of (rows_of self.new) k ≡ env_of (rows_of self.old) k }
+        ensures chain { chain_of self.new ≡ chain_of self.old }
+        ensures functions { (n : ℕ) →
+            IsTrue (functions_below n (rows_of self.old)) → IsTrue (functions_below n (rows_of self.new)) }
+        ensures modules { (n : ℕ) →
+            IsTrue (modules_below n (rows_of self.old)) → IsTrue (modules_below n (rows_of self.new)) }
+    {
+        self.scopes.truncate(to as usize);
+    }
+
+    /// How many scopes there are. Takes no memory.
+    pub fn count(&self) -> usize
+        ensures { result ≡ length (rows_of self.now) }
+    {
+        self.scopes.len()
+    }
+
+    /// The innermost call, from a scope outward, whose scope is one of them: the call that encloses
+    /// what is evaluated in the scope. None where there is no such call. Takes no memory.
+    pub fn call_of(&self, scope: u32) -> Option<Call>
+        requires { scope < length (rows_of self.now) }
+        ensures value { enclosing_call (env_of (rows_of self.now) scope) ≡ call_told (env_of (rows_of self.now)) result }
+        ensures there { IfSome result (λ c. c.caller < length (rows_of self.now)) }
+    {
+        let mut at = scope;
+        'outward: loop {
+            let here = &self.scopes[at as usize];
+            if let Some(call) = call_before(here, at) {
+                return Some(call);
+            }
+            if here.outer >= at {
+                return None;
+            }
+            at = here.outer;
+        }
     }
 
     /// Gives a name a value in a scope, where it is the newest of its name. `NoMemory` leaves all
