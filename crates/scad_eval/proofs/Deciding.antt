@@ -65,7 +65,7 @@ by_test P false so only = inr (λ p. false≢true (only p))
 pub decided_same_ℤ : (a b : ℤ) → Decided (a ≡ b)
 decided_same_ℤ a b = by_test (a ≡ b) (int_eq a b) (Decides-int_eq a b).0 (Decides-int_eq a b).1
 
-first_same : {A : Type 0} → (d : A) (x y : A) (xs ys : List A) → (x ∷ xs) ≡ (y ∷ ys) → x ≡ y
+pub first_same : {A : Type 0} → (d : A) (x y : A) (xs ys : List A) → (x ∷ xs) ≡ (y ∷ ys) → x ≡ y
 first_same d x y xs ys e = ap (λ l. get_or l 0 d) e
 
 abbrev rest_of : {A : Type 0} → List A → List A
@@ -78,7 +78,7 @@ rest_same x y xs ys e = ap rest_of e
 no_item : {A : Type 0} → (x : A) (xs : List A) → (x ∷ xs) ≡ [] → ⊥
 no_item x xs e = cc e
 
-some_item : {A : Type 0} → (x : A) (xs : List A) → [] ≡ (x ∷ xs) → ⊥
+pub some_item : {A : Type 0} → (x : A) (xs : List A) → [] ≡ (x ∷ xs) → ⊥
 some_item x xs e = cc e
 
 pub decided_same_list : (xs ys : List ℤ) → Decided (xs ≡ ys)
@@ -99,7 +99,7 @@ below_next n k h = omega (arith, h)
 last_below : (n : ℕ) → n < suc n
 last_below n = omega arith
 
-none_below : (k : ℕ) → k < 0 → ⊥
+pub none_below : (k : ℕ) → k < 0 → ⊥
 none_below k h = omega (arith, h)
 
 one_more : (n : ℕ) (P Q : ℕ → Type 0) → P n ⊎ Q n → ((k : ℕ) → k < n → P k) ⊎ ((k : ℕ) × (k < n) × Q k) →
@@ -124,10 +124,10 @@ decided_some_below n P d =
     ⊎_elim (λ none. inr (λ h. none h.0 h.1 h.2)) (λ h. inl h) (all_or_one_below n (λ k. P k → ⊥) P (λ k h. either_way (d k h)))
 
 -- all items of a list, or some
-first_there : (n : ℕ) → 0 < suc n
+pub first_there : (n : ℕ) → 0 < suc n
 first_there n = omega arith
 
-later_there : (k n : ℕ) → k < n → suc k < suc n
+pub later_there : (k n : ℕ) → k < n → suc k < suc n
 later_there k n h = omega (arith, h)
 
 any_first : {A : Type 0} → (Q : A → Type 0) (x : A) (xs : List A) → Q x → Any Q (x ∷ xs)

@@ -2,5 +2,7 @@ mod Assignments
 mod Deciding
 mod Judges
 mod Made
+mod Positions
 mod Rows
+mod Standing
 mod Verdicts

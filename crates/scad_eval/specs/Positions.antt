@@ -1,0 +1,27 @@
+-- Where a text stands in a program whose blocks, functions and modules are numbered.
+use Rattle.std.specs.Prelude.{◌≡◌, ℕ, ◌+◌, ◌<◌, List, [], ◌∷◌, ◌++◌, length, drop, slice_index_or}
+use Rattle.scad_ast.specs.Terms.{StatementTerms, BodyTerm}
+use Rattle.scad_scope.specs.Blocks.{Mark, a_block, marks_in, marks_of_body, Function, Module, functions_among, modules_among, count_blocks, bodies_from, Entry, entry_at, entries_from, nothing_there, NumberedText}
+
+-- the text with these marks begins at this block number, behind so many functions and modules
+pub record StandsAt (text : NumberedText) (number functions modules : ℕ) (marks : List Mark) : Type 0 where
+  pub entries_behind : List Entry
+  pub functions_behind : List Function
+  pub modules_behind : List Module
+  pub bodies_behind : List ℕ
+  pub entries : drop number text.entries ≡ entries_from number functions modules marks ++ entries_behind
+  pub functions_are : drop functions text.functions ≡ functions_among marks ++ functions_behind
+  pub modules_are : drop modules text.modules ≡ modules_among marks ++ modules_behind
+  pub bodies_are : drop modules text.bodies ≡ bodies_from number marks ++ bodies_behind
+
+-- the text begins at this block number
+pub record BeginsAt (text : NumberedText) (number : ℕ) (marks : List Mark) : Type 0 where
+  pub functions : ℕ
+  pub modules : ℕ
+  pub stands : StandsAt text number functions modules marks
+
+-- the module of this number has the block of this number as its body
+pub record HasBody (text : NumberedText) (number : ℕ) (defined : Module) : Type 0 where
+  pub within : number < length text.modules
+  pub is : slice_index_or text.modules number defined ≡ defined
+  pub begins : BeginsAt text (slice_index_or text.bodies number 0) (marks_of_body defined.body)
