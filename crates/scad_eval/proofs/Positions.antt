@@ -1,5 +1,5 @@
 -- Parts of a numbered text, and the bodies of its modules.
-use Rattle.std.proofs.Common.{◌≡◌, ◌⊎◌, inl, inr, ⊎_elim, ℕ, zero, suc, ◌+◌, ◌<◌, ◌≤◌, List, [], ◌∷◌, ◌++◌, length, drop, slice_index_or, refl, sym, ap, subst, ◌∙◌, arith, append_assoc, append-nil, length-append}
+use Rattle.std.proofs.Common.{◌≡◌, ◌⊎◌, inl, inr, ⊎_elim, ℕ, zero, suc, ◌+◌, ◌<◌, List, [], ◌∷◌, ◌++◌, length, drop, slice_index_or, refl, sym, ap, subst, ◌∙◌, arith, append_assoc, append-nil, length-append}
 use Rattle.scad_scope.specs.Blocks.{Mark, a_block, a_function, a_module, functions_among, modules_among, count_blocks, count_functions, count_modules, bodies_from, entries_from, entry_at, Entry, NumberedText, numbered_text, marks_of, marks_in, marks_of_instance, marks_of_core, marks_of_body, marks_of_program, Function, Module}
 use Rattle.scad_ast.specs.Terms.{StatementTerm, EmptyStatement, BlockStatement, AssignmentTerm, SpecialAssignmentTerm, ModuleTerm, FunctionTerm, InstanceStatement, StatementTerms, no_statements, and_statement, statements_from, InstanceTerm, AnInstance, CoreTerm, IfTerm, IfElseTerm, ForTerm, IntersectionForTerm, ModuleCallTerm, BodyTerm, EmptyBody, BlockBody, InstanceBody}
 use Rattle.scad_eval.specs.Positions.{StandsAt, BeginsAt, HasBody}
@@ -215,11 +215,14 @@ module_first : (text : NumberedText) (n f m : ℕ) (d : Module) → StandsAt tex
     (k : ℕ) → k < suc (count_modules (marks_of_body d.body)) → SomeBody text (m + k)
 module_first text n f m d h inside zero lt =
     let t = module_there text n f m d (marks_of_body d.body) h in
-    subst (SomeBody text) (plus_zero m) (d, record {
-      within = t.0;
-      is = t.1 d;
-      begins = subst (λ (b : ℕ). BeginsAt text b (marks_of_body d.body)) (sym (t.2 0)) (record { functions = f; modules = m + 1; stands = behind_module text n f m d (marks_of_body d.body) h });
-    })
+    subst (SomeBody text) (plus_zero m) (
+      d,
+      record {
+        within = t.0;
+        is = t.1 d;
+        begins = subst (λ (b : ℕ). BeginsAt text b (marks_of_body d.body)) (sym (t.2 0)) (record { functions = f; modules = m + 1; stands = behind_module text n f m d (marks_of_body d.body) h });
+      },
+    )
 module_first text n f m d h inside (suc k) lt = subst (SomeBody text) (next_number m k) (inside k (less_now k (count_modules (marks_of_body d.body)) lt))
 
 mutual

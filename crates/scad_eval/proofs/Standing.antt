@@ -1,9 +1,9 @@
 -- The definitions of a block by number are those that stand in it.
-use Rattle.std.proofs.Common.{◌≡◌, ℕ, zero, suc, ◌+◌, ◌<◌, List, [], ◌∷◌, ◌++◌, length, drop, reverse, Option, Some, None, refl, sym, ap, ◌∙◌, append-nil, append_assoc}
+use Rattle.std.proofs.Common.{◌≡◌, ℕ, zero, suc, ◌+◌, List, [], ◌∷◌, ◌++◌, drop, reverse, Option, Some, None, refl, ap, ◌∙◌}
 use Rattle.std.proofs.lemmas.List.{reverse-append}
 use Rattle.scad_ast.specs.Terms.{StatementTerm, EmptyStatement, BlockStatement, AssignmentTerm, SpecialAssignmentTerm, ModuleTerm, FunctionTerm, InstanceStatement, StatementTerms, no_statements, and_statement}
 use Rattle.scad_scope.specs.Names.{Pairs}
-use Rattle.scad_scope.specs.Blocks.{Mark, a_block, a_function, a_module, marks_of, marks_in, marks_of_body, Function, Module, functions_among, modules_among, count_blocks, count_functions, count_modules, own_functions, own_function, own_modules, own_module, NumberedText}
+use Rattle.scad_scope.specs.Blocks.{marks_of, marks_in, marks_of_body, modules_among, count_blocks, count_functions, count_modules, own_functions, own_function, own_modules, own_module, NumberedText}
 use Rattle.scad_func.specs.Definitions.{numbered, named, resolved}
 use Rattle.scad_func.specs.Meaning.{functions_standing_in, function_standing, modules_standing_in, module_standing}
 use Rattle.scad_eval.specs.Positions.{StandsAt}

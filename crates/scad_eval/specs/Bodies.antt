@@ -1,77 +1,38 @@
 -- What stands in a body: its assignments, its instances, and which of these are children.
-use Rattle.std.specs.Prelude.{◌≡◌, ⊤, ℕ, Bool, true, false, not, ◌&&◌, ◌||◌, List, [], ◌∷◌, ◌++◌, filter, Option, Some, None, is_some, option_map, codes, if◌then◌else◌}
+use Rattle.std.specs.Prelude.{◌≡◌, ⊤, Bool, true, false, not, ◌&&◌, ◌||◌, List, [], ◌∷◌, ◌++◌, filter, Option, Some, None, is_some, option_map, codes, if◌then◌else◌}
 use Rattle.std.specs.List.{list_any}
 use Rattle.std.specs.Str.{bytes_eq}
 use Rattle.text_place.specs.declared.fault.Place.{Place}
 use Rattle.scad_ast.specs.declared.operator.Modifier.{Modifier}
 use Rattle.scad_ast.specs.declared.operator.Modifier.TheVariants.{Disable, Background, Highlight, Root}
-use Rattle.scad_ast.specs.Terms.{Term, StatementTerm, EmptyStatement, BlockStatement, AssignmentTerm, SpecialAssignmentTerm, ModuleTerm, FunctionTerm, InstanceStatement, StatementTerms, no_statements, and_statement, InstanceTerm, AnInstance, CoreTerm, IfTerm, IfElseTerm, ForTerm, IntersectionForTerm, ModuleCallTerm, BodyTerm, EmptyBody, BlockBody, InstanceBody}
-use Rattle.scad_value.specs.Values.{same_truth}
+use Rattle.scad_ast.specs.Terms.{StatementTerm, EmptyStatement, BlockStatement, AssignmentTerm, SpecialAssignmentTerm, ModuleTerm, FunctionTerm, InstanceStatement, StatementTerms, no_statements, and_statement, InstanceTerm, AnInstance, CoreTerm, IfTerm, IfElseTerm, ForTerm, IntersectionForTerm, ModuleCallTerm, BodyTerm, EmptyBody, BlockBody, InstanceBody}
+use Rattle.scad_scope.specs.Blocks.{Assigned, same_name}
 use Rattle.scad_func.specs.Meaning.{Env, module_in}
 
--- an assignment to a variable, or to a special one, with the place of its statement
-pub record Assignment : Type 0 where
-  pub special : Bool
-  pub name : List ℕ
-  pub at : Place
-  pub value : Term
-
--- the assignments of a body in order; those of a bare block count as the body's own
-abbrev mutual
-  pub assignments_in : StatementTerms → List Assignment
-  assignments_in no_statements = []
-  assignments_in (and_statement s rest) = assignments_of s ++ assignments_in rest
-
-  pub assignments_of : StatementTerm → List Assignment
-  assignments_of (EmptyStatement at) = []
-  assignments_of (BlockStatement at statements) = assignments_in statements
-  assignments_of (AssignmentTerm at name value) = record { special = false; name = name; at = at; value = value } ∷ []
-  assignments_of (SpecialAssignmentTerm at name value) = record { special = true; name = name; at = at; value = value } ∷ []
-  assignments_of (ModuleTerm at name name_at params body) = []
-  assignments_of (FunctionTerm at name name_at params value) = []
-  assignments_of (InstanceStatement instance) = []
-
--- an assignment to this name
-abbrev pub is_to : Bool → List ℕ → Assignment → Bool
-is_to special name b = same_truth special b.special && bytes_eq name b.name
-
--- whether some assignments have a name
-abbrev pub is_named_in : List Assignment → Assignment → Bool
-is_named_in earlier a = list_any (is_to a.special a.name) earlier
-
--- the last expression that a name is given, or else this one
-abbrev pub last_value : Bool → List ℕ → Term → List Assignment → Term
-last_value special name value [] = value
-last_value special name value (b ∷ bs) =
-    if is_to special name b then last_value special name b.value bs else last_value special name value bs
-
--- each name once, at the place of its first assignment, with its last expression; `earlier` are the assignments before
-abbrev pub once_each : List Assignment → List Assignment → List Assignment
-once_each earlier [] = []
-once_each earlier (a ∷ as_) =
-    if is_named_in earlier a then once_each earlier as_
-    else record { special = a.special; name = a.name; at = a.at; value = last_value a.special a.name a.value as_ } ∷ once_each (a ∷ earlier) as_
+-- whether an assignment's name is among those of others
+abbrev pub is_named_in : List Assigned → Assigned → Bool
+is_named_in others a = list_any (same_name a) others
 
 -- the first and the last assignment of a name
-abbrev pub first_of : Bool → List ℕ → List Assignment → Option Assignment
-first_of special name [] = None
-first_of special name (b ∷ bs) = if is_to special name b then Some b else first_of special name bs
+abbrev pub first_of : Assigned → List Assigned → Option Assigned
+first_of a [] = None
+first_of a (b ∷ bs) = if same_name a b then Some b else first_of a bs
 
-abbrev pub or_later : Option Assignment → Option Assignment → Option Assignment
+abbrev pub or_later : Option Assigned → Option Assigned → Option Assigned
 or_later earlier None = earlier
 or_later earlier (Some b) = Some b
 
-abbrev pub last_of : Bool → List ℕ → List Assignment → Option Assignment
-last_of special name [] = None
-last_of special name (b ∷ bs) = or_later (if is_to special name b then Some b else None) (last_of special name bs)
+abbrev pub last_of : Assigned → List Assigned → Option Assigned
+last_of a [] = None
+last_of a (b ∷ bs) = or_later (if same_name a b then Some b else None) (last_of a bs)
 
 -- an assignment that stands for all of its name: it has the value of the last one, at the place of the first one
-pub record StandsForAll (assignments : List Assignment) (a : Assignment) : Type 0 where
-  pub last : option_map (λ b. b.value) (last_of a.special a.name assignments) ≡ Some a.value
-  pub first : option_map (λ b. b.at) (first_of a.special a.name assignments) ≡ Some a.at
+pub record StandsForAll (assignments : List Assigned) (a : Assigned) : Type 0 where
+  pub last : option_map (λ b. b.value) (last_of a assignments) ≡ Some a.value
+  pub first : option_map (λ b. b.at) (first_of a assignments) ≡ Some a.at
 
 -- assignments to different names
-abbrev pub HaveOwnNames : List Assignment → Type 0
+abbrev pub HaveOwnNames : List Assigned → Type 0
 HaveOwnNames [] = ⊤
 HaveOwnNames (a ∷ as_) = (is_named_in as_ a ≡ false) × HaveOwnNames as_
 

@@ -12,7 +12,7 @@ use Rattle.scad_value.specs.Values.{Val, NumberVal, Vals, no_vals, and_val, trut
 use Rattle.scad_value.specs.Operators.{Answer}
 use Rattle.scad_scope.specs.Names.{Pairs, find_in}
 use Rattle.scad_scope.specs.Arguments.{names_of}
-use Rattle.scad_scope.specs.Blocks.{Module}
+use Rattle.scad_scope.specs.Blocks.{Module, Assigned, assignments_of}
 use Rattle.scad_func.specs.Meaning.{Outcome, Gives, Faults, then_with, or_fault, Env, Outermost, Within, Opened, no_call, opened, module_in, call_in, functions_standing_in, modules_standing_in, entered_scope, with_variable, turn, Setting, value_at, one_call_fewer, Arguments, nothing_given, taker_of, with_argument, each_argument, each_parameter, paired, evaluated}
 use Rattle.scad_modules.specs.declared.table.BuiltinModule.{BuiltinModule}
 use Rattle.scad_modules.specs.declared.table.BuiltinModule.TheVariants.{Echo}
@@ -21,7 +21,7 @@ use Rattle.scad_modules.specs.Effects.{EffectCall, a_solid, a_flat, a_move, a_jo
 use Rattle.scad_modules.specs.Calls.{effect_of}
 use Rattle.scad_eval.specs.Designs.{Design, empty, a_part, balanced, grouped, moved_by}
 use Rattle.scad_eval.specs.Verdicts.{Judge, Verdict, solid_of, extruded, Extrusion}
-use Rattle.scad_eval.specs.Bodies.{Assignment, assignments_in, once_each, evaluated_in, children_in, is_marked, says_only, statements_of_body, is_bare, instance_place, core_place}
+use Rattle.scad_eval.specs.Bodies.{evaluated_in, children_in, is_marked, says_only, statements_of_body, is_bare, instance_place, core_place}
 use Rattle.scad_eval.specs.Loops.{items_of, chosen_among}
 
 -- where an instance stands: the calls that are left, the scope, the chain of special names, and the extrusion that it is
@@ -93,16 +93,16 @@ abbrev pub Makes : Type 0
 Makes = Stand → InstanceTerm → ℕ → ℕ → Outcome Made
 
 -- the value of an assignment: its statement is one evaluation deeper, and its expression one more
-abbrev pub assigned_value : ℕ → Stand → Assignment → ℕ → Outcome Val
+abbrev pub assigned_value : ℕ → Stand → Assigned → ℕ → Outcome Val
 assigned_value zero here a turns = Faults TooDeep a.at
 assigned_value (suc left) here a turns = value_at (setting left here) true a.value turns
 
-abbrev pub assigned : Assignment → Val → Stand → Stand
+abbrev pub assigned : Assigned → Val → Stand → Stand
 assigned a v here =
     if a.special then chained here ((a.name, v) ∷ here.chain) else standing here (with_variable a.name v here.env)
 
 -- the scope with its assignments, from the first on
-abbrev pub each_assigned : ℕ → Stand → List Assignment → ℕ → Outcome Stand
+abbrev pub each_assigned : ℕ → Stand → List Assigned → ℕ → Outcome Stand
 each_assigned left here [] turns = Gives turns here
 each_assigned left here (a ∷ as_) turns =
     then_with (assigned_value left here a turns) (λ turns v. each_assigned left (assigned a v here) as_ turns)
@@ -121,7 +121,7 @@ each_member make here (i ∷ is) turns leaves =
 -- a body in its scope: its assignments, then the instances that are evaluated
 abbrev pub each_in_scope : ℕ → Makes → Stand → StatementTerms → ℕ → ℕ → Outcome Members
 each_in_scope left make here statements turns leaves =
-    then_with (each_assigned left here (once_each [] (assignments_in statements)) turns) (λ turns here.
+    then_with (each_assigned left here (assignments_of statements) turns) (λ turns here.
     each_member make here (evaluated_in statements) turns leaves)
 
 -- a body, in a new scope inside where it stands
@@ -222,7 +222,7 @@ arguments_for m here args turns =
 abbrev pub children_made : ℕ → Makes → Stand → Opened → ChosenCall → ℕ → ℕ → Outcome Made
 children_made left make here no_call chosen turns leaves = Gives turns (made_nothing leaves)
 children_made left make here (opened children caller) chosen turns leaves =
-    then_with (each_assigned left (standing here (entered_scope children no_call caller)) (once_each [] (assignments_in children)) turns) (λ turns there.
+    then_with (each_assigned left (standing here (entered_scope children no_call caller)) (assignments_of children) turns) (λ turns there.
     then_with (each_member make there (chosen_among (children_in there.env children) chosen) turns leaves) (λ turns ms.
     Gives turns (made_of Union ms)))
 

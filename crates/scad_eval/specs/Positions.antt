@@ -1,7 +1,6 @@
 -- Where a text stands in a program whose blocks, functions and modules are numbered.
-use Rattle.std.specs.Prelude.{◌≡◌, ℕ, ◌+◌, ◌<◌, List, [], ◌∷◌, ◌++◌, length, drop, slice_index_or}
-use Rattle.scad_ast.specs.Terms.{StatementTerms, BodyTerm}
-use Rattle.scad_scope.specs.Blocks.{Mark, a_block, marks_in, marks_of_body, Function, Module, functions_among, modules_among, count_blocks, bodies_from, Entry, entry_at, entries_from, nothing_there, NumberedText}
+use Rattle.std.specs.Prelude.{◌≡◌, ℕ, ◌<◌, List, ◌++◌, length, drop, slice_index_or}
+use Rattle.scad_scope.specs.Blocks.{Mark, marks_of_body, Function, Module, functions_among, modules_among, bodies_from, Entry, entries_from, NumberedText}
 
 -- the text with these marks begins at this block number, behind so many functions and modules
 pub record StandsAt (text : NumberedText) (number functions modules : ℕ) (marks : List Mark) : Type 0 where

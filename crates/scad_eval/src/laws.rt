@@ -3,11 +3,11 @@
 ghost use Rattle.std.specs.Prelude.{◌≡◌, ℕ, ◌+◌, ◌<◌, ℤ, Bool, List, [], ◌∷◌, ◌++◌, length, reverse, slice_index_or, true};
 ghost use Rattle.std.specs.List.{AllByRecursion};
 ghost use Rattle.scad_ast.specs.Terms.{StatementTerm, StatementTerms};
-ghost use Rattle.scad_scope.specs.Blocks.{Mark, a_block, marks_in, marks_of_program, count_blocks, count_functions, count_modules, own_functions, own_modules, Module, Entry, entry_at, NumberedText, numbered_text};
+ghost use Rattle.scad_scope.specs.Blocks.{Mark, a_block, marks_in, marks_of_program, count_blocks, count_functions, count_modules, own_functions, own_modules, Module, Entry, entry_at, NumberedText, numbered_text, assigned_in, assignments_of};
 ghost use Rattle.scad_func.specs.Definitions.{resolved};
 ghost use Rattle.scad_func.specs.Meaning.{functions_standing_in, modules_standing_in};
 ghost use Rattle.scad_eval.specs.Positions.{StandsAt, HasBody};
-ghost use Rattle.scad_eval.specs.Bodies.{Assignment, StandsForAll, HaveOwnNames, is_named_in, once_each};
+ghost use Rattle.scad_eval.specs.Bodies.{StandsForAll, HaveOwnNames, is_named_in};
 ghost use Rattle.plane_predicate.specs.declared.unit.Unit.{Unit as LengthUnit};
 ghost use Rattle.scad_modules.specs.Effects.{SolidCall, FlatCall};
 ghost use Rattle.scad_eval.specs.Verdicts.{Verdict, Judge, IsRight, IsSolidVerdict, IsFlatVerdict, IsHeightVerdict};
@@ -16,9 +16,9 @@ ghost use Rattle.scad_eval.specs.Verdicts.{Verdict, Judge, IsRight, IsSolidVerdi
 /// assignments of a body, those that are evaluated have each name once, with its last expression, in the place of its
 /// first.
 pub fn last_assignments_count()
-    ensures counts { (assignments : List Assignment) → AllByRecursion (StandsForAll assignments) (once_each [] assignments) }
-    ensures once { (assignments : List Assignment) → HaveOwnNames (once_each [] assignments) }
-    ensures all { (assignments : List Assignment) → AllByRecursion (λ a. is_named_in (once_each [] assignments) a ≡ true) assignments }
+    ensures counts { (statements : StatementTerms) → AllByRecursion (StandsForAll (assigned_in statements)) (assignments_of statements) }
+    ensures once { (statements : StatementTerms) → HaveOwnNames (assignments_of statements) }
+    ensures all { (statements : StatementTerms) → AllByRecursion (λ a. is_named_in (assignments_of statements) a ≡ true) (assigned_in statements) }
 {}
 
 /// What is wrong with a shape, or with the height of an extrusion, is one thing: some judge is always right, and no two
@@ -52,5 +52,4 @@ pub fn numbers_are_their_texts()
         resolved text.modules (reverse (own_modules m ss)) ≡ modules_standing_in ss }
     ensures bodies { (program : List StatementTerm) (k : ℕ) → k < length (numbered_text program).modules →
         (d : Module) × HasBody (numbered_text program) k d }
-{
-}
+{}

@@ -1,4 +1,3 @@
-use Rattle.std.specs.Prelude.{[]}
 use Rattle.scad_eval.proofs.Assignments.{last_counts, own_names, all_named}
 use Rattle.scad_eval.proofs.laws.last_assignments_count.Goals as goal
 
@@ -6,7 +5,7 @@ pub returns-clause-counts : goal.returns-clause-counts
 returns-clause-counts c = last_counts
 
 pub returns-clause-once : goal.returns-clause-once
-returns-clause-once c = own_names []
+returns-clause-once c = own_names
 
 pub returns-clause-all : goal.returns-clause-all
 returns-clause-all c = all_named
