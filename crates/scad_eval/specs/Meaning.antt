@@ -24,25 +24,29 @@ use Rattle.scad_eval.specs.Verdicts.{Judge, Verdict, solid_of, extruded, Extrusi
 use Rattle.scad_eval.specs.Bodies.{evaluated_in, children_in, is_marked, says_only, statements_of_body, is_bare, instance_place, core_place}
 use Rattle.scad_eval.specs.Loops.{items_of, chosen_among}
 
--- where an instance stands: the calls that are left, the scope, the chain of special names, and the extrusion that it is
--- inside of
+-- where an instance stands: the calls that are left, the scope, the chain of special names, the extrusion that it is inside
+-- of, and whether it is inside an instance that is marked `!`
 pub record Stand : Type 0 where
   pub calls : ℕ
   pub env : Env
   pub chain : Pairs Val
   pub inside : Option Extrusion
+  pub under_mark : Bool
 
 abbrev pub standing : Stand → Env → Stand
-standing here env = record { calls = here.calls; env = env; chain = here.chain; inside = here.inside }
+standing here env = record { calls = here.calls; env = env; chain = here.chain; inside = here.inside; under_mark = here.under_mark }
 
 abbrev pub chained : Stand → Pairs Val → Stand
-chained here chain = record { calls = here.calls; env = here.env; chain = chain; inside = here.inside }
+chained here chain = record { calls = here.calls; env = here.env; chain = chain; inside = here.inside; under_mark = here.under_mark }
 
 abbrev pub called_from : Stand → ℕ → Stand
-called_from here calls = record { calls = calls; env = here.env; chain = here.chain; inside = here.inside }
+called_from here calls = record { calls = calls; env = here.env; chain = here.chain; inside = here.inside; under_mark = here.under_mark }
+
+abbrev pub marked_from : Stand → Stand
+marked_from here = record { calls = here.calls; env = here.env; chain = here.chain; inside = here.inside; under_mark = true }
 
 abbrev pub extruding : Stand → Extrusion → Stand
-extruding here through = record { calls = here.calls; env = here.env; chain = here.chain; inside = Some through }
+extruding here through = record { calls = here.calls; env = here.env; chain = here.chain; inside = Some through; under_mark = here.under_mark }
 
 -- where an expression of an instance stands, with so many evaluations in one another left
 abbrev pub setting : ℕ → Stand → Setting
@@ -283,13 +287,19 @@ module _ (unit : LengthUnit) (judge : Judge) where
   core_made left make here (ModuleCallTerm at name args body) turns leaves =
       call_made left make here at name args body (module_in here.env name) turns leaves
 
-  -- an instance: where it is marked `!`, its own design is the marked one
+  -- an instance inside a mark, or one that is not marked
+  abbrev pub marked_made : ℕ → Makes → Stand → CoreTerm → ℕ → ℕ → Outcome Made
+  marked_made left make here core turns leaves =
+      if here.under_mark then core_made left make here core turns leaves
+      else then_with (core_made left make (marked_from here) core turns leaves) (λ turns m.
+      Gives turns (record { leaves = m.leaves; design = empty; marked = Some m.design }))
+
+  -- an instance: the outermost mark `!` counts, and then what it gives is no part of the design around it
   abbrev pub instance_made : ℕ → Makes → Makes
   instance_made left make here i turns leaves =
       if is_marked i
       then (if is_some here.inside then Faults WrongDimension (core_place (core_of i))
-      else then_with (core_made left make here (core_of i) turns leaves) (λ turns m.
-      Gives turns (record { leaves = m.leaves; design = m.design; marked = Some m.design })))
+      else marked_made left make here (core_of i) turns leaves)
       else core_made left make here (core_of i) turns leaves
 
   -- with so many evaluations in one another left
@@ -304,6 +314,7 @@ module _ (unit : LengthUnit) (judge : Judge) where
     env = entered_scope statements no_call (Within [] [] [] no_call Outermost);
     chain = chain;
     inside = None;
+    under_mark = false;
   }
 
   -- the design of a program: the first one marked `!`, or else all
