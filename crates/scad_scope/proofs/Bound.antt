@@ -8,7 +8,6 @@ use Rattle.scad_value.specs.Values.{Val, is_bounded}
 use Rattle.scad_scope.specs.declared.table.Scope.{Scope}
 use Rattle.scad_scope.specs.declared.table.Variable.{Variable}
 use Rattle.scad_scope.specs.Names.{Row, Pairs, find_in, with_variable, bound_in, have_bounded, all_bounded}
-use Rattle.scad_scope.specs.Blocks.{Scan, Reached, Passed, row_of_block}
 use Rattle.scad_scope.specs.View.{variable_of, variables_of, row_of, rows_in}
 
 -- what is pushed behind is the newest
@@ -93,11 +92,6 @@ rows_bounded_push : (ss : List Scope) (s : Scope) → IsTrue (all_bounded (rows_
     IsTrue (have_bounded (row_of s).variables) → IsTrue (all_bounded (rows_in (ss ++ s ∷ [])))
 rows_bounded_push [] s h b = and_from _ _ b refl
 rows_bounded_push (t ∷ ss) s h b = let p = and_parts _ _ h in and_from _ _ p.0 (rows_bounded_push ss s p.1 b)
-
--- a block has no variables before its assignments
-pub no_variables : (outer : ℕ) (block : Scan) → IsTrue (have_bounded (row_of_block outer block).variables)
-no_variables outer (Reached block) = refl
-no_variables outer (Passed b f m) = refl
 
 -- a new scope whose variables are bounded
 pub adding_bounded : (t : Bool) (ss new : List Scope) (s : Scope) → new ≡ cond t (ss ++ s ∷ []) ss

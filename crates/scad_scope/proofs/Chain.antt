@@ -1,10 +1,10 @@
 -- The chain of special variables: what a cut leaves of it.
-use Rattle.std.proofs.Common.{◌≡◌, ℕ, suc, ◌-◌, ◌+◌, ◌≤◌, List, [], ◌∷◌, ◌++◌, length, map, take, drop, reverse, refl, sym, ap, subst, ◌∙◌, arith, length-append, Some, None, Option}
+use Rattle.std.proofs.Common.{◌≡◌, ℕ, suc, ◌-◌, ◌≤◌, List, [], ◌∷◌, ◌++◌, length, map, take, drop, reverse, refl, sym, ap, subst, ◌∙◌, arith, length-append}
 use Rattle.std.specs.Prelude.{IsTrue}
-use Rattle.std.proofs.lemmas.Bool.{and_parts, and_from}
-use Rattle.std.proofs.lemmas.List.{take-append-drop, reverse-append, length-reverse, length-take-le, take-map}
+use Rattle.std.proofs.lemmas.Bool.{and_parts}
+use Rattle.std.proofs.lemmas.List.{take-append-drop, reverse-append, length-reverse, length-take-le}
 use Rattle.std.proofs.Math.Seq.{drop-append_seam}
-use Rattle.scad_value.specs.Values.{Val, is_bounded}
+use Rattle.scad_value.specs.Values.{Val}
 use Rattle.scad_scope.specs.declared.table.Variable.{Variable}
 use Rattle.scad_scope.specs.Names.{Pairs, oldest, have_bounded}
 use Rattle.scad_scope.specs.View.{variable_of, variables_of}

@@ -1,6 +1,5 @@
 -- The scope of a number, and what it holds.
 use Rattle.std.proofs.Common.{◌≡◌, ℕ, zero, suc, ◌+◌, ◌<◌, ◌≤◌, List, [], ◌∷◌, ◌++◌, length, take, drop, Bool, true, false, cond, Option, Some, None, refl, sym, ap, subst, ◌∙◌, arith, length-append, get_or, nat_lt}
-use Rattle.std.specs.Prelude.{slice_index_or}
 use Rattle.std.proofs.lemmas.Bool.{ltb-true, ltb-false, lt-ltb, le-ltb}
 use Rattle.std.proofs.lemmas.List.{get_or_past, take-append-drop, length-take-le}
 use Rattle.std.proofs.Math.Seq.{get_or-append_seam}
@@ -11,7 +10,6 @@ use Rattle.scad_scope.specs.declared.table.Family.TheVariants.{Functions, Module
 use Rattle.scad_scope.specs.Names.{with_variable, with_pair, bound_in}
 use Rattle.std.specs.Prelude.{IfOk, OnOk, OnErr}
 use Rattle.std.proofs.Common.{Result, Ok, Err}
-use Rattle.scad_scope.specs.Blocks.{Scan, Reached, Passed, row_of_block}
 use Rattle.scad_scope.specs.Names.{Row, NumberedEnv, NumberedOutermost, NumberedWithin, NumberedCall, no_numbered_call, numbered_call, call_behind, env_behind, or_outer_call, enclosing_call, envs_from, env_of, find_in, or_else, standing_in, variable_in}
 use Rattle.scad_scope.specs.declared.table.Call.{Call}
 use Rattle.scad_scope.specs.Table.{call_told}
@@ -291,14 +289,6 @@ cut_kept rs n k few h =
     let len : k < length (envs_from [] (take n rs)) = omega (arith, envs_length [] (take n rs), length-take-le n rs few, h) in
     sym (ap (λ es. get_or es k NumberedOutermost) (ap (envs_from []) (sym (take-append-drop n rs)) ∙ envs_joined [] (take n rs) (drop n rs))
     ∙ envs_keep (envs_from [] (take n rs)) (drop n rs) k NumberedOutermost len)
-
-pub entered_outer : (outer : ℕ) (block : Scan) → (row_of_block outer block).outer ≡ outer
-entered_outer outer (Reached block) = refl
-entered_outer outer (Passed b f m) = refl
-
-pub entered_call : (outer : ℕ) (block : Scan) → (row_of_block outer block).call ≡ None
-entered_call outer (Reached block) = refl
-entered_call outer (Passed b f m) = refl
 
 -- a call from a scope that is there
 pub called_from : (look : ℕ → NumberedEnv) (count children caller : ℕ) → caller < count

@@ -4,3 +4,6 @@ pub mod Scans
 pub mod Numbered
 pub mod Matched
 pub mod Chain
+pub mod Walks
+pub mod Held
+pub mod Order

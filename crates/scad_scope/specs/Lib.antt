@@ -5,4 +5,6 @@ pub mod Table
 pub mod View
 pub mod Blocks
 pub mod Numbered
-pub mod Seeking
+pub mod Walk
+pub mod TextView
+pub mod Tables

@@ -2,12 +2,12 @@ ghost use Rattle.std.specs.Prelude.{IsTrue};
 ghost use Rattle.scad_scope.specs.Names.{all_bounded, have_bounded};
 ghost use Rattle.scad_scope.specs.View.{rows_in, variables_of};
 
+use crate::blocks::Blocks;
 use crate::own::{empty, scope_of_block};
 use crate::table::{
     Call, Family, Found, Scope, Variable, call_before, definitions, find_definition, find_variable,
     first,
 };
-use scad_ast::Program;
 use scad_value::Value;
 use std::alloc::Global;
 use text_place::{Bytes, Fault, FaultKind, NoMemory, Place};
@@ -30,9 +30,9 @@ impl Scopes {
     ghost use Rattle.scad_value.specs.Values.{Val, is_bounded};
     ghost use Rattle.scad_value.specs.View.{val_of};
     ghost use Rattle.scad_scope.specs.Names.{Pairs, find_in, env_of, variable_in, function_in, module_in, have_bounded, first_row, empty_row, bound_in, with_pair, NumberedWithin, no_numbered_call, numbered_call, enclosing_call, called_row, first_chain, oldest, Row};
-    ghost use Rattle.scad_ast.specs.StatementView.{program_of};
-    ghost use Rattle.scad_scope.specs.Blocks.{row_of_block, block_of};
-    ghost use Rattle.scad_scope.specs.Numbered.{functions_below, modules_below, count_of_functions, count_of_modules};
+    ghost use Rattle.scad_scope.specs.Blocks.{row_of_block};
+    ghost use Rattle.scad_scope.specs.Tables.{text_held, functions_held, modules_held};
+    ghost use Rattle.scad_scope.specs.Numbered.{functions_below, modules_below};
     ghost use Rattle.scad_scope.specs.View.{definition_in, row_of};
     ghost use Rattle.scad_scope.specs.Table.{rows_of, chain_of, call_told, IsFound, IsMissing, IsVariable};
 
@@ -59,9 +59,8 @@ impl Scopes {
         Ok(Scopes { scopes, chain })
     }
 
-    /// A new scope of a block of the program, inside another scope, and its number. Block 0 is the
-    /// program itself; the bodies and the expressions of functions are numbered from 1 in the order
-    /// in which they begin. A block that isn't there has no definitions. `NoMemory` leaves all scopes
+    /// A new scope of a block of a program, inside another scope, and its number. Its time is that of
+    /// the block's own definitions. A block that isn't there has no definitions. `NoMemory` leaves all scopes
     /// as they were; it also comes where a number would be past 2^32 - 1.
     ///
     /// Functions and modules have numbers below the program's counts of them, where those of the
@@ -70,34 +69,34 @@ impl Scopes {
         &mut self,
         alloc: Global,
         outer: u32,
-        program: &Program,
+        blocks: &Blocks<'_>,
         block: u32,
     ) -> Result<u32, NoMemory>
         requires { outer < length (rows_of self.old) }
         ensures number { IfOk result (λ n. n ≡ length (rows_of self.old)) }
         ensures entered { OnOk result (rows_of self.new ≡
-            rows_of self.old ++ row_of_block outer (block_of (program_of program.now) block) ∷ []) }
+            rows_of self.old ++ row_of_block outer (text_held blocks.now) block ∷ []) }
         ensures unchanged { OnErr result (rows_of self.new ≡ rows_of self.old) }
         ensures inside { IfOk result (λ n. env_of (rows_of self.new) n ≡
-            NumberedWithin n (row_of_block outer (block_of (program_of program.now) block)) no_numbered_call (env_of (rows_of self.old) outer)) }
+            NumberedWithin n (row_of_block outer (text_held blocks.now) block) no_numbered_call (env_of (rows_of self.old) outer)) }
         ensures kept { (k : ℕ) → k < length (rows_of self.old) → env_of (rows_of self.new) k ≡ env_of (rows_of self.old) k }
         ensures chain { chain_of self.new ≡ chain_of self.old }
-        ensures functions { let n = count_of_functions (program_of program.now) in
+        ensures functions { let n = length (functions_held blocks.now) in
             IsTrue (functions_below n (rows_of self.old)) → IsTrue (functions_below n (rows_of self.new)) }
-        ensures modules { let n = count_of_modules (program_of program.now) in
+        ensures modules { let n = length (modules_held blocks.now) in
             IsTrue (modules_below n (rows_of self.old)) → IsTrue (modules_below n (rows_of self.new)) }
     {
-        let scope = scope_of_block(alloc, outer, program, block)?;
+        let scope = scope_of_block(alloc, outer, blocks, block)?;
         self.add(scope)
     }
 
-    /// A new scope of a block of the program, as `enter` makes it, which is that of a call of a module
+    /// A new scope of a block of a program, as `enter` makes it, which is that of a call of a module
     /// of the source: the call encloses what is evaluated in this scope or in a scope inside.
     pub fn enter_call(
         &mut self,
         alloc: Global,
         outer: u32,
-        program: &Program,
+        blocks: &Blocks<'_>,
         block: u32,
         call: Call,
     ) -> Result<u32, NoMemory>
@@ -105,20 +104,20 @@ impl Scopes {
         requires caller { call.caller < length (rows_of self.old) }
         ensures number { IfOk result (λ n. n ≡ length (rows_of self.old)) }
         ensures entered { OnOk result (rows_of self.new ≡ rows_of self.old ++
-            called_row call.children call.caller (row_of_block outer (block_of (program_of program.now) block)) ∷ []) }
+            called_row call.children call.caller (row_of_block outer (text_held blocks.now) block) ∷ []) }
         ensures unchanged { OnErr result (rows_of self.new ≡ rows_of self.old) }
         ensures inside { IfOk result (λ n. env_of (rows_of self.new) n ≡ NumberedWithin n
-            (called_row call.children call.caller (row_of_block outer (block_of (program_of program.now) block)))
+            (called_row call.children call.caller (row_of_block outer (text_held blocks.now) block))
             (numbered_call call.children (env_of (rows_of self.old) call.caller)) (env_of (rows_of self.old) outer)) }
         ensures kept { (k : ℕ) → k < length (rows_of self.old) → env_of (rows_of self.new) k ≡ env_of (rows_of self.old) k }
         ensures chain { chain_of self.new ≡ chain_of self.old }
-        ensures functions { let n = count_of_functions (program_of program.now) in
+        ensures functions { let n = length (functions_held blocks.now) in
             IsTrue (functions_below n (rows_of self.old)) → IsTrue (functions_below n (rows_of self.new)) }
-        ensures modules { let n = count_of_modules (program_of program.now) in
+        ensures modules { let n = length (modules_held blocks.now) in
             IsTrue (modules_below n (rows_of self.old)) → IsTrue (modules_below n (rows_of self.new)) }
     {
-        let scope = scope_of_block(alloc, outer, program, block)?;
-        self.add(scope.of_call(call))
+        let entered = scope_of_block(alloc, outer, blocks, block)?;
+        self.add(entered.of_call(call))
     }
 
     /// A new scope without definitions, inside another scope, and its number: what the expression of

@@ -1,4 +1,4 @@
-use Rattle.std.proofs.Common.{◌<◌, ◌≡◌, ◌∙◌, [], length, sym, ap, arith}
+use Rattle.std.proofs.Common.{◌<◌, ◌∙◌, [], length, ap, arith}
 use Rattle.scad_scope.specs.Names.{env_of}
 use Rattle.scad_scope.specs.Table.{rows_of, call_told}
 use Rattle.scad_scope.proofs.Envs.{rows_length, call_found, call_none, call_outer}

@@ -3,7 +3,7 @@ use Rattle.std.specs.Prelude.{IsTrue}
 use Rattle.std.proofs.lemmas.List.{take-map}
 use Rattle.std.proofs.Math.Seq.{take-append_seam}
 use Rattle.scad_scope.specs.declared.table.Scope.{Scope}
-use Rattle.scad_scope.specs.Names.{Row, all_bounded, env_of}
+use Rattle.scad_scope.specs.Names.{all_bounded, env_of}
 use Rattle.scad_scope.specs.Numbered.{numbers_below, each_row}
 use Rattle.scad_scope.specs.Table.{rows_of}
 use Rattle.scad_scope.specs.View.{row_of, rows_in}

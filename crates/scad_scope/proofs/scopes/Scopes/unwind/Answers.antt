@@ -1,4 +1,4 @@
-use Rattle.std.proofs.Common.{List, ◌≤◌, length, sym, ap, subst, ◌∙◌}
+use Rattle.std.proofs.Common.{List, sym, ap, subst, ◌∙◌}
 use Rattle.std.specs.Prelude.{IsTrue}
 use Rattle.scad_scope.specs.declared.table.Variable.{Variable}
 use Rattle.scad_scope.specs.Names.{have_bounded}
