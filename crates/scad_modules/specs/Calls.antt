@@ -1,5 +1,5 @@
 -- What the arguments of a built-in module's call mean, or the first fault that they have together.
-use Rattle.std.specs.Prelude.{Bool, not, ℤ, List, [], ◌∷◌, Option, Some, None, option_map, Ok}
+use Rattle.std.specs.Prelude.{Bool, not, [], ◌∷◌, Option, Some, option_map, Ok}
 use Rattle.text_place.specs.declared.fault.FaultKind.TheVariants.{AssertFailed}
 use Rattle.csg_tree.specs.declared.op.Op.TheVariants as ops
 use Rattle.plane_predicate.specs.declared.unit.Unit.{Unit as LengthUnit}

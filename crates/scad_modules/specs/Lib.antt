@@ -1,6 +1,8 @@
-pub mod Reading
-pub mod Table
-pub mod Effects
-pub mod Transforms
-pub mod Shapes
+pub mod Bounds
 pub mod Calls
+pub mod Effects
+pub mod Reading
+pub mod Shapes
+pub mod Table
+pub mod Transforms
+pub mod View

@@ -1,5 +1,5 @@
 -- Values as sizes, vectors and lists of points, and the steps in which a call's arguments are read.
-use Rattle.std.specs.Prelude.{ℕ, suc, ◌-◌, ◌^◌, ℤ, pos, negsuc, Bool, true, false, List, [], ◌∷◌, length, map, replicate, Option, Some, None, option_map, Result, Ok, Err, nat_eq, nat_lt, if◌then◌else◌, slice_index_or}
+use Rattle.std.specs.Prelude.{ℕ, ℤ, pos, negsuc, Bool, true, false, List, [], ◌∷◌, length, replicate, Option, Some, None, option_map, Err, is_some, nat_eq, nat_lt, if◌then◌else◌, slice_index_or}
 use Rattle.text_place.specs.declared.fault.FaultKind.{FaultKind}
 use Rattle.text_place.specs.declared.fault.FaultKind.TheVariants.{BadArgument, NotInProfile, TypeMismatch}
 use Rattle.scad_value.specs.Values.{Val, NumberVal, TruthVal, ListVal, Vals, no_vals, and_val}
@@ -69,14 +69,18 @@ points_in n = list_in (vector_in n)
 
 -- the number of a face's corner; a number that no point can have stands for all that name none
 abbrev pub no_corner : ℕ
-no_corner = 2 ^ 32 - 1
+no_corner = 4294967295
 
 abbrev pub corner_number : ℤ → ℕ
 corner_number (pos n) = if nat_lt n no_corner then n else no_corner
 corner_number (negsuc n) = no_corner
 
+abbrev pub corner_in : Val → Option ℕ
+corner_in v = option_map corner_number (number_in v)
+
+-- the corners of a face
 abbrev pub face_in : Val → Option (List ℕ)
-face_in v = option_map (map corner_number) (numbers_in v)
+face_in = list_in corner_in
 
 abbrev pub faces_in : Val → Option (List (List ℕ))
 faces_in = list_in face_in
@@ -91,17 +95,16 @@ abbrev pub required : {A : Type 0} → Option Val → (Val → Answer A) → Ans
 required None go = Err BadArgument
 required (Some v) go = go v
 
+-- a fault where something is so
+abbrev pub refused_where : {A : Type 0} → Bool → FaultKind → Answer A → Answer A
+refused_where true kind next = Err kind
+refused_where false kind next = next
+
 -- an argument that the profile leaves out
 abbrev pub left_out : {A : Type 0} → Option Val → Answer A → Answer A
-left_out None next = next
-left_out (Some v) next = Err NotInProfile
+left_out given next = refused_where (is_some given) NotInProfile next
 
 -- an argument of the wanted type
 abbrev pub of_type : {A B : Type 0} → Option A → (A → Answer B) → Answer B
 of_type None go = Err TypeMismatch
 of_type (Some x) go = go x
-
--- a fault where something is so
-abbrev pub refused_where : {A : Type 0} → Bool → FaultKind → Answer A → Answer A
-refused_where true kind next = Err kind
-refused_where false kind next = next

@@ -1,6 +1,6 @@
 -- Calls of shapes and of extrusion (OpenSCAD User Manual, "3D Primitives" and "2D Primitives"). Solid shapes stand outside
 -- an extrusion, shapes in the plane inside one.
-use Rattle.std.specs.Prelude.{ℕ, ℤ, pos, Bool, false, not, ◌&&◌, ◌||◌, List, [], ◌∷◌, Option, Some, None, is_some, Ok}
+use Rattle.std.specs.Prelude.{ℤ, pos, Bool, false, not, ◌&&◌, ◌||◌, [], ◌∷◌, Option, Some, None, is_some, Ok}
 use Rattle.std.specs.Ordering.{int_eq}
 use Rattle.text_place.specs.declared.fault.FaultKind.TheVariants.{BadArgument, NotInProfile, WrongDimension}
 use Rattle.scad_value.specs.Values.{Val}
