@@ -1,4 +1,3 @@
-pub mod Designs
 pub mod Verdicts
 pub mod Answers
 pub mod Bodies
@@ -6,5 +5,4 @@ pub mod Positions
 pub mod Lent
 pub mod Loops
 pub mod Meaning
-pub mod Placing
 pub mod Sources

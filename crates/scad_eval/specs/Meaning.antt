@@ -19,7 +19,7 @@ use Rattle.scad_modules.specs.declared.table.BuiltinModule.TheVariants.{Echo}
 use Rattle.scad_modules.specs.Table.{module_named, is_left_out, parameters_of}
 use Rattle.scad_modules.specs.Effects.{EffectCall, a_solid, a_flat, a_move, a_join, an_extrusion, silence, some_children, FlatCall, ChosenCall}
 use Rattle.scad_modules.specs.Calls.{effect_of}
-use Rattle.scad_eval.specs.Designs.{Design, empty, a_part, balanced, grouped, moved_by}
+use Rattle.scad_design.specs.Designs.{Design, empty, a_part, balanced, grouped, moved_by}
 use Rattle.scad_eval.specs.Verdicts.{Judge, Verdict, solid_of, extruded, Extrusion}
 use Rattle.scad_eval.specs.Bodies.{evaluated_in, children_in, is_marked, says_only, statements_of_body, is_bare, instance_place, core_place}
 use Rattle.scad_eval.specs.Loops.{items_of, chosen_among}

@@ -7,10 +7,10 @@ use Rattle.csg_tree.specs.Formulas.{Formula}
 use Rattle.scad_ast.specs.Terms.{StatementTerm, statements_from}
 use Rattle.scad_scope.specs.Names.{first_chain}
 use Rattle.scad_func.specs.Meaning.{Outcome, Gives, Faults}
-use Rattle.scad_eval.specs.Designs.{Design}
+use Rattle.scad_design.specs.Designs.{Design}
 use Rattle.scad_eval.specs.Verdicts.{Judge, IsRight}
 use Rattle.scad_eval.specs.Meaning.{design_of}
-use Rattle.scad_eval.specs.Placing.{Placed, placed, unplaced, Places}
+use Rattle.scad_design.specs.Placing.{Placed, placed, unplaced, Places}
 
 pub data Meaning : Type 0 where
   a_tree : (tree : Formula) → Meaning

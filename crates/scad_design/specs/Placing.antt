@@ -10,7 +10,7 @@ use Rattle.shape_planes.specs.Placing.{moved, ArePlanesOf}
 use Rattle.csg_tree.specs.declared.op.Op.{Op}
 use Rattle.csg_tree.specs.Formulas.{Formula, nothing, leaf}
 use Rattle.csg_tree.specs.Joins.{join_of}
-use Rattle.scad_eval.specs.Designs.{Design, empty, a_part, joined, Part}
+use Rattle.scad_design.specs.Designs.{Design, empty, a_part, joined, Part}
 
 -- two planes of the same points
 abbrev pub same_points : Coefficients → Coefficients → Bool
