@@ -2,7 +2,7 @@
 use Rattle.std.proofs.Common.{◌≡◌, ◌⊎◌, inl, inr, ⊎_elim, ℕ, zero, suc, ◌+◌, ◌<◌, List, [], ◌∷◌, ◌++◌, length, drop, slice_index_or, refl, sym, ap, subst, ◌∙◌, arith, append_assoc, append-nil, length-append}
 use Rattle.scad_scope.specs.Blocks.{Mark, a_block, a_function, a_module, functions_among, modules_among, count_blocks, count_functions, count_modules, bodies_from, entries_from, entry_at, Entry, NumberedText, numbered_text, marks_of, marks_in, marks_of_instance, marks_of_core, marks_of_body, marks_of_program, Function, Module}
 use Rattle.scad_ast.specs.Terms.{StatementTerm, EmptyStatement, BlockStatement, AssignmentTerm, SpecialAssignmentTerm, ModuleTerm, FunctionTerm, InstanceStatement, StatementTerms, no_statements, and_statement, statements_from, InstanceTerm, AnInstance, CoreTerm, IfTerm, IfElseTerm, ForTerm, IntersectionForTerm, ModuleCallTerm, BodyTerm, EmptyBody, BlockBody, InstanceBody}
-use Rattle.scad_eval.specs.Positions.{StandsAt, BeginsAt, HasBody}
+use Rattle.scad_eval.specs.Positions.{StandsAt}
 use Rattle.scad_eval.proofs.Deciding.{first_same, some_item, none_below, first_there, later_there}
 
 pub functions_joined : (xs ys : List Mark) → functions_among (xs ++ ys) ≡ functions_among xs ++ functions_among ys
@@ -111,7 +111,7 @@ second_part text n f m xs ys h =
     }
 
 -- a whole program
-pub whole : (program : List StatementTerm) → StandsAt (numbered_text program) 0 0 0 (marks_of_program program)
+whole : (program : List StatementTerm) → StandsAt (numbered_text program) 0 0 0 (marks_of_program program)
 whole program = record {
   entries_behind = [];
   functions_behind = [];
@@ -134,11 +134,11 @@ one_dropped : {A : Type 0} → (n : ℕ) (xs : List A) (x : A) (ys : List A) →
 one_dropped n xs x ys e = behind_front n 1 xs (x ∷ []) ys e refl
 
 -- a block: its entry is there, and the text goes on behind its mark
-pub block_there : (text : NumberedText) (n f m : ℕ) (ss : StatementTerms) (marks : List Mark) → StandsAt text n f m (a_block ss ∷ marks) →
+block_there : (text : NumberedText) (n f m : ℕ) (ss : StatementTerms) (marks : List Mark) → StandsAt text n f m (a_block ss ∷ marks) →
     (n < length text.entries) × ((d : Entry) → slice_index_or text.entries n d ≡ entry_at n f m ss)
 block_there text n f m ss marks h = dropped_head n text.entries (entry_at n f m ss) (entries_from (n + 1) f m marks ++ h.entries_behind) h.entries
 
-pub behind_block : (text : NumberedText) (n f m : ℕ) (ss : StatementTerms) (marks : List Mark) → StandsAt text n f m (a_block ss ∷ marks) → StandsAt text (n + 1) f m marks
+behind_block : (text : NumberedText) (n f m : ℕ) (ss : StatementTerms) (marks : List Mark) → StandsAt text n f m (a_block ss ∷ marks) → StandsAt text (n + 1) f m marks
 behind_block text n f m ss marks h = record {
   entries_behind = h.entries_behind;
   functions_behind = h.functions_behind;
@@ -150,15 +150,20 @@ behind_block text n f m ss marks h = record {
   bodies_are = h.bodies_are;
 }
 
--- a module: it has the number that comes next, and its body's block begins right behind its mark
-pub module_there : (text : NumberedText) (n f m : ℕ) (d : Module) (marks : List Mark) → StandsAt text n f m (a_module d ∷ marks) →
-    (m < length text.modules) × ((o : Module) → slice_index_or text.modules m o ≡ d) × ((o : ℕ) → slice_index_or text.bodies m o ≡ n)
-module_there text n f m d marks h =
-    let a = dropped_head m text.modules d (modules_among marks ++ h.modules_behind) h.modules_are in
-    let b = dropped_head m text.bodies n (bodies_from n marks ++ h.bodies_behind) h.bodies_are in
-    (a.0, a.1, b.1)
+-- behind the mark of a function and of a module
+behind_function : (text : NumberedText) (n f m : ℕ) (g : Function) (marks : List Mark) → StandsAt text n f m (a_function g ∷ marks) → StandsAt text n (f + 1) m marks
+behind_function text n f m g marks h = record {
+  entries_behind = h.entries_behind;
+  functions_behind = h.functions_behind;
+  modules_behind = h.modules_behind;
+  bodies_behind = h.bodies_behind;
+  entries = h.entries;
+  functions_are = one_dropped f text.functions g (functions_among marks ++ h.functions_behind) h.functions_are;
+  modules_are = h.modules_are;
+  bodies_are = h.bodies_are;
+}
 
-pub behind_module : (text : NumberedText) (n f m : ℕ) (d : Module) (marks : List Mark) → StandsAt text n f m (a_module d ∷ marks) → StandsAt text n f (m + 1) marks
+behind_module : (text : NumberedText) (n f m : ℕ) (d : Module) (marks : List Mark) → StandsAt text n f m (a_module d ∷ marks) → StandsAt text n f (m + 1) marks
 behind_module text n f m d marks h = record {
   entries_behind = h.entries_behind;
   functions_behind = h.functions_behind;
@@ -170,9 +175,13 @@ behind_module text n f m d marks h = record {
   bodies_are = one_dropped m text.bodies n (bodies_from n marks ++ h.bodies_behind) h.bodies_are;
 }
 
--- each module of a text has its body
-abbrev SomeBody : NumberedText → ℕ → Type 0
-SomeBody text number = (d : Module) × HasBody text number d
+-- each block of a text, with what stands in it behind its mark
+pub record SomeBlock (text : NumberedText) (number : ℕ) : Type 0 where
+  pub statements : StatementTerms
+  pub functions : ℕ
+  pub modules : ℕ
+  pub entry : (d : Entry) → slice_index_or text.entries number d ≡ entry_at number functions modules statements
+  pub stands : StandsAt text (number + 1) functions modules (marks_in statements)
 
 here_or_later : (k c : ℕ) → (k < c) ⊎ ((i : ℕ) × (k ≡ c + i))
 here_or_later k zero = inr (k, sym (nothing_more k))
@@ -185,85 +194,101 @@ less_behind c i b h = omega (arith, h)
 moved_number : (m c i k : ℕ) → k ≡ c + i → (m + c) + i ≡ m + k
 moved_number m c i k e = omega (arith, e)
 
-of_both : (text : NumberedText) (m a b : ℕ) → ((k : ℕ) → k < a → SomeBody text (m + k)) → ((k : ℕ) → k < b → SomeBody text (m + a + k)) →
-    (k : ℕ) → k < a + b → SomeBody text (m + k)
-of_both text m a b first second k h =
+of_both : (text : NumberedText) (n a b : ℕ) → ((k : ℕ) → k < a → SomeBlock text (n + k)) → ((k : ℕ) → k < b → SomeBlock text (n + a + k)) →
+    (k : ℕ) → k < a + b → SomeBlock text (n + k)
+of_both text n a b first second k h =
     ⊎_elim (λ here. first k here)
-    (λ later. subst (SomeBody text) (moved_number m a later.0 k later.1) (second later.0 (less_behind a later.0 b (subst (λ (x : ℕ). x < a + b) later.1 h))))
+    (λ later. subst (SomeBlock text) (moved_number n a later.0 k later.1) (second later.0 (less_behind a later.0 b (subst (λ (x : ℕ). x < a + b) later.1 h))))
     (here_or_later k a)
 
-counted_together : (xs ys : List Mark) → count_modules (xs ++ ys) ≡ count_modules xs + count_modules ys
-counted_together xs ys = ap length (modules_joined xs ys) ∙ length-append (modules_among xs) (modules_among ys)
+counted_together : (xs ys : List Mark) → count_blocks (xs ++ ys) ≡ count_blocks xs + count_blocks ys
+counted_together [] ys = sym (nothing_more (count_blocks ys))
+counted_together (a_block inner ∷ xs) ys = ap suc (counted_together xs ys) ∙ sym (one_later (count_blocks xs) (count_blocks ys))
+counted_together (a_function g ∷ xs) ys = counted_together xs ys
+counted_together (a_module d ∷ xs) ys = counted_together xs ys
 
-of_parts : (text : NumberedText) (n f m : ℕ) (xs ys : List Mark) →
-    ((k : ℕ) → k < count_modules xs → SomeBody text (m + k)) → ((k : ℕ) → k < count_modules ys → SomeBody text (m + count_modules xs + k)) →
-    (k : ℕ) → k < count_modules (xs ++ ys) → SomeBody text (m + k)
-of_parts text n f m xs ys first second k h =
-    of_both text m (count_modules xs) (count_modules ys) first second k (subst (λ (x : ℕ). k < x) (counted_together xs ys) h)
+of_parts : (text : NumberedText) (n : ℕ) (xs ys : List Mark) →
+    ((k : ℕ) → k < count_blocks xs → SomeBlock text (n + k)) → ((k : ℕ) → k < count_blocks ys → SomeBlock text (n + count_blocks xs + k)) →
+    (k : ℕ) → k < count_blocks (xs ++ ys) → SomeBlock text (n + k)
+of_parts text n xs ys first second k h =
+    of_both text n (count_blocks xs) (count_blocks ys) first second k (subst (λ (x : ℕ). k < x) (counted_together xs ys) h)
 
-none_there : (text : NumberedText) (m k : ℕ) → k < 0 → SomeBody text (m + k)
-none_there text m k h = absurd (none_below k h)
+none_there : (text : NumberedText) (n k : ℕ) → k < 0 → SomeBlock text (n + k)
+none_there text n k h = absurd (none_below k h)
 
-next_number : (m k : ℕ) → m + 1 + k ≡ m + suc k
-next_number m k = omega arith
+next_number : (n k : ℕ) → n + 1 + k ≡ n + suc k
+next_number n k = omega arith
 
 less_now : (k n : ℕ) → suc k < suc n → k < n
 less_now k n h = omega (arith, h)
 
-module_first : (text : NumberedText) (n f m : ℕ) (d : Module) → StandsAt text n f m (a_module d ∷ marks_of_body d.body) →
-    ((k : ℕ) → k < count_modules (marks_of_body d.body) → SomeBody text (m + 1 + k)) →
-    (k : ℕ) → k < suc (count_modules (marks_of_body d.body)) → SomeBody text (m + k)
-module_first text n f m d h inside zero lt =
-    let t = module_there text n f m d (marks_of_body d.body) h in
-    subst (SomeBody text) (plus_zero m) (
-      d,
-      record {
-        within = t.0;
-        is = t.1 d;
-        begins = subst (λ (b : ℕ). BeginsAt text b (marks_of_body d.body)) (sym (t.2 0)) (record { functions = f; modules = m + 1; stands = behind_module text n f m d (marks_of_body d.body) h });
-      },
-    )
-module_first text n f m d h inside (suc k) lt = subst (SomeBody text) (next_number m k) (inside k (less_now k (count_modules (marks_of_body d.body)) lt))
+block_first : (text : NumberedText) (n f m : ℕ) (ss : StatementTerms) → StandsAt text n f m (a_block ss ∷ marks_in ss) →
+    ((k : ℕ) → k < count_blocks (marks_in ss) → SomeBlock text (n + 1 + k)) →
+    (k : ℕ) → k < suc (count_blocks (marks_in ss)) → SomeBlock text (n + k)
+block_first text n f m ss h inside zero lt =
+    subst (SomeBlock text) (plus_zero n) (record {
+      statements = ss;
+      functions = f;
+      modules = m;
+      entry = (block_there text n f m ss (marks_in ss) h).1;
+      stands = behind_block text n f m ss (marks_in ss) h;
+    })
+block_first text n f m ss h inside (suc k) lt = subst (SomeBlock text) (next_number n k) (inside k (less_now k (count_blocks (marks_in ss)) lt))
+
+one_statement : (i : InstanceTerm) → marks_in (and_statement (InstanceStatement i) no_statements) ≡ marks_of_instance i
+one_statement i = append-nil (marks_of_instance i)
+
+single_first : (text : NumberedText) (n f m : ℕ) (i : InstanceTerm) → StandsAt text n f m (a_block (and_statement (InstanceStatement i) no_statements) ∷ marks_of_instance i) →
+    ((k : ℕ) → k < count_blocks (marks_of_instance i) → SomeBlock text (n + 1 + k)) →
+    (k : ℕ) → k < suc (count_blocks (marks_of_instance i)) → SomeBlock text (n + k)
+single_first text n f m i h inside k lt =
+    block_first text n f m (and_statement (InstanceStatement i) no_statements)
+    (subst (λ (l : List Mark). StandsAt text n f m (a_block (and_statement (InstanceStatement i) no_statements) ∷ l)) (sym (one_statement i)) h)
+    (subst (λ (l : List Mark). (j : ℕ) → j < count_blocks l → SomeBlock text (n + 1 + j)) (sym (one_statement i)) inside) k
+    (subst (λ (l : List Mark). k < suc (count_blocks l)) (sym (one_statement i)) lt)
 
 mutual
-  bodies_of : (text : NumberedText) (s : StatementTerm) (n f m : ℕ) → StandsAt text n f m (marks_of s) → (k : ℕ) → k < count_modules (marks_of s) → SomeBody text (m + k)
-  bodies_of text (EmptyStatement at) n f m h = none_there text m
-  bodies_of text (BlockStatement at statements) n f m h = bodies_in text statements n f m h
-  bodies_of text (AssignmentTerm at name value) n f m h = none_there text m
-  bodies_of text (SpecialAssignmentTerm at name value) n f m h = none_there text m
-  bodies_of text (ModuleTerm at name name_at params body) n f m h =
-      module_first text n f m (record { params = params; body = body }) h
-      (bodies_of_body text body n f (m + 1) (behind_module text n f m (record { params = params; body = body }) (marks_of_body body) h))
-  bodies_of text (FunctionTerm at name name_at params value) n f m h = none_there text m
-  bodies_of text (InstanceStatement instance) n f m h = bodies_of_instance text instance n f m h
+  blocks_of : (text : NumberedText) (s : StatementTerm) (n f m : ℕ) → StandsAt text n f m (marks_of s) → (k : ℕ) → k < count_blocks (marks_of s) → SomeBlock text (n + k)
+  blocks_of text (EmptyStatement at) n f m h = none_there text n
+  blocks_of text (BlockStatement at statements) n f m h = blocks_in text statements n f m h
+  blocks_of text (AssignmentTerm at name value) n f m h = none_there text n
+  blocks_of text (SpecialAssignmentTerm at name value) n f m h = none_there text n
+  blocks_of text (ModuleTerm at name name_at params body) n f m h =
+      blocks_of_body text body n f (m + 1) (behind_module text n f m (record { params = params; body = body }) (marks_of_body body) h)
+  blocks_of text (FunctionTerm at name name_at params value) n f m h =
+      block_first text n (f + 1) m no_statements (behind_function text n f m (record { params = params; value = value }) (a_block no_statements ∷ []) h) (none_there text (n + 1))
+  blocks_of text (InstanceStatement instance) n f m h = blocks_of_instance text instance n f m h
 
-  bodies_in : (text : NumberedText) (ss : StatementTerms) (n f m : ℕ) → StandsAt text n f m (marks_in ss) → (k : ℕ) → k < count_modules (marks_in ss) → SomeBody text (m + k)
-  bodies_in text no_statements n f m h = none_there text m
-  bodies_in text (and_statement s rest) n f m h =
-      of_parts text n f m (marks_of s) (marks_in rest) (bodies_of text s n f m (first_part text n f m (marks_of s) (marks_in rest) h))
-      (bodies_in text rest (n + count_blocks (marks_of s)) (f + count_functions (marks_of s)) (m + count_modules (marks_of s)) (second_part text n f m (marks_of s) (marks_in rest) h))
+  blocks_in : (text : NumberedText) (ss : StatementTerms) (n f m : ℕ) → StandsAt text n f m (marks_in ss) → (k : ℕ) → k < count_blocks (marks_in ss) → SomeBlock text (n + k)
+  blocks_in text no_statements n f m h = none_there text n
+  blocks_in text (and_statement s rest) n f m h =
+      of_parts text n (marks_of s) (marks_in rest) (blocks_of text s n f m (first_part text n f m (marks_of s) (marks_in rest) h))
+      (blocks_in text rest (n + count_blocks (marks_of s)) (f + count_functions (marks_of s)) (m + count_modules (marks_of s)) (second_part text n f m (marks_of s) (marks_in rest) h))
 
-  bodies_of_instance : (text : NumberedText) (i : InstanceTerm) (n f m : ℕ) → StandsAt text n f m (marks_of_instance i) → (k : ℕ) → k < count_modules (marks_of_instance i) → SomeBody text (m + k)
-  bodies_of_instance text (AnInstance at marks core) n f m h = bodies_of_core text core n f m h
+  blocks_of_instance : (text : NumberedText) (i : InstanceTerm) (n f m : ℕ) → StandsAt text n f m (marks_of_instance i) → (k : ℕ) → k < count_blocks (marks_of_instance i) → SomeBlock text (n + k)
+  blocks_of_instance text (AnInstance at marks core) n f m h = blocks_of_core text core n f m h
 
-  bodies_of_core : (text : NumberedText) (c : CoreTerm) (n f m : ℕ) → StandsAt text n f m (marks_of_core c) → (k : ℕ) → k < count_modules (marks_of_core c) → SomeBody text (m + k)
-  bodies_of_core text (IfTerm at test body) n f m h = bodies_of_body text body n f m h
-  bodies_of_core text (IfElseTerm at test body other) n f m h =
-      of_parts text n f m (marks_of_body body) (marks_of_body other) (bodies_of_body text body n f m (first_part text n f m (marks_of_body body) (marks_of_body other) h))
-      (bodies_of_body text other (n + count_blocks (marks_of_body body)) (f + count_functions (marks_of_body body)) (m + count_modules (marks_of_body body)) (second_part text n f m (marks_of_body body) (marks_of_body other) h))
-  bodies_of_core text (ForTerm at binders body) n f m h = bodies_of_body text body n f m h
-  bodies_of_core text (IntersectionForTerm at binders body) n f m h = bodies_of_body text body n f m h
-  bodies_of_core text (ModuleCallTerm at name args body) n f m h = bodies_of_body text body n f m h
+  blocks_of_core : (text : NumberedText) (c : CoreTerm) (n f m : ℕ) → StandsAt text n f m (marks_of_core c) → (k : ℕ) → k < count_blocks (marks_of_core c) → SomeBlock text (n + k)
+  blocks_of_core text (IfTerm at test body) n f m h = blocks_of_body text body n f m h
+  blocks_of_core text (IfElseTerm at test body other) n f m h =
+      of_parts text n (marks_of_body body) (marks_of_body other) (blocks_of_body text body n f m (first_part text n f m (marks_of_body body) (marks_of_body other) h))
+      (blocks_of_body text other (n + count_blocks (marks_of_body body)) (f + count_functions (marks_of_body body)) (m + count_modules (marks_of_body body)) (second_part text n f m (marks_of_body body) (marks_of_body other) h))
+  blocks_of_core text (ForTerm at binders body) n f m h = blocks_of_body text body n f m h
+  blocks_of_core text (IntersectionForTerm at binders body) n f m h = blocks_of_body text body n f m h
+  blocks_of_core text (ModuleCallTerm at name args body) n f m h = blocks_of_body text body n f m h
 
-  bodies_of_body : (text : NumberedText) (b : BodyTerm) (n f m : ℕ) → StandsAt text n f m (marks_of_body b) → (k : ℕ) → k < count_modules (marks_of_body b) → SomeBody text (m + k)
-  bodies_of_body text (EmptyBody at) n f m h = none_there text m
-  bodies_of_body text (BlockBody at statements) n f m h = bodies_in text statements (n + 1) f m (behind_block text n f m statements (marks_in statements) h)
-  bodies_of_body text (InstanceBody instance) n f m h =
-      bodies_of_instance text instance (n + 1) f m (behind_block text n f m (and_statement (InstanceStatement instance) no_statements) (marks_of_instance instance) h)
+  blocks_of_body : (text : NumberedText) (b : BodyTerm) (n f m : ℕ) → StandsAt text n f m (marks_of_body b) → (k : ℕ) → k < count_blocks (marks_of_body b) → SomeBlock text (n + k)
+  blocks_of_body text (EmptyBody at) n f m h = block_first text n f m no_statements h (none_there text (n + 1))
+  blocks_of_body text (BlockBody at statements) n f m h =
+      block_first text n f m statements h (blocks_in text statements (n + 1) f m (behind_block text n f m statements (marks_in statements) h))
+  blocks_of_body text (InstanceBody instance) n f m h = single_first text n f m instance h
+      (blocks_of_instance text instance (n + 1) f m (behind_block text n f m (and_statement (InstanceStatement instance) no_statements) (marks_of_instance instance) h))
 
--- each module of a program has its body
-pub program_bodies : (program : List StatementTerm) (k : ℕ) → k < length (numbered_text program).modules → SomeBody (numbered_text program) k
-program_bodies program k h =
-    subst (SomeBody (numbered_text program)) (nothing_more k)
-    (bodies_in (numbered_text program) (statements_from program) 1 0 0
-    (behind_block (numbered_text program) 0 0 0 (statements_from program) (marks_in (statements_from program)) (whole program)) k h)
+-- each block of a program
+pub program_blocks : (program : List StatementTerm) (k : ℕ) → k < length (numbered_text program).entries → SomeBlock (numbered_text program) k
+program_blocks program k h =
+    subst (SomeBlock (numbered_text program)) (nothing_more k)
+    (block_first (numbered_text program) 0 0 0 (statements_from program) (whole program)
+    (blocks_in (numbered_text program) (statements_from program) 1 0 0
+    (behind_block (numbered_text program) 0 0 0 (statements_from program) (marks_in (statements_from program)) (whole program))) k
+    (subst (λ (x : ℕ). k < x) (count_entries 0 0 0 (marks_of_program program)) h))

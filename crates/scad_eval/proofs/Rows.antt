@@ -13,7 +13,7 @@ use Rattle.scad_ast.specs.declared.operator.Modifier.TheVariants.{Disable, Highl
 use Rattle.scad_ast.specs.Terms.{NumberTerm, TextTerm, TruthTerm, ChildCountTerm, SpecialTerm, NameTerm, CallTerm, ListTerm, RangeTerm, SteppedRangeTerm, UnaryTerm, ChainTerm, no_terms, and_term, no_args, and_positional, no_links, and_link, PlainTerm, DefaultTerm, NamedTerm, SpecialArgTerm, PositionalTerm, BlockStatement, AssignmentTerm, SpecialAssignmentTerm, ModuleTerm, FunctionTerm, InstanceStatement, StatementTerms, no_statements, and_statement, AnInstance, IfTerm, IfElseTerm, ForTerm, IntersectionForTerm, ModuleCallTerm, EmptyBody, BlockBody, InstanceBody}
 use Rattle.scad_scope.specs.Names.{first_chain}
 use Rattle.scad_func.specs.Meaning.{Outcome, Gives, Faults, evaluated}
-use Rattle.scad_eval.specs.Designs.{Design, empty, a_part, joined}
+use Rattle.scad_design.specs.Designs.{Design, empty, a_part, joined}
 use Rattle.scad_eval.specs.Verdicts.{Judge}
 use Rattle.scad_eval.specs.Meaning.{Members, each_in_scope, program_stand, made_within, design_of}
 

@@ -12,15 +12,3 @@ pub record StandsAt (text : NumberedText) (number functions modules : ℕ) (mark
   pub functions_are : drop functions text.functions ≡ functions_among marks ++ functions_behind
   pub modules_are : drop modules text.modules ≡ modules_among marks ++ modules_behind
   pub bodies_are : drop modules text.bodies ≡ bodies_from number marks ++ bodies_behind
-
--- the text begins at this block number
-pub record BeginsAt (text : NumberedText) (number : ℕ) (marks : List Mark) : Type 0 where
-  pub functions : ℕ
-  pub modules : ℕ
-  pub stands : StandsAt text number functions modules marks
-
--- the module of this number has the block of this number as its body
-pub record HasBody (text : NumberedText) (number : ℕ) (defined : Module) : Type 0 where
-  pub within : number < length text.modules
-  pub is : slice_index_or text.modules number defined ≡ defined
-  pub begins : BeginsAt text (slice_index_or text.bodies number 0) (marks_of_body defined.body)
