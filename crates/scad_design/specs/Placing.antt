@@ -12,7 +12,7 @@ use Rattle.csg_tree.specs.Formulas.{Formula, nothing, leaf}
 use Rattle.csg_tree.specs.Joins.{join_of}
 use Rattle.scad_design.specs.Designs.{Design, empty, a_part, joined, Part}
 
--- the planes that are no plane of others, up to orientation, each once
+-- two planes of the same points
 abbrev pub same_points : Coefficients → Coefficients → Bool
 same_points m n = is_same m n || is_same m (opposite_of n)
 
@@ -20,6 +20,7 @@ abbrev pub if_new : Bool → List Coefficients → Coefficients → List Coeffic
 if_new true known m = known
 if_new false known m = known ++ m ∷ []
 
+-- known planes, and behind them those of a leaf that are new, up to orientation
 abbrev pub and_new : List Coefficients → List Coefficients → List Coefficients
 and_new known [] = known
 and_new known (m ∷ planes) = and_new (if_new (list_any (same_points m) known) known m) planes

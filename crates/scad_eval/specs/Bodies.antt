@@ -1,53 +1,40 @@
 -- What stands in a body: its assignments, its instances, and which of these are children.
-use Rattle.std.specs.Prelude.{ℕ, suc, Bool, true, false, not, ◌&&◌, ◌||◌, List, [], ◌∷◌, ◌++◌, length, filter, Option, Some, None, is_some, codes, if◌then◌else◌}
+use Rattle.std.specs.Prelude.{◌≡◌, ⊤, Bool, true, false, not, ◌&&◌, ◌||◌, List, [], ◌∷◌, ◌++◌, filter, Option, Some, None, is_some, option_map, codes, if◌then◌else◌}
 use Rattle.std.specs.List.{list_any}
 use Rattle.std.specs.Str.{bytes_eq}
 use Rattle.text_place.specs.declared.fault.Place.{Place}
 use Rattle.scad_ast.specs.declared.operator.Modifier.{Modifier}
 use Rattle.scad_ast.specs.declared.operator.Modifier.TheVariants.{Disable, Background, Highlight, Root}
-use Rattle.scad_ast.specs.Terms.{Term, MarkTerm, StatementTerm, EmptyStatement, BlockStatement, AssignmentTerm, SpecialAssignmentTerm, ModuleTerm, FunctionTerm, InstanceStatement, StatementTerms, no_statements, and_statement, InstanceTerm, AnInstance, CoreTerm, IfTerm, IfElseTerm, ForTerm, IntersectionForTerm, ModuleCallTerm, BodyTerm, EmptyBody, BlockBody, InstanceBody}
+use Rattle.scad_ast.specs.Terms.{StatementTerm, EmptyStatement, BlockStatement, AssignmentTerm, SpecialAssignmentTerm, ModuleTerm, FunctionTerm, InstanceStatement, StatementTerms, no_statements, and_statement, InstanceTerm, AnInstance, CoreTerm, IfTerm, IfElseTerm, ForTerm, IntersectionForTerm, ModuleCallTerm, BodyTerm, EmptyBody, BlockBody, InstanceBody}
+use Rattle.scad_scope.specs.Blocks.{Assigned, same_name}
 use Rattle.scad_func.specs.Meaning.{Env, module_in}
 
--- an assignment to a variable, or to a special one, with the place of its statement
-pub record Assignment : Type 0 where
-  pub special : Bool
-  pub name : List ℕ
-  pub at : Place
-  pub value : Term
+-- whether an assignment's name is among those of others
+abbrev pub is_named_in : List Assigned → Assigned → Bool
+is_named_in others a = list_any (same_name a) others
 
--- the assignments of a body in order; those of a bare block count as the body's own
-abbrev mutual
-  pub assignments_in : StatementTerms → List Assignment
-  assignments_in no_statements = []
-  assignments_in (and_statement s rest) = assignments_of s ++ assignments_in rest
+-- the first and the last assignment of a name
+abbrev pub first_of : Assigned → List Assigned → Option Assigned
+first_of a [] = None
+first_of a (b ∷ bs) = if same_name a b then Some b else first_of a bs
 
-  pub assignments_of : StatementTerm → List Assignment
-  assignments_of (EmptyStatement at) = []
-  assignments_of (BlockStatement at statements) = assignments_in statements
-  assignments_of (AssignmentTerm at name value) = record { special = false; name = name; at = at; value = value } ∷ []
-  assignments_of (SpecialAssignmentTerm at name value) = record { special = true; name = name; at = at; value = value } ∷ []
-  assignments_of (ModuleTerm at name name_at params body) = []
-  assignments_of (FunctionTerm at name name_at params value) = []
-  assignments_of (InstanceStatement instance) = []
+abbrev pub or_later : Option Assigned → Option Assigned → Option Assigned
+or_later earlier None = earlier
+or_later earlier (Some b) = Some b
 
-abbrev pub same_truth : Bool → Bool → Bool
-same_truth true other = other
-same_truth false other = not other
+abbrev pub last_of : Assigned → List Assigned → Option Assigned
+last_of a [] = None
+last_of a (b ∷ bs) = or_later (if same_name a b then Some b else None) (last_of a bs)
 
-abbrev pub is_of_name : Assignment → Assignment → Bool
-is_of_name a b = same_truth a.special b.special && bytes_eq a.name b.name
+-- an assignment that stands for all of its name: it has the value of the last one, at the place of the first one
+pub record StandsForAll (assignments : List Assigned) (a : Assigned) : Type 0 where
+  pub last : option_map (λ b. b.value) (last_of a assignments) ≡ Some a.value
+  pub first : option_map (λ b. b.at) (first_of a assignments) ≡ Some a.at
 
--- the last expression that an assignment's name is given
-abbrev pub last_value : Assignment → List Assignment → Term
-last_value a [] = a.value
-last_value a (b ∷ bs) = if is_of_name a b then last_value b bs else last_value a bs
-
--- each name once, at the place of its first assignment, with its last expression; `earlier` are the names that came before
-abbrev pub once_each : List Assignment → List Assignment → List Assignment
-once_each earlier [] = []
-once_each earlier (a ∷ as_) =
-    if list_any (is_of_name a) earlier then once_each earlier as_
-    else record { special = a.special; name = a.name; at = a.at; value = last_value a as_ } ∷ once_each (a ∷ earlier) as_
+-- assignments to different names
+abbrev pub HaveOwnNames : List Assigned → Type 0
+HaveOwnNames [] = ⊤
+HaveOwnNames (a ∷ as_) = (is_named_in as_ a ≡ false) × HaveOwnNames as_
 
 -- the instances of a body in order
 abbrev mutual

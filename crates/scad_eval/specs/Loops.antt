@@ -28,13 +28,13 @@ items_of (RangeVal from step upto) = Some (number_vals (numbers_of_range from st
 items_of v = None
 
 -- the item of a number, where there is one
-abbrev pub item_at : {A : Type 0} → List A → ℕ → List A
-item_at [] n = []
-item_at (x ∷ xs) zero = x ∷ []
-item_at (x ∷ xs) (suc n) = item_at xs n
+abbrev pub nth_item : {A : Type 0} → List A → ℕ → List A
+nth_item [] n = []
+nth_item (x ∷ xs) zero = x ∷ []
+nth_item (x ∷ xs) (suc n) = nth_item xs n
 
 abbrev pub item_numbered : {A : Type 0} → List A → ℤ → List A
-item_numbered xs (pos n) = item_at xs n
+item_numbered xs (pos n) = nth_item xs n
 item_numbered xs (negsuc n) = []
 
 abbrev pub items_numbered : {A : Type 0} → List A → List ℤ → List A

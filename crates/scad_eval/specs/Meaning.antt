@@ -1,47 +1,52 @@
 -- The meaning of instances: equations over the syntax and lists of pairs, as those of expressions are. The calls and the
 -- evaluations that are left go in; the turns and the leaves so far go through.
-use Rattle.std.specs.Prelude.{ℕ, zero, suc, ◌+◌, pos, Bool, true, false, ◌&&◌, List, [], ◌∷◌, ◌++◌, length, map, Option, Some, None, is_some, Ok, Err, nat_lt, codes, if◌then◌else◌}
+use Rattle.std.specs.Prelude.{ℕ, zero, suc, ◌+◌, pos, Bool, true, false, List, [], ◌∷◌, ◌++◌, length, Option, Some, None, is_some, Ok, Err, nat_lt, codes, if◌then◌else◌}
 use Rattle.text_place.specs.declared.fault.Place.{Place}
 use Rattle.text_place.specs.declared.fault.FaultKind.TheVariants.{TypeMismatch, UnknownModule, BadArgument, TooDeep, NotInProfile, WrongDimension, TooManyParts}
 use Rattle.csg_tree.specs.declared.op.Op.{Op}
 use Rattle.csg_tree.specs.declared.op.Op.TheVariants.{Union, Intersection}
 use Rattle.plane_predicate.specs.declared.unit.Unit.{Unit as LengthUnit}
 use Rattle.shape_planes.specs.Shapes.{Mesh}
-use Rattle.scad_ast.specs.Terms.{Term, BinderTerm, StatementTerms, no_statements, InstanceTerm, AnInstance, CoreTerm, IfTerm, IfElseTerm, ForTerm, IntersectionForTerm, ModuleCallTerm, BodyTerm, ArgTerm, ArgTerms, no_args, and_named, and_special, and_positional, SpecialArgTerm, args_from}
+use Rattle.scad_ast.specs.Terms.{BinderTerm, StatementTerms, InstanceTerm, AnInstance, CoreTerm, IfTerm, IfElseTerm, ForTerm, IntersectionForTerm, ModuleCallTerm, BodyTerm, ArgTerm, ArgTerms, no_args, and_named, and_special, and_positional, SpecialArgTerm, args_from}
 use Rattle.scad_value.specs.Values.{Val, NumberVal, Vals, no_vals, and_val, truth_of}
 use Rattle.scad_value.specs.Operators.{Answer}
 use Rattle.scad_scope.specs.Names.{Pairs, find_in}
 use Rattle.scad_scope.specs.Arguments.{names_of}
-use Rattle.scad_func.specs.Meaning.{Outcome, Gives, Faults, then_with, or_fault, Function, Module, Env, Outermost, Within, Opened, no_call, opened, module_in, call_in, functions_standing_in, modules_standing_in, entered_scope, with_variable, turn, Setting, value_at, in_scope, with_calls, with_specials, one_call_fewer, Arguments, nothing_given, taker_of, with_argument, each_argument, each_parameter, paired, evaluated}
+use Rattle.scad_scope.specs.Blocks.{Module, Assigned, assignments_of}
+use Rattle.scad_func.specs.Meaning.{Outcome, Gives, Faults, then_with, or_fault, Env, Outermost, Within, Opened, no_call, opened, module_in, call_in, functions_standing_in, modules_standing_in, entered_scope, with_variable, turn, Setting, value_at, one_call_fewer, Arguments, nothing_given, taker_of, with_argument, each_argument, each_parameter, paired, evaluated}
 use Rattle.scad_modules.specs.declared.table.BuiltinModule.{BuiltinModule}
-use Rattle.scad_modules.specs.declared.table.BuiltinModule.TheVariants.{Echo, Assert}
+use Rattle.scad_modules.specs.declared.table.BuiltinModule.TheVariants.{Echo}
 use Rattle.scad_modules.specs.Table.{module_named, is_left_out, parameters_of}
-use Rattle.scad_modules.specs.Effects.{EffectCall, a_solid, a_flat, a_move, a_join, an_extrusion, silence, some_children, SolidCall, FlatCall, ChosenCall}
+use Rattle.scad_modules.specs.Effects.{EffectCall, a_solid, a_flat, a_move, a_join, an_extrusion, silence, some_children, FlatCall, ChosenCall}
 use Rattle.scad_modules.specs.Calls.{effect_of}
 use Rattle.scad_design.specs.Designs.{Design, empty, a_part, balanced, grouped, moved_by}
 use Rattle.scad_eval.specs.Verdicts.{Judge, Verdict, solid_of, extruded, Extrusion}
-use Rattle.scad_eval.specs.Bodies.{Assignment, assignments_in, once_each, evaluated_in, children_in, is_marked, says_only, statements_of_body, is_bare, instance_place, core_place}
+use Rattle.scad_eval.specs.Bodies.{evaluated_in, children_in, is_marked, says_only, statements_of_body, is_bare, instance_place, core_place}
 use Rattle.scad_eval.specs.Loops.{items_of, chosen_among}
 
--- where an instance stands: the calls that are left, the scope, the chain of special names, and the extrusion that it is
--- inside of
+-- where an instance stands: the calls that are left, the scope, the chain of special names, the extrusion that it is inside
+-- of, and whether it is inside an instance that is marked `!`
 pub record Stand : Type 0 where
   pub calls : ℕ
   pub env : Env
   pub chain : Pairs Val
   pub inside : Option Extrusion
+  pub under_mark : Bool
 
 abbrev pub standing : Stand → Env → Stand
-standing here env = record { calls = here.calls; env = env; chain = here.chain; inside = here.inside }
+standing here env = record { calls = here.calls; env = env; chain = here.chain; inside = here.inside; under_mark = here.under_mark }
 
 abbrev pub chained : Stand → Pairs Val → Stand
-chained here chain = record { calls = here.calls; env = here.env; chain = chain; inside = here.inside }
+chained here chain = record { calls = here.calls; env = here.env; chain = chain; inside = here.inside; under_mark = here.under_mark }
 
 abbrev pub called_from : Stand → ℕ → Stand
-called_from here calls = record { calls = calls; env = here.env; chain = here.chain; inside = here.inside }
+called_from here calls = record { calls = calls; env = here.env; chain = here.chain; inside = here.inside; under_mark = here.under_mark }
+
+abbrev pub marked_from : Stand → Stand
+marked_from here = record { calls = here.calls; env = here.env; chain = here.chain; inside = here.inside; under_mark = true }
 
 abbrev pub extruding : Stand → Extrusion → Stand
-extruding here through = record { calls = here.calls; env = here.env; chain = here.chain; inside = Some through }
+extruding here through = record { calls = here.calls; env = here.env; chain = here.chain; inside = Some through; under_mark = here.under_mark }
 
 -- where an expression of an instance stands, with so many evaluations in one another left
 abbrev pub setting : ℕ → Stand → Setting
@@ -92,16 +97,16 @@ abbrev pub Makes : Type 0
 Makes = Stand → InstanceTerm → ℕ → ℕ → Outcome Made
 
 -- the value of an assignment: its statement is one evaluation deeper, and its expression one more
-abbrev pub assigned_value : ℕ → Stand → Assignment → ℕ → Outcome Val
+abbrev pub assigned_value : ℕ → Stand → Assigned → ℕ → Outcome Val
 assigned_value zero here a turns = Faults TooDeep a.at
 assigned_value (suc left) here a turns = value_at (setting left here) true a.value turns
 
-abbrev pub assigned : Assignment → Val → Stand → Stand
+abbrev pub assigned : Assigned → Val → Stand → Stand
 assigned a v here =
     if a.special then chained here ((a.name, v) ∷ here.chain) else standing here (with_variable a.name v here.env)
 
 -- the scope with its assignments, from the first on
-abbrev pub each_assigned : ℕ → Stand → List Assignment → ℕ → Outcome Stand
+abbrev pub each_assigned : ℕ → Stand → List Assigned → ℕ → Outcome Stand
 each_assigned left here [] turns = Gives turns here
 each_assigned left here (a ∷ as_) turns =
     then_with (assigned_value left here a turns) (λ turns v. each_assigned left (assigned a v here) as_ turns)
@@ -120,7 +125,7 @@ each_member make here (i ∷ is) turns leaves =
 -- a body in its scope: its assignments, then the instances that are evaluated
 abbrev pub each_in_scope : ℕ → Makes → Stand → StatementTerms → ℕ → ℕ → Outcome Members
 each_in_scope left make here statements turns leaves =
-    then_with (each_assigned left here (once_each [] (assignments_in statements)) turns) (λ turns here.
+    then_with (each_assigned left here (assignments_of statements) turns) (λ turns here.
     each_member make here (evaluated_in statements) turns leaves)
 
 -- a body, in a new scope inside where it stands
@@ -221,7 +226,7 @@ arguments_for m here args turns =
 abbrev pub children_made : ℕ → Makes → Stand → Opened → ChosenCall → ℕ → ℕ → Outcome Made
 children_made left make here no_call chosen turns leaves = Gives turns (made_nothing leaves)
 children_made left make here (opened children caller) chosen turns leaves =
-    then_with (each_assigned left (standing here (entered_scope children no_call caller)) (once_each [] (assignments_in children)) turns) (λ turns there.
+    then_with (each_assigned left (standing here (entered_scope children no_call caller)) (assignments_of children) turns) (λ turns there.
     then_with (each_member make there (chosen_among (children_in there.env children) chosen) turns leaves) (λ turns ms.
     Gives turns (made_of Union ms)))
 
@@ -282,13 +287,19 @@ module _ (unit : LengthUnit) (judge : Judge) where
   core_made left make here (ModuleCallTerm at name args body) turns leaves =
       call_made left make here at name args body (module_in here.env name) turns leaves
 
-  -- an instance: where it is marked `!`, its own design is the marked one
+  -- an instance inside a mark, or one that is not marked
+  abbrev pub marked_made : ℕ → Makes → Stand → CoreTerm → ℕ → ℕ → Outcome Made
+  marked_made left make here core turns leaves =
+      if here.under_mark then core_made left make here core turns leaves
+      else then_with (core_made left make (marked_from here) core turns leaves) (λ turns m.
+      Gives turns (record { leaves = m.leaves; design = empty; marked = Some m.design }))
+
+  -- an instance: the outermost mark `!` counts, and then what it gives is no part of the design around it
   abbrev pub instance_made : ℕ → Makes → Makes
   instance_made left make here i turns leaves =
       if is_marked i
       then (if is_some here.inside then Faults WrongDimension (core_place (core_of i))
-            else then_with (core_made left make here (core_of i) turns leaves) (λ turns m.
-            Gives turns (record { leaves = m.leaves; design = m.design; marked = Some m.design })))
+      else marked_made left make here (core_of i) turns leaves)
       else core_made left make here (core_of i) turns leaves
 
   -- with so many evaluations in one another left
@@ -303,6 +314,7 @@ module _ (unit : LengthUnit) (judge : Judge) where
     env = entered_scope statements no_call (Within [] [] [] no_call Outermost);
     chain = chain;
     inside = None;
+    under_mark = false;
   }
 
   -- the design of a program: the first one marked `!`, or else all

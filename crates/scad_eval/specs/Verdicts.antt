@@ -1,5 +1,5 @@
 -- What is wrong with the sizes and points of a shape, and the shape where nothing is.
-use Rattle.std.specs.Prelude.{◌≡◌, ℤ, Bool, List, [], ◌∷◌, Option, Some, None}
+use Rattle.std.specs.Prelude.{ℤ, Bool, List, [], ◌∷◌, Option, Some, None}
 use Rattle.text_place.specs.declared.fault.FaultKind.{FaultKind}
 use Rattle.plane_predicate.specs.declared.unit.Unit.{Unit as LengthUnit}
 use Rattle.shape_planes.specs.Shapes.{Mesh}

@@ -1,0 +1,8 @@
+mod Assignments
+mod Deciding
+mod Judges
+mod Made
+mod Positions
+mod Rows
+mod Standing
+mod Verdicts
