@@ -11,7 +11,8 @@ use std::test::Fail;
 use std::thread::Threads;
 use text_place::{Bytes, NoMemory};
 
-const USAGE_LINE: &str = "usage: scadserve run [--workers N] [--memo W] [--share S] [--half] [--tally] | demo N\n";
+const USAGE_LINE: &str =
+    "usage: scadserve run [--workers N] [--memo W] [--share S] [--half] [--tally] | demo N\n";
 
 const NO_TALLY: &str =
     "tally probes 0 hits 0 misses 0 offered 0 kept 0 heavy 0 dropped 0 evicted 0\n";
@@ -29,10 +30,12 @@ const GREAT_BOX: &str = "== client0123456789\n1 ok 1\n2 solid 16\n4OFF\n8 6 0\n\
 const NO_BOX: &str = "== a\n1 ok 1\n2 fault 1:1 NotYet\n";
 
 // A client that edits its lines, with what it is answered.
-const EDITS: &str = "a put 1 cube(1);\na put 1 // one\na put 3 cube(2);\na set 2 cube(3);\na cut 9 9\na show\n\
+const EDITS: &str =
+    "a put 1 cube(1);\na put 1 // one\na put 3 cube(2);\na set 2 cube(3);\na cut 9 9\na show\n\
 a cut 1 1\na export\na jump\n";
 
-const EDITED: &str = "== a\n1 ok 1\n2 ok 2\n3 ok 3\n4 ok 3\n5 refused NoSuchLine\n6 text 3\n// one\ncube(3);\ncube(2);\n\
+const EDITED: &str =
+    "== a\n1 ok 1\n2 ok 2\n3 ok 3\n4 ok 3\n5 refused NoSuchLine\n6 text 3\n// one\ncube(3);\ncube(2);\n\
 7 ok 2\n8 fault 1:1 NotYet\n9 refused BadCommand\n";
 
 // The outside of a call: which calls fail, 0 being none, how many bytes a call moves, and the sink's room.
@@ -211,7 +214,10 @@ fn words_are_told_the_usage_or_taken(rt: HostRuntime) -> Result<(), Fail> {
         ("run --half --share=31250 --memo=0500000", ""),
         ("run --memo 2000000 --share 125000", ""),
         ("run --tally", NO_TALLY),
-        ("run --half --tally --share 1 --memo 16 --workers 2", NO_TALLY),
+        (
+            "run --half --tally --share 1 --memo 16 --workers 2",
+            NO_TALLY,
+        ),
         ("", USAGE_LINE),
         ("Run", USAGE_LINE),
         ("run x", USAGE_LINE),
@@ -247,7 +253,10 @@ fn words_are_told_the_usage_or_taken(rt: HostRuntime) -> Result<(), Fail> {
     ] {
         let words = split_words(rt.alloc(), line)?;
         let (ended, held) = check(&rt, rt.alloc(), words.as_slice(), b"", CALM)?;
-        assert!(rt; (ended == Status::BadWords) == (output == USAGE_LINE), "at {line}");
+        assert!(rt;
+            (ended == Status::BadWords) == (output == USAGE_LINE),
+            "at {line}"
+        );
         assert_eq!(rt; held.as_slice(), output.as_bytes(), "at {line}");
     }
     Ok(())
@@ -280,6 +289,7 @@ fn the_demonstration_reads_nothing(rt: HostRuntime) -> Result<(), Fail> {
 }
 
 // An exporter that answers each export by the text of one box.
+#[derive(Drop)]
 struct OneBox;
 
 impl Exporter for OneBox {
@@ -292,7 +302,8 @@ impl Exporter for OneBox {
     }
 }
 
-const BOX_TEXT: &[u8] = b"4OFF\n8 6 0\n0 0 0 1\n0 0 3 1\n0 2 3 1\n0 2 0 1\n1 0 0 1\n1 2 0 1\n1 2 3 1\n1 0 3 1\n\
+const BOX_TEXT: &[u8] =
+    b"4OFF\n8 6 0\n0 0 0 1\n0 0 3 1\n0 2 3 1\n0 2 0 1\n1 0 0 1\n1 2 0 1\n1 2 3 1\n1 0 3 1\n\
 4 0 1 2 3\n4 4 5 6 7\n4 0 4 7 1\n4 3 2 6 5\n4 0 3 5 4\n4 1 7 6 2\n";
 
 #[test]
@@ -305,8 +316,11 @@ fn the_demonstration_tells_digests(rt: HostRuntime) -> Result<(), Fail> {
     let mut sink = MemorySink::new(alloc, 4096, Vec::new(alloc), 7)?;
     let ended = serve_with(alloc, &mut OneBox, &words, &mut source, &mut sink);
     assert!(rt; ended == Status::Done);
-    assert!(rt; sink.held().starts_with(
-        b"c1 facets 6 vertices 8 sha256 72eaa4a79b5848d9eb7c73cfca19d973d33b25118c833e29d4a27202421b43be\nc2 facets 6 vertices 8 sha256 ".as_slice()));
+    assert!(rt;
+        sink.held().starts_with(
+            b"c1 facets 6 vertices 8 sha256 72eaa4a79b5848d9eb7c73cfca19d973d33b25118c833e29d4a27202421b43be\nc2 facets 6 vertices 8 sha256 ".as_slice()
+        )
+    );
     Ok(())
 }
 
@@ -314,7 +328,11 @@ fn the_demonstration_tells_digests(rt: HostRuntime) -> Result<(), Fail> {
 fn each_read_and_each_write_may_fail(rt: HostRuntime) -> Result<(), Fail> {
     let script = EDITS.as_bytes();
     for call in 1..1000u64 {
-        let outside = Outside { read: call, piece: 7, ..CALM };
+        let outside = Outside {
+            read: call,
+            piece: 7,
+            ..CALM
+        };
         let (ended, held) = check(&rt, rt.alloc(), &["run"], script, outside)?;
         if ended == Status::Done {
             assert!(rt; call > 7);
@@ -323,7 +341,11 @@ fn each_read_and_each_write_may_fail(rt: HostRuntime) -> Result<(), Fail> {
         assert!(rt; ended == Status::ReadFault && held.is_empty(), "at {call}");
     }
     for call in 1..1000u64 {
-        let outside = Outside { write: call, piece: 5, ..CALM };
+        let outside = Outside {
+            write: call,
+            piece: 5,
+            ..CALM
+        };
         let (ended, held) = check(&rt, rt.alloc(), &["run"], script, outside)?;
         if ended == Status::Done {
             assert!(rt; call > 7);
@@ -365,13 +387,55 @@ fn clients_commands_and_bytes_have_limits(rt: HostRuntime) -> Result<(), Fail> {
 
     // Bytes that are a number of lines, how that ends, and how the output ends.
     for (count, line, more, status, end) in [
-        (4097, b"a put 1\n".as_slice(), b"".as_slice(), Status::Done, "\n4096 ok 4096\n4097 refused TooManyLines\n"),
-        (17, b"a export\n", b"", Status::Done, "\n16 fault 1:1 NotYet\n17 refused TooManyExports\n"),
-        (17, b"a show\n", b"", Status::Done, "\n16 text 0\n17 refused TooManyShows\n"),
-        (8192, b"a x\n", b"", Status::Done, "\n8192 refused BadCommand\n"),
-        (8192, b"a x\n", b"a x", Status::BadScript, "script 8193 TooManyCommands\n"),
-        (131072, b"b 45678\n", b"", Status::BadScript, "script 8193 TooManyCommands\n"),
-        (131072, b"b 45678\n", b"c", Status::BadScript, "script TooLarge\n"),
+        (
+            4097,
+            b"a put 1\n".as_slice(),
+            b"".as_slice(),
+            Status::Done,
+            "\n4096 ok 4096\n4097 refused TooManyLines\n",
+        ),
+        (
+            17,
+            b"a export\n",
+            b"",
+            Status::Done,
+            "\n16 fault 1:1 NotYet\n17 refused TooManyExports\n",
+        ),
+        (
+            17,
+            b"a show\n",
+            b"",
+            Status::Done,
+            "\n16 text 0\n17 refused TooManyShows\n",
+        ),
+        (
+            8192,
+            b"a x\n",
+            b"",
+            Status::Done,
+            "\n8192 refused BadCommand\n",
+        ),
+        (
+            8192,
+            b"a x\n",
+            b"a x",
+            Status::BadScript,
+            "script 8193 TooManyCommands\n",
+        ),
+        (
+            131072,
+            b"b 45678\n",
+            b"",
+            Status::BadScript,
+            "script 8193 TooManyCommands\n",
+        ),
+        (
+            131072,
+            b"b 45678\n",
+            b"c",
+            Status::BadScript,
+            "script TooLarge\n",
+        ),
     ] {
         let mut script = lines(alloc, count, line)?;
         script.extend_from_slice(more)?;
