@@ -4,5 +4,4 @@ mod Judges
 mod Made
 mod Positions
 mod Rows
-mod Standing
 mod Verdicts

@@ -1,11 +1,9 @@
 //! Laws of the meaning of sources, on functions that do nothing.
 
-ghost use Rattle.std.specs.Prelude.{◌≡◌, ℕ, ◌<◌, ℤ, Bool, List, [], length, reverse, slice_index_or, true};
+ghost use Rattle.std.specs.Prelude.{◌≡◌, ℤ, Bool, true};
 ghost use Rattle.std.specs.List.{AllByRecursion};
-ghost use Rattle.scad_ast.specs.Terms.{StatementTerm, StatementTerms};
-ghost use Rattle.scad_scope.specs.Blocks.{numbered_text, nothing_there, assigned_in, assignments_of};
-ghost use Rattle.scad_func.specs.Definitions.{resolved};
-ghost use Rattle.scad_func.specs.Meaning.{functions_standing_in, modules_standing_in};
+ghost use Rattle.scad_ast.specs.Terms.{StatementTerms};
+ghost use Rattle.scad_scope.specs.Blocks.{assigned_in, assignments_of};
 ghost use Rattle.scad_eval.specs.Bodies.{StandsForAll, HaveOwnNames, is_named_in};
 ghost use Rattle.plane_predicate.specs.declared.unit.Unit.{Unit as LengthUnit};
 ghost use Rattle.scad_modules.specs.Effects.{SolidCall, FlatCall};
@@ -30,15 +28,4 @@ pub fn shapes_have_one_verdict()
         IsFlatVerdict unit call v → IsFlatVerdict unit call w → v ≡ w }
     ensures heights { (unit : LengthUnit) (center : Bool) (height : ℤ) (v w : Verdict) →
         IsHeightVerdict unit center height v → IsHeightVerdict unit center height w → v ≡ w }
-{}
-
-/// The numbers of a block's functions and modules stand for what stands in it: so the scope that is entered by a block's
-/// number is that of its statements.
-pub fn blocks_have_their_definitions()
-    ensures functions { (program : List StatementTerm) (n : ℕ) → n < length (numbered_text program).entries →
-        resolved (numbered_text program).functions (reverse (slice_index_or (numbered_text program).entries n nothing_there).own.functions)
-        ≡ functions_standing_in (slice_index_or (numbered_text program).entries n nothing_there).statements }
-    ensures modules { (program : List StatementTerm) (n : ℕ) → n < length (numbered_text program).entries →
-        resolved (numbered_text program).modules (reverse (slice_index_or (numbered_text program).entries n nothing_there).own.modules)
-        ≡ modules_standing_in (slice_index_or (numbered_text program).entries n nothing_there).statements }
 {}

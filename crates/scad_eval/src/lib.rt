@@ -6,5 +6,5 @@ mod laws;
 mod shapes;
 
 pub use bodies::{evaluated_instances, is_bare, is_marked, is_on};
-pub use laws::{blocks_have_their_definitions, last_assignments_count, shapes_have_one_verdict};
+pub use laws::{last_assignments_count, shapes_have_one_verdict};
 pub use shapes::{flat_shape, solid_shape};
