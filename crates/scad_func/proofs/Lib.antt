@@ -10,3 +10,4 @@ pub mod Forms
 pub mod Kept
 pub mod Holding
 pub mod Chains
+pub mod Standing

@@ -8,6 +8,7 @@ mod evaluation;
 mod evaluator;
 mod functions;
 mod held;
+mod laws;
 mod limits;
 mod meter;
 mod scoping;
@@ -16,6 +17,7 @@ mod value;
 
 pub use arguments::{ArgumentValues, Names, SpecialArgument};
 pub use evaluation::Evaluation;
+pub use laws::enter_what_stands;
 pub use meter::Meter;
 pub use source::Source;
 pub use value::{value_in, value_of};
