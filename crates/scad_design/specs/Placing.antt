@@ -6,6 +6,7 @@ use Rattle.text_place.specs.declared.fault.FaultKind.{FaultKind}
 use Rattle.text_place.specs.declared.fault.FaultKind.TheVariants.{TooLarge, OutOfRange, TooManyPlanes}
 use Rattle.plane_predicate.specs.Space.{Coefficients, point_at, opposite_of, is_same, IsInReach, IsPlane}
 use Rattle.int_transform.specs.Maps.{map_of, image, StaysInRange}
+use Rattle.shape_planes.specs.Shapes.{IsFace}
 use Rattle.shape_planes.specs.Placing.{moved, ArePlanesOf}
 use Rattle.csg_tree.specs.declared.op.Op.{Op}
 use Rattle.csg_tree.specs.Formulas.{Formula, nothing, leaf}
@@ -32,9 +33,11 @@ StaysSafe part = All (λ p. StaysInRange part.steps (point_at p)) part.mesh.poin
 abbrev pub EndsInReach : Part → Type 0
 EndsInReach part = All (λ p. IsInReach (image (map_of part.steps) (point_at p))) part.mesh.points
 
--- the planes of a part in world position: those of its moved faces, of equal ones the first
+-- the planes of a part in world position: those of its moved faces, of equal ones the first. Each face has one, with the
+-- body behind it
 pub record AreItsPlanes (part : Part) (planes : List Coefficients) : Type 0 where
   pub reduced : All IsPlane planes
+  pub solid : All (IsFace (moved (map_of part.steps) part.mesh)) part.mesh.faces
   pub faces : ArePlanesOf (moved (map_of part.steps) part.mesh) part.mesh.faces planes
 
 -- what placing gives: the tree with the distinct planes so far, or the first fault

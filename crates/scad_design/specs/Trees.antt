@@ -1,10 +1,8 @@
 -- The trees of designs, by themselves.
-use Rattle.std.specs.Prelude.{◌≡◌, ℕ, ◌+◌, pos, List, []}
+use Rattle.std.specs.Prelude.{◌≡◌, ℕ, ◌+◌, List, []}
 use Rattle.text_place.specs.declared.fault.Stop.{Stop}
 use Rattle.text_place.specs.declared.fault.Stop.TheVariants.{Fault, NoMemory}
 use Rattle.plane_predicate.specs.Space.{Coefficients}
-use Rattle.int_transform.specs.Maps.{determinant_of, map_of}
-use Rattle.shape_planes.specs.Shapes.{IsShape}
 use Rattle.csg_tree.specs.Formulas.{Formula, nothing, leaf}
 use Rattle.csg_tree.specs.Joins.{join_of}
 use Rattle.csg_tree.specs.ProperTrees.{HasFullLeaves, HasFullJoins}
@@ -17,12 +15,6 @@ IsTreeOf empty tree = tree ≡ nothing
 IsTreeOf (a_part part) tree = (planes : List Coefficients) × AreItsPlanes part planes × (tree ≡ leaf planes)
 IsTreeOf (joined op left right) tree =
     (first : Formula) × (second : Formula) × IsTreeOf left first × IsTreeOf right second × (tree ≡ join_of op first second)
-
--- each part is a shape with faces, and its steps don't flatten space
-abbrev pub HasSolidParts : Design → Type 0
-HasSolidParts empty = Unit {0}
-HasSolidParts (a_part part) = IsShape part.mesh × (determinant_of (map_of part.steps) ≡ pos 0 → ⊥)
-HasSolidParts (joined op left right) = HasSolidParts left × HasSolidParts right
 
 -- how many parts and joins a design has, with an empty one counted as well
 abbrev pub pieces_in : Design → ℕ

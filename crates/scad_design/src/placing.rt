@@ -1,6 +1,7 @@
 //! The trees of designs in world position.
 
 ghost use Rattle.std.specs.Prelude.{◌≡◌, ◌<◌, ◌≤◌, ◌^◌, All, IfOk, IfErr, OnOk, length, []};
+ghost use Rattle.shape_planes.specs.Shapes.{IsFace};
 ghost use Rattle.shape_planes.specs.Placing.{moved, ArePlanesOf, MeetsReach};
 ghost use Rattle.int_transform.specs.Maps.{map_of};
 ghost use Rattle.csg_tree.specs.ProperTrees.{IsProper, subtrees};
@@ -81,6 +82,7 @@ fn place_part(alloc: Global, known: &mut IndexSet<PlaneKey>, part: &Part) -> Res
 /// The planes of a part's faces once its steps have moved it, of equal ones the first.
 fn planes_of(alloc: Global, part: &Part) -> Result<Vec<Plane>, Stop>
     ensures faces { IfOk result (λ v. ArePlanesOf (moved (map_of part.now.steps) part.now.mesh) part.now.mesh.faces v.items) }
+    ensures solid { OnOk result (All (IsFace (moved (map_of part.now.steps) part.now.mesh)) part.now.mesh.faces) }
     ensures some { IfOk result (λ v. 0 < length v.items) }
     ensures meet { IfOk result (λ v. All MeetsReach v.items) }
     ensures safe { OnOk result (StaysSafe part.now) }
