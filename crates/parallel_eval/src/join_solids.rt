@@ -26,6 +26,7 @@ const MOST_OF_ONE: u64 = 50_000;
 
 /// What the builders of a tree's solids have in common: the memo that they ask, and the gate that each
 /// build enters.
+#[derive(Drop)]
 pub struct Builds<
     'a,
     N: Namer<TreeKey>,
