@@ -96,7 +96,7 @@ pub enum Class {
     Statement,
     /// What may begin a body.
     Body,
-    /// What this profile leaves out, wherever it stands.
+    /// What this profile leaves out wherever no program goes on with it.
     LeftOut,
     /// What this profile leaves out where an expression may begin.
     LeftOutOfExpressions,
