@@ -17,6 +17,7 @@ mod value;
 
 pub use arguments::{ArgumentValues, Names, SpecialArgument};
 pub use evaluation::Evaluation;
+pub use functions::find_module;
 pub use laws::enter_what_stands;
 pub use meter::Meter;
 pub use source::Source;

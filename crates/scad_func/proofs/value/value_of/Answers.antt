@@ -1,4 +1,4 @@
-use Rattle.std.proofs.Common.{◌-◌, length, true, sym, ap, subst}
+use Rattle.std.proofs.Common.{◌-◌, length, true, sym, subst}
 use Rattle.std.specs.Prelude.{IsTrue}
 use Rattle.scad_ast.specs.ExprView.{term_of}
 use Rattle.scad_scope.specs.Names.{env_of}
