@@ -25,8 +25,8 @@ abbrev pub assert_effect : Slots → Answer EffectCall
 assert_effect slots = required (slot slots 0) (λ v. refused_where (not (truth_of v)) AssertFailed (Ok silence))
 
 -- a call's effect, inside an extrusion or not, by the value of `$fn` and the values of its parameters. Its faults come in
--- this order: a missing argument, one that the profile leaves out, one of another type, the module's own, and a wrong
--- dimension; those of circles and cylinders in the order of their own
+-- this order: a missing argument, one that the profile leaves out, one of another type, the module's own, a wrong
+-- dimension, and a move that is too large; those of circles and cylinders in the order of their own
 abbrev pub effect_of : LengthUnit → Bool → Option Val → BuiltinModule → Slots → Answer EffectCall
 effect_of unit inside fragments Cube slots = cube_effect inside slots
 effect_of unit inside fragments Polyhedron slots = polyhedron_effect inside slots
