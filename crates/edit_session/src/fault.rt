@@ -1,6 +1,7 @@
 ghost use Rattle.std.specs.Prelude.{◌≡◌};
 
 use std::alloc::{AllocError, AllocFailed};
+use text_place::NoMemory;
 
 /// Why a session refuses a command.
 #[derive(Clone, Copy, PartialEq, Eq)]
@@ -46,6 +47,16 @@ impl<T: Drop> From<AllocFailed<T>> for SessionFault {
     ghost from_gives = { λ _ fault. fault ≡ NoMemory };
 
     fn from(_refused: AllocFailed<T>) -> SessionFault {
+        SessionFault::NoMemory
+    }
+}
+
+impl From<NoMemory> for SessionFault {
+    ghost use Rattle.edit_session.specs.declared.fault.SessionFault.TheVariants as faults;
+
+    ghost from_gives = { λ _ fault. fault ≡ faults.NoMemory };
+
+    fn from(_refused: NoMemory) -> SessionFault {
         SessionFault::NoMemory
     }
 }

@@ -59,9 +59,10 @@ impl Session {
         &self.lines
     }
 
-    /// The lines, each followed by a newline.
+    /// The lines, each followed by a newline: at most 4,096 lines with at most 1,025 bytes each.
     pub fn source(&self, alloc: Global) -> Result<Vec<u8>, NoMemory>
-        ensures { IfOk result (λ source. source.items ≡ source_of self.now) }
+        ensures lines { IfOk result (λ source. source.items ≡ source_of self.now) }
+        ensures short { IfOk result (λ source. length source.items ≤ 4198400) }
     {
         let mut source = Vec::new(alloc);
         for line in &self.lines {

@@ -2,7 +2,7 @@
 
 ghost use Rattle.std.specs.Prelude.{◌≤◌, ◌^◌, length};
 
-use crate::text::{put, put_at, put_name, put_stop};
+use crate::text::{put, put_at, put_name, put_special, put_stop};
 use scad_ast::{
     Arg, Args, BinaryOp, Binder, Body, Core, Expr, Exprs, Instance, Link, Mark, Modifier, Param,
     Params, Program, Statement, Statements, Suffix, UnaryOp,
@@ -42,7 +42,7 @@ fn sign(op: UnaryOp) -> &'static [u8] {
 fn put_expr(alloc: Global, out: &mut Vec<u8>, e: &Expr) -> Result<(), NoMemory> {
     match e {
         Expr::Number(place, number) => {
-            push_decimal(alloc, out, i128::from(*number))?;
+            push_decimal(alloc, out, i128::from(number.get()))?;
             put_at(alloc, out, b"", *place)
         }
         Expr::Text(place, text) => {
@@ -53,6 +53,7 @@ fn put_expr(alloc: Global, out: &mut Vec<u8>, e: &Expr) -> Result<(), NoMemory> 
         Expr::Truth(place, false) => put_at(alloc, out, b"false", *place),
         Expr::Undef(place) => put_at(alloc, out, b"undef", *place),
         Expr::ChildCount(place) => put_at(alloc, out, b"$children", *place),
+        Expr::Special(place, name) => put_special(alloc, out, name, *place),
         Expr::Name(place, name) => put_name(alloc, out, name, *place),
         _ => put_compound(alloc, out, e),
     }
@@ -132,6 +133,11 @@ fn put_args(alloc: Global, out: &mut Vec<u8>, args: &Args) -> Result<(), NoMemor
         match item {
             Arg::Named(place, name, value) => {
                 put_name(alloc, out, name, *place)?;
+                put(out, b"= ")?;
+                put_expr(alloc, out, value)?;
+            }
+            Arg::Special(place, name, value) => {
+                put_special(alloc, out, name, *place)?;
                 put(out, b"= ")?;
                 put_expr(alloc, out, value)?;
             }
@@ -218,6 +224,11 @@ fn put_statement(alloc: Global, out: &mut Vec<u8>, all: &Statement) -> Result<()
         Statement::Assignment(place, name, value) => {
             put(out, b"set ")?;
             put_name(alloc, out, name, *place)?;
+            put_expr(alloc, out, value)
+        }
+        Statement::SpecialAssignment(place, name, value) => {
+            put(out, b"set ")?;
+            put_special(alloc, out, name, *place)?;
             put_expr(alloc, out, value)
         }
         Statement::Module(place, name, name_place, params, body) => {

@@ -26,6 +26,17 @@ pub fn put_name(
     put_at(alloc, out, name.items(), place)
 }
 
+/// A special name with its `$`.
+pub fn put_special(
+    alloc: Global,
+    out: &mut Vec<u8>,
+    name: &CompactBytes,
+    place: Place,
+) -> Result<(), NoMemory> {
+    put(out, b"$")?;
+    put_name(alloc, out, name, place)
+}
+
 pub fn put_place(alloc: Global, out: &mut Vec<u8>, place: Place) -> Result<(), NoMemory> {
     push_decimal(alloc, out, i128::from(place.line))?;
     put(out, b":")?;

@@ -9,7 +9,7 @@ use text_place::NoMemory;
 
 fn put_token(alloc: Global, out: &mut Vec<u8>, token: &Token) -> Result<(), NoMemory> {
     let kind = match &token.kind {
-        TokenKind::Numeral(number) => format!(in alloc; "{number}")?,
+        TokenKind::Numeral(number) => format!(in alloc; "{}", number.get())?,
         TokenKind::Name(bytes) => format!(in alloc; "name {:?}", bytes.items())?,
         TokenKind::Special(bytes) => format!(in alloc; "special {:?}", bytes.items())?,
         TokenKind::Text(bytes) => format!(in alloc; "text {:?}", bytes.items())?,

@@ -5,7 +5,7 @@ ghost use Rattle.std.specs.Prelude.{◌≤◌, ◌^◌, length};
 use crate::program::read;
 use crate::text::{put, put_stop};
 use scad_ast::{Expr, Program, Statement};
-use scad_func::{Meter, expr_has_small_numerals, has_small_numerals, value_of};
+use scad_func::{Meter, Source, value_in};
 use scad_scope::Scopes;
 use scad_value::{Value, Values};
 use std::alloc::Global;
@@ -82,18 +82,19 @@ fn first_value(program: &Program) -> Option<&Expr> {
 
 /// The value where so many turns were counted, and `later` is 7.
 fn value_after(alloc: Global, program: &Program, expr: &Expr, turns: u64) -> Result<Value, Stop> {
-    if !has_small_numerals(program) || !expr_has_small_numerals(expr) || turns > 100_000 {
+    if turns > 100_000 {
         return Ok(Value::Undef);
     }
+    let source = Source::of(alloc, program)?;
     let mut scopes = Scopes::new(alloc)?;
-    let scope = scopes.enter(alloc, 0, program, 0)?;
+    let scope = scopes.enter(alloc, 0, &source.blocks, 0)?;
     scopes.bind(alloc, scope, b"later", Value::Number(7))?;
     let mut meter = Meter {
         calls: 0,
         depth: 0,
         turns,
     };
-    value_of(alloc, &mut scopes, program, scope, expr, &mut meter)
+    value_in(alloc, &mut scopes, &source, scope, expr, &mut meter)
 }
 
 fn put_first(

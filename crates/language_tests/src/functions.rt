@@ -1,13 +1,12 @@
-ghost use Rattle.std.specs.Prelude.{◌≡◌, length, IfOk, IsTrue};
-ghost use Rattle.scad_ast.specs.StatementView.{program_of};
-ghost use Rattle.scad_scope.specs.Numbered.{functions_below, count_of_functions};
+ghost use Rattle.std.specs.Prelude.{◌≡◌, length, IfOk};
+ghost use Rattle.scad_func.specs.View.{IsNumbered};
 ghost use Rattle.scad_scope.specs.Table.{rows_of};
 
 use crate::evaluating::{first_value, put_answer};
 use crate::reading::{at, read};
 use crate::scopes::bind;
-use scad_ast::{Expr, Program};
-use scad_func::{Meter, expr_has_small_numerals, has_small_numerals, value_of};
+use scad_ast::Expr;
+use scad_func::{Meter, Source, value_in};
 use scad_scope::{Found, Scopes};
 use scad_value::Value;
 use std::alloc::Global;
@@ -26,25 +25,25 @@ const NAMED_APART: &[u8] =
 
 // Scope 1 is the program, and in it scope 2 the module's body, scope 3 the first branch of the
 // choice and scope 5 the second one; scope 4 is empty, in the module's body.
-fn entered(alloc: Global, program: &Program) -> Result<Scopes, NoMemory>
+fn entered(alloc: Global, source: &Source<'_>) -> Result<Scopes, NoMemory>
     ensures count { IfOk result (λ s. length (rows_of s) ≡ 6) }
-    ensures numbered { IfOk result (λ s. IsTrue (functions_below (count_of_functions (program_of program.now)) (rows_of s))) }
+    ensures numbered { IfOk result (λ s. IsNumbered source.now (rows_of s)) }
 {
     let mut scopes = Scopes::new(alloc)?;
-    scopes.enter(alloc, 0, program, 0)?;
-    scopes.enter(alloc, 1, program, 2)?;
-    scopes.enter(alloc, 1, program, 6)?;
+    scopes.enter(alloc, 0, &source.blocks, 0)?;
+    scopes.enter(alloc, 1, &source.blocks, 2)?;
+    scopes.enter(alloc, 1, &source.blocks, 6)?;
     scopes.enter_empty(alloc, 2)?;
-    scopes.enter(alloc, 1, program, 9)?;
+    scopes.enter(alloc, 1, &source.blocks, 9)?;
     Ok(scopes)
 }
 
 // In each scope `here` is its number.
-fn scopes(rt: &impl Abort, alloc: Global, program: &Program) -> Result<Scopes, NoMemory>
+fn scopes(rt: &impl Abort, alloc: Global, source: &Source<'_>) -> Result<Scopes, NoMemory>
     ensures count { IfOk result (λ s. length (rows_of s) ≡ 6) }
-    ensures numbered { IfOk result (λ s. IsTrue (functions_below (count_of_functions (program_of program.now)) (rows_of s))) }
+    ensures numbered { IfOk result (λ s. IsNumbered source.now (rows_of s)) }
 {
-    let mut scopes = entered(alloc, program)?;
+    let mut scopes = entered(alloc, source)?;
     for scope in 0..6 {
         bind(rt, alloc, &mut scopes, scope, b"here", i64::from(scope))?;
     }
@@ -54,27 +53,27 @@ fn scopes(rt: &impl Abort, alloc: Global, program: &Program) -> Result<Scopes, N
 fn value_within(
     rt: &impl Abort,
     alloc: Global,
-    program: &Program,
+    source: &Source<'_>,
     scope: u32,
     expr: &Expr,
 ) -> Result<Value, Stop> {
-    if !has_small_numerals(program) || !expr_has_small_numerals(expr) || scope >= 6 {
+    if scope >= 6 {
         return Ok(Value::Undef);
     }
-    let mut scopes = scopes(rt, alloc, program)?;
+    let mut scopes = scopes(rt, alloc, source)?;
     let mut meter = Meter {
         calls: 0,
         depth: 0,
         turns: 0,
     };
-    value_of(alloc, &mut scopes, program, scope, expr, &mut meter)
+    value_in(alloc, &mut scopes, source, scope, expr, &mut meter)
 }
 
 // The value or the first fault of an assignment's expression in a scope of another program.
 fn told(
     rt: &impl Abort,
     alloc: Global,
-    program: &Program,
+    source: &Source<'_>,
     scope: u32,
     assignment: &[u8],
 ) -> Result<Vec<u8>, Fail> {
@@ -84,7 +83,7 @@ fn told(
         put_answer(
             alloc,
             &mut out,
-            value_within(rt, alloc, program, scope, expr),
+            value_within(rt, alloc, source, scope, expr),
         )?;
     }
     Ok(out)
@@ -95,6 +94,7 @@ fn told(
 fn finds_functions_with_their_scopes(rt: HostRuntime) -> Result<(), Fail> {
     let alloc = rt.alloc();
     let program = read(alloc, SOURCE)?;
+    let source = Source::of(alloc, &program)?;
     let cases: [(u32, &[u8], &[u8]); 12] = [
         (0, b"x = f(0);", b"1 UnknownFunction"),
         (1, b"x = f(0);", b"[7 1 ]"),
@@ -111,7 +111,7 @@ fn finds_functions_with_their_scopes(rt: HostRuntime) -> Result<(), Fail> {
     ];
     for (scope, call, wanted) in cases {
         assert_eq!(rt;
-            told(&rt, alloc, &program, scope, call)?.as_slice(),
+            told(&rt, alloc, &source, scope, call)?.as_slice(),
             wanted,
             "at {call:?}"
         );
@@ -124,7 +124,8 @@ fn finds_functions_with_their_scopes(rt: HostRuntime) -> Result<(), Fail> {
 fn numbers_functions_in_the_order_of_the_text(rt: HostRuntime) -> Result<(), Fail> {
     let alloc = rt.alloc();
     let program = read(alloc, NAMED_APART)?;
-    let scopes = entered(alloc, &program)?;
+    let source = Source::of(alloc, &program)?;
+    let scopes = entered(alloc, &source)?;
     let cases: [(u32, &[u8], &[u8], &[u8], &[u8]); 7] = [
         (1, b"e", b"x = e(0);", b"1", b"x = e(0, 0);"),
         (2, b"g", b"x = g(0);", b"2", b"x = g(0, 0);"),
@@ -138,9 +139,9 @@ fn numbers_functions_in_the_order_of_the_text(rt: HostRuntime) -> Result<(), Fai
     for (scope, name, call, wanted, surplus) in cases {
         assert!(rt; scope < 6);
         assert!(rt; scopes.function(scope, name, at(5)) == Ok(Found { scope, definition }));
-        assert_eq!(rt; told(&rt, alloc, &program, scope, call)?.as_slice(), wanted);
+        assert_eq!(rt; told(&rt, alloc, &source, scope, call)?.as_slice(), wanted);
         assert_eq!(rt;
-            told(&rt, alloc, &program, scope, surplus)?.as_slice(),
+            told(&rt, alloc, &source, scope, surplus)?.as_slice(),
             b"6 BadArgument".as_slice()
         );
         definition = definition.saturating_add(1);

@@ -5,7 +5,7 @@ use Rattle.std.specs.Option.{option_map_or, unwrap_or}
 use Rattle.std.specs.List.{IsDistinct}
 use Rattle.std.specs.Map.{keys_of}
 use Rattle.std.proofs.lemmas.List.{length-map, map-append, length-append}
-use Rattle.memo_core.specs.Memo.{evicted_by, evicted_in, brought_to_front, same_name, has_key, holds, itself, Entry, Mark, Item, Said, Fill_said, item, offered_where, offered, filled, fill_said, after_said, says_at, replay, entries_max}
+use Rattle.memo_core.specs.Memo.{evicted_by, evicted_in, brought_to_front, same_name, has_key, holds, itself, Entry, Mark, Item, Said, Fill_said, item, offered_where, offered, placed_where, placed, DropsFrom, filled, fill_said, after_said, says_at, replay, entries_max}
 use Rattle.memo_core.specs.Views.{Core, IsSound, mark_in, marks, new_entry, after_fill}
 use Rattle.memo_core.specs.Fields.{entry_of, entries_of, item_of, items_of}
 use Rattle.memo_core.specs.Plans.{IsKept, IsShelf, slot_mark}
@@ -15,6 +15,7 @@ use Rattle.memo_core.specs.declared.journal.JournalItem.{JournalItem}
 use Rattle.memo_core.proofs.Lists.{brought_map}
 use Rattle.memo_core.proofs.Maps.{where_map, sum_by_map}
 use Rattle.memo_core.proofs.Journals.{evicted_more, replay_more, legal_more}
+use Rattle.memo_core.proofs.Drops.{drops_map, placed_map}
 use Rattle.memo_core.proofs.Kept.{core_is, holds_marks, names_are}
 use Rattle.memo_core.proofs.Shares.{all_filled, filled_shorter}
 
@@ -78,13 +79,13 @@ module _ {K V : Type 0} (same : K → K → Bool) (name_of : K → List ℕ) (bu
     go (Some x) = refl
 
 module _ {K V : Type 0} (same : K → K → Bool) (name_of : K → List ℕ) where
-  pub after_fill_sound : (fits : K → V → Type 0) (weighs : V → ℕ) (caller : ℕ) (key : K) (value : V) (weight : ℕ) (core : Core K V)
+  pub after_fill_sound : (fits : K → V → Type 0) (weighs : V → ℕ) (g : List (Entry K V)) (caller : ℕ) (key : K) (value : V) (weight : ℕ) (core : Core K V)
       → IsSound same name_of fits weighs core → fits key value → weight ≡ weighs value
       → IsDistinct same_name (map (λ e. e.mark.name) (after_fill same name_of caller key value weight core).entries)
       → sum_by (λ e. e.mark.weight) (after_fill same name_of caller key value weight core).entries ≤ core.budget
       → length (after_fill same name_of caller key value weight core).entries ≤ entries_max
-      → IsSound same name_of fits weighs (after_fill same name_of caller key value weight core)
-  after_fill_sound fits weighs caller key value weight core s f w d within few =
+      → IsSound same name_of fits weighs (record (after_fill same name_of caller key value weight core) { dropped = g })
+  after_fill_sound fits weighs g caller key value weight core s f w d within few =
       let new : Entry K V = new_entry name_of caller key value weight in
       let before : List (Mark K) = replay same name_of core.budget core.share [] core.journal in
       let i : Item K = item caller key (fill_said same mark_in core.budget core.share new core.entries) in
@@ -104,7 +105,7 @@ module _ {K V : Type 0} (same : K → K → Bool) (name_of : K → List ℕ) whe
             ∙ sym (replay_more same name_of core.budget core.share [] core.journal i);
       }
 
-module _ {K V : Type 0} (same : K → K → Bool) (name_of : K → List ℕ) (caller : ℕ) (key : K) (value : V) (weight : ℕ) (b h s t : ℕ) (shelf shelf' : Shelf K V) where
+module _ {K V : Type 0} (same : K → K → Bool) (name_of : K → List ℕ) (caller : ℕ) (key : K) (value : V) (weight : ℕ) (b h s t : ℕ) (g g' : List (Entry K V)) (shelf shelf' : Shelf K V) where
   abbrev es : List (Entry K V)
   es = entries_of shelf.cache.entries
 
@@ -115,7 +116,7 @@ module _ {K V : Type 0} (same : K → K → Bool) (name_of : K → List ℕ) (ca
   made = new_entry name_of caller key value weight
 
   abbrev old : List (JournalItem K) → Core K V
-  old js = record { entries = es; budget = b; share = h; journal = items_of js; spare = s }
+  old js = record { entries = es; dropped = g; budget = b; share = h; journal = items_of js; spare = s }
 
   same_where : (held : Bool) (x y : List (Entry K V)) → (held ≡ true → x ≡ y) → offered_where mark_in b h held x made es ≡ offered_where mark_in b h held y made es
   same_where true x y e = ap (λ z. offered_where mark_in b h true z made es) (e refl)
@@ -160,15 +161,26 @@ module _ {K V : Type 0} (same : K → K → Bool) (name_of : K → List ℕ) (ca
       go None = refl
       go (Some n) = refl
 
+    -- what comes to the slots that are gone comes to the entries that are dropped
+    pub drops_is : (new : List ℕ × Slot K V) (gone gone' : List (List ℕ × Slot K V)) → entry_of new ≡ made → DropsFrom (placed_where held (is_some r) new shelf.cache.entries) gone gone' shelf'.cache.entries
+        → DropsFrom (placed same mark_in b h made es) (entries_of gone) (entries_of gone') fs
+    drops_is new gone gone' n d =
+        subst (λ l. DropsFrom l (entries_of gone) (entries_of gone') fs)
+        (placed_map entry_of held (is_some r) new shelf.cache.entries
+        ∙ ap (λ x. placed_where x (is_some r) (entry_of new) es) k
+        ∙ ap (λ x. placed_where (holds same mark_in key es) x (entry_of new) es) keeps_is
+        ∙ ap (λ x. placed_where (holds same mark_in key es) (is_some (offered same mark_in b h made es)) x es) n)
+        (drops_map entry_of (placed_where held (is_some r) new shelf.cache.entries) gone gone' shelf'.cache.entries d)
+
     pub filled_is : (js ks : List (JournalItem K)) (j : JournalItem K) → ks ≡ js ++ j ∷ [] → item_of j ≡ item caller key (Fill_said weight (is_some r) (unwrap_or r 0)) → t ≡ s - 1
-        → ◌≡◌ {A = Core K V} (record { entries = fs; budget = b; share = h; journal = items_of ks; spare = t }) (after_fill same name_of caller key value weight (old js))
+        → ◌≡◌ {A = Core K V} (record { entries = fs; dropped = g'; budget = b; share = h; journal = items_of ks; spare = t }) (record (after_fill same name_of caller key value weight (old js)) { dropped = g' })
     filled_is js ks j k i r = core_is entries_are (ap items_of k ∙ map-append item_of js (j ∷ []) ∙ ap (λ x. items_of js ++ x ∷ []) (i ∙ ap (item caller key) said_is)) r
 
   pub fill_kept : (fits : K → V → Type 0) (weighs : V → ℕ) (d d' : ℕ) (js ks : List (JournalItem K))
       → IsKept same name_of fits weighs shelf d (old js) → fits key value → weight ≡ weighs value → IsShelf b shelf' → IsDistinct same_name (keys_of shelf'.cache.entries)
       → d' ≡ d + evicted_by (fill_said same mark_in b h made es)
-      → ◌≡◌ {A = Core K V} (record { entries = fs; budget = b; share = h; journal = items_of ks; spare = t }) (after_fill same name_of caller key value weight (old js))
-      → IsKept same name_of fits weighs shelf' d' (record { entries = fs; budget = b; share = h; journal = items_of ks; spare = t })
+      → ◌≡◌ {A = Core K V} (record { entries = fs; dropped = g'; budget = b; share = h; journal = items_of ks; spare = t }) (record (after_fill same name_of caller key value weight (old js)) { dropped = g' })
+      → IsKept same name_of fits weighs shelf' d' (record { entries = fs; dropped = g'; budget = b; share = h; journal = items_of ks; spare = t })
   fill_kept fits weighs n n' js ks kept f g shelved d count is =
       let e : fs ≡ (after_fill same name_of caller key value weight (old js)).entries = ap (λ (x : Core K V). x.entries) is in
       let i : Item K = item caller key (fill_said same mark_in b h made es) in record {
@@ -183,7 +195,7 @@ module _ {K V : Type 0} (same : K → K → Bool) (name_of : K → List ℕ) (ca
             omega (arith, count, kept.filled_before, longer, more, rest, filled_counted same b h made es);
         sound =
             subst (λ (x : Core K V). IsSound same name_of fits weighs x) (sym is)
-            (after_fill_sound same name_of fits weighs caller key value weight (old js) kept.sound f g
+            (after_fill_sound same name_of fits weighs g' caller key value weight (old js) kept.sound f g
             (subst (IsDistinct same_name) (sym (names_are shelf'.cache.entries) ∙ ap (map (λ x. x.mark.name)) e) d)
             (subst (λ xs. sum_by (λ x. x.mark.weight) xs ≤ b) e (let w = sum_by_map entry_of (λ x. x.mark.weight) shelf'.cache.entries in omega (arith, w, shelved.kept_weight, shelved.within)))
             (subst (λ xs. length xs ≤ entries_max) e (omega (arith, shelved.few, length-map shelf'.cache.entries entry_of))));

@@ -13,11 +13,11 @@ use Rattle.memo_core.proofs.Shelves.{promoted_brought}
 use Rattle.memo_core.proofs.Journals.{replay_more, legal_more}
 
 module _ {K V : Type 0} where
-  pub core_is : {e f : List (Entry K V)} {b h : ℕ} {j k : List (Item K)} {s t : ℕ} → e ≡ f → j ≡ k → s ≡ t → ◌≡◌ {A = Core K V} (record { entries = e; budget = b; share = h; journal = j; spare = s }) (record { entries = f; budget = b; share = h; journal = k; spare = t })
-  core_is {e} {f} {b} {h} {j} {k} {s} {t} p q r =
-      ap (λ (x : List (Entry K V)). record { entries = x; budget = b; share = h; journal = j; spare = s }) p
-      ∙ ap (λ (x : List (Item K)). record { entries = f; budget = b; share = h; journal = x; spare = s }) q
-      ∙ ap (λ (x : ℕ). record { entries = f; budget = b; share = h; journal = k; spare = x }) r
+  pub core_is : {e f g : List (Entry K V)} {b h : ℕ} {j k : List (Item K)} {s t : ℕ} → e ≡ f → j ≡ k → s ≡ t → ◌≡◌ {A = Core K V} (record { entries = e; dropped = g; budget = b; share = h; journal = j; spare = s }) (record { entries = f; dropped = g; budget = b; share = h; journal = k; spare = t })
+  core_is {e} {f} {g} {b} {h} {j} {k} {s} {t} p q r =
+      ap (λ (x : List (Entry K V)). record { entries = x; dropped = g; budget = b; share = h; journal = j; spare = s }) p
+      ∙ ap (λ (x : List (Item K)). record { entries = f; dropped = g; budget = b; share = h; journal = x; spare = s }) q
+      ∙ ap (λ (x : ℕ). record { entries = f; dropped = g; budget = b; share = h; journal = k; spare = x }) r
 
   module _ (same : K → K → Bool) where
     pub holds_marks : (key : K) (es : List (Entry K V)) → holds same itself key (marks es) ≡ holds same mark_in key es

@@ -47,19 +47,19 @@ module _ {K V : Type 0} (same : K → K → Bool) (name_of : K → List ℕ) (sa
     h ∙ ap is_some (f ∙ value_is same name_of same_is key es n d) ∙ is_some_map (λ x. x.value) (first_with (has_key same mark_in key) (entries_of es)),
   )
 
-  pub probed_is : (caller b h s t : ℕ) (es fs : List (List ℕ × Slot K V)) (js ks : List (JournalItem K)) (j : JournalItem K) (hit : Bool)
+  pub probed_is : (caller b h s t : ℕ) (g : List (Entry K V)) (es fs : List (List ℕ × Slot K V)) (js ks : List (JournalItem K)) (j : JournalItem K) (hit : Bool)
       → entries_of fs ≡ brought_to_front (has_key same mark_in key) (entries_of es) → hit ≡ holds same mark_in key (entries_of es)
       → ks ≡ js ++ j ∷ [] → item_of j ≡ item caller key (Probe_said hit) → t ≡ s - 1
-      → ◌≡◌ {A = Core K V} (record { entries = entries_of fs; budget = b; share = h; journal = items_of ks; spare = t }) (after_probe same caller key (record { entries = entries_of es; budget = b; share = h; journal = items_of js; spare = s }))
-  probed_is caller b h s t es fs js ks j hit e f k i r =
+      → ◌≡◌ {A = Core K V} (record { entries = entries_of fs; dropped = g; budget = b; share = h; journal = items_of ks; spare = t }) (after_probe same caller key (record { entries = entries_of es; dropped = g; budget = b; share = h; journal = items_of js; spare = s }))
+  probed_is caller b h s t g es fs js ks j hit e f k i r =
       core_is e (ap items_of k ∙ map-append item_of js (j ∷ []) ∙ ap (λ x. items_of js ++ x ∷ []) (i ∙ ap (λ x. item caller key (Probe_said x)) f)) r
 
-  pub probed_kept : (fits : K → V → Type 0) (weighs : V → ℕ) (caller h s t d : ℕ) (shelf shelf' : Shelf K V) (js : List (Item K)) (ks : List (Item K)) (b : ℕ)
-      → IsKept same name_of fits weighs shelf d (record { entries = entries_of shelf.cache.entries; budget = b; share = h; journal = js; spare = s })
+  pub probed_kept : (fits : K → V → Type 0) (weighs : V → ℕ) (caller h s t d : ℕ) (g : List (Entry K V)) (shelf shelf' : Shelf K V) (js : List (Item K)) (ks : List (Item K)) (b : ℕ)
+      → IsKept same name_of fits weighs shelf d (record { entries = entries_of shelf.cache.entries; dropped = g; budget = b; share = h; journal = js; spare = s })
       → entries_of shelf'.cache.entries ≡ brought_to_front (has_key same mark_in key) (entries_of shelf.cache.entries) → IsDistinct same_name (keys_of shelf'.cache.entries) → IsShelf b shelf'
-      → ◌≡◌ {A = Core K V} (record { entries = entries_of shelf'.cache.entries; budget = b; share = h; journal = ks; spare = t }) (after_probe same caller key (record { entries = entries_of shelf.cache.entries; budget = b; share = h; journal = js; spare = s }))
-      → IsKept same name_of fits weighs shelf' d (record { entries = entries_of shelf'.cache.entries; budget = b; share = h; journal = ks; spare = t })
-  probed_kept fits weighs caller h s t n shelf shelf' js ks b kept e d shelved is =
+      → ◌≡◌ {A = Core K V} (record { entries = entries_of shelf'.cache.entries; dropped = g; budget = b; share = h; journal = ks; spare = t }) (after_probe same caller key (record { entries = entries_of shelf.cache.entries; dropped = g; budget = b; share = h; journal = js; spare = s }))
+      → IsKept same name_of fits weighs shelf' d (record { entries = entries_of shelf'.cache.entries; dropped = g; budget = b; share = h; journal = ks; spare = t })
+  probed_kept fits weighs caller h s t n g shelf shelf' js ks b kept e d shelved is =
       let es = shelf.cache.entries in
       let fs = shelf'.cache.entries in record {
         shelved = shelved;
@@ -73,7 +73,7 @@ module _ {K V : Type 0} (same : K → K → Bool) (name_of : K → List ℕ) (sa
             omega (arith, kept.filled_before, longer, more, same_length, length_brought (has_key same mark_in key) (entries_of es));
         sound =
             subst (λ (x : Core K V). IsSound same name_of fits weighs x) (sym is)
-            (after_probe_sound same name_of fits weighs caller key (record { entries = entries_of es; budget = b; share = h; journal = js; spare = s }) kept.sound
+            (after_probe_sound same name_of fits weighs caller key (record { entries = entries_of es; dropped = g; budget = b; share = h; journal = js; spare = s }) kept.sound
             (subst (IsDistinct same_name) (sym (names_are fs) ∙ ap (map (λ x. x.mark.name)) e) d));
       }
 

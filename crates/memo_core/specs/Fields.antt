@@ -1,7 +1,8 @@
 -- How the fields of a memo stand for what contracts see.
-use Rattle.std.specs.Prelude.{ℕ, suc, ◌^◌, ◌-◌, Bool, true, false, List, [], ◌∷◌, nat_eq, map, Option, Some, None, option_map, if◌then◌else◌}
+use Rattle.std.specs.Prelude.{ℕ, suc, ◌^◌, ◌-◌, Bool, true, false, List, [], ◌∷◌, nat_eq, map, Option, Some, None, option_map, is_some, if◌then◌else◌}
 use Rattle.std.specs.Arc.{arc_value}
-use Rattle.memo_core.specs.Memo.{Entry, Item, Said, Probe_said, Fill_said}
+use Rattle.std.specs.Map.{lookup}
+use Rattle.memo_core.specs.Memo.{Entry, Item, Said, Probe_said, Fill_said, same_name}
 use Rattle.memo_core.specs.declared.slots.Slot.{Slot}
 use Rattle.memo_core.specs.declared.owners.OwnerWeight.{OwnerWeight}
 use Rattle.memo_core.specs.declared.journal.JournalItem.{JournalItem}
@@ -52,6 +53,10 @@ module _ {K V : Type 0} (same : K → K → Bool) where
   abbrev pub value_at : K → Option (Slot K V) → Option V
   value_at key None = None
   value_at key (Some slot) = if same (arc_value slot.key) key then Some (arc_value slot.value) else None
+
+  -- whether the slot of this name has this key
+  abbrev pub has_at : List ℕ → K → List (List ℕ × Slot K V) → Bool
+  has_at name key es = is_some (value_at key (lookup (same_name name) es))
 
 module _ {V : Type 0} where
   -- the value of a hit

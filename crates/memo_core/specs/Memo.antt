@@ -1,6 +1,6 @@
 -- The sequential memo: a list of entries, most recent first, a budget, a share and a journal. It knows
 -- of no cache: the list is searched from its front.
-use Rattle.std.specs.Prelude.{◌≡◌, ◌≢◌, ℕ, zero, suc, ◌+◌, ◌-◌, ◌≤◌, Bool, true, false, ◌&&◌, ◌||◌, not, if◌then◌else◌, nat_le, nat_eq, nat_lt, List, [], ◌∷◌, length, sum_by, Option, Some, None, is_some, option_map, Contains}
+use Rattle.std.specs.Prelude.{◌≡◌, ◌≢◌, ℕ, zero, suc, ◌+◌, ◌-◌, ◌≤◌, Bool, true, false, ◌&&◌, ◌||◌, not, if◌then◌else◌, nat_le, nat_eq, nat_lt, List, [], ◌∷◌, ◌++◌, length, sum_by, IsPermutation, Option, Some, None, is_some, option_map, Contains}
 use Rattle.std.specs.Option.{option_map_or}
 use Rattle.std.specs.List.{AllByRecursion}
 use Rattle.std.specs.Cmp.Lexicographic.{pointwise}
@@ -26,6 +26,16 @@ module _ {E : Type 0} (test : E → Bool) where
   -- the first that passes stands in front, and the others keep their order
   abbrev pub brought_to_front : List E → List E
   brought_to_front es = option_map_or (λ e. e ∷ without_first es) (first_with es) es
+
+module _ {E : Type 0} where
+  -- What is to be placed is, in some order, what now stands and what came to those that are gone.
+  abbrev pub DropsFrom : (placed gone gone' standing : List E) → Type 0
+  DropsFrom placed gone gone' standing = (dropped : List E) × (gone' ≡ gone ++ dropped) × IsPermutation placed (dropped ++ standing)
+
+  -- What a fill has to place: the entries that were there and, where it is kept and its key is not held,
+  -- the new one.
+  abbrev pub placed_where : (held kept : Bool) → E → List E → List E
+  placed_where held kept new es = if kept && not held then new ∷ es else es
 
 -- how many entries there may be
 abbrev pub entries_max : ℕ
@@ -139,6 +149,10 @@ module _ {K E : Type 0} (same : K → K → Bool) (mark : E → Mark K) (budget 
   fill_said new es =
       option_map_or (λ kept. Fill_said (mark new).weight true (if holds same mark (mark new).key es then 0 else length es + 1 - length kept)) (offered new es)
       (Fill_said (mark new).weight false 0)
+
+  -- the entries that a fill has to place
+  abbrev pub placed : E → List E → List E
+  placed new es = placed_where (holds same mark (mark new).key es) (is_some (offered new es)) new es
 
 -- a mark is the mark of itself
 abbrev pub itself : {K : Type 0} → Mark K → Mark K

@@ -1,5 +1,5 @@
 -- What a new slot pushes out of a cache, and what is kept beside the cache.
-use Rattle.std.specs.Prelude.{◌≡◌, ℕ, ◌+◌, ◌≤◌, List, [], ◌∷◌, ◌++◌, length, nat_eq, if◌then◌else◌, sum_by, Bool, ◌||◌, nat_lt, false, Some}
+use Rattle.std.specs.Prelude.{◌≡◌, ℕ, ◌+◌, ◌≤◌, List, [], ◌∷◌, ◌++◌, length, nat_eq, if◌then◌else◌, sum_by, Bool, ◌||◌, nat_lt, false, Option, Some, None}
 use Rattle.std.specs.List.{AllByRecursion}
 use Rattle.std.specs.Map.{remove_entry}
 use Rattle.memo_core.specs.Memo.{Mark, same_name, owned, room_beside, pushed, entries_max, evicted_in}
@@ -14,6 +14,11 @@ module _ {X : Type 0} where
   abbrev pub removed : List (List ℕ) → List (List ℕ × X) → List (List ℕ × X)
   removed [] es = es
   removed (n ∷ ns) es = removed ns (remove_entry (same_name n) es)
+
+  -- the pair of a name, if there is one
+  abbrev pub pair_of : List ℕ → Option X → List (List ℕ × X)
+  pair_of name None = []
+  pair_of name (Some x) = (name, x) ∷ []
 
 -- all of these names are other ones
 abbrev pub AreOthers : List ℕ → List (List ℕ) → Type 0

@@ -1,11 +1,13 @@
 -- What contracts see of a memo, and its steps.
 use Rattle.std.specs.Prelude.{◌≡◌, ℕ, ◌-◌, ◌≤◌, Bool, List, [], ◌∷◌, ◌++◌, map, length, sum_by, is_some}
 use Rattle.std.specs.List.{AllByRecursion, IsDistinct}
-use Rattle.memo_core.specs.Memo.{Entry, Item, Mark, item, same_name, Probe_said, brought_to_front, holds, has_key, offered, filled, fill_said, replay, IsLegal, entries_max, mark_of}
+use Rattle.memo_core.specs.Memo.{Entry, Item, Mark, item, same_name, Probe_said, brought_to_front, holds, has_key, offered, placed, DropsFrom, filled, fill_said, replay, IsLegal, entries_max, mark_of}
 
 -- what contracts see of a memo
 pub record Core (K V : Type 0) : Type 0 where
   pub entries : List (Entry K V)
+  -- the entries that fills dropped and that nobody has taken yet
+  pub dropped : List (Entry K V)
   pub budget : ℕ
   -- what each owner's entries may weigh together and be safe from other callers, or 0
   pub share : ℕ
@@ -44,10 +46,17 @@ module _ {K V : Type 0} where
     abbrev pub keeps : ℕ → K → V → ℕ → Core K V → Bool
     keeps caller key value weight core = is_some (offered same mark_in core.budget core.share (new_entry name_of caller key value weight) core.entries)
 
-    -- the memo after a fill that found memory
+    -- A fill drops exactly what it finds no place for: what it has to place are, in some order, the
+    -- entries that stand there after it and those that it dropped.
+    abbrev pub DropsTheRest : ℕ → K → V → ℕ → Core K V → Core K V → Type 0
+    DropsTheRest caller key value weight core core' =
+        DropsFrom (placed same mark_in core.budget core.share (new_entry name_of caller key value weight) core.entries) core.dropped core'.dropped core'.entries
+
+    -- the memo after a fill that found memory, but for the entries that it dropped
     abbrev pub after_fill : ℕ → K → V → ℕ → Core K V → Core K V
     after_fill caller key value weight core = record {
       entries = filled same mark_in core.budget core.share (new_entry name_of caller key value weight) core.entries;
+      dropped = core.dropped;
       budget = core.budget;
       share = core.share;
       journal = core.journal ++ item caller key (fill_said same mark_in core.budget core.share (new_entry name_of caller key value weight) core.entries) ∷ [];
@@ -59,6 +68,7 @@ module _ {K V : Type 0} where
     abbrev pub after_probe : ℕ → K → Core K V → Core K V
     after_probe caller key core = record {
       entries = brought_to_front (has_key same mark_in key) core.entries;
+      dropped = core.dropped;
       budget = core.budget;
       share = core.share;
       journal = core.journal ++ item caller key (Probe_said (holds same mark_in key core.entries)) ∷ [];

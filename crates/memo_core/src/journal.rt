@@ -1,4 +1,5 @@
-ghost use Rattle.std.specs.Prelude.{◌≡◌, ℕ, ◌+◌, List, [], ◌∷◌, ◌++◌};
+ghost use Rattle.std.specs.Prelude.{◌≡◌, ℕ, ◌+◌, List, [], ◌∷◌, ◌++◌, is_some};
+ghost use Rattle.std.specs.Option.{unwrap_or};
 ghost use Rattle.std.specs.Arc.{arc_value};
 ghost use Rattle.memo_core.specs.Memo.{Item, Said, item, Probe_said, Fill_said, count_in};
 ghost use Rattle.memo_core.specs.Fields.{item_of};
@@ -36,14 +37,15 @@ pub fn probed<K>(caller: u32, key: Arc<K>, hit: bool) -> JournalItem<K>
     JournalItem { caller, key, did }
 }
 
-/// The item of a fill.
-pub fn filled<K>(caller: u32, key: Arc<K>, weight: u64, kept: bool, evicted: u32) -> JournalItem<K>
-    ensures { item_of result ≡ item caller (arc_value key) (Fill_said weight kept evicted) }
+/// The item of a fill that was kept and dropped so many entries, or was not kept.
+pub fn filled<K>(caller: u32, key: Arc<K>, weight: u64, offered: Option<u32>) -> JournalItem<K>
+    ensures { item_of result ≡ item caller (arc_value key)
+        (Fill_said weight (is_some offered) (unwrap_or offered 0)) }
 {
     let did = Did::Filled {
         weight,
-        kept,
-        evicted,
+        kept: offered.is_some(),
+        evicted: offered.unwrap_or(0),
     };
     JournalItem { caller, key, did }
 }

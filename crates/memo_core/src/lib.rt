@@ -2,6 +2,7 @@
 //! cache of names stands behind it, and a journal says what each call said.
 #![tactic(auto)]
 
+mod dropped;
 mod fit;
 mod journal;
 mod memo;
@@ -9,6 +10,7 @@ mod owners;
 mod plan;
 mod slots;
 
+pub use dropped::Dropped;
 pub use fit::{Fit, NAME_BYTES, Name, Namer};
 pub use journal::{Did, JournalItem, counts_one_more};
-pub use memo::{Dropped, Fill, MemoCore, Probe};
+pub use memo::{Fill, MemoCore, Probe};

@@ -2,11 +2,12 @@ ghost use Rattle.std.specs.Prelude.{◌≡◌, true, false, option_map, is_some,
 ghost use Rattle.std.specs.Arc.{arc_value};
 ghost use Rattle.memo_core.specs.Fields.{value_in, is_hit};
 
+use crate::dropped::Dropped;
 use crate::fit::{Fit, Namer};
 use crate::journal::{JournalItem, filled, probed};
 use crate::owners::weight_in;
 use crate::plan::Limits;
-use crate::slots::{Shelf, Slot, has_slot, offer, touch, value_of};
+use crate::slots::{Gone, Shelf, Slot, offer, touch, value_of};
 use lru::LruCache;
 use std::alloc::Global;
 use std::marker::Model;
@@ -45,7 +46,7 @@ pub struct MemoCore<F: Fit, N: Namer<F::Key>> {
     namer: N,
     limits: Limits,
     shelf: Shelf<F::Key, F::Value>,
-    gone: Vec<Slot<F::Key, F::Value>>,
+    gone: Gone<F::Key, F::Value>,
     evicted: u64,
     journal: Vec<JournalItem<F::Key>>,
 }
@@ -61,6 +62,7 @@ impl<F: Fit, N: Namer<F::Key>> Model for MemoCore<F, N> {
 
     ghost view = { λ m. record {
       entries = entries_of m.shelf.cache.entries;
+      dropped = entries_of m.gone.items;
       budget = m.limits.budget;
       share = m.limits.share;
       journal = items_of m.journal.items;
@@ -69,6 +71,7 @@ impl<F: Fit, N: Namer<F::Key>> Model for MemoCore<F, N> {
 
     ghost invariant = { λ m. IsKept F.same_key N.name_of F.fits F.weighs m.shelf m.evicted (record {
       entries = entries_of m.shelf.cache.entries;
+      dropped = entries_of m.gone.items;
       budget = m.limits.budget;
       share = m.limits.share;
       journal = items_of m.journal.items;
@@ -79,14 +82,14 @@ impl<F: Fit, N: Namer<F::Key>> Model for MemoCore<F, N> {
 impl<F: Fit, N: Namer<F::Key>> MemoCore<F, N> {
     ghost use Rattle.std.specs.Prelude.{◌≡◌, ◌≢◌, ℕ, ◌≤◌, ◌<◌, [], ◌∷◌, ◌++◌, IfOk, OnOk, OnErr, option_map, IfSome, sum_by, true, false};
     ghost use Rattle.std.specs.Arc.{arc_value};
-    ghost use Rattle.memo_core.specs.Views.{IsSound, after_probe, after_fill, keeps, mark_in};
+    ghost use Rattle.memo_core.specs.Views.{IsSound, after_probe, after_fill, DropsTheRest, keeps, mark_in};
     ghost use Rattle.memo_core.specs.Memo.{first_with, has_key, item, owned, KeepsShares, StandIn, Probe_said, Fill_said, evicted_in};
     ghost use Rattle.memo_core.specs.Fields.{items_of};
 
     /// A memo without entries, whose journal is empty.
     pub fn new(alloc: Global, fit: F, namer: N, budget: u64, share: u64) -> Result<Self, NoMemory>
-        ensures { IfOk result (λ m. (m.entries ≡ []) × (m.journal ≡ []) × (m.budget ≡ budget)
-            × (m.share ≡ share)) }
+        ensures { IfOk result (λ m. (m.entries ≡ []) × (m.dropped ≡ []) × (m.journal ≡ [])
+            × (m.budget ≡ budget) × (m.share ≡ share)) }
     {
         let shelf = Shelf {
             cache: LruCache::unbounded(alloc)?,
@@ -108,6 +111,7 @@ impl<F: Fit, N: Namer<F::Key>> MemoCore<F, N> {
     pub fn room(&mut self, _alloc: Global) -> Result<(), NoMemory>
         ensures room { OnOk result (0 < self.new.spare) }
         ensures entries { self.new.entries ≡ self.old.entries }
+        ensures dropped { self.new.dropped ≡ self.old.dropped }
         ensures budget { self.new.budget ≡ self.old.budget }
         ensures share { self.new.share ≡ self.old.share }
         ensures journal { self.new.journal ≡ self.old.journal }
@@ -170,7 +174,7 @@ impl<F: Fit, N: Namer<F::Key>> MemoCore<F, N> {
         let found = value_of(&self.fit, &self.shelf.cache, &name, &**key)?;
         let key = Arc::try_clone(key)?;
         let hit = found.is_some();
-        touch(&mut self.shelf.cache, &name, hit);
+        touch(&mut self.shelf.cache, &name, &found);
         let item = probed(caller, key, hit);
         self.journal.push_reserved(item);
         Ok(answer(found))
@@ -180,7 +184,7 @@ impl<F: Fit, N: Namer<F::Key>> MemoCore<F, N> {
     /// same name and another key goes, and then, while the rest does not fit, the last entry that is
     /// free to the caller: its own one, any one without a share, and else one whose owner's entries
     /// weigh more than the share together. Where such an entry of the same name is not free, or the new
-    /// one itself would have to go, the fill is not kept.
+    /// one itself would have to go, the fill is not kept. `take_dropped` hands out what went.
     pub fn fill(
         &mut self,
         alloc: Global,
@@ -202,8 +206,10 @@ impl<F: Fit, N: Namer<F::Key>> MemoCore<F, N> {
         ensures journal_heavy { result ≡ Fill.TooHeavy → self.new.journal ≡
             self.old.journal ++ item caller (arc_value key.now) (Fill_said weight false 0) ∷ [] }
         ensures core { result ≢ Fill.NoMemory → self.new ≡
-            after_fill F.same_key N.name_of caller (arc_value key.now) (arc_value value) weight
-            self.old }
+            record (after_fill F.same_key N.name_of caller (arc_value key.now) (arc_value value) weight
+            self.old) { dropped = self.new.dropped } }
+        ensures dropped { result ≢ Fill.NoMemory → DropsTheRest F.same_key N.name_of caller
+            (arc_value key.now) (arc_value value) weight self.old self.new }
         ensures reserved { 0 < self.old.share → (owner : ℕ) → owner ≢ caller →
             owned mark_in owner self.old.entries ≤ self.old.share →
             StandIn mark_in owner self.old.entries self.new.entries }
@@ -216,7 +222,6 @@ impl<F: Fit, N: Namer<F::Key>> MemoCore<F, N> {
             return Fill::NoMemory;
         };
         let name = self.namer.name(&**key);
-        let is_held = has_slot(&self.fit, &self.shelf.cache, &name, &**key);
         let slot = Slot {
             key: held,
             value,
@@ -225,46 +230,41 @@ impl<F: Fit, N: Namer<F::Key>> MemoCore<F, N> {
         };
         let Ok(offered) = offer(
             alloc,
+            &self.fit,
             &mut self.shelf,
             &mut self.gone,
-            is_held,
             name,
             slot,
             self.limits,
         ) else {
             return Fill::NoMemory;
         };
-        let evicted = offered.unwrap_or(0);
-        let is_kept = offered.is_some();
         self.journal
-            .push_reserved(filled(caller, noted, weight, is_kept, evicted));
-        self.evicted += u64::from(evicted);
-        kept_or_not(is_kept)
+            .push_reserved(filled(caller, noted, weight, offered));
+        self.evicted += u64::from(offered.unwrap_or(0));
+        kept_or_not(offered)
     }
 
     /// Hands out what the fills dropped since it was last taken, so that the caller frees it where no
-    /// lock is held. The memo, as contracts see it, stays as it is. Takes no memory.
+    /// lock is held. Takes no memory.
     pub fn take_dropped(&mut self, alloc: Global) -> Dropped<F::Key, F::Value>
-        ensures { self.new ≡ self.old }
+        ensures gives { result ≡ self.old.dropped }
+        ensures rest { self.new ≡ record self.old { dropped = [] } }
     {
-        let slots = mem::replace(&mut self.gone, Vec::new(alloc));
-        Dropped { slots }
+        Dropped::new(mem::replace(&mut self.gone, Vec::new(alloc)))
     }
 }
 
-/// Entries that fills dropped. Their keys and values are freed with it.
-#[derive(Drop)]
-pub struct Dropped<K, V> {
-    slots: Vec<Slot<K, V>>,
-}
-
 // The answer of a fill that found memory.
-fn kept_or_not(is_kept: bool) -> Fill
-    ensures is { result ≡ (if is_kept then Fill.Kept else Fill.TooHeavy) }
-    ensures kept { result ≡ Fill.Kept → is_kept ≡ true }
-    ensures heavy { result ≡ Fill.TooHeavy → is_kept ≡ false }
+fn kept_or_not(offered: Option<u32>) -> Fill
+    ensures is { result ≡ (if is_some offered then Fill.Kept else Fill.TooHeavy) }
+    ensures kept { result ≡ Fill.Kept → is_some offered ≡ true }
+    ensures heavy { result ≡ Fill.TooHeavy → is_some offered ≡ false }
 {
-    if is_kept { Fill::Kept } else { Fill::TooHeavy }
+    match offered {
+        Some(_) => Fill::Kept,
+        None => Fill::TooHeavy,
+    }
 }
 
 // The answer of a probe that found this.

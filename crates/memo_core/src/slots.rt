@@ -1,11 +1,11 @@
-ghost use Rattle.std.specs.Prelude.{◌≡◌, true, false, ◌+◌, ◌-◌, ◌≤◌, option_map, length, ◌∷◌, IfSome, IfNone, IfOk, OnOk, OnErr, if◌then◌else◌, is_some};
+ghost use Rattle.std.specs.Prelude.{◌≡◌, true, false, ◌+◌, ◌-◌, ◌≤◌, ◌<◌, option_map, length, ◌∷◌, ◌++◌, IfSome, IfNone, IfOk, OnOk, OnErr, if◌then◌else◌, is_some, vec_len, vec_capacity};
 ghost use Rattle.std.specs.Arc.{arc_value};
 ghost use Rattle.std.specs.Map.{lookup, keys_of, remove_entry};
 ghost use Rattle.std.specs.List.{IsDistinct};
 ghost use Rattle.lru.specs.LruCache.{promoted};
-ghost use Rattle.memo_core.specs.Memo.{same_name, pushed, offered_where, entries_max};
-ghost use Rattle.memo_core.specs.Fields.{value_at, no_bound};
-ghost use Rattle.memo_core.specs.Plans.{removed, slot_mark, IsShelf};
+ghost use Rattle.memo_core.specs.Memo.{same_name, pushed, offered_where, placed_where, DropsFrom, entries_max};
+ghost use Rattle.memo_core.specs.Fields.{value_at, has_at, no_bound};
+ghost use Rattle.memo_core.specs.Plans.{removed, pair_of, slot_mark, IsShelf};
 
 use crate::fit::{Fit, Name};
 use crate::owners::OwnerWeight;
@@ -24,6 +24,9 @@ pub struct Slot<K, V> {
     pub owner: u32,
 }
 
+/// Slots that were dropped, with their names.
+pub type Gone<K, V> = Vec<(Name, Slot<K, V>)>;
+
 /// A cache of slots by name, the most recently used first.
 pub type Slots<K, V> = LruCache<Name, Slot<K, V>>;
 
@@ -38,9 +41,9 @@ pub struct Shelf<K, V> {
 /// How many entries there may be.
 pub const ENTRIES_MAX: usize = 4096;
 
-/// Whether the slot of this name has this key.
-pub fn has_slot<F: Fit>(fit: &F, cache: &Slots<F::Key, F::Value>, name: &Name, key: &F::Key) -> bool
-    ensures value { result ≡ is_some (value_at F.same_key key.now (lookup (same_name name.now) cache.now.entries)) }
+// Whether the slot of this name has this key.
+fn has_slot<F: Fit>(fit: &F, cache: &Slots<F::Key, F::Value>, name: &Name, key: &F::Key) -> bool
+    ensures held { result ≡ has_at F.same_key name.now key.now cache.now.entries }
     ensures distinct { IsDistinct same_name (keys_of cache.now.entries) }
 {
     // The cache says that its names are distinct where it is asked for its length.
@@ -54,33 +57,42 @@ pub fn has_slot<F: Fit>(fit: &F, cache: &Slots<F::Key, F::Value>, name: &Name, k
 /// Offers a slot to a shelf: one above the budget is not kept, one whose key is held brings that one to
 /// the front, and else it is pushed. Answers how many slots were dropped, or none where it is not kept.
 /// What was dropped is among those that are gone.
-pub fn offer<K: Drop, V: Drop>(
+pub fn offer<F: Fit>(
     alloc: Global,
-    shelf: &mut Shelf<K, V>,
-    gone: &mut Vec<Slot<K, V>>,
-    is_held: bool,
+    fit: &F,
+    shelf: &mut Shelf<F::Key, F::Value>,
+    gone: &mut Gone<F::Key, F::Value>,
     name: Name,
-    slot: Slot<K, V>,
+    slot: Slot<F::Key, F::Value>,
     limits: Limits,
 ) -> Result<Option<u32>, NoMemory>
     requires { IsShelf limits.budget shelf.old }
-    ensures slots { IfOk result (λ r. offered_where slot_mark limits.budget limits.share is_held
+    ensures slots { IfOk result (λ r. offered_where slot_mark limits.budget limits.share
+        (has_at F.same_key name (arc_value slot.key) shelf.old.cache.entries)
         (promoted (same_name name) shelf.old.cache.entries) (name, slot) shelf.old.cache.entries
         ≡ option_map (λ _. shelf.new.cache.entries) r) }
-    ensures evicted { IfOk result (λ r. IfSome r (λ n. n ≡ (if is_held then 0
+    ensures evicted { IfOk result (λ r. IfSome r (λ n. n ≡
+        (if has_at F.same_key name (arc_value slot.key) shelf.old.cache.entries then 0
         else length shelf.old.cache.entries + 1 - length shelf.new.cache.entries))) }
+    ensures dropped { IfOk result (λ r. DropsFrom (placed_where
+        (has_at F.same_key name (arc_value slot.key) shelf.old.cache.entries) (is_some r)
+        (name, slot) shelf.old.cache.entries)
+        gone.old.items gone.new.items shelf.new.cache.entries) }
     ensures refused { IfOk result (λ r. IfNone r (shelf.new ≡ shelf.old)) }
     ensures shelf { IsShelf limits.budget shelf.new }
     ensures distinct { OnOk result (IsDistinct same_name (keys_of shelf.new.cache.entries)) }
+    ensures named { IsDistinct same_name (keys_of shelf.old.cache.entries) }
     ensures err { OnErr result (shelf.new ≡ shelf.old) }
+    ensures err_gone { OnErr result (gone.new.items ≡ gone.old.items) }
 {
+    let is_held = has_slot(fit, &shelf.cache, &name, &*slot.key);
     if slot.weight > limits.budget {
-        // The cache says that its names are distinct where it is asked for its length.
-        let _len = shelf.cache.len();
         return Ok(None);
     }
     if is_held {
-        touch(&mut shelf.cache, &name, true);
+        shelf.cache.promote(&name);
+        // The cache says that its names are distinct where it is asked for its length.
+        let _len = shelf.cache.len();
         return Ok(Some(0));
     }
     push(alloc, shelf, gone, name, slot, limits)
@@ -90,7 +102,7 @@ pub fn offer<K: Drop, V: Drop>(
 fn push<K: Drop, V: Drop>(
     alloc: Global,
     shelf: &mut Shelf<K, V>,
-    gone: &mut Vec<Slot<K, V>>,
+    gone: &mut Gone<K, V>,
     name: Name,
     slot: Slot<K, V>,
     limits: Limits,
@@ -101,10 +113,14 @@ fn push<K: Drop, V: Drop>(
         shelf.old.cache.entries ≡ option_map (λ _. shelf.new.cache.entries) r) }
     ensures evicted { IfOk result (λ r. IfSome r (λ n. n ≡
         length shelf.old.cache.entries + 1 - length shelf.new.cache.entries)) }
+    ensures dropped { IfOk result (λ r. DropsFrom
+        (placed_where false (is_some r) (name, slot) shelf.old.cache.entries)
+        gone.old.items gone.new.items shelf.new.cache.entries) }
     ensures refused { IfOk result (λ r. IfNone r (shelf.new ≡ shelf.old)) }
     ensures shelf { IsShelf limits.budget shelf.new }
     ensures distinct { OnOk result (IsDistinct same_name (keys_of shelf.new.cache.entries)) }
     ensures err { OnErr result (shelf.new ≡ shelf.old) }
+    ensures err_gone { OnErr result (gone.new.items ≡ gone.old.items) }
 {
     let plan = plan_for(alloc, shelf, &name, &slot, limits)?;
     let before = shelf.cache.len();
@@ -122,22 +138,25 @@ fn push<K: Drop, V: Drop>(
 }
 
 // Drops the slots of these names, which are gone then.
-fn drop_named<K: Drop, V: Drop>(cache: &mut Slots<K, V>, gone: &mut Vec<Slot<K, V>>, names: &[Name])
+fn drop_named<K: Drop, V: Drop>(cache: &mut Slots<K, V>, gone: &mut Gone<K, V>, names: &[Name])
+    requires { vec_len gone.old + length names.now ≤ vec_capacity gone.old }
     ensures entries { cache.new.entries ≡ removed names.now cache.old.entries }
     ensures cap { cache.new.cap ≡ cache.old.cap }
+    ensures dropped { DropsFrom cache.old.entries gone.old.items gone.new.items cache.new.entries }
 {
     for name in names {
-        hand_out(gone, cache.pop(name));
+        hand_out(gone, *name, cache.pop(name));
     }
 }
 
-/// Brings the slot of this name to the front, if it was hit.
-pub fn touch<K: Drop, V: Drop>(cache: &mut Slots<K, V>, name: &Name, hit: bool)
-    ensures entries { cache.new.entries ≡ if hit then promoted (same_name name.now) cache.old.entries else cache.old.entries }
+/// Brings the slot of this name to the front, if a value was found there.
+pub fn touch<K: Drop, V: Drop>(cache: &mut Slots<K, V>, name: &Name, found: &Option<Arc<V>>)
+    ensures entries { cache.new.entries ≡
+        if is_some found.now then promoted (same_name name.now) cache.old.entries else cache.old.entries }
     ensures cap { cache.new.cap ≡ cache.old.cap }
     ensures distinct { IsDistinct same_name (keys_of cache.new.entries) }
 {
-    if hit {
+    if found.is_some() {
         cache.promote(name);
     }
     // The cache says that its names are distinct where it is asked for its length.
@@ -166,29 +185,40 @@ pub fn value_of<F: Fit>(
     }
 }
 
-// Puts a slot among those that are gone. Where there is no room, which its caller has reserved, it is freed.
-fn hand_out<K: Drop, V: Drop>(gone: &mut Vec<Slot<K, V>>, slot: Option<Slot<K, V>>) {
+// Puts the slot of this name, if there was one, among those that are gone.
+fn hand_out<K: Drop, V: Drop>(gone: &mut Gone<K, V>, name: Name, slot: Option<Slot<K, V>>)
+    requires { vec_len gone.old < vec_capacity gone.old }
+    ensures items { gone.new.items ≡ gone.old.items ++ pair_of name slot }
+    ensures len { vec_len gone.new ≤ vec_len gone.old + 1 }
+    ensures capacity { vec_capacity gone.new ≡ vec_capacity gone.old }
+{
     if let Some(slot) = slot {
-        let _full = gone.push(slot);
+        gone.push_reserved((name, slot));
     }
 }
 
 // Puts a slot in front, in place of the one of its name, which is gone then.
 fn stack<K: Drop, V: Drop>(
     cache: &mut Slots<K, V>,
-    gone: &mut Vec<Slot<K, V>>,
+    gone: &mut Gone<K, V>,
     name: Name,
     slot: Slot<K, V>,
 ) -> Result<(), NoMemory>
     requires cap { cache.old.cap ≡ no_bound }
     requires few { length cache.old.entries ≤ entries_max }
+    requires room { vec_len gone.old < vec_capacity gone.old }
     ensures entries { OnOk result (cache.new.entries ≡ (name, slot) ∷ remove_entry (same_name name) cache.old.entries) }
+    ensures dropped { OnOk result (DropsFrom ((name, slot) ∷ cache.old.entries)
+        gone.old.items gone.new.items cache.new.entries) }
+    ensures len { vec_len gone.new ≤ vec_len gone.old + 1 }
+    ensures capacity { vec_capacity gone.new ≡ vec_capacity gone.old }
     ensures cap { cache.new.cap ≡ cache.old.cap }
     ensures err { OnErr result (cache.new ≡ cache.old) }
+    ensures err_gone { OnErr result (gone.new.items ≡ gone.old.items) }
 {
     match cache.put(name, slot) {
         Ok(old) => {
-            hand_out(gone, old);
+            hand_out(gone, name, old);
             Ok(())
         }
         Err(_) => Err(NoMemory),

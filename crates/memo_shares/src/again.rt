@@ -57,7 +57,9 @@ fn call<F: Fit<Value = u64>, N: Namer<F::Key>>(
             evicted: _,
         } => {
             let value = Arc::new(alloc, weight)?;
-            match core.fill(alloc, noted.caller, &noted.key, value, weight) {
+            let answer = core.fill(alloc, noted.caller, &noted.key, value, weight);
+            let _dropped = core.take_dropped(alloc);
+            match answer {
                 Fill::NoMemory => Err(NoMemory),
                 Fill::Kept | Fill::TooHeavy => Ok(()),
             }

@@ -1,4 +1,4 @@
-//! Tests of the memo, and of clients that share one.
+//! Tests of the memo, of clients that share one, and of threads that do.
 #![tactic(auto)]
 
 #[cfg(test)]
@@ -11,3 +11,5 @@ mod pieces;
 mod shares;
 #[cfg(test)]
 mod sharing;
+#[cfg(test)]
+mod threads;

@@ -1,6 +1,6 @@
 use crate::alike::Alike;
 use crate::pieces::{Bytes, Piece, Pieces};
-use memo_core::{Did, Fill, JournalItem, MemoCore, Namer, Probe};
+use memo_core::{Did, Dropped, Fill, JournalItem, MemoCore, Namer, Probe};
 use memo_shares::{JournalVerdict, check_journal, owned};
 use std::alloc::Global;
 use std::process::Abort;
@@ -209,4 +209,57 @@ fn a_held_key_keeps_its_owner(rt: HostRuntime) -> Result<(), Fail> {
     assert_eq!(&rt; owned(&core, 0), 30);
     assert_eq!(&rt; owned(&core, 1), 0);
     Ok(())
+}
+
+// Whether an entry of this key is among those that were dropped.
+fn is_gone(gone: &Dropped<u32, Piece>, key: u32) -> bool {
+    for place in 0..gone.len() {
+        if **gone.key(place) == key {
+            return true;
+        }
+    }
+    false
+}
+
+// Takes what was dropped since it was last taken, and compares its keys, which are all different.
+fn dropped<N: Namer<u32>>(
+    rt: &impl Abort,
+    alloc: Global,
+    core: &mut MemoCore<Pieces, N>,
+    keys: &[u32],
+) -> Result<(), Fail> {
+    let gone = core.take_dropped(alloc);
+    assert_eq!(rt; gone.len(), keys.len());
+    for key in keys {
+        assert!(rt; is_gone(&gone, *key), "at key {key}");
+    }
+    Ok(())
+}
+
+#[test]
+fn what_was_dropped_is_handed_out(rt: HostRuntime) -> Result<(), Fail> {
+    let alloc = rt.alloc();
+    let mut core = MemoCore::new(alloc, Pieces, Bytes, 100, 0)?;
+    let rows = [(1, 40), (2, 30), (3, 30), (2, 30), (4, 101)];
+    for (key, weight) in rows {
+        offer(alloc, &mut core, 0, key, weight)?;
+        dropped(&rt, alloc, &mut core, &[])?;
+    }
+    offer(alloc, &mut core, 1, 5, 50)?;
+    dropped(&rt, alloc, &mut core, &[1, 3])?;
+    offer(alloc, &mut core, 1, 6, 50)?;
+    offer(alloc, &mut core, 1, 7, 50)?;
+    dropped(&rt, alloc, &mut core, &[2, 5])?;
+    dropped(&rt, alloc, &mut core, &[])
+}
+
+#[test]
+fn what_had_the_same_name_is_handed_out(rt: HostRuntime) -> Result<(), Fail> {
+    let alloc = rt.alloc();
+    let mut core = MemoCore::new(alloc, Pieces, Alike, 100, 0)?;
+    offer(alloc, &mut core, 0, 1, 40)?;
+    offer(alloc, &mut core, 0, 2, 40)?;
+    dropped(&rt, alloc, &mut core, &[1])?;
+    offer(alloc, &mut core, 0, 2, 20)?;
+    dropped(&rt, alloc, &mut core, &[])
 }

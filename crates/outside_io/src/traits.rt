@@ -18,7 +18,7 @@ pub trait Source {
 
     /// Moves the next bytes into the front of `into`, and says how many: at least one, and at most
     /// as many as `into` has. `Ok(0)` is the end of the input. `Failed` comes only where the count
-    /// of faults rose, and then the bytes that are left stay as they were.
+    /// of faults rose, and then the bytes that are left stay as they were. At `Ok` the count stays.
     fn read(&mut self, into: &mut [u8]) -> Result<usize, Failed>
         requires { 0 < length into.old }
         ensures bound { ReadsAtMost result into.new }
@@ -36,7 +36,7 @@ pub trait Sink {
 
     /// Appends the first bytes of `from`, and says how many: at least one, and at most as many as
     /// `from` has. `Failed` comes only where the count of faults rose, and then nothing was
-    /// appended.
+    /// appended. At `Ok` the count stays.
     fn write(&mut self, from: &[u8]) -> Result<usize, Failed>
         requires { 0 < length from.now }
         ensures bound { IfOk result (λ n. (0 < n) × (n ≤ length from.now)) }

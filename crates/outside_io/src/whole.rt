@@ -1,4 +1,4 @@
-ghost use Rattle.std.specs.Prelude.{◌≤◌, length, IfOk, OnOk, OnErr, IsErrOf};
+ghost use Rattle.std.specs.Prelude.{◌≡◌, ◌≤◌, ◌⊎◌, length, IfOk, OnOk, OnErr, IsErrOf};
 ghost use Rattle.std.specs.Io.KnownBytes.{Appends, Consumes, IsAtEnd};
 ghost use Rattle.outside_io.specs.Counts.{Rose, HasCause};
 ghost use Rattle.outside_io.specs.Moves.{ConsumesAtMost, ConsumesPast, AppendsProperPrefix};
@@ -41,7 +41,9 @@ pub fn read_to_end<S: Source>(
 
     ensures no_memory { IsErrOf result ReadEnd.NoMemory → ConsumesAtMost (S.left source.old) (S.left source.new) most }
 
+    // The count of faults rises at a failed read alone.
     ensures later { S.faults source.old ≤ S.faults source.new }
+    ensures quiet { IsErrOf result ReadEnd.Failed ⊎ (S.faults source.new ≡ S.faults source.old) }
 {
     let mut bytes = Vec::new(alloc);
     let mut piece = [0u8; PIECE_BYTES];

@@ -6,5 +6,5 @@ mod reply;
 mod text;
 
 pub use laws::{one_output, own_replies};
-pub use reply::{Complex, Reply};
-pub use text::push_reply;
+pub use reply::{Complex, Replies, Reply};
+pub use text::{push_reply, push_words};

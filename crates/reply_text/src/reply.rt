@@ -1,6 +1,9 @@
 //! What a command is answered.
 
+ghost use Rattle.std.specs.Prelude.{◌≡◌};
+
 use edit_session::SessionFault;
+use std::marker::Model;
 use text_place::{Bytes, Fault, Lines};
 
 /// The limit that an export passes.
@@ -32,4 +35,35 @@ pub enum Reply {
     Text(Lines),
     /// An export: the bytes of its 4OFF text.
     Solid(Bytes),
+}
+
+/// The replies to a client's commands in order, which contracts see as a list.
+#[derive(Drop)]
+pub struct Replies {
+    items: Vec<Reply>,
+}
+
+impl Model for Replies {
+    ghost use Rattle.std.specs.Prelude.{List};
+    ghost use Rattle.reply_text.specs.declared.reply.Reply.{Reply};
+
+    ghost Value = { List Reply };
+
+    ghost view = { λ r. r.items.items };
+}
+
+impl Replies {
+    /// The replies of a vector. Takes no memory.
+    pub fn of(items: Vec<Reply>) -> Self
+        ensures { result ≡ items.items }
+    {
+        Replies { items }
+    }
+
+    /// The replies in order. Takes no memory.
+    pub fn items(&self) -> &[Reply]
+        ensures { result.now ≡ self.now }
+    {
+        &self.items
+    }
 }

@@ -1,10 +1,8 @@
 //! The text of replies.
 
-ghost use Rattle.std.specs.Prelude.{◌≡◌, ◌≢◌, ◌++◌, ℕ, List, flat_map, IfOk, OnOk, OnErr};
+ghost use Rattle.std.specs.Prelude.{◌≡◌, ◌++◌, ℕ, List, flat_map, IfOk, OnOk, OnErr};
 ghost use Rattle.text_place.specs.Decimals.{numeral};
 ghost use Rattle.script_reader.specs.Lines.{newline};
-ghost use Rattle.edit_session.specs.declared.fault.SessionFault.TheVariants as faults;
-ghost use Rattle.reply_text.specs.declared.reply.Reply.TheVariants as replies;
 ghost use Rattle.reply_text.specs.Texts.{refusal_word, limit_words, line_count, reply_body};
 ghost use Rattle.reply_text.specs.Parts.{fault_words, first_words, further_lines, Grows};
 
@@ -156,7 +154,6 @@ pub fn push_reply(
     number: u32,
     reply: &Reply,
 ) -> Result<(), NoMemory>
-    requires { reply.now ≢ replies.Refused faults.NoMemory }
     ensures ok { OnOk result (out.new.items ≡ out.old.items ++ (numeral number ++ reply_body reply.now)) }
     ensures err { OnErr result (out.new.items ≡ out.old.items) }
 {
@@ -167,4 +164,16 @@ pub fn push_reply(
         out.truncate(kept);
     }
     pushed
+}
+
+/// Appends the first line of a reply without its number and without its newline: a space and the words.
+/// `NoMemory` leaves `out` as it was.
+pub fn push_words(alloc: Global, out: &mut Vec<u8>, reply: &Reply) -> Result<(), NoMemory>
+    ensures ok { OnOk result (out.new.items ≡ out.old.items ++ first_words reply.now) }
+    ensures err { OnErr result (out.new.items ≡ out.old.items) }
+{
+    let mut words = Vec::new(alloc);
+    push_first(alloc, &mut words, reply)?;
+    out.extend_from_slice(&words)?;
+    Ok(())
 }

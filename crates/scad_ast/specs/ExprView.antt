@@ -11,9 +11,9 @@ use Rattle.scad_ast.specs.declared.expression.Suffix.{Suffix}
 use Rattle.scad_ast.specs.declared.expression.Suffixes.{Suffixes}
 use Rattle.scad_ast.specs.declared.expression.Arg.{Arg}
 use Rattle.scad_ast.specs.declared.expression.Args.{Args}
-use Rattle.scad_ast.specs.declared.expression.Arg.TheOpen.{Expr-F, Number, Text, Truth, Undef, ChildCount, Name, Call as CallIn, Paren, List as ListIn, Range as RangeIn, SteppedRange as SteppedRangeIn, Postfix as PostfixIn, Unary, Chain as ChainIn, Choice as ChoiceIn, Exprs-F, Call-F, Range-F, SteppedRange-F, Postfix-F, Chain-F, Choice-F, Link-F, Links-F, Suffix-F, Index, Member, Suffixes-F, Arg-F, Named, Positional, Args-F}
+use Rattle.scad_ast.specs.declared.expression.Arg.TheOpen.{Expr-F, Number, Text, Truth, Undef, ChildCount, Expr::Special as SpecialIn, Name, Call as CallIn, Paren, List as ListIn, Range as RangeIn, SteppedRange as SteppedRangeIn, Postfix as PostfixIn, Unary, Chain as ChainIn, Choice as ChoiceIn, Exprs-F, Call-F, Range-F, SteppedRange-F, Postfix-F, Chain-F, Choice-F, Link-F, Links-F, Suffix-F, Index, Member, Suffixes-F, Arg-F, Named, Arg::Special as SpecialArg, Positional, Args-F}
 use Rattle.scad_ast.specs.declared.expression.Arg.TheFolds.{fold-Expr, fold-Exprs, fold-Postfix, fold-Chain, fold-Link, fold-Links, fold-Suffix, fold-Suffixes, fold-Arg, fold-Args}
-use Rattle.scad_ast.specs.Terms.{Term, NumberTerm, TextTerm, TruthTerm, UndefTerm, ChildCountTerm, NameTerm, CallTerm, ParenTerm, ListTerm, RangeTerm, SteppedRangeTerm, PostfixTerm, UnaryTerm, ChainTerm, ChoiceTerm, LinkTerm, SuffixTerm, IndexTerm, MemberTerm, ArgTerm, NamedTerm, PositionalTerm, terms_from, links_from, suffixes_from, args_from}
+use Rattle.scad_ast.specs.Terms.{Term, NumberTerm, TextTerm, TruthTerm, UndefTerm, ChildCountTerm, SpecialTerm, NameTerm, CallTerm, ParenTerm, ListTerm, RangeTerm, SteppedRangeTerm, PostfixTerm, UnaryTerm, ChainTerm, ChoiceTerm, LinkTerm, SuffixTerm, IndexTerm, MemberTerm, ArgTerm, NamedTerm, SpecialArgTerm, PositionalTerm, terms_from, links_from, suffixes_from, args_from}
 
 -- a form of several parts, by the place of its first token
 abbrev pub Form : Type 0
@@ -26,6 +26,7 @@ expr_step (Text at bytes) = TextTerm at bytes
 expr_step (Truth at truth) = TruthTerm at truth
 expr_step (Undef at) = UndefTerm at
 expr_step (ChildCount at) = ChildCountTerm at
+expr_step (SpecialIn at name) = SpecialTerm at name
 expr_step (Name at name) = NameTerm at name
 expr_step (CallIn at call) = call.value at
 expr_step (Paren at inner) = ParenTerm at inner.value
@@ -73,6 +74,7 @@ suffixes_step ss = ss.first ∷ ss.more.items
 
 abbrev pub arg_step : Arg-F ArgTerm Term SuffixTerm (List ArgTerm) Form Form Form (List Term) LinkTerm (List LinkTerm) Form Form Form (List SuffixTerm) → ArgTerm
 arg_step (Named at name value) = NamedTerm at name value
+arg_step (SpecialArg at name value) = SpecialArgTerm at name value
 arg_step (Positional value) = PositionalTerm value
 
 abbrev pub args_step : Args-F ArgTerm Term SuffixTerm (List ArgTerm) Form Form Form (List Term) LinkTerm (List LinkTerm) Form Form Form (List SuffixTerm) → List ArgTerm

@@ -13,10 +13,10 @@ use Rattle.scad_ast.specs.declared.statement.Instance.{Instance}
 use Rattle.scad_ast.specs.declared.statement.Core.{Core}
 use Rattle.scad_ast.specs.declared.statement.Body.{Body}
 use Rattle.scad_ast.specs.declared.statement.Program.{Program}
-use Rattle.scad_ast.specs.declared.statement.Body.TheOpen.{Statement-F, Empty, Block, Assignment, Module, Function, Instantiation, Statements-F, Instance-F, Core-F, If, IfElse, For, IntersectionFor, Call, Body-F, Semicolon, Braces, Single}
+use Rattle.scad_ast.specs.declared.statement.Body.TheOpen.{Statement-F, Empty, Block, Assignment, SpecialAssignment, Module, Function, Instantiation, Statements-F, Instance-F, Core-F, If, IfElse, For, IntersectionFor, Call, Body-F, Semicolon, Braces, Single}
 use Rattle.scad_ast.specs.declared.statement.Body.TheFolds.{fold-Statement, fold-Statements, fold-Instance, fold-Core, fold-Body}
 use Rattle.scad_ast.specs.ExprView.{term_of, args_of}
-use Rattle.scad_ast.specs.Terms.{ParamTerm, PlainTerm, DefaultTerm, BinderTerm, MarkTerm, StatementTerm, EmptyStatement, BlockStatement, AssignmentTerm, ModuleTerm, FunctionTerm, InstanceStatement, InstanceTerm, AnInstance, CoreTerm, IfTerm, IfElseTerm, ForTerm, IntersectionForTerm, ModuleCallTerm, BodyTerm, EmptyBody, BlockBody, InstanceBody, statements_from}
+use Rattle.scad_ast.specs.Terms.{ParamTerm, PlainTerm, DefaultTerm, BinderTerm, MarkTerm, StatementTerm, EmptyStatement, BlockStatement, AssignmentTerm, SpecialAssignmentTerm, ModuleTerm, FunctionTerm, InstanceStatement, InstanceTerm, AnInstance, CoreTerm, IfTerm, IfElseTerm, ForTerm, IntersectionForTerm, ModuleCallTerm, BodyTerm, EmptyBody, BlockBody, InstanceBody, statements_from}
 
 abbrev pub param_of : Param → ParamTerm
 param_of (Plain at name) = PlainTerm at name
@@ -57,6 +57,7 @@ abbrev pub statement_step : Statement-F BodyTerm CoreTerm StatementTerm Instance
 statement_step (Empty at) = EmptyStatement at
 statement_step (Block at ss) = BlockStatement at (statements_from ss)
 statement_step (Assignment at name value) = AssignmentTerm at name (term_of value)
+statement_step (SpecialAssignment at name value) = SpecialAssignmentTerm at name (term_of value)
 statement_step (Module at name name_at params body) = ModuleTerm at name name_at (params_of params) body
 statement_step (Function at name name_at params value) = FunctionTerm at name name_at (params_of params) (term_of value)
 statement_step (Instantiation i) = InstanceStatement i

@@ -13,6 +13,8 @@ mutual
     TruthTerm : (at : Place) → (truth : Bool) → Term
     UndefTerm : (at : Place) → Term
     ChildCountTerm : (at : Place) → Term
+    -- a special name other than `$children`, without its `$`
+    SpecialTerm : (at : Place) → (name : List ℕ) → Term
     NameTerm : (at : Place) → (name : List ℕ) → Term
     CallTerm : (at : Place) → (name : List ℕ) → (args : ArgTerms) → Term
     ParenTerm : (at : Place) → (inner : Term) → Term
@@ -31,6 +33,7 @@ mutual
   pub data ArgTerms : Type 0 where
     no_args : ArgTerms
     and_named : (at : Place) → (name : List ℕ) → (value : Term) → (rest : ArgTerms) → ArgTerms
+    and_special : (at : Place) → (name : List ℕ) → (value : Term) → (rest : ArgTerms) → ArgTerms
     and_positional : (value : Term) → (rest : ArgTerms) → ArgTerms
 
   pub data SuffixTerms : Type 0 where
@@ -54,6 +57,7 @@ pub data SuffixTerm : Type 0 where
 
 pub data ArgTerm : Type 0 where
   NamedTerm : (at : Place) → (name : List ℕ) → (value : Term) → ArgTerm
+  SpecialArgTerm : (at : Place) → (name : List ℕ) → (value : Term) → ArgTerm
   PositionalTerm : (value : Term) → ArgTerm
 
 -- lists of these
@@ -73,6 +77,7 @@ suffixes_from (MemberTerm at name name_at ∷ ss) = and_member at name name_at (
 abbrev pub args_from : List ArgTerm → ArgTerms
 args_from [] = no_args
 args_from (NamedTerm at name value ∷ rest) = and_named at name value (args_from rest)
+args_from (SpecialArgTerm at name value ∷ rest) = and_special at name value (args_from rest)
 args_from (PositionalTerm value ∷ rest) = and_positional value (args_from rest)
 
 -- the place of the first token
@@ -82,6 +87,7 @@ place_of (TextTerm at bytes) = at
 place_of (TruthTerm at truth) = at
 place_of (UndefTerm at) = at
 place_of (ChildCountTerm at) = at
+place_of (SpecialTerm at name) = at
 place_of (NameTerm at name) = at
 place_of (CallTerm at name args) = at
 place_of (ParenTerm at inner) = at
@@ -113,6 +119,7 @@ mutual
     EmptyStatement : (at : Place) → StatementTerm
     BlockStatement : (at : Place) → (statements : StatementTerms) → StatementTerm
     AssignmentTerm : (at : Place) → (name : List ℕ) → (value : Term) → StatementTerm
+    SpecialAssignmentTerm : (at : Place) → (name : List ℕ) → (value : Term) → StatementTerm
     ModuleTerm : (at : Place) → (name : List ℕ) → (name_at : Place) → (params : List ParamTerm) → (body : BodyTerm) → StatementTerm
     FunctionTerm : (at : Place) → (name : List ℕ) → (name_at : Place) → (params : List ParamTerm) → (value : Term) → StatementTerm
     InstanceStatement : (instance : InstanceTerm) → StatementTerm
@@ -139,3 +146,28 @@ mutual
 abbrev pub statements_from : List StatementTerm → StatementTerms
 statements_from [] = no_statements
 statements_from (s ∷ ss) = and_statement s (statements_from ss)
+
+-- the place of the first token
+abbrev pub place_of_instance : InstanceTerm → Place
+place_of_instance (AnInstance at marks core) = at
+
+abbrev pub place_of_statement : StatementTerm → Place
+place_of_statement (EmptyStatement at) = at
+place_of_statement (BlockStatement at ss) = at
+place_of_statement (AssignmentTerm at name value) = at
+place_of_statement (SpecialAssignmentTerm at name value) = at
+place_of_statement (ModuleTerm at name name_at params body) = at
+place_of_statement (FunctionTerm at name name_at params value) = at
+place_of_statement (InstanceStatement i) = place_of_instance i
+
+abbrev pub place_of_core : CoreTerm → Place
+place_of_core (IfTerm at test body) = at
+place_of_core (IfElseTerm at test body other) = at
+place_of_core (ForTerm at binders body) = at
+place_of_core (IntersectionForTerm at binders body) = at
+place_of_core (ModuleCallTerm at name args body) = at
+
+abbrev pub place_of_body : BodyTerm → Place
+place_of_body (EmptyBody at) = at
+place_of_body (BlockBody at ss) = at
+place_of_body (InstanceBody i) = place_of_instance i

@@ -6,18 +6,21 @@ use crate::operator::{BinaryOp, UnaryOp};
 use compact_bytes::CompactBytes;
 use std::mem::size_of;
 use text_place::Place;
+use whole_numeral::Numeral;
 
 /// An expression. The first place of each form is that of its first token. What has no room beside the place lies in one
 /// box, so that an expression takes 32 bytes.
 #[cycle(expression)]
 #[derive(Drop)]
 pub enum Expr {
-    Number(Place, u64),
+    Number(Place, Numeral),
     Text(Place, CompactBytes),
     Truth(Place, bool),
     Undef(Place),
     /// `$children`
     ChildCount(Place),
+    /// Another special name, without its `$`.
+    Special(Place, CompactBytes),
     Name(Place, CompactBytes),
     Call(Place, Box<Call>),
     /// What stands in parentheses.
@@ -133,6 +136,8 @@ pub struct Suffixes {
 pub enum Arg {
     /// A name, its place and its value.
     Named(Place, CompactBytes, Expr),
+    /// A special name other than `$children`, without its `$`, its place and its value.
+    Special(Place, CompactBytes, Expr),
     Positional(Expr),
 }
 
@@ -154,6 +159,7 @@ impl Expr {
             | Expr::Truth(place, _)
             | Expr::Undef(place)
             | Expr::ChildCount(place)
+            | Expr::Special(place, _)
             | Expr::Name(place, _)
             | Expr::Call(place, _)
             | Expr::Paren(place, _)

@@ -1,3 +1,7 @@
+ghost use Rattle.std.specs.Prelude.{◌≡◌};
+ghost use Rattle.scad_ast.specs.Terms.{place_of_statement, place_of_instance, place_of_core, place_of_body};
+ghost use Rattle.scad_ast.specs.StatementView.{statement_of, instance_of, core_of, body_of};
+
 use crate::expression::{Args, Expr};
 use crate::operator::Modifier;
 use compact_bytes::CompactBytes;
@@ -53,6 +57,8 @@ pub enum Statement {
     Block(Place, Statements),
     /// `name = value;`
     Assignment(Place, CompactBytes, Expr),
+    /// `$name = value;`, of a special name other than `$children`, without its `$`.
+    SpecialAssignment(Place, CompactBytes, Expr),
     /// A module: its name with its place, its parameters and its body.
     Module(Place, CompactBytes, Place, Params, Body),
     /// A function: its name with its place, its parameters and its value.
@@ -104,4 +110,57 @@ pub enum Body {
 #[derive(Drop)]
 pub struct Program {
     pub statements: Statements,
+}
+
+impl Statement {
+    /// The place of the first token.
+    pub fn place(&self) -> Place
+        ensures { result ≡ place_of_statement (statement_of self.now) }
+    {
+        match self {
+            Statement::Empty(place)
+            | Statement::Block(place, _)
+            | Statement::Assignment(place, _, _)
+            | Statement::SpecialAssignment(place, _, _)
+            | Statement::Module(place, _, _, _, _)
+            | Statement::Function(place, _, _, _, _) => *place,
+            Statement::Instantiation(instance) => instance.place(),
+        }
+    }
+}
+
+impl Instance {
+    /// The place of the first token.
+    pub fn place(&self) -> Place
+        ensures { result ≡ place_of_instance (instance_of self.now) }
+    {
+        self.place
+    }
+}
+
+impl Core {
+    /// The place of the first token.
+    pub fn place(&self) -> Place
+        ensures { result ≡ place_of_core (core_of self.now) }
+    {
+        match self {
+            Core::If(place, _, _)
+            | Core::IfElse(place, _, _, _)
+            | Core::For(place, _, _)
+            | Core::IntersectionFor(place, _, _)
+            | Core::Call(place, _, _, _) => *place,
+        }
+    }
+}
+
+impl Body {
+    /// The place of the first token.
+    pub fn place(&self) -> Place
+        ensures { result ≡ place_of_body (body_of self.now) }
+    {
+        match self {
+            Body::Semicolon(place) | Body::Braces(place, _) => *place,
+            Body::Single(instance) => instance.place(),
+        }
+    }
 }

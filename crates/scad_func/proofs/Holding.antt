@@ -1,5 +1,5 @@
 -- One step more of a loop that holds values while it evaluates.
-use Rattle.std.proofs.Common.{◌≡◌, ℕ, ◌+◌, List, [], ◌∷◌, length, set, true, Option, Some, Result, Ok, Err, sym, ap, subst, ◌∙◌}
+use Rattle.std.proofs.Common.{◌≡◌, ℕ, ◌+◌, List, [], ◌∷◌, length, true, Some, Result, Ok, Err, refl, sym, ap, subst, ◌∙◌}
 use Rattle.std.specs.Prelude.{IsTrue, IfOk, IfErr}
 use Rattle.std.specs.declared.vec.Vec.{Vec}
 use Rattle.std.specs.declared.alloc.Global.{Global}
@@ -10,14 +10,16 @@ use Rattle.scad_value.specs.declared.value.Value.{Value}
 use Rattle.scad_value.specs.Values.{Val, Vals, and_val, is_bounded}
 use Rattle.scad_value.specs.View.{val_of, vals_in}
 use Rattle.scad_builtin.specs.Builtins.{are_bounded}
-use Rattle.scad_ast.specs.Terms.{ArgTerms, ArgTerm, ParamTerm}
+use Rattle.scad_ast.specs.Terms.{ArgTerms, ArgTerm}
+use Rattle.std.proofs.lemmas.Bool.{and_parts, and_from}
 use Rattle.scad_scope.specs.Arguments.{positional_after}
-use Rattle.scad_func.specs.Meaning.{Outcome, Gives, Setting, value_at, then_with}
-use Rattle.scad_func.specs.Slots.{Slots, each_slot, free_slot, argument_of}
-use Rattle.scad_func.specs.View.{Tells, TellsAll, IsLonger, slots_in, slots_bounded}
+use Rattle.scad_func.specs.Meaning.{Outcome, Gives, Setting, value_at, then_with, Arguments, Taker, to_parameter, to_special, taker_of, with_argument, each_argument}
+use Rattle.scad_func.specs.Steps.{argument_of}
+use Rattle.scad_func.specs.View.{Tells, TellsAll, TellsArguments, IsLonger, IsGiven, arguments_of, arguments_bounded}
+use Rattle.scad_func.specs.declared.arguments.ArgumentValues.{ArgumentValues}
 use Rattle.scad_func.proofs.Calls.{in_front}
 use Rattle.scad_func.proofs.Outcomes.{front_more, bounded_more, and_arg}
-use Rattle.scad_func.proofs.Steps.{slot_more, slots_set_in, bounded_set}
+use Rattle.scad_func.proofs.Steps.{argument_more, argument_fault, bounded_set}
 
 abbrev pub and_then : Outcome Val → (ℕ → Outcome Vals) → Outcome Vals
 and_then step go = then_with step (λ turns v. then_with (go turns) (λ turns vs. Gives turns (and_val v vs)))
@@ -63,37 +65,52 @@ pub longer_length : (before : List Value) (r : Result Value Stop) (longer : Vec 
 longer_length before (Ok v) longer l = ap length l ∙ length-append before (v ∷ [])
 longer_length before (Err stop) longer l = absurd l
 
--- one slot more is filled
-abbrev Filled : List (Option Value) → ℕ → Result Value Stop → Vec (Option Value) Global → Type 0
-Filled before k r after = IfOk r (λ v. after.items ≡ set before k (Some v)) × IfErr r
-    (λ stop. ◌≡◌ {A = Result (Vec (Option Value) Global) Stop} (Ok after) (Err stop))
+-- one argument more has a value
+pub argument_held : (here : Setting) (names : List (List ℕ)) (positional : ℕ) (start : Outcome Arguments) (args : ArgTerms)
+    (before : Arguments) (turns : ℕ)
+    → start ≡ each_argument here names positional args before turns
+    → (a : ArgTerm) (rest : ArgTerms) (taker : Taker) (then p : ℕ) (r : Result Value Stop) (after : ArgumentValues)
+    → args ≡ and_arg a rest → taker_of names positional before a ≡ Some taker
+    → Tells r then (value_at here true (argument_of a) turns) → IsGiven before taker r (Ok after)
+    → p ≡ positional_after positional a → start ≡ each_argument here names p rest (arguments_of after) then
+argument_held here names positional start args before turns b a rest taker then p (Ok v) after e f t g q =
+    argument_more here names positional start args before turns b a rest taker then (val_of v) p
+    (arguments_of after) e f t q g
+argument_held here names positional start args before turns b a rest taker then p (Err stop) after e f t g q = absurd g
 
-not_both : (after : Vec (Option Value) Global) (stop : Stop)
-    → ◌≡◌ {A = Result (Vec (Option Value) Global) Stop} (Ok after) (Err stop) → ⊥
-not_both after stop e = cc
+pub argument_stops : (here : Setting) (names : List (List ℕ)) (positional : ℕ) (start : Outcome Arguments) (args : ArgTerms)
+    (before : Arguments) (turns : ℕ)
+    → start ≡ each_argument here names positional args before turns
+    → (a : ArgTerm) (rest : ArgTerms) (taker : Taker) (m n : ℕ) (r : Result Value Stop) (stop : Stop)
+    → args ≡ and_arg a rest → taker_of names positional before a ≡ Some taker
+    → Tells r m (value_at here true (argument_of a) turns) → IsGiven before taker r (Err stop)
+    → TellsArguments (Err stop) n start
+argument_stops here names positional start args before turns b a rest taker m n (Ok v) stop e f t g =
+    subst (λ (x : Stop). TellsArguments (Err x) n start) (sym g) tt
+argument_stops here names positional start args before turns b a rest taker m n (Err fault) stop e f t g =
+    subst (λ (x : Stop). TellsArguments (Err x) n start) (sym g)
+    (argument_fault here names positional start args before turns b a rest taker m n fault e f t)
 
-pub slot_held : (here : Setting) (params : List ParamTerm) (positional : ℕ) (start : Outcome Slots) (args : ArgTerms)
-    (before : List (Option Value)) (turns : ℕ)
-    → start ≡ each_slot here params positional args (slots_in before) turns
-    → (a : ArgTerm) (rest : ArgTerms) (k then p : ℕ) (r : Result Value Stop) (after : Vec (Option Value) Global)
-    → args ≡ and_arg a rest → free_slot params (slots_in before) positional a ≡ Some k
-    → Tells r then (value_at here true (argument_of a) turns) → Filled before k r after
-    → p ≡ positional_after positional a → start ≡ each_slot here params p rest (slots_in after.items) then
-slot_held here params positional start args before turns b a rest k then p (Ok v) after e f t g q =
-    slot_more here params positional start args (slots_in before) turns b a rest k then (val_of v) p
-    (slots_in after.items) e f t q (ap slots_in g.0 ∙ slots_set_in before k v)
-slot_held here params positional start args before turns b a rest k then p (Err stop) after e f t g q =
-    absurd (not_both after stop g.1)
+taker_bounded : (given : Arguments) (taker : Taker) (v : Val) → IsTrue (arguments_bounded given) → IsTrue (is_bounded v)
+    → IsTrue (arguments_bounded (with_argument given taker v))
+taker_bounded given (to_parameter k) v h b =
+    let p = and_parts _ _ h in and_from _ _ (bounded_set given.slots k v p.0 b) p.1
+taker_bounded given (to_special name) v h b =
+    let p = and_parts _ _ h in and_from _ _ p.0 (and_from _ _ b p.1)
 
-pub slot_held_bounded : (before : List (Option Value)) (k : ℕ) (r : Result Value Stop)
-    (after : Vec (Option Value) Global) → Filled before k r after → IsTrue (slots_bounded (slots_in before))
-    → IfOk r (λ v. IsTrue (is_bounded (val_of v))) → IsTrue (slots_bounded (slots_in after.items))
-slot_held_bounded before k (Ok v) after g h b =
-    subst (λ l. IsTrue (slots_bounded l)) (sym (ap slots_in g.0 ∙ slots_set_in before k v))
-    (bounded_set (slots_in before) k (val_of v) h b)
-slot_held_bounded before k (Err stop) after g h b = absurd (not_both after stop g.1)
+pub argument_held_bounded : (before : Arguments) (taker : Taker) (r : Result Value Stop)
+    (after : ArgumentValues) → IsGiven before taker r (Ok after) → IsTrue (arguments_bounded before)
+    → IfOk r (λ v. IsTrue (is_bounded (val_of v))) → IsTrue (arguments_bounded (arguments_of after))
+argument_held_bounded before taker (Ok v) after g h b =
+    subst (λ given. IsTrue (arguments_bounded given)) (sym g) (taker_bounded before taker (val_of v) h b)
+argument_held_bounded before taker (Err stop) after g h b = absurd g
 
-pub slot_held_length : (before : List (Option Value)) (k : ℕ) (r : Result Value Stop)
-    (after : Vec (Option Value) Global) → Filled before k r after → length after.items ≡ length before
-slot_held_length before k (Ok v) after g = ap length g.0 ∙ length-set before k (Some v)
-slot_held_length before k (Err stop) after g = absurd (not_both after stop g.1)
+taker_length : (given : Arguments) (taker : Taker) (v : Val) → length (with_argument given taker v).slots ≡ length given.slots
+taker_length given (to_parameter k) v = length-set given.slots k (Some v)
+taker_length given (to_special name) v = refl
+
+pub argument_held_length : (before : Arguments) (taker : Taker) (r : Result Value Stop)
+    (after : ArgumentValues) → IsGiven before taker r (Ok after)
+    → length (arguments_of after).slots ≡ length before.slots
+argument_held_length before taker (Ok v) after g = ap (λ (given : Arguments). length given.slots) g ∙ taker_length before taker (val_of v)
+argument_held_length before taker (Err stop) after g = absurd g

@@ -1,14 +1,14 @@
 mod Rows
-pub mod Counts
 pub mod Environments
 pub mod Calls
 pub mod Growth
 pub mod Outcomes
-pub mod Slots
 pub mod Binding
 pub mod Steps
 pub mod Again
-pub mod ProgramNumerals
 pub mod Forms
 pub mod Kept
 pub mod Holding
+pub mod Chains
+pub mod Standing
+pub mod Modules

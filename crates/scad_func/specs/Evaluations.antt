@@ -1,8 +1,9 @@
 -- Where an evaluation stands, and what it keeps.
-use Rattle.std.specs.Prelude.{◌≡◌, ℕ, ◌+◌, ◌-◌, ◌*◌, ◌<◌, length}
-use Rattle.scad_scope.specs.Table.{rows_of}
+use Rattle.std.specs.Prelude.{◌≡◌, ℕ, ◌+◌, ◌-◌, ◌*◌, ◌<◌, length, take}
+use Rattle.scad_scope.specs.Names.{oldest}
+use Rattle.scad_scope.specs.Table.{rows_of, chain_of}
 use Rattle.scad_func.specs.Meaning.{Setting, evaluated}
-use Rattle.scad_func.specs.View.{Grows, seen, deepest}
+use Rattle.scad_func.specs.View.{seen, deepest}
 use Rattle.scad_func.specs.declared.source.Source.{Source}
 use Rattle.scad_func.specs.declared.evaluation.Evaluation.{Evaluation}
 
@@ -12,18 +13,66 @@ scopes_there e = length (rows_of e.scopes.now)
 
 -- where an expression of a scope stands
 abbrev pub setting : Evaluation → ℕ → Setting
-setting e scope = record { deeper = evaluated (512 - e.depth); calls = 64 - e.calls; env = seen e.source.now (rows_of e.scopes.now) scope }
+setting e scope = record {
+  deeper = evaluated (512 - e.depth);
+  calls = 64 - e.calls;
+  env = seen e.source.now (rows_of e.scopes.now) scope;
+  chain = chain_of e.scopes.now;
+}
 
 -- the calls that are left, times more than any function is deep
 unfoldable pub work_left : Source → ℕ → ℕ
-work_left source calls = (64 - calls) * (4 * deepest source.functions.items.items + 8)
+work_left source calls = (64 - calls) * (4 * deepest source.blocks.functions.items + 8)
 
--- what stays, after a fault too: scopes were added, and all else but the turns is as before
+-- what stays, after a fault too: all but the turns
 pub record Keeps (old new : Evaluation) : Type 0 where
   pub source : new.source.now ≡ old.source.now
   pub lent : new.scopes.ghost_name ≡ old.scopes.ghost_name
-  pub scopes : Grows (rows_of old.scopes.now) (rows_of new.scopes.now)
+  pub rows : rows_of new.scopes.now ≡ rows_of old.scopes.now
+  pub chain : chain_of new.scopes.now ≡ chain_of old.scopes.now
   pub calls : new.calls ≡ old.calls
   pub depth : new.depth ≡ old.depth
   pub work : work_left new.source.now new.calls ≡ work_left old.source.now old.calls
-  pub same : (scope : ℕ) → scope < scopes_there old → setting new scope ≡ setting old scope
+  pub count : scopes_there new ≡ scopes_there old
+  pub same : (scope : ℕ) → setting new scope ≡ setting old scope
+
+-- one call deeper: all else but the turns is as before
+pub record CallBegins (old new : Evaluation) : Type 0 where
+  pub source : new.source.now ≡ old.source.now
+  pub lent : new.scopes.ghost_name ≡ old.scopes.ghost_name
+  pub rows : rows_of new.scopes.now ≡ rows_of old.scopes.now
+  pub chain : chain_of new.scopes.now ≡ chain_of old.scopes.now
+  pub calls : new.calls ≡ old.calls + 1
+  pub depth : new.depth ≡ old.depth
+  pub within : old.calls < 64
+
+-- one evaluation deeper: all else but the turns is as before
+pub record EvaluationBegins (old new : Evaluation) : Type 0 where
+  pub source : new.source.now ≡ old.source.now
+  pub lent : new.scopes.ghost_name ≡ old.scopes.ghost_name
+  pub rows : rows_of new.scopes.now ≡ rows_of old.scopes.now
+  pub chain : chain_of new.scopes.now ≡ chain_of old.scopes.now
+  pub calls : new.calls ≡ old.calls
+  pub depth : new.depth ≡ old.depth + 1
+  pub within : old.depth < 512
+
+-- one scope more, which is the newest: all else but the turns is as before
+pub record ScopeEnters (old new : Evaluation) (scope : ℕ) : Type 0 where
+  pub source : new.source.now ≡ old.source.now
+  pub lent : new.scopes.ghost_name ≡ old.scopes.ghost_name
+  pub front : take scope (rows_of new.scopes.now) ≡ rows_of old.scopes.now
+  pub number : scope ≡ scopes_there old
+  pub there : scopes_there new ≡ scope + 1
+  pub chain : chain_of new.scopes.now ≡ chain_of old.scopes.now
+  pub calls : new.calls ≡ old.calls
+  pub depth : new.depth ≡ old.depth
+
+-- more special names, in front of so many: all else but the turns is as before
+pub record SpecialsBegin (old new : Evaluation) (count : ℕ) : Type 0 where
+  pub source : new.source.now ≡ old.source.now
+  pub lent : new.scopes.ghost_name ≡ old.scopes.ghost_name
+  pub rows : rows_of new.scopes.now ≡ rows_of old.scopes.now
+  pub older : oldest count (chain_of new.scopes.now) ≡ chain_of old.scopes.now
+  pub number : count ≡ length (chain_of old.scopes.now)
+  pub calls : new.calls ≡ old.calls
+  pub depth : new.depth ≡ old.depth

@@ -1,7 +1,5 @@
 pub mod Meaning
 pub mod Definitions
-pub mod Functions
-pub mod Numerals
-pub mod Slots
+pub mod Steps
 pub mod View
 pub mod Evaluations

@@ -1,27 +1,25 @@
-ghost use Rattle.std.specs.Prelude.{◌≤◌, IsTrue};
+ghost use Rattle.std.specs.Prelude.{◌≤◌};
 ghost use Rattle.scad_scope.specs.Table.{rows_of};
-ghost use Rattle.scad_func.specs.Numerals.{functions_have_small};
-ghost use Rattle.scad_func.specs.View.{IsNumbered, functions_held};
+ghost use Rattle.scad_func.specs.View.{IsNumbered};
 
 use crate::source::Source;
 use scad_scope::Scopes;
 use std::alloc::Global;
 
-/// An evaluation under way: what it reads, the scopes that it adds to, and what it counts. The type
+/// An evaluation under way: what it reads, the scopes and special names that it adds to, and what it counts. The type
 /// keeps each limit, and that the scopes name functions of the source alone.
 #[derive(Drop)]
-pub(crate) struct Evaluation<'a, 's> {
-    pub(crate) alloc: Global,
-    pub(crate) source: &'a Source<'a>,
-    pub(crate) scopes: &'s mut Scopes,
+pub struct Evaluation<'a, 's> {
+    pub alloc: Global,
+    pub source: &'a Source<'a>,
+    pub scopes: &'s mut Scopes,
     /// Calls in one another.
-    pub(crate) calls: u32,
+    pub calls: u32,
     /// Evaluations in one another.
-    pub(crate) depth: u32,
+    pub depth: u32,
     /// Turns so far.
-    pub(crate) turns: u64,
+    pub turns: u64,
     ghost numbered: { IsNumbered source.now (rows_of scopes.now) },
-    ghost table: { IsTrue (functions_have_small (functions_held source.now)) },
     ghost few_calls: { calls ≤ 64 },
     ghost shallow: { depth ≤ 512 },
     ghost few_turns: { turns ≤ 100000 },

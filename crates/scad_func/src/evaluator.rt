@@ -1,29 +1,34 @@
-ghost use Rattle.std.specs.Prelude.{◌≡◌, ◌-◌, ◌<◌, ◌≤◌, ℕ, IsTrue, IfOk, IfErr, OnOk, Err, None, length, true, false, replicate, if◌then◌else◌};
+ghost use Rattle.std.specs.Prelude.{◌≡◌, ◌-◌, ◌<◌, ◌≤◌, ℕ, IsTrue, [], IfOk, IfErr, OnOk, Err, None, length, true, false, replicate, if◌then◌else◌};
 ghost use Rattle.scad_ast.specs.Terms.{terms_from, args_from, suffixes_from, links_from};
 ghost use Rattle.scad_ast.specs.ExprView.{term_of, terms_of, args_of, suffix_of, suffixes_of, link_of, links_of};
 ghost use Rattle.scad_ast.specs.StatementView.{param_of, params_of};
-ghost use Rattle.scad_value.specs.Values.{Val, is_bounded, truth_of as truth_at};
+ghost use Rattle.scad_value.specs.Values.{Val, is_bounded, vals_from, truth_of as truth_at};
 ghost use Rattle.scad_value.specs.View.{val_of, vals_in};
 ghost use Rattle.scad_scope.specs.Names.{env_of};
 ghost use Rattle.scad_scope.specs.Table.{rows_of};
+ghost use Rattle.scad_scope.specs.Arguments.{names_of};
 ghost use Rattle.scad_builtin.specs.Builtins.{are_bounded};
-ghost use Rattle.scad_func.specs.Meaning.{Outcome, Gives, one_call_fewer, turn, then_with, answered, value_at, operand as operand_at, each_value as values_at, each_suffix, each_link, called, function_in, range_of as range_at, stepped_range_of as stepped_at, counted as counted_at};
-ghost use Rattle.scad_func.specs.Slots.{each_slot, each_filled, filled, body_filled, entered_filled, all_values, suffixed, linked};
-ghost use Rattle.scad_func.specs.Numerals.{has_small_numerals, terms_have_small, args_have_small, suffixes_have_small, links_have_small, params_have_small, param_has_small, function_has_small, suffix_has_small};
-ghost use Rattle.scad_func.specs.Functions.{function_of};
-ghost use Rattle.scad_func.specs.View.{Tells, TellsAll, TellsSlots, function_size, deepest, indexed_val, IsThere, slot_of, slots_in, slots_bounded, slot_is_bounded};
+ghost use Rattle.scad_func.specs.Meaning.{Outcome, Gives, one_call_fewer, turn, then_with, answered, value_at, operand as operand_at, each_value as values_at, each_argument as arguments_at, each_parameter as parameters_at, parameter_value, function_value as function_value_at, function_called, nothing_given as nothing_at, paired, in_scope, Within, no_call, each_suffix, each_link, called, function_in, range_of as range_at, stepped_range_of as stepped_at, counted as counted_at};
+ghost use Rattle.scad_func.specs.Steps.{all_values, suffixed, linked};
+ghost use Rattle.scad_scope.specs.TextView.{function_of};
+ghost use Rattle.scad_func.specs.View.{Tells, TellsAll, TellsArguments, function_size, deepest, indexed_val, IsThere, slot_of, slots_in, slots_bounded, slot_is_bounded, arguments_of, arguments_bounded, names_in};
 ghost use Rattle.scad_func.specs.Evaluations.{Keeps, scopes_there, setting};
 
 use crate::answer::{
-    Indexed, after, applied_to, argument_value, built_in_for, child_count, item_of, listed,
-    member_item, no_slots, operate, operate_on, operate_with_variable, range_of, slot_for,
-    stepped_range_of, text_of, truth_of, variable_of, variable_there, wants_right,
+    Indexed, applied_to, child_count, item_of, listed, member_item, operate, operate_on,
+    operate_with_variable, range_of, special_of, stepped_range_of, text_of, truth_of, variable_of,
+    variable_there, wants_right,
+};
+use crate::arguments::{
+    ArgumentValues, Names, after, argument_value, bind_specials, built_in_for, count_of,
+    destination_for, nothing_given, with_next_argument,
 };
 use crate::bind::bind_all;
 use crate::evaluation::Evaluation;
-use crate::functions::{Function, find};
-use crate::held::{filled_at, with, with_next};
+use crate::functions::find;
+use crate::held::{with, with_next};
 use scad_ast::{Args, Expr, Exprs, Link, Links, Param, Params, Suffix, Suffixes};
+use scad_scope::Function;
 use scad_value::Value;
 use std::mem;
 use text_place::{Fault, FaultKind, Place, Stop};
@@ -32,9 +37,8 @@ impl Evaluation<'_, '_> {
     /// The value of an expression, whose parts are counted where it is a list.
     #[cycle(value)]
     #[tactic(auto, using(crate::proofs::Kept::keeps_trans))]
-    pub(crate) fn expression(&mut self, scope: u32, expr: &Expr) -> Result<Value, Stop>
+    pub fn expression(&mut self, scope: u32, expr: &Expr) -> Result<Value, Stop>
         requires scope { scope < scopes_there self.old }
-        requires numerals { IsTrue (has_small_numerals (term_of expr.now)) }
         ensures value { Tells result self.new.turns (value_at (setting self.old scope) true (term_of expr.now) self.old.turns) }
         ensures bounded { IfOk result (λ v. IsTrue (is_bounded (val_of v))) }
         ensures kept { Keeps self.old self.new }
@@ -68,7 +72,6 @@ impl Evaluation<'_, '_> {
     #[cycle(value)]
     fn deeper(&mut self, scope: u32, expr: &Expr) -> Result<Value, Stop>
         requires scope { scope < scopes_there self.old }
-        requires numerals { IsTrue (has_small_numerals (term_of expr.now)) }
         ensures value { Tells result self.new.turns (value_at (setting self.old scope) false (term_of expr.now) self.old.turns) }
         ensures bounded { IfOk result (λ v. IsTrue (is_bounded (val_of v))) }
         ensures kept { Keeps self.old self.new }
@@ -89,19 +92,21 @@ impl Evaluation<'_, '_> {
     #[cycle(value)]
     fn operand(&mut self, scope: u32, expr: &Expr) -> Result<Value, Stop>
         requires scope { scope < scopes_there self.old }
-        requires numerals { IsTrue (has_small_numerals (term_of expr.now)) }
         ensures value { Tells result self.new.turns (operand_at (setting self.old scope) (term_of expr.now) self.old.turns) }
         ensures bounded { IfOk result (λ v. IsTrue (is_bounded (val_of v))) }
         ensures kept { Keeps self.old self.new }
     {
         match expr {
-            Expr::Number(_, n) => Ok(Value::Number(*n as i64)),
+            Expr::Number(_, n) => Ok(Value::Number(n.get() as i64)),
             Expr::Text(_, bytes) => Ok(text_of(self.alloc, bytes)?),
             Expr::Truth(_, truth) => Ok(Value::Truth(*truth)),
             Expr::Undef(_) => Ok(Value::Undef),
             Expr::ChildCount(place) => Ok(child_count(self.alloc, self.scopes, scope, *place)?),
             Expr::Name(place, name) => {
                 variable_of(self.alloc, self.scopes, scope, name.items(), *place)
+            }
+            Expr::Special(place, name) => {
+                special_of(self.alloc, self.scopes, name.items(), *place)
             }
             Expr::Call(place, parts) => self.call(scope, parts.name.items(), *place, &parts.args),
             Expr::Paren(_, inner) => self.expression(scope, inner),
@@ -128,7 +133,6 @@ impl Evaluation<'_, '_> {
     #[tactic(auto, using(crate::proofs::Kept::keeps_trans))]
     fn each_value(&mut self, scope: u32, exprs: &Exprs) -> Result<Vec<Value>, Stop>
         requires scope { scope < scopes_there self.old }
-        requires numerals { IsTrue (terms_have_small (terms_from (terms_of exprs.now))) }
         ensures value { TellsAll result self.new.turns (values_at (setting self.old scope) (terms_from (terms_of exprs.now)) self.old.turns) }
         ensures bounded { IfOk result (λ vs. IsTrue (are_bounded (vals_in vs.items))) }
         ensures kept { Keeps self.old self.new }
@@ -146,8 +150,6 @@ impl Evaluation<'_, '_> {
     #[tactic(auto, using(crate::proofs::Kept::keeps_trans))]
     fn range(&mut self, scope: u32, from: &Expr, upto: &Expr, place: Place) -> Result<Value, Stop>
         requires scope { scope < scopes_there self.old }
-        requires from { IsTrue (has_small_numerals (term_of from.now)) }
-        requires upto { IsTrue (has_small_numerals (term_of upto.now)) }
         ensures value { let here = setting self.old scope in
             Tells result self.new.turns (
             then_with (value_at here true (term_of from.now) self.old.turns) (λ turns a.
@@ -174,9 +176,6 @@ impl Evaluation<'_, '_> {
         place: Place,
     ) -> Result<Value, Stop>
         requires scope { scope < scopes_there self.old }
-        requires from { IsTrue (has_small_numerals (term_of from.now)) }
-        requires by { IsTrue (has_small_numerals (term_of by.now)) }
-        requires upto { IsTrue (has_small_numerals (term_of upto.now)) }
         ensures value { let here = setting self.old scope in
             Tells result self.new.turns (
             then_with (value_at here true (term_of from.now) self.old.turns) (λ turns a.
@@ -199,8 +198,6 @@ impl Evaluation<'_, '_> {
     #[tactic(auto, using(crate::proofs::Kept::keeps_trans))]
     fn postfix(&mut self, scope: u32, of: &Expr, rest: &Suffixes) -> Result<Value, Stop>
         requires scope { scope < scopes_there self.old }
-        requires of { IsTrue (has_small_numerals (term_of of.now)) }
-        requires rest { IsTrue (suffixes_have_small (suffixes_from (suffixes_of rest.now))) }
         ensures value { let here = setting self.old scope in
             Tells result self.new.turns (then_with (operand_at here (term_of of.now) self.old.turns)
             (λ turns v. each_suffix here v (suffixes_from (suffixes_of rest.now)) turns)) }
@@ -221,7 +218,6 @@ impl Evaluation<'_, '_> {
     fn suffixes(&mut self, scope: u32, of: Indexed<'_>, rest: &Suffixes) -> Result<Value, Stop>
         requires scope { scope < scopes_there self.old }
         requires there { IsThere (env_of (rows_of self.old.scopes.now) scope) of }
-        requires numerals { IsTrue (suffixes_have_small (suffixes_from (suffixes_of rest.now))) }
         ensures value { Tells result self.new.turns (each_suffix (setting self.old scope) (indexed_val (env_of (rows_of self.old.scopes.now) scope) of.entry) (suffixes_from (suffixes_of rest.now)) self.old.turns) }
         ensures bounded { IfOk result (λ v. IsTrue (is_bounded (val_of v))) }
         ensures kept { Keeps self.old self.new }
@@ -238,7 +234,6 @@ impl Evaluation<'_, '_> {
     fn suffix(&mut self, scope: u32, of: Indexed<'_>, part: &Suffix) -> Result<Value, Stop>
         requires scope { scope < scopes_there self.old }
         requires there { IsThere (env_of (rows_of self.old.scopes.now) scope) of }
-        requires numerals { IsTrue (suffix_has_small (suffix_of part.now)) }
         ensures value { Tells result self.new.turns (suffixed (setting self.old scope) (indexed_val (env_of (rows_of self.old.scopes.now) scope) of.entry) (suffix_of part.now) self.old.turns) }
         ensures bounded { IfOk result (λ v. IsTrue (is_bounded (val_of v))) }
         ensures kept { Keeps self.old self.new }
@@ -268,8 +263,6 @@ impl Evaluation<'_, '_> {
     #[tactic(auto, using(crate::proofs::Kept::keeps_trans))]
     fn chain(&mut self, scope: u32, first: &Expr, rest: &Links) -> Result<Value, Stop>
         requires scope { scope < scopes_there self.old }
-        requires first { IsTrue (has_small_numerals (term_of first.now)) }
-        requires rest { IsTrue (links_have_small (links_from (links_of rest.now))) }
         ensures value { let here = setting self.old scope in
             Tells result self.new.turns (then_with (operand_at here (term_of first.now) self.old.turns)
             (λ turns v. each_link here v (links_from (links_of rest.now)) turns)) }
@@ -286,7 +279,6 @@ impl Evaluation<'_, '_> {
     fn links(&mut self, scope: u32, left: Value, rest: &Links) -> Result<Value, Stop>
         requires scope { scope < scopes_there self.old }
         requires left { IsTrue (is_bounded (val_of left)) }
-        requires numerals { IsTrue (links_have_small (links_from (links_of rest.now))) }
         ensures value { Tells result self.new.turns (each_link (setting self.old scope) (val_of left) (links_from (links_of rest.now)) self.old.turns) }
         ensures bounded { IfOk result (λ v. IsTrue (is_bounded (val_of v))) }
         ensures kept { Keeps self.old self.new }
@@ -303,7 +295,6 @@ impl Evaluation<'_, '_> {
     fn link(&mut self, scope: u32, left: Value, part: &Link) -> Result<Value, Stop>
         requires scope { scope < scopes_there self.old }
         requires left { IsTrue (is_bounded (val_of left)) }
-        requires numerals { IsTrue (has_small_numerals (term_of part.now.right)) }
         ensures value { Tells result self.new.turns (linked (setting self.old scope) (val_of left) (link_of part.now) self.old.turns) }
         ensures bounded { IfOk result (λ v. IsTrue (is_bounded (val_of v))) }
         ensures kept { Keeps self.old self.new }
@@ -324,9 +315,6 @@ impl Evaluation<'_, '_> {
     #[tactic(auto, using(crate::proofs::Kept::keeps_trans))]
     fn choice(&mut self, scope: u32, test: &Expr, yes: &Expr, no: &Expr) -> Result<Value, Stop>
         requires scope { scope < scopes_there self.old }
-        requires test { IsTrue (has_small_numerals (term_of test.now)) }
-        requires yes { IsTrue (has_small_numerals (term_of yes.now)) }
-        requires no { IsTrue (has_small_numerals (term_of no.now)) }
         ensures value { let here = setting self.old scope in
             Tells result self.new.turns (then_with (operand_at here (term_of test.now) self.old.turns)
             (λ turns v. value_at here true (if truth_at v then term_of yes.now else term_of no.now) turns)) }
@@ -345,17 +333,17 @@ impl Evaluation<'_, '_> {
     #[cycle(value)]
     fn call(&mut self, scope: u32, name: &[u8], place: Place, args: &Args) -> Result<Value, Stop>
         requires scope { scope < scopes_there self.old }
-        requires numerals { IsTrue (args_have_small (args_from (args_of args.now))) }
         ensures value { let here = setting self.old scope in
             Tells result self.new.turns (called here place name.now (args_from (args_of args.now)) self.old.turns (function_in here.env name.now)) }
         ensures bounded { IfOk result (λ v. IsTrue (is_bounded (val_of v))) }
         ensures kept { Keeps self.old self.new }
     {
         let source = self.source;
-        match find(&source.functions, self.scopes, scope, name) {
+        match find(source, self.scopes, scope, name) {
             Some((function, home)) => {
-                let slots = self.each_argument(scope, function.params, args)?;
-                self.enter(home, function, slots, place)
+                let names = Names::Params(function.params);
+                let given = self.each_argument(scope, names, args)?;
+                self.function_call(home, function, given, place)
             }
             None => {
                 let function = built_in_for(name, place, args)?;
@@ -365,56 +353,54 @@ impl Evaluation<'_, '_> {
         }
     }
 
-    /// The arguments of a call, from the first on: each is matched to its parameter and then
-    /// evaluated.
+    /// The arguments of a call, from the first on: each is matched to a parameter, or to its special
+    /// name, and then evaluated.
     #[cycle(value)]
     #[tactic(auto, using(crate::proofs::Kept::keeps_trans))]
-    fn each_argument(
+    pub fn each_argument<'b>(
         &mut self,
         scope: u32,
-        params: &Params,
-        args: &Args,
-    ) -> Result<Vec<Option<Value>>, Stop>
+        names: Names<'_>,
+        args: &'b Args,
+    ) -> Result<ArgumentValues<'b>, Stop>
         requires scope { scope < scopes_there self.old }
-        requires numerals { IsTrue (args_have_small (args_from (args_of args.now))) }
-        ensures value { TellsSlots result self.new.turns (each_slot (setting self.old scope) (params_of params.now) 0 (args_from (args_of args.now)) (replicate (length (params_of params.now)) None) self.old.turns) }
-        ensures bounded { IfOk result (λ slots. (length slots.items ≡ length (params_of params.now)) × IsTrue (slots_bounded (slots_in slots.items))) }
+        ensures value { TellsArguments result self.new.turns (arguments_at (setting self.old scope) (names_in names.entry) 0 (args_from (args_of args.now)) (nothing_at (length (names_in names.entry))) self.old.turns) }
+        ensures bounded { IfOk result (λ given. (length given.slots.items ≡ length (names_in names.entry)) × IsTrue (arguments_bounded (arguments_of given))) }
         ensures kept { Keeps self.old self.new }
     {
-        let mut slots = no_slots(self.alloc, params.items.len())?;
+        let mut given = nothing_given(self.alloc, count_of(names))?;
         let mut positional: usize = 0;
         'each: for arg in &args.items {
-            let free = slot_for(&params.items, &slots, positional, arg);
-            let (open, param) = with(slots, free)?;
+            let free = destination_for(names, &given, positional, arg);
+            let (open, destination) = with(given, free)?;
             let next = self.expression(scope, argument_value(arg));
-            slots = filled_at(open, param, next)?;
+            given = with_next_argument(open, destination, next)?;
             positional = after(positional, arg);
         }
-        Ok(slots)
+        Ok(given)
     }
 
     /// A call of a function of the source, one call deeper, in the scope of its definition.
     #[cycle(value)]
-    fn enter(
+    fn function_call(
         &mut self,
         scope: u32,
         function: Function<'_>,
-        slots: Vec<Option<Value>>,
+        given: ArgumentValues<'_>,
         place: Place,
     ) -> Result<Value, Stop>
         requires scope { scope < scopes_there self.old }
-        requires function { IsTrue (function_has_small (function_of function)) }
-        requires within { function_size function ≤ deepest self.old.source.now.functions.items.items }
-        requires count { length slots.items ≡ length (params_of function.params.now) }
-        requires filled { IsTrue (slots_bounded (slots_in slots.items)) }
-        ensures value { Tells result self.new.turns (entered_filled (setting self.old scope) place (function_of function.entry) (slots_in slots.items) self.old.turns) }
+        requires within { function_size function ≤ deepest self.old.source.now.blocks.functions.items }
+        requires count { length given.slots.items ≡ length (params_of function.params.now) }
+        requires bounded { IsTrue (arguments_bounded (arguments_of given)) }
+        ensures value { Tells result self.new.turns (function_called (setting self.old scope) place (function_of function.entry) (arguments_of given.entry) self.old.turns) }
         ensures bounded { IfOk result (λ v. IsTrue (is_bounded (val_of v))) }
         ensures kept { Keeps self.old self.new }
     {
-        let (slots, ()) = with(slots, self.may_call(place))?;
+        let (given, ()) = with(given, self.may_call(place))?;
         self.turns += 1;
         self.calls += 1;
-        let value = self.body(scope, function, slots);
+        let value = self.function_value(scope, function, given);
         self.calls -= 1;
         value
     }
@@ -440,42 +426,96 @@ impl Evaluation<'_, '_> {
         Ok(())
     }
 
-    /// The value of a function: its parameters without an argument have their defaults, which are
-    /// evaluated in the scope of its definition.
+    /// The value of a function. Its special arguments stand meanwhile, and are gone behind it.
     #[cycle(value)]
-    fn body(
+    fn function_value(
+        &mut self,
+        scope: u32,
+        function: Function<'_>,
+        given: ArgumentValues<'_>,
+    ) -> Result<Value, Stop>
+        requires scope { scope < scopes_there self.old }
+        requires count { length given.slots.items ≡ length (params_of function.params.now) }
+        requires bounded { IsTrue (arguments_bounded (arguments_of given)) }
+        ensures value { Tells result self.new.turns (function_value_at (setting self.old scope) (function_of function.entry) (arguments_of given.entry) self.old.turns) }
+        ensures bounded { IfOk result (λ v. IsTrue (is_bounded (val_of v))) }
+        ensures kept { Keeps self.old self.new }
+    {
+        let ArgumentValues { slots, specials } = given;
+        let length = self.scopes.chain_length();
+        if length > u32::MAX as usize {
+            return Err(Stop::NoMemory);
+        }
+        let bound = bind_specials(self.alloc, self.scopes, specials);
+        let value = match with(slots, bound) {
+            Ok((slots, ())) => self.with_defaults(scope, function, slots),
+            Err(stop) => Err(stop),
+        };
+        self.scopes.unwind(length as u32);
+        value
+    }
+
+    /// The value of a function, with its special arguments on the chain: its parameters without an
+    /// argument have their defaults, which are evaluated in the scope of its definition.
+    #[cycle(value)]
+    fn with_defaults(
         &mut self,
         scope: u32,
         function: Function<'_>,
         slots: Vec<Option<Value>>,
     ) -> Result<Value, Stop>
         requires scope { scope < scopes_there self.old }
-        requires function { IsTrue (function_has_small (function_of function)) }
         requires count { length slots.items ≡ length (params_of function.params.now) }
         requires filled { IsTrue (slots_bounded (slots_in slots.items)) }
-        ensures value { Tells result self.new.turns (body_filled (setting self.old scope) (function_of function.entry) (slots_in slots.items) self.old.turns) }
+        ensures value { let here = setting self.old scope in let params = params_of function.entry.params.now in
+            Tells result self.new.turns (then_with (parameters_at here params (slots_in slots.items) self.old.turns)
+            (λ turns vs. value_at (in_scope here (Within (paired (names_of params) vs []) [] [] no_call here.env)) true (term_of function.entry.value.now) turns)) }
         ensures bounded { IfOk result (λ v. IsTrue (is_bounded (val_of v))) }
         ensures kept { Keeps self.old self.new }
     {
         let values = self.each_parameter(scope, function.params, slots)?;
-        let inner = bind_all(self.alloc, self.scopes, scope, function.params, values)?;
-        self.expression(inner, function.value)
+        self.in_new_scope(scope, function, values)
+    }
+
+    /// The value of a function with the values of its parameters, in a scope of its own.
+    #[cycle(value)]
+    fn in_new_scope(
+        &mut self,
+        scope: u32,
+        function: Function<'_>,
+        values: Vec<Value>,
+    ) -> Result<Value, Stop>
+        requires scope { scope < scopes_there self.old }
+        requires count { length values.items ≡ length function.params.now.items.items }
+        requires filled { IsTrue (are_bounded (vals_in values.items)) }
+        ensures value { let here = setting self.old scope in
+            Tells result self.new.turns (value_at (in_scope here (Within (paired (names_of (params_of function.entry.params.now)) (vals_from (vals_in values.items)) []) [] [] no_call here.env))
+            true (term_of function.entry.value.now) self.old.turns) }
+        ensures bounded { IfOk result (λ v. IsTrue (is_bounded (val_of v))) }
+        ensures kept { Keeps self.old self.new }
+    {
+        let inner = self.scopes.enter_empty(self.alloc, scope)?;
+        let value = match bind_all(self.alloc, self.scopes, inner, function.params, values) {
+            Ok(()) => self.expression(inner, function.value),
+            Err(_) => Err(Stop::NoMemory),
+        };
+        self.scopes.leave(inner);
+        value
     }
 
     /// The values of parameters, from the first on.
     #[cycle(value)]
     #[tactic(auto, using(crate::proofs::Kept::keeps_trans))]
-    fn each_parameter(
+    pub fn each_parameter(
         &mut self,
         scope: u32,
         params: &Params,
         slots: Vec<Option<Value>>,
     ) -> Result<Vec<Value>, Stop>
         requires scope { scope < scopes_there self.old }
-        requires numerals { IsTrue (params_have_small (params_of params.now)) }
         requires count { length slots.items ≡ length params.now.items.items }
         requires filled { IsTrue (slots_bounded (slots_in slots.items)) }
-        ensures value { TellsAll result self.new.turns (each_filled (setting self.old scope) (params_of params.now) (slots_in slots.items) self.old.turns) }
+        ensures value { TellsAll result self.new.turns (parameters_at (setting self.old scope) (params_of params.now) (slots_in slots.items) self.old.turns) }
         ensures bounded { IfOk result (λ vs. (length vs.items ≡ length params.now.items.items) × IsTrue (are_bounded (vals_in vs.items))) }
         ensures kept { Keeps self.old self.new }
     {
@@ -495,9 +535,8 @@ impl Evaluation<'_, '_> {
     #[cycle(value)]
     fn parameter(&mut self, scope: u32, param: &Param, given: Option<Value>) -> Result<Value, Stop>
         requires scope { scope < scopes_there self.old }
-        requires numerals { IsTrue (param_has_small (param_of param.now)) }
         requires filled { IsTrue (slot_is_bounded (slot_of given)) }
-        ensures value { Tells result self.new.turns (filled (setting self.old scope) (param_of param.now) (slot_of given) self.old.turns) }
+        ensures value { Tells result self.new.turns (parameter_value (setting self.old scope) (param_of param.now) (slot_of given) self.old.turns) }
         ensures bounded { IfOk result (λ v. IsTrue (is_bounded (val_of v))) }
         ensures kept { Keeps self.old self.new }
     {
@@ -515,7 +554,6 @@ impl Evaluation<'_, '_> {
     #[tactic(auto, using(crate::proofs::Kept::keeps_trans))]
     fn each_positional(&mut self, scope: u32, args: &Args) -> Result<Vec<Value>, Stop>
         requires scope { scope < scopes_there self.old }
-        requires numerals { IsTrue (args_have_small (args_from (args_of args.now))) }
         ensures value { TellsAll result self.new.turns (values_at (setting self.old scope) (all_values (args_from (args_of args.now))) self.old.turns) }
         ensures bounded { IfOk result (λ vs. IsTrue (are_bounded (vals_in vs.items))) }
         ensures kept { Keeps self.old self.new }

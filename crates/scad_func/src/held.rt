@@ -1,7 +1,7 @@
 //! What is held while something else is made. Where that fails, what is held is dropped: here, for every type alike,
 //! and not in each function that holds something.
 
-ghost use Rattle.std.specs.Prelude.{◌≡◌, ◌<◌, Ok, Err, Some, IfOk, IfErr, length, slice_set};
+ghost use Rattle.std.specs.Prelude.{◌≡◌, Ok, Err, IfOk, IfErr};
 ghost use Rattle.scad_func.specs.View.{IsLonger};
 
 use text_place::Stop;
@@ -28,27 +28,6 @@ pub(crate) fn with_next<T: Drop>(items: Vec<T>, next: Result<T, Stop>) -> Result
                 Ok(()) => Ok(longer),
                 Err(_) => Err(Stop::NoMemory),
             }
-        }
-        Err(stop) => Err(stop),
-    }
-}
-
-/// Slots of which one more is filled.
-pub(crate) fn filled_at<T: Drop>(
-    slots: Vec<Option<T>>,
-    slot: usize,
-    next: Result<T, Stop>,
-) -> Result<Vec<Option<T>>, Stop>
-    requires { slot < length slots.items }
-    ensures ok { IfOk result (λ filled. IfOk next (λ item. filled.items ≡ slice_set slots.items slot (Some item))) }
-    ensures err { IfErr result (λ stop. next ≡ Err stop) }
-    ensures both { IfErr next (λ stop. result ≡ Err stop) }
-{
-    match next {
-        Ok(item) => {
-            let mut filled = slots;
-            filled[slot] = Some(item);
-            Ok(filled)
         }
         Err(stop) => Err(stop),
     }

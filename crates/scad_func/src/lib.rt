@@ -1,19 +1,24 @@
-//! The meaning of expressions, with calls, evaluations and turns counted.
+//! The meaning of expressions, with special names on a chain, and calls, evaluations and turns counted.
 #![tactic(auto)]
 
 mod answer;
+mod arguments;
 mod bind;
 mod evaluation;
 mod evaluator;
 mod functions;
 mod held;
+mod laws;
+mod limits;
 mod meter;
-mod numerals;
+mod scoping;
 mod source;
 mod value;
 
-pub use functions::{Function, Functions};
+pub use arguments::{ArgumentValues, Names, SpecialArgument};
+pub use evaluation::Evaluation;
+pub use functions::find_module;
+pub use laws::enter_what_stands;
 pub use meter::Meter;
-pub use numerals::{expr_has_small_numerals, has_small_numerals};
 pub use source::Source;
 pub use value::{value_in, value_of};

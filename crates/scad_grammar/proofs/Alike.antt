@@ -1,16 +1,16 @@
 -- Readers that are built in the same way: a law of two readers that each way of building keeps holds of what is built.
 use Rattle.std.proofs.Common.{◌≡◌, ℕ, List, [], ◌∷◌, length, ◌≤◌, Bool, true, false, cond, not, Ok, Err, Option, Some, None, ◌⊎◌, inl, refl, sym, ap, ◌∙◌, subst}
 use Rattle.scad_lexer.specs.declared.token.Token.{Token}
-use Rattle.scad_ast.specs.Terms.{Term, SuffixTerm, NumberTerm, TextTerm, TruthTerm, UndefTerm, ChildCountTerm, ArgTerm, PositionalTerm, ParamTerm, BinderTerm, MarkTerm, StatementTerm, EmptyStatement, InstanceStatement, InstanceTerm, CoreTerm, BodyTerm, EmptyBody, InstanceBody}
+use Rattle.scad_ast.specs.Terms.{Term, SuffixTerm, NumberTerm, TextTerm, TruthTerm, UndefTerm, ChildCountTerm, SpecialTerm, ArgTerm, PositionalTerm, ParamTerm, BinderTerm, MarkTerm, StatementTerm, EmptyStatement, InstanceStatement, InstanceTerm, CoreTerm, BodyTerm, EmptyBody, InstanceBody}
 use Rattle.scad_grammar.specs.declared.SyntaxFault.{SyntaxFault}
 use Rattle.scad_grammar.specs.declared.SyntaxFault.TheVariants.{Nested}
-use Rattle.scad_grammar.specs.Classes.{or_sign, and_sign, equal_sign, not_equal_sign, less_sign, less_equal_sign, greater_sign, greater_equal_sign, times_sign, divide_sign, remainder_sign, numeral, text, true_word, false_word, undef_word, child_count, name, end, if_word, else_word, for_word, module_word, function_word, open_parenthesis_sign, close_parenthesis_sign, open_bracket_sign, close_bracket_sign, open_brace_sign, close_brace_sign, comma_sign, semicolon_sign, assign_sign, colon_sign, question_sign, dot_sign, minus_sign, plus_sign, not_sign, among, is, other_than, class_of, number_of, bytes_of}
+use Rattle.scad_grammar.specs.Classes.{or_sign, and_sign, equal_sign, not_equal_sign, less_sign, less_equal_sign, greater_sign, greater_equal_sign, times_sign, divide_sign, remainder_sign, numeral, text, true_word, false_word, undef_word, child_count, special, argument_names, name, end, if_word, else_word, for_word, module_word, function_word, open_parenthesis_sign, close_parenthesis_sign, open_bracket_sign, close_bracket_sign, open_brace_sign, close_brace_sign, comma_sign, semicolon_sign, assign_sign, colon_sign, question_sign, dot_sign, minus_sign, plus_sign, not_sign, among, is, other_than, class_of, number_of, bytes_of}
 use Rattle.scad_grammar.specs.Languages.{first_of, second_of, pair_of, cons}
-use Rattle.scad_grammar.specs.Grammar.{Rest, items, link, chain_of, unary_of, postfix_of, index_of, member_of, levels, choice_of, named_of, paren_of, bracket_of, range_of, binder_of, param_of, mark_of, if_of, loop_of, call_of, instance_of, block_of, bare_block_of, module_of, function_of}
+use Rattle.scad_grammar.specs.Grammar.{Rest, items, link, chain_of, unary_of, postfix_of, index_of, member_of, levels, choice_of, named_of, paren_of, bracket_of, range_of, binder_of, param_of, mark_of, if_of, loop_of, call_of, instance_of, block_of, bare_block_of, special_assignment_of, module_of, function_of}
 use Rattle.scad_grammar.specs.Reading.{Read, after, mapped, nothing, both, choice, maybe, ahead, many, trailing}
 use Rattle.scad_grammar.specs.Faults.{Reads, one, first, fault_of, left_out}
-use Rattle.scad_grammar.specs.Reads.{suffix_read, postfix_read, unary_read, chain_read, named, arg_read, args_read, in_parentheses, range_read, rest_read, bracket_read, name_read, paren_read, primary_read, choice_read}
-use Rattle.scad_grammar.specs.StatementReads.{mark_signs, loop_words, firsts_of_statement, param_read, binder_read, params_read, binders_read, if_read, call_read, marks_read, braces_read, body_over, ended_read, function_read, definition_read, assigned, statement_over}
+use Rattle.scad_grammar.specs.Reads.{suffix_read, postfix_read, unary_read, chain_read, given, arg_read, args_read, in_parentheses, range_read, rest_read, bracket_read, name_read, paren_read, primary_read, choice_read}
+use Rattle.scad_grammar.specs.StatementReads.{mark_signs, loop_words, firsts_of_statement, param_read, binder_read, params_read, binders_read, if_read, call_read, marks_read, braces_read, body_over, ended_read, function_read, definition_read, assigned, special_read, statement_over}
 use Rattle.scad_grammar.proofs.Ahead.{rest_of}
 use Rattle.scad_grammar.proofs.Tests.{apart, classes_apart, classes_within}
 use Rattle.scad_grammar.proofs.Cores.{loop_over, core_over, instance_over}
@@ -46,7 +46,7 @@ pub record Keeps (R : (A : Type 0) → Reads A → Reads A → Type 0) (T : (A :
   pub both_keeps : {A B C : Type 0} (f : A → B → C) (r q : Reads A) (s p : Reads B) → R A r q → R B s p → R C (both f r s) (both f q p)
   pub choice_keeps : {A : Type 0} (test : Token → Bool) (r q s p : Reads A) → Steady test → R A r q → R A s p → R A (choice test r s) (choice test q p)
   pub taken_keeps : {A : Type 0} (cs : List ℕ) (r q s p : Reads A) → apart (numeral ∷ []) cs ≡ true → T A cs r → R A r q → R A s p → R A (choice (among cs) r s) (choice (among cs) q p)
-  pub ahead_keeps : {A C : Type 0} (f : Token → Token → A → C) (r q : Reads A) (s p : Reads C) → R A r q → R C s p → R C (ahead f (is name) (is assign_sign) r s) (ahead f (is name) (is assign_sign) q p)
+  pub ahead_keeps : {A C : Type 0} (f : Token → Token → A → C) (cs : List ℕ) (r q : Reads A) (s p : Reads C) → apart (numeral ∷ end ∷ []) cs ≡ true → apart (numeral ∷ words) cs ≡ true → R A r q → R C s p → R C (ahead f (among cs) (is assign_sign) r s) (ahead f (among cs) (is assign_sign) q p)
   pub many_keeps : {A : Type 0} (test : Token → Bool) (r q : Reads A) → Steady test → R A r q → R (List A) (many test r) (many test q)
   pub many_taken_keeps : {A : Type 0} (cs : List ℕ) (r q : Reads A) → apart (numeral ∷ []) cs ≡ true → T A cs r → R A r q → R (List A) (many (among cs) r) (many (among cs) q)
   pub trailing_keeps : {A : Type 0} (go : Token → Bool) (r q : Reads A) → Steady go → R A r q → R (List A) (trailing (is comma_sign) go r) (trailing (is comma_sign) go q)
@@ -83,7 +83,7 @@ module _ (R : (A : Type 0) → Reads A → Reads A → Type 0) (T : (A : Type 0)
       (k.both_keeps cons a b _ _ ha (k.trailing_keeps (other_than (close_parenthesis_sign ∷ [])) a b (steady_other (close_parenthesis_sign ∷ []) refl) ha)) (k.nothing_keeps [])
 
   pub arg_keeps : (e f : Reads Term) → R Term e f → R ArgTerm (arg_read e) (arg_read f)
-  arg_keeps e f he = k.ahead_keeps named e f (mapped PositionalTerm e) (mapped PositionalTerm f) he (k.mapped_keeps PositionalTerm e f he)
+  arg_keeps e f he = k.ahead_keeps given argument_names e f (mapped PositionalTerm e) (mapped PositionalTerm f) refl refl he (k.mapped_keeps PositionalTerm e f he)
 
   pub param_keeps : (e f : Reads Term) → R Term e f → R ParamTerm (param_read e) (param_read f)
   param_keeps e f h = behind_keeps param_of (name ∷ []) _ _ refl (maybe_keeps (is assign_sign) _ _ (steady_among (assign_sign ∷ []) refl) (behind_keeps second_of (assign_sign ∷ []) e f refl h))
@@ -159,9 +159,10 @@ module _ (R : (A : Type 0) → Reads A → Reads A → Type 0) (T : (A : Type 0)
         (k.choice_keeps (is false_word) _ _ _ _ (steady_among (false_word ∷ []) refl) (single false_word (λ t. TruthTerm t.place false) refl)
         (k.choice_keeps (is undef_word) _ _ _ _ (steady_among (undef_word ∷ []) refl) (single undef_word (λ t. UndefTerm t.place) refl)
         (k.choice_keeps (is child_count) _ _ _ _ (steady_among (child_count ∷ []) refl) (single child_count (λ t. ChildCountTerm t.place) refl)
+        (k.choice_keeps (is special) _ _ _ _ (steady_among (special ∷ []) refl) (single special (λ t. SpecialTerm t.place (bytes_of t.kind)) refl)
         (k.choice_keeps (is name) (name_read a) (name_read b) _ _ (steady_among (name ∷ []) refl) (named_keeps a b ha)
         (k.choice_keeps (is open_parenthesis_sign) (paren_read e) (paren_read f) (bracket_read e) (bracket_read f) (steady_among (open_parenthesis_sign ∷ []) refl) (paren_keeps e f he)
-        (k.both_keeps bracket_of (first (is open_bracket_sign)) (first (is open_bracket_sign)) _ _ bracket (filled_keeps e f he)))))))))
+        (k.both_keeps bracket_of (first (is open_bracket_sign)) (first (is open_bracket_sign)) _ _ bracket (filled_keeps e f he))))))))))
 
   pub marks_keep : R (List MarkTerm) marks_read marks_read
   marks_keep = k.many_keeps (among mark_signs) _ _ (steady_among mark_signs refl) (k.mapped_keeps mark_of (one (among mark_signs)) (one (among mark_signs)) (k.one_keeps mark_signs refl))
@@ -213,4 +214,6 @@ module _ (R : (A : Type 0) → Reads A → Reads A → Type 0) (T : (A : Type 0)
       statement_keeps =
           k.choice_keeps (is semicolon_sign) _ _ _ _ (steady_among (semicolon_sign ∷ []) refl) (k.mapped_keeps (λ t. EmptyStatement t.place) _ _ (k.one_keeps (semicolon_sign ∷ []) refl))
           (k.choice_keeps (is open_brace_sign) _ _ _ _ (steady_among (open_brace_sign ∷ []) refl) (behind_keeps bare_block_of (open_brace_sign ∷ []) (braces_read s) (braces_read t) refl braces_keep)
-          (k.ahead_keeps assigned (ended_read x) (ended_read y) _ _ ended_keeps definition_keeps))
+          (k.choice_keeps (is special) (special_read x) (special_read y) _ _ (steady_among (special ∷ []) refl)
+          (behind_keeps special_assignment_of (special ∷ []) _ _ refl (behind_keeps second_of (assign_sign ∷ []) (ended_read x) (ended_read y) refl ended_keeps))
+          (k.ahead_keeps assigned (name ∷ []) (ended_read x) (ended_read y) _ _ refl refl ended_keeps definition_keeps)))

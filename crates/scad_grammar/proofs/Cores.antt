@@ -217,18 +217,18 @@ statement_moves e a ns b t h = rest_mapped InstanceStatement (instance_over e a 
 call_unlike : (As : Language (List ArgTerm)) (B : Language BodyTerm) (c : CoreTerm) (s rest : List Token) → Call As B c s → two (is name) (is assign_sign) (s ++ rest) ≡ false
 call_unlike As B c s rest h =
     ap (λ l. two (is name) (is assign_sign) (l ++ rest)) h.7 ∙ ap (λ l. two (is name) (is assign_sign) ((l ++ h.3) ++ rest)) h.4.1
-    ∙ two_name h.0 (h.3 ++ rest) (next_apart (open_parenthesis_sign ∷ []) (assign_sign ∷ []) refl (h.3 ++ rest) (both_opens pair_of (InParentheses As) B (is open_parenthesis_sign) (both_opens second_of (One (is open_parenthesis_sign)) _ (is open_parenthesis_sign) (one_opens (is open_parenthesis_sign))) h.1 h.3 rest h.5))
+    ∙ two_name (name ∷ []) h.0 (h.3 ++ rest) (next_apart (open_parenthesis_sign ∷ []) (assign_sign ∷ []) refl (h.3 ++ rest) (both_opens pair_of (InParentheses As) B (is open_parenthesis_sign) (both_opens second_of (One (is open_parenthesis_sign)) _ (is open_parenthesis_sign) (one_opens (is open_parenthesis_sign))) h.1 h.3 rest h.5))
 
 core_unlike : (E : Language Term) (As : Language (List ArgTerm)) (Ns : Language (List BinderTerm)) (B : Language BodyTerm) (c : CoreTerm) (s rest : List Token) → Core E As Ns B c s → two (is name) (is assign_sign) (s ++ rest) ≡ false
-core_unlike E As Ns B c s rest (inl h) = two_not (s ++ rest) (next_apart (if_word ∷ []) (name ∷ []) refl (s ++ rest) (if_opens E As Ns B c s rest h))
-core_unlike E As Ns B c s rest (inr (inl h)) = two_not (s ++ rest) (next_apart loop_words (name ∷ []) refl (s ++ rest) (loop_opens E As Ns B c s rest h))
+core_unlike E As Ns B c s rest (inl h) = two_not (name ∷ []) (s ++ rest) (next_apart (if_word ∷ []) (name ∷ []) refl (s ++ rest) (if_opens E As Ns B c s rest h))
+core_unlike E As Ns B c s rest (inr (inl h)) = two_not (name ∷ []) (s ++ rest) (next_apart loop_words (name ∷ []) refl (s ++ rest) (loop_opens E As Ns B c s rest h))
 core_unlike E As Ns B c s rest (inr (inr h)) = call_unlike As B c s rest h
 
 marks_unlike : (ms : List MarkTerm) (p q rest : List Token) → Marks ms p → two (is name) (is assign_sign) (q ++ rest) ≡ false → two (is name) (is assign_sign) ((p ++ q) ++ rest) ≡ false
 marks_unlike [] p q rest k e = ap (λ l. two (is name) (is assign_sign) ((l ++ q) ++ rest)) k ∙ e
 marks_unlike (m ∷ ms) p q rest k e =
     ap (λ l. two (is name) (is assign_sign) ((l ++ q) ++ rest)) k.4 ∙ ap (λ l. two (is name) (is assign_sign) (l ++ rest)) (append_assoc k.0 k.1 q) ∙ ap (two (is name) (is assign_sign)) (append_assoc k.0 (k.1 ++ q) rest)
-    ∙ two_not (k.0 ++ ((k.1 ++ q) ++ rest)) (next_apart mark_signs (name ∷ []) refl (k.0 ++ ((k.1 ++ q) ++ rest)) (mark_opens m k.0 ((k.1 ++ q) ++ rest) k.2))
+    ∙ two_not (name ∷ []) (k.0 ++ ((k.1 ++ q) ++ rest)) (next_apart mark_signs (name ∷ []) refl (k.0 ++ ((k.1 ++ q) ++ rest)) (mark_opens m k.0 ((k.1 ++ q) ++ rest) k.2))
 
 pub instance_unlike : (E : Language Term) (As : Language (List ArgTerm)) (Ns : Language (List BinderTerm)) (B : Language BodyTerm) (i : InstanceTerm) (s rest : List Token) → Instance E As Ns B i s → two (is name) (is assign_sign) (s ++ rest) ≡ false
 instance_unlike E As Ns B i s rest h = ap (λ l. two (is name) (is assign_sign) (l ++ rest)) h.7 ∙ marks_unlike h.0 h.2 h.3 rest h.4 (core_unlike E As Ns B h.1 h.3 rest h.5)

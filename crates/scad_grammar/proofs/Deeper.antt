@@ -4,12 +4,12 @@ use Rattle.scad_lexer.specs.declared.token.Token.{Token}
 use Rattle.scad_ast.specs.Terms.{Term, ArgTerm, ParamTerm, BinderTerm, StatementTerm, InstanceStatement, BodyTerm, InstanceBody, PositionalTerm}
 use Rattle.scad_grammar.specs.declared.SyntaxFault.{SyntaxFault}
 use Rattle.scad_grammar.specs.declared.SyntaxFault.TheVariants.{Nested}
-use Rattle.scad_grammar.specs.Classes.{numeral, text, true_word, false_word, undef_word, child_count, name, end, if_word, module_word, function_word, open_parenthesis_sign, open_bracket_sign, open_brace_sign, comma_sign, semicolon_sign, assign_sign, minus_sign, plus_sign, not_sign, among, is}
+use Rattle.scad_grammar.specs.Classes.{numeral, text, true_word, false_word, undef_word, child_count, special, argument_names, name, end, if_word, module_word, function_word, open_parenthesis_sign, open_bracket_sign, open_brace_sign, comma_sign, semicolon_sign, assign_sign, minus_sign, plus_sign, not_sign, among, is}
 use Rattle.scad_grammar.specs.Languages.{first_of}
 use Rattle.scad_grammar.specs.Grammar.{chain_of, postfix_of, levels, choice_of, bracket_of, binder_of, param_of, call_of, instance_of}
 use Rattle.scad_grammar.specs.Reading.{Read, after, starts, one_of, mapped, nothing, both, choice, maybe, ahead, with_front, many_times, many, trailing_times, trailing}
 use Rattle.scad_grammar.specs.Faults.{Reads, one, first, fault_of, left_out, left_out_of_expressions}
-use Rattle.scad_grammar.specs.Reads.{head_of, nested, firsts_of_expression, unary_read, chain_read, named, arg_read, primary_read, choice_read, arg_in, expr_read, operand_read}
+use Rattle.scad_grammar.specs.Reads.{head_of, nested, firsts_of_expression, unary_read, chain_read, given, arg_read, primary_read, choice_read, arg_in, expr_read, operand_read}
 use Rattle.scad_grammar.specs.StatementReads.{mark_signs, loop_words, firsts_of_core, firsts_of_instance, firsts_of_body, firsts_of_statement, param_read, binder_read, binders_read, core_read, instance_read, body_over, ended_read, definition_read, assigned, statement_over, param_in, binder_in, statement_read, body_read, program_read}
 use Rattle.scad_grammar.proofs.Tests.{next_less}
 use Rattle.scad_grammar.proofs.Cores.{marks_reads}
@@ -97,7 +97,7 @@ agreement = record {
   both_keeps = both_agrees;
   choice_keeps = λ test r q s p e. choice_agrees test r q s p;
   taken_keeps = λ cs r q s p e t. choice_agrees (among cs) r q s p;
-  ahead_keeps = λ f. ahead_agrees f (is name) (is assign_sign);
+  ahead_keeps = λ f cs r q s p e g. ahead_agrees f (among cs) (is assign_sign) r q s p;
   many_keeps = λ test r q e. many_agrees test r q;
   many_taken_keeps = λ cs r q e t. many_agrees (among cs) r q;
   trailing_keeps = λ go r q e. trailing_agrees (is comma_sign) go r q;
@@ -128,6 +128,7 @@ primary_refuses e a ts h =
     ∙ skip (starts (is false_word) ts) _ _ (next_less (false_word ∷ []) firsts_of_expression refl ts h)
     ∙ skip (starts (is undef_word) ts) _ _ (next_less (undef_word ∷ []) firsts_of_expression refl ts h)
     ∙ skip (starts (is child_count) ts) _ _ (next_less (child_count ∷ []) firsts_of_expression refl ts h)
+    ∙ skip (starts (is special) ts) _ _ (next_less (special ∷ []) firsts_of_expression refl ts h)
     ∙ skip (starts (is name) ts) _ _ (next_less (name ∷ []) firsts_of_expression refl ts h)
     ∙ skip (starts (is open_parenthesis_sign) ts) _ _ (next_less (open_parenthesis_sign ∷ []) firsts_of_expression refl ts h)
     ∙ both_refuses left_out_of_expressions bracket_of (first (is open_bracket_sign)) _ ts (one_refuses left_out_of_expressions (is open_bracket_sign) ts (next_less (open_bracket_sign ∷ []) firsts_of_expression refl ts h))
@@ -148,7 +149,7 @@ arg_refuses : (e : Reads Term) (ts : List Token) → starts (among firsts_of_exp
 arg_refuses e [] h k = mapped_refuses left_out_of_expressions PositionalTerm e [] k
 arg_refuses e (t ∷ []) h k = mapped_refuses left_out_of_expressions PositionalTerm e (t ∷ []) k
 arg_refuses e (t ∷ u ∷ ts) h k =
-    ap (λ v. cond (v && is assign_sign u) (after (e ts) (λ x us. Ok (named t u x, us))) (mapped PositionalTerm e (t ∷ u ∷ ts))) (next_less (name ∷ []) firsts_of_expression refl (t ∷ u ∷ ts) h)
+    ap (λ v. cond (v && is assign_sign u) (after (e ts) (λ x us. Ok (given t u x, us))) (mapped PositionalTerm e (t ∷ u ∷ ts))) (next_less argument_names firsts_of_expression refl (t ∷ u ∷ ts) h)
     ∙ mapped_refuses left_out_of_expressions PositionalTerm e (t ∷ u ∷ ts) k
 
 -- where nothing stands that is deeper, a deeper reader agrees that refuses what can't begin it
@@ -225,6 +226,7 @@ module _ (e : Reads Term) (a : Reads ArgTerm) (n : Reads BinderTerm) (b : Reads 
     statement_refuses ts h =
         skip (starts (is semicolon_sign) ts) _ _ (next_less (semicolon_sign ∷ []) firsts_of_statement refl ts h)
         ∙ skip (starts (is open_brace_sign) ts) _ _ (next_less (open_brace_sign ∷ []) firsts_of_statement refl ts h)
+        ∙ skip (starts (is special) ts) _ _ (next_less (special ∷ []) firsts_of_statement refl ts h)
         ∙ named_refuses ts h
 
 deeper_statements : (d : ℕ) → Agrees (statement_read d) (statement_read (suc d)) × Agrees (body_read d) (body_read (suc d))

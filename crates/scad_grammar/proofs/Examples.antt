@@ -4,8 +4,8 @@ use Rattle.text_place.specs.declared.fault.Place.{Place}
 use Rattle.scad_lexer.specs.declared.token.Token.{Token}
 use Rattle.scad_lexer.specs.declared.token.TokenKind.{TokenKind}
 use Rattle.scad_lexer.specs.declared.token.TokenKind.TheVariants.{Numeral, Name, Special, Reserved, Symbol, End}
-use Rattle.scad_lexer.specs.declared.token.Reserved.TheVariants.{If, Function, IntersectionFor, Let}
-use Rattle.scad_lexer.specs.declared.token.Symbol.TheVariants.{Semicolon, Assign, OpenParenthesis, CloseParenthesis, Minus, Dot}
+use Rattle.scad_lexer.specs.declared.token.Reserved.TheVariants.{Module, If, Function, IntersectionFor, Let}
+use Rattle.scad_lexer.specs.declared.token.Symbol.TheVariants.{Semicolon, Assign, OpenParenthesis, CloseParenthesis, Minus, Dot, Caret}
 use Rattle.scad_ast.specs.Terms.{StatementTerm, EmptyStatement, InstanceStatement, AnInstance, IfTerm, UndefTerm, EmptyBody}
 use Rattle.scad_grammar.specs.declared.SyntaxFault.{SyntaxFault}
 use Rattle.scad_grammar.specs.declared.SyntaxFault.TheVariants.{Expected, Nested, NotInProfile}
@@ -50,7 +50,7 @@ placed (k ∷ ks) = token k 1 ∷ placed ks
 
 -- the outline of `if (1) ;` in which nothing is one deep: its condition and its body are gaps
 abbrev gap_at : ℕ → Token
-gap_at = token (Special [])
+gap_at = token (Symbol Caret)
 
 abbrev outlined : StatementTerm
 outlined = InstanceStatement (AnInstance (at 1) [] (IfTerm (at 1) (UndefTerm (at 3)) (EmptyBody (at 5))))
@@ -99,7 +99,7 @@ outline_of_if = (
   end_token,
   if_tokens,
   end_token ∷ [],
-  (if_tokens, [], inr (inr (inr (inr (inr (AnInstance (at 1) [] (IfTerm (at 1) (UndefTerm (at 3)) (EmptyBody (at 5))), ([], IfTerm (at 1) (UndefTerm (at 3)) (EmptyBody (at 5)), [], if_tokens, refl, outlined_core, refl, refl), refl))))), refl, refl),
+  (if_tokens, [], inr (inr (inr (inr (inr (inr (AnInstance (at 1) [] (IfTerm (at 1) (UndefTerm (at 3)) (EmptyBody (at 5))), ([], IfTerm (at 1) (UndefTerm (at 3)) (EmptyBody (at 5)), [], if_tokens, refl, outlined_core, refl, refl), refl)))))), refl, refl),
   (refl, refl),
   refl,
   refl,
@@ -139,14 +139,42 @@ word_for_body : Row 65 Expected (Name (codes "m") ∷ Symbol OpenParenthesis ∷
 unfolding many many_times trailing trailing_times expr_read operand_read statement_read body_read
 word_for_body = first_fault 65 _ Expected _ refl refl
 
--- `let`, and a special name, wherever they stand
+-- `let`, wherever it stands
 left_out_word : Row 65 NotInProfile ([]) (Reserved Let ∷ End ∷ [])
 unfolding many many_times trailing trailing_times expr_read operand_read statement_read body_read
 left_out_word = first_fault 65 _ NotInProfile _ refl refl
 
-left_out_name : Row 65 NotInProfile (Name (codes "x") ∷ Symbol Assign ∷ []) (Special (codes "fn") ∷ End ∷ [])
+-- `module m($fn`, and `m() $fn`: a special name, where it is neither an expression nor given a value
+special_parameter : Row 65 NotInProfile (Reserved Module ∷ Name (codes "m") ∷ Symbol OpenParenthesis ∷ []) (Special (codes "fn") ∷ End ∷ [])
 unfolding many many_times trailing trailing_times expr_read operand_read statement_read body_read
-left_out_name = first_fault 65 _ NotInProfile _ refl refl
+special_parameter = first_fault 65 _ NotInProfile _ refl refl
+
+special_body : Row 65 NotInProfile (Name (codes "m") ∷ Symbol OpenParenthesis ∷ Symbol CloseParenthesis ∷ []) (Special (codes "fn") ∷ Symbol Assign ∷ End ∷ [])
+unfolding many many_times trailing trailing_times expr_read operand_read statement_read body_read
+special_body = first_fault 65 _ NotInProfile _ refl refl
+
+-- `$fn;` and `$fn = ;`: programs begin with the name
+special_alone : Row 65 Expected (Special (codes "fn") ∷ []) (Symbol Semicolon ∷ End ∷ [])
+unfolding many many_times trailing trailing_times expr_read operand_read statement_read body_read
+special_alone = first_fault 65 _ Expected _ refl refl
+
+no_special_value : Row 65 Expected (Special (codes "fn") ∷ Symbol Assign ∷ []) (Symbol Semicolon ∷ End ∷ [])
+unfolding many many_times trailing trailing_times expr_read operand_read statement_read body_read
+no_special_value = first_fault 65 _ Expected _ refl refl
+
+-- `m($fn`: an argument begins with the name, also where an `=` follows
+special_argument : Row 65 Expected (Name (codes "m") ∷ Symbol OpenParenthesis ∷ Special (codes "fn") ∷ []) (End ∷ [])
+unfolding many many_times trailing trailing_times expr_read operand_read statement_read body_read
+special_argument = first_fault 65 _ Expected _ refl refl
+
+special_given : Row 65 Expected (Name (codes "m") ∷ Symbol OpenParenthesis ∷ Special (codes "fn") ∷ Symbol Assign ∷ []) (Symbol CloseParenthesis ∷ End ∷ [])
+unfolding many many_times trailing trailing_times expr_read operand_read statement_read body_read
+special_given = first_fault 65 _ Expected _ refl refl
+
+-- `m($children`: before an `=` it is an expression, and no name of an argument
+child_count_given : Row 65 Expected (Name (codes "m") ∷ Symbol OpenParenthesis ∷ Special (codes "children") ∷ []) (Symbol Assign ∷ End ∷ [])
+unfolding many many_times trailing trailing_times expr_read operand_read statement_read body_read
+child_count_given = first_fault 65 _ Expected _ refl refl
 
 -- `$children`, where no expression begins
 child_count_for_statement : Row 65 Expected ([]) (Special (codes "children") ∷ End ∷ [])

@@ -1,15 +1,15 @@
 -- What is read of expressions is in the grammar, at each depth.
-use Rattle.std.proofs.Common.{◌≡◌, ℕ, zero, suc, List, [], ◌∷◌, ◌++◌, Bool, true, false, cond, Option, Some, None, Ok, inl, inr, refl, sym, ap, ◌∙◌, append_assoc, append-nil, ◌&&◌}
+use Rattle.std.proofs.Common.{◌≡◌, ℕ, zero, suc, List, [], ◌∷◌, ◌++◌, Bool, true, false, cond, Option, Some, None, Ok, inl, inr, refl, sym, ap, ◌∙◌, append_assoc, append-nil, ◌&&◌, ◌⊎◌}
 use Rattle.scad_lexer.specs.declared.token.Token.{Token}
 use Rattle.scad_lexer.specs.declared.token.TokenKind.TheVariants.{Numeral, Symbol}
 use Rattle.scad_lexer.specs.declared.token.Symbol.TheVariants.{CloseParenthesis, CloseBracket, Question, Colon, Or, And, Equal, Less, Plus, Times}
-use Rattle.scad_ast.specs.Terms.{Term, NumberTerm, TextTerm, TruthTerm, UndefTerm, ChildCountTerm, ArgTerm, NamedTerm, PositionalTerm}
-use Rattle.scad_grammar.specs.Classes.{numeral, special, text, true_word, false_word, undef_word, child_count, name, open_parenthesis_sign, close_parenthesis_sign, open_bracket_sign, close_bracket_sign, assign_sign, colon_sign, question_sign, minus_sign, plus_sign, times_sign, divide_sign, remainder_sign, less_sign, greater_sign, less_equal_sign, greater_equal_sign, equal_sign, not_equal_sign, and_sign, or_sign, among, is, other_than, class_of, number_of, bytes_of}
+use Rattle.scad_ast.specs.Terms.{Term, NumberTerm, TextTerm, TruthTerm, UndefTerm, ChildCountTerm, SpecialTerm, ArgTerm, PositionalTerm}
+use Rattle.scad_grammar.specs.Classes.{numeral, special, text, true_word, false_word, undef_word, child_count, name, open_parenthesis_sign, close_parenthesis_sign, open_bracket_sign, close_bracket_sign, assign_sign, colon_sign, question_sign, minus_sign, plus_sign, times_sign, divide_sign, remainder_sign, less_sign, greater_sign, less_equal_sign, greater_equal_sign, equal_sign, not_equal_sign, and_sign, or_sign, caret_sign, argument_names, among, is, other_than, class_of, number_of, bytes_of}
 use Rattle.scad_grammar.specs.Languages.{Language, One, Mapped, Both, EitherOf, Nothing, Many, Maybe, Never, Before, Behind, second_of, pair_of}
-use Rattle.scad_grammar.specs.Grammar.{InParentheses, Arg, Args, Primary, Bracket, Suffix, Postfix, Unary, Chain, Choice, Detail, whole, outline, ArgsIn, Expr, Operand, levels, chain_of, choice_of, unary_of, postfix_of, named_of, paren_of, bracket_of, link}
+use Rattle.scad_grammar.specs.Grammar.{InParentheses, Arg, Args, Primary, Bracket, Suffix, Postfix, Unary, Chain, Choice, Detail, whole, outline, ArgsIn, Expr, Operand, levels, chain_of, choice_of, unary_of, postfix_of, given_of, named_of, paren_of, bracket_of, link}
 use Rattle.scad_grammar.specs.Reading.{after, starts, mapped, both, maybe}
 use Rattle.scad_grammar.specs.Faults.{Reads, one, left_out_of_expressions}
-use Rattle.scad_grammar.specs.Reads.{firsts_of_primary, firsts_of_expression, named, arg_read, args_read, nested, primary_read, unary_read, chain_read, choice_read, arg_in, expr_read, operand_read}
+use Rattle.scad_grammar.specs.Reads.{firsts_of_primary, firsts_of_expression, given, arg_read, args_read, nested, primary_read, unary_read, chain_read, choice_read, arg_in, expr_read, operand_read}
 use Rattle.scad_grammar.proofs.Readers.{Begins, IsReader, Opens, both_reads, mapped_reads, same_reads, both_opens, either_opens, mapped_opens, one_opens}
 use Rattle.scad_grammar.proofs.Greedy.{or_first, maybe_ends, maybe_reads}
 use Rattle.scad_grammar.proofs.Ahead.{Two, Ahead, two, rest_of, ahead_reads}
@@ -48,18 +48,18 @@ choice_opens E As U = both_opens choice_of (Chain levels (Unary E As U)) _ (amon
 
 -- the same, or a gap
 abbrev pub open_firsts_of_expression : List ℕ
-open_firsts_of_expression = special ∷ firsts_of_expression
+open_firsts_of_expression = caret_sign ∷ firsts_of_expression
 
 pub expr_opens : (g : Detail) (d : ℕ) → Opens (Expr g d) (among open_firsts_of_expression)
 unfolding Expr Operand
 expr_opens whole zero x s rest h = elim h [ ]
-expr_opens outline zero x s rest h = next_within (special ∷ []) open_firsts_of_expression refl (s ++ rest) (mapped_opens (λ t. UndefTerm t.place) (One (is special)) (is special) (one_opens (is special)) x s rest h)
+expr_opens outline zero x s rest h = next_within (caret_sign ∷ []) open_firsts_of_expression refl (s ++ rest) (mapped_opens (λ t. UndefTerm t.place) (One (is caret_sign)) (is caret_sign) (one_opens (is caret_sign)) x s rest h)
 expr_opens g (suc d) x s rest h = next_within firsts_of_expression open_firsts_of_expression refl (s ++ rest) (choice_opens (Expr g d) (ArgsIn d (Expr g d)) (Operand g d) x s rest h)
 
 pub arg_opens : (E : Language Term) → Opens E (among open_firsts_of_expression) → Opens (Arg E) (among open_firsts_of_expression)
 arg_opens E o =
     either_opens _ (Mapped PositionalTerm E) (among open_firsts_of_expression)
-    (λ x s rest h. next_within (name ∷ []) open_firsts_of_expression refl (s ++ rest) (both_opens _ (One (is name)) (Behind (is assign_sign) E) (is name) (one_opens (is name)) x s rest h))
+    (λ x s rest h. next_within argument_names open_firsts_of_expression refl (s ++ rest) (both_opens given_of (One (among argument_names)) (Behind (is assign_sign) E) (among argument_names) (one_opens (among argument_names)) x s rest h))
     (mapped_opens PositionalTerm E (among open_firsts_of_expression) o)
 
 -- a numeral alone
@@ -86,34 +86,34 @@ zero_unary E As U = alone_unary E As U zero_term (zero_token ∷ []) (inl (zero_
 zero_choice : (E : Language Term) (As : Language (List ArgTerm)) (U : Language Term) → Choice E As U zero_term (zero_token ∷ [])
 zero_choice E As U = alone_choice E As U zero_term (zero_token ∷ []) (zero_unary E As U)
 
--- no expression begins with a name and an `=`
+-- no expression begins with the name of an argument and an `=`
 abbrev pub Unlike : {A : Type 0} → Language A → Type 0
-Unlike {A} L = (x : A) (s rest : List Token) → L x s → starts (is assign_sign) rest ≡ false → two (is name) (is assign_sign) (s ++ rest) ≡ false
+Unlike {A} L = (x : A) (s rest : List Token) → L x s → starts (is assign_sign) rest ≡ false → two (among argument_names) (is assign_sign) (s ++ rest) ≡ false
 
-pub two_not : (l : List Token) → starts (is name) l ≡ false → two (is name) (is assign_sign) l ≡ false
-two_not [] e = refl
-two_not (t ∷ []) e = refl
-two_not (t ∷ u ∷ l) e = ap (λ b. b && is assign_sign u) e
+pub two_not : (cs : List ℕ) (l : List Token) → starts (among cs) l ≡ false → two (among cs) (is assign_sign) l ≡ false
+two_not cs [] e = refl
+two_not cs (t ∷ []) e = refl
+two_not cs (t ∷ u ∷ l) e = ap (λ b. b && is assign_sign u) e
 
 and_false : (b c : Bool) → c ≡ false → (b && c) ≡ false
 and_false true c e = e
 and_false false c e = refl
 
-pub two_name : (t : Token) (l : List Token) → starts (is assign_sign) l ≡ false → two (is name) (is assign_sign) (t ∷ l) ≡ false
-two_name t [] e = refl
-two_name t (u ∷ l) e = and_false (is name t) (is assign_sign u) e
+pub two_name : (cs : List ℕ) (t : Token) (l : List Token) → starts (is assign_sign) l ≡ false → two (among cs) (is assign_sign) (t ∷ l) ≡ false
+two_name cs t [] e = refl
+two_name cs t (u ∷ l) e = and_false (among cs t) (is assign_sign u) e
 
-opens_unlike : {A : Type 0} (L : Language A) (cs : List ℕ) → apart cs (name ∷ []) ≡ true → Opens L (among cs) → Unlike L
-opens_unlike L cs a o x s rest h e = two_not (s ++ rest) (next_apart cs (name ∷ []) a (s ++ rest) (o x s rest h))
+opens_unlike : {A : Type 0} (L : Language A) (cs : List ℕ) → apart cs argument_names ≡ true → Opens L (among cs) → Unlike L
+opens_unlike L cs a o x s rest h e = two_not argument_names (s ++ rest) (next_apart cs argument_names a (s ++ rest) (o x s rest h))
 
 both_unlike : {A B C : Type 0} (f : A → B → C) (La : Language A) (Lb : Language B) → Unlike La → ((y : B) (s rest : List Token) → Lb y s → starts (is assign_sign) rest ≡ false → starts (is assign_sign) (s ++ rest) ≡ false) → Unlike (Both f La Lb)
-both_unlike f La Lb ua ob c s rest h e = ap (λ l. two (is name) (is assign_sign) (l ++ rest)) h.7 ∙ ap (two (is name) (is assign_sign)) (append_assoc h.2 h.3 rest) ∙ ua h.0 h.2 (h.3 ++ rest) h.4 (ob h.1 h.3 rest h.5 e)
+both_unlike f La Lb ua ob c s rest h e = ap (λ l. two (among argument_names) (is assign_sign) (l ++ rest)) h.7 ∙ ap (two (among argument_names) (is assign_sign)) (append_assoc h.2 h.3 rest) ∙ ua h.0 h.2 (h.3 ++ rest) h.4 (ob h.1 h.3 rest h.5 e)
 
 either_unlike : {A : Type 0} (La Lb : Language A) → Unlike La → Unlike Lb → Unlike (EitherOf La Lb)
 either_unlike La Lb ua ub x s rest (inl h) e = ua x s rest h e
 either_unlike La Lb ua ub x s rest (inr h) e = ub x s rest h e
 
-single_unlike : (c : ℕ) (f : Token → Term) → apart (c ∷ []) (name ∷ []) ≡ true → Unlike (Mapped f (One (is c)))
+single_unlike : (c : ℕ) (f : Token → Term) → apart (c ∷ []) argument_names ≡ true → Unlike (Mapped f (One (is c)))
 single_unlike c f a = opens_unlike (Mapped f (One (is c))) (c ∷ []) a (mapped_opens f (One (is c)) (is c) (one_opens (is c)))
 
 many_keeps : {A : Type 0} (L : Language A) (cs : List ℕ) → apart cs (assign_sign ∷ []) ≡ true → Opens L (among cs) → (ys : List A) (s rest : List Token) → Many L ys s → starts (is assign_sign) rest ≡ false → starts (is assign_sign) (s ++ rest) ≡ false
@@ -124,8 +124,12 @@ maybe_keeps : {A : Type 0} (L : Language A) (cs : List ℕ) → apart cs (assign
 maybe_keeps L cs a o None s rest h e = ap (λ l. starts (is assign_sign) (l ++ rest)) h ∙ e
 maybe_keeps L cs a o (Some y) s rest h e = next_apart cs (assign_sign ∷ []) a (s ++ rest) (o y s rest h)
 
-name_unlike : Unlike (One (is name))
-name_unlike t s rest h e = ap (λ l. two (is name) (is assign_sign) (l ++ rest)) h.1 ∙ two_name t rest e
+-- a token alone doesn't
+one_unlike : (test : Token → Bool) → Unlike (One test)
+one_unlike test t s rest h e = ap (λ l. two (among argument_names) (is assign_sign) (l ++ rest)) h.1 ∙ two_name argument_names t rest e
+
+special_unlike : Unlike (Mapped (λ t. SpecialTerm t.place (bytes_of t.kind)) (One (is special)))
+special_unlike x s rest h e = one_unlike (is special) h.0 s rest h.1 e
 
 primary_unlike : (E : Language Term) (As : Language (List ArgTerm)) → Unlike (Primary E As)
 primary_unlike E As =
@@ -135,10 +139,11 @@ primary_unlike E As =
     (either_unlike _ _ (single_unlike false_word (λ t. TruthTerm t.place false) refl)
     (either_unlike _ _ (single_unlike undef_word (λ t. UndefTerm t.place) refl)
     (either_unlike _ _ (single_unlike child_count (λ t. ChildCountTerm t.place) refl)
-    (either_unlike _ _ (both_unlike named_of (One (is name)) (Maybe (InParentheses As)) name_unlike
+    (either_unlike _ _ special_unlike
+    (either_unlike _ _ (both_unlike named_of (One (is name)) (Maybe (InParentheses As)) (one_unlike (is name))
     (maybe_keeps (InParentheses As) (open_parenthesis_sign ∷ []) refl (both_opens second_of (One (is open_parenthesis_sign)) _ (is open_parenthesis_sign) (one_opens (is open_parenthesis_sign)))))
     (either_unlike _ _ (opens_unlike _ (open_parenthesis_sign ∷ []) refl (both_opens paren_of (One (is open_parenthesis_sign)) (Before E (is close_parenthesis_sign)) (is open_parenthesis_sign) (one_opens (is open_parenthesis_sign))))
-    (opens_unlike (Bracket E) (open_bracket_sign ∷ []) refl (both_opens bracket_of (One (is open_bracket_sign)) _ (is open_bracket_sign) (one_opens (is open_bracket_sign)))))))))))
+    (opens_unlike (Bracket E) (open_bracket_sign ∷ []) refl (both_opens bracket_of (One (is open_bracket_sign)) _ (is open_bracket_sign) (one_opens (is open_bracket_sign))))))))))))
 
 unary_unlike : (E : Language Term) (As : Language (List ArgTerm)) (U : Language Term) → Unlike (Unary E As U)
 unary_unlike E As U =
@@ -183,19 +188,19 @@ module _ {A C : Type 0} (f : Token → A → C) (a b : Token → Bool) (L : Lang
       (h.0, k.0, k.1, k.3, h.4.0, k.4.0, k.5, h.6 ∙ ap (f h.0) k.6, h.7 ∙ ap (λ l. l ++ h.3) h.4.1 ∙ ap (λ l. h.0 ∷ l) (k.7 ∙ ap (λ l. l ++ k.3) k.4.1))
 
 -- an argument is told from a named one by its second token
-module _ (e : Reads Term) (E F : Language Term) (ie : IsReader e E F (λ x. among expression_more)) (alone : (t : Token) → is name t ≡ true → (x : Term) × E x (t ∷ [])) (unlike : Unlike E) where
-  to_arg : (L : Language Term) (c : ArgTerm) (s : List Token) → Ahead named (is name) (is assign_sign) L (Mapped PositionalTerm L) c s → Arg L c s
-  to_arg L c s (inl h) = inl (two_to (λ t x. NamedTerm t.place (bytes_of t.kind) x) (is name) (is assign_sign) L c s h)
+module _ (e : Reads Term) (E F : Language Term) (ie : IsReader e E F (λ x. among expression_more)) (alone : (t : Token) → among argument_names t ≡ true → (x : Term) × E x (t ∷ [])) (unlike : Unlike E) where
+  to_arg : (L : Language Term) (c : ArgTerm) (s : List Token) → Ahead given (among argument_names) (is assign_sign) L (Mapped PositionalTerm L) c s → Arg L c s
+  to_arg L c s (inl h) = inl (two_to given_of (among argument_names) (is assign_sign) L c s h)
   to_arg L c s (inr h) = inr h
 
-  from_arg : (L : Language Term) (c : ArgTerm) (s : List Token) → Arg L c s → Ahead named (is name) (is assign_sign) L (Mapped PositionalTerm L) c s
-  from_arg L c s (inl h) = inl (two_from (λ t x. NamedTerm t.place (bytes_of t.kind) x) (is name) (is assign_sign) L c s h)
+  from_arg : (L : Language Term) (c : ArgTerm) (s : List Token) → Arg L c s → Ahead given (among argument_names) (is assign_sign) L (Mapped PositionalTerm L) c s
+  from_arg L c s (inl h) = inl (two_from given_of (among argument_names) (is assign_sign) L c s h)
   from_arg L c s (inr h) = inr h
 
   pub arg_reads : IsReader (arg_read e) (Arg E) (Arg F) (λ x. among arg_more)
   arg_reads =
-      same_reads (arg_read e) (Ahead named (is name) (is assign_sign) E (Mapped PositionalTerm E)) (Ahead named (is name) (is assign_sign) F (Mapped PositionalTerm F)) (Arg E) (Arg F) (λ x. among arg_more)
-      (ahead_reads named (is name) (is assign_sign) e (mapped PositionalTerm e) E F (Mapped PositionalTerm E) (Mapped PositionalTerm F) (λ x. among expression_more) (λ x. among arg_more) ie
+      same_reads (arg_read e) (Ahead given (among argument_names) (is assign_sign) E (Mapped PositionalTerm E)) (Ahead given (among argument_names) (is assign_sign) F (Mapped PositionalTerm F)) (Arg E) (Arg F) (λ x. among arg_more)
+      (ahead_reads given (among argument_names) (is assign_sign) e (mapped PositionalTerm e) E F (Mapped PositionalTerm E) (Mapped PositionalTerm F) (λ x. among expression_more) (λ x. among arg_more) ie
       (mapped_reads PositionalTerm e E F (λ x. among expression_more) (λ x. among arg_more) ie (λ x. next_less expression_more arg_more refl))
       (λ t u x. next_less expression_more arg_more refl)
       (λ t h. ap rest_of (ap (λ q. after q (λ x us. Ok (PositionalTerm x, us))) (ie.complete (alone t h).0 (t ∷ []) [] (alone t h).1 refl)))
@@ -278,23 +283,26 @@ module _ (E : Language Term) (As : Language (List ArgTerm)) (U : Language Term) 
 
   begins_primary : (t : Token) → among firsts_of_primary t ≡ true → Begins (Primary E As) (t ∷ [])
   begins_primary t h =
-      elim (either_listed (numeral ∷ []) (text ∷ true_word ∷ false_word ∷ undef_word ∷ child_count ∷ name ∷ open_parenthesis_sign ∷ open_bracket_sign ∷ []) (class_of t.kind) h) [
+      elim (either_listed (numeral ∷ []) (text ∷ true_word ∷ false_word ∷ undef_word ∷ child_count ∷ special ∷ name ∷ open_parenthesis_sign ∷ open_bracket_sign ∷ []) (class_of t.kind) h) [
         | inl a ↦ ([], NumberTerm t.place (number_of t.kind), inl (t, (a, refl), refl))
-        | inr h ↦ elim (either_listed (text ∷ []) (true_word ∷ false_word ∷ undef_word ∷ child_count ∷ name ∷ open_parenthesis_sign ∷ open_bracket_sign ∷ []) (class_of t.kind) h) [
+        | inr h ↦ elim (either_listed (text ∷ []) (true_word ∷ false_word ∷ undef_word ∷ child_count ∷ special ∷ name ∷ open_parenthesis_sign ∷ open_bracket_sign ∷ []) (class_of t.kind) h) [
           | inl a ↦ ([], TextTerm t.place (bytes_of t.kind), inr (inl (t, (a, refl), refl)))
-          | inr h ↦ elim (either_listed (true_word ∷ []) (false_word ∷ undef_word ∷ child_count ∷ name ∷ open_parenthesis_sign ∷ open_bracket_sign ∷ []) (class_of t.kind) h) [
+          | inr h ↦ elim (either_listed (true_word ∷ []) (false_word ∷ undef_word ∷ child_count ∷ special ∷ name ∷ open_parenthesis_sign ∷ open_bracket_sign ∷ []) (class_of t.kind) h) [
             | inl a ↦ ([], TruthTerm t.place true, inr (inr (inl (t, (a, refl), refl))))
-            | inr h ↦ elim (either_listed (false_word ∷ []) (undef_word ∷ child_count ∷ name ∷ open_parenthesis_sign ∷ open_bracket_sign ∷ []) (class_of t.kind) h) [
+            | inr h ↦ elim (either_listed (false_word ∷ []) (undef_word ∷ child_count ∷ special ∷ name ∷ open_parenthesis_sign ∷ open_bracket_sign ∷ []) (class_of t.kind) h) [
               | inl a ↦ ([], TruthTerm t.place false, inr (inr (inr (inl (t, (a, refl), refl)))))
-              | inr h ↦ elim (either_listed (undef_word ∷ []) (child_count ∷ name ∷ open_parenthesis_sign ∷ open_bracket_sign ∷ []) (class_of t.kind) h) [
+              | inr h ↦ elim (either_listed (undef_word ∷ []) (child_count ∷ special ∷ name ∷ open_parenthesis_sign ∷ open_bracket_sign ∷ []) (class_of t.kind) h) [
                 | inl a ↦ ([], UndefTerm t.place, inr (inr (inr (inr (inl (t, (a, refl), refl))))))
-                | inr h ↦ elim (either_listed (child_count ∷ []) (name ∷ open_parenthesis_sign ∷ open_bracket_sign ∷ []) (class_of t.kind) h) [
+                | inr h ↦ elim (either_listed (child_count ∷ []) (special ∷ name ∷ open_parenthesis_sign ∷ open_bracket_sign ∷ []) (class_of t.kind) h) [
                   | inl a ↦ ([], ChildCountTerm t.place, inr (inr (inr (inr (inr (inl (t, (a, refl), refl)))))))
-                  | inr h ↦ elim (either_listed (name ∷ []) (open_parenthesis_sign ∷ open_bracket_sign ∷ []) (class_of t.kind) h) [
-                    | inl a ↦ ([], named_of t None, inr (inr (inr (inr (inr (inr (inl (t, None, t ∷ [], [], (a, refl), refl, refl, refl))))))))
-                    | inr h ↦ elim (either_listed (open_parenthesis_sign ∷ []) (open_bracket_sign ∷ []) (class_of t.kind) h) [
-                      | inl a ↦ (zero_token ∷ close ∷ [], paren_of t zero_term, inr (inr (inr (inr (inr (inr (inr (inl (t, zero_term, t ∷ [], zero_token ∷ close ∷ [], (a, refl), (zero_term, close, zero_token ∷ [], close ∷ [], e, (refl, refl), refl, refl), refl, refl)))))))))
-                      | inr a ↦ (close_bracket ∷ [], bracket_of t None, inr (inr (inr (inr (inr (inr (inr (inr (t, None, t ∷ [], close_bracket ∷ [], (a, refl), (None, close_bracket, [], close_bracket ∷ [], refl, (refl, refl), refl, refl), refl, refl)))))))))
+                  | inr h ↦ elim (either_listed (special ∷ []) (name ∷ open_parenthesis_sign ∷ open_bracket_sign ∷ []) (class_of t.kind) h) [
+                    | inl a ↦ ([], SpecialTerm t.place (bytes_of t.kind), inr (inr (inr (inr (inr (inr (inl (t, (a, refl), refl))))))))
+                    | inr h ↦ elim (either_listed (name ∷ []) (open_parenthesis_sign ∷ open_bracket_sign ∷ []) (class_of t.kind) h) [
+                      | inl a ↦ ([], named_of t None, inr (inr (inr (inr (inr (inr (inr (inl (t, None, t ∷ [], [], (a, refl), refl, refl, refl)))))))))
+                      | inr h ↦ elim (either_listed (open_parenthesis_sign ∷ []) (open_bracket_sign ∷ []) (class_of t.kind) h) [
+                        | inl a ↦ (zero_token ∷ close ∷ [], paren_of t zero_term, inr (inr (inr (inr (inr (inr (inr (inr (inl (t, zero_term, t ∷ [], zero_token ∷ close ∷ [], (a, refl), (zero_term, close, zero_token ∷ [], close ∷ [], e, (refl, refl), refl, refl), refl, refl))))))))))
+                        | inr a ↦ (close_bracket ∷ [], bracket_of t None, inr (inr (inr (inr (inr (inr (inr (inr (inr (t, None, t ∷ [], close_bracket ∷ [], (a, refl), (None, close_bracket, [], close_bracket ∷ [], refl, (refl, refl), refl, refl), refl, refl))))))))))
+                      ]
                     ]
                   ]
                 ]
@@ -321,8 +329,15 @@ no_arg c s (inr h) = elim h.1 [ ]
 begins_arg : (F : Language Term) (l : List Token) → Begins F l → Begins (Arg F) l
 begins_arg F l b = (b.0, PositionalTerm b.1, inr (b.1, b.2, refl))
 
-pub alone_name : (E : Language Term) (As : Language (List ArgTerm)) (U : Language Term) (t : Token) → is name t ≡ true → (x : Term) × Choice E As U x (t ∷ [])
-alone_name E As U t h = (named_of t None, alone_choice E As U (named_of t None) (t ∷ []) (alone_unary E As U (named_of t None) (t ∷ []) (inr (inr (inr (inr (inr (inr (inl (t, None, t ∷ [], [], (h, refl), refl, refl, refl))))))))))
+-- the name of an argument is an expression alone
+pub alone_name : (E : Language Term) (As : Language (List ArgTerm)) (U : Language Term) (t : Token) → among argument_names t ≡ true → (x : Term) × Choice E As U x (t ∷ [])
+alone_name E As U t h =
+    let k = primary (either_listed (name ∷ []) (special ∷ []) (class_of t.kind) h) in
+    (k.0, alone_choice E As U k.0 (t ∷ []) (alone_unary E As U k.0 (t ∷ []) k.1))
+  where
+    primary : (is name t ≡ true) ⊎ (is special t ≡ true) → (x : Term) × Primary E As x (t ∷ [])
+    primary (inl h) = (named_of t None, inr (inr (inr (inr (inr (inr (inr (inl (t, None, t ∷ [], [], (h, refl), refl, refl, refl)))))))))
+    primary (inr h) = (SpecialTerm t.place (bytes_of t.kind), inr (inr (inr (inr (inr (inr (inl (t, (h, refl), refl))))))))
 
 abbrev pub ExprIn : ℕ → Language Term
 ExprIn = Expr whole

@@ -4,7 +4,7 @@ use Rattle.scad_lexer.specs.declared.token.Token.{Token}
 use Rattle.scad_ast.specs.Terms.{Term, ArgTerm, BinderTerm, EmptyBody, UndefTerm}
 use Rattle.scad_grammar.specs.declared.SyntaxFault.{SyntaxFault}
 use Rattle.scad_grammar.specs.declared.SyntaxFault.TheVariants.{Expected, Nested, NotInProfile}
-use Rattle.scad_grammar.specs.Classes.{numeral, special, name, end, assign_sign, comma_sign, open_bracket_sign, listed, among, is, class_of}
+use Rattle.scad_grammar.specs.Classes.{numeral, caret_sign, name, end, assign_sign, comma_sign, open_bracket_sign, listed, among, is, class_of}
 use Rattle.scad_grammar.specs.Languages.{first_of, cons}
 use Rattle.scad_grammar.specs.Reading.{Read, after, starts, one_of, mapped, nothing, both, choice, ahead, with_front, many_times, many, trailing_times, trailing}
 use Rattle.scad_grammar.specs.Faults.{Reads, one, first, fault_of, left_out, left_out_of_expressions}
@@ -66,8 +66,8 @@ ahead_at f a b r q s p h k (t ∷ u ∷ ts) =
     cond_cut (a t && b u) (after (r ts) (λ x us. Ok (f t u x, us))) (after (q ts) (λ x us. Ok (f t u x, us))) (s (t ∷ u ∷ ts)) (p (t ∷ u ∷ ts))
     (after_cut (r ts) (q ts) (λ x us. Ok (f t u x, us)) (λ x us. Ok (f t u x, us)) (h.at ts) (λ x us. equal refl) (λ x us. omega arith)) (k.at (t ∷ u ∷ ts))
 
-ahead_cut : {A C : Type 0} (f : Token → Token → A → C) (r q : Reads A) (s p : Reads C) → Cuts r q → Cuts s p → Cuts (ahead f (is name) (is assign_sign) r s) (ahead f (is name) (is assign_sign) q p)
-ahead_cut f r q s p h k = record { at = ahead_at f (is name) (is assign_sign) r q s p h k; shrinks = ahead_shrinks f (is name) (is assign_sign) q p h.shrinks k.shrinks }
+ahead_cut : {A C : Type 0} (f : Token → Token → A → C) (cs : List ℕ) (r q : Reads A) (s p : Reads C) → Cuts r q → Cuts s p → Cuts (ahead f (among cs) (is assign_sign) r s) (ahead f (among cs) (is assign_sign) q p)
+ahead_cut f cs r q s p h k = record { at = ahead_at f (among cs) (is assign_sign) r q s p h k; shrinks = ahead_shrinks f (among cs) (is assign_sign) q p h.shrinks k.shrinks }
 
 front_cut : {A : Type 0} (x : A) (q p : Read Token SyntaxFault (List A)) → Cut q p → Cut (with_front x q) (with_front x p)
 front_cut x q p (equal e) = equal (ap (with_front x) e)
@@ -113,7 +113,7 @@ cutting = record {
   both_keeps = both_cut;
   choice_keeps = λ test r q s p e. choice_cut test r q s p;
   taken_keeps = λ cs r q s p e t. choice_cut (among cs) r q s p;
-  ahead_keeps = ahead_cut;
+  ahead_keeps = λ f cs r q s p e g. ahead_cut f cs r q s p;
   many_keeps = λ test r q e. many_cut test r q;
   many_taken_keeps = λ cs r q e t. many_cut (among cs) r q;
   trailing_keeps = λ go r q e. trailing_cut (is comma_sign) go r q;
@@ -135,15 +135,15 @@ nested_refused {A} begins classes = record { at = at; shrinks = refusal_shrinks 
 
 -- or a gap is read
 gap_shrinks : {A : Type 0} (f : Token → A) (classes : List ℕ) → Shrinks (gap f classes)
-gap_shrinks f classes = mapped_shrinks f (one_of (is special) (fault_of classes)) (one_shrinks (is special) (fault_of classes))
+gap_shrinks f classes = mapped_shrinks f (one_of (is caret_sign) (fault_of classes)) (one_shrinks (is caret_sign) (fault_of classes))
 
-module _ {A : Type 0} (begins classes : List ℕ) (f : Token → A) (r : Reads A) (is_r : (ts : List Token) → r ts ≡ cond (starts (among begins) ts) (Err (Nested, ts)) (refusal classes ts)) (not_begun : apart (special ∷ []) begins ≡ true) (out : listed classes special ≡ true) where
-  gap_read : (t : Token) (ts : List Token) → is special t ≡ true → r (t ∷ ts) ≡ Err (NotInProfile, t ∷ ts)
+module _ {A : Type 0} (begins classes : List ℕ) (f : Token → A) (r : Reads A) (is_r : (ts : List Token) → r ts ≡ cond (starts (among begins) ts) (Err (Nested, ts)) (refusal classes ts)) (not_begun : apart (caret_sign ∷ []) begins ≡ true) (out : listed classes caret_sign ≡ true) where
+  gap_read : (t : Token) (ts : List Token) → is caret_sign t ≡ true → r (t ∷ ts) ≡ Err (NotInProfile, t ∷ ts)
   gap_read t ts e =
-      is_r (t ∷ ts) ∙ ap (λ b. cond b (Err (Nested, t ∷ ts)) (Err (fault_of classes (Some t), t ∷ ts))) (classes_apart (special ∷ []) begins not_begun (class_of t.kind) e)
-      ∙ ap (λ b. Err (cond b NotInProfile Expected, t ∷ ts)) (classes_within (special ∷ []) classes (ap (λ b. cond b true false) out) (class_of t.kind) e)
+      is_r (t ∷ ts) ∙ ap (λ b. cond b (Err (Nested, t ∷ ts)) (Err (fault_of classes (Some t), t ∷ ts))) (classes_apart (caret_sign ∷ []) begins not_begun (class_of t.kind) e)
+      ∙ ap (λ b. Err (cond b NotInProfile Expected, t ∷ ts)) (classes_within (caret_sign ∷ []) classes (ap (λ b. cond b true false) out) (class_of t.kind) e)
 
-  other_read : (t : Token) (ts : List Token) → is special t ≡ false → Cut (r (t ∷ ts)) (gap f classes (t ∷ ts))
+  other_read : (t : Token) (ts : List Token) → is caret_sign t ≡ false → Cut (r (t ∷ ts)) (gap f classes (t ∷ ts))
   other_read t ts e = go (among begins t) (is_r (t ∷ ts))
     where
       open_refused : gap f classes (t ∷ ts) ≡ Err (fault_of classes (Some t), t ∷ ts)
@@ -155,9 +155,9 @@ module _ {A : Type 0} (begins classes : List ℕ) (f : Token → A) (r : Reads A
 
   at_gap : (ts : List Token) → Cut (r ts) (gap f classes ts)
   at_gap [] = equal (is_r [])
-  at_gap (t ∷ ts) = go (is special t) refl
+  at_gap (t ∷ ts) = go (is caret_sign t) refl
     where
-      go : (b : Bool) → is special t ≡ b → Cut (r (t ∷ ts)) (gap f classes (t ∷ ts))
+      go : (b : Bool) → is caret_sign t ≡ b → Cut (r (t ∷ ts)) (gap f classes (t ∷ ts))
       go true e = gapped (t ∷ ts) (gap_read t ts e) ((gap_shrinks f classes).at (t ∷ ts))
       go false e = other_read t ts e
 

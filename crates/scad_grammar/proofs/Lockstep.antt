@@ -2,16 +2,16 @@
 -- expressions leave out, or the word has its place there.
 use Rattle.std.proofs.Common.{◌≡◌, ℕ, zero, suc, ◌≤◌, List, [], ◌∷◌, ◌++◌, length, Bool, true, false, cond, Ok, Err, Option, Some, None, inl, inr, refl, sym, ap, ◌∙◌, subst, arith, ◌&&◌}
 use Rattle.scad_lexer.specs.declared.token.Token.{Token}
-use Rattle.scad_ast.specs.Terms.{Term, NumberTerm, TextTerm, TruthTerm, UndefTerm, ChildCountTerm, ArgTerm, ParamTerm, BinderTerm, CoreTerm, StatementTerm, EmptyStatement, InstanceStatement, BodyTerm}
+use Rattle.scad_ast.specs.Terms.{Term, NumberTerm, TextTerm, TruthTerm, UndefTerm, ChildCountTerm, SpecialTerm, ArgTerm, ParamTerm, BinderTerm, CoreTerm, StatementTerm, EmptyStatement, InstanceStatement, BodyTerm}
 use Rattle.scad_grammar.specs.declared.SyntaxFault.{SyntaxFault}
 use Rattle.scad_grammar.specs.declared.SyntaxFault.TheVariants.{Expected, Nested, NotInProfile}
-use Rattle.scad_grammar.specs.Classes.{else_word, close_parenthesis_sign, numeral, text, true_word, false_word, undef_word, child_count, name, end, if_word, for_word, function_word, module_word, assign_sign, comma_sign, semicolon_sign, open_brace_sign, open_parenthesis_sign, open_bracket_sign, listed, among, is, class_of, number_of, bytes_of}
+use Rattle.scad_grammar.specs.Classes.{else_word, close_parenthesis_sign, numeral, text, true_word, false_word, undef_word, child_count, special, name, end, if_word, for_word, function_word, module_word, assign_sign, comma_sign, semicolon_sign, open_brace_sign, open_parenthesis_sign, open_bracket_sign, listed, among, is, class_of, number_of, bytes_of}
 use Rattle.scad_grammar.specs.Languages.{first_of, second_of, pair_of}
 use Rattle.scad_grammar.specs.Grammar.{bare_block_of, bracket_of, loop_of, instance_of, function_of, if_of}
 use Rattle.scad_grammar.specs.Reading.{Read, after, starts, one_of, mapped, nothing, both, choice, maybe, ahead, with_front, many_times, many, trailing_times, trailing}
 use Rattle.scad_grammar.specs.Faults.{Reads, one, first, fault_of, left_out, left_out_of_expressions}
 use Rattle.scad_grammar.specs.Reads.{head_of, nested, firsts_of_expression, in_parentheses, name_read, paren_read, primary_read, arg_in, expr_read, operand_read}
-use Rattle.scad_grammar.specs.StatementReads.{mark_signs, loop_words, firsts_of_body, firsts_of_statement, if_read, call_read, module_read, params_read, ended_read, definition_read, assigned, statement_over, function_read, param_in, binder_in, binders_read, braces_read, instance_in, statement_read, body_read, program_read}
+use Rattle.scad_grammar.specs.StatementReads.{mark_signs, loop_words, firsts_of_body, firsts_of_statement, if_read, call_read, module_read, params_read, ended_read, definition_read, assigned, special_read, statement_over, function_read, param_in, binder_in, binders_read, braces_read, instance_in, statement_read, body_read, program_read}
 use Rattle.scad_grammar.proofs.Tests.{apart, either_listed, classes_apart, classes_within}
 use Rattle.scad_grammar.proofs.Cores.{loop_over, core_over, instance_over, marks_reads, choice_second}
 use Rattle.scad_grammar.proofs.Deeper.{primary_refuses}
@@ -22,9 +22,9 @@ abbrev Taken : (A : Type 0) → List ℕ → Reads A → Type 0
 Taken A cs r = Takes (among cs) r
 
 -- two tokens of which the first is no name
-no_name : {A C : Type 0} (f : Token → Token → A → C) (r : Reads A) (s : Reads C) (u : Token) (l : List Token) → is name u ≡ false → ahead f (is name) (is assign_sign) r s (u ∷ l) ≡ s (u ∷ l)
-no_name f r s u [] e = refl
-no_name f r s u (v ∷ l) e = ap (λ b. cond (b && is assign_sign v) (after (r l) (λ x us. Ok (f u v x, us))) (s (u ∷ v ∷ l))) e
+no_name : {A C : Type 0} (f : Token → Token → A → C) (cs : List ℕ) (r : Reads A) (s : Reads C) (u : Token) (l : List Token) → among cs u ≡ false → ahead f (among cs) (is assign_sign) r s (u ∷ l) ≡ s (u ∷ l)
+no_name f cs r s u [] e = refl
+no_name f cs r s u (v ∷ l) e = ap (λ b. cond (b && is assign_sign v) (after (r l) (λ x us. Ok (f u v x, us))) (s (u ∷ v ∷ l))) e
 
 -- how one reading ends where the word stands, and the other where the numeral does
 pub data Locked (t n : Token) (more : List Token) {A : Type 0} (q p : Read Token SyntaxFault A) : Type 0 where
@@ -138,21 +138,27 @@ module _ (t n : Token) (more : List Token) (w : among words t ≡ true) (g : is 
       at (x ∷ l) = cond_locked (among cs x) (among cs x) (r (x ∷ (l ++ t ∷ more))) (r (x ∷ (l ++ n ∷ more))) (s (x ∷ (l ++ t ∷ more))) (s (x ∷ (l ++ n ∷ more))) refl (h.at (x ∷ l)) (k.at (x ∷ l))
 
   -- a name and an `=`, neither of which these words and a numeral are
-  second_not : {A C : Type 0} (f : Token → Token → A → C) (r : Reads A) (s : Reads C) (h u : Token) (l : List Token) → is assign_sign u ≡ false → ahead f (is name) (is assign_sign) r s (h ∷ u ∷ l) ≡ s (h ∷ u ∷ l)
-  second_not f r s h u l e = go (is name h)
+  second_not : {A C : Type 0} (f : Token → Token → A → C) (cs : List ℕ) (r : Reads A) (s : Reads C) (h u : Token) (l : List Token) → is assign_sign u ≡ false → ahead f (among cs) (is assign_sign) r s (h ∷ u ∷ l) ≡ s (h ∷ u ∷ l)
+  second_not f cs r s h u l e = go (among cs h)
     where
       go : (b : Bool) → cond (b && is assign_sign u) (after (r l) (λ x us. Ok (f h u x, us))) (s (h ∷ u ∷ l)) ≡ s (h ∷ u ∷ l)
       go true = ap (λ b. cond b (after (r l) (λ x us. Ok (f h u x, us))) (s (h ∷ u ∷ l))) e
       go false = refl
 
-  ahead_lock : {A C : Type 0} (f : Token → Token → A → C) (r : Reads A) (s : Reads C) → Lock r → Lock s → Lock (ahead f (is name) (is assign_sign) r s)
-  ahead_lock f r s h k = record { at = at; shrinks = ahead_shrinks f (is name) (is assign_sign) r s h.shrinks k.shrinks }
+  ahead_lock : {A C : Type 0} (f : Token → Token → A → C) (cs : List ℕ) (r : Reads A) (s : Reads C) → apart (numeral ∷ words) cs ≡ true → Lock r → Lock s → Lock (ahead f (among cs) (is assign_sign) r s)
+  ahead_lock f cs r s e h k = record { at = at; shrinks = ahead_shrinks f (among cs) (is assign_sign) r s h.shrinks k.shrinks }
     where
-      at : (l : List Token) → Locked t n more (ahead f (is name) (is assign_sign) r s (l ++ t ∷ more)) (ahead f (is name) (is assign_sign) r s (l ++ n ∷ more))
-      at [] = same_locked (no_name f r s t more (word_not (name ∷ []) refl)) (no_name f r s n more (numeral_not (name ∷ []) refl)) (k.at [])
-      at (x ∷ []) = same_locked (second_not f r s x t more (word_not (assign_sign ∷ []) refl)) (second_not f r s x n more (numeral_not (assign_sign ∷ []) refl)) (k.at (x ∷ []))
+      word_none : among cs t ≡ false
+      word_none = classes_apart (numeral ∷ words) cs e (class_of t.kind) (classes_within words (numeral ∷ words) refl (class_of t.kind) w)
+
+      numeral_none : among cs n ≡ false
+      numeral_none = classes_apart (numeral ∷ words) cs e (class_of n.kind) (classes_within (numeral ∷ []) (numeral ∷ words) refl (class_of n.kind) g)
+
+      at : (l : List Token) → Locked t n more (ahead f (among cs) (is assign_sign) r s (l ++ t ∷ more)) (ahead f (among cs) (is assign_sign) r s (l ++ n ∷ more))
+      at [] = same_locked (no_name f cs r s t more word_none) (no_name f cs r s n more numeral_none) (k.at [])
+      at (x ∷ []) = same_locked (second_not f cs r s x t more (word_not (assign_sign ∷ []) refl)) (second_not f cs r s x n more (numeral_not (assign_sign ∷ []) refl)) (k.at (x ∷ []))
       at (x ∷ y ∷ l) =
-          cond_locked (is name x && is assign_sign y) (is name x && is assign_sign y) (after (r (l ++ t ∷ more)) (λ z us. Ok (f x y z, us))) (after (r (l ++ n ∷ more)) (λ z us. Ok (f x y z, us))) (s (x ∷ y ∷ (l ++ t ∷ more))) (s (x ∷ y ∷ (l ++ n ∷ more))) refl
+          cond_locked (among cs x && is assign_sign y) (among cs x && is assign_sign y) (after (r (l ++ t ∷ more)) (λ z us. Ok (f x y z, us))) (after (r (l ++ n ∷ more)) (λ z us. Ok (f x y z, us))) (s (x ∷ y ∷ (l ++ t ∷ more))) (s (x ∷ y ∷ (l ++ n ∷ more))) refl
           (after_locked (r (l ++ t ∷ more)) (r (l ++ n ∷ more)) (λ z us. Ok (f x y z, us)) (h.at l) (λ z u. before u (f x y z) refl refl) (λ z us. omega arith)) (k.at (x ∷ y ∷ l))
 
   front_past : {A : Type 0} (u : Token) (x : A) (q : Read Token SyntaxFault (List A)) → Past u more q → Past u more (with_front x q)
@@ -252,7 +258,7 @@ module _ (t n : Token) (more : List Token) (w : among words t ≡ true) (g : is 
     both_keeps = λ f r q s p h k. both_lock f r s h k;
     choice_keeps = λ test r q s p st h k. choice_lock test r s st h k;
     taken_keeps = λ cs r q s p e x h k. taken_lock cs r s e x h k;
-    ahead_keeps = λ f r q s p h k. ahead_lock f r s h k;
+    ahead_keeps = λ f cs r q s p a e h k. ahead_lock f cs r s e h k;
     many_keeps = λ test r q st h. many_lock test r st h;
     many_taken_keeps = λ cs r q e x h. many_taken cs r e x h;
     trailing_keeps = λ go r q st h. trailing_lock go r st h;
@@ -288,9 +294,10 @@ module _ (t n : Token) (more : List Token) (w : among words t ≡ true) (g : is 
         (begun_choice (is false_word) _ _ (begun_single (λ t. TruthTerm t.place false) false_word)
         (begun_choice (is undef_word) _ _ (begun_single (λ t. UndefTerm t.place) undef_word)
         (begun_choice (is child_count) _ _ (begun_single (λ t. ChildCountTerm t.place) child_count)
+        (begun_choice (is special) _ _ (begun_single (λ t. SpecialTerm t.place (bytes_of t.kind)) special)
         (begun_choice (is name) _ _ (begun_of (name_read a) (named_keeps Law Taken lockstep a a ha))
         (begun_choice (is open_parenthesis_sign) _ _ (begun_of (paren_read e) (paren_keeps Law Taken lockstep e e he))
-        (begun_both bracket_of (first (is open_bracket_sign)) _ (one_begun (is open_bracket_sign) (fault_of left_out_of_expressions)) (filled_keeps Law Taken lockstep e e he)))))))))
+        (begun_both bracket_of (first (is open_bracket_sign)) _ (one_begun (is open_bracket_sign) (fault_of left_out_of_expressions)) (filled_keeps Law Taken lockstep e e he))))))))))
 
     numeral_read : primary_read e a (n ∷ more) ≡ Ok (NumberTerm n.place (number_of n.kind), more)
     numeral_read = rw g refl
@@ -443,9 +450,10 @@ module _ (e : Reads Term) (a : Reads ArgTerm) (ns : Reads (List BinderTerm)) (b 
   statement_takes : Takes (among firsts_of_statement) (statement_over x m s b (instance_over e a ns b))
   statement_takes t more w h =
       past_same t more (statement_over x m s b (instance_over e a ns b) (t ∷ more)) (definition_read x m b (instance_over e a ns b) (t ∷ more))
-      (choice_second (is semicolon_sign) (mapped (λ t. EmptyStatement t.place) (one (is semicolon_sign))) (choice (is open_brace_sign) (both bare_block_of (one (is open_brace_sign)) (braces_read s)) (ahead assigned (is name) (is assign_sign) (ended_read x) (definition_read x m b (instance_over e a ns b)))) (t ∷ more) (classes_apart words (semicolon_sign ∷ []) refl (class_of t.kind) w)
-      ∙ choice_second (is open_brace_sign) (both bare_block_of (one (is open_brace_sign)) (braces_read s)) (ahead assigned (is name) (is assign_sign) (ended_read x) (definition_read x m b (instance_over e a ns b))) (t ∷ more) (classes_apart words (open_brace_sign ∷ []) refl (class_of t.kind) w)
-      ∙ no_name assigned (ended_read x) (definition_read x m b (instance_over e a ns b)) t more (classes_apart words (name ∷ []) refl (class_of t.kind) w))
+      (choice_second (is semicolon_sign) (mapped (λ t. EmptyStatement t.place) (one (is semicolon_sign))) (choice (is open_brace_sign) (both bare_block_of (one (is open_brace_sign)) (braces_read s)) (choice (is special) (special_read x) (ahead assigned (is name) (is assign_sign) (ended_read x) (definition_read x m b (instance_over e a ns b))))) (t ∷ more) (classes_apart words (semicolon_sign ∷ []) refl (class_of t.kind) w)
+      ∙ choice_second (is open_brace_sign) (both bare_block_of (one (is open_brace_sign)) (braces_read s)) (choice (is special) (special_read x) (ahead assigned (is name) (is assign_sign) (ended_read x) (definition_read x m b (instance_over e a ns b)))) (t ∷ more) (classes_apart words (open_brace_sign ∷ []) refl (class_of t.kind) w)
+      ∙ choice_second (is special) (special_read x) (ahead assigned (is name) (is assign_sign) (ended_read x) (definition_read x m b (instance_over e a ns b))) (t ∷ more) (classes_apart words (special ∷ []) refl (class_of t.kind) w)
+      ∙ no_name assigned (name ∷ []) (ended_read x) (definition_read x m b (instance_over e a ns b)) t more (classes_apart words (name ∷ []) refl (class_of t.kind) w))
       (definition_past t more w)
 
 module _ (t n : Token) (more : List Token) (w : among words t ≡ true) (g : is numeral n ≡ true) where

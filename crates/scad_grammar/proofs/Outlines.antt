@@ -1,9 +1,10 @@
 -- Outlines are read as programs are, but where a program's reader runs out of depth a gap is read.
 use Rattle.std.proofs.Common.{◌≡◌, ℕ, zero, suc, List, [], ◌∷◌, ◌++◌, Bool, true, false, cond, Ok, Err, Some, refl, sym, ap, ◌∙◌, subst}
 use Rattle.scad_lexer.specs.declared.token.Token.{Token}
-use Rattle.scad_lexer.specs.declared.token.TokenKind.TheVariants.{Special, End}
+use Rattle.scad_lexer.specs.declared.token.TokenKind.TheVariants.{Symbol, End}
+use Rattle.scad_lexer.specs.declared.token.Symbol.TheVariants.{Caret}
 use Rattle.scad_ast.specs.Terms.{Term, ArgTerm, ParamTerm, BinderTerm, StatementTerm, InstanceTerm, BodyTerm, EmptyBody, UndefTerm}
-use Rattle.scad_grammar.specs.Classes.{special, name, end, close_parenthesis_sign, among, is, other_than}
+use Rattle.scad_grammar.specs.Classes.{caret_sign, name, end, close_parenthesis_sign, among, is, other_than}
 use Rattle.scad_grammar.specs.Languages.{One, Nothing, Many, first_of}
 use Rattle.scad_grammar.specs.Grammar.{outline, TooDeep, Expr, Operand, Statement, Body, Outline, Param}
 use Rattle.scad_grammar.specs.Reading.{starts, one_of, mapped, both, many, many_times}
@@ -26,7 +27,7 @@ refusal classes ts = Err (fault_of classes (head_of ts), ts)
 
 -- a gap
 abbrev pub gap : {A : Type 0} → (Token → A) → List ℕ → Reads A
-gap f classes = mapped f (one_of (is special) (fault_of classes))
+gap f classes = mapped f (one_of (is caret_sign) (fault_of classes))
 
 -- what outlines are read by; each as deep as the program's reader of its name
 abbrev pub open_arg : ℕ → Reads Term → Reads ArgTerm
@@ -67,10 +68,10 @@ outline_read d = both first_of (many (among firsts_of_statement) (open_statement
 
 -- a gap is read
 abbrev gap_token : Token
-gap_token = token (Special [])
+gap_token = token (Symbol Caret)
 
 gap_reads : {A : Type 0} (f : Token → A) (classes : List ℕ) (more : A → Token → Bool) → IsReader (gap f classes) (TooDeep outline f) (TooDeep outline f) more
-gap_reads f classes more = mapped_reads f (one_of (is special) (fault_of classes)) (One (is special)) (One (is special)) (λ x t. false) more (one_reads (is special) (fault_of classes) (fault_plain classes) (token (Special []), refl)) (λ x rest h. never_starts rest)
+gap_reads f classes more = mapped_reads f (one_of (is caret_sign) (fault_of classes)) (One (is caret_sign)) (One (is caret_sign)) (λ x t. false) more (one_reads (is caret_sign) (fault_of classes) (fault_plain classes) (token (Symbol Caret), refl)) (λ x rest h. never_starts rest)
 
 same_first : (a b : List Token) → SameHead a b → head_of a ≡ head_of b
 same_first [] [] h = refl
@@ -171,7 +172,7 @@ unfolding Statement Body open_statement open_body
 open_statement_reads zero = (
   nothing_fits left_out (among firsts_of_statement) (among statements_more) (many (among firsts_of_statement) (refusal left_out)) (many_refused left_out (among firsts_of_statement)) (next_less firsts_of_statement statements_more refl),
   gap_reads (λ t. EmptyBody t.place) left_out body_more,
-  mapped_stops (λ t. EmptyBody t.place) (one_of (is special) (fault_of left_out)) (λ x t. false) body_more (λ ts x rest h. never_starts rest) (λ x rest h. never_starts rest),
+  mapped_stops (λ t. EmptyBody t.place) (one_of (is caret_sign) (fault_of left_out)) (λ x t. false) body_more (λ ts x rest h. never_starts rest) (λ x rest h. never_starts rest),
 )
 open_statement_reads (suc d) =
     let below = open_statement_reads d in

@@ -4,8 +4,8 @@ use Rattle.scad_lexer.specs.declared.token.Token.{Token}
 use Rattle.scad_lexer.specs.declared.token.TokenKind.TheVariants.{Numeral, Special, Text, Reserved, Symbol}
 use Rattle.scad_lexer.specs.declared.token.Reserved.TheVariants.{True, False, Undef}
 use Rattle.scad_lexer.specs.declared.token.Symbol.TheVariants.{OpenParenthesis, CloseParenthesis, OpenBracket, CloseBracket, Colon}
-use Rattle.scad_ast.specs.Terms.{Term, NumberTerm, TextTerm, TruthTerm, UndefTerm, ChildCountTerm, ArgTerm}
-use Rattle.scad_grammar.specs.Classes.{numeral, text, true_word, false_word, undef_word, child_count, name, open_parenthesis_sign, close_parenthesis_sign, open_bracket_sign, close_bracket_sign, comma_sign, colon_sign, among, is, other_than, number_of, bytes_of}
+use Rattle.scad_ast.specs.Terms.{Term, NumberTerm, TextTerm, TruthTerm, UndefTerm, ChildCountTerm, SpecialTerm, ArgTerm}
+use Rattle.scad_grammar.specs.Classes.{numeral, text, true_word, false_word, undef_word, child_count, special, name, open_parenthesis_sign, close_parenthesis_sign, open_bracket_sign, close_bracket_sign, comma_sign, colon_sign, among, is, other_than, number_of, bytes_of}
 use Rattle.scad_grammar.specs.Languages.{Language, One, Mapped, Both, EitherOf, Nothing, Many, Maybe, Before, Behind, Separated, first_of, second_of, pair_of, cons}
 use Rattle.scad_grammar.specs.Grammar.{InParentheses, Arg, Args, Primary, Bracket, Rest, items, bracket_of, range_of, named_of, paren_of}
 use Rattle.scad_grammar.specs.Reading.{starts, mapped, nothing, both, choice, maybe, trailing}
@@ -68,8 +68,11 @@ paren_firsts = open_parenthesis_sign ∷ bracket_firsts
 abbrev name_firsts : List ℕ
 name_firsts = name ∷ paren_firsts
 
+abbrev special_firsts : List ℕ
+special_firsts = special ∷ name_firsts
+
 abbrev child_firsts : List ℕ
-child_firsts = child_count ∷ name_firsts
+child_firsts = child_count ∷ special_firsts
 
 abbrev undef_firsts : List ℕ
 undef_firsts = undef_word ∷ child_firsts
@@ -96,8 +99,11 @@ FromParen E = EitherOf (ParenForm E) (Bracket E)
 abbrev FromName : Language Term → Language (List ArgTerm) → Language Term
 FromName E As = EitherOf (NameForm As) (FromParen E)
 
+abbrev FromSpecial : Language Term → Language (List ArgTerm) → Language Term
+FromSpecial E As = EitherOf (Mapped (λ t. SpecialTerm t.place (bytes_of t.kind)) (One (is special))) (FromName E As)
+
 abbrev FromChild : Language Term → Language (List ArgTerm) → Language Term
-FromChild E As = EitherOf (Mapped (λ t. ChildCountTerm t.place) (One (is child_count))) (FromName E As)
+FromChild E As = EitherOf (Mapped (λ t. ChildCountTerm t.place) (One (is child_count))) (FromSpecial E As)
 
 abbrev FromUndef : Language Term → Language (List ArgTerm) → Language Term
 FromUndef E As = EitherOf (Mapped (λ t. UndefTerm t.place) (One (is undef_word))) (FromChild E As)
@@ -126,8 +132,11 @@ from_name_opens E As =
     (λ x s rest h. next_within (name ∷ []) name_firsts refl (s ++ rest) (both_opens named_of (One (is name)) _ (is name) (one_opens (is name)) x s rest h))
     (λ x s rest h. next_within paren_firsts name_firsts refl (s ++ rest) (from_paren_opens E x s rest h))
 
+from_special_opens : (E : Language Term) (As : Language (List ArgTerm)) → Opens (FromSpecial E As) (among special_firsts)
+from_special_opens E As = single_opens special name_firsts special_firsts (λ t. SpecialTerm t.place (bytes_of t.kind)) (FromName E As) refl refl (from_name_opens E As)
+
 from_child_opens : (E : Language Term) (As : Language (List ArgTerm)) → Opens (FromChild E As) (among child_firsts)
-from_child_opens E As = single_opens child_count name_firsts child_firsts (λ t. ChildCountTerm t.place) (FromName E As) refl refl (from_name_opens E As)
+from_child_opens E As = single_opens child_count special_firsts child_firsts (λ t. ChildCountTerm t.place) (FromSpecial E As) refl refl (from_special_opens E As)
 
 from_undef_opens : (E : Language Term) (As : Language (List ArgTerm)) → Opens (FromUndef E As) (among undef_firsts)
 from_undef_opens E As = single_opens undef_word child_firsts undef_firsts (λ t. UndefTerm t.place) (FromChild E As) refl refl (from_child_opens E As)
@@ -281,7 +290,9 @@ module _ (e : Reads Term) (a : Reads ArgTerm) (E F : Language Term) (As Aw : Lan
       (single_reads true_word false_firsts (λ t. TruthTerm t.place true) (one_at (is true_word) (token (Reserved True), refl)) _ (FromFalse E As) (FromFalse F Aw) paren_more
       (single_reads false_word undef_firsts (λ t. TruthTerm t.place false) (one_at (is false_word) (token (Reserved False), refl)) _ (FromUndef E As) (FromUndef F Aw) paren_more
       (single_reads undef_word child_firsts (λ t. UndefTerm t.place) (one_at (is undef_word) (token (Reserved Undef), refl)) _ (FromChild E As) (FromChild F Aw) paren_more
-      (single_reads child_count name_firsts (λ t. ChildCountTerm t.place) (one_at (is child_count) (token (Special (codes "children")), refl)) _ (FromName E As) (FromName F Aw) paren_more from_name (from_name_opens E As) refl)
+      (single_reads child_count special_firsts (λ t. ChildCountTerm t.place) (one_at (is child_count) (token (Special (codes "children")), refl)) _ (FromSpecial E As) (FromSpecial F Aw) paren_more
+      (single_reads special name_firsts (λ t. SpecialTerm t.place (bytes_of t.kind)) (one_at (is special) (token (Special []), refl)) _ (FromName E As) (FromName F Aw) paren_more from_name (from_name_opens E As) refl)
+      (from_special_opens E As) refl)
       (from_child_opens E As) refl)
       (from_undef_opens E As) refl)
       (from_false_opens E As) refl)

@@ -153,15 +153,15 @@ both_fair f r q s p h k = record { at = λ ts. after_fair ts (r ts) (λ a us. af
 choice_fair : {A : Type 0} (test : Token → Bool) (r q s p : Reads A) → Regular r → Regular s → Regular (choice test r s)
 choice_fair test r q s p h k = record { at = λ ts. cond_fair ts (starts test ts) (r ts) (s ts) (h.at ts) (k.at ts) }
 
-ahead_at : {A C : Type 0} (f : Token → Token → A → C) (r : Reads A) (s : Reads C) → Regular r → Regular s → (ts : List Token) → Fair ts (ahead f (is name) (is assign_sign) r s ts)
-ahead_at f r s h k [] = k.at []
-ahead_at f r s h k (t ∷ []) = k.at (t ∷ [])
-ahead_at f r s h k (t ∷ u ∷ ts) = go (is name t && is assign_sign u) refl
+ahead_at : {A C : Type 0} (f : Token → Token → A → C) (cs : List ℕ) (r : Reads A) (s : Reads C) → apart (end ∷ []) cs ≡ true → Regular r → Regular s → (ts : List Token) → Fair ts (ahead f (among cs) (is assign_sign) r s ts)
+ahead_at f cs r s a h k [] = k.at []
+ahead_at f cs r s a h k (t ∷ []) = k.at (t ∷ [])
+ahead_at f cs r s a h k (t ∷ u ∷ ts) = go (among cs t && is assign_sign u) refl
   where
-    go : (b : Bool) → (is name t && is assign_sign u) ≡ b → Fair (t ∷ u ∷ ts) (cond b (after (r ts) (λ x us. Ok (f t u x, us))) (s (t ∷ u ∷ ts)))
+    go : (b : Bool) → (among cs t && is assign_sign u) ≡ b → Fair (t ∷ u ∷ ts) (cond b (after (r ts) (λ x us. Ok (f t u x, us))) (s (t ∷ u ∷ ts)))
     go true e =
-        let n = both_true (is name t) (is assign_sign u) e in
-        from (t ∷ u ∷ ts) ts _ (λ x. behind u ts (no_end (assign_sign ∷ []) refl u n.1) (behind t (u ∷ ts) (no_end (name ∷ []) refl t n.0) x)) (after_fair ts (r ts) (λ x us. Ok (f t u x, us)) (h.at ts) (λ x us e. e))
+        let n = both_true (among cs t) (is assign_sign u) e in
+        from (t ∷ u ∷ ts) ts _ (λ x. behind u ts (no_end (assign_sign ∷ []) refl u n.1) (behind t (u ∷ ts) (no_end cs a t n.0) x)) (after_fair ts (r ts) (λ x us. Ok (f t u x, us)) (h.at ts) (λ x us e. e))
     go false e = k.at (t ∷ u ∷ ts)
 
 front_fair : {A : Type 0} (x : A) (ts : List Token) (q : Read Token SyntaxFault (List A)) → Fair ts q → Fair ts (with_front x q)
@@ -217,7 +217,7 @@ fairness = record {
   both_keeps = both_fair;
   choice_keeps = λ test r q s p e. choice_fair test r q s p;
   taken_keeps = λ cs r q s p e t. choice_fair (among cs) r q s p;
-  ahead_keeps = λ f r q s p h k. record { at = ahead_at f r s h k };
+  ahead_keeps = λ f cs r q s p e g h k. record { at = ahead_at f cs r s (less_end cs e) h k };
   many_keeps = λ test r q e. many_fair test r;
   many_taken_keeps = λ cs r q e t. many_fair (among cs) r;
   trailing_keeps = λ go r q e. trailing_fair go r;

@@ -1,19 +1,19 @@
 -- What is read of statements and programs is in the grammar, at each depth.
 use Rattle.std.proofs.Common.{◌≡◌, ℕ, zero, suc, List, [], ◌∷◌, ◌++◌, Bool, true, false, cond, Ok, Err, None, inl, inr, refl, sym, ap, ◌∙◌, append-nil}
 use Rattle.scad_lexer.specs.declared.token.Token.{Token}
-use Rattle.scad_lexer.specs.declared.token.TokenKind.TheVariants.{Name, Reserved, Symbol, End}
+use Rattle.scad_lexer.specs.declared.token.TokenKind.TheVariants.{Name, Special, Reserved, Symbol, End}
 use Rattle.scad_lexer.specs.declared.token.Reserved.TheVariants.{Module, Function}
 use Rattle.scad_lexer.specs.declared.token.Symbol.TheVariants.{OpenParenthesis, CloseParenthesis, OpenBrace, CloseBrace, Semicolon, Assign}
-use Rattle.scad_ast.specs.Terms.{Term, ArgTerm, ParamTerm, BinderTerm, StatementTerm, EmptyStatement, BlockStatement, AssignmentTerm, ModuleTerm, FunctionTerm, InstanceStatement, InstanceTerm, BodyTerm, EmptyBody, InstanceBody}
-use Rattle.scad_grammar.specs.Classes.{name, end, module_word, function_word, if_word, else_word, for_word, intersection_for_word, close_parenthesis_sign, open_brace_sign, close_brace_sign, semicolon_sign, assign_sign, among, is, other_than, class_of}
+use Rattle.scad_ast.specs.Terms.{Term, ArgTerm, ParamTerm, BinderTerm, StatementTerm, EmptyStatement, BlockStatement, AssignmentTerm, SpecialAssignmentTerm, ModuleTerm, FunctionTerm, InstanceStatement, InstanceTerm, BodyTerm, EmptyBody, InstanceBody}
+use Rattle.scad_grammar.specs.Classes.{name, special, end, module_word, function_word, if_word, else_word, for_word, intersection_for_word, close_parenthesis_sign, open_brace_sign, close_brace_sign, semicolon_sign, assign_sign, among, is, other_than, class_of}
 use Rattle.scad_grammar.specs.Languages.{Language, One, Mapped, Both, EitherOf, Nothing, Many, Never, Behind, Before, second_of, pair_of}
-use Rattle.scad_grammar.specs.Grammar.{binder_of, param_of, mark_of, if_of, loop_of, call_of, instance_of, Binders, InParentheses, Param, Params, Binder, Core, Instance, BodyOf, StatementOf, Detail, whole, BindersIn, ParamsIn, StatementsIn, InstanceIn, Expr, Statement, Body, Program, block_of, bare_block_of, assignment_of, module_of, function_of, ends_open, instance_open}
+use Rattle.scad_grammar.specs.Grammar.{binder_of, param_of, mark_of, if_of, loop_of, call_of, instance_of, Binders, InParentheses, Param, Params, Binder, Core, Instance, BodyOf, StatementOf, Detail, whole, BindersIn, ParamsIn, StatementsIn, InstanceIn, Expr, Statement, Body, Program, block_of, bare_block_of, assignment_of, special_assignment_of, module_of, function_of, ends_open, instance_open}
 use Rattle.scad_grammar.specs.Reading.{Read, starts, mapped, both, choice, ahead, many}
 use Rattle.scad_grammar.specs.declared.SyntaxFault.{SyntaxFault}
 use Rattle.scad_grammar.specs.Faults.{Reads, one, fault_of, left_out}
 use Rattle.scad_grammar.specs.declared.SyntaxFault.TheVariants.{Nested}
 use Rattle.scad_grammar.specs.Reads.{nested, head_of, in_parentheses, arg_in, expr_read}
-use Rattle.scad_grammar.specs.StatementReads.{mark_signs, loop_words, firsts_of_core, firsts_of_instance, firsts_of_body, firsts_of_statement, param_read, binder_read, params_read, binders_read, braces_read, body_over, module_read, ended_read, function_read, definition_read, assigned, statement_over, param_in, binder_in, instance_in, statement_read, body_read, program_read}
+use Rattle.scad_grammar.specs.StatementReads.{mark_signs, loop_words, firsts_of_core, firsts_of_instance, firsts_of_body, firsts_of_statement, param_read, binder_read, params_read, binders_read, braces_read, body_over, module_read, ended_read, function_read, definition_read, assigned, special_read, statement_over, param_in, binder_in, instance_in, statement_read, body_read, program_read}
 use Rattle.scad_grammar.proofs.Readers.{IsReader, Opens, Begins, both_reads, choice_reads, mapped_reads, same_reads, many_reads, both_opens, either_opens, mapped_opens, one_opens, never_starts}
 use Rattle.scad_grammar.proofs.Greedy.{Stops, both_stops, mapped_stops, choice_stops}
 use Rattle.scad_grammar.proofs.Ahead.{Ahead, two, rest_of, ahead_reads}
@@ -39,6 +39,9 @@ close_brace_one = one_at (is close_brace_sign) (token (Symbol CloseBrace), refl)
 module_one : OneReads (is module_word)
 module_one = one_at (is module_word) (token (Reserved Module), refl)
 
+special_one : OneReads (is special)
+special_one = one_at (is special) (token (Special []), refl)
+
 function_one : OneReads (is function_word)
 function_one = one_at (is function_word) (token (Reserved Function), refl)
 
@@ -50,6 +53,7 @@ abbrev statement_open : StatementTerm → Bool
 statement_open (EmptyStatement at) = false
 statement_open (BlockStatement at inner) = false
 statement_open (AssignmentTerm at called value) = false
+statement_open (SpecialAssignmentTerm at called value) = false
 statement_open (ModuleTerm at called name_at params body) = ends_open body
 statement_open (FunctionTerm at called name_at params value) = false
 statement_open (InstanceStatement i) = instance_open i
@@ -79,6 +83,9 @@ Definition X Ps B I = EitherOf (ModuleForm Ps B) (EitherOf (FunctionForm X Ps) (
 
 abbrev Assigned : Language Term → Language StatementTerm
 Assigned X = Both assignment_of (One (is name)) (Behind (is assign_sign) (Ended X))
+
+abbrev SpecialAssigned : Language Term → Language StatementTerm
+SpecialAssigned X = Both special_assignment_of (One (is special)) (Behind (is assign_sign) (Ended X))
 
 -- parameters in parentheses, and something behind them
 abbrev Signed : {A : Type 0} → Language (List ParamTerm) → Language A → Language (List ParamTerm × A)
@@ -117,6 +124,9 @@ named_opens X Ps B I o =
     (λ x s rest h. next_within (name ∷ []) bare_firsts refl (s ++ rest) (both_opens assignment_of (One (is name)) _ (is name) (one_opens (is name)) x s rest h))
     (definition_opens X Ps B I o)
 
+special_opens : (X : Language Term) → Opens (SpecialAssigned X) (is special)
+special_opens X = both_opens special_assignment_of (One (is special)) (Behind (is assign_sign) (Ended X)) (is special) (one_opens (is special))
+
 abbrev BareBlock : Language (List StatementTerm) → Language StatementTerm
 BareBlock Ss = Both bare_block_of (One (is open_brace_sign)) (Braces Ss)
 
@@ -129,18 +139,31 @@ empty_opens = mapped_opens (λ t. EmptyStatement t.place) (One (is semicolon_sig
 bare_opens : (Ss : Language (List StatementTerm)) → Opens (BareBlock Ss) (is open_brace_sign)
 bare_opens Ss = both_opens bare_block_of (One (is open_brace_sign)) (Braces Ss) (is open_brace_sign) (one_opens (is open_brace_sign))
 
-abbrev block_firsts : List ℕ
-block_firsts = open_brace_sign ∷ bare_firsts
+-- an assignment or a definition
+abbrev Valued : Language Term → Language (List ParamTerm) → Language BodyTerm → Language InstanceTerm → Language StatementTerm
+Valued X Ps B I = EitherOf (SpecialAssigned X) (EitherOf (Assigned X) (Definition X Ps B I))
 
-block_opens : (X : Language Term) (Ps : Language (List ParamTerm)) (Ss : Language (List StatementTerm)) (B : Language BodyTerm) (I : Language InstanceTerm) → Opens I (among firsts_of_instance) → Opens (EitherOf (BareBlock Ss) (EitherOf (Assigned X) (Definition X Ps B I))) (among block_firsts)
+abbrev valued_firsts : List ℕ
+valued_firsts = special ∷ bare_firsts
+
+valued_opens : (X : Language Term) (Ps : Language (List ParamTerm)) (B : Language BodyTerm) (I : Language InstanceTerm) → Opens I (among firsts_of_instance) → Opens (Valued X Ps B I) (among valued_firsts)
+valued_opens X Ps B I o =
+    either_opens (SpecialAssigned X) (EitherOf (Assigned X) (Definition X Ps B I)) (among valued_firsts)
+    (λ x s rest h. next_within (special ∷ []) valued_firsts refl (s ++ rest) (special_opens X x s rest h))
+    (λ x s rest h. next_within bare_firsts valued_firsts refl (s ++ rest) (named_opens X Ps B I o x s rest h))
+
+abbrev block_firsts : List ℕ
+block_firsts = open_brace_sign ∷ valued_firsts
+
+block_opens : (X : Language Term) (Ps : Language (List ParamTerm)) (Ss : Language (List StatementTerm)) (B : Language BodyTerm) (I : Language InstanceTerm) → Opens I (among firsts_of_instance) → Opens (EitherOf (BareBlock Ss) (Valued X Ps B I)) (among block_firsts)
 block_opens X Ps Ss B I o =
-    either_opens (BareBlock Ss) (EitherOf (Assigned X) (Definition X Ps B I)) (among block_firsts)
+    either_opens (BareBlock Ss) (Valued X Ps B I) (among block_firsts)
     (λ x s rest h. next_within (open_brace_sign ∷ []) block_firsts refl (s ++ rest) (bare_opens Ss x s rest h))
-    (λ x s rest h. next_within bare_firsts block_firsts refl (s ++ rest) (named_opens X Ps B I o x s rest h))
+    (λ x s rest h. next_within valued_firsts block_firsts refl (s ++ rest) (valued_opens X Ps B I o x s rest h))
 
 pub statement_opens : (X : Language Term) (Ps : Language (List ParamTerm)) (I : Language InstanceTerm) (Ss : Language (List StatementTerm)) (B : Language BodyTerm) → Opens I (among firsts_of_instance) → Opens (StatementOf X Ps I Ss B) (among firsts_of_statement)
 statement_opens X Ps I Ss B o =
-    either_opens Empty (EitherOf (BareBlock Ss) (EitherOf (Assigned X) (Definition X Ps B I))) (among firsts_of_statement)
+    either_opens Empty (EitherOf (BareBlock Ss) (Valued X Ps B I)) (among firsts_of_statement)
     (λ x s rest h. next_within (semicolon_sign ∷ []) firsts_of_statement refl (s ++ rest) (empty_opens x s rest h))
     (λ x s rest h. next_within block_firsts firsts_of_statement refl (s ++ rest) (block_opens X Ps Ss B I o x s rest h))
 
@@ -266,8 +289,8 @@ module _ (s : Reads StatementTerm) (Ss Sw : Language (List StatementTerm)) (iss 
           (λ x s rest h k. next_apart (function_word ∷ firsts_of_instance) (module_word ∷ []) refl (s ++ rest) (function_or_instance x s rest h))
 
       definition_unlike : (c : StatementTerm) (s rest : List Token) → Definition X Ps B I c s → two (is name) (is assign_sign) (s ++ rest) ≡ false
-      definition_unlike c s rest (inl h) = two_not (s ++ rest) (next_apart (module_word ∷ []) (name ∷ []) refl (s ++ rest) (module_opens Ps B c s rest h))
-      definition_unlike c s rest (inr (inl h)) = two_not (s ++ rest) (next_apart (function_word ∷ []) (name ∷ []) refl (s ++ rest) (function_opens X Ps c s rest h))
+      definition_unlike c s rest (inl h) = two_not (name ∷ []) (s ++ rest) (next_apart (module_word ∷ []) (name ∷ []) refl (s ++ rest) (module_opens Ps B c s rest h))
+      definition_unlike c s rest (inr (inl h)) = two_not (name ∷ []) (s ++ rest) (next_apart (function_word ∷ []) (name ∷ []) refl (s ++ rest) (function_opens X Ps c s rest h))
       definition_unlike c s rest (inr (inr h)) = unlike h.0 s rest h.1
 
       definition_moves : (t : Token) → is name t ≡ true → rest_of (definition_read x m b i (t ∷ [])) ≡ []
@@ -291,17 +314,27 @@ module _ (s : Reads StatementTerm) (Ss Sw : Language (List StatementTerm)) (iss 
           (λ t u x rest h. h) definition_moves (λ c s rest h k. definition_unlike c s rest h))
           (named_to X (Definition X Ps B I)) (named_from X (Definition X Ps B I)) (named_to Y (Definition Y Pw C J))
 
+      special_reads : IsReader (special_read x) (SpecialAssigned X) (SpecialAssigned Y) statement_more
+      special_reads =
+          then (both second_of (one (is assign_sign)) (ended_read x)) (Behind (is assign_sign) (Ended X)) (Behind (is assign_sign) (Ended Y)) (is special) (λ x t. false) statement_more special_assignment_of special_one valued_reads some_valued (λ t y rest h. h)
+
+      assigned_reads : IsReader (choice (is special) (special_read x) (ahead assigned (is name) (is assign_sign) (ended_read x) (definition_read x m b i))) (Valued X Ps B I) (Valued Y Pw C J) statement_more
+      assigned_reads =
+          choice_reads (is special) (special_read x) (ahead assigned (is name) (is assign_sign) (ended_read x) (definition_read x m b i)) (SpecialAssigned X) (SpecialAssigned Y) (EitherOf (Assigned X) (Definition X Ps B I)) (EitherOf (Assigned Y) (Definition Y Pw C J)) statement_more
+          special_reads named_reads (special_opens X)
+          (λ x s rest h k. next_apart bare_firsts (special ∷ []) refl (s ++ rest) (named_opens X Ps B I oi x s rest h))
+
       bare_reads : IsReader (both bare_block_of (one (is open_brace_sign)) (braces_read s)) (BareBlock Ss) (BareBlock Sw) statement_more
       bare_reads = then (braces_read s) (Braces Ss) (Braces Sw) (is open_brace_sign) (λ x t. false) statement_more bare_block_of open_brace_one braces_reads some_braces (λ t y rest h. h)
 
-      pub statement_reads : IsReader (statement_over x m s b i) (EitherOf Empty (EitherOf (BareBlock Ss) (EitherOf (Assigned X) (Definition X Ps B I)))) (EitherOf Empty (EitherOf (BareBlock Sw) (EitherOf (Assigned Y) (Definition Y Pw C J)))) statement_more
+      pub statement_reads : IsReader (statement_over x m s b i) (EitherOf Empty (EitherOf (BareBlock Ss) (Valued X Ps B I))) (EitherOf Empty (EitherOf (BareBlock Sw) (Valued Y Pw C J))) statement_more
       statement_reads =
-          choice_reads (is semicolon_sign) (mapped (λ t. EmptyStatement t.place) (one (is semicolon_sign))) (choice (is open_brace_sign) (both bare_block_of (one (is open_brace_sign)) (braces_read s)) (ahead assigned (is name) (is assign_sign) (ended_read x) (definition_read x m b i)))
-          Empty Empty (EitherOf (BareBlock Ss) (EitherOf (Assigned X) (Definition X Ps B I))) (EitherOf (BareBlock Sw) (EitherOf (Assigned Y) (Definition Y Pw C J))) statement_more
+          choice_reads (is semicolon_sign) (mapped (λ t. EmptyStatement t.place) (one (is semicolon_sign))) (choice (is open_brace_sign) (both bare_block_of (one (is open_brace_sign)) (braces_read s)) (choice (is special) (special_read x) (ahead assigned (is name) (is assign_sign) (ended_read x) (definition_read x m b i))))
+          Empty Empty (EitherOf (BareBlock Ss) (Valued X Ps B I)) (EitherOf (BareBlock Sw) (Valued Y Pw C J)) statement_more
           (mapped_reads (λ t. EmptyStatement t.place) (one (is semicolon_sign)) (One (is semicolon_sign)) (One (is semicolon_sign)) (λ x t. false) statement_more semicolon_one (λ x rest h. h))
-          (choice_reads (is open_brace_sign) (both bare_block_of (one (is open_brace_sign)) (braces_read s)) (ahead assigned (is name) (is assign_sign) (ended_read x) (definition_read x m b i)) (BareBlock Ss) (BareBlock Sw) (EitherOf (Assigned X) (Definition X Ps B I)) (EitherOf (Assigned Y) (Definition Y Pw C J)) statement_more
-          bare_reads named_reads (bare_opens Ss)
-          (λ x s rest h k. next_apart bare_firsts (open_brace_sign ∷ []) refl (s ++ rest) (named_opens X Ps B I oi x s rest h)))
+          (choice_reads (is open_brace_sign) (both bare_block_of (one (is open_brace_sign)) (braces_read s)) (choice (is special) (special_read x) (ahead assigned (is name) (is assign_sign) (ended_read x) (definition_read x m b i))) (BareBlock Ss) (BareBlock Sw) (Valued X Ps B I) (Valued Y Pw C J) statement_more
+          bare_reads assigned_reads (bare_opens Ss)
+          (λ x s rest h k. next_apart valued_firsts (open_brace_sign ∷ []) refl (s ++ rest) (valued_opens X Ps B I oi x s rest h)))
           empty_opens
           (λ x s rest h k. next_apart block_firsts (semicolon_sign ∷ []) refl (s ++ rest) (block_opens X Ps Ss B I oi x s rest h))
 
@@ -347,15 +380,18 @@ module _ (E : Language Term) (As : Language (List ArgTerm)) (Ns : Language (List
 
       pub begins_statement : (t : Token) → among firsts_of_statement t ≡ true → Begins (StatementOf X Ps (Instance E As Ns B) Ss B) (t ∷ [])
       begins_statement t h =
-          elim (either_listed (module_word ∷ []) (function_word ∷ firsts_of_body) (class_of t.kind) h) [
-            | inl a ↦ let k = some_called (Signed Ps B) (some_signed Ps B some_ps some_b) in (k.0, module_of t k.1, inr (inr (inr (inl (t, k.1, t ∷ [], k.0, (a, refl), k.2, refl, refl)))))
-            | inr h ↦ elim (either_listed (function_word ∷ []) firsts_of_body (class_of t.kind) h) [
-              | inl a ↦ let k = some_called (Signed Ps (Behind (is assign_sign) (Ended X))) (some_signed Ps (Behind (is assign_sign) (Ended X)) some_ps some_value) in (k.0, function_of t k.1, inr (inr (inr (inr (inl (t, k.1, t ∷ [], k.0, (a, refl), k.2, refl, refl))))))
-              | inr h ↦ elim (either_listed (semicolon_sign ∷ []) (open_brace_sign ∷ firsts_of_instance) (class_of t.kind) h) [
-                | inl a ↦ ([], EmptyStatement t.place, inl (t, (a, refl), refl))
-                | inr h ↦ elim (either_listed (open_brace_sign ∷ []) firsts_of_instance (class_of t.kind) h) [
-                  | inl a ↦ (braces.0, bare_block_of t braces.1, inr (inl (t, braces.1, t ∷ [], braces.0, (a, refl), braces.2, refl, refl)))
-                  | inr a ↦ let k = begins_instance t a in (k.0, InstanceStatement k.1, inr (inr (inr (inr (inr (k.1, k.2, refl))))))
+          elim (either_listed (module_word ∷ []) (function_word ∷ special ∷ firsts_of_body) (class_of t.kind) h) [
+            | inl a ↦ let k = some_called (Signed Ps B) (some_signed Ps B some_ps some_b) in (k.0, module_of t k.1, inr (inr (inr (inr (inl (t, k.1, t ∷ [], k.0, (a, refl), k.2, refl, refl))))))
+            | inr h ↦ elim (either_listed (function_word ∷ []) (special ∷ firsts_of_body) (class_of t.kind) h) [
+              | inl a ↦ let k = some_called (Signed Ps (Behind (is assign_sign) (Ended X))) (some_signed Ps (Behind (is assign_sign) (Ended X)) some_ps some_value) in (k.0, function_of t k.1, inr (inr (inr (inr (inr (inl (t, k.1, t ∷ [], k.0, (a, refl), k.2, refl, refl)))))))
+              | inr h ↦ elim (either_listed (special ∷ []) firsts_of_body (class_of t.kind) h) [
+                | inl a ↦ (some_value.0, special_assignment_of t some_value.1, inr (inr (inl (t, some_value.1, t ∷ [], some_value.0, (a, refl), some_value.2, refl, refl))))
+                | inr h ↦ elim (either_listed (semicolon_sign ∷ []) (open_brace_sign ∷ firsts_of_instance) (class_of t.kind) h) [
+                  | inl a ↦ ([], EmptyStatement t.place, inl (t, (a, refl), refl))
+                  | inr h ↦ elim (either_listed (open_brace_sign ∷ []) firsts_of_instance (class_of t.kind) h) [
+                    | inl a ↦ (braces.0, bare_block_of t braces.1, inr (inl (t, braces.1, t ∷ [], braces.0, (a, refl), braces.2, refl, refl)))
+                    | inr a ↦ let k = begins_instance t a in (k.0, InstanceStatement k.1, inr (inr (inr (inr (inr (inr (k.1, k.2, refl)))))))
+                  ]
                 ]
               ]
             ]

@@ -52,7 +52,7 @@ separated_within mark h = both_within first_of (both_within cons h (many_within 
 
 module _ (E F : Language Term) (e : Within E F) where
   arg_within : Within (Arg E) (Arg F)
-  arg_within = either_within (both_within _ (same_within (One (is name))) (behind_within (is assign_sign) e)) (mapped_within PositionalTerm e)
+  arg_within = either_within (both_within _ (same_within _) (behind_within (is assign_sign) e)) (mapped_within PositionalTerm e)
 
   args_within : Within (Args E) (Args F)
   args_within = either_within (separated_within (is comma_sign) arg_within) (same_within (Nothing []))
@@ -80,9 +80,9 @@ module _ (E F : Language Term) (e : Within E F) where
 module _ (E F U V : Language Term) (As Bs : Language (List ArgTerm)) (e : Within E F) (a : Within As Bs) (u : Within U V) where
   primary_within : Within (Primary E As) (Primary F Bs)
   primary_within =
-      either_within (same_within _) (either_within (same_within _) (either_within (same_within _) (either_within (same_within _) (either_within (same_within _) (either_within (same_within _)
+      either_within (same_within _) (either_within (same_within _) (either_within (same_within _) (either_within (same_within _) (either_within (same_within _) (either_within (same_within _) (either_within (same_within _)
       (either_within (both_within _ (same_within (One (is name))) (maybe_within (parentheses_within a)))
-      (either_within (both_within _ (same_within (One (is open_parenthesis_sign))) (before_within (is close_parenthesis_sign) e)) (bracket_within E F e))))))))
+      (either_within (both_within _ (same_within (One (is open_parenthesis_sign))) (before_within (is close_parenthesis_sign) e)) (bracket_within E F e)))))))))
 
   unary_within : Within (Unary E As U) (Unary F Bs V)
   unary_within = either_within (both_within _ (same_within _) u) (both_within _ primary_within (many_within (suffix_within E F e)))
@@ -112,10 +112,11 @@ module _ (I J : Language InstanceTerm) (i : Within I J) (Ss Rs : Language (List 
   statement_within X Y Ps Qs B C x p b =
       either_within (same_within _)
       (either_within (both_within _ (same_within (One (is open_brace_sign))) (before_within (is close_brace_sign) s))
+      (either_within (both_within _ (same_within _) (behind_within (is assign_sign) (before_within (is semicolon_sign) x)))
       (either_within (both_within _ (same_within (One (is name))) (behind_within (is assign_sign) (before_within (is semicolon_sign) x)))
       (either_within (both_within _ (same_within _) (both_within pair_of (same_within (One (is name))) (both_within pair_of (parentheses_within p) b)))
       (either_within (both_within _ (same_within _) (both_within pair_of (same_within (One (is name))) (both_within pair_of (parentheses_within p) (behind_within (is assign_sign) (before_within (is semicolon_sign) x)))))
-      (mapped_within InstanceStatement i)))))
+      (mapped_within InstanceStatement i))))))
 
 -- whatever holds of no token at all
 never_within : {A : Type 0} (L : Language A) → Within Never L

@@ -222,13 +222,18 @@ is c = among (c ∷ [])
 abbrev pub other_than : List ℕ → Token → Bool
 other_than cs t = not (among cs t)
 
+-- what an argument may be given by: a name, or a special name other than `$children`
+abbrev pub argument_names : List ℕ
+argument_names = name ∷ special ∷ []
+
 -- the number of a numeral
 abbrev pub number_of : TokenKind → ℕ
 number_of (Numeral n) = n
 number_of k = 0
 
--- the bytes of a name or a text
+-- the bytes of a name, a special name or a text
 abbrev pub bytes_of : TokenKind → List ℕ
 bytes_of (Name bytes) = bytes
+bytes_of (Special bytes) = bytes
 bytes_of (Text bytes) = bytes
 bytes_of k = []

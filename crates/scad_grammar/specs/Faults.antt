@@ -6,7 +6,7 @@ use Rattle.scad_grammar.specs.declared.SyntaxFault.TheVariants.{Expected, NotInP
 use Rattle.scad_grammar.specs.Classes.{special, for_word, if_word, function_word, use_word, include_word, let_word, each_word, caret_sign, among}
 use Rattle.scad_grammar.specs.Reading.{Reader, one_of}
 
--- forms that this profile leaves out, wherever they stand
+-- forms that this profile leaves out wherever no program goes on with them
 abbrev pub left_out : List ℕ
 left_out = use_word ∷ include_word ∷ let_word ∷ each_word ∷ caret_sign ∷ special ∷ []
 

@@ -1,7 +1,6 @@
 -- The grammar of the modelling language (OpenSCAD User Manual, in the profile of this server), as
 -- relations between plain trees and lists of tokens. Nothing here reads.
 use Rattle.std.specs.Prelude.{◌≡◌, ℕ, zero, suc, List, [], ◌∷◌, Bool, true, false, cond, nat_eq, Option, Some, None}
-use Rattle.text_place.specs.declared.fault.Place.{Place}
 use Rattle.scad_lexer.specs.declared.token.Token.{Token}
 use Rattle.scad_ast.specs.declared.operator.BinaryOp.{BinaryOp}
 use Rattle.scad_ast.specs.declared.operator.BinaryOp.TheVariants.{Or, And, Equal, NotEqual, Less, LessEqual, Greater, GreaterEqual, Add, Subtract, Multiply, Divide, Remainder}
@@ -9,8 +8,8 @@ use Rattle.scad_ast.specs.declared.operator.UnaryOp.{UnaryOp}
 use Rattle.scad_ast.specs.declared.operator.UnaryOp.TheVariants.{Negate, Keep, Not}
 use Rattle.scad_ast.specs.declared.operator.Modifier.{Modifier}
 use Rattle.scad_ast.specs.declared.operator.Modifier.TheVariants.{Disable, Background, Highlight, Root}
-use Rattle.scad_ast.specs.Terms.{Term, NumberTerm, TextTerm, TruthTerm, UndefTerm, ChildCountTerm, NameTerm, CallTerm, ParenTerm, ListTerm, RangeTerm, SteppedRangeTerm, PostfixTerm, UnaryTerm, ChainTerm, ChoiceTerm, LinkTerm, SuffixTerm, IndexTerm, MemberTerm, ArgTerm, NamedTerm, PositionalTerm, terms_from, links_from, suffixes_from, args_from, place_of, ParamTerm, PlainTerm, DefaultTerm, BinderTerm, MarkTerm, StatementTerm, EmptyStatement, BlockStatement, AssignmentTerm, ModuleTerm, FunctionTerm, InstanceStatement, InstanceTerm, AnInstance, CoreTerm, IfTerm, IfElseTerm, ForTerm, IntersectionForTerm, ModuleCallTerm, BodyTerm, EmptyBody, BlockBody, InstanceBody, statements_from}
-use Rattle.scad_grammar.specs.Classes.{numeral, name, child_count, special, text, end, module_word, function_word, if_word, else_word, for_word, intersection_for_word, true_word, false_word, undef_word, open_parenthesis_sign, close_parenthesis_sign, open_bracket_sign, close_bracket_sign, open_brace_sign, close_brace_sign, comma_sign, semicolon_sign, assign_sign, colon_sign, question_sign, dot_sign, plus_sign, minus_sign, times_sign, divide_sign, remainder_sign, less_sign, greater_sign, less_equal_sign, greater_equal_sign, equal_sign, not_equal_sign, and_sign, or_sign, not_sign, hash_sign, class_of, among, is, number_of, bytes_of}
+use Rattle.scad_ast.specs.Terms.{Term, NumberTerm, TextTerm, TruthTerm, UndefTerm, ChildCountTerm, SpecialTerm, NameTerm, CallTerm, ParenTerm, ListTerm, RangeTerm, SteppedRangeTerm, PostfixTerm, UnaryTerm, ChainTerm, ChoiceTerm, LinkTerm, SuffixTerm, IndexTerm, MemberTerm, ArgTerm, NamedTerm, SpecialArgTerm, PositionalTerm, terms_from, links_from, suffixes_from, args_from, place_of, ParamTerm, PlainTerm, DefaultTerm, BinderTerm, MarkTerm, StatementTerm, EmptyStatement, BlockStatement, AssignmentTerm, SpecialAssignmentTerm, ModuleTerm, FunctionTerm, InstanceStatement, InstanceTerm, AnInstance, CoreTerm, IfTerm, IfElseTerm, ForTerm, IntersectionForTerm, ModuleCallTerm, BodyTerm, EmptyBody, BlockBody, InstanceBody, statements_from, place_of_core}
+use Rattle.scad_grammar.specs.Classes.{numeral, name, child_count, special, text, end, module_word, function_word, if_word, else_word, for_word, intersection_for_word, true_word, false_word, undef_word, open_parenthesis_sign, close_parenthesis_sign, open_bracket_sign, close_bracket_sign, open_brace_sign, close_brace_sign, comma_sign, semicolon_sign, assign_sign, colon_sign, question_sign, dot_sign, plus_sign, minus_sign, times_sign, divide_sign, remainder_sign, less_sign, greater_sign, less_equal_sign, greater_equal_sign, equal_sign, not_equal_sign, and_sign, or_sign, not_sign, hash_sign, caret_sign, argument_names, class_of, among, is, number_of, bytes_of}
 use Rattle.scad_grammar.specs.Languages.{Language, One, Mapped, Both, BothIf, EitherOf, Nothing, Many, Maybe, Never, first_of, pair_of, Behind, Before, Separated}
 
 -- something in parentheses, brackets or braces
@@ -87,11 +86,13 @@ range_of e (Some to) = stepped e to
 
 -- arguments, parameters and variables of loops
 
--- arg = NAME "=" expr | expr
+abbrev pub given_of : Token → Term → ArgTerm
+given_of t e = cond (is special t) (SpecialArgTerm t.place (bytes_of t.kind) e) (NamedTerm t.place (bytes_of t.kind) e)
+
+-- SPECIAL is a special name other than `$children`.
+-- arg = NAME "=" expr | SPECIAL "=" expr | expr
 abbrev pub Arg : Language Term → Language ArgTerm
-Arg E =
-    EitherOf (Both (λ t e. NamedTerm t.place (bytes_of t.kind) e) (One (is name)) (Behind (is assign_sign) E))
-    (Mapped PositionalTerm E)
+Arg E = EitherOf (Both given_of (One (among argument_names)) (Behind (is assign_sign) E)) (Mapped PositionalTerm E)
 
 -- args = [ arg { "," arg } [","] ]
 abbrev pub Args : Language Term → Language (List ArgTerm)
@@ -132,7 +133,7 @@ Bracket E =
     (Mapped items (Both first_of (Many (Behind (is comma_sign) E)) (Maybe (One (is comma_sign))))))))
     (is close_bracket_sign))
 
--- primary = NUMERAL | TEXT | "true" | "false" | "undef" | "$children" | NAME | NAME "(" args ")" | "(" expr ")" | lists and ranges
+-- primary = NUMERAL | TEXT | "true" | "false" | "undef" | "$children" | SPECIAL | NAME | NAME "(" args ")" | "(" expr ")" | lists and ranges
 abbrev pub Primary : Language Term → Language (List ArgTerm) → Language Term
 Primary E As =
     EitherOf (Mapped (λ t. NumberTerm t.place (number_of t.kind)) (One (is numeral)))
@@ -141,9 +142,10 @@ Primary E As =
     (EitherOf (Mapped (λ t. TruthTerm t.place false) (One (is false_word)))
     (EitherOf (Mapped (λ t. UndefTerm t.place) (One (is undef_word)))
     (EitherOf (Mapped (λ t. ChildCountTerm t.place) (One (is child_count)))
+    (EitherOf (Mapped (λ t. SpecialTerm t.place (bytes_of t.kind)) (One (is special)))
     (EitherOf (Both named_of (One (is name)) (Maybe (InParentheses As)))
     (EitherOf (Both paren_of (One (is open_parenthesis_sign)) (Before E (is close_parenthesis_sign)))
-    (Bracket E))))))))
+    (Bracket E)))))))))
 
 -- postfix = primary { "[" expr "]" | "." NAME }
 abbrev pub Suffix : Language Term → Language SuffixTerm
@@ -181,10 +183,10 @@ pub data Detail : Type 0 where
   outline : Detail
 
 -- What is too deep: no whole program has it. In an outline a gap stands for it: a token that no form of the grammar
--- has, a special name other than `$children`.
+-- has, the sign `^`.
 abbrev pub TooDeep : {A : Type 0} → Detail → (Token → A) → Language A
 TooDeep whole f = Never
-TooDeep outline f = Mapped f (One (is special))
+TooDeep outline f = Mapped f (One (is caret_sign))
 
 -- arguments, parameters and variables of a loop whose tokens are less deep than so much; E is an expression as deep
 abbrev pub ArgsIn : ℕ → Language Term → Language (List ArgTerm)
@@ -215,15 +217,8 @@ unfoldable mutual
 abbrev pub mark_of : Token → MarkTerm
 mark_of t = record { at = t.place; modifier = modifier_at (class_of t.kind) }
 
-abbrev pub core_place : CoreTerm → Place
-core_place (IfTerm at test body) = at
-core_place (IfElseTerm at test body other) = at
-core_place (ForTerm at binders body) = at
-core_place (IntersectionForTerm at binders body) = at
-core_place (ModuleCallTerm at called args body) = at
-
 abbrev pub instance_of : List MarkTerm → CoreTerm → InstanceTerm
-instance_of [] core = AnInstance (core_place core) [] core
+instance_of [] core = AnInstance (place_of_core core) [] core
 instance_of (m ∷ ms) core = AnInstance m.at (m ∷ ms) core
 
 -- an `else` behind this body would be its own
@@ -285,23 +280,27 @@ bare_block_of t ss = BlockStatement t.place (statements_from ss)
 abbrev pub assignment_of : Token → Term → StatementTerm
 assignment_of t e = AssignmentTerm t.place (bytes_of t.kind) e
 
+abbrev pub special_assignment_of : Token → Term → StatementTerm
+special_assignment_of t e = SpecialAssignmentTerm t.place (bytes_of t.kind) e
+
 abbrev pub module_of : Token → (Token × (List ParamTerm × BodyTerm)) → StatementTerm
 module_of t p = ModuleTerm t.place (bytes_of p.0.kind) p.0.place p.1.0 p.1.1
 
 abbrev pub function_of : Token → (Token × (List ParamTerm × Term)) → StatementTerm
 function_of t p = FunctionTerm t.place (bytes_of p.0.kind) p.0.place p.1.0 p.1.1
 
--- statement = ";" | "{" { statement } "}" | NAME "=" expr ";" | "module" NAME "(" params ")" body
+-- statement = ";" | "{" { statement } "}" | SPECIAL "=" expr ";" | NAME "=" expr ";" | "module" NAME "(" params ")" body
 --           | "function" NAME "(" params ")" "=" expr ";" | instance
 -- X is an expression as deep as the statement, and I an instance
 abbrev pub StatementOf : Language Term → Language (List ParamTerm) → Language InstanceTerm → Language (List StatementTerm) → Language BodyTerm → Language StatementTerm
 StatementOf X Ps I Ss B =
     EitherOf (Mapped (λ t. EmptyStatement t.place) (One (is semicolon_sign)))
     (EitherOf (Both bare_block_of (One (is open_brace_sign)) (Before Ss (is close_brace_sign)))
+    (EitherOf (Both special_assignment_of (One (is special)) (Behind (is assign_sign) (Before X (is semicolon_sign))))
     (EitherOf (Both assignment_of (One (is name)) (Behind (is assign_sign) (Before X (is semicolon_sign))))
     (EitherOf (Both module_of (One (is module_word)) (Both pair_of (One (is name)) (Both pair_of (InParentheses Ps) B)))
     (EitherOf (Both function_of (One (is function_word)) (Both pair_of (One (is name)) (Both pair_of (InParentheses Ps) (Behind (is assign_sign) (Before X (is semicolon_sign))))))
-    (Mapped InstanceStatement I)))))
+    (Mapped InstanceStatement I))))))
 
 -- statements whose tokens are less deep than so much; S is a statement as deep
 abbrev pub StatementsIn : ℕ → Language StatementTerm → Language (List StatementTerm)

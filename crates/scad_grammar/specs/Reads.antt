@@ -1,17 +1,17 @@
 -- How expressions are read, by what stands next.
 use Rattle.std.specs.Prelude.{ℕ, zero, suc, List, [], ◌∷◌, cond, true, false, Option, Some, None, Err}
 use Rattle.scad_lexer.specs.declared.token.Token.{Token}
-use Rattle.scad_ast.specs.Terms.{Term, NumberTerm, TextTerm, TruthTerm, UndefTerm, ChildCountTerm, SuffixTerm, ArgTerm, NamedTerm, PositionalTerm}
+use Rattle.scad_ast.specs.Terms.{Term, NumberTerm, TextTerm, TruthTerm, UndefTerm, ChildCountTerm, SpecialTerm, SuffixTerm, ArgTerm, PositionalTerm}
 use Rattle.scad_grammar.specs.declared.SyntaxFault.TheVariants.{Nested}
-use Rattle.scad_grammar.specs.Classes.{numeral, name, child_count, text, true_word, false_word, undef_word, open_parenthesis_sign, close_parenthesis_sign, open_bracket_sign, close_bracket_sign, comma_sign, assign_sign, colon_sign, question_sign, dot_sign, plus_sign, minus_sign, not_sign, among, is, other_than, number_of, bytes_of}
+use Rattle.scad_grammar.specs.Classes.{numeral, name, child_count, special, text, true_word, false_word, undef_word, open_parenthesis_sign, close_parenthesis_sign, open_bracket_sign, close_bracket_sign, comma_sign, assign_sign, colon_sign, question_sign, dot_sign, plus_sign, minus_sign, not_sign, argument_names, among, is, other_than, number_of, bytes_of}
 use Rattle.scad_grammar.specs.Languages.{first_of, second_of, pair_of, cons}
-use Rattle.scad_grammar.specs.Grammar.{link, chain_of, unary_of, postfix_of, index_of, member_of, levels, choice_of, named_of, paren_of, Rest, items, bracket_of, range_of}
+use Rattle.scad_grammar.specs.Grammar.{link, chain_of, unary_of, postfix_of, index_of, member_of, levels, choice_of, given_of, named_of, paren_of, Rest, items, bracket_of, range_of}
 use Rattle.scad_grammar.specs.Reading.{starts, mapped, nothing, both, choice, maybe, ahead, many, trailing}
 use Rattle.scad_grammar.specs.Faults.{Reads, one, first, fault_of, left_out_of_expressions}
 
 -- what may begin a primary
 abbrev pub firsts_of_primary : List ℕ
-firsts_of_primary = numeral ∷ text ∷ true_word ∷ false_word ∷ undef_word ∷ child_count ∷ name ∷ open_parenthesis_sign ∷ open_bracket_sign ∷ []
+firsts_of_primary = numeral ∷ text ∷ true_word ∷ false_word ∷ undef_word ∷ child_count ∷ special ∷ name ∷ open_parenthesis_sign ∷ open_bracket_sign ∷ []
 
 -- what may begin an expression
 abbrev pub firsts_of_expression : List ℕ
@@ -41,11 +41,11 @@ abbrev pub chain_read : List (List ℕ) → Reads Term → Reads Term
 chain_read [] u = u
 chain_read (ops ∷ levels) u = both chain_of (chain_read levels u) (many (among ops) (both link (one (among ops)) (chain_read levels u)))
 
-abbrev pub named : Token → Token → Term → ArgTerm
-named t u e = NamedTerm t.place (bytes_of t.kind) e
+abbrev pub given : Token → Token → Term → ArgTerm
+given t u e = given_of t e
 
 abbrev pub arg_read : Reads Term → Reads ArgTerm
-arg_read e = ahead named (is name) (is assign_sign) e (mapped PositionalTerm e)
+arg_read e = ahead given (among argument_names) (is assign_sign) e (mapped PositionalTerm e)
 
 abbrev pub args_read : Reads ArgTerm → Reads (List ArgTerm)
 args_read a = choice (other_than (close_parenthesis_sign ∷ [])) (both cons a (trailing (is comma_sign) (other_than (close_parenthesis_sign ∷ [])) a)) (nothing [])
@@ -78,7 +78,8 @@ primary_read e a =
     (choice (is false_word) (mapped (λ t. TruthTerm t.place false) (one (is false_word)))
     (choice (is undef_word) (mapped (λ t. UndefTerm t.place) (one (is undef_word)))
     (choice (is child_count) (mapped (λ t. ChildCountTerm t.place) (one (is child_count)))
-    (choice (is name) (name_read a) (choice (is open_parenthesis_sign) (paren_read e) (bracket_read e))))))))
+    (choice (is special) (mapped (λ t. SpecialTerm t.place (bytes_of t.kind)) (one (is special)))
+    (choice (is name) (name_read a) (choice (is open_parenthesis_sign) (paren_read e) (bracket_read e)))))))))
 
 abbrev pub choice_read : Reads Term → Reads Term → Reads Term → Reads Term
 choice_read e u p =

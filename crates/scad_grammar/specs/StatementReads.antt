@@ -2,9 +2,9 @@
 use Rattle.std.specs.Prelude.{ℕ, zero, suc, List, [], ◌∷◌}
 use Rattle.scad_lexer.specs.declared.token.Token.{Token}
 use Rattle.scad_ast.specs.Terms.{Term, ArgTerm, ParamTerm, BinderTerm, MarkTerm, StatementTerm, EmptyStatement, InstanceStatement, InstanceTerm, CoreTerm, BodyTerm, EmptyBody, InstanceBody}
-use Rattle.scad_grammar.specs.Classes.{name, end, module_word, function_word, if_word, else_word, for_word, intersection_for_word, open_brace_sign, close_brace_sign, comma_sign, semicolon_sign, assign_sign, times_sign, remainder_sign, not_sign, hash_sign, among, is}
+use Rattle.scad_grammar.specs.Classes.{name, special, end, module_word, function_word, if_word, else_word, for_word, intersection_for_word, open_brace_sign, close_brace_sign, comma_sign, semicolon_sign, assign_sign, times_sign, remainder_sign, not_sign, hash_sign, among, is}
 use Rattle.scad_grammar.specs.Languages.{first_of, second_of, pair_of, cons}
-use Rattle.scad_grammar.specs.Grammar.{binder_of, param_of, mark_of, if_of, loop_of, call_of, instance_of, block_of, bare_block_of, assignment_of, module_of, function_of}
+use Rattle.scad_grammar.specs.Grammar.{binder_of, param_of, mark_of, if_of, loop_of, call_of, instance_of, block_of, bare_block_of, assignment_of, special_assignment_of, module_of, function_of}
 use Rattle.scad_grammar.specs.Reading.{mapped, nothing, both, choice, maybe, ahead, many, trailing}
 use Rattle.scad_grammar.specs.Faults.{Reads, one, left_out}
 use Rattle.scad_grammar.specs.Reads.{nested, in_parentheses, args_read, arg_in, expr_read}
@@ -26,7 +26,7 @@ abbrev pub firsts_of_body : List ℕ
 firsts_of_body = semicolon_sign ∷ open_brace_sign ∷ firsts_of_instance
 
 abbrev pub firsts_of_statement : List ℕ
-firsts_of_statement = module_word ∷ function_word ∷ firsts_of_body
+firsts_of_statement = module_word ∷ function_word ∷ special ∷ firsts_of_body
 
 -- e, a, m and n read an expression, an argument, a parameter and a variable of a loop one deeper; s and b a statement and a body
 abbrev pub param_read : Reads Term → Reads ParamTerm
@@ -87,11 +87,14 @@ definition_read x m b i = choice (is module_word) (module_read m b) (choice (is 
 abbrev pub assigned : Token → Token → Term → StatementTerm
 assigned t u e = assignment_of t e
 
+abbrev pub special_read : Reads Term → Reads StatementTerm
+special_read x = both special_assignment_of (one (is special)) (both second_of (one (is assign_sign)) (ended_read x))
+
 abbrev pub statement_over : Reads Term → Reads ParamTerm → Reads StatementTerm → Reads BodyTerm → Reads InstanceTerm → Reads StatementTerm
 statement_over x m s b i =
     choice (is semicolon_sign) (mapped (λ t. EmptyStatement t.place) (one (is semicolon_sign)))
     (choice (is open_brace_sign) (both bare_block_of (one (is open_brace_sign)) (braces_read s))
-    (ahead assigned (is name) (is assign_sign) (ended_read x) (definition_read x m b i)))
+    (choice (is special) (special_read x) (ahead assigned (is name) (is assign_sign) (ended_read x) (definition_read x m b i))))
 
 -- a parameter, and a variable of a loop, whose tokens are less deep than so much, by their expressions
 abbrev pub param_in : ℕ → Reads Term → Reads ParamTerm

@@ -9,6 +9,7 @@ use crate::word::Word;
 use compact_bytes::CompactBytes;
 use std::alloc::Global;
 use text_place::{FaultKind, NoMemory};
+use whole_numeral::Numeral;
 
 /// What a word stands for.
 #[derive(Drop)]
@@ -117,7 +118,7 @@ fn is_zeros(bytes: &[u8]) -> bool
 }
 
 /// The number that digits write, where it is below 2^53.
-fn number(digits: &[u8]) -> Option<u64>
+fn number(digits: &[u8]) -> Option<Numeral>
     ensures { MatchOption result (2 ^ 53 ≤ number_from 0 digits.now) (λ n. (n ≡ number_from 0 digits.now) × (n < 2 ^ 53)) }
 {
     let mut number: u64 = 0;
@@ -127,7 +128,7 @@ fn number(digits: &[u8]) -> Option<u64>
             return None;
         }
     }
-    Some(number)
+    Numeral::of(number)
 }
 
 /// The fault of a numeral with a letter behind it.

@@ -1,5 +1,6 @@
 use compact_bytes::CompactBytes;
 use text_place::Place;
+use whole_numeral::Numeral;
 
 /// A token of a source.
 #[derive(Drop)]
@@ -12,8 +13,8 @@ pub struct Token {
 /// What a token is.
 #[derive(Drop)]
 pub enum TokenKind {
-    /// A whole number, at most 2^53 - 1.
-    Numeral(u64),
+    /// A whole number, which its type keeps at most 2^53 - 1.
+    Numeral(Numeral),
     /// A name that is not reserved.
     Name(CompactBytes),
     /// A special name, without its `$`.

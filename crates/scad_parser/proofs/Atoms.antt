@@ -4,7 +4,7 @@ use Rattle.std.proofs.lemmas.Bool.{eqb-true}
 use Rattle.scad_lexer.specs.declared.token.Token.{Token}
 use Rattle.scad_ast.specs.Terms.{Term, NameTerm, ArgTerm}
 use Rattle.scad_grammar.specs.declared.SyntaxFault.{SyntaxFault}
-use Rattle.scad_grammar.specs.Classes.{numeral, text, true_word, false_word, undef_word, child_count, name, question_sign, open_parenthesis_sign, class_of, listed, among, is, other_than, bytes_of}
+use Rattle.scad_grammar.specs.Classes.{numeral, text, true_word, false_word, undef_word, child_count, special, name, question_sign, open_parenthesis_sign, class_of, listed, among, is, other_than, bytes_of}
 use Rattle.scad_grammar.specs.Faults.{Reads}
 use Rattle.scad_grammar.specs.Grammar.{levels}
 use Rattle.scad_grammar.specs.Reading.{Read, after, starts, choice}
@@ -43,15 +43,16 @@ not_first c cs k e = go (nat_eq k c) e
     go false e = refl
 
 not_atom : (k : ℕ) → listed (numeral ∷ []) k ≡ false → listed (text ∷ []) k ≡ false → listed (true_word ∷ []) k ≡ false → listed (false_word ∷ []) k ≡ false
-    → listed (undef_word ∷ []) k ≡ false → listed (child_count ∷ []) k ≡ false → listed (name ∷ []) k ≡ false → listed atoms k ≡ false
-not_atom k n x y z v w g =
+    → listed (undef_word ∷ []) k ≡ false → listed (child_count ∷ []) k ≡ false → listed (special ∷ []) k ≡ false → listed (name ∷ []) k ≡ false → listed atoms k ≡ false
+not_atom k n x y z v w s g =
     not_first name literals k g
-    ∙ not_first numeral (text ∷ true_word ∷ false_word ∷ undef_word ∷ child_count ∷ []) k n
-    ∙ not_first text (true_word ∷ false_word ∷ undef_word ∷ child_count ∷ []) k x
-    ∙ not_first true_word (false_word ∷ undef_word ∷ child_count ∷ []) k y
-    ∙ not_first false_word (undef_word ∷ child_count ∷ []) k z
-    ∙ not_first undef_word (child_count ∷ []) k v
-    ∙ not_first child_count [] k w
+    ∙ not_first numeral (text ∷ true_word ∷ false_word ∷ undef_word ∷ child_count ∷ special ∷ []) k n
+    ∙ not_first text (true_word ∷ false_word ∷ undef_word ∷ child_count ∷ special ∷ []) k x
+    ∙ not_first true_word (false_word ∷ undef_word ∷ child_count ∷ special ∷ []) k y
+    ∙ not_first false_word (undef_word ∷ child_count ∷ special ∷ []) k z
+    ∙ not_first undef_word (child_count ∷ special ∷ []) k v
+    ∙ not_first child_count (special ∷ []) k w
+    ∙ not_first special [] k s
 
 -- a test that none of a list meets
 abbrev Spares : (ℕ → Bool) → List ℕ → Type 0
@@ -85,17 +86,18 @@ module _ (e : Reads Term) (a : Reads ArgTerm) (t : Token) (us : List Token) wher
   atom_read : among atoms t ≡ true → starts (is open_parenthesis_sign) us ≡ false → primary_read e a (t ∷ us) ≡ Ok (atom_of t, us)
   atom_read atom alone =
       literal_or _ (is numeral t) _ _ _ (λ n. literal_or _ (is text t) _ _ _ (λ x. literal_or _ (is true_word t) _ _ _ (λ y.
-      literal_or _ (is false_word t) _ _ _ (λ z. literal_or _ (is undef_word t) _ _ _ (λ v. literal_or _ (is child_count t) _ _ _ (λ w. last n x y z v w (is name t) refl))))))
+      literal_or _ (is false_word t) _ _ _ (λ z. literal_or _ (is undef_word t) _ _ _ (λ v. literal_or _ (is child_count t) _ _ _ (λ w.
+      literal_or _ (is special t) _ _ _ (λ s. last n x y z v w s (is name t) refl)))))))
     where
-      last : is numeral t ≡ false → is text t ≡ false → is true_word t ≡ false → is false_word t ≡ false → is undef_word t ≡ false → is child_count t ≡ false
+      last : is numeral t ≡ false → is text t ≡ false → is true_word t ≡ false → is false_word t ≡ false → is undef_word t ≡ false → is child_count t ≡ false → is special t ≡ false
           → (b : Bool) → is name t ≡ b → cond b (name_read a (t ∷ us)) (choice (is open_parenthesis_sign) (paren_read e) (bracket_read e) (t ∷ us)) ≡ Ok (NameTerm t.place (bytes_of t.kind), us)
-      last n x y z v w true g = name_alone g alone
-      last n x y z v w false g =
-          let none : true ≡ false = sym atom ∙ not_atom (class_of t.kind) n x y z v w g in
+      last n x y z v w s true g = name_alone g alone
+      last n x y z v w s false g =
+          let none : true ≡ false = sym atom ∙ not_atom (class_of t.kind) n x y z v w s g in
           absurd (cc)
 
 unsigned : (t : Token) → among atoms t ≡ true → among unary_signs t ≡ false
-unsigned t = spared (listed unary_signs) atoms (class_of t.kind) (refl, (refl, (refl, (refl, (refl, (refl, (refl, tt)))))))
+unsigned t = spared (listed unary_signs) atoms (class_of t.kind) (refl, (refl, (refl, (refl, (refl, (refl, (refl, (refl, tt))))))))
 
 -- what stands behind an atom alone does not go on with it
 apart : (us : List Token) → starts (other_than continuations) us ≡ true → starts (among continuations) us ≡ false

@@ -4,12 +4,12 @@ use Rattle.scad_lexer.specs.declared.token.Token.{Token}
 use Rattle.scad_ast.specs.Terms.{Term, PositionalTerm}
 use Rattle.scad_grammar.specs.declared.SyntaxFault.{SyntaxFault}
 use Rattle.scad_grammar.specs.declared.SyntaxFault.TheVariants.{Nested}
-use Rattle.scad_grammar.specs.Classes.{name, open_bracket_sign, close_bracket_sign, dot_sign, assign_sign, among, is}
+use Rattle.scad_grammar.specs.Classes.{name, argument_names, open_bracket_sign, close_bracket_sign, dot_sign, assign_sign, among, is}
 use Rattle.scad_grammar.specs.Languages.{Language, first_of, second_of}
 use Rattle.scad_grammar.specs.Grammar.{whole, Statement, link, chain_of, index_of, member_of, mark_of, param_of, binder_of}
 use Rattle.scad_grammar.specs.Faults.{Reads, one, fault_of, left_out, left_out_of_expressions}
 use Rattle.scad_grammar.specs.Reading.{Read, after, starts, mapped, nothing, both, maybe, many}
-use Rattle.scad_grammar.specs.Reads.{firsts_of_expression, nested, head_of, named, suffix_read, unary_read, primary_read, chain_read, arg_in, expr_read, operand_read}
+use Rattle.scad_grammar.specs.Reads.{firsts_of_expression, nested, head_of, given, suffix_read, unary_read, primary_read, chain_read, arg_in, expr_read, operand_read}
 use Rattle.scad_grammar.specs.StatementReads.{mark_signs, param_in, binder_in, firsts_of_statement, statement_read}
 use Rattle.scad_grammar.proofs.Readers.{Told, IsReader, Opens}
 use Rattle.scad_grammar.proofs.Shrinks.{left, Shrinks, one_shrinks, nothing_shrinks, mapped_shrinks, both_shrinks, choice_shrinks, ahead_shrinks, many_shrinks}
@@ -66,7 +66,7 @@ expr_shorter d = shorter (expr_read d) (expr_shrinks d)
 
 pub arg_shorter : (d : ℕ) → Shorter (arg_in d (expr_read d))
 arg_shorter zero = shorter (arg_in zero (expr_read zero)) (nested_shrinks firsts_of_expression left_out_of_expressions)
-arg_shorter (suc d) = shorter (arg_in (suc d) (expr_read (suc d))) (ahead_shrinks named (is name) (is assign_sign) (expr_read (suc d)) (mapped PositionalTerm (expr_read (suc d))) (expr_shrinks (suc d)) (mapped_shrinks PositionalTerm (expr_read (suc d)) (expr_shrinks (suc d))))
+arg_shorter (suc d) = shorter (arg_in (suc d) (expr_read (suc d))) (ahead_shrinks given (among argument_names) (is assign_sign) (expr_read (suc d)) (mapped PositionalTerm (expr_read (suc d))) (expr_shrinks (suc d)) (mapped_shrinks PositionalTerm (expr_read (suc d)) (expr_shrinks (suc d))))
 
 pub param_shorter : (d : ℕ) → Shorter (param_in d (expr_read d))
 param_shorter zero = shorter (param_in zero (expr_read zero)) (nested_shrinks (name ∷ []) left_out)

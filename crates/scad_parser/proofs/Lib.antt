@@ -1,6 +1,7 @@
 mod Atoms
 mod Climbs
 mod Depths
+mod Given
 mod Lengths
 mod Levels
 mod Loops

@@ -1,6 +1,6 @@
 -- The classes of tokens that the parser tells apart.
 use Rattle.std.specs.Prelude.{ℕ, List, [], ◌∷◌, ◌++◌, drop, length}
-use Rattle.scad_grammar.specs.Classes.{numeral, name, child_count, text, end, true_word, false_word, undef_word, open_parenthesis_sign, open_bracket_sign, question_sign, dot_sign, plus_sign, minus_sign, times_sign, divide_sign, remainder_sign, less_sign, greater_sign, less_equal_sign, greater_equal_sign, equal_sign, not_equal_sign, and_sign, or_sign, not_sign, reserved_class, symbol_class}
+use Rattle.scad_grammar.specs.Classes.{numeral, name, child_count, special, argument_names, text, end, true_word, false_word, undef_word, open_parenthesis_sign, open_bracket_sign, question_sign, dot_sign, plus_sign, minus_sign, times_sign, divide_sign, remainder_sign, less_sign, greater_sign, less_equal_sign, greater_equal_sign, equal_sign, not_equal_sign, and_sign, or_sign, not_sign, reserved_class, symbol_class}
 use Rattle.scad_grammar.specs.Grammar.{levels}
 use Rattle.scad_grammar.specs.Reads.{firsts_of_expression}
 use Rattle.scad_grammar.specs.StatementReads.{mark_signs, loop_words, firsts_of_statement, firsts_of_body}
@@ -8,7 +8,7 @@ use Rattle.scad_grammar.specs.Faults.{left_out, left_out_of_expressions}
 use Rattle.scad_parser.specs.declared.class.Level.{Level}
 use Rattle.scad_parser.specs.declared.class.Level.TheVariants.{Or, And, Equal, Order, Sum, Product}
 use Rattle.scad_parser.specs.declared.class.Class.{Class}
-use Rattle.scad_parser.specs.declared.class.Class.TheVariants.{Name, End, Word, Sign, Literal, Atom, Continuation, Operator, BinaryOperator, UnaryOperator, Suffix, Mark, LoopWord, Expression, Statement, Body, LeftOut, LeftOutOfExpressions}
+use Rattle.scad_parser.specs.declared.class.Class.TheVariants.{Name, Special, ArgumentName, End, Word, Sign, Literal, Atom, Continuation, Operator, BinaryOperator, UnaryOperator, Suffix, Mark, LoopWord, Expression, Statement, Body, LeftOut, LeftOutOfExpressions}
 
 -- all operators of two sides
 abbrev pub joined : List (List ℕ) → List ℕ
@@ -25,7 +25,7 @@ abbrev pub suffix_signs : List ℕ
 suffix_signs = open_bracket_sign ∷ dot_sign ∷ []
 
 abbrev pub literals : List ℕ
-literals = numeral ∷ text ∷ true_word ∷ false_word ∷ undef_word ∷ child_count ∷ []
+literals = numeral ∷ text ∷ true_word ∷ false_word ∷ undef_word ∷ child_count ∷ special ∷ []
 
 -- an operand of one token
 abbrev pub atoms : List ℕ
@@ -73,6 +73,8 @@ tighter_levels level = length (levels_below level)
 -- the classes of the tokens of a class
 abbrev pub classes_of : Class → List ℕ
 classes_of Name = name ∷ []
+classes_of Special = special ∷ []
+classes_of ArgumentName = argument_names
 classes_of End = end ∷ []
 classes_of (Word word) = reserved_class word ∷ []
 classes_of (Sign symbol) = symbol_class symbol ∷ []

@@ -1,10 +1,10 @@
 -- What the parser's functions give, in the words of the grammar.
 use Rattle.std.specs.Prelude.{◌≡◌, ℕ, List, [], ◌∷◌, Bool, true, false, cond, Result, Ok, Err, ◌&&◌}
 use Rattle.scad_lexer.specs.declared.token.Token.{Token}
-use Rattle.scad_ast.specs.Terms.{Term, NumberTerm, TextTerm, TruthTerm, UndefTerm, ChildCountTerm, NameTerm}
+use Rattle.scad_ast.specs.Terms.{Term, NumberTerm, TextTerm, TruthTerm, UndefTerm, ChildCountTerm, SpecialTerm, NameTerm}
 use Rattle.scad_grammar.specs.declared.SyntaxFault.{SyntaxFault}
 use Rattle.scad_grammar.specs.declared.SyntaxFault.TheVariants.{Nested}
-use Rattle.scad_grammar.specs.Classes.{numeral, text, true_word, false_word, undef_word, child_count, name, comma_sign, assign_sign, among, is, other_than, number_of, bytes_of}
+use Rattle.scad_grammar.specs.Classes.{numeral, text, true_word, false_word, undef_word, child_count, special, argument_names, name, comma_sign, assign_sign, among, is, other_than, number_of, bytes_of}
 use Rattle.scad_grammar.specs.Faults.{fault_of}
 use Rattle.scad_grammar.specs.Reading.{Read, starts}
 use Rattle.scad_grammar.specs.Reads.{head_of}
@@ -47,6 +47,12 @@ names_value [] = false
 names_value (t ∷ []) = false
 names_value (t ∷ u ∷ ts) = is name t && is assign_sign u
 
+-- a name that an argument may be given by, and a `=`
+abbrev pub gives_value : List Token → Bool
+gives_value [] = false
+gives_value (t ∷ []) = false
+gives_value (t ∷ u ∷ ts) = among argument_names t && is assign_sign u
+
 -- an atom, and behind it a token that does not go on with it
 abbrev pub has_lone_atom : List Token → Bool
 has_lone_atom [] = false
@@ -60,4 +66,5 @@ atom_of t =
     (cond (is true_word t) (TruthTerm t.place true)
     (cond (is false_word t) (TruthTerm t.place false)
     (cond (is undef_word t) (UndefTerm t.place)
-    (cond (is child_count t) (ChildCountTerm t.place) (NameTerm t.place (bytes_of t.kind)))))))
+    (cond (is child_count t) (ChildCountTerm t.place)
+    (cond (is special t) (SpecialTerm t.place (bytes_of t.kind)) (NameTerm t.place (bytes_of t.kind))))))))

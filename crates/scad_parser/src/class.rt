@@ -1,5 +1,5 @@
 ghost use Rattle.std.specs.Prelude.{◌≡◌, cond};
-ghost use Rattle.scad_grammar.specs.Classes.{class_of, listed, symbol_class, reserved_class, child_count, special};
+ghost use Rattle.scad_grammar.specs.Classes.{class_of, listed, symbol_class, reserved_class, numeral, name, text, child_count, special};
 ghost use Rattle.scad_grammar.specs.Faults.{left_out};
 ghost use Rattle.scad_grammar.specs.StatementReads.{mark_signs, firsts_of_core};
 ghost use Rattle.scad_parser.specs.TokenClasses.{classes_of, operators_at, tighter_levels, looser_than, binary_signs, unary_signs, continuations};
@@ -69,10 +69,14 @@ impl Level {
 #[derive(Clone, Copy, Debug, PartialEq, Eq)]
 pub enum Class {
     Name,
+    /// A special name other than `$children`.
+    Special,
+    /// What an argument may be given by: a name, or a special name other than `$children`.
+    ArgumentName,
     End,
     Word(Reserved),
     Sign(Symbol),
-    /// A numeral, a text, a truth, `undef` or `$children`.
+    /// A numeral, a text, a truth, `undef` or a special name.
     Literal,
     /// A literal or a name.
     Atom,
@@ -92,7 +96,7 @@ pub enum Class {
     Statement,
     /// What may begin a body.
     Body,
-    /// What this profile leaves out, wherever it stands.
+    /// What this profile leaves out wherever no program goes on with it.
     LeftOut,
     /// What this profile leaves out where an expression may begin.
     LeftOutOfExpressions,
@@ -108,15 +112,37 @@ impl Class {
             TokenKind::Symbol(symbol) => self.has_symbol(*symbol),
             TokenKind::Reserved(word) => self.has_word(*word),
             TokenKind::Special(bytes) => self.has_special(bytes.items() == b"children".as_slice()),
-            TokenKind::Name(_) => matches!(
-                self,
-                Class::Name | Class::Atom | Class::Expression | Class::Statement | Class::Body
-            ),
-            TokenKind::Numeral(_) | TokenKind::Text(_) => {
-                matches!(self, Class::Literal | Class::Atom | Class::Expression)
-            }
+            TokenKind::Name(_) => self.has_name(),
+            TokenKind::Numeral(_) => self.has_numeral(),
+            TokenKind::Text(_) => self.has_text(),
             TokenKind::End => matches!(self, Class::End),
         }
+    }
+
+    fn has_name(self) -> bool
+        ensures { result ≡ listed (classes_of self) name }
+    {
+        matches!(
+            self,
+            Class::Name
+                | Class::ArgumentName
+                | Class::Atom
+                | Class::Expression
+                | Class::Statement
+                | Class::Body
+        )
+    }
+
+    fn has_numeral(self) -> bool
+        ensures { result ≡ listed (classes_of self) numeral }
+    {
+        matches!(self, Class::Literal | Class::Atom | Class::Expression)
+    }
+
+    fn has_text(self) -> bool
+        ensures { result ≡ listed (classes_of self) text }
+    {
+        matches!(self, Class::Literal | Class::Atom | Class::Expression)
     }
 
     fn has_symbol(self, symbol: Symbol) -> bool
@@ -167,8 +193,12 @@ impl Class {
         ensures { result ≡ listed (classes_of self) (cond is_child_count child_count special) }
     {
         match self {
-            Class::Literal | Class::Atom | Class::Expression => is_child_count,
-            Class::LeftOut | Class::LeftOutOfExpressions => !is_child_count,
+            Class::Literal | Class::Atom | Class::Expression => true,
+            Class::Special
+            | Class::ArgumentName
+            | Class::Statement
+            | Class::LeftOut
+            | Class::LeftOutOfExpressions => !is_child_count,
             _ => false,
         }
     }

@@ -1,10 +1,10 @@
 ghost use Rattle.std.specs.Prelude.{◌≡◌, ◌≤◌, ◌<◌, ◌∷◌, [], true, Some, IfOk, length, map};
 ghost use Rattle.scad_ast.specs.Terms.{Term, ArgTerm};
 ghost use Rattle.scad_ast.specs.ExprView.{term_of, terms_of, link_of, suffix_of, arg_of, args_of};
-ghost use Rattle.scad_grammar.specs.Classes.{among, is, other_than, symbol_class};
+ghost use Rattle.scad_grammar.specs.Classes.{among, is, other_than, symbol_class, bytes_of};
 ghost use Rattle.scad_grammar.specs.Classes.{comma_sign, close_bracket_sign, close_parenthesis_sign, colon_sign, question_sign};
 ghost use Rattle.scad_grammar.specs.Faults.{Reads, one};
-ghost use Rattle.scad_grammar.specs.Grammar.{levels, link as link_at, chain_of as chain_at, choice_of as choice_at, postfix_of as postfix_at, unary_of as unary_at, named_of, filled_of};
+ghost use Rattle.scad_grammar.specs.Grammar.{levels, given_of, link as link_at, chain_of as chain_at, choice_of as choice_at, postfix_of as postfix_at, unary_of as unary_at, named_of, filled_of};
 ghost use Rattle.scad_grammar.specs.Languages.{pair_of, second_of};
 ghost use Rattle.scad_grammar.specs.Reading.{starts, both, mapped, many, trailing, in_front};
 ghost use Rattle.scad_grammar.specs.Reads.{expr_read, operand_read, arg_in, args_read, primary_read, unary_read, postfix_read, suffix_read, chain_read, choice_read, name_read, paren_read, bracket_read, range_read, rest_read, in_parentheses};
@@ -14,9 +14,10 @@ ghost use Rattle.scad_parser.specs.Views.{Gives, atom_of};
 
 use crate::class::{Class, Level};
 use crate::next::{
-    Parsed, behind_comma, binary, bytes, is_before, is_comma_before, is_named, list_of, lone_atom,
-    number, take, take_first, too_deep, unary_operator, with,
+    Parsed, behind_comma, binary, bytes, is_before, is_comma_before, is_given, list_of, lone_atom,
+    take, take_first, too_deep, unary_operator, with,
 };
+use compact_bytes::CompactBytes;
 use scad_ast::{
     Arg, Args, Call, Chain, Choice, Expr, Exprs, Link, Links, Postfix, Range, SteppedRange, Suffix,
     Suffixes,
@@ -394,7 +395,7 @@ fn paren<'a>(alloc: Global, tokens: &'a [Token], depth: u32) -> Parsed<'a, Expr>
     Ok((Expr::Paren(open.place, Box::new(alloc, inner)?), rest))
 }
 
-/// A numeral, a text, a truth, `undef` or `$children`.
+/// A numeral, a text, a truth, `undef` or a special name.
 #[inline(always)]
 fn literal<'a>(alloc: Global, tokens: &'a [Token]) -> Parsed<'a, Expr>
     requires { starts (among literals) tokens.now ≡ true }
@@ -414,11 +415,12 @@ fn atom(alloc: Global, token: &Token) -> Result<Expr, AllocError>
     let place = token.place;
     Ok(match &token.kind {
         TokenKind::Name(_) => Expr::Name(place, bytes(alloc, &token.kind)?),
-        TokenKind::Numeral(_) => Expr::Number(place, number(&token.kind)),
+        TokenKind::Numeral(number) => Expr::Number(place, *number),
         TokenKind::Text(_) => Expr::Text(place, bytes(alloc, &token.kind)?),
         TokenKind::Reserved(Reserved::True) => Expr::Truth(place, true),
         TokenKind::Reserved(Reserved::False) => Expr::Truth(place, false),
         TokenKind::Reserved(Reserved::Undef) => Expr::Undef(place),
+        kind if Class::Special.has(kind) => Expr::Special(place, bytes(alloc, kind)?),
         _ => Expr::ChildCount(place),
     })
 }
@@ -597,15 +599,28 @@ fn arg<'a>(alloc: Global, tokens: &'a [Token], depth: u32) -> Parsed<'a, Arg>
     if depth == 0 {
         return Err(too_deep(Class::Expression, Class::LeftOutOfExpressions, tokens));
     }
-    if !is_named(tokens) {
+    if !is_given(tokens) {
         let (value, rest) = expr(alloc, tokens, depth)?;
         return Ok((Arg::Positional(value), rest));
     }
-    let (name, rest) = take(Class::Name, tokens)?;
+    let (name, rest) = take(Class::ArgumentName, tokens)?;
     let (_, rest) = take(Class::Sign(Symbol::Assign), rest)?;
     let bytes = bytes(alloc, &name.kind)?;
     let ((bytes, value), rest) = with(bytes, expr(alloc, rest, depth))?;
-    Ok((Arg::Named(name.place, bytes, value), rest))
+    Ok((given(name, bytes, value), rest))
+}
+
+/// An argument by its name and its value.
+#[inline(always)]
+fn given(name: &Token, bytes: CompactBytes, value: Expr) -> Arg
+    requires { bytes ≡ bytes_of name.now.kind }
+    ensures { arg_of result ≡ given_of name.now (term_of value) }
+{
+    if Class::Special.has(&name.kind) {
+        Arg::Special(name.place, bytes, value)
+    } else {
+        Arg::Named(name.place, bytes, value)
+    }
 }
 
 /// A list of nothing.

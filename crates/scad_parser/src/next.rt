@@ -1,12 +1,12 @@
 ghost use Rattle.std.specs.Prelude.{◌≡◌, ◌<◌, ◌≤◌, ◌∷◌, [], true, false, Ok, Err, IfOk, IfErr, IfSome, IfNone, length};
-ghost use Rattle.scad_grammar.specs.Classes.{class_of, number_of, bytes_of, symbol_class, among, is, other_than};
+ghost use Rattle.scad_grammar.specs.Classes.{class_of, bytes_of, symbol_class, among, is, other_than};
 ghost use Rattle.scad_grammar.specs.Classes.{name};
 ghost use Rattle.scad_grammar.specs.Grammar.{binary_at, unary_at, modifier_at};
 ghost use Rattle.scad_grammar.specs.Faults.{one, first};
 ghost use Rattle.scad_grammar.specs.Reading.{starts};
 ghost use Rattle.scad_parser.specs.TokenClasses.{classes_of, continuations};
 ghost use Rattle.scad_parser.specs.declared.class.Class.TheVariants.{LeftOut};
-ghost use Rattle.scad_parser.specs.Views.{Gives, IsStop, nested_fault, fault_at, item_stands, past_comma, names_value, has_lone_atom};
+ghost use Rattle.scad_parser.specs.Views.{Gives, IsStop, nested_fault, fault_at, item_stands, past_comma, names_value, gives_value, has_lone_atom};
 
 use crate::class::Class;
 use compact_bytes::CompactBytes;
@@ -165,6 +165,18 @@ pub fn is_named(tokens: &[Token]) -> bool
     }
 }
 
+/// Whether a name that an argument may be given by stands here, and a `=` behind it.
+pub fn is_given(tokens: &[Token]) -> bool
+    ensures { result ≡ gives_value tokens.now }
+{
+    match tokens {
+        [token, next, ..] => {
+            Class::ArgumentName.has(&token.kind) && Class::Sign(Symbol::Assign).has(&next.kind)
+        }
+        _ => false,
+    }
+}
+
 /// One token of a class.
 #[inline(always)]
 pub fn take<'a>(class: Class, tokens: &'a [Token]) -> Parsed<'a, &'a Token>
@@ -219,23 +231,15 @@ pub fn too_deep<'a>(begins: Class, left_out: Class, tokens: &'a [Token]) -> Stop
     }
 }
 
-/// The number of a numeral, and 0 of another token.
-pub fn number(kind: &TokenKind) -> u64
-    ensures { result ≡ number_of kind.now }
-{
-    match kind {
-        TokenKind::Numeral(number) => *number,
-        _ => 0,
-    }
-}
-
-/// A copy of the bytes of a name or a text, and none of another token.
+/// A copy of the bytes of a name, a special name or a text, and none of another token.
 #[inline(always)]
 pub fn bytes(alloc: Global, kind: &TokenKind) -> Result<CompactBytes, AllocError>
     ensures { IfOk result (λ bytes. bytes ≡ bytes_of kind.now) }
 {
     match kind {
-        TokenKind::Name(bytes) | TokenKind::Text(bytes) => bytes.copy(alloc),
+        TokenKind::Name(bytes) | TokenKind::Special(bytes) | TokenKind::Text(bytes) => {
+            bytes.copy(alloc)
+        }
         _ => CompactBytes::of(alloc, &[]),
     }
 }

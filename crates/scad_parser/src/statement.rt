@@ -5,10 +5,10 @@ ghost use Rattle.scad_ast.specs.StatementView.{statement_of, statements_of, inst
 ghost use Rattle.scad_grammar.specs.Classes.{among, is, name, comma_sign, assign_sign, else_word};
 ghost use Rattle.scad_grammar.specs.Languages.{second_of};
 ghost use Rattle.scad_grammar.specs.Faults.{Reads, one};
-ghost use Rattle.scad_grammar.specs.Grammar.{mark_of as mark_at, instance_of as instance_at, core_place};
+ghost use Rattle.scad_grammar.specs.Grammar.{mark_of as mark_at, instance_of as instance_at};
 ghost use Rattle.scad_grammar.specs.Reading.{ahead, both, many, mapped, trailing, in_front};
 ghost use Rattle.scad_grammar.specs.Reads.{expr_read, arg_in, in_parentheses};
-ghost use Rattle.scad_grammar.specs.StatementReads.{mark_signs, firsts_of_statement, param_in, params_read, binder_in, binders_read, if_read, loop_read, call_read, core_read, marks_read, instance_in, braces_read, body_read, body_over as body_from, module_read, function_read, ended_read, definition_read, assigned, statement_over as statement_from, statement_read};
+ghost use Rattle.scad_grammar.specs.StatementReads.{mark_signs, firsts_of_statement, param_in, params_read, binder_in, binders_read, if_read, loop_read, call_read, core_read, marks_read, instance_in, braces_read, body_read, body_over as body_from, module_read, function_read, ended_read, special_read, definition_read, assigned, statement_over as statement_from, statement_read};
 ghost use Rattle.scad_parser.specs.Views.{Gives, names_value};
 
 use crate::class::Class;
@@ -22,7 +22,6 @@ use scad_ast::{
 };
 use scad_lexer::{Reserved, Symbol, Token};
 use std::alloc::Global;
-use text_place::Place;
 
 // Each form stands in a function that is not inlined: the locals of a function are cleared at each call, also those
 // of forms that are not met.
@@ -57,6 +56,8 @@ fn statement_over<'a>(
         let (open, rest) = take(Class::Sign(Symbol::OpenBrace), tokens)?;
         let (statements, rest) = braces(alloc, rest, inner)?;
         Ok((Statement::Block(open.place, statements), rest))
+    } else if Class::Special.begins(tokens) {
+        special_assignment(alloc, tokens, depth)
     } else if is_named(tokens) {
         assignment(alloc, tokens, depth)
     } else {
@@ -103,6 +104,19 @@ fn assignment<'a>(alloc: Global, tokens: &'a [Token], depth: u32) -> Parsed<'a, 
     let bytes = bytes(alloc, &name.kind)?;
     let (value, rest) = ended(alloc, rest, depth)?;
     Ok((Statement::Assignment(name.place, bytes, value), rest))
+}
+
+/// `$name = value;`, of a special name other than `$children`.
+#[inline(never)]
+fn special_assignment<'a>(alloc: Global, tokens: &'a [Token], depth: u32) -> Parsed<'a, Statement>
+    ensures value { Gives (λ p. (statement_of p.0, p.1.now)) result (special_read (expr_read depth) tokens.now) }
+    ensures shorter { IfOk result (λ p. length p.1.now < length tokens.now) }
+{
+    let (name, rest) = take(Class::Special, tokens)?;
+    let (_, rest) = take(Class::Sign(Symbol::Assign), rest)?;
+    let bytes = bytes(alloc, &name.kind)?;
+    let (value, rest) = ended(alloc, rest, depth)?;
+    Ok((Statement::SpecialAssignment(name.place, bytes, value), rest))
 }
 
 /// An expression and the `;` behind it.
@@ -262,22 +276,9 @@ fn instance_from(marks: Marks, core: Core) -> Instance
 {
     let place = match marks.items.first() {
         Some(mark) => mark.place,
-        None => core_place(&core),
+        None => core.place(),
     };
     Instance { place, marks, core }
-}
-
-/// The place of the first token.
-fn core_place(core: &Core) -> Place
-    ensures { result ≡ core_place (core_of core.now) }
-{
-    match core {
-        Core::If(place, _, _)
-        | Core::IfElse(place, _, _, _)
-        | Core::For(place, _, _)
-        | Core::IntersectionFor(place, _, _)
-        | Core::Call(place, _, _, _) => *place,
-    }
 }
 
 /// Modifiers.

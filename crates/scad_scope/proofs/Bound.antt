@@ -1,5 +1,5 @@
 -- A table with one more variable, and its bounds.
-use Rattle.std.proofs.Common.{◌≡◌, ℕ, zero, suc, ◌<◌, List, [], ◌∷◌, ◌++◌, length, map, reverse, Bool, true, false, cond, Option, Some, None, refl, sym, ap, subst, ◌∙◌, arith, get_or, set, Result, Ok, Err}
+use Rattle.std.proofs.Common.{◌≡◌, ℕ, zero, suc, ◌<◌, List, [], ◌∷◌, ◌++◌, length, map, take, reverse, Bool, true, false, cond, Option, Some, None, refl, sym, ap, subst, ◌∙◌, arith, get_or, set, Result, Ok, Err}
 use Rattle.std.specs.Prelude.{IsTrue, OnOk, OnErr}
 use Rattle.std.specs.Str.{bytes_eq}
 use Rattle.std.proofs.lemmas.Bool.{and_parts, and_from}
@@ -8,7 +8,6 @@ use Rattle.scad_value.specs.Values.{Val, is_bounded}
 use Rattle.scad_scope.specs.declared.table.Scope.{Scope}
 use Rattle.scad_scope.specs.declared.table.Variable.{Variable}
 use Rattle.scad_scope.specs.Names.{Row, Pairs, find_in, with_variable, bound_in, have_bounded, all_bounded}
-use Rattle.scad_scope.specs.Blocks.{Scan, Reached, Passed, entered}
 use Rattle.scad_scope.specs.View.{variable_of, variables_of, row_of, rows_in}
 
 -- what is pushed behind is the newest
@@ -55,7 +54,7 @@ by_test false x v other b go g = go g
 none_some : (o : Option Val) (v : Val) → o ≡ None → o ≡ Some v → ⊥
 none_some o v g h = cc
 
-found_bounded : (ps : Pairs Val) (name : List ℕ) (v : Val) → IsTrue (have_bounded ps) →
+pub found_bounded : (ps : Pairs Val) (name : List ℕ) (v : Val) → IsTrue (have_bounded ps) →
     find_in ps name ≡ Some v → IsTrue (is_bounded v)
 found_bounded [] name v b f = absurd (none_some None v refl f)
 found_bounded (p ∷ ps) name v b f = by_test (bytes_eq p.0 name) p.1 v (find_in ps name) (and_parts _ _ b).0
@@ -94,11 +93,6 @@ rows_bounded_push : (ss : List Scope) (s : Scope) → IsTrue (all_bounded (rows_
 rows_bounded_push [] s h b = and_from _ _ b refl
 rows_bounded_push (t ∷ ss) s h b = let p = and_parts _ _ h in and_from _ _ p.0 (rows_bounded_push ss s p.1 b)
 
--- a block has no variables before its assignments
-pub no_variables : (outer : ℕ) (block : Scan) → IsTrue (have_bounded (entered outer block).variables)
-no_variables outer (Reached block) = refl
-no_variables outer (Passed b f m) = refl
-
 -- a new scope whose variables are bounded
 pub adding_bounded : (t : Bool) (ss new : List Scope) (s : Scope) → new ≡ cond t (ss ++ s ∷ []) ss
     → IsTrue (have_bounded (row_of s).variables) → IsTrue (all_bounded (rows_in ss))
@@ -106,3 +100,8 @@ pub adding_bounded : (t : Bool) (ss new : List Scope) (s : Scope) → new ≡ co
 adding_bounded true ss new s e b h = subst (λ l. IsTrue (all_bounded (rows_in l))) (sym e)
     (rows_bounded_push ss s h b)
 adding_bounded false ss new s e b h = subst (λ l. IsTrue (all_bounded (rows_in l))) (sym e) h
+
+pub cut_bounded : (n : ℕ) (rs : List Row) → IsTrue (all_bounded rs) → IsTrue (all_bounded (take n rs))
+cut_bounded zero rs h = refl
+cut_bounded (suc n) [] h = refl
+cut_bounded (suc n) (r ∷ rs) h = let p = and_parts _ _ h in and_from _ _ p.0 (cut_bounded n rs p.1)

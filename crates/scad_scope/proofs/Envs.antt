@@ -1,8 +1,7 @@
 -- The scope of a number, and what it holds.
-use Rattle.std.proofs.Common.{◌≡◌, ℕ, zero, suc, ◌+◌, ◌<◌, ◌≤◌, List, [], ◌∷◌, ◌++◌, length, Bool, true, false, cond, Some, None, refl, sym, ap, subst, ◌∙◌, arith, length-append, get_or, nat_lt}
-use Rattle.std.specs.Prelude.{slice_index_or}
+use Rattle.std.proofs.Common.{◌≡◌, ℕ, zero, suc, ◌+◌, ◌<◌, ◌≤◌, List, [], ◌∷◌, ◌++◌, length, take, drop, Bool, true, false, cond, Option, Some, None, refl, sym, ap, subst, ◌∙◌, arith, length-append, get_or, nat_lt}
 use Rattle.std.proofs.lemmas.Bool.{ltb-true, ltb-false, lt-ltb, le-ltb}
-use Rattle.std.proofs.lemmas.List.{get_or_past}
+use Rattle.std.proofs.lemmas.List.{get_or_past, take-append-drop, length-take-le}
 use Rattle.std.proofs.Math.Seq.{get_or-append_seam}
 use Rattle.scad_value.specs.Values.{Val}
 use Rattle.scad_scope.specs.declared.table.Scope.{Scope}
@@ -11,19 +10,16 @@ use Rattle.scad_scope.specs.declared.table.Family.TheVariants.{Functions, Module
 use Rattle.scad_scope.specs.Names.{with_variable, with_pair, bound_in}
 use Rattle.std.specs.Prelude.{IfOk, OnOk, OnErr}
 use Rattle.std.proofs.Common.{Result, Ok, Err}
-use Rattle.scad_scope.specs.Blocks.{Scan, Reached, Passed, entered}
-use Rattle.scad_scope.specs.Names.{Row, Env, Outermost, Within, envs_from, env_of, find_in, or_else, standing_in, variable_in}
+use Rattle.scad_scope.specs.Names.{Row, NumberedEnv, NumberedOutermost, NumberedWithin, NumberedCall, no_numbered_call, numbered_call, call_behind, env_behind, or_outer_call, enclosing_call, envs_from, env_of, find_in, or_else, standing_in, variable_in}
+use Rattle.scad_scope.specs.declared.table.Call.{Call}
+use Rattle.scad_scope.specs.Table.{call_told}
 use Rattle.scad_scope.specs.View.{row_of, rows_in, pairs_of, definition_in}
 
--- a row's scope, behind these
-abbrev scope_in : List Env → Row → Env
-scope_in before r = Within (length before) r (slice_index_or before r.outer Outermost)
-
-pub envs_length : (before : List Env) (rs : List Row) → length (envs_from before rs) ≡ length before + length
+pub envs_length : (before : List NumberedEnv) (rs : List Row) → length (envs_from before rs) ≡ length before + length
     rs
 envs_length before [] = omega arith
-envs_length before (r ∷ rs) = envs_length (before ++ scope_in before r ∷ []) rs ∙
-    omega (arith, length-append before (scope_in before r ∷ []))
+envs_length before (r ∷ rs) = envs_length (before ++ env_behind before r ∷ []) rs ∙
+    omega (arith, length-append before (env_behind before r ∷ []))
 
 get_front : {A : Type 0} (xs ys : List A) (k : ℕ) (d : A) → k < length xs → get_or (xs ++ ys) k d ≡ get_or xs
     k d
@@ -31,46 +27,69 @@ get_front [] ys k d h = absurd (omega arith)
 get_front (x ∷ xs) ys zero d h = refl
 get_front (x ∷ xs) ys (suc k) d h = get_front xs ys k d (omega arith)
 
-envs_keep : (before : List Env) (rs : List Row) (k : ℕ) (d : Env) → k < length before →
+envs_keep : (before : List NumberedEnv) (rs : List Row) (k : ℕ) (d : NumberedEnv) → k < length before →
     get_or (envs_from before rs) k d ≡ get_or before k d
 envs_keep before [] k d h = refl
 envs_keep before (r ∷ rs) k d h =
-    envs_keep (before ++ scope_in before r ∷ []) rs k d
-    (omega (arith, length-append before (scope_in before r ∷ [])))
-    ∙ get_front before (scope_in before r ∷ []) k d h
+    envs_keep (before ++ env_behind before r ∷ []) rs k d
+    (omega (arith, length-append before (env_behind before r ∷ [])))
+    ∙ get_front before (env_behind before r ∷ []) k d h
 
-outer_same : (before : List Env) (x : Env) (rs : List Row) (o : ℕ) (b : Bool) → nat_lt o (length before) ≡ b
-    → get_or before o Outermost ≡ cond b (get_or (envs_from (before ++ x ∷ []) rs) o Outermost) Outermost
+outer_same : (before : List NumberedEnv) (x : NumberedEnv) (rs : List Row) (o : ℕ) (b : Bool) → nat_lt o (length before) ≡ b
+    → get_or before o NumberedOutermost ≡ cond b (get_or (envs_from (before ++ x ∷ []) rs) o NumberedOutermost) NumberedOutermost
 outer_same before x rs o true e =
     let less : o < length before = ltb-true o (length before) e in
-    sym (envs_keep (before ++ x ∷ []) rs o Outermost (omega (arith, length-append before (x ∷ []))) ∙
-    get_front before (x ∷ []) o Outermost less)
-outer_same before x rs o false e = get_or_past before o Outermost (ltb-false o (length before) e)
+    sym (envs_keep (before ++ x ∷ []) rs o NumberedOutermost (omega (arith, length-append before (x ∷ []))) ∙
+    get_front before (x ∷ []) o NumberedOutermost less)
+outer_same before x rs o false e = get_or_past before o NumberedOutermost (ltb-false o (length before) e)
+
+call_test : (before : List NumberedEnv) (x : NumberedEnv) (rs : List Row) (children caller : ℕ) (b : Bool)
+    → nat_lt caller (length before) ≡ b
+    → cond b (numbered_call children (get_or before caller NumberedOutermost)) no_numbered_call
+    ≡ cond b (numbered_call children (get_or (envs_from (before ++ x ∷ []) rs) caller NumberedOutermost)) no_numbered_call
+call_test before x rs children caller true e =
+    let less : caller < length before = ltb-true caller (length before) e in
+    ap (numbered_call children) (sym (envs_keep (before ++ x ∷ []) rs caller NumberedOutermost (omega (arith, length-append before (x ∷ []))) ∙
+    get_front before (x ∷ []) caller NumberedOutermost less))
+call_test before x rs children caller false e = refl
+
+-- the scope of a number among these
+abbrev among : List NumberedEnv → ℕ → NumberedEnv
+among all k = get_or all k NumberedOutermost
+
+call_same : (before : List NumberedEnv) (x : NumberedEnv) (rs : List Row) (call : Option (ℕ × ℕ))
+    → call_behind (among before) (length before) call ≡ call_behind (among (envs_from (before ++ x ∷ []) rs)) (length before) call
+call_same before x rs None = refl
+call_same before x rs (Some call) = call_test before x rs call.0 call.1 (nat_lt call.1 (length before)) refl
 
 -- what stands at a number: its row, inside the scope that the row names where that one comes before
-abbrev Stands : List Env → ℕ → Row → Env → Type 0
-Stands all n r env = env ≡ Within n r (cond (nat_lt r.outer n) (get_or all r.outer Outermost) Outermost)
+abbrev Stands : List NumberedEnv → ℕ → Row → NumberedEnv → Type 0
+Stands all n r env = env ≡ NumberedWithin n r (call_behind (among all) n r.call)
+    (cond (nat_lt r.outer n) (get_or all r.outer NumberedOutermost) NumberedOutermost)
 
-envs_at : (before : List Env) (rs : List Row) (j : ℕ) (r : Row) → j < length rs → r ≡ get_or rs j r
+envs_at : (before : List NumberedEnv) (rs : List Row) (j : ℕ) (r : Row) → j < length rs → r ≡ get_or rs j r
     → Stands (envs_from before rs) (length before + j) r (get_or (envs_from before rs) (length before + j)
-    Outermost)
+    NumberedOutermost)
 envs_at before [] j r h e = absurd (omega arith)
 envs_at before (q ∷ rs) zero r h e =
-    let x = scope_in before q in
+    let x = env_behind before q in
     let all = envs_from (before ++ x ∷ []) rs in
     let n : length before ≡ length before + 0 = omega arith in
     let len : length before < length (before ++ x ∷ []) = omega (arith, length-append before (x ∷ [])) in
-    let is_x : x ≡ Within (length before) q (cond (nat_lt q.outer (length before))
-    (get_or all q.outer Outermost) Outermost)
-    = ap (Within (length before) q) (outer_same before x rs q.outer (nat_lt q.outer (length before)) refl) in
-    subst (λ n. Stands all n r (get_or all n Outermost)) n
-    (envs_keep (before ++ x ∷ []) rs (length before) Outermost len ∙ get_or-append_seam before x [] Outermost
+    let is_x : x ≡ NumberedWithin (length before) q (call_behind (among all) (length before) q.call)
+    (cond (nat_lt q.outer (length before)) (get_or all q.outer NumberedOutermost) NumberedOutermost)
+    = ap (NumberedWithin (length before) q (call_behind (among before) (length before) q.call))
+    (outer_same before x rs q.outer (nat_lt q.outer (length before)) refl)
+    ∙ ap (λ call. NumberedWithin (length before) q call
+    (cond (nat_lt q.outer (length before)) (get_or all q.outer NumberedOutermost) NumberedOutermost)) (call_same before x rs q.call) in
+    subst (λ n. Stands all n r (get_or all n NumberedOutermost)) n
+    (envs_keep (before ++ x ∷ []) rs (length before) NumberedOutermost len ∙ get_or-append_seam before x [] NumberedOutermost
     ∙ subst (λ (u : Row). Stands all (length before) u x) (sym e) is_x)
 envs_at before (q ∷ rs) (suc j) r h e =
-    let next = before ++ scope_in before q ∷ [] in
+    let next = before ++ env_behind before q ∷ [] in
     let len : length next + j ≡ length before + suc j =
-    omega (arith, length-append before (scope_in before q ∷ [])) in
-    subst (λ n. Stands (envs_from next rs) n r (get_or (envs_from next rs) n Outermost)) len
+    omega (arith, length-append before (env_behind before q ∷ [])) in
+    subst (λ n. Stands (envs_from next rs) n r (get_or (envs_from next rs) n NumberedOutermost)) len
     (envs_at next rs j r (omega arith) e)
 
 pub rows_length : (ss : List Scope) → length (rows_in ss) ≡ length ss
@@ -84,28 +103,28 @@ row_at (t ∷ ss) zero s h e = ap row_of e
 row_at (t ∷ ss) (suc k) s h e = row_at ss k s (omega arith) e
 
 pub env_at : (ss : List Scope) (k : ℕ) (s : Scope) → k < length ss → s ≡ get_or ss k s
-    → env_of (rows_in ss) k ≡ Within k (row_of s) (cond (nat_lt s.outer k) (env_of (rows_in ss) s.outer)
-    Outermost)
+    → env_of (rows_in ss) k ≡ NumberedWithin k (row_of s) (call_behind (env_of (rows_in ss)) k (row_of s).call)
+    (cond (nat_lt s.outer k) (env_of (rows_in ss) s.outer) NumberedOutermost)
 unfolding env_of
 env_at ss k s h e =
     let n : 0 + k ≡ k = omega arith in
     let less : k < length (rows_in ss) = omega (arith, rows_length ss) in
     subst (λ n. Stands (envs_from [] (rows_in ss)) n (row_of s) (get_or (envs_from [] (rows_in ss)) n
-    Outermost)) n
+    NumberedOutermost)) n
     (envs_at [] (rows_in ss) k (row_of s) less (row_at ss k s h e))
 
 module _ (ss : List Scope) (k : ℕ) (s : Scope) (name : List ℕ) (h : k < length ss) (e : s ≡ get_or ss k s)
   where
-    outside : Env
-    outside = cond (nat_lt s.outer k) (env_of (rows_in ss) s.outer) Outermost
+    outside : NumberedEnv
+    outside = cond (nat_lt s.outer k) (env_of (rows_in ss) s.outer) NumberedOutermost
 
-    no_outer : k ≤ s.outer → outside ≡ Outermost
+    no_outer : k ≤ s.outer → outside ≡ NumberedOutermost
     unfolding outside
-    no_outer l = ap (λ b. cond b (env_of (rows_in ss) s.outer) Outermost) (le-ltb s.outer k l)
+    no_outer l = ap (λ b. cond b (env_of (rows_in ss) s.outer) NumberedOutermost) (le-ltb s.outer k l)
 
     an_outer : s.outer < k → outside ≡ env_of (rows_in ss) s.outer
     unfolding outside
-    an_outer l = ap (λ b. cond b (env_of (rows_in ss) s.outer) Outermost) (lt-ltb s.outer k l)
+    an_outer l = ap (λ b. cond b (env_of (rows_in ss) s.outer) NumberedOutermost) (lt-ltb s.outer k l)
 
     here : variable_in (env_of (rows_in ss) k) name ≡ or_else (find_in (row_of s).variables name)
         (variable_in outside name)
@@ -127,11 +146,11 @@ module _ (ss : List Scope) (k : ℕ) (s : Scope) (name : List ℕ) (h : k < leng
         ∙ ap (λ x. variable_in x name)
         (an_outer l)
 
-    within : (family : Family) (env : Env) → definition_in family (Within k (row_of s) env) name
-        ≡ or_else (standing_in (Within k (row_of s) env) (find_in (pairs_of family (row_of s)) name))
+    within : (family : Family) (call : NumberedCall) (env : NumberedEnv) → definition_in family (NumberedWithin k (row_of s) call env) name
+        ≡ or_else (standing_in (NumberedWithin k (row_of s) call env) (find_in (pairs_of family (row_of s)) name))
         (definition_in family env name)
-    within Functions env = refl
-    within Modules env = refl
+    within Functions call env = refl
+    within Modules call env = refl
 
     standing : (family : Family) → definition_in family (env_of (rows_in ss) k) name
         ≡ or_else (standing_in (env_of (rows_in ss) k) (find_in (pairs_of family (row_of s)) name))
@@ -141,14 +160,31 @@ module _ (ss : List Scope) (k : ℕ) (s : Scope) (name : List ℕ) (h : k < leng
         (λ x. definition_in family x name
         ≡ or_else (standing_in x (find_in (pairs_of family (row_of s)) name))
         (definition_in family outside name))
-        (sym (env_at ss k s h e)) (within family outside)
+        (sym (env_at ss k s h e)) (within family (call_behind (env_of (rows_in ss)) k (row_of s).call) outside)
 
     pub definition_found : (family : Family) (d : ℕ) → find_in (pairs_of family (row_of s)) name ≡ Some d
         → definition_in family (env_of (rows_in ss) k) name ≡ Some (env_of (rows_in ss) k, d)
     definition_found family d f = standing family ∙ ap (λ o. or_else (standing_in (env_of (rows_in ss) k) o)
         (definition_in family outside name)) f
 
-    nowhere : (family : Family) → definition_in family Outermost name ≡ None
+    enclosing_here : enclosing_call (env_of (rows_in ss) k)
+        ≡ or_outer_call (call_behind (env_of (rows_in ss)) k (row_of s).call) (enclosing_call outside)
+    unfolding outside
+    enclosing_here = ap enclosing_call (env_at ss k s h e)
+
+    pub call_found : (call : Call) → call_behind (env_of (rows_in ss)) k (row_of s).call ≡ call_told (env_of (rows_in ss)) (Some call)
+        → enclosing_call (env_of (rows_in ss) k) ≡ call_told (env_of (rows_in ss)) (Some call)
+    call_found call f = enclosing_here ∙ ap (λ c. or_outer_call c (enclosing_call outside)) f
+
+    pub call_none : call_behind (env_of (rows_in ss)) k (row_of s).call ≡ no_numbered_call → k ≤ s.outer
+        → enclosing_call (env_of (rows_in ss) k) ≡ no_numbered_call
+    call_none f l = enclosing_here ∙ ap (λ c. or_outer_call c (enclosing_call outside)) f ∙ ap enclosing_call (no_outer l)
+
+    pub call_outer : call_behind (env_of (rows_in ss)) k (row_of s).call ≡ no_numbered_call → s.outer < k
+        → enclosing_call (env_of (rows_in ss) k) ≡ enclosing_call (env_of (rows_in ss) s.outer)
+    call_outer f l = enclosing_here ∙ ap (λ c. or_outer_call c (enclosing_call outside)) f ∙ ap enclosing_call (an_outer l)
+
+    nowhere : (family : Family) → definition_in family NumberedOutermost name ≡ None
     nowhere Functions = refl
     nowhere Modules = refl
 
@@ -168,72 +204,73 @@ module _ (ss : List Scope) (k : ℕ) (s : Scope) (name : List ℕ) (h : k < leng
         name
     definition_outer family f l = passed family f ∙ ap (λ x. definition_in family x name) (an_outer l)
 
-envs-more : (before : List Env) (rs : List Row) (r : Row) → envs_from before (rs ++ r ∷ [])
-    ≡ envs_from before rs ++ scope_in (envs_from before rs) r ∷ []
+envs-more : (before : List NumberedEnv) (rs : List Row) (r : Row) → envs_from before (rs ++ r ∷ [])
+    ≡ envs_from before rs ++ env_behind (envs_from before rs) r ∷ []
 envs-more before [] r = refl
-envs-more before (q ∷ rs) r = envs-more (before ++ scope_in before q ∷ []) rs r
+envs-more before (q ∷ rs) r = envs-more (before ++ env_behind before q ∷ []) rs r
 
 -- a new scope, and the scopes before it
 pub env_new : (rs : List Row) (r : Row) (n : ℕ) → n ≡ length rs → env_of (rs ++ r ∷ []) n
-    ≡ Within n r (env_of rs r.outer)
+    ≡ NumberedWithin n r (call_behind (env_of rs) (length rs) r.call) (env_of rs r.outer)
 unfolding env_of
 env_new rs r n h =
     let len : length (envs_from [] rs) ≡ n = omega (arith, envs_length [] rs) in
-    ap (λ es. get_or es n Outermost) (envs-more [] rs r)
-    ∙ ap (λ k. get_or (envs_from [] rs ++ scope_in (envs_from [] rs) r ∷ []) k Outermost) (sym len)
-    ∙ get_or-append_seam (envs_from [] rs) (scope_in (envs_from [] rs) r) [] Outermost
-    ∙ ap (λ k. Within k r (get_or (envs_from [] rs) r.outer Outermost)) len
+    ap (λ es. get_or es n NumberedOutermost) (envs-more [] rs r)
+    ∙ ap (λ k. get_or (envs_from [] rs ++ env_behind (envs_from [] rs) r ∷ []) k NumberedOutermost) (sym len)
+    ∙ get_or-append_seam (envs_from [] rs) (env_behind (envs_from [] rs) r) [] NumberedOutermost
+    ∙ ap (λ k. NumberedWithin k r (call_behind (among (envs_from [] rs)) k r.call) (get_or (envs_from [] rs) r.outer NumberedOutermost)) len
+    ∙ ap (λ k. NumberedWithin n r (call_behind (among (envs_from [] rs)) k r.call) (get_or (envs_from [] rs) r.outer NumberedOutermost)) h
 
 pub env_kept : (rs : List Row) (r : Row) (k : ℕ) → k < length rs → env_of (rs ++ r ∷ []) k ≡ env_of rs k
 unfolding env_of
-env_kept rs r k h = ap (λ es. get_or es k Outermost) (envs-more [] rs r)
-    ∙ get_front (envs_from [] rs) (scope_in (envs_from [] rs) r ∷ []) k Outermost
+env_kept rs r k h = ap (λ es. get_or es k NumberedOutermost) (envs-more [] rs r)
+    ∙ get_front (envs_from [] rs) (env_behind (envs_from [] rs) r ∷ []) k NumberedOutermost
     (omega (arith, envs_length [] rs))
 
 -- one more variable leaves the scopes before as they are
-front_kept : (before : List Env) (rs : List Row) (k : ℕ) (name : List ℕ) (value : Val) (j : ℕ)
+front_kept : (before : List NumberedEnv) (rs : List Row) (k : ℕ) (name : List ℕ) (value : Val) (j : ℕ)
     → j < length before + k
-    → get_or (envs_from before (bound_in rs k name value)) j Outermost
-    ≡ get_or (envs_from before rs) j Outermost
+    → get_or (envs_from before (bound_in rs k name value)) j NumberedOutermost
+    ≡ get_or (envs_from before rs) j NumberedOutermost
 front_kept before [] k name value j h = refl
 front_kept before (r ∷ rs) zero name value j h =
     let one : j < length before = omega arith in
-    let x = scope_in before (with_variable name value r) in
-    envs_keep (before ++ x ∷ []) rs j Outermost (omega (arith, length-append before (x ∷ [])))
-    ∙ get_front before (x ∷ []) j Outermost one
-    ∙ sym (get_front before (scope_in before r ∷ []) j Outermost one)
-    ∙ sym (envs_keep (before ++ scope_in before r ∷ []) rs j Outermost
-    (omega (arith, length-append before (scope_in before r ∷ []))))
+    let x = env_behind before (with_variable name value r) in
+    envs_keep (before ++ x ∷ []) rs j NumberedOutermost (omega (arith, length-append before (x ∷ [])))
+    ∙ get_front before (x ∷ []) j NumberedOutermost one
+    ∙ sym (get_front before (env_behind before r ∷ []) j NumberedOutermost one)
+    ∙ sym (envs_keep (before ++ env_behind before r ∷ []) rs j NumberedOutermost
+    (omega (arith, length-append before (env_behind before r ∷ []))))
 front_kept before (r ∷ rs) (suc k) name value j h =
-    front_kept (before ++ scope_in before r ∷ []) rs k name value j
-    (omega (arith, length-append before (scope_in before r ∷ [])))
+    front_kept (before ++ env_behind before r ∷ []) rs k name value j
+    (omega (arith, length-append before (env_behind before r ∷ [])))
 
 pub binding_kept : (rs : List Row) (k : ℕ) (name : List ℕ) (value : Val) (j : ℕ) → j < k
     → env_of (bound_in rs k name value) j ≡ env_of rs j
 unfolding env_of
 binding_kept rs k name value j h = front_kept [] rs k name value j (omega arith)
 
-here_bound : (before : List Env) (rs : List Row) (k : ℕ) (name : List ℕ) (value : Val) (n : ℕ)
+here_bound : (before : List NumberedEnv) (rs : List Row) (k : ℕ) (name : List ℕ) (value : Val) (n : ℕ)
     → k < length rs → n ≡ length before + k
-    → get_or (envs_from before (bound_in rs k name value)) n Outermost
-    ≡ with_pair name value (get_or (envs_from before rs) n Outermost)
+    → get_or (envs_from before (bound_in rs k name value)) n NumberedOutermost
+    ≡ with_pair name value (get_or (envs_from before rs) n NumberedOutermost)
 here_bound before [] k name value n h e = absurd (omega arith)
 here_bound before (r ∷ rs) zero name value n h e =
-    let x = scope_in before (with_variable name value r) in
-    let y = scope_in before r in
+    let x = env_behind before (with_variable name value r) in
+    let y = env_behind before r in
     let len : n ≡ length before = omega arith in
-    let left : get_or (envs_from (before ++ x ∷ []) rs) (length before) Outermost ≡ x
-    = envs_keep (before ++ x ∷ []) rs (length before) Outermost
-    (omega (arith, length-append before (x ∷ []))) ∙ get_or-append_seam before x [] Outermost in
-    let right : get_or (envs_from (before ++ y ∷ []) rs) (length before) Outermost ≡ y
-    = envs_keep (before ++ y ∷ []) rs (length before) Outermost
-    (omega (arith, length-append before (y ∷ []))) ∙ get_or-append_seam before y [] Outermost in
-    ap (λ m. get_or (envs_from (before ++ x ∷ []) rs) m Outermost) len ∙ left
+    let left : get_or (envs_from (before ++ x ∷ []) rs) (length before) NumberedOutermost ≡ x
+    = envs_keep (before ++ x ∷ []) rs (length before) NumberedOutermost
+    (omega (arith, length-append before (x ∷ []))) ∙ get_or-append_seam before x [] NumberedOutermost in
+    let right : get_or (envs_from (before ++ y ∷ []) rs) (length before) NumberedOutermost ≡ y
+    = envs_keep (before ++ y ∷ []) rs (length before) NumberedOutermost
+    (omega (arith, length-append before (y ∷ []))) ∙ get_or-append_seam before y [] NumberedOutermost in
+    ap (λ m. get_or (envs_from (before ++ x ∷ []) rs) m NumberedOutermost) len ∙ left
     ∙ sym (ap (with_pair name value) right)
-    ∙ ap (λ m. with_pair name value (get_or (envs_from (before ++ y ∷ []) rs) m Outermost)) (sym len)
+    ∙ ap (λ m. with_pair name value (get_or (envs_from (before ++ y ∷ []) rs) m NumberedOutermost)) (sym len)
 here_bound before (r ∷ rs) (suc k) name value n h e =
-    here_bound (before ++ scope_in before r ∷ []) rs k name value n (omega arith)
-    (omega (arith, length-append before (scope_in before r ∷ [])))
+    here_bound (before ++ env_behind before r ∷ []) rs k name value n (omega arith)
+    (omega (arith, length-append before (env_behind before r ∷ [])))
 
 -- and the scope itself has it
 pub binding_here : (rs : List Row) (k : ℕ) (name : List ℕ) (value : Val) → k < length rs
@@ -241,17 +278,32 @@ pub binding_here : (rs : List Row) (k : ℕ) (name : List ℕ) (value : Val) →
 unfolding env_of
 binding_here rs k name value h = here_bound [] rs k name value k h (omega arith)
 
-pub entered_outer : (outer : ℕ) (block : Scan) → (entered outer block).outer ≡ outer
-entered_outer outer (Reached block) = refl
-entered_outer outer (Passed b f m) = refl
+-- the cut of a table leaves the scopes before as they are
+envs_joined : (before : List NumberedEnv) (rs qs : List Row) → envs_from before (rs ++ qs) ≡ envs_from (envs_from before rs) qs
+envs_joined before [] qs = refl
+envs_joined before (r ∷ rs) qs = envs_joined (before ++ env_behind before r ∷ []) rs qs
+
+pub cut_kept : (rs : List Row) (n k : ℕ) → n ≤ length rs → k < n → env_of (take n rs) k ≡ env_of rs k
+unfolding env_of
+cut_kept rs n k few h =
+    let len : k < length (envs_from [] (take n rs)) = omega (arith, envs_length [] (take n rs), length-take-le n rs few, h) in
+    sym (ap (λ es. get_or es k NumberedOutermost) (ap (envs_from []) (sym (take-append-drop n rs)) ∙ envs_joined [] (take n rs) (drop n rs))
+    ∙ envs_keep (envs_from [] (take n rs)) (drop n rs) k NumberedOutermost len)
+
+-- a call from a scope that is there
+pub called_from : (look : ℕ → NumberedEnv) (count children caller : ℕ) → caller < count
+    → call_behind look count (Some (children, caller)) ≡ numbered_call children (look caller)
+called_from look count children caller h = ap (λ b. cond b (numbered_call children (look caller)) no_numbered_call) (lt-ltb caller count h)
 
 -- what entering and binding leave of the scopes
 module _ {E : Type 0} (old new : List Row) (outer : ℕ) (row : Row) where
-  pub entering_told : (r : Result ℕ E) → row.outer ≡ outer → IfOk r (λ n. n ≡ length old)
-      → OnOk r (new ≡ old ++ row ∷ []) → IfOk r (λ n. env_of new n ≡ Within n row (env_of old outer))
-  entering_told (Ok n) e f g = ap (λ rs. env_of rs n) g ∙ env_new old row n f
-      ∙ ap (λ o. Within n row (env_of old o)) e
-  entering_told (Err x) e f g = tt
+  pub entering_told : (r : Result ℕ E) (call : NumberedCall) → row.outer ≡ outer
+      → call_behind (env_of old) (length old) row.call ≡ call → IfOk r (λ n. n ≡ length old)
+      → OnOk r (new ≡ old ++ row ∷ []) → IfOk r (λ n. env_of new n ≡ NumberedWithin n row call (env_of old outer))
+  entering_told (Ok n) call e c f g = ap (λ rs. env_of rs n) g ∙ env_new old row n f
+      ∙ ap (λ o. NumberedWithin n row (call_behind (env_of old) (length old) row.call) (env_of old o)) e
+      ∙ ap (λ c. NumberedWithin n row c (env_of old outer)) c
+  entering_told (Err x) call e c f g = tt
 
   pub entering_kept : (r : Result ℕ E) → OnOk r (new ≡ old ++ row ∷ []) → OnErr r (new ≡ old)
       → (k : ℕ) → k < length old → env_of new k ≡ env_of old k

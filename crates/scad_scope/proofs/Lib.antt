@@ -3,3 +3,7 @@ pub mod Bound
 pub mod Scans
 pub mod Numbered
 pub mod Matched
+pub mod Chain
+pub mod Walks
+pub mod Held
+pub mod Order

@@ -1,7 +1,7 @@
 -- Scopes as lists of pairs of a name and what it stands for, searched from the newest.
-use Rattle.std.specs.Prelude.{ℕ, zero, suc, ◌-◌, ◌^◌, List, [], ◌∷◌, ◌++◌, length, Bool, true, ◌&&◌, Option, Some, None, slice_index_or, if◌then◌else◌}
+use Rattle.std.specs.Prelude.{ℕ, zero, suc, ◌-◌, ◌^◌, pos, List, [], ◌∷◌, ◌++◌, length, drop, Bool, true, ◌&&◌, Option, Some, None, slice_index_or, if◌then◌else◌, nat_lt, codes}
 use Rattle.std.specs.Str.{bytes_eq}
-use Rattle.scad_value.specs.Values.{Val, is_bounded}
+use Rattle.scad_value.specs.Values.{Val, NumberVal, is_bounded}
 
 -- pairs of a name and what it stands for, the newest first
 abbrev pub Pairs : Type 0 → Type 0
@@ -18,54 +18,86 @@ pub record Row : Type 0 where
   pub functions : Pairs ℕ
   pub modules : Pairs ℕ
   pub outer : ℕ
+  -- of the scope of a call of a module of the source: the number of the block of the call's children, and the number
+  -- of the caller's scope
+  pub call : Option (ℕ × ℕ)
 
--- a scope with its number and the scopes outside it
-pub data Env : Type 0 where
-  Outermost : Env
-  Within : (number : ℕ) → (row : Row) → (outer : Env) → Env
+-- a scope with its number, the call whose scope it is, and the scopes outside it
+mutual
+  pub data NumberedEnv : Type 0 where
+    NumberedOutermost : NumberedEnv
+    NumberedWithin : (number : ℕ) → (row : Row) → (call : NumberedCall) → (outer : NumberedEnv) → NumberedEnv
 
--- each scope of a table, which stands inside one that comes before it or inside none
-abbrev pub envs_from : List Env → List Row → List Env
+  -- a call of a module of the source: the number of the block of its children, and the scope of its caller
+  pub data NumberedCall : Type 0 where
+    no_numbered_call : NumberedCall
+    numbered_call : (children : ℕ) → (caller : NumberedEnv) → NumberedCall
+
+-- a call by numbers, where the caller's scope is one of the first so many
+abbrev pub call_behind : (ℕ → NumberedEnv) → ℕ → Option (ℕ × ℕ) → NumberedCall
+call_behind scope count None = no_numbered_call
+call_behind scope count (Some call) = if nat_lt call.1 count then numbered_call call.0 (scope call.1) else no_numbered_call
+
+-- a row behind these scopes, inside one of them or inside none
+abbrev pub env_behind : List NumberedEnv → Row → NumberedEnv
+env_behind before r =
+    NumberedWithin (length before) r (call_behind (λ k. slice_index_or before k NumberedOutermost) (length before) r.call)
+    (slice_index_or before r.outer NumberedOutermost)
+
+-- each scope of a table
+abbrev pub envs_from : List NumberedEnv → List Row → List NumberedEnv
 envs_from before [] = before
-envs_from before (r ∷ rs) = envs_from (before ++ Within (length before) r (slice_index_or before r.outer
-    Outermost) ∷ []) rs
+envs_from before (r ∷ rs) = envs_from (before ++ env_behind before r ∷ []) rs
 
 -- the scope of a number
-unfoldable pub env_of : List Row → ℕ → Env
-env_of rows k = slice_index_or (envs_from [] rows) k Outermost
+unfoldable pub env_of : List Row → ℕ → NumberedEnv
+env_of rows k = slice_index_or (envs_from [] rows) k NumberedOutermost
+
+-- The call that encloses a scope: the innermost one whose scope it is or stands in (OpenSCAD User Manual, "Children").
+abbrev pub or_outer_call : NumberedCall → NumberedCall → NumberedCall
+or_outer_call no_numbered_call outer = outer
+or_outer_call (numbered_call children caller) outer = numbered_call children caller
+
+abbrev pub enclosing_call : NumberedEnv → NumberedCall
+enclosing_call NumberedOutermost = no_numbered_call
+enclosing_call (NumberedWithin number row call outer) = or_outer_call call (enclosing_call outer)
 
 abbrev pub or_else : {A : Type 0} → Option A → Option A → Option A
 or_else (Some x) other = Some x
 or_else None other = other
 
 -- a variable, from the inner scope outward
-abbrev pub variable_in : Env → List ℕ → Option Val
-variable_in Outermost name = None
-variable_in (Within number row outer) name = or_else (find_in row.variables name) (variable_in outer name)
+abbrev pub variable_in : NumberedEnv → List ℕ → Option Val
+variable_in NumberedOutermost name = None
+variable_in (NumberedWithin number row call outer) name = or_else (find_in row.variables name) (variable_in outer name)
 
-abbrev pub standing_in : Env → Option ℕ → Option (Env × ℕ)
+abbrev pub standing_in : NumberedEnv → Option ℕ → Option (NumberedEnv × ℕ)
 standing_in env (Some definition) = Some (env, definition)
 standing_in env None = None
 
 -- a function with the scope that it stands in, from the inner scope outward
-abbrev pub function_in : Env → List ℕ → Option (Env × ℕ)
-function_in Outermost name = None
-function_in (Within number row outer) name =
-    or_else (standing_in (Within number row outer) (find_in row.functions name)) (function_in outer name)
+abbrev pub function_in : NumberedEnv → List ℕ → Option (NumberedEnv × ℕ)
+function_in NumberedOutermost name = None
+function_in (NumberedWithin number row call outer) name =
+    or_else (standing_in (NumberedWithin number row call outer) (find_in row.functions name)) (function_in outer name)
 
 -- a module with the scope that it stands in, from the inner scope outward
-abbrev pub module_in : Env → List ℕ → Option (Env × ℕ)
-module_in Outermost name = None
-module_in (Within number row outer) name =
-    or_else (standing_in (Within number row outer) (find_in row.modules name)) (module_in outer name)
+abbrev pub module_in : NumberedEnv → List ℕ → Option (NumberedEnv × ℕ)
+module_in NumberedOutermost name = None
+module_in (NumberedWithin number row call outer) name =
+    or_else (standing_in (NumberedWithin number row call outer) (find_in row.modules name)) (module_in outer name)
 
 -- the outermost scope of a table
 abbrev pub first_row : Row
-first_row = record { variables = []; functions = []; modules = []; outer = 2 ^ 32 - 1 }
+first_row = record { variables = []; functions = []; modules = []; outer = 2 ^ 32 - 1; call = None }
 
 -- a scope without variables and definitions, inside another one
 abbrev pub empty_row : ℕ → Row
-empty_row outer = record { variables = []; functions = []; modules = []; outer = outer }
+empty_row outer = record { variables = []; functions = []; modules = []; outer = outer; call = None }
+
+-- the scope of a call, by the block of its children and the scope of its caller
+abbrev pub called_row : ℕ → ℕ → Row → Row
+called_row children caller row = record row { call = Some (children, caller) }
 
 -- a scope with one more variable
 abbrev pub with_variable : List ℕ → Val → Row → Row
@@ -87,6 +119,15 @@ all_bounded [] = true
 all_bounded (r ∷ rs) = have_bounded r.variables && all_bounded rs
 
 -- a scope with one more variable, inside the same scopes
-abbrev pub with_pair : List ℕ → Val → Env → Env
-with_pair name value Outermost = Outermost
-with_pair name value (Within number row outer) = Within number (with_variable name value row) outer
+abbrev pub with_pair : List ℕ → Val → NumberedEnv → NumberedEnv
+with_pair name value NumberedOutermost = NumberedOutermost
+with_pair name value (NumberedWithin number row call outer) = NumberedWithin number (with_variable name value row) call outer
+
+-- The chain of special variables (OpenSCAD User Manual, "Special variables"): pairs of a name, without its `$`, and
+-- its value, the newest first. It begins with these.
+abbrev pub first_chain : Pairs Val
+first_chain = (codes "fs", NumberVal (pos 2)) ∷ (codes "fa", NumberVal (pos 12)) ∷ (codes "fn", NumberVal (pos 0)) ∷ []
+
+-- so many of the oldest pairs, where the newest stands first
+abbrev pub oldest : {A : Type 0} → ℕ → List A → List A
+oldest n xs = drop (length xs - n) xs

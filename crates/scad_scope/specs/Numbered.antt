@@ -1,8 +1,8 @@
 -- Tables in which each definition's number is one of so many.
-use Rattle.std.specs.Prelude.{ℕ, List, [], ◌∷◌, Bool, true, ◌&&◌, nat_lt}
-use Rattle.scad_ast.specs.Terms.{StatementTerm}
+use Rattle.std.specs.Prelude.{ℕ, List, [], ◌∷◌, length, Bool, true, ◌&&◌, nat_lt}
 use Rattle.scad_scope.specs.Names.{Pairs, Row}
-use Rattle.scad_scope.specs.Blocks.{marks_of_program, functions_among, modules_among}
+use Rattle.scad_ast.specs.Terms.{StatementTerm}
+use Rattle.scad_scope.specs.Blocks.{Entry, functions_of_program, modules_of_program}
 
 -- each number is below this one
 abbrev pub numbers_below : ℕ → Pairs ℕ → Bool
@@ -21,9 +21,15 @@ functions_below n = each_row (λ r. numbers_below n r.functions)
 abbrev pub modules_below : ℕ → List Row → Bool
 modules_below n = each_row (λ r. numbers_below n r.modules)
 
+-- the numbers of each block's own functions and modules are below these
+abbrev pub entries_below : ℕ → ℕ → List Entry → Bool
+entries_below functions modules [] = true
+entries_below functions modules (e ∷ es) =
+    (numbers_below functions e.own.functions && numbers_below modules e.own.modules) && entries_below functions modules es
+
 -- how many functions and modules a program has
 abbrev pub count_of_functions : List StatementTerm → ℕ
-count_of_functions program = functions_among (marks_of_program program)
+count_of_functions program = length (functions_of_program program)
 
 abbrev pub count_of_modules : List StatementTerm → ℕ
-count_of_modules program = modules_among (marks_of_program program)
+count_of_modules program = length (modules_of_program program)

@@ -8,15 +8,20 @@ use Rattle.scad_value.specs.Values.{Val, is_bounded}
 use Rattle.scad_value.specs.View.{val_of}
 use Rattle.scad_scope.specs.declared.scopes.Scopes.{Scopes}
 use Rattle.scad_scope.specs.declared.table.Found.{Found}
-use Rattle.scad_scope.specs.Names.{Row, Env, env_of}
-use Rattle.scad_scope.specs.View.{rows_in}
+use Rattle.scad_scope.specs.declared.table.Call.{Call}
+use Rattle.scad_scope.specs.Names.{Pairs, Row, NumberedEnv, NumberedCall, no_numbered_call, numbered_call, env_of}
+use Rattle.scad_scope.specs.View.{variables_of, rows_in}
 
 -- the scopes by number
 abbrev pub rows_of : Scopes → List Row
 rows_of s = rows_in s.scopes.items
 
+-- the chain of special variables, the newest first
+abbrev pub chain_of : Scopes → Pairs Val
+chain_of s = variables_of s.chain.items
+
 -- the number of a scope that is there, and of a definition that stands in it
-pub record IsFound (rows : List Row) (wanted : Option (Env × ℕ)) (found : Found) : Type 0 where
+pub record IsFound (rows : List Row) (wanted : Option (NumberedEnv × ℕ)) (found : Found) : Type 0 where
   pub there : found.scope < length rows
   pub same : wanted ≡ Some (env_of rows found.scope, found.definition)
 
@@ -31,3 +36,8 @@ pub record IsMissing {A : Type 0} (kind : FaultKind) (place : Place) (wanted : O
 pub record IsVariable (wanted : Option Val) (value : Value) : Type 0 where
   pub same : wanted ≡ Some (val_of value)
   pub bounded : IsTrue (is_bounded (val_of value))
+
+-- what is answered as a call of a table's scopes
+abbrev pub call_told : (ℕ → NumberedEnv) → Option Call → NumberedCall
+call_told scope None = no_numbered_call
+call_told scope (Some call) = numbered_call call.children (scope call.caller)

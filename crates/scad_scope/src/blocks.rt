@@ -1,148 +1,97 @@
-ghost use Rattle.std.specs.Prelude.{◌≡◌, [], ◌∷◌, ◌++◌};
-ghost use Rattle.scad_ast.specs.Terms.{statements_from};
-ghost use Rattle.scad_ast.specs.StatementView.{statement_of, statements_of, core_of, body_of, program_of};
-ghost use Rattle.scad_scope.specs.Blocks.{scan, marks_of, marks_in, marks_of_core, marks_of_body, a_block, block_of};
-ghost use Rattle.scad_scope.specs.Seeking.{TellsSought, held};
+ghost use Rattle.std.specs.Prelude.{IsTrue, length, map};
+ghost use Rattle.scad_scope.specs.Numbered.{entries_below};
+ghost use Rattle.scad_scope.specs.TextView.{entry_of};
 
-use scad_ast::{Body, Core, Program, Statement, Statements};
+use crate::text::{Assignment, BlockText, Entry, Function, Module};
+use crate::walk::walk_program;
+use scad_ast::Program;
+use std::alloc::Global;
+use text_place::NoMemory;
 
-/// How many blocks are still to be passed, and how many functions and modules were.
-#[derive(Clone, Copy, Debug, PartialEq, Eq)]
-pub(crate) struct Seek {
-    pub(crate) blocks: u32,
-    pub(crate) functions: u32,
-    pub(crate) modules: u32,
-}
-
-/// What a walk through a part of a program comes to.
+/// The blocks, functions and modules of a program by number. Block 0 is the program itself; the bodies
+/// and the expressions of functions are numbered from 1 in the order in which they begin, functions
+/// and modules from 0, each by themselves. The type keeps that each block's own definitions are among
+/// them.
 #[derive(Drop)]
-pub(crate) enum Sought<'a> {
-    /// The block that was looked for, with its statements in braces where it has some.
-    Reached(Option<&'a Statements>, Seek),
-    /// It does not begin in this part.
-    Passed(Seek),
-    /// More functions or modules than have a number.
-    TooMany,
+pub struct Blocks<'a> {
+    pub(crate) entries: Vec<Entry<'a>>,
+    pub(crate) functions: Vec<Function<'a>>,
+    pub(crate) modules: Vec<Module<'a>>,
+    ghost numbered: { IsTrue (entries_below (length functions.items) (length modules.items) (map entry_of entries.items)) },
 }
 
-/// The block of a number.
-pub(crate) fn in_program(program: &Program, number: u32) -> Sought<'_>
-    ensures { TellsSought result (block_of (program_of program.now) number) }
-{
-    let seek = Seek {
-        blocks: number,
-        functions: 0,
-        modules: 0,
-    };
-    match begin(Some(&program.statements), seek) {
-        Sought::Passed(next) => in_statements(&program.statements, next),
-        found => found,
-    }
-}
+impl<'a> Blocks<'a> {
+    ghost use Rattle.std.specs.Prelude.{◌≡◌, ◌<◌, IfOk, slice_index_or};
+    ghost use Rattle.scad_ast.specs.StatementView.{program_of};
+    ghost use Rattle.scad_scope.specs.Blocks.{numbered_text, nothing_there, StandsInOrder};
+    ghost use Rattle.scad_scope.specs.Numbered.{count_of_functions, count_of_modules};
+    ghost use Rattle.scad_scope.specs.Tables.{text_held, functions_held, modules_held};
+    ghost use Rattle.scad_scope.specs.TextView.{function_of, module_of, assigned_of, text_of};
 
-/// A block begins.
-fn begin(statements: Option<&Statements>, seek: Seek) -> Sought<'_>
-    ensures { TellsSought result (scan seek.blocks seek.functions seek.modules (a_block (held statements.entry) ∷ [])) }
-{
-    if seek.blocks == 0 {
-        Sought::Reached(statements, seek)
-    } else {
-        Sought::Passed(Seek {
-            blocks: seek.blocks - 1,
-            functions: seek.functions,
-            modules: seek.modules,
+    /// The blocks, functions and modules of a program, by one walk through its text. `NoMemory` comes
+    /// also where there are more of them than 2^32 - 1.
+    pub fn of(alloc: Global, program: &'a Program) -> Result<Blocks<'a>, NoMemory>
+        ensures text { IfOk result (λ blocks. text_held blocks ≡ numbered_text (program_of program.now)) }
+        ensures order { IfOk result (λ blocks. StandsInOrder (text_held blocks)) }
+        ensures functions { IfOk result (λ blocks. length (functions_held blocks) ≡ count_of_functions (program_of program.now)) }
+        ensures modules { IfOk result (λ blocks. length (modules_held blocks) ≡ count_of_modules (program_of program.now)) }
+    {
+        let walk = walk_program(alloc, program)?;
+        Ok(Blocks {
+            entries: walk.entries,
+            functions: walk.functions,
+            modules: walk.modules,
         })
     }
-}
 
-#[cycle(seek)]
-fn in_statements(statements: &Statements, seek: Seek) -> Sought<'_>
-    ensures { TellsSought result (scan seek.blocks seek.functions seek.modules (marks_in (statements_from (statements_of statements.now)))) }
-{
-    let mut left = seek;
-    'each: for statement in &statements.items {
-        match in_statement(statement, left) {
-            Sought::Passed(next) => left = next,
-            found => return found,
-        }
+    /// How many blocks there are. Takes no memory.
+    pub fn count(&self) -> usize
+        ensures { result ≡ length (text_held self.now).entries }
+    {
+        self.entries.len()
     }
-    Sought::Passed(left)
-}
 
-#[cycle(seek)]
-pub(crate) fn in_statement(statement: &Statement, seek: Seek) -> Sought<'_>
-    ensures { TellsSought result (scan seek.blocks seek.functions seek.modules (marks_of (statement_of statement.now))) }
-{
-    match statement {
-        Statement::Empty(_) => Sought::Passed(seek),
-        Statement::Assignment(_, _, _) => Sought::Passed(seek),
-        Statement::Block(_, statements) => in_statements(statements, seek),
-        Statement::Module(_, _, _, _, body) => {
-            if seek.modules == u32::MAX {
-                return Sought::TooMany;
-            }
-            in_body(
-                body,
-                Seek {
-                    blocks: seek.blocks,
-                    functions: seek.functions,
-                    modules: seek.modules + 1,
-                },
-            )
-        }
-        Statement::Function(_, _, _, _, _) => {
-            if seek.functions == u32::MAX {
-                return Sought::TooMany;
-            }
-            begin(
-                None,
-                Seek {
-                    blocks: seek.blocks,
-                    functions: seek.functions + 1,
-                    modules: seek.modules,
-                },
-            )
-        }
-        Statement::Instantiation(instance) => in_core(&instance.core, seek),
+    /// The function of a number. Takes no memory.
+    pub fn function(&self, number: u32) -> Function<'a>
+        requires { number < length (functions_held self.now) }
+        ensures same { function_of result ≡ slice_index_or (functions_held self.now) number (function_of result) }
+        ensures item { result ≡ slice_index_or self.now.functions.items number result }
+    {
+        self.functions[number as usize]
     }
-}
 
-#[cycle(seek)]
-fn in_core(core: &Core, seek: Seek) -> Sought<'_>
-    ensures { TellsSought result (scan seek.blocks seek.functions seek.modules (marks_of_core (core_of core.now))) }
-{
-    match core {
-        Core::If(_, _, body) => in_body(body, seek),
-        Core::IfElse(_, _, body, other) => in_two(body, other, seek),
-        Core::For(_, _, body) => in_body(body, seek),
-        Core::IntersectionFor(_, _, body) => in_body(body, seek),
-        Core::Call(_, _, _, body) => in_body(body, seek),
+    /// The module of a number, with the number of its body's block. Takes no memory.
+    pub fn module(&self, number: u32) -> Module<'a>
+        requires { number < length (modules_held self.now) }
+        ensures same { module_of result ≡ slice_index_or (modules_held self.now) number (module_of result) }
+        ensures item { result ≡ slice_index_or self.now.modules.items number result }
+        ensures block { result.block ≡ slice_index_or (text_held self.now).bodies number result.block }
+    {
+        self.modules[number as usize]
     }
-}
 
-#[cycle(seek)]
-fn in_two<'a>(body: &'a Body, other: &'a Body, seek: Seek) -> Sought<'a>
-    ensures { TellsSought result (scan seek.blocks seek.functions seek.modules (marks_of_body (body_of body.now) ++ marks_of_body (body_of other.now))) }
-{
-    match in_body(body, seek) {
-        Sought::Passed(next) => in_body(other, next),
-        found => found,
+    /// What stands in a block. Takes no memory.
+    pub fn text(&self, number: u32) -> BlockText<'a>
+        requires { number < length (text_held self.now).entries }
+        ensures { text_of result ≡ (slice_index_or (text_held self.now).entries number nothing_there).statements }
+    {
+        self.entries[number as usize].text
     }
-}
 
-#[cycle(seek)]
-fn in_body(body: &Body, seek: Seek) -> Sought<'_>
-    ensures { TellsSought result (scan seek.blocks seek.functions seek.modules (marks_of_body (body_of body.now))) }
-{
-    match body {
-        Body::Semicolon(_) => begin(None, seek),
-        Body::Braces(_, statements) => match begin(Some(statements), seek) {
-            Sought::Passed(next) => in_statements(statements, next),
-            found => found,
-        },
-        Body::Single(instance) => match begin(None, seek) {
-            Sought::Passed(next) => in_core(&instance.core, next),
-            found => found,
-        },
+    /// The number of the first block behind a block and all that stands in it. Takes no memory.
+    pub fn behind(&self, number: u32) -> u32
+        requires { number < length (text_held self.now).entries }
+        ensures { result ≡ (slice_index_or (text_held self.now).entries number nothing_there).behind }
+    {
+        self.entries[number as usize].behind
+    }
+
+    /// A block's assignments, each name once, in the order of the text: a name that is assigned more than
+    /// once has the place of its first assignment and the expression of its last. Takes no memory.
+    pub fn assignments(&self, number: u32) -> &[Assignment<'a>]
+        requires { number < length (text_held self.now).entries }
+        ensures { map assigned_of result.now ≡ (slice_index_or (text_held self.now).entries number nothing_there).own.assignments }
+    {
+        &self.entries[number as usize].own.assignments
     }
 }

@@ -7,7 +7,11 @@ mod own;
 mod parameters;
 mod scopes;
 mod table;
+mod text;
+mod walk;
 
-pub use parameters::{Matching, arguments, taken_by};
+pub use blocks::Blocks;
+pub use parameters::{Matching, arguments, arguments_by_name, taken_by};
 pub use scopes::Scopes;
-pub use table::Found;
+pub use table::{Call, Found};
+pub use text::{Assignment, BlockText, Function, Module};

@@ -1,13 +1,13 @@
-ghost use Rattle.std.specs.Prelude.{◌≡◌, ◌+◌, ◌++◌, [], ◌∷◌, map, IfOk, OnOk};
-ghost use Rattle.scad_ast.specs.Terms.{statements_from};
-ghost use Rattle.scad_ast.specs.StatementView.{statement_of, statements_of, program_of};
-ghost use Rattle.scad_scope.specs.Blocks.{Reached, marks_of, functions_among, modules_among, own_functions, own_function, own_modules, own_module, block_of, entered};
+ghost use Rattle.std.specs.Prelude.{◌≡◌, map, IfOk};
+ghost use Rattle.scad_scope.specs.Blocks.{row_of_block, own_row};
 ghost use Rattle.scad_scope.specs.Names.{empty_row};
+ghost use Rattle.scad_scope.specs.Tables.{text_held};
 ghost use Rattle.scad_scope.specs.View.{definition_of, row_of};
+ghost use Rattle.scad_scope.specs.TextView.{named_of, own_of};
 
-use crate::blocks::{Seek, Sought, in_program, in_statement};
+use crate::blocks::Blocks;
 use crate::table::{Definition, Scope};
-use scad_ast::{Program, Statement, Statements};
+use crate::text::{Named, Own};
 use std::alloc::Global;
 use text_place::{Bytes, NoMemory};
 
@@ -15,17 +15,16 @@ use text_place::{Bytes, NoMemory};
 pub(crate) fn scope_of_block(
     alloc: Global,
     outer: u32,
-    program: &Program,
+    blocks: &Blocks<'_>,
     block: u32,
 ) -> Result<Scope, NoMemory>
-    ensures { IfOk result (λ s. row_of s ≡ entered outer (block_of (program_of program.now) block)) }
+    ensures { IfOk result (λ s. row_of s ≡ row_of_block outer (text_held blocks.now) block) }
 {
-    match in_program(program, block) {
-        Sought::Reached(Some(statements), seek) => filled(alloc, outer, statements, seek),
-        Sought::Reached(None, _) => Ok(empty(alloc, outer)),
-        Sought::Passed(_) => Ok(empty(alloc, outer)),
-        Sought::TooMany => Err(NoMemory),
+    let number = block as usize;
+    if number >= blocks.entries.len() {
+        return Ok(empty(alloc, outer));
     }
+    filled(alloc, outer, &blocks.entries[number].own)
 }
 
 /// A new scope without definitions, inside another one.
@@ -37,109 +36,32 @@ pub(crate) fn empty(alloc: Global, outer: u32) -> Scope
         functions: Vec::new(alloc),
         modules: Vec::new(alloc),
         outer,
+        call: None,
     }
 }
 
-fn filled(
-    alloc: Global,
-    outer: u32,
-    statements: &Statements,
-    before: Seek,
-) -> Result<Scope, NoMemory>
-    ensures { IfOk result (λ s. row_of s ≡ entered outer (Reached (record {
-      statements = statements_from (statements_of statements.now);
-      functions = before.functions;
-      modules = before.modules;
-    }))) }
+fn filled(alloc: Global, outer: u32, own: &Own<'_>) -> Result<Scope, NoMemory>
+    ensures { IfOk result (λ s. row_of s ≡ own_row outer (own_of own.now)) }
 {
-    let mut functions = Vec::new(alloc);
-    let mut modules = Vec::new(alloc);
-    own_all(alloc, statements, before, &mut functions, &mut modules)?;
     Ok(Scope {
         variables: Vec::new(alloc),
-        functions,
-        modules,
+        functions: defined(alloc, &own.functions)?,
+        modules: defined(alloc, &own.modules)?,
         outer,
+        call: None,
     })
 }
 
-/// Appends the definitions that stand in a block, where so many come before it in the text.
-#[cycle(own)]
-fn own_all(
-    alloc: Global,
-    statements: &Statements,
-    before: Seek,
-    functions: &mut Vec<Definition>,
-    modules: &mut Vec<Definition>,
-) -> Result<(), NoMemory>
-    ensures functions { OnOk result (map definition_of functions.new.items ≡
-        map definition_of functions.old.items ++ own_functions before.functions (statements_from (statements_of statements.now))) }
-    ensures modules { OnOk result (map definition_of modules.new.items ≡
-        map definition_of modules.old.items ++ own_modules before.modules (statements_from (statements_of statements.now))) }
+fn defined(alloc: Global, names: &[Named<'_>]) -> Result<Vec<Definition>, NoMemory>
+    ensures { IfOk result (λ ds. map definition_of ds.items ≡ map named_of names.now) }
 {
-    let mut here = before;
-    'each: for statement in &statements.items {
-        own(alloc, statement, here, functions, modules)?;
-        here = after(statement, here)?;
+    let mut definitions = Vec::new(alloc);
+    for named in names {
+        let name = Bytes::of(Vec::from_slice(alloc, named.name)?);
+        definitions.push(Definition {
+            name,
+            number: named.number,
+        })?;
     }
-    Ok(())
-}
-
-#[cycle(own)]
-fn own(
-    alloc: Global,
-    statement: &Statement,
-    before: Seek,
-    functions: &mut Vec<Definition>,
-    modules: &mut Vec<Definition>,
-) -> Result<(), NoMemory>
-    ensures functions { OnOk result (map definition_of functions.new.items ≡
-        map definition_of functions.old.items ++ own_function before.functions (statement_of statement.now)) }
-    ensures modules { OnOk result (map definition_of modules.new.items ≡
-        map definition_of modules.old.items ++ own_module before.modules (statement_of statement.now)) }
-{
-    match statement {
-        Statement::Function(_, name, _, _, _) => define(
-            alloc,
-            functions,
-            name.items(),
-            before.functions,
-        ),
-        Statement::Module(_, name, _, _, _) => define(alloc, modules, name.items(), before.modules),
-        Statement::Block(_, statements) => {
-            own_all(alloc, statements, before, functions, modules)
-        }
-        Statement::Empty(_) => Ok(()),
-        Statement::Assignment(_, _, _) => Ok(()),
-        Statement::Instantiation(_) => Ok(()),
-    }
-}
-
-fn define(
-    alloc: Global,
-    definitions: &mut Vec<Definition>,
-    name: &[u8],
-    number: u32,
-) -> Result<(), NoMemory>
-    ensures { OnOk result (map definition_of definitions.new.items ≡ map definition_of definitions.old.items ++ (name.now, number) ∷ []) }
-{
-    let name = Bytes::of(Vec::from_slice(alloc, name)?);
-    definitions.push(Definition { name, number })?;
-    Ok(())
-}
-
-/// How many functions and modules begin before what follows a statement.
-fn after(statement: &Statement, before: Seek) -> Result<Seek, NoMemory>
-    ensures functions { IfOk result (λ s. s.functions ≡ before.functions + functions_among (marks_of (statement_of statement.now))) }
-    ensures modules { IfOk result (λ s. s.modules ≡ before.modules + modules_among (marks_of (statement_of statement.now))) }
-{
-    let seek = Seek {
-        blocks: u32::MAX,
-        functions: before.functions,
-        modules: before.modules,
-    };
-    match in_statement(statement, seek) {
-        Sought::Passed(next) => Ok(next),
-        _ => Err(NoMemory),
-    }
+    Ok(definitions)
 }

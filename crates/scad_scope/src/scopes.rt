@@ -1,37 +1,45 @@
 ghost use Rattle.std.specs.Prelude.{IsTrue};
-ghost use Rattle.scad_scope.specs.Names.{all_bounded};
-ghost use Rattle.scad_scope.specs.View.{rows_in};
+ghost use Rattle.scad_scope.specs.Names.{all_bounded, have_bounded};
+ghost use Rattle.scad_scope.specs.View.{rows_in, variables_of};
 
+use crate::blocks::Blocks;
 use crate::own::{empty, scope_of_block};
-use crate::table::{Family, Found, Scope, definitions, find_definition, find_variable};
-use scad_ast::Program;
+use crate::table::{
+    Call, Family, Found, Scope, Variable, call_before, definitions, find_definition, find_variable,
+    first,
+};
 use scad_value::Value;
 use std::alloc::Global;
 use text_place::{Bytes, Fault, FaultKind, NoMemory, Place};
 
 /// Scopes by number. The first one, 0, is outside all others; each other one is entered inside one
-/// that is there. Each value in them is bounded, which the type keeps.
+/// that is there. Beside them stands the chain of special variables, which belong to no scope: a name
+/// stands for its newest value. Each value in them is bounded, which the type keeps.
 #[derive(Drop)]
 pub struct Scopes {
     pub(crate) scopes: Vec<Scope>,
+    /// The chain, the newest last.
+    pub(crate) chain: Vec<Variable>,
     ghost bounded: { IsTrue (all_bounded (rows_in scopes.items)) },
+    ghost chain_bounded: { IsTrue (have_bounded (variables_of chain.items)) },
 }
 
 impl Scopes {
-    ghost use Rattle.std.specs.Prelude.{◌≡◌, ◌<◌, ℕ, List, [], ◌∷◌, ◌++◌, length, IfOk, IfErr, OnOk, OnErr, MatchResult, IsTrue, MatchOption, Some, None, IfSome};
+    ghost use Rattle.std.specs.Prelude.{◌≡◌, ◌<◌, ℕ, List, [], ◌∷◌, ◌++◌, length, take, IfOk, IfErr, OnOk, OnErr, MatchResult, IsTrue, MatchOption, Some, None, IfSome, ◌≤◌, ◌-◌};
     ghost use Rattle.text_place.specs.declared.fault.FaultKind.TheVariants.{UnknownName, UnknownFunction, UnknownModule};
-    ghost use Rattle.scad_value.specs.Values.{is_bounded};
+    ghost use Rattle.scad_value.specs.Values.{Val, is_bounded};
     ghost use Rattle.scad_value.specs.View.{val_of};
-    ghost use Rattle.scad_scope.specs.Names.{env_of, variable_in, function_in, module_in, have_bounded, first_row, empty_row, bound_in, with_pair, Within};
-    ghost use Rattle.scad_ast.specs.StatementView.{program_of};
-    ghost use Rattle.scad_scope.specs.Blocks.{entered, block_of};
-    ghost use Rattle.scad_scope.specs.Numbered.{functions_below, modules_below, count_of_functions, count_of_modules};
+    ghost use Rattle.scad_scope.specs.Names.{Pairs, find_in, env_of, variable_in, function_in, module_in, have_bounded, first_row, empty_row, bound_in, with_pair, NumberedWithin, no_numbered_call, numbered_call, enclosing_call, called_row, first_chain, oldest, Row};
+    ghost use Rattle.scad_scope.specs.Blocks.{row_of_block};
+    ghost use Rattle.scad_scope.specs.Tables.{text_held, functions_held, modules_held};
+    ghost use Rattle.scad_scope.specs.Numbered.{functions_below, modules_below};
     ghost use Rattle.scad_scope.specs.View.{definition_in, row_of};
-    ghost use Rattle.scad_scope.specs.Table.{rows_of, IsFound, IsMissing, IsVariable};
+    ghost use Rattle.scad_scope.specs.Table.{rows_of, chain_of, call_told, IsFound, IsMissing, IsVariable};
 
-    /// One empty scope, number 0, outside all others.
+    /// One empty scope, number 0, outside all others, and the chain with `$fn` 0, `$fa` 12 and `$fs` 2.
     pub fn new(alloc: Global) -> Result<Scopes, NoMemory>
         ensures rows { IfOk result (λ s. rows_of s ≡ first_row ∷ []) }
+        ensures chain { IfOk result (λ s. chain_of s ≡ first_chain) }
         ensures functions { IfOk result (λ s. (n : ℕ) → IsTrue (functions_below n (rows_of s))) }
         ensures modules { IfOk result (λ s. (n : ℕ) → IsTrue (modules_below n (rows_of s))) }
     {
@@ -41,13 +49,18 @@ impl Scopes {
             functions: Vec::new(alloc),
             modules: Vec::new(alloc),
             outer: u32::MAX,
+            call: None,
         })?;
-        Ok(Scopes { scopes })
+        let chain = vec![in alloc;
+            first(alloc, b"fn", 0)?,
+            first(alloc, b"fa", 12)?,
+            first(alloc, b"fs", 2)?,
+        ]?;
+        Ok(Scopes { scopes, chain })
     }
 
-    /// A new scope of a block of the program, inside another scope, and its number. Block 0 is the
-    /// program itself; the bodies and the expressions of functions are numbered from 1 in the order
-    /// in which they begin. A block that isn't there has no definitions. `NoMemory` leaves all scopes
+    /// A new scope of a block of a program, inside another scope, and its number. Its time is that of
+    /// the block's own definitions. A block that isn't there has no definitions. `NoMemory` leaves all scopes
     /// as they were; it also comes where a number would be past 2^32 - 1.
     ///
     /// Functions and modules have numbers below the program's counts of them, where those of the
@@ -56,24 +69,55 @@ impl Scopes {
         &mut self,
         alloc: Global,
         outer: u32,
-        program: &Program,
+        blocks: &Blocks<'_>,
         block: u32,
     ) -> Result<u32, NoMemory>
         requires { outer < length (rows_of self.old) }
         ensures number { IfOk result (λ n. n ≡ length (rows_of self.old)) }
         ensures entered { OnOk result (rows_of self.new ≡
-            rows_of self.old ++ entered outer (block_of (program_of program.now) block) ∷ []) }
+            rows_of self.old ++ row_of_block outer (text_held blocks.now) block ∷ []) }
         ensures unchanged { OnErr result (rows_of self.new ≡ rows_of self.old) }
         ensures inside { IfOk result (λ n. env_of (rows_of self.new) n ≡
-            Within n (entered outer (block_of (program_of program.now) block)) (env_of (rows_of self.old) outer)) }
+            NumberedWithin n (row_of_block outer (text_held blocks.now) block) no_numbered_call (env_of (rows_of self.old) outer)) }
         ensures kept { (k : ℕ) → k < length (rows_of self.old) → env_of (rows_of self.new) k ≡ env_of (rows_of self.old) k }
-        ensures functions { let n = count_of_functions (program_of program.now) in
+        ensures chain { chain_of self.new ≡ chain_of self.old }
+        ensures functions { let n = length (functions_held blocks.now) in
             IsTrue (functions_below n (rows_of self.old)) → IsTrue (functions_below n (rows_of self.new)) }
-        ensures modules { let n = count_of_modules (program_of program.now) in
+        ensures modules { let n = length (modules_held blocks.now) in
             IsTrue (modules_below n (rows_of self.old)) → IsTrue (modules_below n (rows_of self.new)) }
     {
-        let scope = scope_of_block(alloc, outer, program, block)?;
+        let scope = scope_of_block(alloc, outer, blocks, block)?;
         self.add(scope)
+    }
+
+    /// A new scope of a block of a program, as `enter` makes it, which is that of a call of a module
+    /// of the source: the call encloses what is evaluated in this scope or in a scope inside.
+    pub fn enter_call(
+        &mut self,
+        alloc: Global,
+        outer: u32,
+        blocks: &Blocks<'_>,
+        block: u32,
+        call: Call,
+    ) -> Result<u32, NoMemory>
+        requires outer { outer < length (rows_of self.old) }
+        requires caller { call.caller < length (rows_of self.old) }
+        ensures number { IfOk result (λ n. n ≡ length (rows_of self.old)) }
+        ensures entered { OnOk result (rows_of self.new ≡ rows_of self.old ++
+            called_row call.children call.caller (row_of_block outer (text_held blocks.now) block) ∷ []) }
+        ensures unchanged { OnErr result (rows_of self.new ≡ rows_of self.old) }
+        ensures inside { IfOk result (λ n. env_of (rows_of self.new) n ≡ NumberedWithin n
+            (called_row call.children call.caller (row_of_block outer (text_held blocks.now) block))
+            (numbered_call call.children (env_of (rows_of self.old) call.caller)) (env_of (rows_of self.old) outer)) }
+        ensures kept { (k : ℕ) → k < length (rows_of self.old) → env_of (rows_of self.new) k ≡ env_of (rows_of self.old) k }
+        ensures chain { chain_of self.new ≡ chain_of self.old }
+        ensures functions { let n = length (functions_held blocks.now) in
+            IsTrue (functions_below n (rows_of self.old)) → IsTrue (functions_below n (rows_of self.new)) }
+        ensures modules { let n = length (modules_held blocks.now) in
+            IsTrue (modules_below n (rows_of self.old)) → IsTrue (modules_below n (rows_of self.new)) }
+    {
+        let entered = scope_of_block(alloc, outer, blocks, block)?;
+        self.add(entered.of_call(call))
     }
 
     /// A new scope without definitions, inside another scope, and its number: what the expression of
@@ -85,8 +129,9 @@ impl Scopes {
         ensures entered { OnOk result (rows_of self.new ≡ rows_of self.old ++ empty_row outer ∷ []) }
         ensures unchanged { OnErr result (rows_of self.new ≡ rows_of self.old) }
         ensures inside { IfOk result (λ n. env_of (rows_of self.new) n ≡
-            Within n (empty_row outer) (env_of (rows_of self.old) outer)) }
+            NumberedWithin n (empty_row outer) no_numbered_call (env_of (rows_of self.old) outer)) }
         ensures kept { (k : ℕ) → k < length (rows_of self.old) → env_of (rows_of self.new) k ≡ env_of (rows_of self.old) k }
+        ensures chain { chain_of self.new ≡ chain_of self.old }
         ensures functions { (n : ℕ) →
             IsTrue (functions_below n (rows_of self.old)) → IsTrue (functions_below n (rows_of self.new)) }
         ensures modules { (n : ℕ) →
@@ -100,6 +145,7 @@ impl Scopes {
         ensures number { IfOk result (λ n. n ≡ length (rows_of self.old)) }
         ensures added { OnOk result (rows_of self.new ≡ rows_of self.old ++ row_of scope ∷ []) }
         ensures unchanged { OnErr result (rows_of self.new ≡ rows_of self.old) }
+        ensures chain { chain_of self.new ≡ chain_of self.old }
     {
         let number = self.scopes.len();
         if number > u32::MAX as usize {
@@ -107,6 +153,49 @@ impl Scopes {
         }
         self.scopes.push(scope)?;
         Ok(number as u32)
+    }
+
+    /// Cuts the table to its first scopes, so many of them. Takes no memory.
+    pub fn leave(&mut self, to: u32)
+        requires some { 1 ≤ to }
+        requires there { to ≤ length (rows_of self.old) }
+        ensures rows { rows_of self.new ≡ take to (rows_of self.old) }
+        ensures back { (front behind : List Row) → rows_of self.old ≡ front ++ behind → length front ≡ to → rows_of self.new ≡ front }
+        ensures kept { (k : ℕ) → k < to → env_of (rows_of self.new) k ≡ env_of (rows_of self.old) k }
+        ensures chain { chain_of self.new ≡ chain_of self.old }
+        ensures functions { (n : ℕ) →
+            IsTrue (functions_below n (rows_of self.old)) → IsTrue (functions_below n (rows_of self.new)) }
+        ensures modules { (n : ℕ) →
+            IsTrue (modules_below n (rows_of self.old)) → IsTrue (modules_below n (rows_of self.new)) }
+    {
+        self.scopes.truncate(to as usize);
+    }
+
+    /// How many scopes there are. Takes no memory.
+    pub fn count(&self) -> usize
+        ensures { result ≡ length (rows_of self.now) }
+    {
+        self.scopes.len()
+    }
+
+    /// The innermost call, from a scope outward, whose scope is one of them: the call that encloses
+    /// what is evaluated in the scope. None where there is no such call. Takes no memory.
+    pub fn call_of(&self, scope: u32) -> Option<Call>
+        requires { scope < length (rows_of self.now) }
+        ensures value { enclosing_call (env_of (rows_of self.now) scope) ≡ call_told (env_of (rows_of self.now)) result }
+        ensures there { IfSome result (λ c. c.caller < length (rows_of self.now)) }
+    {
+        let mut at = scope;
+        'outward: loop {
+            let here = &self.scopes[at as usize];
+            if let Some(call) = call_before(here, at) {
+                return Some(call);
+            }
+            if here.outer >= at {
+                return None;
+            }
+            at = here.outer;
+        }
     }
 
     /// Gives a name a value in a scope, where it is the newest of its name. `NoMemory` leaves all
@@ -125,6 +214,7 @@ impl Scopes {
         ensures here { OnOk result (env_of (rows_of self.new) scope ≡
             with_pair name.now (val_of value) (env_of (rows_of self.old) scope)) }
         ensures kept { (k : ℕ) → k < scope → env_of (rows_of self.new) k ≡ env_of (rows_of self.old) k }
+        ensures chain { chain_of self.new ≡ chain_of self.old }
         ensures functions { (n : ℕ) →
             IsTrue (functions_below n (rows_of self.old)) → IsTrue (functions_below n (rows_of self.new)) }
         ensures modules { (n : ℕ) →
@@ -144,6 +234,7 @@ impl Scopes {
         requires bounded { IsTrue (is_bounded (val_of value)) }
         ensures bound { OnOk result (rows_of self.new ≡ bound_in (rows_of self.old) scope name.now (val_of value)) }
         ensures unchanged { OnErr result (rows_of self.new ≡ rows_of self.old) }
+        ensures chain { chain_of self.new ≡ chain_of self.old }
     {
         let name = Bytes::of(Vec::from_slice(alloc, name)?);
         self.scopes[scope as usize].bind(name, value)
@@ -170,6 +261,62 @@ impl Scopes {
             }
             at = here.outer;
         }
+    }
+
+    /// Gives a special name, without its `$`, a value, as the newest of the chain, and answers how long
+    /// the chain was before. `NoMemory` leaves the chain as it was; it also comes where the chain is
+    /// 2^32 pairs long.
+    pub fn bind_special(
+        &mut self,
+        alloc: Global,
+        name: &[u8],
+        value: Value,
+    ) -> Result<u32, NoMemory>
+        requires { IsTrue (is_bounded (val_of value)) }
+        ensures length { IfOk result (λ n. n ≡ length (chain_of self.old)) }
+        ensures bound { OnOk result (chain_of self.new ≡ (name.now, val_of value) ∷ chain_of self.old) }
+        ensures unchanged { OnErr result (chain_of self.new ≡ chain_of self.old) }
+        ensures rows { rows_of self.new ≡ rows_of self.old }
+    {
+        let before = self.chain.len();
+        if before > u32::MAX as usize {
+            return Err(NoMemory);
+        }
+        let name = Bytes::of(Vec::from_slice(alloc, name)?);
+        self.chain.push(Variable { name, value })?;
+        Ok(before as u32)
+    }
+
+    /// The newest value of a special name, given without its `$`; it is bounded. UnknownName at the
+    /// place exactly where the chain has no such name. Takes no memory.
+    pub fn special(&self, name: &[u8], place: Place) -> Result<&Value, Fault>
+        ensures { MatchResult result (λ v. IsVariable (find_in (chain_of self.now) name.now) v.now)
+            (IsMissing UnknownName place (find_in (chain_of self.now) name.now)) }
+    {
+        match find_variable(&self.chain, name) {
+            Some(value) => Ok(value),
+            None => Err(Fault {
+                kind: FaultKind::UnknownName,
+                place,
+            }),
+        }
+    }
+
+    /// How many pairs the chain has. Takes no memory.
+    pub fn chain_length(&self) -> usize
+        ensures { result ≡ length (chain_of self.now) }
+    {
+        self.chain.len()
+    }
+
+    /// Cuts the chain to its oldest pairs, so many of them. Takes no memory.
+    pub fn unwind(&mut self, to: u32)
+        requires { to ≤ length (chain_of self.old) }
+        ensures chain { chain_of self.new ≡ oldest to (chain_of self.old) }
+        ensures back { (newer older : Pairs Val) → chain_of self.old ≡ newer ++ older → length older ≡ to → chain_of self.new ≡ older }
+        ensures rows { rows_of self.new ≡ rows_of self.old }
+    {
+        self.chain.truncate(to as usize);
     }
 
     /// The function of a name, from a scope outward. UnknownFunction exactly where no scope outward

@@ -1,9 +1,12 @@
-ghost use Rattle.std.specs.Prelude.{◌≡◌, OnOk, OnErr};
+ghost use Rattle.std.specs.Prelude.{◌≡◌, ◌<◌, ℕ, OnOk, OnErr, IfOk, IfSome};
+ghost use Rattle.scad_value.specs.Values.{NumberVal};
 ghost use Rattle.scad_value.specs.View.{val_of};
-ghost use Rattle.scad_scope.specs.Names.{find_in, with_variable};
-ghost use Rattle.scad_scope.specs.View.{variables_of, definitions_of, IsValueFound, pairs_of, row_of};
+ghost use Rattle.scad_scope.specs.Names.{find_in, with_variable, NumberedEnv, call_behind, called_row};
+ghost use Rattle.scad_scope.specs.Table.{call_told};
+ghost use Rattle.scad_scope.specs.View.{variable_of, variables_of, definitions_of, IsValueFound, pairs_of, row_of};
 
 use scad_value::Value;
+use std::alloc::Global;
 use text_place::{Bytes, NoMemory};
 
 /// A name and its value.
@@ -20,14 +23,24 @@ pub(crate) struct Definition {
     pub(crate) number: u32,
 }
 
-/// A scope: its variables, functions and modules, the newest last, and the number of the scope
-/// outside it.
+/// A call of a module of the source.
+#[derive(Clone, Copy, PartialEq, Eq)]
+pub struct Call {
+    /// The number of the block of its children.
+    pub children: u32,
+    /// The number of the scope of its caller.
+    pub caller: u32,
+}
+
+/// A scope: its variables, functions and modules, the newest last, the number of the scope outside
+/// it, and the call whose scope it is, where it is one's.
 #[derive(Drop)]
 pub(crate) struct Scope {
     pub(crate) variables: Vec<Variable>,
     pub(crate) functions: Vec<Definition>,
     pub(crate) modules: Vec<Definition>,
     pub(crate) outer: u32,
+    pub(crate) call: Option<Call>,
 }
 
 impl Scope {
@@ -38,6 +51,19 @@ impl Scope {
     {
         self.variables.push(Variable { name, value })?;
         Ok(())
+    }
+
+    /// The same as the scope of a call.
+    pub(crate) fn of_call(self, call: Call) -> Scope
+        ensures { row_of result ≡ called_row call.children call.caller (row_of self) }
+    {
+        Scope {
+            variables: self.variables,
+            functions: self.functions,
+            modules: self.modules,
+            outer: self.outer,
+            call: Some(call),
+        }
     }
 }
 
@@ -95,5 +121,27 @@ pub(crate) fn definitions(family: Family, scope: &Scope) -> &[Definition]
     match family {
         Family::Functions => &scope.functions,
         Family::Modules => &scope.modules,
+    }
+}
+
+/// A name and a number as its value.
+pub(crate) fn first(alloc: Global, name: &[u8], number: i64) -> Result<Variable, NoMemory>
+    ensures { IfOk result (λ v. variable_of v ≡ (name.now, NumberVal number)) }
+{
+    let name = Bytes::of(Vec::from_slice(alloc, name)?);
+    Ok(Variable {
+        name,
+        value: Value::Number(number),
+    })
+}
+
+/// The call of a scope of this number, where the caller's scope comes before it.
+pub(crate) fn call_before(scope: &Scope, number: u32) -> Option<Call>
+    ensures told { (look : ℕ → NumberedEnv) → call_behind look number (row_of scope.now).call ≡ call_told look result }
+    ensures before { IfSome result (λ c. c.caller < number) }
+{
+    match scope.call {
+        Some(call) if call.caller < number => Some(call),
+        _ => None,
     }
 }

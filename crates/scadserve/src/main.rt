@@ -1,29 +1,9 @@
 //! The program: its words, standard input and standard output, handed to the server.
 #![tactic(auto)]
 
-use outside_io::{ReadSource, WriteSink};
-use script_server::{Status, serve};
-use std::io::ErrorKind;
+use script_server::run_program;
 use std::process::ExitCode;
-use std::{env, io};
-
-/// The words behind the program's name.
-fn words(rt: &HostRuntime) -> io::Result<Vec<String>> {
-    env::args(rt)?
-        .skip(1)
-        .collect(rt.alloc())
-        .map_err(io::Error::from)
-}
 
 fn main(rt: HostRuntime) -> ExitCode {
-    let words = match words(&rt) {
-        Ok(words) => words,
-        // Words that are no UTF-8 are outside the grammar, as no words are.
-        Err(fault) if fault.kind() == ErrorKind::InvalidData => Vec::new(rt.alloc()),
-        Err(_) => return ExitCode::from(Status::NoMemory as u8),
-    };
-    let mut source = ReadSource::new(rt.stdin());
-    let mut sink = WriteSink::new(rt.stdout());
-    let status = serve(&rt, rt.alloc(), &words, &mut source, &mut sink);
-    ExitCode::from(status as u8)
+    run_program(&rt, &rt)
 }

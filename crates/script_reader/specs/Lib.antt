@@ -3,3 +3,4 @@ pub mod Spelling
 pub mod Scripts
 pub mod Reading
 pub mod Limits
+pub mod FaultLines

@@ -4,7 +4,7 @@ use Rattle.std.specs.Str.{bytes_eq}
 use Rattle.std.proofs.lemmas.Bool.Decides.{nat_tests}
 use Rattle.std.proofs.lemmas.Slice.Eq.{bytes_eq-Decides}
 use Rattle.text_place.specs.declared.fault.Place.{Place}
-use Rattle.scad_ast.specs.Terms.{Term, NumberTerm, TextTerm, TruthTerm, UndefTerm, ChildCountTerm, NameTerm, CallTerm, ParenTerm, ListTerm, RangeTerm, SteppedRangeTerm, PostfixTerm, UnaryTerm, ChainTerm, ChoiceTerm, Terms, no_terms, and_term, terms_from, ArgTerm, NamedTerm, PositionalTerm, StatementTerm, EmptyStatement, BlockStatement, AssignmentTerm, ModuleTerm, FunctionTerm, InstanceStatement, AnInstance, CoreTerm, IfTerm, IfElseTerm, ForTerm, IntersectionForTerm, ModuleCallTerm, EmptyBody, BlockBody, InstanceBody}
+use Rattle.scad_ast.specs.Terms.{Term, NumberTerm, TextTerm, TruthTerm, UndefTerm, ChildCountTerm, SpecialTerm, NameTerm, CallTerm, ParenTerm, ListTerm, RangeTerm, SteppedRangeTerm, PostfixTerm, UnaryTerm, ChainTerm, ChoiceTerm, Terms, no_terms, and_term, terms_from, ArgTerm, NamedTerm, SpecialArgTerm, PositionalTerm, StatementTerm, EmptyStatement, BlockStatement, AssignmentTerm, SpecialAssignmentTerm, ModuleTerm, FunctionTerm, InstanceStatement, AnInstance, CoreTerm, IfTerm, IfElseTerm, ForTerm, IntersectionForTerm, ModuleCallTerm, EmptyBody, BlockBody, InstanceBody}
 use Rattle.script_server.specs.declared.meaning.Sides.{Sides}
 use Rattle.script_server.specs.Meaning.Boxes.{IsBox, AreNumerals, IsSize, IsCube, IsBoxProgram}
 use Rattle.script_server.specs.BoxTrees.{side_from, sides_from, sides_among, sides_given, cube_sides, box_sides}
@@ -59,6 +59,7 @@ side_asked (TextTerm at bytes) n e = absurd (cc)
 side_asked (TruthTerm at truth) n e = absurd (cc)
 side_asked (UndefTerm at) n e = absurd (cc)
 side_asked (ChildCountTerm at) n e = absurd (cc)
+side_asked (SpecialTerm at name) n e = absurd (cc)
 side_asked (NameTerm at name) n e = absurd (cc)
 side_asked (CallTerm at name args) n e = absurd (cc)
 side_asked (ParenTerm at inner) n e = absurd (cc)
@@ -101,6 +102,7 @@ numerals_asked (and_term x (and_term y (and_term z no_terms))) s e =
 size_asked : (args : List ArgTerm) (s : Sides) → sides_given args ≡ Some s → IsBox s × IsSize s args
 size_asked [] s e = absurd (cc)
 size_asked (NamedTerm at name value ∷ args) s e = absurd (cc)
+size_asked (SpecialArgTerm at name value ∷ args) s e = absurd (cc)
 size_asked (PositionalTerm (ListTerm at items) ∷ []) s e = let numerals = numerals_asked items s e in (numerals.0, (at, items, numerals.1, refl))
 size_asked (PositionalTerm (ListTerm at items) ∷ (x ∷ args)) s e = absurd (cc)
 size_asked (PositionalTerm (NumberTerm at n) ∷ args) s e = absurd (cc)
@@ -108,6 +110,7 @@ size_asked (PositionalTerm (TextTerm at bytes) ∷ args) s e = absurd (cc)
 size_asked (PositionalTerm (TruthTerm at truth) ∷ args) s e = absurd (cc)
 size_asked (PositionalTerm (UndefTerm at) ∷ args) s e = absurd (cc)
 size_asked (PositionalTerm (ChildCountTerm at) ∷ args) s e = absurd (cc)
+size_asked (PositionalTerm (SpecialTerm at name) ∷ args) s e = absurd (cc)
 size_asked (PositionalTerm (NameTerm at name) ∷ args) s e = absurd (cc)
 size_asked (PositionalTerm (CallTerm at name given) ∷ args) s e = absurd (cc)
 size_asked (PositionalTerm (ParenTerm at inner) ∷ args) s e = absurd (cc)
@@ -140,6 +143,7 @@ box_asked [] s e = absurd (cc)
 box_asked (EmptyStatement at ∷ more) s e = absurd (cc)
 box_asked (BlockStatement at inner ∷ more) s e = absurd (cc)
 box_asked (AssignmentTerm at name value ∷ more) s e = absurd (cc)
+box_asked (SpecialAssignmentTerm at name value ∷ more) s e = absurd (cc)
 box_asked (ModuleTerm at name name_at params body ∷ more) s e = absurd (cc)
 box_asked (FunctionTerm at name name_at params value ∷ more) s e = absurd (cc)
 box_asked (InstanceStatement (AnInstance at (m ∷ ms) core) ∷ more) s e = absurd (cc)

@@ -1,4 +1,3 @@
-pub mod ScriptForm
 pub mod BoxPrograms
 pub mod BoxPlanes
 pub mod OneSource
@@ -6,5 +5,4 @@ pub mod WithinLimits
 pub mod OneAnswer
 pub mod OneReply
 pub mod Answering
-pub mod Served
 pub mod Refusing

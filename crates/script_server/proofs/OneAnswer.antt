@@ -8,7 +8,6 @@ use Rattle.bsp_boolean.specs.Solids.{solid_of}
 use Rattle.facet_cut.specs.Facets.{facets_of}
 use Rattle.off_text.specs.Texts.{most_vertices, vertices_of, HasVertices}
 use Rattle.off_text.proofs.Unique.{one_corners, one_text}
-use Rattle.edit_session.specs.declared.fault.SessionFault.{SessionFault}
 use Rattle.reply_text.specs.declared.reply.Reply.{Reply}
 use Rattle.reply_text.specs.declared.reply.Reply.TheVariants as reply
 use Rattle.script_server.specs.Meaning.Solids.{IsWritten, IsCut, IsBuilt, IsAnswerTo}
@@ -65,6 +64,3 @@ answer_reply f r h = built_reply (solid_of f) r h
 
 pub not_no_memory : (r : Reply) → IsExportReply r → r ≢ reply.NoMem
 not_no_memory r h e = subst IsExportReply e h
-
-pub not_refusal : (r : Reply) (why : SessionFault) → IsExportReply r → r ≢ reply.Refused why
-not_refusal r why h e = subst IsExportReply e h

@@ -1,7 +1,6 @@
 -- An export has one reply, and printed replies one reading.
-use Rattle.std.proofs.Common.{◌≡◌, ◌≢◌, ◌↔◌, inl, inr, ℕ, List, [], ◌∷◌, refl, sym, ap, ◌∙◌, subst}
+use Rattle.std.proofs.Common.{◌≡◌, ◌≢◌, ◌↔◌, inl, inr, ℕ, List, refl, sym, ap, ◌∙◌, subst}
 use Rattle.scad_ast.specs.Terms.{StatementTerm}
-use Rattle.script_reader.specs.declared.script.ClientScript.{ClientScript}
 use Rattle.script_reader.specs.declared.script.Script.{Script}
 use Rattle.reply_text.specs.declared.reply.Reply.{Reply}
 use Rattle.reply_text.specs.declared.reply.Reply.TheVariants as reply
@@ -9,15 +8,13 @@ use Rattle.reply_text.specs.Texts.{output}
 use Rattle.reply_text.specs.Answers.{AllFit, IsExport}
 use Rattle.reply_text.proofs.OneOutput.{same_output}
 use Rattle.script_server.specs.declared.meaning.Sides.{Sides}
-use Rattle.edit_session.specs.declared.fault.SessionFault.{SessionFault}
 use Rattle.csg_tree.specs.Formulas.{Formula, leaf}
 use Rattle.script_server.specs.Meaning.Sources.{Writes}
 use Rattle.script_server.specs.Meaning.Boxes.{IsBoxProgram, Means, box_planes}
 use Rattle.script_server.specs.Meaning.Solids.{HasText, Bounds}
 use Rattle.script_server.specs.Answers.{AnswersProgram}
-use Rattle.script_server.specs.Meaning.Scripts.{AllServed}
-use Rattle.script_server.specs.Meaning.Exports.{not_yet, Builds, Exports, IsBounded}
-use Rattle.script_server.proofs.OneAnswer.{one_answer, answer_reply, IsExportReply, not_no_memory, not_refusal}
+use Rattle.script_server.specs.Meaning.Exports.{not_yet, Builds, Exports, IsBounded, AnswersExport}
+use Rattle.script_server.proofs.OneAnswer.{one_answer, answer_reply, IsExportReply, not_no_memory}
 use Rattle.script_server.proofs.WithinLimits.{text_answer}
 use Rattle.script_server.proofs.BoxPrograms.{one_box}
 use Rattle.script_server.proofs.OneSource.{one_fault, one_program, no_program}
@@ -49,9 +46,6 @@ export_reply source r (inr a) = building_reply a.0 r a.2
 
 has_memory : (source : List ℕ) (r : Reply) → Exports source r → r ≢ reply.NoMem
 has_memory source r h = not_no_memory r (export_reply source r h)
-
-pub not_refused : (source : List ℕ) (r : Reply) (why : SessionFault) → Exports source r → r ≢ reply.Refused why
-not_refused source r why h = not_refusal r why (export_reply source r h)
 
 -- what was built is answered, and where it is a solid, it is the boundary of what the source means
 pub built : (program : List StatementTerm) (r : Reply) → AnswersProgram program r → Builds program r
@@ -96,15 +90,12 @@ solids_are_boxes source r h = (
   λ means. box_solid source r means.0 means.1 h,
 )
 
-pub exports_are : IsExport Exports
-exports_are = record { one = one_reply; has_memory = has_memory }
+pub exports_are : IsExport AnswersExport
+exports_are = record {
+  one = λ source r q h g. one_reply source r q h.0 g.0;
+  has_memory = λ source r h. has_memory source r h.0;
+}
 
-all_fit : (clients : List ClientScript) (rs : List (List Reply)) → AllServed clients rs → AllFit Exports clients rs
-all_fit [] [] h = tt
-all_fit [] (r ∷ rs) h = absurd h
-all_fit (client ∷ clients) [] h = absurd h
-all_fit (client ∷ clients) (r ∷ rs) h = (h.0.fits, all_fit clients rs h.1)
-
-pub one_output : (script : Script) (rs qs : List (List Reply)) → AllServed script.clients rs → AllServed script.clients qs →
+pub one_output : (script : Script) (rs qs : List (List Reply)) → AllFit AnswersExport script.clients rs → AllFit AnswersExport script.clients qs →
     output script.clients rs ≡ output script.clients qs → rs ≡ qs
-one_output script rs qs h g e = same_output Exports exports_are script.clients rs qs (all_fit script.clients rs h) (all_fit script.clients qs g) e
+one_output script rs qs h g e = same_output AnswersExport exports_are script.clients rs qs h g e

@@ -3,4 +3,3 @@ pub mod Sources
 pub mod Boxes
 pub mod Solids
 pub mod Exports
-pub mod Scripts

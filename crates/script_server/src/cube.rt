@@ -15,9 +15,14 @@ use scad_ast::{Arg, Args, Body, Core, Expr, Program, Statement};
 fn side_of(expr: &Expr) -> Option<u16>
     ensures { result ≡ side_from (term_of expr.now) }
 {
-    match expr {
-        Expr::Number(_, number) if 0 < *number && *number < 4096 => Some(*number as u16),
-        _ => None,
+    let Expr::Number(_, numeral) = expr else {
+        return None;
+    };
+    let number = numeral.get();
+    if 0 < number && number < 4096 {
+        Some(number as u16)
+    } else {
+        None
     }
 }
 

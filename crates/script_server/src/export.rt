@@ -1,11 +1,11 @@
 //! What an export of a source is answered.
 
-ghost use Rattle.std.specs.Prelude.{◌-◌, ◌^◌, ◌<◌, IfOk, IfErr, length};
+ghost use Rattle.std.specs.Prelude.{◌-◌, ◌^◌, ◌<◌, ◌≤◌, IfOk, IfErr, length};
 ghost use Rattle.scad_ast.specs.StatementView.{program_of};
 ghost use Rattle.script_server.specs.Meaning.Boxes.{IsBox};
 ghost use Rattle.script_server.specs.Answers.{AnswersBox, AnswersProgram};
 ghost use Rattle.script_server.specs.Meaning.Sources.{Writes, Refuses};
-ghost use Rattle.script_server.specs.Meaning.Exports.{Exports, IsBounded};
+ghost use Rattle.script_server.specs.Meaning.Exports.{Exports, IsBounded, AnswersExport};
 
 use crate::cube::box_of;
 use crate::meaning::Sides;
@@ -15,6 +15,7 @@ use reply_text::Reply;
 use scad_ast::Program;
 use scad_lexer::lex;
 use scad_parser::parse;
+use script_run::Exporter;
 use std::alloc::Global;
 use text_place::{Fault, FaultKind, NoMemory, Place, Stop};
 
@@ -51,7 +52,7 @@ fn build(alloc: Global, program: &Program) -> Result<Reply, NoMemory>
 }
 
 /// What an export of a source is answered: its first fault, or what its program is answered.
-pub fn export(alloc: Global, source: &[u8]) -> Result<Reply, NoMemory>
+fn export(alloc: Global, source: &[u8]) -> Result<Reply, NoMemory>
     requires { length source.now < 2 ^ 32 - 1 }
     ensures answer { IfOk result (Exports source.now) }
     ensures bounded { IfOk result (IsBounded source.now) }
@@ -60,5 +61,22 @@ pub fn export(alloc: Global, source: &[u8]) -> Result<Reply, NoMemory>
         Ok(program) => build(alloc, &program),
         Err(Stop::Fault(fault)) => Ok(Reply::Faulted(fault)),
         Err(Stop::NoMemory) => Err(NoMemory),
+    }
+}
+
+/// Exports sources by the rule that stands today: boxes are built.
+#[derive(Drop)]
+pub struct SourceExporter;
+
+impl Exporter for SourceExporter {
+    ghost use Rattle.script_server.specs.Meaning.Exports.{AnswersExport};
+
+    ghost exports = { AnswersExport };
+
+    fn export(&mut self, alloc: Global, source: &[u8]) -> Result<Reply, NoMemory>
+        requires { length source.now ≤ 4198400 }
+        ensures { IfOk result (AnswersExport source.now) }
+    {
+        export(alloc, source)
     }
 }

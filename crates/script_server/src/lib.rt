@@ -1,14 +1,14 @@
-//! The server: one script in, the replies of its clients out.
+//! The server: one script in, the replies of its clients out, with what an export is answered.
 #![tactic(auto)]
 
-mod answers;
 mod cube;
 mod export;
 pub mod meaning;
 mod planes;
-mod script;
+mod program;
 mod server;
-mod slices;
 mod solids;
 
-pub use server::{Status, serve};
+pub use program::run_program;
+pub use script_service::Status;
+pub use server::serve;

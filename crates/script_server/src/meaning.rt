@@ -9,11 +9,10 @@ ghost use Rattle.reply_text.specs.declared.reply.Reply.TheVariants as reply;
 ghost use Rattle.script_reader.specs.declared.script.Script.{Script};
 ghost use Rattle.edit_session.specs.Sessions.{State};
 ghost use Rattle.reply_text.specs.Texts.{output};
-ghost use Rattle.reply_text.specs.Answers.{Fits, SameWants};
-ghost use Rattle.script_server.specs.Meaning.Scripts.{IsScript, AllServed};
+ghost use Rattle.reply_text.specs.Answers.{Fits, AllFit, SameWants};
 ghost use Rattle.script_server.specs.Meaning.Boxes.{Means, box_planes};
 ghost use Rattle.script_server.specs.Meaning.Solids.{HasText, IsAnswerTo};
-ghost use Rattle.script_server.specs.Meaning.Exports.{Exports};
+ghost use Rattle.script_server.specs.Meaning.Exports.{Exports, AnswersExport};
 
 /// The sides of a box along x, y and z.
 #[derive(Clone, Copy, Debug, PartialEq, Eq)]
@@ -22,11 +21,6 @@ pub struct Sides {
     pub y: u16,
     pub z: u16,
 }
-
-/// Bytes are one script at most.
-pub fn one_script()
-    ensures { (bytes : List ℕ) (s t : Script) → IsScript bytes s → IsScript bytes t → s ≡ t }
-{}
 
 /// A box passes no limit: what a tree of its planes is answered by the limits is its text.
 pub fn boxes_pass_no_limit()
@@ -47,12 +41,12 @@ pub fn one_reply()
 /// A client's own commands define its replies: only the places at which memory ran out are open.
 pub fn own_replies()
     ensures { (s : State) (cs : List Command) (rs qs : List Reply) →
-        Fits Exports s cs rs → Fits Exports s cs qs → SameWants rs qs → rs ≡ qs }
+        Fits AnswersExport s cs rs → Fits AnswersExport s cs qs → SameWants rs qs → rs ≡ qs }
 {}
 
 /// For one script, replies that its clients' own commands define and that print the same bytes are
 /// equal: so the printed output tells at which places memory ran out.
 pub fn one_output()
-    ensures { (script : Script) (rs qs : List (List Reply)) → AllServed script.clients rs → AllServed script.clients qs →
+    ensures { (script : Script) (rs qs : List (List Reply)) → AllFit AnswersExport script.clients rs → AllFit AnswersExport script.clients qs →
         output script.clients rs ≡ output script.clients qs → rs ≡ qs }
 {}

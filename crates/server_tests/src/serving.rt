@@ -1,15 +1,21 @@
 ghost use Rattle.std.specs.Prelude.{◌<◌};
 
 use outside_io::{MemorySink, MemorySource};
+use reply_text::Reply;
+use script_run::Exporter;
 use script_server::{Status, serve};
+use script_service::serve_with;
 use std::alloc::Global;
 use std::sync::Wait;
 use std::test::Fail;
 use std::thread::Threads;
+use text_place::{Bytes, NoMemory};
 
-const USAGE_LINE: &str = "usage: scadserve run [--workers N] [--memo W] [--tally] | demo N\n";
+const USAGE_LINE: &str =
+    "usage: scadserve run [--workers N] [--memo W] [--share S] [--half] [--tally] | demo N\n";
 
-const NOT_YET: &str = "script 1 NotYet\n";
+const NO_TALLY: &str =
+    "tally probes 0 hits 0 misses 0 offered 0 kept 0 heavy 0 dropped 0 evicted 0\n";
 
 // The replies to the first box, of 1 by 2 by 3.
 const FIRST_BOX: &str = "== a\n1 ok 1\n2 solid 16\n4OFF\n8 6 0\n\
@@ -23,26 +29,50 @@ const GREAT_BOX: &str = "== client0123456789\n1 ok 1\n2 solid 16\n4OFF\n8 6 0\n\
 
 const NO_BOX: &str = "== a\n1 ok 1\n2 fault 1:1 NotYet\n";
 
-// Serves a script in memory, whole at each call, with a call that fails for each side; 0 is none.
+// A client that edits its lines, with what it is answered.
+const EDITS: &str =
+    "a put 1 cube(1);\na put 1 // one\na put 3 cube(2);\na set 2 cube(3);\na cut 9 9\na show\n\
+a cut 1 1\na export\na jump\n";
+
+const EDITED: &str =
+    "== a\n1 ok 1\n2 ok 2\n3 ok 3\n4 ok 3\n5 refused NoSuchLine\n6 text 3\n// one\ncube(3);\ncube(2);\n\
+7 ok 2\n8 fault 1:1 NotYet\n9 refused BadCommand\n";
+
+// The outside of a call: which calls fail, 0 being none, how many bytes a call moves, and the sink's room.
+#[derive(Clone, Copy)]
+struct Outside {
+    read: u64,
+    write: u64,
+    piece: u32,
+    room: usize,
+}
+
+const CALM: Outside = Outside {
+    read: 0,
+    write: 0,
+    piece: 4096,
+    room: 1 << 20,
+};
+
+// Serves a script in memory.
 fn check<R: Threads + Wait + Sync>(
     rt: &R,
     alloc: Global,
     words: &[&str],
-    script: &str,
-    failing: (u64, u64),
-    piece: u32,
+    script: &[u8],
+    outside: Outside,
 ) -> Result<(Status, Vec<u8>), Fail>
-    requires { 0 < piece }
+    requires { 0 < outside.piece }
 {
     let mut all = Vec::new(alloc);
     for word in words {
         all.push(String::from_str(alloc, word)?)?;
     }
-    let bytes = script.as_bytes().to_vec(alloc)?;
-    let source_plan = vec![in alloc; failing.0]?;
-    let sink_plan = vec![in alloc; failing.1]?;
-    let mut source = MemorySource::new(bytes, source_plan, piece);
-    let mut sink = MemorySink::new(alloc, 4096, sink_plan, piece)?;
+    let bytes = script.to_vec(alloc)?;
+    let source_plan = vec![in alloc; outside.read]?;
+    let sink_plan = vec![in alloc; outside.write]?;
+    let mut source = MemorySource::new(bytes, source_plan, outside.piece);
+    let mut sink = MemorySink::new(alloc, outside.room, sink_plan, outside.piece)?;
     let status = serve(rt, alloc, &all, &mut source, &mut sink);
     Ok((status, sink.held().to_vec(alloc)?))
 }
@@ -57,27 +87,41 @@ fn scripts_are_answered(rt: HostRuntime) -> Result<(), Fail> {
         ),
         ("a put 1 cube([1,2,3]);\na export", Status::Done, FIRST_BOX),
         (
+            "a put 1 cube([1,2,3]);\r\na export\r\n",
+            Status::Done,
+            FIRST_BOX,
+        ),
+        (
             "client0123456789 put 1 cube([4095,1000,2048]);\nclient0123456789 export\n",
             Status::Done,
             GREAT_BOX,
         ),
         ("a put 1 \na export\n", Status::Done, NO_BOX),
         ("a put 1\na export\n", Status::Done, NO_BOX),
-        // Scripts of no form that is read so far.
-        ("a export\n", Status::BadScript, NOT_YET),
-        ("", Status::BadScript, NOT_YET),
-        ("a put 1 x\nb export\n", Status::BadScript, NOT_YET),
-        ("a put 2 x\na export\n", Status::BadScript, NOT_YET),
-        ("a put 1 x\r\na export\n", Status::BadScript, NOT_YET),
-        ("a put 1 x\na export\n\n", Status::BadScript, NOT_YET),
-        ("A put 1 x\nA export\n", Status::BadScript, NOT_YET),
+        ("a export", Status::Done, "== a\n1 fault 1:1 NotYet\n"),
+        (EDITS, Status::Done, EDITED),
+        // Clients by first appearance, each with its own source.
         (
-            "client01234567890 put 1 x\nclient01234567890 export\n",
+            "b put 1 x=7/2;\na show\nb show\na put 1 3a\na export\n",
+            Status::Done,
+            "== b\n1 ok 1\n2 text 1\nx=7/2;\n== a\n1 text 0\n2 ok 1\n3 fault 1:2 BadCharacter\n",
+        ),
+        (
+            "a put 2 x\na put 0 x\na set 1 x\na cut 1 1\na\n",
+            Status::Done,
+            "== a\n1 refused NoSuchLine\n2 refused NoSuchLine\n3 refused NoSuchLine\n4 refused NoSuchLine\n5 refused BadCommand\n",
+        ),
+        ("", Status::Done, ""),
+        // Bytes that are no script.
+        ("a show\n\nb show\n", Status::BadScript, "script 2 NoName\n"),
+        ("A show\n", Status::BadScript, "script 1 NoName\n"),
+        (
+            "client01234567890 show\n",
             Status::BadScript,
-            NOT_YET,
+            "script 1 NoName\n",
         ),
     ] {
-        let (ended, held) = check(&rt, rt.alloc(), &["run"], script, (0, 0), 1000)?;
+        let (ended, held) = check(&rt, rt.alloc(), &["run"], script.as_bytes(), CALM)?;
         assert!(rt; ended == status, "at {script:?}");
         assert_eq!(rt; held.as_slice(), output.as_bytes(), "at {script:?}");
     }
@@ -89,7 +133,7 @@ fn exported<R: Threads + Wait + Sync>(rt: &R, alloc: Global, line: &str) -> Resu
     let mut script = String::from_str(alloc, "a put 1 ")?;
     script.push_str(line)?;
     script.push_str("\na export\n")?;
-    let (_, held) = check(rt, alloc, &["run"], script.as_str(), (0, 0), 4096)?;
+    let (_, held) = check(rt, alloc, &["run"], script.as_bytes(), CALM)?;
     Ok(held)
 }
 
@@ -146,42 +190,267 @@ fn other_sources_are_told_their_fault(rt: HostRuntime) -> Result<(), Fail> {
     Ok(())
 }
 
+// Words, one space between two of them.
+fn split_words(alloc: Global, line: &'static str) -> Result<Vec<&'static str>, Fail> {
+    let mut words = Vec::new(alloc);
+    for word in line.split(' ') {
+        if !word.is_empty() {
+            words.push(word)?;
+        }
+    }
+    Ok(words)
+}
+
 #[test]
-fn other_words_are_told_the_usage(rt: HostRuntime) -> Result<(), Fail> {
-    for words in [["run", "x"].as_slice(), &[], &["Run"], &["run "], &["demo"]] {
-        let (ended, held) = check(&rt, rt.alloc(), words, "a export\n", (1, 0), 1000)?;
-        assert!(rt; ended == Status::BadWords);
-        assert_eq!(rt; held.as_slice(), USAGE_LINE.as_bytes());
+fn words_are_told_the_usage_or_taken(rt: HostRuntime) -> Result<(), Fail> {
+    // Words, whether they are taken, and what is written for no script.
+    for (line, output) in [
+        ("run", ""),
+        ("run --workers 1", ""),
+        ("run --workers=64 --memo 0", ""),
+        ("run --workers=8 --memo 0", ""),
+        ("run --memo=2000000 --workers 0000004", ""),
+        ("run --share 0 --half", ""),
+        ("run --half --share=31250 --memo=0500000", ""),
+        ("run --memo 2000000 --share 125000", ""),
+        ("run --tally", NO_TALLY),
+        (
+            "run --half --tally --share 1 --memo 16 --workers 2",
+            NO_TALLY,
+        ),
+        ("", USAGE_LINE),
+        ("Run", USAGE_LINE),
+        ("run x", USAGE_LINE),
+        ("run -- x", USAGE_LINE),
+        ("run --", USAGE_LINE),
+        ("-- run", USAGE_LINE),
+        ("--tally run", USAGE_LINE),
+        ("--help", USAGE_LINE),
+        ("run --help", USAGE_LINE),
+        ("--version", USAGE_LINE),
+        ("help", USAGE_LINE),
+        ("run --workers", USAGE_LINE),
+        ("run --workers 0", USAGE_LINE),
+        ("run --workers 65", USAGE_LINE),
+        ("run --workers=", USAGE_LINE),
+        ("run --workers=+4", USAGE_LINE),
+        ("run --workers 00000004", USAGE_LINE),
+        ("run --workers 4 --workers=4", USAGE_LINE),
+        ("run --memo 2000001", USAGE_LINE),
+        ("run --memo -1", USAGE_LINE),
+        ("run --share 125001 --memo 2000000", USAGE_LINE),
+        ("run --share 31251", USAGE_LINE),
+        ("run --memo 0 --share 1", USAGE_LINE),
+        ("run --tally --tally", USAGE_LINE),
+        ("run --tally=1", USAGE_LINE),
+        ("run --half --half", USAGE_LINE),
+        ("run --Half", USAGE_LINE),
+        ("demo", USAGE_LINE),
+        ("demo 0", USAGE_LINE),
+        ("demo 201", USAGE_LINE),
+        ("demo 1 2", USAGE_LINE),
+        ("demo --tally", USAGE_LINE),
+    ] {
+        let words = split_words(rt.alloc(), line)?;
+        let (ended, held) = check(&rt, rt.alloc(), words.as_slice(), b"", CALM)?;
+        assert!(rt;
+            (ended == Status::BadWords) == (output == USAGE_LINE),
+            "at {line}"
+        );
+        assert_eq!(rt; held.as_slice(), output.as_bytes(), "at {line}");
     }
     Ok(())
 }
 
 #[test]
-fn the_outside_may_fail(rt: HostRuntime) -> Result<(), Fail> {
-    let (ended, held) = check(&rt, rt.alloc(), &["run"], "a export\n", (2, 0), 4)?;
-    assert!(rt; ended == Status::ReadFault);
-    assert_eq!(rt; held.as_slice(), b"".as_slice());
-    let (ended, held) = check(&rt, rt.alloc(), &["run"], "a export\n", (0, 2), 5)?;
-    assert!(rt; ended == Status::WriteFault);
-    assert_eq!(rt; held.as_slice(), b"scrip".as_slice());
+fn tallies_and_shares_follow_the_replies(rt: HostRuntime) -> Result<(), Fail> {
+    let words = ["run", "--tally", "--share", "1000"];
+    let (ended, held) = check(&rt, rt.alloc(), &words, b"b show\na show\n", CALM)?;
+    assert!(rt; ended == Status::Done);
+    assert_eq!(rt;
+        held.as_slice(),
+        b"== b\n1 text 0\n== a\n1 text 0\ntally probes 0 hits 0 misses 0 offered 0 kept 0 heavy 0 dropped 0 evicted 0\nshare b 0\nshare a 0\n".as_slice()
+    );
     Ok(())
 }
 
 #[test]
-fn lines_and_scripts_have_a_length(rt: HostRuntime) -> Result<(), Fail> {
-    // The bytes of the text, and of the script's two lines with their newlines.
-    for (text, status) in [
-        (1016, Status::Done),
-        (1017, Status::BadScript),
-        (1048576, Status::BadScript),
-    ] {
-        let mut script = String::from_str(rt.alloc(), "a put 1 ")?;
-        for _ in 0..text {
-            script.push('x')?;
+fn the_demonstration_reads_nothing(rt: HostRuntime) -> Result<(), Fail> {
+    for parts in ["1", "200"] {
+        let outside = Outside { read: 1, ..CALM };
+        let (ended, held) = check(&rt, rt.alloc(), &["demo", parts], b"", outside)?;
+        assert!(rt; ended == Status::Done);
+        assert_eq!(rt;
+            held.as_slice(),
+            b"c1 fault 1:1 NotYet\nc2 fault 1:1 NotYet\nc3 fault 1:1 NotYet\nc4 fault 1:1 NotYet\nc5 fault 1:1 NotYet\nc6 fault 1:1 NotYet\nc7 fault 1:1 NotYet\nc8 fault 1:1 NotYet\n".as_slice()
+        );
+    }
+    Ok(())
+}
+
+// An exporter that answers each export by the text of one box.
+#[derive(Drop)]
+struct OneBox;
+
+impl Exporter for OneBox {
+    ghost use Rattle.std.specs.Prelude.{⊤};
+
+    ghost exports = { λ _ _. ⊤ };
+
+    fn export(&mut self, alloc: Global, _source: &[u8]) -> Result<Reply, NoMemory> {
+        Ok(Reply::Solid(Bytes::of(Vec::from_slice(alloc, BOX_TEXT)?)))
+    }
+}
+
+const BOX_TEXT: &[u8] =
+    b"4OFF\n8 6 0\n0 0 0 1\n0 0 3 1\n0 2 3 1\n0 2 0 1\n1 0 0 1\n1 2 0 1\n1 2 3 1\n1 0 3 1\n\
+4 0 1 2 3\n4 4 5 6 7\n4 0 4 7 1\n4 3 2 6 5\n4 0 3 5 4\n4 1 7 6 2\n";
+
+#[test]
+fn the_demonstration_tells_digests(rt: HostRuntime) -> Result<(), Fail> {
+    let alloc = rt.alloc();
+    let mut words = Vec::new(alloc);
+    words.push(String::from_str(alloc, "demo")?)?;
+    words.push(String::from_str(alloc, "007")?)?;
+    let mut source = MemorySource::new(Vec::new(alloc), Vec::new(alloc), 1);
+    let mut sink = MemorySink::new(alloc, 4096, Vec::new(alloc), 7)?;
+    let ended = serve_with(alloc, &mut OneBox, &words, &mut source, &mut sink);
+    assert!(rt; ended == Status::Done);
+    assert!(rt;
+        sink.held().starts_with(
+            b"c1 facets 6 vertices 8 sha256 72eaa4a79b5848d9eb7c73cfca19d973d33b25118c833e29d4a27202421b43be\nc2 facets 6 vertices 8 sha256 ".as_slice()
+        )
+    );
+    Ok(())
+}
+
+#[test]
+fn each_read_and_each_write_may_fail(rt: HostRuntime) -> Result<(), Fail> {
+    let script = EDITS.as_bytes();
+    for call in 1..1000u64 {
+        let outside = Outside {
+            read: call,
+            piece: 7,
+            ..CALM
+        };
+        let (ended, held) = check(&rt, rt.alloc(), &["run"], script, outside)?;
+        if ended == Status::Done {
+            assert!(rt; call > 7);
+            break;
         }
-        script.push_str("\na export\n")?;
-        let (ended, _) = check(&rt, rt.alloc(), &["run"], script.as_str(), (0, 0), 4096)?;
-        assert!(rt; ended == status, "at {text}");
+        assert!(rt; ended == Status::ReadFault && held.is_empty(), "at {call}");
+    }
+    for call in 1..1000u64 {
+        let outside = Outside {
+            write: call,
+            piece: 5,
+            ..CALM
+        };
+        let (ended, held) = check(&rt, rt.alloc(), &["run"], script, outside)?;
+        if ended == Status::Done {
+            assert!(rt; call > 7);
+            break;
+        }
+        assert!(rt; ended == Status::WriteFault, "at {call}");
+        assert!(rt; EDITED.as_bytes().starts_with(held.as_slice()), "at {call}");
+    }
+    let outside = Outside { room: 10, ..CALM };
+    let (ended, held) = check(&rt, rt.alloc(), &["run"], script, outside)?;
+    assert!(rt; ended == Status::WriteFault);
+    assert_eq!(rt; held.as_slice(), b"== a\n1 ok ".as_slice());
+    Ok(())
+}
+
+// A script of this many lines.
+fn lines(alloc: Global, count: u32, line: &[u8]) -> Result<Vec<u8>, Fail> {
+    let mut script = Vec::new(alloc);
+    for _ in 0..count {
+        script.extend_from_slice(line)?;
+    }
+    Ok(script)
+}
+
+#[test]
+fn clients_commands_and_bytes_have_limits(rt: HostRuntime) -> Result<(), Fail> {
+    let alloc = rt.alloc();
+    let mut names = Vec::new(alloc);
+    for name in b'a'..=b'p' {
+        names.push(name)?;
+        names.extend_from_slice(b" show\n")?;
+    }
+    let (ended, _) = check(&rt, alloc, &["run"], &names, CALM)?;
+    assert!(rt; ended == Status::Done);
+    names.extend_from_slice(b"q show\n")?;
+    let (ended, held) = check(&rt, alloc, &["run"], &names, CALM)?;
+    assert!(rt; ended == Status::BadScript);
+    assert_eq!(rt; held.as_slice(), b"script 17 TooManyClients\n".as_slice());
+
+    // Bytes that are a number of lines, how that ends, and how the output ends.
+    for (count, line, more, status, end) in [
+        (
+            4097,
+            b"a put 1\n".as_slice(),
+            b"".as_slice(),
+            Status::Done,
+            "\n4096 ok 4096\n4097 refused TooManyLines\n",
+        ),
+        (
+            17,
+            b"a export\n",
+            b"",
+            Status::Done,
+            "\n16 fault 1:1 NotYet\n17 refused TooManyExports\n",
+        ),
+        (
+            17,
+            b"a show\n",
+            b"",
+            Status::Done,
+            "\n16 text 0\n17 refused TooManyShows\n",
+        ),
+        (
+            8192,
+            b"a x\n",
+            b"",
+            Status::Done,
+            "\n8192 refused BadCommand\n",
+        ),
+        (
+            8192,
+            b"a x\n",
+            b"a x",
+            Status::BadScript,
+            "script 8193 TooManyCommands\n",
+        ),
+        (
+            131072,
+            b"b 45678\n",
+            b"",
+            Status::BadScript,
+            "script 8193 TooManyCommands\n",
+        ),
+        (
+            131072,
+            b"b 45678\n",
+            b"c",
+            Status::BadScript,
+            "script TooLarge\n",
+        ),
+    ] {
+        let mut script = lines(alloc, count, line)?;
+        script.extend_from_slice(more)?;
+        let (ended, held) = check(&rt, alloc, &["run"], &script, CALM)?;
+        assert!(rt; ended == status, "at {end}");
+        assert!(rt; held.as_slice().ends_with(end.as_bytes()), "at {end}");
+    }
+    // A line of 1,024 bytes, and one of a byte more.
+    for (length, status) in [(1016u32, Status::Done), (1017, Status::BadScript)] {
+        let mut script = Vec::from_slice(alloc, b"a put 1 ")?;
+        for _ in 0..length {
+            script.push(b'x')?;
+        }
+        let (ended, _) = check(&rt, alloc, &["run"], &script, CALM)?;
+        assert!(rt; ended == status, "at {length}");
     }
     Ok(())
 }

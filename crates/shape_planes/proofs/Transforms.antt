@@ -168,7 +168,7 @@ pub record IsPlaced (f : Affine) (mesh : Mesh) (points : List (List ℤ)) (faces
   pub points_are : points ≡ (moved f mesh).points
   pub faces_are : faces ≡ mesh.faces
 
-some_points : (mesh : Mesh) → IsShape mesh → 0 < length mesh.points
+pub some_points : (mesh : Mesh) → IsShape mesh → 0 < length mesh.points
 some_points mesh h = let is = h.faces 0 [] h.some in omega (arith, is.there 0 0 (some_corner mesh.points (get_or mesh.faces 0 []) is.triangle))
 
 same_mesh : (f : Affine) (mesh : Mesh) (points : List (List ℤ)) (faces : List (List ℕ)) → IsPlaced f mesh points faces → let m : Mesh = record { points = points; faces = faces } in moved f mesh ≡ m

@@ -6,7 +6,7 @@ ghost use Rattle.plane_predicate.specs.Space.{Coordinates, point_at, IsInReach};
 ghost use Rattle.text_place.specs.declared.fault.FaultKind.{FaultKind};
 ghost use Rattle.int_transform.specs.Maps.{image, map_of, LeavesRange, StaysInRange};
 ghost use Rattle.shape_planes.specs.declared.stop.ShapeStop.{ShapeStop};
-ghost use Rattle.shape_planes.specs.Shapes.{IsInside};
+ghost use Rattle.shape_planes.specs.Shapes.{IsFace, IsInside};
 ghost use Rattle.shape_planes.specs.Placing.{moved, ArePlanesOf, IsBehindAll, IsPlacingStop, MeetsReach};
 
 use crate::planes::planes_of;
@@ -27,6 +27,8 @@ pub fn place(alloc: Global, shape: &Shape, steps: &[Step]) -> Result<Vec<Plane>,
     ensures inside { IfOk result (λ v. (p : Coordinates) → IsInside shape.now p ↔ IsBehindAll v.items (image (map_of steps.now) p)) }
     ensures some { IfOk result (λ v. 0 < length v.items) }
     ensures reach { IfOk result (λ v. All MeetsReach v.items) }
+    // no step flattens the shape: its faces stay faces of a body
+    ensures solid { OnOk result (All (IsFace (moved (map_of steps.now) shape.now)) shape.now.faces) }
 
     ensures in_range { OnOk result (All (λ p. StaysInRange steps.now (point_at p)) shape.now.points) }
     ensures in_reach { OnOk result (All (λ p. IsInReach (image (map_of steps.now) (point_at p))) shape.now.points) }

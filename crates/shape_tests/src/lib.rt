@@ -1,4 +1,4 @@
-//! Tests of transforms and shapes by their public calls, for no layer above.
+//! Tests of transforms, shapes and calls of built-in modules by their public calls, for no layer above.
 #![tactic(auto)]
 
 #[cfg(test)]
@@ -11,6 +11,8 @@ mod extrusions;
 mod flats;
 #[cfg(test)]
 mod looks;
+#[cfg(test)]
+mod module_calls;
 #[cfg(test)]
 mod surfaces;
 #[cfg(test)]

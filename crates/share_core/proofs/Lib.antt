@@ -1,4 +1,5 @@
 pub mod Lists
+pub mod Settled
 pub mod Nodes
 pub mod KeptLists
 pub mod Sound

@@ -54,7 +54,7 @@ answered = part None (35 ∷ [])
 
 abbrev machine : List (Entry ℕ ℕ) → List (Item ℕ) → Part ℕ ℕ → Part ℕ ℕ → Machine ℕ ℕ ℕ
 machine entries journal first second = record {
-  memo = record { entries = entries; budget = 10; share = 0; journal = journal; spare = 0 };
+  memo = record { entries = entries; dropped = []; budget = 10; share = 0; journal = journal; spare = 0 };
   parts = first ∷ second ∷ [];
 }
 
@@ -305,7 +305,7 @@ not_there_yet = refl
 -- ---- a fill that is too heavy is noted, and its node is there all the same
 abbrev without_budget : List (Item ℕ) → Part ℕ ℕ → Machine ℕ ℕ ℕ
 without_budget journal first = record {
-  memo = record { entries = []; budget = 4; share = 0; journal = journal; spare = 0 };
+  memo = record { entries = []; dropped = []; budget = 4; share = 0; journal = journal; spare = 0 };
   parts = first ∷ [];
 }
 

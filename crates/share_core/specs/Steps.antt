@@ -124,4 +124,4 @@ module _ {K V R : Type 0} where
   -- the first machine: no entries and an empty journal, and every client is between commands, with no
   -- replies
   abbrev pub first_machine : ℕ → ℕ → ℕ → Machine K V R
-  first_machine clients budget share = record { memo = record { entries = []; budget = budget; share = share; journal = []; spare = 0 }; parts = replicate clients nobody }
+  first_machine clients budget share = record { memo = record { entries = []; dropped = []; budget = budget; share = share; journal = []; spare = 0 }; parts = replicate clients nobody }

@@ -189,7 +189,7 @@ fn offered<V: Drop, R: Drop>(
     Ok(Some((given, kept, weight)))
 }
 
-// Offers a value to the memo, which keeps it or not.
+// Offers a value to the memo, which keeps it or not, and frees what it dropped.
 fn offer<F: Fit, N: Namer<F::Key>>(
     alloc: Global,
     memo: &mut MemoCore<F, N>,
@@ -208,7 +208,10 @@ fn offer<F: Fit, N: Namer<F::Key>>(
     memo.room(alloc)?;
     match memo.fill(alloc, client, key, value, weight) {
         Fill::NoMemory => Err(NoMemory),
-        Fill::Kept | Fill::TooHeavy => Ok(()),
+        Fill::Kept | Fill::TooHeavy => {
+            let _dropped = memo.take_dropped(alloc);
+            Ok(())
+        }
     }
 }
 

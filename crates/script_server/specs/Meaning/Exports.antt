@@ -1,13 +1,10 @@
 -- What an export is answered, and what its solid is.
-use Rattle.std.specs.Prelude.{◌≡◌, ℕ, List, ◌∷◌, ◌⊎◌}
+use Rattle.std.specs.Prelude.{◌≡◌, ℕ, List, ◌⊎◌}
 use Rattle.text_place.specs.declared.fault.Fault.{Fault}
 use Rattle.text_place.specs.declared.fault.FaultKind.TheVariants.{NotYet}
 use Rattle.scad_ast.specs.Terms.{StatementTerm}
-use Rattle.script_reader.specs.declared.script.Command.{Command}
-use Rattle.edit_session.specs.Sessions.{State, source_of}
 use Rattle.reply_text.specs.declared.reply.Reply.{Reply}
 use Rattle.reply_text.specs.declared.reply.Reply.TheVariants as reply
-use Rattle.reply_text.specs.Answers.{state_after}
 use Rattle.plane_predicate.specs.declared.unit.Unit.TheVariants.{Whole}
 use Rattle.csg_tree.specs.Formulas.{Formula, leaf}
 use Rattle.off_text.specs.Bounding.{IsBoundary}
@@ -37,7 +34,6 @@ abbrev pub IsBounded : List ℕ → Reply → Type 0
 IsBounded source (reply.Solid bytes) = (f : Formula) × Means source f × IsBoundary Whole bytes f
 IsBounded source _ = Unit {0}
 
--- each solid is the boundary of what the client's source meant at that command
-abbrev pub AllBounded : State → List Command → List Reply → Type 0
-AllBounded s (c ∷ cs) (r ∷ rs) = IsBounded (source_of s) r × AllBounded (state_after s c r) cs rs
-AllBounded s _ _ = Unit {0}
+-- what an export is answered: the reply by the rule, which is the boundary of what the source means where it is a solid
+abbrev pub AnswersExport : List ℕ → Reply → Type 0
+AnswersExport source r = Exports source r × IsBounded source r

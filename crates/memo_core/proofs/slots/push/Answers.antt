@@ -1,6 +1,8 @@
-use Rattle.std.proofs.Common.{rules, arith, refl}
+use Rattle.std.proofs.Common.{rules, arith, refl, subst, ◌∷◌}
+use Rattle.memo_core.specs.Memo.{DropsFrom}
 use Rattle.memo_core.specs.Plans.{IsPlanFor}
 use Rattle.memo_core.proofs.Shelves.{carried_pushed, carried_shorter, shelf_carried}
+use Rattle.memo_core.proofs.Drops.{drops_then}
 use Rattle.memo_core.proofs.slots.push.Goals as goal
 
 pub overflow_sub-evicted : goal.overflow_sub-evicted
@@ -18,3 +20,9 @@ pub returns-clause-shelf : goal.returns-clause-shelf
 returns-clause-shelf g c =
     let p : IsPlanFor c.args.limits.budget c.args.limits.share c.args.name c.args.slot c.args.shelf.now.cache.entries c.in-Some.plan = search rules in
     shelf_carried c.args.limits.budget c.args.limits.share c.args.name c.args.slot c.args.shelf.now c.requires.shelf c.in-Some.plan p c.stack.new.cache.entries _ (search rules) (search rules) (search rules) refl refl
+
+pub returns-clause-dropped : goal.returns-clause-dropped
+returns-clause-dropped g c =
+    drops_then ((c.args.name, c.args.slot) ∷ c.args.shelf.now.cache.entries) c.stack.new.cache.entries _ c.args.gone.now.items c.stack.new.gone.items _
+    (subst (λ l. DropsFrom ((c.args.name, c.args.slot) ∷ c.args.shelf.now.cache.entries) l c.stack.new.gone.items c.stack.new.cache.entries) c.reserve.ensures.items (search rules))
+    c.drop_named.ensures.dropped

@@ -5,5 +5,5 @@ use Rattle.memo_shares.proofs.verdict.check_journal.Goals as goal
 
 pub returns-clause-verdict : goal.returns-clause-verdict
 returns-clause-verdict g c =
-    subst (λ h. IfOk c.compare.result (IsVerdict g.F.Fit.same_key g.N.Namer.name_of c.args.budget h (items_of c.args.items.now))) c.in_ok-core.ensures.3
-    (subst (λ b. IfOk c.compare.result (IsVerdict g.F.Fit.same_key g.N.Namer.name_of b c.in_ok-core.core.share (items_of c.args.items.now))) c.in_ok-core.ensures.2 c.compare.ensures.verdict)
+    subst (λ h. IfOk c.compare.result (IsVerdict g.F.Fit.same_key g.N.Namer.name_of c.args.budget h (items_of c.args.items.now))) c.in_ok-core.ensures.4
+    (subst (λ b. IfOk c.compare.result (IsVerdict g.F.Fit.same_key g.N.Namer.name_of b c.in_ok-core.core.share (items_of c.args.items.now))) c.in_ok-core.ensures.3 c.compare.ensures.verdict)

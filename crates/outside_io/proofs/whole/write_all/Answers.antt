@@ -1,4 +1,4 @@
-use Rattle.std.proofs.Common.{arith, ◌-◌, length, drop, length-take, length-drop}
+use Rattle.std.proofs.Common.{◌∙◌, arith, ◌-◌, length, drop, length-take, length-drop}
 use Rattle.outside_io.proofs.Moved.{more_appended}
 use Rattle.outside_io.proofs.whole.write_all.Goals as goal
 
@@ -10,5 +10,5 @@ loop-done-preserved g c =
     record {
       within = omega (arith, c.in-Ok.ensures.bound.1, length-take (length bytes - done) (drop done bytes), length-drop done bytes);
       written = more_appended _ _ _ bytes done _ before.written c.in-Ok.ensures.bytes;
-      later = omega (arith, before.later, c.write.ensures.cause.later);
+      quiet = c.in-Ok.ensures.cause.quiet ∙ before.quiet;
     }

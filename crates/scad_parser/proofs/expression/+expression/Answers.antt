@@ -1,4 +1,4 @@
-use Rattle.std.proofs.Common.{◌-◌, rules, refl, ◌∙◌, [], ◌∷◌, sym, ap, arith}
+use Rattle.std.proofs.Common.{◌-◌, rules, Ok, refl, ◌∙◌, [], ◌∷◌, sym, ap, arith}
 use Rattle.std.proofs.lemmas.List.{map-append}
 use Rattle.std.proofs.lemmas.Result.{err_from_is_err_and}
 use Rattle.scad_ast.specs.ExprView.{term_of, link_of, suffix_of, arg_of}
@@ -14,6 +14,7 @@ use Rattle.scad_parser.proofs.Climbs.{chain_climbs, chain_stops, climb_none, cli
 use Rattle.scad_parser.proofs.Atoms.{atom_is_operand, atom_is_side, atom_is_expression}
 use Rattle.scad_parser.proofs.Levels.{same_level, looser_step}
 use Rattle.scad_parser.proofs.Depths.{expr_none, expr_deeper, operand_none, operand_deeper}
+use Rattle.scad_parser.proofs.Given.{arg_given}
 use Rattle.scad_parser.proofs.Lengths.{link_strict, suffix_strict, expr_shorter, arg_shorter}
 use Rattle.scad_parser.proofs.Loops.{many_more, many_end, many_stop, trailing_more, trailing_end, trailing_stop}
 use Rattle.scad_parser.proofs.Stops.{operand_goes, item_goes, link_goes, first_link_goes, more_links_go, suffix_goes, first_suffix_goes, more_suffixes_go, arg_goes}
@@ -206,3 +207,11 @@ suffixed-returns-clause-value t c =
     let made = c.in_ok-of.ensures.ok in
     let read = rw made.1 at c.some_suffixes.ensures.value in
     rw (read, postfix_made c.place-place.result c.in_ok-new.field-0 c.in_ok-of.of c.in_ok-of.next c.in_ok-of.more c.in_ok-new.ensures.ok, c.place-place.ensures, made.0) refl
+
+pub arg-returns-clause-value : goal.arg-returns-clause-value
+arg-returns-clause-value t c =
+    let made = c.in_ok-bytes-2.ensures.ok in
+    let value = rw made.1 at c.expr-2.ensures.value in
+    arg_given c.args.depth c.args.tokens.now c.in_ok-name.name.now c.in_ok-rest.field-0-0.now c.in_ok-name.rest.now c.in_ok-rest.rest.now c.in_ok-bytes-2.rest.now (term_of c.in_ok-bytes-2.value)
+    c.if-depth-eq0.false (sym c.if-not-is_given.ensures) c.in_ok-name.ensures.value c.in_ok-rest.ensures.value value
+    ∙ ap (λ x. Ok (x, c.in_ok-bytes-2.rest.now)) (sym c.given.ensures)

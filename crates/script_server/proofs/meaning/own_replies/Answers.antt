@@ -1,7 +1,7 @@
 use Rattle.reply_text.proofs.OneAnswer.{own_replies}
-use Rattle.script_server.specs.Meaning.Exports.{Exports}
+use Rattle.script_server.specs.Meaning.Exports.{AnswersExport}
 use Rattle.script_server.proofs.OneReply.{exports_are}
 use Rattle.script_server.proofs.meaning.own_replies.Goals as goal
 
 pub returns : goal.returns
-returns c = own_replies Exports exports_are
+returns c = own_replies AnswersExport exports_are

@@ -2,7 +2,7 @@ use Rattle.std.proofs.Common.{◌≡◌, ◌<◌, List, ℤ, pos, length, sym, �
 use Rattle.plane_predicate.specs.Space.{point_at, IsInReach}
 use Rattle.int_transform.specs.Maps.{determinant_of, map_of, LeavesRange, StaysInRange}
 use Rattle.shape_planes.specs.Placing.{moved}
-use Rattle.shape_planes.proofs.Transforms.{images_in_reach, image_past_reach, inside-placed, placed_faces, reach_placed, some_placed, IsPlaced}
+use Rattle.shape_planes.proofs.Transforms.{faces_after, some_points, images_in_reach, image_past_reach, inside-placed, placed_faces, reach_placed, some_placed, IsPlaced}
 use Rattle.text_place.specs.declared.fault.FaultKind.TheVariants.{TooLarge as TooLargeKind}
 use Rattle.shape_planes.specs.declared.stop.ShapeStop.TheVariants.{Kind}
 use Rattle.shape_planes.specs.Stops.{stop_of}
@@ -75,3 +75,8 @@ returns-clause-in_reach c =
     let f = map_of c.args.steps.now in
     let same : c.deref.result.now ≡ (moved f c.args.shape.now).points = c.deref.ensures.value ∙ c.in_ok-points.ensures.images ∙ ap (λ (ps : List (List ℤ)). (moved f (record { points = ps; faces = c.args.shape.now.faces })).points) c.points.ensures.points in
     images_in_reach f c.args.shape.now.points c.deref.result.now same c.if-not-are_in_reach.ensures.all
+
+pub returns-clause-solid : goal.returns-clause-solid
+returns-clause-solid c =
+    let regular = subst (λ (ps : List (List ℤ)). 0 < length ps → determinant_of (map_of c.args.steps.now) ≡ pos 0 → ⊥) c.points.ensures.points c.in_ok-points.ensures.regular in
+    faces_after (map_of c.args.steps.now) c.args.shape.now (regular (some_points c.args.shape.now c.points.ensures.shape)) c.points.ensures.shape.faces

@@ -1,4 +1,4 @@
-use Rattle.std.proofs.Common.{◌≡◌, ◌+◌, ◌-◌, ◌<◌, ◌≤◌, ℕ, List, [], ◌∷◌, length, map, drop, set, get_or, true, Some, None, Err, replicate, refl, sym, ap, subst, ◌∙◌, arith}
+use Rattle.std.proofs.Common.{◌≡◌, ◌+◌, ◌-◌, ◌<◌, ◌≤◌, ℕ, List, [], ◌∷◌, length, map, drop, set, get_or, true, Some, None, Ok, Err, sym, ap, subst, ◌∙◌, arith}
 use Rattle.std.specs.Prelude.{IsTrue, Option, Result, codes}
 use Rattle.std.specs.declared.vec.Vec.{Vec}
 use Rattle.std.specs.declared.alloc.Global.{Global}
@@ -17,22 +17,23 @@ use Rattle.scad_ast.specs.Terms.{terms_from, args_from, suffixes_from, links_fro
 use Rattle.scad_ast.specs.ExprView.{term_of, args_of, arg_of, suffix_of, suffixes_of, link_of}
 use Rattle.scad_ast.specs.StatementView.{param_of, params_of}
 use Rattle.scad_value.specs.View.{val_of, vals_in}
-use Rattle.scad_scope.specs.Names.{env_of, variable_in as numbered_variable_in}
-use Rattle.scad_scope.specs.Table.{rows_of}
-use Rattle.scad_func.specs.Functions.{function_of}
-use Rattle.scad_func.specs.Meaning.{Outcome, Gives, Faults, value_at, with_calls, one_call_fewer, turn, operand, each_value, each_suffix, each_link, called, then_with, answered, or_fault, or_zero}
-use Rattle.scad_func.specs.Slots.{each_slot, each_filled, filled, body_filled, entered_filled, all_values, suffixed, linked, argument_of, free_slot}
-use Rattle.scad_func.specs.Numerals.{args_have_small}
-use Rattle.scad_func.specs.View.{Tells, IsLonger, functions_held, modules_held, slots_in, slots_bounded, slot_of, indexed_val}
+use Rattle.scad_scope.specs.Arguments.{name_of}
+use Rattle.scad_scope.specs.Names.{env_of, find_in, variable_in as numbered_variable_in}
+use Rattle.scad_scope.specs.Table.{rows_of, chain_of}
+use Rattle.scad_scope.specs.TextView.{function_of}
+use Rattle.scad_func.specs.Meaning.{Outcome, Gives, Faults, value_at, with_calls, one_call_fewer, turn, Arguments, nothing_given, taker_of, each_argument, each_parameter, parameter_value, function_value, operand, each_value, each_suffix, each_link, called, answered, or_fault, or_zero}
+use Rattle.scad_func.specs.Steps.{all_values, suffixed, linked, argument_of}
+use Rattle.scad_func.specs.View.{Tells, IsLonger, IsGiven, text_of, slots_in, slot_of, indexed_val, arguments_of, arguments_bounded, names_in, taker_seen}
+use Rattle.scad_func.specs.declared.arguments.ArgumentValues.{ArgumentValues}
+use Rattle.scad_func.specs.declared.arguments.Destination.{Destination}
 use Rattle.scad_func.specs.Evaluations.{setting}
-use Rattle.scad_func.proofs.Growth.{grows_same, functions_stay}
-use Rattle.scad_func.proofs.Outcomes.{tells_along, evaluated_deeper, evaluated_too_deep, value_counted, fault_counted, values_end, terms_here, terms_end, terms_small, args_here, args_end, args_small, values_of_arg, suffixes_here, suffix_step, suffixes_small, links_here, links_small, step_more, step_fault, name_then, fault_at, link_wants}
+use Rattle.scad_func.proofs.Outcomes.{tells_along, evaluated_deeper, evaluated_too_deep, value_counted, fault_counted, values_end, terms_here, terms_end, args_here, args_end, values_of_arg, suffixes_here, suffix_step, links_here, step_more, step_fault, name_then, fault_at, link_wants}
 use Rattle.scad_func.proofs.Environments.{variable_same}
-use Rattle.scad_func.proofs.Steps.{deep_enough, small_enough, param_deep, params_here, params_end, slots_here, params_small, slots_parts, filled_end, fault_of_slots, few_after}
-use Rattle.scad_func.proofs.Forms.{name_form, count_form, postfix_form, chain_form, choice_form, link_form, member_form, args_form}
-use Rattle.scad_func.proofs.Again.{none_bounded}
-use Rattle.scad_func.proofs.Kept.{keeps_from, keeps_same, keeps_trans, call_found, moved, work_falls}
-use Rattle.scad_func.proofs.Holding.{longer_told, longer_bounded, longer_length, slot_held, slot_held_bounded, slot_held_length, if_err_at, if_ok_at}
+use Rattle.scad_func.proofs.Steps.{deep_enough, param_deep, params_here, params_end, slots_here, slots_parts, filled_end, fault_of_arguments, few_after}
+use Rattle.scad_func.proofs.Forms.{name_form, special_form, count_form, postfix_form, chain_form, choice_form, link_form, member_form, args_form}
+use Rattle.scad_func.proofs.Again.{nothing_bounded}
+use Rattle.scad_func.proofs.Kept.{keeps_same, keeps_trans, call_found, moved, work_falls}
+use Rattle.scad_func.proofs.Holding.{longer_told, longer_bounded, longer_length, argument_held, argument_held_bounded, argument_held_length, if_err_at, if_ok_at}
 use Rattle.scad_func.proofs.evaluation.Evaluation.+value.Goals as goal
 
 pub expression-returns-in_err-value-clause-value : goal.expression-returns-in_err-value-clause-value
@@ -40,24 +41,24 @@ expression-returns-in_err-value-clause-value t c =
     let p = err_from_is_err_and c.from_residual.result c.from_residual.ensures.1 in
     let here = setting c.args.self.now c.args.scope in
     rw (p.1, p.2) (fault_counted c.in_err-value.field-0.0 (512 - c.args.self.now.depth) _
-    c.deeper.new.self.turns c.args.self.now.turns here.calls here.env (term_of c.args.expr.now)
+    c.deeper.new.self.turns c.args.self.now.turns here.calls here.env here.chain (term_of c.args.expr.now)
     c.in_err-value.ensures.value)
 
 pub expression-returns-clause-value : goal.expression-returns-clause-value
 expression-returns-clause-value t c =
     let here = setting c.args.self.now c.args.scope in
     value_counted c.counted.result (512 - c.args.self.now.depth) c.counted.new.self.turns
-    c.args.self.now.turns c.deeper.new.self.turns here.calls here.env (term_of c.args.expr.now)
+    c.args.self.now.turns c.deeper.new.self.turns here.calls here.env here.chain (term_of c.args.expr.now)
     (val_of c.in_ok-value.value) c.place.result c.place.ensures c.in_ok-value.ensures.value
     c.counted.ensures.value
 
 pub deeper-returns-then-self-eq512-clause-value : goal.deeper-returns-then-self-eq512-clause-value
 deeper-returns-then-self-eq512-clause-value t c =
-    evaluated_too_deep _ _ _ _ _ c.if-self-eq512.true ∙ ap (λ p. Faults TooDeep p) (sym c.place.ensures)
+    evaluated_too_deep _ _ _ _ _ _ c.if-self-eq512.true ∙ ap (λ p. Faults TooDeep p) (sym c.place.ensures)
 
 pub deeper-returns-clause-value : goal.deeper-returns-clause-value
 deeper-returns-clause-value t c =
-    tells_along c.operand-value.result _ _ _ (evaluated_deeper _ _ _ _ _ (omega arith))
+    tells_along c.operand-value.result _ _ _ (evaluated_deeper _ _ _ _ _ _ (omega arith))
     c.operand-value.ensures.value
 
 pub operand-returns-in_ok-child_count-in-ChildCount-clause-value : goal.operand-returns-in_ok-child_count-in-ChildCount-clause-value
@@ -66,8 +67,7 @@ operand-returns-in_ok-child_count-in-ChildCount-clause-value t c =
     ap (λ x. operand (setting e c.args.scope) x e.turns)
     (ap term_of c.in-ChildCount.is ∙ count_form c.in-ChildCount.place)
     ∙ ap (λ o. Gives e.turns (or_zero o))
-    (variable_same (functions_held e.source.now) (modules_held e.source.now)
-    (env_of (rows_of e.scopes.now) c.args.scope) (codes "$children"))
+    (variable_same (text_of e.source.now) (env_of (rows_of e.scopes.now) c.args.scope) (codes "$children"))
     ∙ ap (Gives e.turns) (sym c.in_ok-child_count-in-ChildCount.ensures.value)
 
 pub operand-returns-in-Name-clause-value : goal.operand-returns-in-Name-clause-value
@@ -77,11 +77,20 @@ operand-returns-in-Name-clause-value t c =
     (ap (λ x. operand (setting e c.args.scope) x e.turns)
     (ap term_of c.in-Name.is ∙ name_form c.in-Name.place c.in-Name.name)
     ∙ ap (λ o. or_fault o UnknownName c.in-Name.place (λ x. Gives e.turns x))
-    (variable_same (functions_held e.source.now) (modules_held e.source.now)
-    (env_of (rows_of e.scopes.now) c.args.scope) c.in-Name.name ∙ ap
+    (variable_same (text_of e.source.now) (env_of (rows_of e.scopes.now) c.args.scope) c.in-Name.name ∙ ap
     (λ n. numbered_variable_in (env_of (rows_of e.scopes.now) c.args.scope) n)
     (sym c.items.ensures)))
     (c.variable_of.ensures.value e.turns)
+
+pub operand-returns-in-Special-clause-value : goal.operand-returns-in-Special-clause-value
+operand-returns-in-Special-clause-value t c =
+    let e = c.args.self.now in
+    tells_along c.special_of.result e.turns _ _
+    (ap (λ x. operand (setting e c.args.scope) x e.turns)
+    (ap term_of c.in-Special.is ∙ special_form c.in-Special.place c.in-Special.name)
+    ∙ ap (λ n. or_fault (find_in (chain_of e.scopes.now) n) UnknownName c.in-Special.place (λ x. Gives e.turns x))
+    (sym c.items-in-Special.ensures))
+    (c.special_of.ensures.value e.turns)
 
 pub operand-returns-in-Postfix-clause-value : goal.operand-returns-in-Postfix-clause-value
 operand-returns-in-Postfix-clause-value t c =
@@ -123,11 +132,9 @@ each_value-each-preserved t c =
           (value_at here true (term_of x) c.each.self.turns) (each_value here rest) inv.told
           (ap (λ t. each_value here t c.each.self.turns) next) c.expression-next.result c.in_ok-values.values
           c.expression-next.new.self.turns c.in_ok-values.ensures
-          (tells_along c.expression-next.result _ _ _ (moved (λ s. value_at s true (term_of x) c.each.self.turns) inv.kept
-          c.requires.scope) g.value);
+          (tells_along c.expression-next.result _ _ _ (moved (λ s. value_at s true (term_of x) c.each.self.turns) c.args.scope inv.kept) g.value);
       bounded = longer_bounded c.each.values.items c.expression-next.result c.in_ok-values.values
           c.in_ok-values.ensures inv.bounded g.bounded;
-      small = (terms_small _ _ _ next inv.small).1;
       kept = keeps_trans inv.kept g.kept;
     }
 
@@ -160,10 +167,9 @@ each_positional-each-preserved t c =
           c.expression-next.result c.in_ok-values.values c.expression-next.new.self.turns c.in_ok-values.ensures
           (tells_along c.expression-next.result _ _ _ (ap (λ e. value_at here true e c.each.self.turns)
           (sym c.argument_value.ensures.value) ∙ moved (λ s. value_at s true (term_of c.argument_value.result.now) c.each.self.turns)
-          inv.kept c.requires.scope) g.value);
+          c.args.scope inv.kept) g.value);
       bounded = longer_bounded c.each.values.items c.expression-next.result c.in_ok-values.values
           c.in_ok-values.ensures inv.bounded g.bounded;
-      small = (args_small _ (arg_of x) rest next inv.small).1;
       kept = keeps_trans inv.kept g.kept;
     }
 
@@ -182,8 +188,7 @@ postfix-returns-in_err-variable-clause-value t c =
     let e = c.args.self.now in
     let here = setting e c.args.scope in
     let missing = c.in_err-variable.ensures.missing in
-    let none = variable_same (functions_held e.source.now) (modules_held e.source.now)
-    (env_of (rows_of e.scopes.now) c.args.scope) c.in-Name.name ∙ ap
+    let none = variable_same (text_of e.source.now) (env_of (rows_of e.scopes.now) c.args.scope) c.in-Name.name ∙ ap
     (λ n. numbered_variable_in (env_of (rows_of e.scopes.now) c.args.scope) n) (sym c.items.ensures)
     ∙ missing.0 in
     rw (p.1, p.2) (fault_at c.in_err-variable.field-0.0 e.turns UnknownName c.in-Name.place _
@@ -195,8 +200,7 @@ pub postfix-returns-in-Name-clause-value : goal.postfix-returns-in-Name-clause-v
 postfix-returns-in-Name-clause-value t c =
     let e = c.args.self.now in
     let here = setting e c.args.scope in
-    let found = variable_same (functions_held e.source.now) (modules_held e.source.now)
-    (env_of (rows_of e.scopes.now) c.args.scope) c.in-Name.name ∙ ap
+    let found = variable_same (text_of e.source.now) (env_of (rows_of e.scopes.now) c.args.scope) c.in-Name.name ∙ ap
     (λ n. numbered_variable_in (env_of (rows_of e.scopes.now) c.args.scope) n) (sym c.items.ensures)
     ∙ c.in_ok-variable.ensures.found in
     tells_along c.suffixes.result c.suffixes.new.self.turns _ _
@@ -224,7 +228,7 @@ suffixes-returns-in_err-so_far-2-clause-value t c =
     rw (p.1, p.2) (step_fault _ (λ turns y. each_suffix here y rest turns) _ step inv.told apart
     c.in_err-so_far-2.field-0.0 c.suffix-in-each.new.self.turns c.suffix-in-each.new.self.turns
     (tells_along (Err c.in_err-so_far-2.field-0.0) c.suffix-in-each.new.self.turns _ _
-    (moved (λ s. suffixed s v (suffix_of x) c.each.self.turns) inv.kept c.requires.scope)
+    (moved (λ s. suffixed s v (suffix_of x) c.each.self.turns) c.args.scope inv.kept)
     c.in_err-so_far-2.ensures.value))
 
 pub suffixes-each-preserved : goal.suffixes-each-preserved
@@ -247,11 +251,31 @@ suffixes-each-preserved t c =
     record {
       told = step_more _ (λ turns y. each_suffix here y rest turns) _ step inv.told apart
           c.suffix-in-each.new.self.turns (val_of c.in_ok-so_far-2.so_far)
-          (moved (λ s. suffixed s v (suffix_of x) c.each.self.turns) inv.kept c.requires.scope ∙ g.value);
+          (moved (λ s. suffixed s v (suffix_of x) c.each.self.turns) c.args.scope inv.kept ∙ g.value);
       bounded = g.bounded;
-      small = (suffixes_small _ (suffix_of x) rest next inv.small).1;
       kept = keeps_trans inv.kept g.kept;
     }
+
+pub links-returns-in_err-so_far-2-clause-value : goal.links-returns-in_err-so_far-2-clause-value
+links-returns-in_err-so_far-2-clause-value t c =
+    let p = err_from_is_err_and c.from_residual-in_err-so_far-2.result c.from_residual-in_err-so_far-2.ensures.1 in
+    let xs = c.deref-part-items.result.now in
+    let i = c.each.part-index in
+    let h : i < length xs = omega (arith, c.each-test.true) in
+    let x = c.part-item.result in
+    let is : x ≡ get_or xs i x = c.part-item.is in
+    let next = links_here xs i x h is in
+    let inv = c.each.invariant in
+    let v = val_of c.each.so_far in
+    let here = setting c.args.self.now c.args.scope in
+    let rest = links_from (map link_of (drop (i + 1) xs)) in
+    let step = linked here v (link_of x) c.each.self.turns in
+    rw (p.1, p.2) (step_fault _ (λ turns y. each_link here y rest turns) _ step inv.told
+    (ap (λ ls. each_link here v ls c.each.self.turns) next)
+    c.in_err-so_far-2.field-0.0 c.link-in-each.new.self.turns c.link-in-each.new.self.turns
+    (tells_along (Err c.in_err-so_far-2.field-0.0) c.link-in-each.new.self.turns _ _
+    (moved (λ s. linked s v (link_of x) c.each.self.turns) c.args.scope inv.kept)
+    c.in_err-so_far-2.ensures.value))
 
 pub links-each-preserved : goal.links-each-preserved
 links-each-preserved t c =
@@ -270,9 +294,8 @@ links-each-preserved t c =
       told = step_more _ (λ turns y. each_link here y rest turns) _ (linked here v (link_of x) c.each.self.turns)
           inv.told (ap (λ ls. each_link here v ls c.each.self.turns) next)
           c.link-in-each.new.self.turns (val_of c.in_ok-so_far-2.so_far)
-          (moved (λ s. linked s v (link_of x) c.each.self.turns) inv.kept c.requires.scope ∙ g.value);
+          (moved (λ s. linked s v (link_of x) c.each.self.turns) c.args.scope inv.kept ∙ g.value);
       bounded = g.bounded;
-      small = (links_small _ (link_of x) rest next inv.small).1;
       kept = keeps_trans inv.kept g.kept;
     }
 
@@ -288,50 +311,31 @@ link-returns-in-Name-clause-value t c =
     ∙ name_then here (term_of part.right) c.in-Name.at c.in-Name.name e.turns _
     (λ turns w. answered (binary_of part.op (val_of c.args.left) w) part.place turns)
     (ap term_of c.in-Name.is ∙ name_form c.in-Name.at c.in-Name.name)
-    (variable_same (functions_held e.source.now) (modules_held e.source.now)
-    (env_of (rows_of e.scopes.now) c.args.scope) c.in-Name.name))
+    (variable_same (text_of e.source.now) (env_of (rows_of e.scopes.now) c.args.scope) c.in-Name.name))
     (c.operate_with_variable.ensures.value e.turns)
 
-pub call-returns-in_err-slots-in-Some-clause-value : goal.call-returns-in_err-slots-in-Some-clause-value
-call-returns-in_err-slots-in-Some-clause-value t c =
+pub call-returns-in_err-given-in-Some-clause-value : goal.call-returns-in_err-given-in-Some-clause-value
+call-returns-in_err-given-in-Some-clause-value t c =
     let p = err_from_is_err_and c.from_residual.result c.from_residual.ensures.1 in
     let e = c.args.self.now in
-    rw (p.1, p.2) (tells_along (Err c.in_err-slots-in-Some.field-0.0) c.each_argument.new.self.turns _ _
+    rw (p.1, p.2) (tells_along (Err c.in_err-given-in-Some.field-0.0) c.each_argument.new.self.turns _ _
     (call_found e c.args.scope c.in-Some.home (function_of c.in-Some.function) c.args.place c.args.name.now
-    (args_from (args_of c.args.args.now)) e.turns (c.in-Some.ensures.found (modules_held e.source.now)))
-    (fault_of_slots c.in_err-slots-in-Some.field-0.0 c.each_argument.new.self.turns
-    c.each_argument.new.self.turns _ _ c.in_err-slots-in-Some.ensures.value))
+    (args_from (args_of c.args.args.now)) e.turns c.in-Some.ensures.found)
+    (fault_of_arguments c.in_err-given-in-Some.field-0.0 c.each_argument.new.self.turns
+    c.each_argument.new.self.turns _ _ c.in_err-given-in-Some.ensures.value))
 
-pub call-enter-requires : goal.call-enter-requires
-call-enter-requires t c =
-    let g = c.in_ok-slots-in-Some.ensures in (
+pub call-function_call-requires : goal.call-function_call-requires
+call-function_call-requires t c =
+    let g = c.in_ok-given-in-Some.ensures in (
       omega (arith, g.kept.work, c.decreases),
       (
-        omega (arith, c.in-Some.ensures.there, g.kept.scopes.longer),
+        omega (arith, c.in-Some.ensures.there, g.kept.count),
         (
-          small_enough _ _ c.in-Some.ensures.among c.args.self.now.table,
-          (rw (g.kept.source) (deep_enough _ _ c.in-Some.ensures.among), g.bounded),
+          rw (g.kept.source) (deep_enough _ _ c.in-Some.ensures.among),
+          (g.bounded.0 ∙ length-map (params_of c.in-Some.function.params.now) name_of, g.bounded.1),
         ),
       ),
     )
-
-pub call-returns-in_ok-slots-in-Some-clause-value : goal.call-returns-in_ok-slots-in-Some-clause-value
-call-returns-in_ok-slots-in-Some-clause-value t c =
-    let g = c.in_ok-slots-in-Some.ensures in
-    let e = c.args.self.now in
-    let f = function_of c.in-Some.function in
-    let n = c.each_argument.new.self.turns in
-    tells_along c.enter.result c.enter.new.self.turns _ _
-    (call_found e c.args.scope c.in-Some.home f c.args.place c.args.name.now
-    (args_from (args_of c.args.args.now)) e.turns (c.in-Some.ensures.found (modules_held e.source.now))
-    ∙ ap (λ o. then_with o (λ n slots. entered_filled (setting e c.in-Some.home) c.args.place f slots n)) g.value
-    ∙ moved (λ s. entered_filled s c.args.place f (slots_in c.in_ok-slots-in-Some.slots.items) n) g.kept
-    c.in-Some.ensures.there) c.enter.ensures.value
-
-pub call-returns-in_ok-slots-in-Some-clause-kept : goal.call-returns-in_ok-slots-in-Some-clause-kept
-call-returns-in_ok-slots-in-Some-clause-kept t c =
-    keeps_trans (keeps_from c.args.self.now _ refl refl (grows_same _) refl refl)
-    (keeps_trans c.in_ok-slots-in-Some.ensures.kept c.enter.ensures.kept)
 
 pub call-returns-in_err-function-in-None-clause-value : goal.call-returns-in_err-function-in-None-clause-value
 call-returns-in_err-function-in-None-clause-value t c =
@@ -341,29 +345,23 @@ call-returns-in_err-function-in-None-clause-value t c =
     let here = setting e c.args.scope in
     rw (p.1, p.2) (tells_along (Err c.in_err-function-in-None.field-0.0) e.turns _ _
     (ap (λ o. called here c.args.place c.args.name.now (args_from (args_of c.args.args.now)) e.turns o)
-    (c.in-None.ensures.found (modules_held e.source.now)))
+    c.in-None.ensures.found)
     (c.in_err-function-in-None.ensures.refused here e.turns e.turns))
 
 pub each_argument-each-init : goal.each_argument-each-init
 each_argument-each-init t c =
-    let ps = c.args.params.now.items in
-    let n : c.len.result ≡ length (params_of c.args.params.now) = omega
-    (arith, c.len.ensures, ps.ok.0, length-map ps.items param_of) in
     let form = ap args_from (args_form c.args.args.now) in
-    let none = c.in_ok-slots.ensures ∙ ap (λ n. replicate n None) n in
+    let names = names_in c.args.names in
+    let none = c.in_ok-given.ensures ∙ ap nothing_given c.count_of.ensures in
     let here = setting c.args.self.now c.args.scope in
     record {
-      told = ap (λ s. each_slot here (params_of c.args.params.now) 0 (args_from (args_of c.args.args.now)) s
+      told = ap (λ given. each_argument here names 0 (args_from (args_of c.args.args.now)) given
           c.args.self.now.turns) (sym none)
-          ∙ ap (λ l. each_slot here (params_of c.args.params.now) 0 l
-          (slots_in c.in_ok-slots.slots.items) c.args.self.now.turns) form;
-      count = sym (length-map c.in_ok-slots.slots.items slot_of) ∙ ap length none ∙ length-replicate
-          (length (params_of c.args.params.now)) None
-          ∙ length-map ps.items param_of;
+          ∙ ap (λ l. each_argument here names 0 l (arguments_of c.in_ok-given.given) c.args.self.now.turns) form;
+      count = sym (length-map c.in_ok-given.given.slots.items slot_of) ∙ ap (λ (given : Arguments). length given.slots) none
+          ∙ length-replicate (length names) None;
       few = omega arith;
-      filled = subst (λ l. IsTrue (slots_bounded l)) (sym none)
-          (none_bounded (length (params_of c.args.params.now)));
-      small = subst (λ l. IsTrue (args_have_small l)) form c.requires.numerals;
+      filled = subst (λ given. IsTrue (arguments_bounded given)) (sym none) (nothing_bounded (length names));
       kept = keeps_same _;
     }
 
@@ -381,31 +379,26 @@ each_argument-each-preserved t c =
     let a = arg_of x in
     let rest = args_from (map arg_of (drop (i + 1) xs)) in
     let here = setting c.args.self.now c.args.scope in
-    let ps = params_of c.args.params.now in
-    let unfilled = c.in_ok-open.open in
-    let k = c.in_ok-open.param in
+    let names = names_in c.args.names in
+    let d = c.in_ok-open.destination in
     let w = c.in_ok-open.ensures.ok in
-    let same : unfilled.items ≡ c.each.slots.items = ap (λ (v : Vec (Option Value) Global). v.items) w.0 in
-    let free = ap (λ (l : List Param). free_slot (map param_of l) (slots_in unfilled.items) c.each.positional a)
-    (sym c.deref.ensures.value)
-    ∙ ap (λ (l : List (Option Value)). free_slot (map param_of c.deref.result.now) (slots_in l)
-    c.each.positional a) (same ∙ sym c.deref-in-each.ensures.value)
-    ∙ if_ok_at (λ (k : ℕ). free_slot (map param_of c.deref.result.now) (slots_in c.deref-in-each.result.now)
-    c.each.positional a ≡ Some k) c.slot_for-free.result k w.1 c.slot_for-free.ensures.free in
+    let free = if_ok_at (λ (d : Destination). taker_of names c.each.positional (arguments_of c.each.given) a ≡ Some (taker_seen d))
+    c.destination_for-free.result d w.1 c.destination_for-free.ensures.free in
     let step = tells_along c.expression-next.result _ _ _ (ap (λ e. value_at here true e c.each.self.turns)
     (sym c.argument_value.ensures.value) ∙ moved (λ s. value_at s true (term_of c.argument_value.result.now) c.each.self.turns)
-    inv.kept c.requires.scope) g.value in
+    c.args.scope inv.kept) g.value in
+    let given = subst (λ (v : ArgumentValues). IsGiven (arguments_of v) (taker_seen d) c.expression-next.result (Ok c.in_ok-given-2.given)) w.0
+    c.in_ok-given-2.ensures in
     record {
-      told = slot_held here ps c.each.positional _ (args_from (map arg_of (drop i xs))) unfilled.items c.each.self.turns
-          (inv.told ∙ ap (λ (l : List (Option Value)). each_slot here ps c.each.positional
-          (args_from (map arg_of (drop i xs))) (slots_in l) c.each.self.turns) (sym same))
-          a rest k c.expression-next.new.self.turns c.after-positional.result c.expression-next.result
-          c.in_ok-slots-2.slots next free step (c.in_ok-slots-2.ensures.ok, c.in_ok-slots-2.ensures.both) c.after-positional.ensures;
-      count = slot_held_length unfilled.items k c.expression-next.result c.in_ok-slots-2.slots (c.in_ok-slots-2.ensures.ok, c.in_ok-slots-2.ensures.both) ∙ ap length same ∙ inv.count;
+      told = argument_held here names c.each.positional _ (args_from (map arg_of (drop i xs))) (arguments_of c.each.given) c.each.self.turns
+          inv.told a rest (taker_seen d) c.expression-next.new.self.turns c.after-positional.result c.expression-next.result
+          c.in_ok-given-2.given next free step given c.after-positional.ensures;
+      count = sym (length-map c.in_ok-given-2.given.slots.items slot_of)
+          ∙ argument_held_length (arguments_of c.each.given) (taker_seen d) c.expression-next.result c.in_ok-given-2.given given
+          ∙ length-map c.each.given.slots.items slot_of ∙ inv.count;
       few = omega (arith, c.after-positional.ensures, few_after c.each.positional a, inv.few);
-      filled = slot_held_bounded unfilled.items k c.expression-next.result c.in_ok-slots-2.slots (c.in_ok-slots-2.ensures.ok, c.in_ok-slots-2.ensures.both)
-          (subst (λ (l : List (Option Value)). IsTrue (slots_bounded (slots_in l))) (sym same) inv.filled) g.bounded;
-      small = (args_small _ a rest next inv.small).1;
+      filled = argument_held_bounded (arguments_of c.each.given) (taker_seen d) c.expression-next.result c.in_ok-given-2.given given
+          inv.filled g.bounded;
       kept = keeps_trans inv.kept g.kept;
     }
 
@@ -424,11 +417,8 @@ each_parameter-parameter-next-requires t c =
     (λ o. slot_of o ∷ slots_in (drop (i + 1) still)) (sym c.replace-given.ensures.value) in (
       omega (arith, param_deep xs i x h is, inv.kept.work, c.decreases),
       (
-        omega (arith, c.requires.scope, inv.kept.scopes.longer),
-        (
-          (params_small _ _ _ (params_here xs i x h is) inv.small).0,
-          (slots_parts _ _ _ slot inv.filled).0,
-        ),
+        omega (arith, c.requires.scope, inv.kept.count),
+        (slots_parts _ _ _ slot inv.filled).0,
       ),
     )
 
@@ -462,17 +452,16 @@ each_parameter-each-preserved t c =
     let ps = map param_of (drop (i + 1) xs) in
     record {
       told = longer_told _ c.each.values.items
-          (each_filled here (map param_of (drop i xs)) (slots_in (drop i still)) c.each.self.turns)
-          (filled here (param_of x) s c.each.self.turns) (each_filled here ps (slots_in (drop (i + 1) unfilled.items))) inv.told
-          (ap (λ l. each_filled here l (slots_in (drop i still)) c.each.self.turns) next
-          ∙ ap (λ l. each_filled here (param_of x ∷ ps) l c.each.self.turns) slots) r values
+          (each_parameter here (map param_of (drop i xs)) (slots_in (drop i still)) c.each.self.turns)
+          (parameter_value here (param_of x) s c.each.self.turns) (each_parameter here ps (slots_in (drop (i + 1) unfilled.items))) inv.told
+          (ap (λ l. each_parameter here l (slots_in (drop i still)) c.each.self.turns) next
+          ∙ ap (λ l. each_parameter here (param_of x ∷ ps) l c.each.self.turns) slots) r values
           c.parameter-next.new.self.turns longer
-          (tells_along r _ _ _ (moved (λ h. filled h (param_of x) s c.each.self.turns) inv.kept c.requires.scope) g.value);
+          (tells_along r _ _ _ (moved (λ h. parameter_value h (param_of x) s c.each.self.turns) c.args.scope inv.kept) g.value);
       count = ap length same ∙ length-set still i dest ∙ inv.count;
       got = longer_length c.each.values.items r values longer ∙ ap (λ n. n + 1) inv.got;
       bounded = longer_bounded c.each.values.items r values longer inv.bounded g.bounded;
       filled = (slots_parts _ _ _ slots inv.filled).1;
-      small = (params_small _ _ _ next inv.small).1;
       kept = keeps_trans inv.kept g.kept;
     }
 
@@ -485,31 +474,27 @@ each_parameter-returns-clause-value t c =
     (map param_of (drop i xs)) (slots_in (drop i c.each.open.items)) c.each.self.turns
     c.each.invariant.told (params_end xs i le)
 
-pub enter-returns-in_err-slots-clause-value : goal.enter-returns-in_err-slots-clause-value
-enter-returns-in_err-slots-clause-value t c =
+pub function_call-returns-in_err-given-clause-value : goal.function_call-returns-in_err-given-clause-value
+function_call-returns-in_err-given-clause-value t c =
     let p = err_from_is_err_and c.from_residual.result c.from_residual.ensures.1 in
     let e = c.args.self.now in
     let here = setting e c.args.scope in
     rw (p.1, p.2) (if_err_at (λ (stop : Stop). (go : ℕ → ℕ → Outcome Val) (n : ℕ) → Tells (Err stop) n
     (one_call_fewer (64 - e.calls) c.args.place (λ calls. turn c.args.place e.turns (go calls))))
-    c.may_call.result c.in_err-slots.field-0.0 c.in_err-slots.ensures.err c.may_call.ensures.refused
-    (λ calls turns. body_filled (with_calls here calls) (function_of c.args.function) (slots_in c.args.slots.items) turns)
+    c.may_call.result c.in_err-given.field-0.0 c.in_err-given.ensures.err c.may_call.ensures.refused
+    (λ calls turns. function_value (with_calls here calls) (function_of c.args.function) (arguments_of c.args.given) turns)
     e.turns)
 
-pub enter-body-value-requires : goal.enter-body-value-requires
-enter-body-value-requires t c =
+pub function_call-function_value-value-requires : goal.function_call-function_value-value-requires
+function_call-function_value-value-requires t c =
     let e = c.args.self.now in
-    let w = c.in_ok-slots.ensures.ok in (
+    let w = c.in_ok-given.ensures.ok in (
       omega (arith, work_falls e.source.now e.calls (omega arith), c.requires.within, c.decreases),
       (
         c.requires.scope,
         (
-          c.requires.function,
-          (
-            ap (λ (v : Vec (Option Value) Global). length v.items) w.0 ∙ c.requires.count,
-            subst (λ (v : Vec (Option Value) Global). IsTrue (slots_bounded (slots_in v.items))) (sym w.0)
-                c.requires.filled,
-          ),
+          ap (λ (given : ArgumentValues). length given.slots.items) w.0 ∙ c.requires.count,
+          subst (λ (given : ArgumentValues). IsTrue (arguments_bounded (arguments_of given))) (sym w.0) c.requires.bounded,
         ),
       ),
     )
@@ -522,18 +507,3 @@ suffix-returns-in-Member-clause-value t c =
     (ap (λ (x : Suffix). suffixed (setting e c.args.scope) v (suffix_of x) e.turns) c.in-Member.is
     ∙ ap (λ x. suffixed (setting e c.args.scope) v x e.turns) (member_form c.in-Member.place c.in-Member.name c.in-Member.name_place))
     (c.member_item.ensures.value e.turns)
-
-pub body-invariant_of-self-clause-numbered : goal.body-invariant_of-self-clause-numbered
-body-invariant_of-self-clause-numbered t c =
-    functions_stay _ _ _ c.bind_all.ensures.scopes c.each_parameter.new.self.numbered
-
-pub body-returns-in_err-inner-clause-kept : goal.body-returns-in_err-inner-clause-kept
-body-returns-in_err-inner-clause-kept t c =
-    keeps_trans c.in_ok-values.ensures.kept
-    (keeps_from c.each_parameter.new.self _ refl refl c.in_err-inner.ensures.scopes refl refl)
-
-pub body-returns-clause-kept : goal.body-returns-clause-kept
-body-returns-clause-kept t c =
-    keeps_trans c.in_ok-values.ensures.kept
-    (keeps_trans (keeps_from c.each_parameter.new.self _ refl refl c.in_ok-inner.ensures.scopes refl refl)
-    c.expression.ensures.kept)

@@ -1,5 +1,5 @@
 -- Work that is left counts for more than any body is deep; in one call the trees get smaller.
-use Rattle.std.proofs.Common.{◌≡◌, ◌+◌, ◌*◌, ◌≤◌, max, drop, map, length, None, replicate}
+use Rattle.std.proofs.Common.{◌≡◌, ◌+◌, ◌*◌, ◌≤◌, max, drop, map, length}
 use Rattle.std.specs.Prelude.{IsTrue}
 use Rattle.scad_ast.specs.declared.expression.Expr.{size-Expr}
 use Rattle.scad_ast.specs.declared.expression.Exprs.{size-Exprs}
@@ -16,10 +16,9 @@ use Rattle.scad_value.specs.View.{val_of, vals_in}
 use Rattle.scad_scope.specs.Names.{env_of}
 use Rattle.scad_scope.specs.Table.{rows_of}
 use Rattle.scad_builtin.specs.Builtins.{are_bounded}
-use Rattle.scad_func.specs.Meaning.{each_value, each_suffix, each_link}
-use Rattle.scad_func.specs.Slots.{each_slot, each_filled, all_values}
-use Rattle.scad_func.specs.Numerals.{terms_have_small, args_have_small, suffixes_have_small, links_have_small, params_have_small}
-use Rattle.scad_func.specs.View.{indexed_val, slots_in, slots_bounded, function_size, param_size, params_size}
+use Rattle.scad_func.specs.Meaning.{each_value, each_argument, each_parameter, nothing_given, each_suffix, each_link}
+use Rattle.scad_func.specs.Steps.{all_values}
+use Rattle.scad_func.specs.View.{indexed_val, slots_in, slots_bounded, arguments_of, arguments_bounded, names_in, function_size, param_size, params_size}
 use Rattle.scad_func.specs.Evaluations.{Keeps, work_left, setting}
 use Rattle.scad_func.proofs.Calls.{in_front}
 use Rattle.scad_func.proofs.evaluation.Evaluation.+value.Given as goal
@@ -74,11 +73,17 @@ decreases-call l = work_left l.self.now.source.now l.self.now.calls + (4 * size-
 abbrev pub decreases-each_argument : goal.decreases-each_argument
 decreases-each_argument l = work_left l.self.now.source.now l.self.now.calls + (4 * size-Args l.args.now + 2)
 
-abbrev pub decreases-enter : goal.decreases-enter
-decreases-enter l = work_left l.self.now.source.now l.self.now.calls
+abbrev pub decreases-function_call : goal.decreases-function_call
+decreases-function_call l = work_left l.self.now.source.now l.self.now.calls
 
-abbrev pub decreases-body : goal.decreases-body
-decreases-body l = work_left l.self.now.source.now l.self.now.calls + (4 * function_size l.function + 5)
+abbrev pub decreases-function_value : goal.decreases-function_value
+decreases-function_value l = work_left l.self.now.source.now l.self.now.calls + (4 * function_size l.function + 7)
+
+abbrev pub decreases-with_defaults : goal.decreases-with_defaults
+decreases-with_defaults l = work_left l.self.now.source.now l.self.now.calls + (4 * function_size l.function + 6)
+
+abbrev pub decreases-in_new_scope : goal.decreases-in_new_scope
+decreases-in_new_scope l = work_left l.self.now.source.now l.self.now.calls + (4 * function_size l.function + 5)
 
 abbrev pub decreases-each_parameter : goal.decreases-each_parameter
 decreases-each_parameter l = work_left l.self.now.source.now l.self.now.calls + (4 * params_size l.params.now.items.items + 4)
@@ -97,7 +102,6 @@ invariant-each_value-each l =
           ≡ in_front (vals_in l.values.items) (each_value here
           (terms_from (map term_of (drop l.expr-index l.exprs.items.items))) l.self.turns);
       bounded : IsTrue (are_bounded (vals_in l.values.items));
-      small : IsTrue (terms_have_small (terms_from (map term_of (drop l.expr-index l.exprs.items.items))));
       kept : Keeps l.fn.self l.self;
     }
 
@@ -109,7 +113,6 @@ invariant-each_positional-each l =
           ≡ in_front (vals_in l.values.items) (each_value here
           (all_values (args_from (map arg_of (drop l.arg-index l.args.items.items)))) l.self.turns);
       bounded : IsTrue (are_bounded (vals_in l.values.items));
-      small : IsTrue (args_have_small (args_from (map arg_of (drop l.arg-index l.args.items.items))));
       kept : Keeps l.fn.self l.self;
     }
 
@@ -122,7 +125,6 @@ invariant-suffixes-each l =
           ≡ each_suffix here (val_of l.so_far)
           (suffixes_from (map suffix_of (drop l.part-index l.rest.more.items))) l.self.turns;
       bounded : IsTrue (is_bounded (val_of l.so_far));
-      small : IsTrue (suffixes_have_small (suffixes_from (map suffix_of (drop l.part-index l.rest.more.items))));
       kept : Keeps l.fn.self l.self;
     }
 
@@ -134,7 +136,6 @@ invariant-links-each l =
           ≡ each_link here (val_of l.so_far)
           (links_from (map link_of (drop l.part-index l.part-items))) l.self.turns;
       bounded : IsTrue (is_bounded (val_of l.so_far));
-      small : IsTrue (links_have_small (links_from (map link_of (drop l.part-index l.part-items))));
       kept : Keeps l.fn.self l.self;
     }
 
@@ -142,14 +143,13 @@ abbrev pub invariant-each_argument-each : goal.invariant-each_argument-each
 invariant-each_argument-each l =
     let here = setting l.fn.self l.scope in
     record {
-      told : each_slot here (params_of l.params) 0 (args_from (args_of l.args))
-          (replicate (length (params_of l.params)) None) l.fn.self.turns
-          ≡ each_slot here (params_of l.params) l.positional
-          (args_from (map arg_of (drop l.arg-index l.args.items.items))) (slots_in l.slots.items) l.self.turns;
-      count : length l.slots.items ≡ length l.params.items.items;
+      told : each_argument here (names_in l.names) 0 (args_from (args_of l.args))
+          (nothing_given (length (names_in l.names))) l.fn.self.turns
+          ≡ each_argument here (names_in l.names) l.positional
+          (args_from (map arg_of (drop l.arg-index l.args.items.items))) (arguments_of l.given) l.self.turns;
+      count : length l.given.slots.items ≡ length (names_in l.names);
       few : l.positional ≤ l.arg-index;
-      filled : IsTrue (slots_bounded (slots_in l.slots.items));
-      small : IsTrue (args_have_small (args_from (map arg_of (drop l.arg-index l.args.items.items))));
+      filled : IsTrue (arguments_bounded (arguments_of l.given));
       kept : Keeps l.fn.self l.self;
     }
 
@@ -157,13 +157,12 @@ abbrev pub invariant-each_parameter-each : goal.invariant-each_parameter-each
 invariant-each_parameter-each l =
     let here = setting l.fn.self l.scope in
     record {
-      told : each_filled here (params_of l.params) (slots_in l.fn.slots.items) l.fn.self.turns
-          ≡ in_front (vals_in l.values.items) (each_filled here
+      told : each_parameter here (params_of l.params) (slots_in l.fn.slots.items) l.fn.self.turns
+          ≡ in_front (vals_in l.values.items) (each_parameter here
           (map param_of (drop l.i l.params.items.items)) (slots_in (drop l.i l.open.items)) l.self.turns);
       count : length l.open.items ≡ length l.params.items.items;
       got : length l.values.items ≡ l.i;
       bounded : IsTrue (are_bounded (vals_in l.values.items));
       filled : IsTrue (slots_bounded (slots_in (drop l.i l.open.items)));
-      small : IsTrue (params_have_small (map param_of (drop l.i l.params.items.items)));
       kept : Keeps l.fn.self l.self;
     }

@@ -12,6 +12,7 @@ invariant_of-self c =
     let ss = c.args.self.now.scopes.items in
     let h : c.args.scope < length ss = omega (arith, c.requires.scope, rows_length ss) in
     record {
+      chain_bounded = c.args.self.now.chain_bounded;
       bounded = binding_bounded ss c.args.scope c.bind.new.self c.index_mut.result.now c.of-name.result
           (val_of c.args.value) h c.index_mut.ensures.value c.bind.result
           c.bind.ensures.bound c.bind.ensures.unchanged c.requires.bounded c.args.self.now.bounded;

@@ -1,6 +1,6 @@
 use Rattle.std.proofs.Common.{refl, subst, ◌≡◌, [], ◌∷◌, ◌++◌}
 use Rattle.std.specs.Prelude.{OnOk}
-use Rattle.scad_scope.specs.Names.{empty_row}
+use Rattle.scad_scope.specs.Names.{empty_row, no_numbered_call}
 use Rattle.scad_scope.specs.Numbered.{numbers_below}
 use Rattle.scad_scope.specs.Table.{rows_of}
 use Rattle.scad_scope.proofs.Envs.{entering_told, entering_kept}
@@ -14,7 +14,7 @@ added c = subst (λ r. OnOk c.add.result (rows_of c.add.new.self ≡ rows_of c.a
 
 pub returns-clause-inside : goal.returns-clause-inside
 returns-clause-inside c = entering_told (rows_of c.args.self.now) (rows_of c.add.new.self) c.args.outer
-    (empty_row c.args.outer) c.add.result refl c.add.ensures.number (added c)
+    (empty_row c.args.outer) c.add.result no_numbered_call refl refl c.add.ensures.number (added c)
 
 pub returns-clause-kept : goal.returns-clause-kept
 returns-clause-kept c = entering_kept (rows_of c.args.self.now) (rows_of c.add.new.self) c.args.outer

@@ -1,0 +1,5 @@
+//! Tests of solids of trees by a memo that threads share.
+#![tactic(auto)]
+
+#[cfg(test)]
+mod joins;

@@ -1,0 +1,49 @@
+ghost use Rattle.std.specs.Prelude.{◌≡◌, ◌<◌, length, slice_get, option_map, Some};
+ghost use Rattle.std.specs.Arc.{arc_value};
+
+use crate::slots::{Gone, Slot};
+use std::marker::Model;
+use std::sync::Arc;
+
+/// Entries that fills dropped. Their keys and values are freed with it.
+#[derive(Drop)]
+pub struct Dropped<K, V> {
+    slots: Gone<K, V>,
+}
+
+impl<K, V> Model for Dropped<K, V> {
+    ghost use Rattle.std.specs.Prelude.{List};
+    ghost use Rattle.memo_core.specs.Memo.{Entry};
+
+    ghost Value = { List (Entry K V) };
+
+    ghost use Rattle.memo_core.specs.Fields.{entries_of};
+
+    ghost view = { λ d. entries_of d.slots.items };
+}
+
+impl<K, V> Dropped<K, V> {
+    ghost use Rattle.memo_core.specs.Fields.{entries_of};
+
+    /// What is gone, to be freed.
+    pub(crate) fn new(slots: Gone<K, V>) -> Dropped<K, V>
+        ensures { result ≡ entries_of slots.items }
+    {
+        Dropped { slots }
+    }
+
+    /// How many there are. Takes no memory.
+    pub fn len(&self) -> usize
+        ensures { result ≡ length self.now }
+    {
+        self.slots.len()
+    }
+
+    /// The key of one of them. Takes no memory.
+    pub fn key(&self, place: usize) -> &Arc<K>
+        requires { place < length self.now }
+        ensures { option_map (λ e. e.mark.key) (slice_get self.now place) ≡ Some (arc_value result.now) }
+    {
+        &self.slots[place].1.key
+    }
+}

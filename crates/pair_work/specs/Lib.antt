@@ -1,0 +1,2 @@
+-- Work on two lists, place by place.
+pub mod Pairs

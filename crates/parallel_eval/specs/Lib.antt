@@ -1,0 +1,2 @@
+-- Solids of trees by a memo that threads share.
+pub mod Joins

@@ -1,0 +1,100 @@
+-- The grammar of the words: `run`, and options in any order, each at most once, or `demo` and a number.
+use Rattle.std.specs.Prelude.{◌≡◌, ℕ, ◌*◌, ◌≤◌, true, false, List, [], ◌∷◌, ◌++◌, codes, ◌⊎◌, Option, Some, None}
+use Rattle.std.specs.Str.Parse.{digits_value}
+use Rattle.text_place.specs.Decimals.{IsShortNumeral}
+use Rattle.run_words.specs.declared.option.Key.{Key}
+use Rattle.run_words.specs.declared.option.Key.TheVariants.{Workers, Memo, Share}
+use Rattle.run_words.specs.declared.option.RunOption.{RunOption}
+use Rattle.run_words.specs.declared.option.RunOption.TheVariants.{Number, Half, Tally}
+use Rattle.run_words.specs.declared.given.Given.{Given}
+use Rattle.run_words.specs.declared.settings.Settings.{Settings}
+use Rattle.run_words.specs.declared.settings.Settings.TheVariants.{Run, Demo}
+
+abbrev pub equals : List ℕ
+equals = 61 ∷ []
+
+-- 1 to 7 digits that write this number; leading zeros are allowed
+abbrev pub IsNumeralOf : List ℕ → ℕ → Type 0
+IsNumeralOf digits n = IsShortNumeral digits × (n ≡ digits_value 10 digits)
+
+abbrev pub key_name : Key → List ℕ
+key_name Workers = codes "--workers"
+key_name Memo = codes "--memo"
+key_name Share = codes "--share"
+
+-- the word is this option without a number
+abbrev pub IsFlag : List ℕ → RunOption → Type 0
+IsFlag word Half = word ≡ codes "--half"
+IsFlag word Tally = word ≡ codes "--tally"
+IsFlag word (Number key n) = ⊥
+
+-- the words begin with an option and go on with the rest: the option is one word, `--NAME` or `--NAME=N`, or two, `--NAME N`
+abbrev pub IsNext : List (List ℕ) → RunOption → List (List ℕ) → Type 0
+IsNext words (Number key n) rest =
+    (digits : List ℕ) × IsNumeralOf digits n
+    × ((words ≡ (key_name key ++ equals ++ digits) ∷ rest) ⊎ (words ≡ key_name key ∷ digits ∷ rest))
+IsNext words option rest = (word : List ℕ) × IsFlag word option × (words ≡ word ∷ rest)
+
+-- the words are these options
+abbrev pub AreOptions : List (List ℕ) → List RunOption → Type 0
+AreOptions words [] = words ≡ []
+AreOptions words (option ∷ options) = (rest : List (List ℕ)) × IsNext words option rest × AreOptions rest options
+
+-- the option was not given yet
+abbrev pub IsFree : Given → RunOption → Type 0
+IsFree given (Number Workers n) = given.workers ≡ None
+IsFree given (Number Memo n) = given.memo ≡ None
+IsFree given (Number Share n) = given.share ≡ None
+IsFree given Half = given.half ≡ false
+IsFree given Tally = given.tally ≡ false
+
+-- with one option more
+abbrev pub with_option : Given → RunOption → Given
+with_option given (Number Workers n) = record given { workers = Some n }
+with_option given (Number Memo n) = record given { memo = Some n }
+with_option given (Number Share n) = record given { share = Some n }
+with_option given Half = record given { half = true }
+with_option given Tally = record given { tally = true }
+
+-- these options, each given at most once, make the one what was given into the other
+abbrev pub Adds : Given → List RunOption → Given → Type 0
+Adds given [] all = all ≡ given
+Adds given (option ∷ options) all = IsFree given option × Adds (with_option given option) options all
+
+abbrev pub no_options : Given
+no_options = record { workers = None; memo = None; share = None; half = false; tally = false }
+
+abbrev pub or_else : Option ℕ → ℕ → ℕ
+or_else None other = other
+or_else (Some n) other = n
+
+-- what was given, and the defaults of the rest
+abbrev pub chosen : Given → Settings
+chosen given = Run (or_else given.workers 4) (or_else given.memo 500000) (or_else given.share 0) given.half given.tally
+
+-- the numbers are in their ranges
+abbrev pub AreInRange : Settings → Type 0
+AreInRange (Run workers memo share half tally) =
+    (1 ≤ workers) × (workers ≤ 64) × (memo ≤ 2000000) × (share ≤ 125000) × (16 * share ≤ memo)
+AreInRange (Demo n) = (1 ≤ n) × (n ≤ 200)
+
+-- the words behind `run` choose these settings
+abbrev pub AreRunOptions : List (List ℕ) → Settings → Type 0
+AreRunOptions words settings =
+    (options : List RunOption) × (given : Given)
+    × AreOptions words options × Adds no_options options given × (settings ≡ chosen given)
+
+-- the words behind `demo` choose these settings
+abbrev pub AreDemoWords : List (List ℕ) → Settings → Type 0
+AreDemoWords words settings = (digits : List ℕ) × (n : ℕ) × (words ≡ digits ∷ []) × IsNumeralOf digits n × (settings ≡ Demo n)
+
+-- the words choose these settings
+abbrev pub Chooses : List (List ℕ) → Settings → Type 0
+Chooses [] settings = ⊥
+Chooses (first ∷ rest) settings =
+    AreInRange settings
+    × (((first ≡ codes "run") × AreRunOptions rest settings) ⊎ ((first ≡ codes "demo") × AreDemoWords rest settings))
+
+-- the words are outside the grammar
+abbrev pub AreOutside : List (List ℕ) → Type 0
+AreOutside words = (settings : Settings) → Chooses words settings → ⊥

@@ -1,0 +1,45 @@
+-- Joins of full trees.
+use Rattle.std.proofs.Common.{◌≡◌, ℕ, ◌+◌, ◌≤◌, arith, subst, ap, sym, ◌∙◌, Global}
+use Rattle.std.specs.declared.boxed.Box.{Box}
+use Rattle.csg_tree.specs.declared.op.Op.{Op}
+use Rattle.csg_tree.specs.declared.op.Op.TheVariants.{Union, Intersection, Difference}
+use Rattle.csg_tree.specs.Formulas.{Formula, nothing, leaf, joined}
+use Rattle.csg_tree.specs.Joins.{join_of}
+use Rattle.csg_tree.specs.ProperTrees.{subtrees}
+use Rattle.scad_design.specs.declared.design.Design.{Design as DesignInMemory}
+use Rattle.scad_design.specs.declared.design.Design.TheVariants.{Joined, rolls-Joined}
+use Rattle.scad_design.specs.declared.design.Design.TheOpen.{Joined as JoinedIn}
+use Rattle.scad_design.specs.declared.design.Design.TheFolds.{fold-roll-Design}
+use Rattle.scad_design.specs.Designs.{Design, joined as joined_design}
+use Rattle.scad_design.specs.View.{plain_of, plain_step}
+
+few_of : (op : Op) (l r : Formula) → subtrees (join_of op l r) ≤ 1 + subtrees l + subtrees r
+few_of Union nothing r = omega arith
+few_of Union (leaf ps) nothing = omega arith
+few_of Union (leaf ps) (leaf qs) = omega arith
+few_of Union (leaf ps) (joined p c d) = omega arith
+few_of Union (joined o a b) nothing = omega arith
+few_of Union (joined o a b) (leaf qs) = omega arith
+few_of Union (joined o a b) (joined p c d) = omega arith
+few_of Intersection nothing r = omega arith
+few_of Intersection (leaf ps) nothing = omega arith
+few_of Intersection (leaf ps) (leaf qs) = omega arith
+few_of Intersection (leaf ps) (joined p c d) = omega arith
+few_of Intersection (joined o a b) nothing = omega arith
+few_of Intersection (joined o a b) (leaf qs) = omega arith
+few_of Intersection (joined o a b) (joined p c d) = omega arith
+few_of Difference nothing r = omega arith
+few_of Difference (leaf ps) nothing = omega arith
+few_of Difference (leaf ps) (leaf qs) = omega arith
+few_of Difference (leaf ps) (joined p c d) = omega arith
+few_of Difference (joined o a b) nothing = omega arith
+few_of Difference (joined o a b) (leaf qs) = omega arith
+few_of Difference (joined o a b) (joined p c d) = omega arith
+
+-- a join has at most one subtree more than its two sides
+pub few_joined : (op : Op) (l r tree : Formula) (m n : ℕ) → tree ≡ join_of op l r → subtrees l ≤ m → subtrees r ≤ n → subtrees tree ≤ 1 + m + n
+few_joined op l r tree m n e hl hr = subst (λ (t : Formula). subtrees t ≤ 1 + m + n) (sym e) (omega (arith, few_of op l r, hl, hr))
+
+-- what a join in memory stands for
+pub joined_form : (op : Op) (left right : Box DesignInMemory Global) → plain_of (Joined op left right) ≡ joined_design op (plain_of left.value) (plain_of right.value)
+joined_form op left right = ap plain_of (sym (rolls-Joined op left right)) ∙ fold-roll-Design Design plain_step (JoinedIn op left right)

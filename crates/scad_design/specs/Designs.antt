@@ -1,0 +1,56 @@
+-- Designs: shapes with the steps that move them, joined, before they are placed.
+use Rattle.std.specs.Prelude.{ℕ, zero, suc, ◌/◌, List, [], ◌∷◌, ◌++◌, length, take, drop}
+use Rattle.text_place.specs.declared.fault.Place.{Place}
+use Rattle.csg_tree.specs.declared.op.Op.{Op}
+use Rattle.csg_tree.specs.declared.op.Op.TheVariants.{Union, Intersection, Difference}
+use Rattle.int_transform.specs.declared.affine.Affine.{Affine}
+use Rattle.shape_planes.specs.Shapes.{Mesh}
+
+-- a shape in grid steps, the steps that move it, the first done first, and the place of its module's name
+pub record Part : Type 0 where
+  pub mesh : Mesh
+  pub steps : List Affine
+  pub at : Place
+
+pub data Design : Type 0 where
+  empty : Design
+  a_part : (part : Part) → Design
+  joined : (op : Op) → (left right : Design) → Design
+
+-- a join without empty designs, as trees are joined: in a union the other side, in an intersection nothing, nothing minus
+-- anything is nothing, and a design minus nothing is the design
+abbrev pub join : Op → Design → Design → Design
+join Union empty right = right
+join Intersection empty right = empty
+join Difference empty right = empty
+join Union left empty = left
+join Intersection left empty = empty
+join Difference left empty = left
+join op left right = joined op left right
+
+-- designs joined by halves, where the halves are halved at most this often
+abbrev pub joined_within : ℕ → Op → List Design → Design
+joined_within zero op designs = empty
+joined_within (suc depth) op [] = empty
+joined_within (suc depth) op (design ∷ []) = design
+joined_within (suc depth) op (design ∷ next ∷ designs) =
+    let all = design ∷ next ∷ designs in
+    join op (joined_within depth op (take (length all / 2) all))
+    (joined_within depth op (drop (length all / 2) all))
+
+-- designs joined by halves: none is empty, one itself, and more the join of the first half of them, rounded down, and the
+-- rest
+abbrev pub balanced : Op → List Design → Design
+balanced op designs = joined_within (length designs) op designs
+
+-- children joined by an operation; a difference is the first without the others
+abbrev pub grouped : Op → List Design → Design
+grouped Difference [] = empty
+grouped Difference (first ∷ others) = join Difference first (balanced Union others)
+grouped op designs = balanced op designs
+
+-- steps at the end of those of each part
+abbrev pub moved_by : List Affine → Design → Design
+moved_by steps empty = empty
+moved_by steps (a_part part) = a_part (record { mesh = part.mesh; steps = part.steps ++ steps; at = part.at })
+moved_by steps (joined op left right) = joined op (moved_by steps left) (moved_by steps right)

@@ -1,0 +1,4 @@
+pub mod Designs
+pub mod View
+pub mod Placing
+pub mod Trees

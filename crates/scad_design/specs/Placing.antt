@@ -1,0 +1,84 @@
+-- Placing: the leaves of a design from left to right, as planes in world position.
+use Rattle.std.specs.Prelude.{◌≡◌, ◌<◌, ◌≤◌, List, [], ◌∷◌, ◌++◌, length, All, Bool, true, false, ◌||◌}
+use Rattle.std.specs.List.{list_any}
+use Rattle.text_place.specs.declared.fault.Place.{Place}
+use Rattle.text_place.specs.declared.fault.FaultKind.{FaultKind}
+use Rattle.text_place.specs.declared.fault.FaultKind.TheVariants.{TooLarge, OutOfRange, TooManyPlanes}
+use Rattle.plane_predicate.specs.Space.{Coefficients, point_at, opposite_of, is_same, IsInReach, IsPlane}
+use Rattle.int_transform.specs.Maps.{map_of, image, StaysInRange}
+use Rattle.shape_planes.specs.Shapes.{IsFace}
+use Rattle.shape_planes.specs.Placing.{moved, ArePlanesOf}
+use Rattle.csg_tree.specs.declared.op.Op.{Op}
+use Rattle.csg_tree.specs.Formulas.{Formula, nothing, leaf}
+use Rattle.csg_tree.specs.Joins.{join_of}
+use Rattle.scad_design.specs.Designs.{Design, empty, a_part, joined, Part}
+
+-- two planes of the same points
+abbrev pub same_points : Coefficients → Coefficients → Bool
+same_points m n = is_same m n || is_same m (opposite_of n)
+
+abbrev pub if_new : Bool → List Coefficients → Coefficients → List Coefficients
+if_new true known m = known
+if_new false known m = known ++ m ∷ []
+
+-- known planes, and behind them those of a leaf that are new, up to orientation
+abbrev pub and_new : List Coefficients → List Coefficients → List Coefficients
+and_new known [] = known
+and_new known (m ∷ planes) = and_new (if_new (list_any (same_points m) known) known m) planes
+
+-- a part whose points all keep within 2^53 - 1 after each step, and within 4,095 at the end
+abbrev pub StaysSafe : Part → Type 0
+StaysSafe part = All (λ p. StaysInRange part.steps (point_at p)) part.mesh.points
+
+abbrev pub EndsInReach : Part → Type 0
+EndsInReach part = All (λ p. IsInReach (image (map_of part.steps) (point_at p))) part.mesh.points
+
+-- the planes of a part in world position: those of its moved faces, of equal ones the first. Each face has one, with the
+-- body behind it
+pub record AreItsPlanes (part : Part) (planes : List Coefficients) : Type 0 where
+  pub reduced : All IsPlane planes
+  pub solid : All (IsFace (moved (map_of part.steps) part.mesh)) part.mesh.faces
+  pub faces : ArePlanesOf (moved (map_of part.steps) part.mesh) part.mesh.faces planes
+
+-- what placing gives: the tree with the distinct planes so far, or the first fault
+pub data Placed : Type 0 where
+  placed : (tree : Formula) → (known : List Coefficients) → Placed
+  unplaced : (kind : FaultKind) → (at : Place) → Placed
+
+-- a leaf, behind the distinct planes of those before it
+pub record IsPlaced (part : Part) (known : List Coefficients) (planes : List Coefficients) : Type 0 where
+  pub safe : StaysSafe part
+  pub reach : EndsInReach part
+  pub planes_are : AreItsPlanes part planes
+  pub few : length (and_new known planes) ≤ 1024
+
+-- the first fault of a leaf: a coordinate is past 2^53 - 1 after a step; else one is past 4,095 at the end; else the leaf
+-- brings the 1,025th distinct plane
+abbrev pub IsPlacingFault : Part → List Coefficients → FaultKind → Type 0
+IsPlacingFault part known TooLarge = StaysSafe part → ⊥
+IsPlacingFault part known OutOfRange = StaysSafe part × (EndsInReach part → ⊥)
+IsPlacingFault part known TooManyPlanes =
+    StaysSafe part × EndsInReach part
+    × ((planes : List Coefficients) × AreItsPlanes part planes × (1024 < length (and_new known planes)))
+IsPlacingFault part known kind = ⊥
+
+-- a leaf by itself
+abbrev pub PlacesPart : Part → List Coefficients → Placed → Type 0
+PlacesPart part known (placed tree now) =
+    (planes : List Coefficients) × IsPlaced part known planes × (tree ≡ leaf planes) × (now ≡ and_new known planes)
+PlacesPart part known (unplaced kind at) = IsPlacingFault part known kind × (at ≡ part.at)
+
+-- the right side of a join, behind the left one
+abbrev pub joined_placed : Op → Formula → Placed → Placed
+joined_placed op left (placed right known) = placed (join_of op left right) known
+joined_placed op left (unplaced kind at) = unplaced kind at
+
+abbrev pub PlacesRight : (List Coefficients → Placed → Type 0) → Op → Placed → Placed → Type 0
+PlacesRight right op (unplaced kind at) out = out ≡ unplaced kind at
+PlacesRight right op (placed tree known) out = (next : Placed) × right known next × (out ≡ joined_placed op tree next)
+
+-- the leaves of a design from left to right, behind the distinct planes of those before them
+abbrev pub Places : Design → List Coefficients → Placed → Type 0
+Places empty known out = out ≡ placed nothing known
+Places (a_part part) known out = PlacesPart part known out
+Places (joined op left right) known out = (first : Placed) × Places left known first × PlacesRight (Places right) op first out

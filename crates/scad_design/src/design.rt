@@ -1,0 +1,34 @@
+ghost use Rattle.std.specs.Prelude.{◌≡◌, IfOk};
+ghost use Rattle.scad_design.specs.Designs.{moved_by as moved_of};
+ghost use Rattle.scad_design.specs.View.{plain_of};
+
+use crate::part::Part;
+use csg_tree::Op;
+use int_transform::Step;
+use std::alloc::Global;
+use text_place::NoMemory;
+
+/// Shapes with the steps that move them, joined, before they are placed.
+#[derive(Drop)]
+pub enum Design {
+    Empty,
+    Leaf(Part),
+    Joined(Op, Box<Design>, Box<Design>),
+}
+
+impl Design {
+    /// The design with more steps behind those of each part. At `NoMemory` it is dropped.
+    pub fn moved_by(self, alloc: Global, steps: &[Step]) -> Result<Design, NoMemory>
+        ensures { IfOk result (λ design. plain_of design ≡ moved_of steps.now (plain_of self)) }
+    {
+        match self {
+            Design::Empty => Ok(Design::Empty),
+            Design::Leaf(part) => Ok(Design::Leaf(part.moved_by(steps)?)),
+            Design::Joined(op, left, right) => {
+                let left = Box::into_inner(left).moved_by(alloc, steps)?;
+                let right = Box::into_inner(right).moved_by(alloc, steps)?;
+                Ok(Design::Joined(op, Box::new(alloc, left)?, Box::new(alloc, right)?))
+            }
+        }
+    }
+}

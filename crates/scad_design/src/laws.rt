@@ -1,0 +1,36 @@
+//! Laws of designs, for the crates above. They are proved, and do nothing when they run.
+
+ghost use Rattle.std.specs.Prelude.{◌≡◌, ◌+◌, ◌*◌, ◌≤◌, List, All, map};
+ghost use Rattle.std.specs.List.{AllZip, sum_by};
+ghost use Rattle.plane_predicate.specs.Space.{Coefficients};
+ghost use Rattle.int_transform.specs.declared.affine.Affine.{Affine};
+ghost use Rattle.csg_tree.specs.declared.op.Op.{Op};
+ghost use Rattle.csg_tree.specs.Formulas.{Formula};
+ghost use Rattle.csg_tree.specs.Joins.{balanced_of, join_of};
+ghost use Rattle.scad_design.specs.Designs.{Design, balanced, grouped, join, moved_by};
+ghost use Rattle.scad_design.specs.Placing.{Placed, placed, Places};
+ghost use Rattle.scad_design.specs.Trees.{parts_in, pieces_in, IsTreeOf, IsTrim};
+
+/// The tree of designs that are joined is the join of their trees, by halves as well. Moving keeps
+/// the joins. A design that is placed has its tree.
+pub fn joins_of_designs_are_joins_of_trees()
+    ensures tree { (design : Design) (known now : List Coefficients) (tree : Formula) → Places design known (placed tree now) → IsTreeOf design tree }
+    ensures joins { (op : Op) (left right : Design) (first second : Formula) → IsTreeOf left first → IsTreeOf right second → IsTreeOf (join op left right) (join_of op first second) }
+    ensures halves { (op : Op) (designs : List Design) (trees : List Formula) → AllZip IsTreeOf designs trees → IsTreeOf (balanced op designs) (balanced_of op trees) }
+    ensures moves { (steps : List Affine) (op : Op) (designs : List Design) → moved_by steps (balanced op designs) ≡ balanced op (map (moved_by steps) designs) }
+{}
+
+/// A design has at most one placing.
+pub fn one_placing()
+    ensures { (design : Design) (known : List Coefficients) (out other : Placed) → Places design known out → Places design known other → out ≡ other }
+{}
+
+/// Grouping and moving leave no empty side in a join, and add no part. So a design has at most about
+/// twice as many pieces as parts.
+pub fn designs_stay_trim()
+    ensures grouped_trim { (op : Op) (designs : List Design) → All IsTrim designs → IsTrim (grouped op designs) }
+    ensures grouped_parts { (op : Op) (designs : List Design) → parts_in (grouped op designs) ≤ sum_by parts_in designs }
+    ensures moved_trim { (steps : List Affine) (design : Design) → IsTrim design → IsTrim (moved_by steps design) }
+    ensures moved_parts { (steps : List Affine) (design : Design) → parts_in (moved_by steps design) ≡ parts_in design }
+    ensures pieces { (design : Design) → IsTrim design → pieces_in design ≤ 1 + 2 * parts_in design }
+{}

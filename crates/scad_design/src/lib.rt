@@ -1,0 +1,16 @@
+//! Designs: shapes with the steps that move them, how they are joined, and how they are placed as
+//! trees of planes.
+#![tactic(auto)]
+
+mod design;
+mod joining;
+mod known;
+mod laws;
+mod part;
+mod placing;
+
+pub use design::Design;
+pub use joining::{balanced, grouped, join};
+pub use laws::{designs_stay_trim, joins_of_designs_are_joins_of_trees, one_placing};
+pub use part::Part;
+pub use placing::place;

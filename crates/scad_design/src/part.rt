@@ -1,0 +1,71 @@
+ghost use Rattle.std.specs.Prelude.{◌≡◌, ◌++◌, [], IfOk};
+
+use int_transform::Step;
+use shape_planes::Shape;
+use std::alloc::Global;
+use std::marker::Model;
+use text_place::{NoMemory, Place};
+
+/// A shape in grid steps, the steps that move it, of which the first is done first, and the place of
+/// its module's name.
+#[derive(Drop)]
+pub struct Part {
+    shape: Shape,
+    steps: Vec<Step>,
+    at: Place,
+}
+
+impl Model for Part {
+    ghost use Rattle.scad_design.specs.Designs.{Part as PlainPart};
+
+    ghost Value = { PlainPart };
+
+    ghost view = { λ p. record { mesh = p.shape; steps = p.steps.items; at = p.at } };
+}
+
+impl Part {
+    /// A shape where it is, without steps. Takes no memory.
+    pub fn of(alloc: Global, shape: Shape, at: Place) -> Part
+        ensures { result ≡ record { mesh = shape; steps = []; at = at } }
+    {
+        Part {
+            shape,
+            steps: Vec::new(alloc),
+            at,
+        }
+    }
+
+    /// The shape before its steps.
+    pub(crate) fn shape(&self) -> &Shape
+        ensures { result.now ≡ self.now.mesh }
+    {
+        &self.shape
+    }
+
+    /// The steps, of which the first is done first.
+    pub(crate) fn steps(&self) -> &[Step]
+        ensures { result.now ≡ self.now.steps }
+    {
+        &self.steps
+    }
+
+    /// The place of the module's name.
+    pub(crate) fn place(&self) -> Place
+        ensures { result ≡ self.now.at }
+    {
+        self.at
+    }
+
+    /// The part with more steps behind its own.
+    pub(crate) fn moved_by(self, more: &[Step]) -> Result<Part, NoMemory>
+        ensures { IfOk result (λ part. part ≡ record { mesh = self.mesh; steps = self.steps ++ more.now; at = self.at }) }
+    {
+        let mut steps = self.steps;
+        steps.extend_from_slice(more)?;
+        Ok(Part {
+            shape: self.shape,
+            steps,
+            at: self.at,
+        })
+    }
+}

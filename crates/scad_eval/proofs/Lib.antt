@@ -1,0 +1,7 @@
+mod Assignments
+mod Deciding
+mod Judges
+mod Made
+mod Positions
+mod Rows
+mod Verdicts

@@ -1,0 +1,113 @@
+-- What stands in a body: its assignments, its instances, and which of these are children.
+use Rattle.std.specs.Prelude.{◌≡◌, ⊤, Bool, true, false, not, ◌&&◌, ◌||◌, List, [], ◌∷◌, ◌++◌, filter, Option, Some, None, is_some, option_map, codes, if◌then◌else◌}
+use Rattle.std.specs.List.{list_any}
+use Rattle.std.specs.Str.{bytes_eq}
+use Rattle.text_place.specs.declared.fault.Place.{Place}
+use Rattle.scad_ast.specs.declared.operator.Modifier.{Modifier}
+use Rattle.scad_ast.specs.declared.operator.Modifier.TheVariants.{Disable, Background, Highlight, Root}
+use Rattle.scad_ast.specs.Terms.{StatementTerm, EmptyStatement, BlockStatement, AssignmentTerm, SpecialAssignmentTerm, ModuleTerm, FunctionTerm, InstanceStatement, StatementTerms, no_statements, and_statement, InstanceTerm, AnInstance, CoreTerm, IfTerm, IfElseTerm, ForTerm, IntersectionForTerm, ModuleCallTerm, BodyTerm, EmptyBody, BlockBody, InstanceBody}
+use Rattle.scad_scope.specs.Blocks.{Assigned, same_name}
+use Rattle.scad_func.specs.Meaning.{Env, module_in}
+
+-- whether an assignment's name is among those of others
+abbrev pub is_named_in : List Assigned → Assigned → Bool
+is_named_in others a = list_any (same_name a) others
+
+-- the first and the last assignment of a name
+abbrev pub first_of : Assigned → List Assigned → Option Assigned
+first_of a [] = None
+first_of a (b ∷ bs) = if same_name a b then Some b else first_of a bs
+
+abbrev pub or_later : Option Assigned → Option Assigned → Option Assigned
+or_later earlier None = earlier
+or_later earlier (Some b) = Some b
+
+abbrev pub last_of : Assigned → List Assigned → Option Assigned
+last_of a [] = None
+last_of a (b ∷ bs) = or_later (if same_name a b then Some b else None) (last_of a bs)
+
+-- an assignment that stands for all of its name: it has the value of the last one, at the place of the first one
+pub record StandsForAll (assignments : List Assigned) (a : Assigned) : Type 0 where
+  pub last : option_map (λ b. b.value) (last_of a assignments) ≡ Some a.value
+  pub first : option_map (λ b. b.at) (first_of a assignments) ≡ Some a.at
+
+-- assignments to different names
+abbrev pub HaveOwnNames : List Assigned → Type 0
+HaveOwnNames [] = ⊤
+HaveOwnNames (a ∷ as_) = (is_named_in as_ a ≡ false) × HaveOwnNames as_
+
+-- the instances of a body in order
+abbrev mutual
+  pub instances_in : StatementTerms → List InstanceTerm
+  instances_in no_statements = []
+  instances_in (and_statement s rest) = instances_of s ++ instances_in rest
+
+  pub instances_of : StatementTerm → List InstanceTerm
+  instances_of (EmptyStatement at) = []
+  instances_of (BlockStatement at statements) = instances_in statements
+  instances_of (AssignmentTerm at name value) = []
+  instances_of (SpecialAssignmentTerm at name value) = []
+  instances_of (ModuleTerm at name name_at params body) = []
+  instances_of (FunctionTerm at name name_at params value) = []
+  instances_of (InstanceStatement instance) = instance ∷ []
+
+-- modifiers
+abbrev pub switches_off : Modifier → Bool
+switches_off Disable = true
+switches_off Background = true
+switches_off Highlight = false
+switches_off Root = false
+
+abbrev pub is_root : Modifier → Bool
+is_root Disable = false
+is_root Background = false
+is_root Highlight = false
+is_root Root = true
+
+-- an instance that is evaluated: one marked `*` or `%` counts as not written
+abbrev pub is_on : InstanceTerm → Bool
+is_on (AnInstance at marks core) = not (list_any (λ m. switches_off m.modifier) marks)
+
+-- an instance marked `!`
+abbrev pub is_marked : InstanceTerm → Bool
+is_marked (AnInstance at marks core) = list_any (λ m. is_root m.modifier) marks
+
+abbrev pub evaluated_in : StatementTerms → List InstanceTerm
+evaluated_in statements = filter is_on (instances_in statements)
+
+-- `echo` and `assert`, where the source defines no module of that name, seen from the scope
+abbrev pub says_only : Env → CoreTerm → Bool
+says_only env (ModuleCallTerm at name args body) =
+    (bytes_eq name (codes "echo") || bytes_eq name (codes "assert")) && not (is_some (module_in env name))
+says_only env core = false
+
+abbrev pub is_child : Env → InstanceTerm → Bool
+is_child env (AnInstance at marks core) = not (says_only env core)
+
+-- the children of a call with this body, in the body's scope
+abbrev pub children_in : Env → StatementTerms → List InstanceTerm
+children_in env statements = filter (is_child env) (evaluated_in statements)
+
+-- a body's statements; an instance alone is a body of one statement
+abbrev pub statements_of_body : BodyTerm → StatementTerms
+statements_of_body (EmptyBody at) = no_statements
+statements_of_body (BlockBody at statements) = statements
+statements_of_body (InstanceBody instance) = and_statement (InstanceStatement instance) no_statements
+
+-- a body without a token of its own: `;` or `{ }`
+abbrev pub is_bare : BodyTerm → Bool
+is_bare (EmptyBody at) = true
+is_bare (BlockBody at no_statements) = true
+is_bare (BlockBody at (and_statement s rest)) = false
+is_bare (InstanceBody instance) = false
+
+-- the places of the first tokens
+abbrev pub instance_place : InstanceTerm → Place
+instance_place (AnInstance at marks core) = at
+
+abbrev pub core_place : CoreTerm → Place
+core_place (IfTerm at test body) = at
+core_place (IfElseTerm at test body other) = at
+core_place (ForTerm at binders body) = at
+core_place (IntersectionForTerm at binders body) = at
+core_place (ModuleCallTerm at name args body) = at

@@ -1,0 +1,31 @@
+-- What a program means: the tree of its design in world position, or its first fault.
+use Rattle.std.specs.Prelude.{◌≡◌, List, []}
+use Rattle.text_place.specs.declared.fault.Place.{Place}
+use Rattle.text_place.specs.declared.fault.FaultKind.{FaultKind}
+use Rattle.plane_predicate.specs.declared.unit.Unit.{Unit as LengthUnit}
+use Rattle.csg_tree.specs.Formulas.{Formula}
+use Rattle.scad_ast.specs.Terms.{StatementTerm, statements_from}
+use Rattle.scad_scope.specs.Names.{first_chain}
+use Rattle.scad_func.specs.Meaning.{Outcome, Gives, Faults}
+use Rattle.scad_design.specs.Designs.{Design}
+use Rattle.scad_eval.specs.Verdicts.{Judge, IsRight}
+use Rattle.scad_eval.specs.Meaning.{design_of}
+use Rattle.scad_design.specs.Placing.{Placed, placed, unplaced, Places}
+
+pub data Meaning : Type 0 where
+  a_tree : (tree : Formula) → Meaning
+  a_fault : (kind : FaultKind) → (at : Place) → Meaning
+
+abbrev pub IsMeaningOf : Placed → Meaning → Type 0
+IsMeaningOf (placed tree known) meaning = meaning ≡ a_tree tree
+IsMeaningOf (unplaced kind at) meaning = meaning ≡ a_fault kind at
+
+-- a fault of evaluation comes before those of placing
+abbrev pub IsMeaningOfDesign : Outcome Design → Meaning → Type 0
+IsMeaningOfDesign (Faults kind at) meaning = meaning ≡ a_fault kind at
+IsMeaningOfDesign (Gives turns design) meaning = (out : Placed) × Places design [] out × IsMeaningOf out meaning
+
+-- the meaning of a program in units, by whatever is right about shapes
+abbrev pub IsMeaning : LengthUnit → List StatementTerm → Meaning → Type 0
+IsMeaning unit program meaning =
+    (judge : Judge) → IsRight judge → IsMeaningOfDesign (design_of unit judge first_chain (statements_from program)) meaning

@@ -1,0 +1,31 @@
+//! Laws of the meaning of sources, on functions that do nothing.
+
+ghost use Rattle.std.specs.Prelude.{◌≡◌, ℤ, Bool, true};
+ghost use Rattle.std.specs.List.{AllByRecursion};
+ghost use Rattle.scad_ast.specs.Terms.{StatementTerms};
+ghost use Rattle.scad_scope.specs.Blocks.{assigned_in, assignments_of};
+ghost use Rattle.scad_eval.specs.Bodies.{StandsForAll, HaveOwnNames, is_named_in};
+ghost use Rattle.plane_predicate.specs.declared.unit.Unit.{Unit as LengthUnit};
+ghost use Rattle.scad_modules.specs.Effects.{SolidCall, FlatCall};
+ghost use Rattle.scad_eval.specs.Verdicts.{Verdict, Judge, IsRight, IsSolidVerdict, IsFlatVerdict, IsHeightVerdict};
+
+/// The last assignment of a name in a scope counts everywhere in it (OpenSCAD User Manual, "Variables"): of all
+/// assignments of a body, those that are evaluated have each name once, with its last expression, in the place of its
+/// first.
+pub fn last_assignments_count()
+    ensures counts { (statements : StatementTerms) → AllByRecursion (StandsForAll (assigned_in statements)) (assignments_of statements) }
+    ensures once { (statements : StatementTerms) → HaveOwnNames (assignments_of statements) }
+    ensures all { (statements : StatementTerms) → AllByRecursion (λ a. is_named_in (assignments_of statements) a ≡ true) (assigned_in statements) }
+{}
+
+/// What is wrong with a shape, or with the height of an extrusion, is one thing: some judge is always right, and no two
+/// verdicts are.
+pub fn shapes_have_one_verdict()
+    ensures some { (judge : Judge) × IsRight judge }
+    ensures solids { (unit : LengthUnit) (call : SolidCall) (v w : Verdict) →
+        IsSolidVerdict unit call v → IsSolidVerdict unit call w → v ≡ w }
+    ensures flats { (unit : LengthUnit) (call : FlatCall) (v w : Verdict) →
+        IsFlatVerdict unit call v → IsFlatVerdict unit call w → v ≡ w }
+    ensures heights { (unit : LengthUnit) (center : Bool) (height : ℤ) (v w : Verdict) →
+        IsHeightVerdict unit center height v → IsHeightVerdict unit center height w → v ≡ w }
+{}

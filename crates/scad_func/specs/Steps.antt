@@ -1,0 +1,47 @@
+-- Steps of the evaluation, as the evaluator takes them.
+use Rattle.std.specs.Prelude.{ℕ, Bool, true, false, if◌then◌else◌}
+use Rattle.text_place.specs.declared.fault.FaultKind.TheVariants.{NotInProfile}
+use Rattle.scad_ast.specs.Terms.{Term, Terms, no_terms, and_term, ArgTerms, no_args, and_named, and_special, and_positional, ArgTerm, NamedTerm, SpecialArgTerm, PositionalTerm, SuffixTerm, IndexTerm, MemberTerm, LinkTerm}
+use Rattle.scad_value.specs.Values.{Val, NumberVal, TruthVal, truth_of}
+use Rattle.scad_value.specs.Operators.{binary_of, index_of}
+use Rattle.scad_func.specs.Meaning.{Outcome, Gives, then_with, or_fault, answered, Setting, value_at, member_of, wants_right, operand}
+
+-- the values of all arguments
+abbrev pub all_values : ArgTerms → Terms
+all_values no_args = no_terms
+all_values (and_named at name value rest) = and_term value (all_values rest)
+all_values (and_special at name value rest) = and_term value (all_values rest)
+all_values (and_positional value rest) = and_term value (all_values rest)
+
+-- the value of an argument
+abbrev pub argument_of : ArgTerm → Term
+argument_of (NamedTerm at name value) = value
+argument_of (SpecialArgTerm at name value) = value
+argument_of (PositionalTerm value) = value
+
+-- whether an argument has a name, and whether none has
+abbrev pub is_named : ArgTerm → Bool
+is_named (NamedTerm at name value) = true
+is_named (SpecialArgTerm at name value) = true
+is_named (PositionalTerm value) = false
+
+abbrev pub have_no_names : ArgTerms → Bool
+have_no_names no_args = true
+have_no_names (and_named at name value rest) = false
+have_no_names (and_special at name value rest) = false
+have_no_names (and_positional value rest) = have_no_names rest
+
+-- an index or a member of a value
+abbrev pub suffixed : Setting → Val → SuffixTerm → ℕ → Outcome Val
+suffixed here v (IndexTerm at index) turns =
+    then_with (value_at here true index turns) (λ turns w. answered (index_of v w) at turns)
+suffixed here v (MemberTerm at name name_at) turns =
+    or_fault (member_of name) NotInProfile name_at (λ n. answered (index_of v (NumberVal n)) at turns)
+
+-- an operator and its right side
+abbrev pub linked : Setting → Val → LinkTerm → ℕ → Outcome Val
+linked here v link turns =
+    if wants_right link.op v
+    then then_with (operand here link.right turns)
+    (λ turns w. answered (binary_of link.op v w) link.at turns)
+    else Gives turns (TruthVal (truth_of v))

@@ -1,0 +1,149 @@
+ghost use Rattle.std.specs.Prelude.{◌≡◌, ◌<◌, ◌≤◌, ◌+◌, ◌∷◌, ◌++◌, ℕ, length, take, IsTrue, IfOk, IfErr, IfSome, OnOk, OnErr};
+ghost use Rattle.scad_ast.specs.StatementView.{params_of};
+ghost use Rattle.scad_value.specs.Values.{is_bounded, vals_from};
+ghost use Rattle.scad_value.specs.View.{val_of, vals_in};
+ghost use Rattle.scad_builtin.specs.Builtins.{are_bounded};
+ghost use Rattle.scad_scope.specs.Names.{have_bounded, oldest, find_in};
+ghost use Rattle.scad_scope.specs.Arguments.{names_of};
+ghost use Rattle.scad_scope.specs.Table.{rows_of, chain_of};
+ghost use Rattle.scad_func.specs.Meaning.{call_in, no_call, opened, with_variable, with_values};
+ghost use Rattle.scad_func.specs.View.{IsCallFound, IsNoMemory, specials_in, seen, text_of};
+ghost use Rattle.scad_func.specs.Definitions.{statements_at, block_scope};
+ghost use Rattle.scad_func.specs.Evaluations.{Keeps, ScopeEnters, SpecialsBegin, scopes_there};
+
+use crate::arguments::{SpecialArgument, bind_specials};
+use crate::bind::{bind_all, bind_one};
+use crate::evaluation::Evaluation;
+use scad_ast::Params;
+use scad_scope::Call;
+use scad_value::Value;
+use text_place::{NoMemory, Stop};
+
+impl Evaluation<'_, '_> {
+    /// A new scope of a block inside another scope, and its number. `NoMemory` leaves all as it was.
+    pub fn enter_body(&mut self, outer: u32, block: u32) -> Result<u32, NoMemory>
+        requires { outer < scopes_there self.old }
+        ensures entered { IfOk result (ScopeEnters self.old self.new) }
+        ensures inside { IfOk result (λ n. seen self.new.source.now (rows_of self.new.scopes.now) n
+            ≡ block_scope (text_of self.old.source.now) block no_call (seen self.old.source.now (rows_of self.old.scopes.now) outer)) }
+        ensures kept { OnErr result (Keeps self.old self.new) }
+        ensures turns { self.new.turns ≡ self.old.turns }
+    {
+        let source = self.source;
+        self.scopes.enter(self.alloc, outer, &source.blocks, block)
+    }
+
+    /// A new scope of a module's body, as the scope of a call with its children's block and its caller's
+    /// scope, inside the scope of the definition, and its number. `NoMemory` leaves all as it was.
+    pub fn enter_call(&mut self, home: u32, block: u32, call: Call) -> Result<u32, NoMemory>
+        requires home { home < scopes_there self.old }
+        requires caller { call.caller < scopes_there self.old }
+        ensures entered { IfOk result (ScopeEnters self.old self.new) }
+        ensures inside { IfOk result (λ n. seen self.new.source.now (rows_of self.new.scopes.now) n
+            ≡ block_scope (text_of self.old.source.now) block
+            (opened (statements_at (text_of self.old.source.now) call.children) (seen self.old.source.now (rows_of self.old.scopes.now) call.caller))
+            (seen self.old.source.now (rows_of self.old.scopes.now) home)) }
+        ensures kept { OnErr result (Keeps self.old self.new) }
+        ensures turns { self.new.turns ≡ self.old.turns }
+    {
+        let source = self.source;
+        self.scopes
+            .enter_call(self.alloc, home, &source.blocks, block, call)
+    }
+
+    /// Leaves a scope that was entered and is the newest, to where it was entered.
+    pub fn leave(&mut self, scope: u32)
+        requires some { 1 ≤ scope }
+        requires there { scope ≤ scopes_there self.old }
+        ensures rows { rows_of self.new.scopes.now ≡ take scope (rows_of self.old.scopes.now) }
+        ensures back { (first : Evaluation) → ScopeEnters first self.old scope → Keeps first self.new }
+        ensures turns { self.new.turns ≡ self.old.turns }
+    {
+        self.scopes.leave(scope);
+    }
+
+    /// Gives a name a value in the newest scope. `NoMemory` leaves all as it was.
+    pub fn bind(&mut self, scope: u32, name: &[u8], value: Value) -> Result<(), NoMemory>
+        requires newest { scope + 1 ≡ scopes_there self.old }
+        requires bounded { IsTrue (is_bounded (val_of value)) }
+        ensures bound { OnOk result (seen self.new.source.now (rows_of self.new.scopes.now) scope
+            ≡ with_variable name.now (val_of value) (seen self.old.source.now (rows_of self.old.scopes.now) scope)) }
+        ensures entered { (first : Evaluation) → ScopeEnters first self.old scope → ScopeEnters first self.new scope }
+        ensures kept { OnErr result (Keeps self.old self.new) }
+        ensures turns { self.new.turns ≡ self.old.turns }
+    {
+        bind_one(self.alloc, self.scopes, scope, name, value)
+    }
+
+    /// Gives parameters their values in the newest scope. `NoMemory` leaves some of them.
+    pub fn bind_parameters(
+        &mut self,
+        scope: u32,
+        params: &Params,
+        values: Vec<Value>,
+    ) -> Result<(), NoMemory>
+        requires newest { scope + 1 ≡ scopes_there self.old }
+        requires count { length values.items ≡ length params.now.items.items }
+        requires bounded { IsTrue (are_bounded (vals_in values.items)) }
+        ensures bound { OnOk result (seen self.new.source.now (rows_of self.new.scopes.now) scope
+            ≡ with_values (names_of (params_of params.now)) (vals_from (vals_in values.items)) (seen self.old.source.now (rows_of self.old.scopes.now) scope)) }
+        ensures entered { (first : Evaluation) → ScopeEnters first self.old scope → ScopeEnters first self.new scope }
+        ensures turns { self.new.turns ≡ self.old.turns }
+    {
+        bind_all(self.alloc, self.scopes, scope, params, values)
+    }
+
+    /// Puts special arguments on the chain, and answers its length before. `NoMemory` leaves all as it was.
+    pub fn begin_specials(&mut self, specials: Vec<SpecialArgument<'_>>) -> Result<u32, Stop>
+        requires { IsTrue (have_bounded (specials_in specials.items)) }
+        ensures begun { IfOk result (SpecialsBegin self.old self.new) }
+        ensures chain { OnOk result (chain_of self.new.scopes.now ≡ specials_in specials.entry.items ++ chain_of self.old.scopes.now) }
+        ensures stop { IfErr result IsNoMemory }
+        ensures kept { OnErr result (Keeps self.old self.new) }
+        ensures turns { self.new.turns ≡ self.old.turns }
+    {
+        let length = self.scopes.chain_length();
+        if length > u32::MAX as usize {
+            return Err(Stop::NoMemory);
+        }
+        let length = length as u32;
+        match bind_specials(self.alloc, self.scopes, specials) {
+            Ok(()) => Ok(length),
+            Err(stop) => {
+                self.scopes.unwind(length);
+                Err(stop)
+            }
+        }
+    }
+
+    /// Gives a special name a value, as the newest of the chain, and answers its length before. `NoMemory`
+    /// leaves all as it was.
+    pub fn bind_special(&mut self, name: &[u8], value: Value) -> Result<u32, NoMemory>
+        requires { IsTrue (is_bounded (val_of value)) }
+        ensures begun { IfOk result (SpecialsBegin self.old self.new) }
+        ensures chain { OnOk result (chain_of self.new.scopes.now ≡ (name.now, val_of value) ∷ chain_of self.old.scopes.now) }
+        ensures kept { OnErr result (Keeps self.old self.new) }
+        ensures turns { self.new.turns ≡ self.old.turns }
+    {
+        self.scopes.bind_special(self.alloc, name, value)
+    }
+
+    /// Takes special names from the chain, to where they were put on it.
+    pub fn end_specials(&mut self, to: u32)
+        requires { to ≤ length (chain_of self.old.scopes.now) }
+        ensures back { (first : Evaluation) → SpecialsBegin first self.old to → Keeps first self.new }
+        ensures turns { self.new.turns ≡ self.old.turns }
+    {
+        self.scopes.unwind(to);
+    }
+
+    /// The innermost call of a module whose scope a scope is or stands in, with the block of its children
+    /// and the scope of its caller. Takes no memory.
+    pub fn enclosing_call(&self, scope: u32) -> Option<Call>
+        requires { scope < scopes_there self.now }
+        ensures value { IsCallFound (text_of self.now.source.now) (rows_of self.now.scopes.now) (call_in (seen self.now.source.now (rows_of self.now.scopes.now) scope)) result }
+        ensures there { IfSome result (λ call. call.caller < scopes_there self.now) }
+    {
+        self.scopes.call_of(scope)
+    }
+}

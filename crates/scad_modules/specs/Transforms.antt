@@ -1,0 +1,185 @@
+-- Calls of transforms (OpenSCAD User Manual, "Transformations"). Inside an extrusion a transform must keep the plane.
+use Rattle.std.specs.Prelude.{ℕ, ◌-◌, ◌/◌, ◌%◌, ℤ, pos, ◌*ℤ◌, unsigned_abs, Bool, not, ◌&&◌, ◌||◌, List, [], ◌∷◌, get_or, Option, Some, None, Ok, Err, nat_eq, nat_lt, int_lt, if◌then◌else◌}
+use Rattle.std.specs.Ordering.{int_eq}
+use Rattle.text_place.specs.declared.fault.FaultKind.TheVariants.{TooLarge, NotQuarter, NotInProfile, Singular, WrongDimension}
+use Rattle.plane_predicate.specs.declared.unit.Unit.{Unit as LengthUnit}
+use Rattle.plane_predicate.specs.Units.{steps_of}
+use Rattle.plane_predicate.specs.Space.{point_at}
+use Rattle.int_transform.specs.declared.affine.Affine.{Affine}
+use Rattle.int_transform.specs.Maps.{moving, scaling, mirroring, quarter_turn, repeated, affine_of, determinant_of}
+use Rattle.scad_value.specs.Values.{Val, NumberVal, is_small}
+use Rattle.scad_value.specs.Operators.{Answer}
+use Rattle.scad_modules.specs.Effects.{EffectCall, a_move}
+use Rattle.scad_modules.specs.Reading.{Slots, slot, vector_in, coordinates_in, points_in, required, left_out, of_type, refused_where}
+
+abbrev pub part : List ℤ → ℕ → ℤ
+part numbers k = get_or numbers k (pos 0)
+
+abbrev pub is_zero : ℤ → Bool
+is_zero n = int_eq n (pos 0)
+
+-- a number that is past 2^53 - 1 in size
+abbrev pub is_past : ℤ → Bool
+is_past n = not (is_small n)
+
+-- a length in units, in grid steps
+abbrev pub in_steps : LengthUnit → ℤ → ℤ
+in_steps unit length = steps_of unit *ℤ length
+
+-- a vector in units, in grid steps
+abbrev pub on_grid : LengthUnit → List ℤ → List ℤ
+on_grid unit by = in_steps unit (part by 0) ∷ in_steps unit (part by 1) ∷ in_steps unit (part by 2) ∷ []
+
+-- something is so of one of three numbers
+abbrev pub some_part : (ℤ → Bool) → List ℤ → Bool
+some_part test by = test (part by 0) || (test (part by 1) || test (part by 2))
+
+-- inside an extrusion, a vector that leaves the plane
+abbrev pub leaves_plane : Bool → List ℤ → Bool
+leaves_plane inside by = inside && not (is_zero (part by 2))
+
+-- translate(v): 2 or 3 numbers
+abbrev pub translate_call : LengthUnit → Bool → Slots → Answer EffectCall
+translate_call unit inside slots =
+    required (slot slots 0) (λ v.
+    of_type (coordinates_in (pos 0) v) (λ by.
+    refused_where (leaves_plane inside by) WrongDimension
+    (refused_where (some_part is_past (on_grid unit by)) TooLarge
+    (Ok (a_move (moving (point_at (on_grid unit by)) ∷ []))))))
+
+-- one angle about z, or three about x, y and z
+abbrev pub angles_in : Val → Option (List ℤ)
+angles_in (NumberVal angle) = Some (pos 0 ∷ pos 0 ∷ angle ∷ [])
+angles_in v = vector_in 3 v
+
+-- an angle that is no number of quarter turns
+abbrev pub is_skew : ℤ → Bool
+is_skew angle = not (nat_eq (unsigned_abs angle % 90) 0)
+
+-- how many quarter turns an angle is, from 0 to 3
+abbrev pub quarters_of : ℤ → ℕ
+quarters_of angle =
+    let quarters = (unsigned_abs angle / 90) % 4 in
+    if int_lt angle (pos 0) then (4 - quarters) % 4 else quarters
+
+abbrev pub turned : ℕ → ℤ → Affine
+turned axis angle = repeated (quarter_turn axis) (quarters_of angle)
+
+-- inside an extrusion, turns about x or y
+abbrev pub tilts_plane : Bool → List ℤ → Bool
+tilts_plane inside angles = inside && not (is_zero (part angles 0) && is_zero (part angles 1))
+
+abbrev pub turns_of : List ℤ → List Affine
+turns_of angles = turned 0 (part angles 0) ∷ turned 1 (part angles 1) ∷ turned 2 (part angles 2) ∷ []
+
+-- rotate(a): about x, then y, then z
+abbrev pub rotate_call : Bool → Slots → Answer EffectCall
+rotate_call inside slots =
+    required (slot slots 0) (λ v.
+    left_out (slot slots 1)
+    (of_type (angles_in v) (λ angles.
+    refused_where (some_part is_skew angles) NotQuarter
+    (refused_where (tilts_plane inside angles) WrongDimension
+    (Ok (a_move (turns_of angles)))))))
+
+-- a number that isn't 0, beside two that are
+abbrev pub is_alone : ℤ → ℤ → ℤ → Bool
+is_alone n m k = not (is_zero n) && (is_zero m && is_zero k)
+
+-- the one axis along which a vector goes
+abbrev pub axis_of : List ℤ → Option ℕ
+axis_of by =
+    if is_alone (part by 0) (part by 1) (part by 2) then Some 0
+    else (if is_alone (part by 1) (part by 0) (part by 2) then Some 1
+    else (if is_alone (part by 2) (part by 0) (part by 1) then Some 2 else None))
+
+abbrev pub along : Option ℕ → (ℕ → Answer EffectCall) → Answer EffectCall
+along None go = Err NotInProfile
+along (Some axis) go = go axis
+
+-- mirror(v): 2 or 3 numbers, of which exactly one isn't 0
+abbrev pub mirror_call : Bool → Slots → Answer EffectCall
+mirror_call inside slots =
+    required (slot slots 0) (λ v.
+    of_type (coordinates_in (pos 0) v) (λ by.
+    along (axis_of by) (λ axis.
+    refused_where (inside && nat_eq axis 2) WrongDimension
+    (Ok (a_move (mirroring axis ∷ []))))))
+
+-- one factor for all axes, or 2 or 3 of them
+abbrev pub factors_in : Val → Option (List ℤ)
+factors_in (NumberVal factor) = Some (factor ∷ factor ∷ factor ∷ [])
+factors_in v = coordinates_in (pos 1) v
+
+-- inside an extrusion a scaling has no effect along z
+abbrev pub factors_for : Bool → List ℤ → List ℤ
+factors_for inside by = if inside then part by 0 ∷ part by 1 ∷ pos 1 ∷ [] else by
+
+-- scale(v)
+abbrev pub scale_call : Bool → Slots → Answer EffectCall
+scale_call inside slots =
+    required (slot slots 0) (λ v.
+    of_type (factors_in v) (λ by.
+    refused_where (some_part is_zero by) Singular
+    (Ok (a_move (scaling (point_at (factors_for inside by)) ∷ [])))))
+
+-- 3 rows of 4 numbers; a fourth row must be 0 0 0 1
+abbrev pub is_last_row : List ℤ → Bool
+is_last_row row =
+    is_zero (part row 0) && (is_zero (part row 1) && (is_zero (part row 2) && int_eq (part row 3) (pos 1)))
+
+abbrev pub three_rows : List (List ℤ) → Option (List (List ℤ))
+three_rows (x ∷ y ∷ z ∷ []) = Some (x ∷ y ∷ z ∷ [])
+three_rows (x ∷ y ∷ z ∷ last ∷ []) = if is_last_row last then Some (x ∷ y ∷ z ∷ []) else None
+three_rows rows = None
+
+abbrev pub three_rows_from : Option (List (List ℤ)) → Option (List (List ℤ))
+three_rows_from None = None
+three_rows_from (Some rows) = three_rows rows
+
+abbrev pub rows_in : Val → Option (List (List ℤ))
+rows_in v = three_rows_from (points_in 4 v)
+
+abbrev pub row_at : List (List ℤ) → ℕ → List ℤ
+row_at rows k = get_or rows k []
+
+-- something is so of one of three rows
+abbrev pub some_row : (List ℤ → Bool) → List (List ℤ) → Bool
+some_row test rows = test (row_at rows 0) || (test (row_at rows 1) || test (row_at rows 2))
+
+-- a row's linear part is its first three numbers, and its move the fourth
+abbrev pub is_past_matrix : ℤ → Bool
+is_past_matrix n = nat_lt 65535 (unsigned_abs n)
+
+-- a matrix that leaves z as it is: its third row and its third column are those of the identity
+abbrev pub keeps_plane : List (List ℤ) → Bool
+keeps_plane rows =
+    let x = row_at rows 0 in let y = row_at rows 1 in let z = row_at rows 2 in
+    is_zero (part x 2) && (is_zero (part y 2) && (is_zero (part z 0) && (is_zero (part z 1)
+    && (int_eq (part z 2) (pos 1) && is_zero (part z 3)))))
+
+-- inside an extrusion, a matrix that leaves the plane
+abbrev pub leaves_plane_by : Bool → List (List ℤ) → Bool
+leaves_plane_by inside rows = inside && not (keeps_plane rows)
+
+-- the rows with their moves in grid steps
+abbrev pub row_on_grid : LengthUnit → List ℤ → List ℤ
+row_on_grid unit row = part row 0 ∷ part row 1 ∷ part row 2 ∷ in_steps unit (part row 3) ∷ []
+
+abbrev pub rows_on_grid : LengthUnit → List (List ℤ) → List (List ℤ)
+rows_on_grid unit rows =
+    row_on_grid unit (row_at rows 0) ∷ row_on_grid unit (row_at rows 1) ∷ row_on_grid unit (row_at rows 2) ∷ []
+
+abbrev pub moves_past : LengthUnit → List ℤ → Bool
+moves_past unit row = is_past (in_steps unit (part row 3))
+
+-- multmatrix(m)
+abbrev pub multmatrix_call : LengthUnit → Bool → Slots → Answer EffectCall
+multmatrix_call unit inside slots =
+    required (slot slots 0) (λ v.
+    of_type (rows_in v) (λ rows.
+    refused_where (some_row (some_part is_past_matrix) rows) TooLarge
+    (refused_where (is_zero (determinant_of (affine_of rows))) Singular
+    (refused_where (leaves_plane_by inside rows) WrongDimension
+    (refused_where (some_row (moves_past unit) rows) TooLarge
+    (Ok (a_move (affine_of (rows_on_grid unit rows) ∷ []))))))))

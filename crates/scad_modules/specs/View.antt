@@ -1,0 +1,75 @@
+-- The plain effect that an effect in memory stands for, and what the code's readers answer.
+use Rattle.std.specs.Prelude.{◌≡◌, List, map, Option, Some, None, option_map, Result, Ok, Err}
+use Rattle.std.specs.Borrow.{Bor}
+use Rattle.text_place.specs.declared.fault.FaultKind.{FaultKind}
+use Rattle.text_place.specs.declared.fault.FaultKind.TheVariants.{TypeMismatch}
+use Rattle.scad_value.specs.declared.value.Value.{Value}
+use Rattle.scad_value.specs.declared.stop.ValueStop.{ValueStop}
+use Rattle.scad_value.specs.declared.stop.ValueStop.TheVariants.{Kind, NoMemory}
+use Rattle.scad_value.specs.Values.{Val}
+use Rattle.scad_value.specs.Operators.{Answer}
+use Rattle.scad_value.specs.View.{val_of}
+use Rattle.scad_modules.specs.declared.effects.SolidShape.{SolidShape}
+use Rattle.scad_modules.specs.declared.effects.SolidShape.TheVariants.{Cube, Polyhedron, Cylinder}
+use Rattle.scad_modules.specs.declared.effects.FlatShape.{FlatShape}
+use Rattle.scad_modules.specs.declared.effects.FlatShape.TheVariants.{Square, Polygon, Circle}
+use Rattle.scad_modules.specs.declared.effects.Chosen.{Chosen}
+use Rattle.scad_modules.specs.declared.effects.Chosen.TheVariants.{All, Numbered, Range}
+use Rattle.scad_modules.specs.declared.effects.Effect.{Effect}
+use Rattle.scad_modules.specs.declared.effects.Effect.TheVariants.{Solid, Flat, Move, Join, Extrusion, Nothing, Children}
+use Rattle.scad_modules.specs.Effects.{SolidCall, cube_call, polyhedron_call, cylinder_call, FlatCall, square_call, polygon_call, circle_call, ChosenCall, all_children, numbered, ranged, EffectCall, a_solid, a_flat, a_move, a_join, an_extrusion, silence, some_children}
+use Rattle.scad_modules.specs.Reading.{Slots}
+use Rattle.scad_modules.specs.Bounds.{IsSafeCall}
+
+abbrev pub slots_of : List (Option Value) → Slots
+slots_of = map (option_map val_of)
+
+-- the value of `$fn`
+abbrev pub fragments_of : Option (Bor Value) → Option Val
+fragments_of = option_map (λ value. val_of value.now)
+
+abbrev pub solid_of : SolidShape → SolidCall
+solid_of (Cube size center) = cube_call center size
+solid_of (Polyhedron points faces) = polyhedron_call points.items faces.items
+solid_of (Cylinder height low high center) = cylinder_call center height low high
+
+abbrev pub flat_of : FlatShape → FlatCall
+flat_of (Square size center) = square_call center size
+flat_of (Polygon points) = polygon_call points.items
+flat_of (Circle radius) = circle_call radius
+
+abbrev pub chosen_of : Chosen → ChosenCall
+chosen_of All = all_children
+chosen_of (Numbered numbers) = numbered numbers.items
+chosen_of (Range from by upto) = ranged from by upto
+
+abbrev pub call_of : Effect → EffectCall
+call_of (Solid shape) = a_solid (solid_of shape)
+call_of (Flat shape) = a_flat (flat_of shape)
+call_of (Move steps) = a_move steps.items
+call_of (Join op) = a_join op
+call_of (Extrusion height center) = an_extrusion center height
+call_of Nothing = silence
+call_of (Children chosen) = some_children (chosen_of chosen)
+
+-- what was given is the effect or the fault, unless memory ran out
+abbrev pub TellsEffect : Result Effect ValueStop → Answer EffectCall → Type 0
+TellsEffect (Ok effect) answer = answer ≡ Ok (call_of effect)
+TellsEffect (Err (Kind kind)) answer = answer ≡ Err kind
+TellsEffect (Err NoMemory) answer = Unit {0}
+
+-- the effect that was given has numbers of at most 2^53 - 1 in size
+abbrev pub GivesSafe : Result Effect ValueStop → Type 0
+GivesSafe (Ok effect) = IsSafeCall (call_of effect)
+GivesSafe (Err stop) = Unit {0}
+
+-- what was read, or TypeMismatch where there is none
+abbrev pub Reads : {A : Type 0} → Result A FaultKind → Option A → Type 0
+Reads (Ok x) read = read ≡ Some x
+Reads (Err kind) read = (read ≡ None) × (kind ≡ TypeMismatch)
+
+-- the same for what is seen in some way, unless memory ran out
+abbrev pub ReadsAs : {A B : Type 0} → (A → B) → Result A ValueStop → Option B → Type 0
+ReadsAs seen (Ok x) read = read ≡ Some (seen x)
+ReadsAs seen (Err (Kind kind)) read = (read ≡ None) × (kind ≡ TypeMismatch)
+ReadsAs seen (Err NoMemory) read = Unit {0}

@@ -1,0 +1,19 @@
+//! The built-in modules of the modelling language: their names and parameters, and what the arguments of a call mean.
+#![tactic(auto)]
+
+mod calls;
+mod effects;
+mod lists;
+mod matrix;
+mod name;
+mod numbers;
+mod shapes;
+mod slots;
+mod table;
+mod transforms;
+
+pub use calls::effect;
+pub use effects::{Chosen, Effect, FlatShape, SolidShape};
+pub use name::{builtin_module, is_left_out};
+pub use slots::are_bounded;
+pub use table::BuiltinModule;

@@ -1,0 +1,84 @@
+ghost use Rattle.std.specs.Prelude.{◌≡◌, map};
+ghost use Rattle.std.specs.Str.{bytes_eq};
+ghost use Rattle.scad_builtin.specs.Builtins.{named_in as named, is_among as among};
+ghost use Rattle.scad_modules.specs.Table.{module_named, is_left_out as leaves_out};
+
+use crate::table::BuiltinModule;
+
+fn same(known: &[u8], name: &[u8]) -> bool
+    ensures { result ≡ bytes_eq known.now name.now }
+{
+    known == name
+}
+
+const MODULES: [(&[u8], BuiltinModule); 20] = [
+    (b"cube", BuiltinModule::Cube),
+    (b"polyhedron", BuiltinModule::Polyhedron),
+    (b"cylinder", BuiltinModule::Cylinder),
+    (b"square", BuiltinModule::Square),
+    (b"polygon", BuiltinModule::Polygon),
+    (b"circle", BuiltinModule::Circle),
+    (b"linear_extrude", BuiltinModule::LinearExtrude),
+    (b"translate", BuiltinModule::Translate),
+    (b"rotate", BuiltinModule::Rotate),
+    (b"mirror", BuiltinModule::Mirror),
+    (b"scale", BuiltinModule::Scale),
+    (b"multmatrix", BuiltinModule::Multmatrix),
+    (b"union", BuiltinModule::Union),
+    (b"difference", BuiltinModule::Difference),
+    (b"intersection", BuiltinModule::Intersection),
+    (b"color", BuiltinModule::Color),
+    (b"render", BuiltinModule::Render),
+    (b"echo", BuiltinModule::Echo),
+    (b"assert", BuiltinModule::Assert),
+    (b"children", BuiltinModule::Children),
+];
+
+/// The built-in module of a name. Takes no memory.
+pub fn builtin_module(name: &[u8]) -> Option<BuiltinModule>
+    ensures { result ≡ module_named name.now }
+{
+    named_in(&MODULES, name)
+}
+
+fn named_in(names: &[(&[u8], BuiltinModule)], name: &[u8]) -> Option<BuiltinModule>
+    ensures { result ≡ named (map (λ known. (known.0.now, known.1)) names.now) name.now }
+{
+    for known in names {
+        if same(known.0, name) {
+            return Some(known.1);
+        }
+    }
+    None
+}
+
+const LEFT_OUT: [&[u8]; 10] = [
+    b"sphere",
+    b"hull",
+    b"minkowski",
+    b"offset",
+    b"resize",
+    b"projection",
+    b"text",
+    b"surface",
+    b"import",
+    b"rotate_extrude",
+];
+
+/// Whether a name is a module of OpenSCAD that the profile leaves out. Takes no memory.
+pub fn is_left_out(name: &[u8]) -> bool
+    ensures { result ≡ leaves_out name.now }
+{
+    is_among(&LEFT_OUT, name)
+}
+
+fn is_among(names: &[&[u8]], name: &[u8]) -> bool
+    ensures { result ≡ among (map (λ known. known.now) names.now) name.now }
+{
+    for known in names {
+        if same(known, name) {
+            return true;
+        }
+    }
+    false
+}

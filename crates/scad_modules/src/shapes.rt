@@ -1,0 +1,224 @@
+//! Calls of shapes and of extrusion.
+
+ghost use Rattle.std.specs.Prelude.{◌≡◌, ◌&&◌, ◌||◌, [], ◌∷◌, pos, not, is_some, All, IfOk, IsTrue};
+ghost use Rattle.std.specs.Ordering.{int_eq};
+ghost use Rattle.primitives.specs.Sizes.{IsSafe};
+ghost use Rattle.scad_modules.specs.Bounds.{are_bounded};
+ghost use Rattle.scad_modules.specs.Reading.{slot, or_default, sides_in};
+ghost use Rattle.scad_modules.specs.Shapes.{fragments_in, cube_effect, polyhedron_effect, square_effect, polygon_effect, circle_effect, cylinder_effect, extrude_effect};
+ghost use Rattle.scad_modules.specs.View.{fragments_of, slots_of, Reads, TellsEffect, GivesSafe};
+
+use crate::effects::{Effect, FlatShape, SolidShape};
+use crate::lists::{faces, flat_points, points};
+use crate::numbers::{number, three_sides, two_sides};
+use crate::slots::{given, is_centered, is_given, number_or, required};
+use scad_value::{Value, ValueStop};
+use std::alloc::Global;
+use text_place::FaultKind;
+
+/// The effect of `cube`, or its first fault: TypeMismatch or WrongDimension.
+pub(crate) fn cube(inside: bool, slots: &[Option<Value>]) -> Result<Effect, ValueStop>
+    requires { IsTrue (are_bounded (slots_of slots.now)) }
+    ensures effect { TellsEffect result (cube_effect inside (slots_of slots.now)) }
+    ensures safe { GivesSafe result }
+{
+    let size = cube_size(slots)?;
+    let center = is_centered(slots, 1)?;
+    if inside {
+        return Err(ValueStop::Kind(FaultKind::WrongDimension));
+    }
+    Ok(Effect::Solid(SolidShape::Cube { size, center }))
+}
+
+/// The effect of `polyhedron`, or its first fault: BadArgument, TypeMismatch or WrongDimension.
+pub(crate) fn polyhedron(
+    alloc: Global,
+    inside: bool,
+    slots: &[Option<Value>],
+) -> Result<Effect, ValueStop>
+    ensures effect { TellsEffect result (polyhedron_effect inside (slots_of slots.now)) }
+    ensures safe { GivesSafe result }
+{
+    let point_list = required(slots, 0)?;
+    let face_list = required(slots, 1)?;
+    let points = points(alloc, point_list)?;
+    let faces = faces(alloc, face_list)?;
+    if inside {
+        return Err(ValueStop::Kind(FaultKind::WrongDimension));
+    }
+    Ok(Effect::Solid(SolidShape::Polyhedron { points, faces }))
+}
+
+/// The effect of `cylinder`, or its first fault: NotInProfile of a diameter, BadArgument,
+/// TypeMismatch, WrongDimension, TypeMismatch of `$fn` or NotInProfile of it.
+pub(crate) fn cylinder(
+    inside: bool,
+    fragments: Option<&Value>,
+    slots: &[Option<Value>],
+) -> Result<Effect, ValueStop>
+    requires { IsTrue (are_bounded (slots_of slots.now)) }
+    ensures effect { TellsEffect result (cylinder_effect inside (fragments_of fragments.entry) (slots_of slots.now)) }
+    ensures safe { GivesSafe result }
+{
+    if is_given(slots, 5) || is_given(slots, 6) || is_given(slots, 7) {
+        return Err(ValueStop::Kind(FaultKind::NotInProfile));
+    }
+    if has_two_radii(slots) {
+        return Err(ValueStop::Kind(FaultKind::BadArgument));
+    }
+    let height = number_or(slots, 0, 1)?;
+    let radius = number_or(slots, 4, 1)?;
+    let low = number_or(slots, 1, radius)?;
+    let high = number_or(slots, 2, radius)?;
+    let center = is_centered(slots, 3)?;
+    if inside {
+        return Err(ValueStop::Kind(FaultKind::WrongDimension));
+    }
+    if is_round(fragment_count(fragments)?) {
+        return Err(ValueStop::Kind(FaultKind::NotInProfile));
+    }
+    Ok(Effect::Solid(SolidShape::Cylinder {
+        height,
+        low,
+        high,
+        center,
+    }))
+}
+
+/// The effect of `square`, or its first fault: TypeMismatch or WrongDimension.
+pub(crate) fn square(inside: bool, slots: &[Option<Value>]) -> Result<Effect, ValueStop>
+    requires { IsTrue (are_bounded (slots_of slots.now)) }
+    ensures effect { TellsEffect result (square_effect inside (slots_of slots.now)) }
+    ensures safe { GivesSafe result }
+{
+    let size = square_size(slots)?;
+    let center = is_centered(slots, 1)?;
+    if !inside {
+        return Err(ValueStop::Kind(FaultKind::WrongDimension));
+    }
+    Ok(Effect::Flat(FlatShape::Square { size, center }))
+}
+
+/// The effect of `polygon`, or its first fault: BadArgument, NotInProfile, TypeMismatch or
+/// WrongDimension.
+pub(crate) fn polygon(
+    alloc: Global,
+    inside: bool,
+    slots: &[Option<Value>],
+) -> Result<Effect, ValueStop>
+    ensures effect { TellsEffect result (polygon_effect inside (slots_of slots.now)) }
+    ensures safe { GivesSafe result }
+{
+    let point_list = required(slots, 0)?;
+    if is_given(slots, 1) {
+        return Err(ValueStop::Kind(FaultKind::NotInProfile));
+    }
+    let points = flat_points(alloc, point_list)?;
+    if !inside {
+        return Err(ValueStop::Kind(FaultKind::WrongDimension));
+    }
+    Ok(Effect::Flat(FlatShape::Polygon { points }))
+}
+
+/// The effect of `circle`, or its first fault: NotInProfile of a diameter, TypeMismatch,
+/// WrongDimension, TypeMismatch of `$fn` or NotInProfile of it.
+pub(crate) fn circle(
+    inside: bool,
+    fragments: Option<&Value>,
+    slots: &[Option<Value>],
+) -> Result<Effect, ValueStop>
+    requires { IsTrue (are_bounded (slots_of slots.now)) }
+    ensures effect { TellsEffect result (circle_effect inside (fragments_of fragments.entry) (slots_of slots.now)) }
+    ensures safe { GivesSafe result }
+{
+    if is_given(slots, 1) {
+        return Err(ValueStop::Kind(FaultKind::NotInProfile));
+    }
+    let radius = number_or(slots, 0, 1)?;
+    if !inside {
+        return Err(ValueStop::Kind(FaultKind::WrongDimension));
+    }
+    if is_round(fragment_count(fragments)?) {
+        return Err(ValueStop::Kind(FaultKind::NotInProfile));
+    }
+    Ok(Effect::Flat(FlatShape::Circle { radius }))
+}
+
+/// The effect of `linear_extrude`, or its first fault: BadArgument, NotInProfile, TypeMismatch or
+/// WrongDimension.
+pub(crate) fn linear_extrude(inside: bool, slots: &[Option<Value>]) -> Result<Effect, ValueStop>
+    requires { IsTrue (are_bounded (slots_of slots.now)) }
+    ensures effect { TellsEffect result (extrude_effect inside (slots_of slots.now)) }
+    ensures safe { GivesSafe result }
+{
+    let given_height = required(slots, 0)?;
+    if is_given(slots, 3) || is_given(slots, 4) || is_given(slots, 5) {
+        return Err(ValueStop::Kind(FaultKind::NotInProfile));
+    }
+    let height = number(given_height).ok_or(FaultKind::TypeMismatch)?;
+    let center = is_centered(slots, 1)?;
+    if inside {
+        return Err(ValueStop::Kind(FaultKind::WrongDimension));
+    }
+    Ok(Effect::Extrusion { height, center })
+}
+
+/// The sizes of a cube, or TypeMismatch.
+fn cube_size(slots: &[Option<Value>]) -> Result<[i64; 3], FaultKind>
+    requires { IsTrue (are_bounded (slots_of slots.now)) }
+    ensures value { Reads result (or_default (pos 1 ∷ pos 1 ∷ pos 1 ∷ []) (sides_in 3) (slot (slots_of slots.now) 0)) }
+    ensures safe { IfOk result (All IsSafe) }
+{
+    found_cube_size(slots)
+}
+
+fn found_cube_size(slots: &[Option<Value>]) -> Result<[i64; 3], FaultKind>
+    ensures { Reads result (or_default (pos 1 ∷ pos 1 ∷ pos 1 ∷ []) (sides_in 3) (slot (slots_of slots.now) 0)) }
+{
+    match given(slots, 0) {
+        Some(value) => three_sides(value).ok_or(FaultKind::TypeMismatch),
+        None => Ok([1, 1, 1]),
+    }
+}
+
+/// The sizes of a square, or TypeMismatch.
+fn square_size(slots: &[Option<Value>]) -> Result<[i64; 2], FaultKind>
+    requires { IsTrue (are_bounded (slots_of slots.now)) }
+    ensures value { Reads result (or_default (pos 1 ∷ pos 1 ∷ []) (sides_in 2) (slot (slots_of slots.now) 0)) }
+    ensures safe { IfOk result (All IsSafe) }
+{
+    found_square_size(slots)
+}
+
+fn found_square_size(slots: &[Option<Value>]) -> Result<[i64; 2], FaultKind>
+    ensures { Reads result (or_default (pos 1 ∷ pos 1 ∷ []) (sides_in 2) (slot (slots_of slots.now) 0)) }
+{
+    match given(slots, 0) {
+        Some(value) => two_sides(value).ok_or(FaultKind::TypeMismatch),
+        None => Ok([1, 1]),
+    }
+}
+
+/// Whether a cylinder has a radius for both its ends and one for an end.
+fn has_two_radii(slots: &[Option<Value>]) -> bool
+    ensures { result ≡ (is_some (slot (slots_of slots.now) 4) && (is_some (slot (slots_of slots.now) 1) || is_some (slot (slots_of slots.now) 2))) }
+{
+    is_given(slots, 4) && (is_given(slots, 1) || is_given(slots, 2))
+}
+
+/// The number of fragments, or TypeMismatch.
+fn fragment_count(fragments: Option<&Value>) -> Result<i64, FaultKind>
+    ensures { Reads result (fragments_in (fragments_of fragments.entry)) }
+{
+    match fragments {
+        Some(value) => number(value).ok_or(FaultKind::TypeMismatch),
+        None => Err(FaultKind::TypeMismatch),
+    }
+}
+
+/// Whether a circle has another number of fragments than 4.
+fn is_round(count: i64) -> bool
+    ensures { result ≡ not (int_eq count (pos 4)) }
+{
+    count != 4
+}

@@ -1,0 +1,48 @@
+use Rattle.std.proofs.Common.{refl, ap, length, subst, ◌≡◌, [], ◌∷◌, ◌++◌, ◌∙◌}
+use Rattle.std.specs.Prelude.{OnOk}
+use Rattle.scad_scope.specs.Names.{Row, numbered_call, called_row, env_of}
+use Rattle.scad_scope.specs.Blocks.{row_of_block}
+use Rattle.scad_scope.specs.Tables.{text_held, functions_held, modules_held}
+use Rattle.scad_scope.specs.Numbered.{numbers_below}
+use Rattle.scad_scope.specs.Table.{rows_of}
+use Rattle.scad_scope.proofs.Envs.{entering_told, entering_kept, called_from}
+use Rattle.scad_scope.proofs.Numbered.{entering_passes, entered_below}
+use Rattle.scad_scope.proofs.scopes.Scopes.enter_call.Goals as goal
+
+row : goal.After-add → Row
+row c = called_row c.args.call.children c.args.call.caller
+    (row_of_block c.args.outer (text_held c.args.blocks.now) c.args.block)
+
+added : (c : goal.After-add) → OnOk c.add.result
+    (rows_of c.add.new.self ≡ rows_of c.args.self.now ++ row c ∷ [])
+unfolding row
+added c = subst (λ r. OnOk c.add.result (rows_of c.add.new.self ≡ rows_of c.args.self.now ++ r ∷ []))
+    (c.of_call.ensures ∙ ap (called_row c.args.call.children c.args.call.caller) c.in_ok-entered.ensures) c.add.ensures.added
+
+pub returns-clause-inside : goal.returns-clause-inside
+unfolding row
+returns-clause-inside c = entering_told (rows_of c.args.self.now)
+    (rows_of c.add.new.self) c.args.outer (row c) c.add.result
+    (numbered_call c.args.call.children (env_of (rows_of c.args.self.now) c.args.call.caller))
+    refl
+    (called_from (env_of (rows_of c.args.self.now)) (length (rows_of c.args.self.now)) c.args.call.children c.args.call.caller
+    c.requires.caller)
+    c.add.ensures.number (added c)
+
+pub returns-clause-kept : goal.returns-clause-kept
+returns-clause-kept c = entering_kept (rows_of c.args.self.now) (rows_of c.add.new.self) c.args.outer (row c)
+    c.add.result (added c) c.add.ensures.unchanged
+
+pub returns-clause-functions : goal.returns-clause-functions
+unfolding row
+returns-clause-functions c = entering_passes
+    (λ r. numbers_below (length (functions_held c.args.blocks.now)) r.functions)
+    (rows_of c.args.self.now) (rows_of c.add.new.self) (row c) c.add.result (added c) c.add.ensures.unchanged
+    (entered_below c.args.outer c.args.blocks.now c.args.block).0
+
+pub returns-clause-modules : goal.returns-clause-modules
+unfolding row
+returns-clause-modules c = entering_passes
+    (λ r. numbers_below (length (modules_held c.args.blocks.now)) r.modules)
+    (rows_of c.args.self.now) (rows_of c.add.new.self) (row c) c.add.result (added c) c.add.ensures.unchanged
+    (entered_below c.args.outer c.args.blocks.now c.args.block).1

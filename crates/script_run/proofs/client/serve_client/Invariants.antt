@@ -1,0 +1,14 @@
+use Rattle.std.proofs.Common.{◌≡◌, ◌++◌, ◌+◌, ◌≤◌, List, length, drop, vec_len}
+use Rattle.std.specs.Prelude.{vec_capacity}
+use Rattle.edit_session.specs.Sessions.{start}
+use Rattle.reply_text.specs.declared.reply.Reply.{Reply}
+use Rattle.reply_text.specs.Answers.{Fits}
+use Rattle.script_run.proofs.client.serve_client.Given as goal
+
+-- replies that fit what is left fit all commands behind the replies so far
+abbrev pub invariant-loop-command : goal.invariant-loop-command
+invariant-loop-command g l = record {
+  room : vec_len l.replies + length (drop l.command-index l.commands) ≤ vec_capacity l.replies;
+  count : vec_len l.replies ≡ l.command-index;
+  fits : (rest : List Reply) → Fits g.E.Exporter.exports l.session (drop l.command-index l.commands) rest → Fits g.E.Exporter.exports start l.commands (l.replies.items ++ rest);
+}

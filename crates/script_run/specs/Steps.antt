@@ -1,0 +1,18 @@
+-- What one command does to a session, and what it is answered.
+use Rattle.std.specs.Prelude.{◌≡◌, ℕ, ◌⊎◌, List, None}
+use Rattle.script_reader.specs.declared.script.Command.{Command}
+use Rattle.edit_session.specs.Sessions.{State, refusal, accepted, next}
+use Rattle.reply_text.specs.declared.reply.Reply.{Reply}
+use Rattle.reply_text.specs.declared.reply.Reply.TheVariants as reply
+use Rattle.reply_text.specs.Answers.{IsDone, Answers}
+
+-- a command that is not refused was done and answered
+pub record Obeys (Exports : List ℕ → Reply → Type 0) (old : State) (c : Command) (new : State) (r : Reply) : Type 0 where
+  pub allowed : refusal old c ≡ None
+  pub answered : IsDone Exports old c r
+  pub done : new ≡ accepted old c
+
+-- a command was answered, or memory ran out and nothing changed
+abbrev pub Steps : (List ℕ → Reply → Type 0) → State → Command → State → Reply → Type 0
+Steps Exports old c new r =
+    ((r ≡ reply.NoMem) × (new ≡ old)) ⊎ (Answers Exports old c r × (new ≡ next old c))

@@ -1,0 +1,112 @@
+//! The commands of one client.
+
+ghost use Rattle.std.specs.Prelude.{◌≡◌, ◌≤◌, [], length, All, None, IfOk, IfErr, OnErr, vec_capacity};
+ghost use Rattle.script_reader.specs.declared.script.Command.TheVariants.{Show, Export};
+ghost use Rattle.script_reader.specs.Limits.{HasText};
+ghost use Rattle.edit_session.specs.Sessions.{start, source_of, refusal, accepted};
+ghost use Rattle.reply_text.specs.Answers.{Fits};
+ghost use Rattle.edit_session.specs.Asking.{Refuses};
+ghost use Rattle.reply_text.specs.declared.reply.Reply.TheVariants as replies;
+ghost use Rattle.script_run.specs.Steps.{Obeys, Steps};
+
+use crate::exporter::Exporter;
+use edit_session::{Asked, Session, SessionFault};
+use reply_text::Reply;
+use script_reader::Command;
+use std::alloc::Global;
+use text_place::{Bytes, Lines, NoMemory};
+
+// A copy of lines.
+fn copy_lines(alloc: Global, lines: &[Bytes]) -> Result<Lines, NoMemory>
+    ensures { IfOk result (λ copy. copy ≡ lines.now) }
+{
+    let mut copy = Vec::new(alloc);
+    for line in lines {
+        copy.push(Bytes::of(Vec::from_slice(alloc, line.items())?))?;
+    }
+    Ok(Lines::of(copy))
+}
+
+// Shows the lines, and books it.
+fn show(alloc: Global, session: &mut Session) -> Result<Reply, NoMemory>
+    requires { refusal session.old Show ≡ None }
+    ensures shown { IfOk result (λ reply. (reply ≡ replies.Text session.old.lines) × (session.new ≡ accepted session.old Show)) }
+    ensures err { OnErr result (session.new ≡ session.old) }
+{
+    let lines = copy_lines(alloc, session.lines())?;
+    session.book_show();
+    Ok(Reply::Text(lines))
+}
+
+// Exports the source, and books it.
+fn export<E: Exporter>(
+    alloc: Global,
+    exporter: &mut E,
+    session: &mut Session,
+) -> Result<Reply, NoMemory>
+    requires { refusal session.old Export ≡ None }
+    ensures exported { IfOk result (λ reply. E.exports (source_of session.old) reply × (session.new ≡ accepted session.old Export)) }
+    ensures err { OnErr result (session.new ≡ session.old) }
+{
+    let source = session.source(alloc)?;
+    let reply = exporter.export(alloc, source.as_slice())?;
+    session.book_export();
+    Ok(reply)
+}
+
+// Does what a command asks, or says why not. An error changes nothing.
+fn obey<E: Exporter>(
+    alloc: Global,
+    exporter: &mut E,
+    session: &mut Session,
+    command: &Command,
+) -> Result<Reply, SessionFault>
+    requires { HasText command.now }
+    ensures done { IfOk result (λ reply. Obeys E.exports session.old command.now session.new reply) }
+    ensures refused { IfErr result (λ why. Refuses session.old command.now session.new why) }
+{
+    match session.command(alloc, command)? {
+        Asked::Lines(count) => Ok(Reply::Lines(count)),
+        Asked::Show => Ok(show(alloc, session)?),
+        Asked::Export => Ok(export(alloc, exporter, session)?),
+    }
+}
+
+// The reply to a command: where memory runs out, the session is as it was.
+fn reply_to<E: Exporter>(
+    alloc: Global,
+    exporter: &mut E,
+    session: &mut Session,
+    command: &Command,
+) -> Reply
+    requires { HasText command.now }
+    ensures { Steps E.exports session.old command.now session.new result }
+{
+    match obey(alloc, exporter, session, command) {
+        Ok(reply) => reply,
+        Err(SessionFault::NoMemory) => Reply::NoMem,
+        Err(why) => Reply::Refused(why),
+    }
+}
+
+/// The replies to a client's commands, in the room that is given for them.
+pub fn serve_client<E: Exporter>(
+    alloc: Global,
+    exporter: &mut E,
+    commands: &[Command],
+    room: Vec<Reply>,
+) -> Vec<Reply>
+    requires empty { room.items ≡ [] }
+    requires room { length commands.now ≤ vec_capacity room }
+    requires texts { All HasText commands.now }
+    ensures fits { Fits E.exports start commands.now result.items }
+    ensures count { length result.items ≡ length commands.now }
+{
+    let mut replies = room;
+    let mut session = Session::new(alloc);
+    for command in commands {
+        let reply = reply_to(alloc, exporter, &mut session, command);
+        replies.push(reply).unwrap();
+    }
+    replies
+}

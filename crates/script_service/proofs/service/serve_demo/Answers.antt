@@ -1,0 +1,6 @@
+use Rattle.script_service.proofs.Ended.{demo_input}
+use Rattle.script_service.proofs.service.serve_demo.Goals as goal
+
+pub returns-in-Ok-clause-served : goal.returns-in-Ok-clause-served
+returns-in-Ok-clause-served g c =
+    demo_input g.E.Exporter.exports c.args.parts c.as_slice.result.now c.in-Ok.bytes.items _ _ c.serve_bytes.result c.as_slice.ensures.value c.in-Ok.ensures c.serve_bytes.ensures.served

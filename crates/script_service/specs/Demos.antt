@@ -1,0 +1,54 @@
+-- What the demonstration writes: one line for each client.
+use Rattle.std.specs.Prelude.{ℕ, ◌==◌, Bool, true, false, if◌then◌else◌, List, [], ◌∷◌, ◌++◌, codes}
+use Rattle.sha2.specs.Sha256.{sha256}
+use Rattle.hex.specs.Hex.{encode_lower}
+use Rattle.script_reader.specs.declared.script.ClientScript.{ClientScript}
+use Rattle.script_reader.specs.Lines.{newline}
+use Rattle.reply_text.specs.declared.reply.Reply.{Reply}
+use Rattle.reply_text.specs.declared.reply.Reply.TheVariants as reply
+use Rattle.reply_text.specs.Parts.{first_words}
+
+-- the bytes before the first one that is this, and those behind it
+abbrev pub before : ℕ → List ℕ → List ℕ
+before at [] = []
+before at (b ∷ bs) = if b == at then [] else b ∷ before at bs
+
+abbrev pub behind : ℕ → List ℕ → List ℕ
+behind at [] = []
+behind at (b ∷ bs) = if b == at then bs else behind at bs
+
+-- the counts of a 4OFF text: its second line has the number of vertices, a space, the number of faces and a space
+abbrev pub vertex_count : List ℕ → List ℕ
+vertex_count text = before 32 (behind 10 text)
+
+abbrev pub face_count : List ℕ → List ℕ
+face_count text = before 32 (behind 32 (behind 10 text))
+
+-- the counts of a text and its digest
+abbrev pub solid_words : List ℕ → List ℕ
+solid_words text =
+    codes " facets " ++ face_count text ++ codes " vertices " ++ vertex_count text ++ codes " sha256 " ++ encode_lower (sha256 text)
+
+-- what is told of an export: of a solid its counts and the digest of its text, and else its first line
+abbrev pub export_words : Reply → List ℕ
+export_words (reply.Solid text) = solid_words text
+export_words r = first_words r
+
+-- whether memory ran out at a command
+abbrev pub wants_memory : List Reply → Bool
+wants_memory [] = false
+wants_memory (reply.NoMem ∷ rs) = true
+wants_memory (r ∷ rs) = wants_memory rs
+
+-- what is told of the last reply, which is that of the export
+abbrev pub last_words : List Reply → List ℕ
+last_words [] = []
+last_words (r ∷ []) = export_words r
+last_words (r ∷ (q ∷ rs)) = last_words (q ∷ rs)
+
+abbrev pub demo_line : List ℕ → List Reply → List ℕ
+demo_line name replies = name ++ (if wants_memory replies then codes " nomem" else last_words replies) ++ newline
+
+abbrev pub demo_text : List ClientScript → List (List Reply) → List ℕ
+demo_text (client ∷ clients) (replies ∷ more) = demo_line client.name replies ++ demo_text clients more
+demo_text _ _ = []

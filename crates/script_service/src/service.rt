@@ -1,0 +1,269 @@
+//! The call that does all that the program does, for any exporter.
+
+ghost use Rattle.std.specs.Prelude.{◌≡◌, ◌≢◌, ◌≤◌, ◌⊎◌, ◌++◌, [], ℕ, length, All, map, string_bytes, IfSome};
+ghost use Rattle.std.specs.Io.KnownBytes.{Appends};
+ghost use Rattle.outside_io.specs.Counts.{Rose};
+ghost use Rattle.outside_io.specs.Moves.{AppendsProperPrefix};
+ghost use Rattle.run_words.specs.declared.settings.Settings.{Settings};
+ghost use Rattle.run_words.specs.declared.settings.Settings.TheVariants as settings;
+ghost use Rattle.run_words.specs.Words.{Chooses, AreOutside, AreInRange};
+ghost use Rattle.big_input.specs.DemoScript.{demo_script};
+ghost use Rattle.script_reader.specs.Limits.{AreWithin};
+ghost use Rattle.script_reader.specs.Scripts.{IsScript};
+ghost use Rattle.script_reader.specs.FaultLines.{fault_line};
+ghost use Rattle.reply_text.specs.Texts.{output};
+ghost use Rattle.reply_text.specs.Answers.{AllFit};
+ghost use Rattle.script_service.specs.Endings.{ending};
+ghost use Rattle.script_service.specs.Demos.{demo_text};
+ghost use Rattle.script_service.specs.Serving.{usage_line, IsRun, printed, Serves, BreaksOff, Begins, RefusesScript, IsScriptOf, IsNoScript};
+ghost use Rattle.script_service.specs.Outcomes.{Written, Ends, ServesBytes, ServesInput};
+
+use crate::demo::demo_lines;
+use crate::ending::ending_lines;
+use crate::status::Status;
+use big_input::make_script;
+use outside_io::{ReadEnd, Sink, Source, read_to_end, write_all};
+use reply_text::Replies;
+use run_words::{Settings, read_words};
+use script_output::{OutputEnd, write_output};
+use script_reader::{ClientScript, Script, ScriptFault, read_script, write_fault};
+use script_run::{Exporter, run_script};
+use std::alloc::Global;
+
+// How the program is called.
+const USAGE: &[u8] =
+    b"usage: scadserve run [--workers N] [--memo W] [--share S] [--half] [--tally] | demo N\n";
+
+// The most bytes of a script.
+const SCRIPT_BYTES: usize = 1_048_576;
+
+// Writes all of a text, and ends with the status unless the sink fails.
+fn finish<K: Sink>(sink: &mut K, text: &[u8], status: Status) -> Status
+    ensures ends { Ends status (record { old = K.held sink.old; new = K.held sink.new; before = K.faults sink.old; now = K.faults sink.new }) text.now result }
+    ensures quick { (result ≡ status) ⊎ (result ≡ Status.WriteFault) }
+    ensures later { K.faults sink.old ≤ K.faults sink.new }
+{
+    match write_all(sink, text) {
+        Ok(()) => status,
+        Err(_) => Status::WriteFault,
+    }
+}
+
+// Writes the line of a script's fault.
+fn refuse<K: Sink>(alloc: Global, fault: ScriptFault, sink: &mut K) -> Status
+    ensures ends { Ends Status.BadScript (record { old = K.held sink.old; new = K.held sink.new; before = K.faults sink.old; now = K.faults sink.new }) (fault_line fault) result }
+    ensures later { K.faults sink.old ≤ K.faults sink.new }
+{
+    match write_fault(alloc, fault) {
+        Ok(line) => finish(sink, line.as_slice(), Status::BadScript),
+        Err(_) => Status::NoMemory,
+    }
+}
+
+// Writes the output of a run.
+fn write_run<K: Sink>(
+    alloc: Global,
+    tally: bool,
+    share: u64,
+    clients: &[ClientScript],
+    replies: &[Replies],
+    sink: &mut K,
+) -> Status
+    requires { All (λ rs. length rs ≤ 8192) replies.now }
+    ensures ends { Ends Status.Done (record { old = K.held sink.old; new = K.held sink.new; before = K.faults sink.old; now = K.faults sink.new }) (output clients.now replies.now ++ ending tally share clients.now) result }
+    ensures later { K.faults sink.old ≤ K.faults sink.new }
+{
+    let Ok(lines) = ending_lines(alloc, tally, share, clients) else {
+        return Status::NoMemory;
+    };
+    match write_output(alloc, sink, clients, replies, lines.as_slice()) {
+        Ok(()) => Status::Done,
+        Err(OutputEnd::Failed) => Status::WriteFault,
+        Err(OutputEnd::NoMemory) => Status::NoMemory,
+    }
+}
+
+// Writes the lines of the demonstration.
+fn write_demo<K: Sink>(
+    alloc: Global,
+    clients: &[ClientScript],
+    replies: &[Replies],
+    sink: &mut K,
+) -> Status
+    ensures ends { Ends Status.Done (record { old = K.held sink.old; new = K.held sink.new; before = K.faults sink.old; now = K.faults sink.new }) (demo_text clients.now replies.now) result }
+    ensures later { K.faults sink.old ≤ K.faults sink.new }
+{
+    match demo_lines(alloc, clients, replies) {
+        Ok(lines) => finish(sink, lines.as_slice(), Status::Done),
+        Err(_) => Status::NoMemory,
+    }
+}
+
+// Writes what is to be written for a script whose clients are given these replies.
+fn write_replies<K: Sink>(
+    alloc: Global,
+    settings: Settings,
+    clients: &[ClientScript],
+    replies: &[Replies],
+    sink: &mut K,
+) -> Status
+    requires { All (λ rs. length rs ≤ 8192) replies.now }
+    ensures ends { Ends Status.Done (record { old = K.held sink.old; new = K.held sink.new; before = K.faults sink.old; now = K.faults sink.new }) (printed settings clients.now replies.now) result }
+    ensures later { K.faults sink.old ≤ K.faults sink.new }
+{
+    match settings {
+        Settings::Run { share, tally, .. } => {
+            write_run(alloc, tally, share, clients, replies, sink)
+        }
+        Settings::Demo(_) => write_demo(alloc, clients, replies, sink),
+    }
+}
+
+// Serves the bytes of a script, or refuses them.
+fn serve_bytes<E: Exporter, K: Sink>(
+    alloc: Global,
+    exporter: &mut E,
+    settings: Settings,
+    bytes: &[u8],
+    sink: &mut K,
+) -> Status
+    ensures served { ServesBytes E.exports settings bytes.now (record { old = K.held sink.old; new = K.held sink.new; before = K.faults sink.old; now = K.faults sink.new }) result }
+    ensures later { K.faults sink.old ≤ K.faults sink.new }
+{
+    let script = match read_script(alloc, bytes) {
+        Ok(script) => script,
+        Err(ScriptFault::NoMemory) => return Status::NoMemory,
+        Err(fault) => return refuse(alloc, fault, sink),
+    };
+    match run_script(alloc, exporter, &script) {
+        Ok(replies) => write_replies(alloc, settings, script.clients.items(), &replies, sink),
+        Err(_) => Status::NoMemory,
+    }
+}
+
+// Serves the script of the source.
+fn serve_run<E: Exporter, S: Source, K: Sink>(
+    alloc: Global,
+    exporter: &mut E,
+    settings: Settings,
+    source: &mut S,
+    sink: &mut K,
+) -> Status
+    requires { IsRun settings }
+    ensures read_fault { result ≡ Status.ReadFault → Rose (S.faults source.old) (S.faults source.new) × (sink.new ≡ sink.old) }
+    ensures served { (result ≡ Status.ReadFault) ⊎ ServesInput E.exports settings (S.left source.old) (S.left source.new) (record { old = K.held sink.old; new = K.held sink.new; before = K.faults sink.old; now = K.faults sink.new }) result }
+    ensures counts { (S.faults source.old ≤ S.faults source.new) × (K.faults sink.old ≤ K.faults sink.new) }
+{
+    match read_to_end(alloc, source, SCRIPT_BYTES) {
+        Ok(bytes) => serve_bytes(alloc, exporter, settings, bytes.as_slice(), sink),
+        Err(ReadEnd::TooLarge) => refuse(alloc, ScriptFault::TooLarge, sink),
+        Err(ReadEnd::Failed) => Status::ReadFault,
+        Err(ReadEnd::NoMemory) => Status::NoMemory,
+    }
+}
+
+// Serves the script of the demonstration.
+fn serve_demo<E: Exporter, K: Sink>(
+    alloc: Global,
+    exporter: &mut E,
+    parts: u64,
+    sink: &mut K,
+) -> Status
+    requires { (1 ≤ parts) × (parts ≤ 200) }
+    ensures served { (ServesBytes E.exports (settings.Demo parts) (demo_script parts) (record { old = K.held sink.old; new = K.held sink.new; before = K.faults sink.old; now = K.faults sink.new }) result) }
+    ensures later { K.faults sink.old ≤ K.faults sink.new }
+{
+    match make_script(alloc, parts as u32) {
+        Ok(bytes) => serve_bytes(
+            alloc,
+            exporter,
+            Settings::Demo(parts),
+            bytes.as_slice(),
+            sink,
+        ),
+        Err(_) => Status::NoMemory,
+    }
+}
+
+// Serves what the settings ask for.
+fn serve_chosen<E: Exporter, S: Source, K: Sink>(
+    alloc: Global,
+    exporter: &mut E,
+    settings: Settings,
+    source: &mut S,
+    sink: &mut K,
+) -> Status
+    requires { AreInRange settings }
+    ensures done { result ≡ Status.Done → Serves E.exports settings (S.left source.old) (S.left source.new) (K.held sink.old) (K.held sink.new) }
+    ensures bad_script { result ≡ Status.BadScript → RefusesScript settings (S.left source.old) (S.left source.new) (K.held sink.old) (K.held sink.new) }
+    ensures read_fault { result ≡ Status.ReadFault → IsRun settings × Rose (S.faults source.old) (S.faults source.new) × (sink.new ≡ sink.old) }
+    ensures write_fault { result ≡ Status.WriteFault → Rose (K.faults sink.old) (K.faults sink.new)
+        × BreaksOff E.exports settings (S.left source.old) (S.left source.new) (K.held sink.old) (K.held sink.new) }
+    ensures no_memory { result ≡ Status.NoMemory → Appends (K.held sink.old) (K.held sink.new) []
+        ⊎ Begins E.exports settings (S.left source.old) (S.left source.new) (K.held sink.old) (K.held sink.new) }
+    ensures counts { (S.faults source.old ≤ S.faults source.new) × (K.faults sink.old ≤ K.faults sink.new) }
+    ensures words { result ≢ Status.BadWords }
+    ensures complete { (Rose (S.faults source.old) (S.faults source.new) → ⊥) → (Rose (K.faults sink.old) (K.faults sink.new) → ⊥)
+        → (result ≡ Status.Done) ⊎ (result ≡ Status.BadScript) ⊎ (result ≡ Status.NoMemory) }
+    ensures script { IsRun settings → IfSome (S.left source.old) (λ bytes. IsScriptOf bytes → result ≢ Status.BadScript) }
+    ensures no_script { IsRun settings → IfSome (S.left source.old) (λ bytes. IsNoScript bytes → result ≢ Status.Done) }
+    ensures demo { (IsRun settings → ⊥) → (source.new ≡ source.old) × (result ≢ Status.ReadFault) }
+{
+    match settings {
+        Settings::Run { .. } => serve_run(alloc, exporter, settings, source, sink),
+        Settings::Demo(parts) => serve_demo(alloc, exporter, parts, sink),
+    }
+}
+
+/// Does all that the program does, with an exporter: reads the words, serves the script of the source or of the
+/// demonstration, and writes what is to be written to the sink.
+pub fn serve_with<E: Exporter, S: Source, K: Sink>(
+    alloc: Global,
+    exporter: &mut E,
+    words: &[String],
+    source: &mut S,
+    sink: &mut K,
+) -> Status
+    // Whatever is read and written, each client's replies are those that its own commands define.
+    ensures done { result ≡ Status.Done → (settings : Settings) × Chooses (map string_bytes words.now) settings
+        × Serves E.exports settings (S.left source.old) (S.left source.new) (K.held sink.old) (K.held sink.new) }
+
+    // Words that are outside the grammar, and they alone, are answered by the usage line, and then nothing is read.
+    ensures bad_words { result ≡ Status.BadWords → AreOutside (map string_bytes words.now)
+        × Appends (K.held sink.old) (K.held sink.new) usage_line }
+    ensures wrong_words { AreOutside (map string_bytes words.now) → (source.new ≡ source.old)
+        × ((result ≡ Status.BadWords) ⊎ (result ≡ Status.WriteFault)) }
+    ensures usage_cut { AreOutside (map string_bytes words.now) → result ≡ Status.WriteFault
+        → AppendsProperPrefix (K.held sink.old) (K.held sink.new) usage_line }
+
+    // When each other answer comes, and what was written then.
+    ensures bad_script { result ≡ Status.BadScript → (settings : Settings) × Chooses (map string_bytes words.now) settings
+        × RefusesScript settings (S.left source.old) (S.left source.new) (K.held sink.old) (K.held sink.new) }
+    ensures read_fault { result ≡ Status.ReadFault → (settings : Settings) × Chooses (map string_bytes words.now) settings
+        × IsRun settings × Rose (S.faults source.old) (S.faults source.new) × (sink.new ≡ sink.old) }
+    ensures write_fault { result ≡ Status.WriteFault → Rose (K.faults sink.old) (K.faults sink.new) }
+    ensures output_cut { (settings : Settings) → Chooses (map string_bytes words.now) settings → result ≡ Status.WriteFault
+        → BreaksOff E.exports settings (S.left source.old) (S.left source.new) (K.held sink.old) (K.held sink.new) }
+    ensures no_memory { result ≡ Status.NoMemory → Appends (K.held sink.old) (K.held sink.new) []
+        ⊎ ((settings : Settings) × Chooses (map string_bytes words.now) settings
+        × Begins E.exports settings (S.left source.old) (S.left source.new) (K.held sink.old) (K.held sink.new)) }
+    ensures counts { (S.faults source.old ≤ S.faults source.new) × (K.faults sink.old ≤ K.faults sink.new) }
+
+    // Where no count of faults rose, a script is served and other bytes are refused, unless memory ran out.
+    ensures complete { (settings : Settings) → Chooses (map string_bytes words.now) settings
+        → (Rose (S.faults source.old) (S.faults source.new) → ⊥) → (Rose (K.faults sink.old) (K.faults sink.new) → ⊥)
+        → (result ≡ Status.Done) ⊎ (result ≡ Status.BadScript) ⊎ (result ≡ Status.NoMemory) }
+    ensures script { (settings : Settings) → Chooses (map string_bytes words.now) settings → IsRun settings
+        → IfSome (S.left source.old) (λ bytes. IsScriptOf bytes → result ≢ Status.BadScript) }
+    ensures no_script { (settings : Settings) → Chooses (map string_bytes words.now) settings → IsRun settings
+        → IfSome (S.left source.old) (λ bytes. IsNoScript bytes → result ≢ Status.Done) }
+
+    // The demonstration reads nothing.
+    ensures demo { (settings : Settings) → Chooses (map string_bytes words.now) settings → (IsRun settings → ⊥)
+        → (source.new ≡ source.old) × (result ≢ Status.ReadFault) }
+{
+    match read_words(words) {
+        Ok(settings) => serve_chosen(alloc, exporter, settings, source, sink),
+        Err(_) => finish(sink, USAGE, Status::BadWords),
+    }
+}

@@ -1,0 +1,3 @@
+-- The memo behind a lock.
+pub mod Shares
+pub mod Tallies

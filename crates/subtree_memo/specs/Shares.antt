@@ -1,0 +1,64 @@
+-- What contracts see of a caller's share of the books.
+use Rattle.std.specs.Prelude.{ℕ, zero, suc, ◌+◌, ◌^◌, min, Bool, true, false, List, [], ◌∷◌, ◌++◌}
+use Rattle.memo_core.specs.declared.memo.Fill.{Fill}
+use Rattle.memo_core.specs.declared.memo.Fill.TheVariants.{Kept, TooHeavy, NoMemory}
+
+-- One caller's share: how many parts of the books it has, and what was booked on it: probes that were
+-- hits and misses, and fills that were kept, that were too heavy, and that were dropped for want of
+-- memory.
+pub record View : Type 0 where
+  pub caller : ℕ
+  pub parts : ℕ
+  pub hits : ℕ
+  pub misses : ℕ
+  pub kept : ℕ
+  pub heavy : ℕ
+  pub dropped : ℕ
+
+-- the parts that a caller gets
+abbrev pub parts_each : ℕ
+parts_each = 128
+
+-- where the number of dropped fills stops
+abbrev pub dropped_max : ℕ
+dropped_max = 2 ^ 48
+
+-- a share on which a probe is booked that was a hit, or not
+abbrev pub probe_booked : Bool → View → View
+probe_booked true v = record v { hits = v.hits + 1 }
+probe_booked false v = record v { misses = v.misses + 1 }
+
+-- a share on which a fill is booked that was answered so
+abbrev pub fill_booked : Fill → View → View
+fill_booked Kept v = record v { kept = v.kept + 1 }
+fill_booked TooHeavy v = record v { heavy = v.heavy + 1 }
+fill_booked NoMemory v = record v { dropped = min (v.dropped + 1) dropped_max }
+
+-- a share with nothing booked
+abbrev pub fresh : ℕ → ℕ → View
+fresh caller parts = record { caller = caller; parts = parts; hits = 0; misses = 0; kept = 0; heavy = 0; dropped = 0 }
+
+-- two shares of one caller put together
+abbrev pub joined : View → View → View
+joined a b = record {
+  caller = a.caller;
+  parts = a.parts + b.parts;
+  hits = a.hits + b.hits;
+  misses = a.misses + b.misses;
+  kept = a.kept + b.kept;
+  heavy = a.heavy + b.heavy;
+  dropped = min (a.dropped + b.dropped) dropped_max;
+}
+
+-- the shares of so many callers, by their numbers
+abbrev pub opened : ℕ → List View
+opened zero = []
+opened (suc n) = opened n ++ fresh n parts_each ∷ []
+
+-- the probes of a share
+abbrev pub probes_of : View → ℕ
+probes_of v = v.hits + v.misses
+
+-- the fills that were offered on a share
+abbrev pub offered_of : View → ℕ
+offered_of v = v.kept + v.heavy + v.dropped

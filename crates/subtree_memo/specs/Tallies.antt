@@ -1,0 +1,27 @@
+-- The counts of a journal.
+use Rattle.std.specs.Prelude.{◌≡◌, ℕ, ◌+◌, List}
+use Rattle.memo_core.specs.Memo.{Item, count_in, hit_by, missed_by, kept_by, heavy_by, evicted_in}
+use Rattle.subtree_memo.specs.declared.tally.Counts.{Counts}
+use Rattle.subtree_memo.specs.declared.tally.Tally.{Tally}
+
+module _ {K : Type 0} where
+  -- these are a journal's numbers of hits, misses, fills that were kept and fills that were too heavy
+  pub record AreCounts (items : List (Item K)) (counts : Counts) : Type 0 where
+    pub hits : counts.hits ≡ count_in hit_by items
+    pub misses : counts.misses ≡ count_in missed_by items
+    pub kept : counts.kept ≡ count_in kept_by items
+    pub heavy : counts.heavy ≡ count_in heavy_by items
+
+  -- The tally of a journal, and of so many fills that were dropped for want of memory and stand in no
+  -- journal. Fills that were kept, too heavy or dropped were offered.
+  abbrev pub tally_of : List (Item K) → ℕ → Tally
+  tally_of items dropped = record {
+    probes = count_in hit_by items + count_in missed_by items;
+    hits = count_in hit_by items;
+    misses = count_in missed_by items;
+    offered = count_in kept_by items + count_in heavy_by items + dropped;
+    kept = count_in kept_by items;
+    heavy = count_in heavy_by items;
+    dropped = dropped;
+    evicted = evicted_in items;
+  }

@@ -1,0 +1,142 @@
+ghost use Rattle.std.specs.Prelude.{◌≡◌, ◌<◌, [], IfOk, OnErr, IfSome};
+ghost use Rattle.std.specs.Arc.{arc_value};
+ghost use Rattle.memo_core.specs.Fields.{value_in, is_hit};
+ghost use Rattle.memo_core.specs.Memo.{count_in, hit_by, missed_by, kept_by, heavy_by};
+ghost use Rattle.subtree_memo.specs.Shares.{probe_booked, fill_booked};
+
+use crate::ledgers::MemoLedger;
+use crate::share::{Share, dropped_sum};
+use memo_core::{Dropped, Fill, Fit, MemoCore, Namer, Probe};
+use std::alloc::Global;
+use std::sync::Arc;
+use std::sync::ledger::{Book, Ledger};
+use text_place::NoMemory;
+
+/// A memo, and beside it the books of its journal's counts.
+#[derive(Drop)]
+pub struct Booked<F: Fit, N: Namer<F::Key>, H: MemoLedger, M: Ledger, K: Ledger, E: Ledger> {
+    pub core: MemoCore<F, N>,
+    pub hits: Book<H>,
+    pub misses: Book<M>,
+    pub kept: Book<K>,
+    pub heavy: Book<E>,
+    pub ghost hits_are: { hits.total ≡ count_in hit_by core.journal },
+    pub ghost misses_are: { misses.total ≡ count_in missed_by core.journal },
+    pub ghost kept_are: { kept.total ≡ count_in kept_by core.journal },
+    pub ghost heavy_are: { heavy.total ≡ count_in heavy_by core.journal },
+    pub ghost budget_is: { core.budget ≡ H.budget },
+    pub ghost share_is: { core.share ≡ H.share },
+}
+
+/// The books of a memo, on which nothing is booked.
+#[derive(Drop)]
+pub struct Books<H: Ledger, M: Ledger, K: Ledger, E: Ledger> {
+    pub hits: Book<H>,
+    pub misses: Book<M>,
+    pub kept: Book<K>,
+    pub heavy: Book<E>,
+    pub ghost no_hits: { hits.total ≡ 0 },
+    pub ghost no_misses: { misses.total ≡ 0 },
+    pub ghost none_kept: { kept.total ≡ 0 },
+    pub ghost none_heavy: { heavy.total ≡ 0 },
+}
+
+/// A memo whose journal is empty, with its books.
+pub fn first_booked<F: Fit, N: Namer<F::Key>, H: MemoLedger, M: Ledger, K: Ledger, E: Ledger>(
+    core: MemoCore<F, N>,
+    books: Books<H, M, K, E>,
+) -> Booked<F, N, H, M, K, E>
+    requires empty { core.journal ≡ [] }
+    requires limits { (core.budget ≡ H.budget) × (core.share ≡ H.share) }
+{
+    let Books {
+        hits,
+        misses,
+        kept,
+        heavy,
+    } = books;
+    Booked {
+        core,
+        hits,
+        misses,
+        kept,
+        heavy,
+    }
+}
+
+impl<F: Fit, N: Namer<F::Key>, H: MemoLedger, M: Ledger, K: Ledger, E: Ledger> Booked<
+    F,
+    N,
+    H,
+    M,
+    K,
+    E,
+> {
+    /// A probe that is booked. NoMemory books nothing.
+    #[tactic(auto, using(crate::proofs::Counts::hits_more, crate::proofs::Counts::misses_more, crate::proofs::Counts::kept_more, crate::proofs::Counts::heavy_more))]
+    pub fn probe(
+        &mut self,
+        alloc: Global,
+        share: &mut Share<H, M, K, E>,
+        key: &Arc<F::Key>,
+    ) -> Result<Probe<F::Value>, NoMemory>
+        requires { 0 < share.old.parts }
+        ensures fits { IfOk result (λ p. IfSome (value_in p) (F.fits (arc_value key.now))) }
+        ensures booked { IfOk result (λ p. share.new ≡ probe_booked (is_hit p) share.old) }
+        ensures err { OnErr result (share.new ≡ share.old) }
+    {
+        let Booked {
+            core,
+            hits,
+            misses,
+            kept: _,
+            heavy: _,
+        } = self;
+        core.room(alloc)?;
+        let found = core.probe(share.caller, key)?;
+        match &found {
+            Probe::Hit(_) => hits.add(&mut share.hits, 1),
+            Probe::Miss => misses.add(&mut share.misses, 1),
+        }
+        Ok(found)
+    }
+
+    /// A fill that is booked, also where memory runs out.
+    #[tactic(auto, using(crate::proofs::Counts::hits_more, crate::proofs::Counts::misses_more, crate::proofs::Counts::kept_more, crate::proofs::Counts::heavy_more))]
+    pub fn fill(
+        &mut self,
+        alloc: Global,
+        share: &mut Share<H, M, K, E>,
+        key: &Arc<F::Key>,
+        value: Arc<F::Value>,
+        weight: u64,
+    ) -> Fill
+        requires parts { 0 < share.old.parts }
+        requires fits { F.fits (arc_value key.now) (arc_value value) }
+        requires weight { weight ≡ F.weighs (arc_value value) }
+        ensures { share.new ≡ fill_booked result share.old }
+    {
+        let Booked {
+            core,
+            hits: _,
+            misses: _,
+            kept,
+            heavy,
+        } = self;
+        let answer = match core.room(alloc) {
+            Ok(()) => core.fill(alloc, share.caller, key, value, weight),
+            Err(_) => Fill::NoMemory,
+        };
+        match answer {
+            Fill::Kept => kept.add(&mut share.kept, 1),
+            Fill::TooHeavy => heavy.add(&mut share.heavy, 1),
+            Fill::NoMemory => share.dropped = dropped_sum(share.dropped, 1),
+        }
+        answer
+    }
+
+    /// What fills dropped, to be freed where the lock is not held.
+    pub fn take_dropped(&mut self, alloc: Global) -> Dropped<F::Key, F::Value> {
+        self.core.take_dropped(alloc)
+    }
+}
