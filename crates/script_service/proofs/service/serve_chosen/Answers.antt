@@ -8,10 +8,10 @@ pub returns-in-Run-clause-no_memory : goal.returns-in-Run-clause-no_memory
 returns-in-Run-clause-no_memory g c = chosen_short g.E.Exporter.exports c.args.settings _ _ _ c.serve_run.result c.serve_run.ensures.served
 
 pub returns-in-Run-clause-script : goal.returns-in-Run-clause-script
-returns-in-Run-clause-script g c = chosen_script g.E.Exporter.exports c.args.settings _ _ _ c.serve_run.result c.serve_run.ensures.served
+returns-in-Run-clause-script g c = chosen_script c.bytes_are_one_script.ensures.not_both g.E.Exporter.exports c.args.settings _ _ _ c.serve_run.result c.serve_run.ensures.served
 
 pub returns-in-Run-clause-no_script : goal.returns-in-Run-clause-no_script
-returns-in-Run-clause-no_script g c = chosen_no_script g.E.Exporter.exports c.args.settings _ _ _ c.serve_run.result c.serve_run.ensures.served
+returns-in-Run-clause-no_script g c = chosen_no_script c.bytes_are_one_script.ensures.not_both g.E.Exporter.exports c.args.settings _ _ _ c.serve_run.result c.serve_run.ensures.served
 
 pub returns-in-Demo-clause-write_fault : goal.returns-in-Demo-clause-write_fault
 returns-in-Demo-clause-write_fault g c =
