@@ -5,3 +5,8 @@ mod Made
 mod Positions
 mod Rows
 mod Verdicts
+mod BoundedItems
+mod Choosing
+mod Crossing
+mod NumberedItems
+mod RangeNumbers

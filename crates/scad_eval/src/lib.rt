@@ -2,7 +2,10 @@
 #![tactic(auto)]
 
 mod bodies;
+mod chosen;
+mod items;
 mod laws;
+mod ranges;
 mod shapes;
 
 pub use bodies::{evaluated_instances, is_bare, is_marked, is_on};
