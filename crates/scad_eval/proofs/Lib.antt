@@ -2,6 +2,6 @@ mod Assignments
 mod Deciding
 mod Judges
 mod Made
-mod Positions
+mod Numbering
 mod Rows
 mod Verdicts

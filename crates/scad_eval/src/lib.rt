@@ -3,8 +3,10 @@
 
 mod bodies;
 mod laws;
+mod numbered;
 mod shapes;
 
 pub use bodies::{evaluated_instances, is_bare, is_marked, is_on};
 pub use laws::{last_assignments_count, shapes_have_one_verdict};
+pub use numbered::{NumberedInstance, numbered_instances};
 pub use shapes::{flat_shape, solid_shape};
