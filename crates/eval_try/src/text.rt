@@ -1,0 +1,65 @@
+//! Text, columns and faults, written behind what was written.
+
+use compact_bytes::CompactBytes;
+use std::alloc::Global;
+use text_place::{Fault, NoMemory, Place, Stop, push_decimal, word};
+
+pub fn put(out: &mut Vec<u8>, text: &[u8]) -> Result<(), NoMemory> {
+    out.extend_from_slice(text)?;
+    Ok(())
+}
+
+/// A text with the column of its place.
+pub fn put_at(alloc: Global, out: &mut Vec<u8>, text: &[u8], place: Place) -> Result<(), NoMemory> {
+    put(out, text)?;
+    put(out, b"@")?;
+    push_decimal(alloc, out, i128::from(place.column))?;
+    put(out, b" ")
+}
+
+pub fn put_name(
+    alloc: Global,
+    out: &mut Vec<u8>,
+    name: &CompactBytes,
+    place: Place,
+) -> Result<(), NoMemory> {
+    put_at(alloc, out, name.items(), place)
+}
+
+/// A special name with its `$`.
+pub fn put_special(
+    alloc: Global,
+    out: &mut Vec<u8>,
+    name: &CompactBytes,
+    place: Place,
+) -> Result<(), NoMemory> {
+    put(out, b"$")?;
+    put_name(alloc, out, name, place)
+}
+
+pub fn put_place(alloc: Global, out: &mut Vec<u8>, place: Place) -> Result<(), NoMemory> {
+    push_decimal(alloc, out, i128::from(place.line))?;
+    put(out, b":")?;
+    push_decimal(alloc, out, i128::from(place.column))
+}
+
+fn put_fault(alloc: Global, out: &mut Vec<u8>, fault: Fault) -> Result<(), NoMemory> {
+    put_place(alloc, out, fault.place)?;
+    put(out, b" ")?;
+    put(out, word(fault.kind).as_bytes())
+}
+
+pub fn put_stop(alloc: Global, out: &mut Vec<u8>, stop: Stop) -> Result<(), NoMemory> {
+    match stop {
+        Stop::Fault(fault) => put_fault(alloc, out, fault),
+        Stop::NoMemory => put(out, b"no memory"),
+    }
+}
+
+/// What stands before the first space, and what stands behind it.
+pub fn cut(text: &[u8]) -> (&[u8], &[u8]) {
+    match text.iter().position(|byte| *byte == b' ') {
+        Some(at) => (&text[..at], &text[at + 1..]),
+        None => (text, b""),
+    }
+}
