@@ -4,4 +4,5 @@ mod Judges
 mod Made
 mod Positions
 mod Rows
+mod Telling
 mod Verdicts

@@ -5,4 +5,10 @@ pub mod Positions
 pub mod Lent
 pub mod Loops
 pub mod Meaning
+pub mod Seen
+pub mod Makings
+pub mod Steps
+pub mod Within
+pub mod Numbers
+pub mod Items
 pub mod Sources

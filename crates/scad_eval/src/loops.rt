@@ -1,11 +1,24 @@
 //! Loops.
 
+ghost use Rattle.std.specs.Prelude.{◌≡◌, ◌∷◌, [], map, IsTrue, OnOk};
+ghost use Rattle.csg_tree.specs.declared.op.Op.TheVariants.{Union};
+ghost use Rattle.scad_ast.specs.StatementView.{binder_of, binders_of};
+ghost use Rattle.scad_value.specs.Values.{is_bounded};
+ghost use Rattle.scad_value.specs.View.{val_of};
+ghost use Rattle.scad_func.specs.View.{text_of};
+ghost use Rattle.scad_eval.specs.Meaning.{loop_made, each_turn, each_step, in_loop};
+ghost use Rattle.scad_eval.specs.Items.{items_left, are_bounded};
+ghost use Rattle.scad_eval.specs.Seen.{made_seen, members_seen};
+ghost use Rattle.scad_eval.specs.Makings.{Stands, Stays, Says};
+ghost use Rattle.scad_eval.specs.Steps.{one_step};
+ghost use Rattle.scad_eval.specs.Within.{body_seen, IsInBlock};
+
 use crate::items::{Items, items_of};
 use crate::made::{fault_at, joined, no_members, with_made, with_members};
 use crate::making::Making;
-use crate::stand::{Made, Members, Stand};
+use crate::stand::{Made, Members, NumberedBody, Stand};
 use csg_tree::Op;
-use scad_ast::Binder;
+use scad_ast::{Binder, Binders};
 use scad_value::Value;
 use text_place::{FaultKind, Place, Stop};
 
@@ -17,10 +30,15 @@ impl Making<'_, '_> {
         op: Op,
         stand: Stand,
         place: Place,
-        binders: &[Binder],
-        block: u32,
-    ) -> Result<Made, Stop> {
-        let members = self.turns(stand, place, binders, block)?;
+        binders: &Binders,
+        body: NumberedBody<'_>,
+    ) -> Result<Made, Stop>
+        requires stand { Stands self.old stand }
+        requires block { IsInBlock (text_of self.old.evaluation.source.now) body }
+        ensures made { Says made_seen self.old self.new stand result (λ unit judge left make here. loop_made left make op here place (binders_of binders.now) (body_seen body.entry)) }
+        ensures stays { OnOk result (Stays self.old self.new) }
+    {
+        let members = self.turns(stand, place, &binders.items, body)?;
         Ok(joined(self.evaluation.alloc, op, members)?)
     }
 
@@ -31,15 +49,20 @@ impl Making<'_, '_> {
         stand: Stand,
         place: Place,
         binders: &[Binder],
-        block: u32,
-    ) -> Result<Members, Stop> {
+        body: NumberedBody<'_>,
+    ) -> Result<Members, Stop>
+        requires stand { Stands self.old stand }
+        requires block { IsInBlock (text_of self.old.evaluation.source.now) body }
+        ensures members { Says members_seen self.old self.new stand result (λ unit judge left make. each_turn left make place (map binder_of binders.now) (body_seen body.entry)) }
+        ensures stays { OnOk result (Stays self.old self.new) }
+    {
         match binders {
-            [] => self.one_turn(stand, place, block),
+            [] => self.one_turn(stand, place, body),
             [binder, rest @ ..] => {
                 let value = self.evaluation.expression(stand.scope, &binder.values)?;
-                match items_of(self.evaluation.alloc, value) {
+                match items_of(value) {
                     Some(items) => {
-                        self.each_item(stand, place, binder.name.items(), rest, block, items)
+                        self.each_item(stand, place, binder.name.items(), rest, body, items)
                     }
                     None => Err(fault_at(FaultKind::TypeMismatch, place)),
                 }
@@ -49,9 +72,19 @@ impl Making<'_, '_> {
 
     /// One turn gives the union of the loop's body.
     #[cycle(making)]
-    fn one_turn(&mut self, stand: Stand, place: Place, block: u32) -> Result<Members, Stop> {
+    fn one_turn(
+        &mut self,
+        stand: Stand,
+        place: Place,
+        body: NumberedBody<'_>,
+    ) -> Result<Members, Stop>
+        requires stand { Stands self.old stand }
+        requires block { IsInBlock (text_of self.old.evaluation.source.now) body }
+        ensures members { Says members_seen self.old self.new stand result (λ unit judge left make. each_turn left make place [] (body_seen body.entry)) }
+        ensures stays { OnOk result (Stays self.old self.new) }
+    {
         self.evaluation.turn(place)?;
-        let made = self.body(Op::Union, stand, block);
+        let made = self.body(Op::Union, stand, body);
         with_made(no_members(self.evaluation.alloc), true, made)
     }
 
@@ -63,13 +96,20 @@ impl Making<'_, '_> {
         place: Place,
         name: &[u8],
         rest: &[Binder],
-        block: u32,
+        body: NumberedBody<'_>,
         items: Items,
-    ) -> Result<Members, Stop> {
+    ) -> Result<Members, Stop>
+        requires stand { Stands self.old stand }
+        requires block { IsInBlock (text_of self.old.evaluation.source.now) body }
+        requires bounded { IsTrue (are_bounded (items_left items)) }
+        ensures members { Says members_seen self.old self.new stand result (λ unit judge left make here.
+            each_step place (λ item. each_turn left make place (map binder_of rest.now) (body_seen body.entry) (in_loop here name.now item)) (items_left items.entry)) }
+        ensures stays { OnOk result (Stays self.old self.new) }
+    {
         let mut left = items;
         let mut members = no_members(self.evaluation.alloc);
         'each: while let Some(value) = left.next() {
-            let next = self.step(stand, place, name, rest, block, value);
+            let next = self.step(stand, place, name, rest, body, value);
             members = with_members(members, next)?;
         }
         Ok(members)
@@ -83,10 +123,16 @@ impl Making<'_, '_> {
         place: Place,
         name: &[u8],
         rest: &[Binder],
-        block: u32,
+        body: NumberedBody<'_>,
         value: Value,
-    ) -> Result<Members, Stop> {
-        let members = self.turns_with(stand, place, name, rest, block, value)?;
+    ) -> Result<Members, Stop>
+        requires stand { Stands self.old stand }
+        requires block { IsInBlock (text_of self.old.evaluation.source.now) body }
+        requires bounded { IsTrue (is_bounded (val_of value)) }
+        ensures members { Says members_seen self.old self.new stand result (λ unit judge left make. one_step left make place name.now (map binder_of rest.now) (body_seen body.entry) (val_of value)) }
+        ensures stays { OnOk result (Stays self.old self.new) }
+    {
+        let members = self.turns_with(stand, place, name, rest, body, value)?;
         if members.designs.is_empty() {
             self.evaluation.turn(place)?;
         }
@@ -101,12 +147,18 @@ impl Making<'_, '_> {
         place: Place,
         name: &[u8],
         rest: &[Binder],
-        block: u32,
+        body: NumberedBody<'_>,
         value: Value,
-    ) -> Result<Members, Stop> {
+    ) -> Result<Members, Stop>
+        requires stand { Stands self.old stand }
+        requires block { IsInBlock (text_of self.old.evaluation.source.now) body }
+        requires bounded { IsTrue (is_bounded (val_of value)) }
+        ensures members { Says members_seen self.old self.new stand result (λ unit judge left make here. each_turn left make place (map binder_of rest.now) (body_seen body.entry) (in_loop here name.now (val_of value))) }
+        ensures stays { OnOk result (Stays self.old self.new) }
+    {
         let scope = self.evaluation.enter_empty(stand.scope)?;
         self.evaluation.bind(scope, name, value)?;
-        let members = self.turns(stand.at(scope), place, rest, block)?;
+        let members = self.turns(stand.at(scope), place, rest, body)?;
         self.evaluation.leave(scope);
         Ok(members)
     }

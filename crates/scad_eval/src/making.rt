@@ -4,7 +4,7 @@ use plane_predicate::Unit;
 use scad_func::Evaluation;
 
 /// The evaluation of instances under way: that of their expressions, the unit of lengths, and the leaves
-/// so far.
+/// so far, of which the type keeps the limit.
 #[derive(Drop)]
 pub struct Making<'a, 's> {
     pub evaluation: Evaluation<'a, 's>,

@@ -1,8 +1,21 @@
 //! Bodies, in scopes of their own.
 
+ghost use Rattle.std.specs.Prelude.{◌≡◌, ◌+◌, OnOk};
+ghost use Rattle.scad_scope.specs.Blocks.{assignments_of};
+ghost use Rattle.scad_scope.specs.TextView.{assigned_of};
+ghost use Rattle.scad_func.specs.Meaning.{Gives, then_with};
+ghost use Rattle.scad_func.specs.View.{text_of};
+ghost use Rattle.scad_func.specs.Definitions.{statements_at};
+ghost use Rattle.scad_func.specs.Evaluations.{scopes_there};
+ghost use Rattle.scad_eval.specs.Meaning.{assigned_value, assigned, each_assigned, each_in_body, body_made};
+ghost use Rattle.scad_eval.specs.Seen.{made_seen, members_seen};
+ghost use Rattle.scad_eval.specs.Makings.{stand_at, Stands, Stays, Binds, Assigns, Says};
+ghost use Rattle.scad_eval.specs.Steps.{chosen_seen, block_members};
+ghost use Rattle.scad_eval.specs.Within.{body_seen, IsInBlock};
+
 use crate::made::joined;
 use crate::making::Making;
-use crate::stand::{Made, Members, Stand};
+use crate::stand::{Made, Members, NumberedBody, Stand};
 use csg_tree::Op;
 use scad_modules::Chosen;
 use scad_scope::Assignment;
@@ -11,16 +24,35 @@ use text_place::Stop;
 impl Making<'_, '_> {
     /// A body's members joined by an operation.
     #[cycle(making)]
-    pub(crate) fn body(&mut self, op: Op, stand: Stand, block: u32) -> Result<Made, Stop> {
-        let members = self.members_of_body(stand, block)?;
+    pub(crate) fn body(
+        &mut self,
+        op: Op,
+        stand: Stand,
+        body: NumberedBody<'_>,
+    ) -> Result<Made, Stop>
+        requires stand { Stands self.old stand }
+        requires block { IsInBlock (text_of self.old.evaluation.source.now) body }
+        ensures made { Says made_seen self.old self.new stand result (λ unit judge left make here. body_made left make op here (body_seen body.entry)) }
+        ensures stays { OnOk result (Stays self.old self.new) }
+    {
+        let members = self.members_of_body(stand, body)?;
         Ok(joined(self.evaluation.alloc, op, members)?)
     }
 
     /// A body's members, in a new scope inside where it stands.
     #[cycle(making)]
-    fn members_of_body(&mut self, stand: Stand, block: u32) -> Result<Members, Stop> {
-        let scope = self.evaluation.enter_body(stand.scope, block)?;
-        let members = self.members_in_scope(stand.at(scope), block, None)?;
+    fn members_of_body(
+        &mut self,
+        stand: Stand,
+        body: NumberedBody<'_>,
+    ) -> Result<Members, Stop>
+        requires stand { Stands self.old stand }
+        requires block { IsInBlock (text_of self.old.evaluation.source.now) body }
+        ensures members { Says members_seen self.old self.new stand result (λ unit judge left make here. each_in_body left make here (body_seen body.entry)) }
+        ensures stays { OnOk result (Stays self.old self.new) }
+    {
+        let scope = self.evaluation.enter_body(stand.scope, body.block)?;
+        let members = self.members_in_scope(stand.at(scope), body.block, None)?;
         self.evaluation.leave(scope);
         Ok(members)
     }
@@ -33,9 +65,15 @@ impl Making<'_, '_> {
         stand: Stand,
         block: u32,
         chosen: Option<&Chosen>,
-    ) -> Result<Members, Stop> {
+    ) -> Result<Members, Stop>
+        requires stand { Stands self.old stand }
+        requires newest { stand.scope + 1 ≡ scopes_there self.old.evaluation }
+        ensures members { let statements = statements_at (text_of self.old.evaluation.source.now) block in
+            Says members_seen self.old self.new stand result (λ unit judge left make. block_members left make (chosen_seen chosen.entry) statements) }
+        ensures binds { OnOk result (Binds self.old self.new stand.scope) }
+    {
         let length = self.evaluation.chain_length()?;
-        self.assign_all(stand.scope, block)?;
+        self.assign_all(stand, block)?;
         let instances = self.chosen_instances(stand.scope, block, chosen)?;
         let members = self.members(stand, &instances)?;
         self.evaluation.end_specials(length);
@@ -43,23 +81,37 @@ impl Making<'_, '_> {
     }
 
     /// Gives the names of a block's assignments their values, from the first on.
-    fn assign_all(&mut self, scope: u32, block: u32) -> Result<(), Stop> {
+    fn assign_all(&mut self, stand: Stand, block: u32) -> Result<(), Stop>
+        requires stand { Stands self.old stand }
+        requires newest { stand.scope + 1 ≡ scopes_there self.old.evaluation }
+        ensures assigned { let statements = statements_at (text_of self.old.evaluation.source.now) block in
+            Says (λ leaves x. stand_at self.new stand) self.old self.new stand result (λ unit judge left make here turns leaves. each_assigned left here (assignments_of statements) turns) }
+        ensures assigns { OnOk result (Assigns self.old self.new stand.scope) }
+        ensures leaves { self.new.leaves ≡ self.old.leaves }
+    {
         let assignments = self.evaluation.assignments(block);
         'each: for assignment in assignments {
-            self.assign(scope, assignment)?;
+            self.assign(stand, assignment)?;
         }
         Ok(())
     }
 
     /// Gives a name its value: its statement is one evaluation deeper, and its expression one more.
-    fn assign(&mut self, scope: u32, assignment: &Assignment<'_>) -> Result<(), Stop> {
+    fn assign(&mut self, stand: Stand, assignment: &Assignment<'_>) -> Result<(), Stop>
+        requires stand { Stands self.old stand }
+        requires newest { stand.scope + 1 ≡ scopes_there self.old.evaluation }
+        ensures assigned { Says (λ leaves x. stand_at self.new stand) self.old self.new stand result (λ unit judge left make here turns leaves.
+            then_with (assigned_value left here (assigned_of assignment.now) turns) (λ turns v. Gives turns (assigned (assigned_of assignment.now) v here))) }
+        ensures assigns { OnOk result (Assigns self.old self.new stand.scope) }
+        ensures leaves { self.new.leaves ≡ self.old.leaves }
+    {
         self.evaluation.begin_evaluation(assignment.place)?;
-        let value = self.evaluation.expression(scope, assignment.value)?;
+        let value = self.evaluation.expression(stand.scope, assignment.value)?;
         self.evaluation.end_evaluation();
         if assignment.special {
             self.evaluation.bind_special(assignment.name, value)?;
         } else {
-            self.evaluation.bind(scope, assignment.name, value)?;
+            self.evaluation.bind(stand.scope, assignment.name, value)?;
         }
         Ok(())
     }

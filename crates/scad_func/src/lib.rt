@@ -13,7 +13,6 @@ mod limits;
 mod meter;
 mod scoping;
 mod source;
-mod temp;
 mod value;
 
 pub use arguments::{ArgumentValues, Names, SpecialArgument};
