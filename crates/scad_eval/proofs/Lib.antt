@@ -2,7 +2,7 @@ mod Assignments
 mod Deciding
 mod Judges
 mod Made
-mod Positions
+mod Numbering
 mod Rows
 mod Telling
 mod Verdicts

@@ -11,4 +11,5 @@ pub mod Steps
 pub mod Within
 pub mod Numbers
 pub mod Items
+pub mod BoundedItems
 pub mod Sources

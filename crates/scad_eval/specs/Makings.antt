@@ -1,19 +1,21 @@
 -- Where the evaluation of instances stands, and what its steps keep.
-use Rattle.std.specs.Prelude.{◌≡◌, ℕ, ◌+◌, ◌-◌, ◌<◌, ◌≤◌, [], ◌∷◌, length, take, Option, Some, None, Result}
+use Rattle.std.specs.Prelude.{◌≡◌, ℕ, ◌+◌, ◌-◌, ◌<◌, ◌≤◌, [], ◌∷◌, length, take, Option, Some, None, Result, Err}
 use Rattle.text_place.specs.declared.fault.Stop.{Stop}
+use Rattle.text_place.specs.declared.fault.Place.{Place}
 use Rattle.plane_predicate.specs.declared.unit.Unit.{Unit as LengthUnit}
 use Rattle.primitives.specs.Sizes.{AreSizes, IsSafe}
 use Rattle.scad_scope.specs.Names.{oldest}
 use Rattle.scad_scope.specs.Table.{rows_of, chain_of}
-use Rattle.scad_func.specs.Meaning.{Outcome}
+use Rattle.scad_func.specs.Meaning.{Outcome, one_call_fewer, turn}
 use Rattle.scad_func.specs.View.{seen}
-use Rattle.scad_func.specs.Evaluations.{scopes_there}
+use Rattle.scad_func.specs.Evaluations.{scopes_there, ScopeEnters}
+use Rattle.scad_func.specs.declared.evaluation.Evaluation.{Evaluation}
 use Rattle.scad_eval.specs.declared.stand.Extrusion.{Extrusion}
 use Rattle.scad_eval.specs.declared.stand.Stand.{Stand as StandIn}
 use Rattle.scad_eval.specs.declared.making.Making.{Making}
 use Rattle.scad_eval.specs.Verdicts.{Judge, IsRight}
-use Rattle.scad_eval.specs.Meaning.{Stand, Makes, made_within}
-use Rattle.scad_eval.specs.Seen.{Told}
+use Rattle.scad_eval.specs.Meaning.{Stand, Made, Makes, made_within}
+use Rattle.scad_eval.specs.Seen.{Told, made_seen}
 
 -- how many evaluations in one another are left
 abbrev pub left_at : Making → ℕ
@@ -53,6 +55,12 @@ pub record Stays (old new : Making) : Type 0 where
   pub calls : new.evaluation.calls ≡ old.evaluation.calls
   pub depth : new.evaluation.depth ≡ old.evaluation.depth
 
+-- one scope more, which is the newest: all else but the turns is as before
+pub record Enters (old new : Making) (scope : ℕ) : Type 0 where
+  pub unit : new.unit ≡ old.unit
+  pub leaves : new.leaves ≡ old.leaves
+  pub evaluation : ScopeEnters old.evaluation new.evaluation scope
+
 -- the newest scope has more variables: all else but the turns and the leaves is as before
 pub record Binds (old new : Making) (scope : ℕ) : Type 0 where
   pub unit : new.unit ≡ old.unit
@@ -83,3 +91,8 @@ Equation B = LengthUnit → Judge → ℕ → Makes → Stand → ℕ → ℕ �
 pub record Says {A B : Type 0} (see : ℕ → A → B) (old new : Making) (s : StandIn) (r : Result A Stop) (equation : Equation B) : Type 0 where
   pub by : (judge : Judge) → IsRight judge → Told see r new.evaluation.turns new.leaves
       (equation old.unit judge (left_at old) (made_within old.unit judge (left_at old)) (stand_at old s) old.evaluation.turns old.leaves)
+
+-- what a counted call says that is refused
+abbrev pub StopsBefore : Evaluation → Place → Stop → Type 0
+StopsBefore e at stop = (go : ℕ → ℕ → Outcome Made) (n l : ℕ) → Told made_seen (Err stop) n l
+    (one_call_fewer (64 - e.calls) at (λ calls. turn at e.turns (go calls)))

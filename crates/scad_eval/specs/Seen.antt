@@ -2,12 +2,18 @@
 use Rattle.std.specs.Prelude.{◌≡◌, ℕ, Bool, true, false, List, [], map, Option, Some, None, option_map, Result, Ok, Err, if◌then◌else◌}
 use Rattle.text_place.specs.declared.fault.Stop.{Stop}
 use Rattle.text_place.specs.declared.fault.Stop.TheVariants.{Fault, NoMemory}
+use Rattle.text_place.specs.declared.fault.Place.{Place}
+use Rattle.text_place.specs.declared.fault.FaultKind.TheVariants.{NotInProfile}
+use Rattle.scad_ast.specs.Terms.{BodyTerm}
+use Rattle.shape_planes.specs.declared.stop.ShapeStop.{ShapeStop}
+use Rattle.shape_planes.specs.declared.stop.ShapeStop.TheVariants as shapes
 use Rattle.scad_design.specs.Designs.{empty}
 use Rattle.scad_design.specs.View.{plain_of}
 use Rattle.scad_func.specs.Meaning.{Outcome, Gives, Faults, then_with}
 use Rattle.scad_eval.specs.declared.stand.Made.{Made as MadeIn}
 use Rattle.scad_eval.specs.declared.stand.Members.{Members as MembersIn}
-use Rattle.scad_eval.specs.Meaning.{Made, Members, as_member, and_members}
+use Rattle.scad_eval.specs.Bodies.{is_bare}
+use Rattle.scad_eval.specs.Meaning.{Made, Members, as_member, and_members, made_nothing}
 
 abbrev pub made_seen : ℕ → MadeIn → Made
 made_seen leaves m = record { leaves = leaves; design = plain_of m.design; marked = option_map plain_of m.marked }
@@ -42,3 +48,13 @@ IsLengthened see before (Err fault) (Err stop) = stop ≡ fault
 -- what members give behind others
 abbrev pub in_front : Members → Outcome Members → Outcome Members
 in_front before out = then_with out (λ turns ms. Gives turns (and_members before ms))
+
+-- a stop of a shape, at a place
+abbrev pub IsStopAt : ShapeStop → Place → Stop → Type 0
+IsStopAt (shapes.Kind kind) at stop = stop ≡ Fault (record { kind = kind; place = at })
+IsStopAt shapes.NoMemory at stop = stop ≡ NoMemory
+
+-- a call that only says something gives nothing, or is refused where it has a body
+abbrev pub TellsSilence : Result MadeIn Stop → Place → BodyTerm → Type 0
+TellsSilence r at body = (turns leaves : ℕ) → Told made_seen r turns leaves
+    (if is_bare body then Gives turns (made_nothing leaves) else Faults NotInProfile at)

@@ -13,7 +13,7 @@ ghost use Rattle.scad_eval.specs.Makings.{Stands, Stays, Says};
 ghost use Rattle.scad_eval.specs.Within.{body_seen, IsInBlock};
 
 use crate::bodies::is_marked;
-use crate::made::{fault_at, no_members, nothing_made, set_apart, with_made};
+use crate::joins::{fault_at, no_members, nothing_made, set_apart, with_made};
 use crate::making::Making;
 use crate::numbered::NumberedInstance;
 use crate::stand::{Made, Members, NumberedBody, Stand};

@@ -7,14 +7,14 @@ ghost use Rattle.scad_value.specs.Values.{is_bounded};
 ghost use Rattle.scad_value.specs.View.{val_of};
 ghost use Rattle.scad_func.specs.View.{text_of};
 ghost use Rattle.scad_eval.specs.Meaning.{loop_made, each_turn, each_step, in_loop};
-ghost use Rattle.scad_eval.specs.Items.{items_left, are_bounded};
+ghost use Rattle.scad_eval.specs.Items.{left_in};
 ghost use Rattle.scad_eval.specs.Seen.{made_seen, members_seen};
 ghost use Rattle.scad_eval.specs.Makings.{Stands, Stays, Says};
 ghost use Rattle.scad_eval.specs.Steps.{one_step};
 ghost use Rattle.scad_eval.specs.Within.{body_seen, IsInBlock};
 
-use crate::items::{Items, items_of};
-use crate::made::{fault_at, joined, no_members, with_made, with_members};
+use crate::items::Items;
+use crate::joins::{fault_at, joined, no_members, with_made, with_members};
 use crate::making::Making;
 use crate::stand::{Made, Members, NumberedBody, Stand};
 use csg_tree::Op;
@@ -60,7 +60,7 @@ impl Making<'_, '_> {
             [] => self.one_turn(stand, place, body),
             [binder, rest @ ..] => {
                 let value = self.evaluation.expression(stand.scope, &binder.values)?;
-                match items_of(value) {
+                match Items::of(value) {
                     Some(items) => {
                         self.each_item(stand, place, binder.name.items(), rest, body, items)
                     }
@@ -101,9 +101,8 @@ impl Making<'_, '_> {
     ) -> Result<Members, Stop>
         requires stand { Stands self.old stand }
         requires block { IsInBlock (text_of self.old.evaluation.source.now) body }
-        requires bounded { IsTrue (are_bounded (items_left items)) }
         ensures members { Says members_seen self.old self.new stand result (λ unit judge left make here.
-            each_step place (λ item. each_turn left make place (map binder_of rest.now) (body_seen body.entry) (in_loop here name.now item)) (items_left items.entry)) }
+            each_step place (λ item. each_turn left make place (map binder_of rest.now) (body_seen body.entry) (in_loop here name.now item)) (left_in items.left)) }
         ensures stays { OnOk result (Stays self.old self.new) }
     {
         let mut left = items;

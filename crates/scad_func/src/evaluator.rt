@@ -130,6 +130,7 @@ impl Evaluation<'_, '_> {
 
     /// The values of expressions, from the first on.
     #[cycle(value)]
+    #[inline(never)]
     #[tactic(auto, using(crate::proofs::Kept::keeps_trans))]
     fn each_value(&mut self, scope: u32, exprs: &Exprs) -> Result<Vec<Value>, Stop>
         requires scope { scope < scopes_there self.old }
@@ -147,6 +148,7 @@ impl Evaluation<'_, '_> {
 
     /// The range of two expressions.
     #[cycle(value)]
+    #[inline(never)]
     #[tactic(auto, using(crate::proofs::Kept::keeps_trans))]
     fn range(&mut self, scope: u32, from: &Expr, upto: &Expr, place: Place) -> Result<Value, Stop>
         requires scope { scope < scopes_there self.old }
@@ -166,6 +168,7 @@ impl Evaluation<'_, '_> {
 
     /// The range of three expressions.
     #[cycle(value)]
+    #[inline(never)]
     #[tactic(auto, using(crate::proofs::Kept::keeps_trans))]
     fn stepped_range(
         &mut self,
@@ -195,6 +198,7 @@ impl Evaluation<'_, '_> {
 
     /// The indexes and members behind an expression. A variable is lent where it stands.
     #[cycle(value)]
+    #[inline(never)]
     #[tactic(auto, using(crate::proofs::Kept::keeps_trans))]
     fn postfix(&mut self, scope: u32, of: &Expr, rest: &Suffixes) -> Result<Value, Stop>
         requires scope { scope < scopes_there self.old }
@@ -214,6 +218,7 @@ impl Evaluation<'_, '_> {
 
     /// The indexes and members behind what is indexed.
     #[cycle(value)]
+    #[inline(never)]
     #[tactic(auto, using(crate::proofs::Kept::keeps_trans))]
     fn suffixes(&mut self, scope: u32, of: Indexed<'_>, rest: &Suffixes) -> Result<Value, Stop>
         requires scope { scope < scopes_there self.old }
@@ -231,6 +236,7 @@ impl Evaluation<'_, '_> {
 
     /// An index or a member.
     #[cycle(value)]
+    #[inline(never)]
     fn suffix(&mut self, scope: u32, of: Indexed<'_>, part: &Suffix) -> Result<Value, Stop>
         requires scope { scope < scopes_there self.old }
         requires there { IsThere (env_of (rows_of self.old.scopes.now) scope) of }
@@ -260,6 +266,7 @@ impl Evaluation<'_, '_> {
 
     /// Operators of one level and what stands between them, from the left.
     #[cycle(value)]
+    #[inline(never)]
     #[tactic(auto, using(crate::proofs::Kept::keeps_trans))]
     fn chain(&mut self, scope: u32, first: &Expr, rest: &Links) -> Result<Value, Stop>
         requires scope { scope < scopes_there self.old }
@@ -275,6 +282,7 @@ impl Evaluation<'_, '_> {
 
     /// Operators of one level behind a value, from the left.
     #[cycle(value)]
+    #[inline(never)]
     #[tactic(auto, using(crate::proofs::Kept::keeps_trans))]
     fn links(&mut self, scope: u32, left: Value, rest: &Links) -> Result<Value, Stop>
         requires scope { scope < scopes_there self.old }
@@ -292,6 +300,7 @@ impl Evaluation<'_, '_> {
 
     /// An operator and its right side. A variable on the right is lent where it stands.
     #[cycle(value)]
+    #[inline(never)]
     fn link(&mut self, scope: u32, left: Value, part: &Link) -> Result<Value, Stop>
         requires scope { scope < scopes_there self.old }
         requires left { IsTrue (is_bounded (val_of left)) }
@@ -312,6 +321,7 @@ impl Evaluation<'_, '_> {
 
     /// One of two expressions, by a test.
     #[cycle(value)]
+    #[inline(never)]
     #[tactic(auto, using(crate::proofs::Kept::keeps_trans))]
     fn choice(&mut self, scope: u32, test: &Expr, yes: &Expr, no: &Expr) -> Result<Value, Stop>
         requires scope { scope < scopes_there self.old }
@@ -331,6 +341,7 @@ impl Evaluation<'_, '_> {
 
     /// A call: the source's functions go before built-in ones.
     #[cycle(value)]
+    #[inline(never)]
     fn call(&mut self, scope: u32, name: &[u8], place: Place, args: &Args) -> Result<Value, Stop>
         requires scope { scope < scopes_there self.old }
         ensures value { let here = setting self.old scope in
@@ -356,6 +367,7 @@ impl Evaluation<'_, '_> {
     /// The arguments of a call, from the first on: each is matched to a parameter, or to its special
     /// name, and then evaluated.
     #[cycle(value)]
+    #[inline(never)]
     #[tactic(auto, using(crate::proofs::Kept::keeps_trans))]
     pub fn each_argument<'b>(
         &mut self,
@@ -382,6 +394,7 @@ impl Evaluation<'_, '_> {
 
     /// A call of a function of the source, one call deeper, in the scope of its definition.
     #[cycle(value)]
+    #[inline(never)]
     fn function_call(
         &mut self,
         scope: u32,
@@ -428,6 +441,7 @@ impl Evaluation<'_, '_> {
 
     /// The value of a function. Its special arguments stand meanwhile, and are gone behind it.
     #[cycle(value)]
+    #[inline(never)]
     fn function_value(
         &mut self,
         scope: u32,
@@ -458,6 +472,7 @@ impl Evaluation<'_, '_> {
     /// The value of a function, with its special arguments on the chain: its parameters without an
     /// argument have their defaults, which are evaluated in the scope of its definition.
     #[cycle(value)]
+    #[inline(never)]
     fn with_defaults(
         &mut self,
         scope: u32,
@@ -479,6 +494,7 @@ impl Evaluation<'_, '_> {
 
     /// The value of a function with the values of its parameters, in a scope of its own.
     #[cycle(value)]
+    #[inline(never)]
     fn in_new_scope(
         &mut self,
         scope: u32,
@@ -505,6 +521,7 @@ impl Evaluation<'_, '_> {
 
     /// The values of parameters, from the first on.
     #[cycle(value)]
+    #[inline(never)]
     #[tactic(auto, using(crate::proofs::Kept::keeps_trans))]
     pub fn each_parameter(
         &mut self,
@@ -533,6 +550,7 @@ impl Evaluation<'_, '_> {
 
     /// A parameter's value: what it was given, its default, or undef.
     #[cycle(value)]
+    #[inline(never)]
     fn parameter(&mut self, scope: u32, param: &Param, given: Option<Value>) -> Result<Value, Stop>
         requires scope { scope < scopes_there self.old }
         requires filled { IsTrue (slot_is_bounded (slot_of given)) }
@@ -551,6 +569,7 @@ impl Evaluation<'_, '_> {
 
     /// The values of all arguments, from the first on.
     #[cycle(value)]
+    #[inline(never)]
     #[tactic(auto, using(crate::proofs::Kept::keeps_trans))]
     fn each_positional(&mut self, scope: u32, args: &Args) -> Result<Vec<Value>, Stop>
         requires scope { scope < scopes_there self.old }
