@@ -5,4 +5,6 @@ mod Made
 mod Numbering
 mod Rows
 mod Telling
+mod Standing
 mod Verdicts
+pub mod Work

@@ -1,10 +1,11 @@
 -- Where the evaluation of instances stands, and what its steps keep.
-use Rattle.std.specs.Prelude.{◌≡◌, ℕ, ◌+◌, ◌-◌, ◌<◌, ◌≤◌, [], ◌∷◌, length, take, Option, Some, None, Result, Err}
+use Rattle.std.specs.Prelude.{◌≡◌, ℕ, ◌+◌, ◌-◌, ◌<◌, [], ◌∷◌, ◌++◌, length, take, Option, Some, None, Result, Err}
 use Rattle.text_place.specs.declared.fault.Stop.{Stop}
 use Rattle.text_place.specs.declared.fault.Place.{Place}
 use Rattle.plane_predicate.specs.declared.unit.Unit.{Unit as LengthUnit}
 use Rattle.primitives.specs.Sizes.{AreSizes, IsSafe}
-use Rattle.scad_scope.specs.Names.{oldest}
+use Rattle.scad_value.specs.Values.{Val}
+use Rattle.scad_scope.specs.Names.{Pairs}
 use Rattle.scad_scope.specs.Table.{rows_of, chain_of}
 use Rattle.scad_func.specs.Meaning.{Outcome, one_call_fewer, turn}
 use Rattle.scad_func.specs.View.{seen}
@@ -79,8 +80,8 @@ pub record Assigns (old new : Making) (scope : ℕ) : Type 0 where
   pub lent : new.evaluation.scopes.ghost_name ≡ old.evaluation.scopes.ghost_name
   pub front : take scope (rows_of new.evaluation.scopes.now) ≡ take scope (rows_of old.evaluation.scopes.now)
   pub there : scopes_there new.evaluation ≡ scopes_there old.evaluation
-  pub longer : length (chain_of old.evaluation.scopes.now) ≤ length (chain_of new.evaluation.scopes.now)
-  pub older : oldest (length (chain_of old.evaluation.scopes.now)) (chain_of new.evaluation.scopes.now) ≡ chain_of old.evaluation.scopes.now
+  pub newer : Pairs Val
+  pub chain : chain_of new.evaluation.scopes.now ≡ newer ++ chain_of old.evaluation.scopes.now
   pub calls : new.evaluation.calls ≡ old.evaluation.calls
   pub depth : new.evaluation.depth ≡ old.evaluation.depth
 

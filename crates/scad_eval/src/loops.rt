@@ -38,6 +38,10 @@ impl Making<'_, '_> {
         ensures made { Says made_seen self.old self.new stand result (λ unit judge left make here. loop_made left make op here place (binders_of binders.now) (body_seen body.entry)) }
         ensures stays { OnOk result (Stays self.old self.new) }
     {
+        // A source has far fewer; the bound is for the proof that evaluation ends.
+        if binders.items.len() > u32::MAX as usize {
+            return Err(Stop::NoMemory);
+        }
         let members = self.turns(stand, place, &binders.items, body)?;
         Ok(joined(self.evaluation.alloc, op, members)?)
     }

@@ -1,0 +1,168 @@
+-- Where instances stand, before and after steps.
+use Rattle.std.proofs.Common.{◌≡◌, ℕ, ◌+◌, ◌-◌, ◌<◌, ◌≤◌, List, [], ◌∷◌, ◌++◌, length, take, drop, Option, Some, None, Result, Ok, Err, refl, sym, ap, subst, ◌∙◌, arith, append_assoc, length-append}
+use Rattle.std.proofs.Math.Seq.{drop-append_seam}
+use Rattle.text_place.specs.declared.fault.Stop.{Stop}
+use Rattle.plane_predicate.specs.declared.unit.Unit.{Unit as LengthUnit}
+use Rattle.scad_value.specs.Values.{Val}
+use Rattle.scad_scope.specs.Names.{Pairs, Row, oldest}
+use Rattle.scad_scope.specs.Table.{rows_of, chain_of}
+use Rattle.scad_func.specs.Meaning.{Outcome, Env}
+use Rattle.scad_func.specs.View.{seen, text_of}
+use Rattle.scad_func.specs.Evaluations.{Keeps, scopes_there, ScopeEnters, CallBegins, EvaluationBegins, SpecialsBegin, SameSetting}
+use Rattle.scad_func.specs.declared.source.Source.{Source}
+use Rattle.scad_func.specs.declared.evaluation.Evaluation.{Evaluation}
+use Rattle.scad_eval.specs.declared.stand.Extrusion.{Extrusion}
+use Rattle.scad_eval.specs.declared.stand.Stand.{Stand as StandIn}
+use Rattle.scad_eval.specs.declared.making.Making.{Making}
+use Rattle.scad_eval.specs.Verdicts.{Judge, IsRight}
+use Rattle.scad_eval.specs.Meaning.{Stand, Makes, made_within}
+use Rattle.scad_eval.specs.Seen.{Told}
+use Rattle.scad_eval.specs.Makings.{left_at, stand_at, IsChecked, Stands, Stays, Enters, Binds, Assigns, Equation, Says}
+use Rattle.scad_eval.proofs.Telling.{along}
+
+-- where an instance stands, by what it depends on
+abbrev pub stand_by : ℕ → Source → List Row → ℕ → Pairs Val → StandIn → Stand
+stand_by calls source rows scope chain s = record {
+  calls = 64 - calls;
+  env = seen source rows scope;
+  chain = chain;
+  inside = s.inside;
+  under_mark = s.under_mark;
+}
+
+pub same_stand : (old new : Making) (s : StandIn) → Stays old new → stand_at new s ≡ stand_at old s
+same_stand old new s k =
+    ap (λ n. stand_by n new.evaluation.source.now (rows_of new.evaluation.scopes.now) s.scope (chain_of new.evaluation.scopes.now) s) k.calls
+    ∙ ap (λ (x : Source). stand_by old.evaluation.calls x (rows_of new.evaluation.scopes.now) s.scope (chain_of new.evaluation.scopes.now) s) k.source
+    ∙ ap (λ rows. stand_by old.evaluation.calls old.evaluation.source.now rows s.scope (chain_of new.evaluation.scopes.now) s) k.rows
+    ∙ ap (λ chain. stand_by old.evaluation.calls old.evaluation.source.now (rows_of old.evaluation.scopes.now) s.scope chain s) k.chain
+
+pub same_left : (old new : Making) → Stays old new → left_at new ≡ left_at old
+same_left old new k = ap (λ n. 512 - n) k.depth
+
+pub stays_same : (m : Making) → Stays m m
+stays_same m = record { unit = refl; source = refl; lent = refl; rows = refl; chain = refl; calls = refl; depth = refl }
+
+pub stays_then : {a b c : Making} → Stays a b → Stays b c → Stays a c
+stays_then f g = record {
+  unit = g.unit ∙ f.unit;
+  source = g.source ∙ f.source;
+  lent = g.lent ∙ f.lent;
+  rows = g.rows ∙ f.rows;
+  chain = g.chain ∙ f.chain;
+  calls = g.calls ∙ f.calls;
+  depth = g.depth ∙ f.depth;
+}
+
+-- what an evaluation keeps, where the unit stays
+pub stays_kept : (old new : Making) → new.unit ≡ old.unit → Keeps old.evaluation new.evaluation → Stays old new
+stays_kept old new u k = record { unit = u; source = k.source; lent = k.lent; rows = k.rows; chain = k.chain; calls = k.calls; depth = k.depth }
+
+-- a stand is still there
+checked_still : (a b : LengthUnit) (o : Option Extrusion) → b ≡ a → IsChecked a o → IsChecked b o
+checked_still a b o e h = subst (λ (u : LengthUnit). IsChecked u o) (sym e) h
+
+pub stands_still : (old new : Making) (s : StandIn) → Stays old new → Stands old s → Stands new s
+stands_still old new s k h = record {
+  scope = subst (λ rows. s.scope < length rows) (sym k.rows) h.scope;
+  inside = checked_still old.unit new.unit s.inside k.unit h.inside;
+}
+
+-- what is said from where a step left
+module _ {A B : Type 0} {see : ℕ → A → B} {old mid new : Making} {s : StandIn} {r : Result A Stop} {equation : Equation B} where
+  moved_unit : (judge : Judge) (u v : LengthUnit) (l m : ℕ) (here there : Stand) → v ≡ u → m ≡ l → there ≡ here
+      → equation v judge m (made_within v judge m) there mid.evaluation.turns mid.leaves
+      ≡ equation u judge l (made_within u judge l) here mid.evaluation.turns mid.leaves
+  moved_unit judge u v l m here there a b c =
+      ap (λ (x : LengthUnit). equation x judge m (made_within x judge m) there mid.evaluation.turns mid.leaves) a
+      ∙ ap (λ n. equation u judge n (made_within u judge n) there mid.evaluation.turns mid.leaves) b
+      ∙ ap (λ x. equation u judge l (made_within u judge l) x mid.evaluation.turns mid.leaves) c
+
+  pub said_after : Stays old mid → Says see mid new s r equation → (judge : Judge) → IsRight judge
+      → Told see r new.evaluation.turns new.leaves
+      (equation old.unit judge (left_at old) (made_within old.unit judge (left_at old)) (stand_at old s) mid.evaluation.turns mid.leaves)
+  said_after k h judge right =
+      along (sym (moved_unit judge old.unit mid.unit (left_at old) (left_at mid) (stand_at old s) (stand_at mid s) k.unit (same_left old mid k) (same_stand old mid s k)))
+      (h.by judge right)
+
+  -- the same, from a stand that an equation changes
+  pub said_at : (u : LengthUnit) (left : ℕ) (here : Stand) → mid.unit ≡ u → left_at mid ≡ left → stand_at mid s ≡ here
+      → Says see mid new s r equation → (judge : Judge) → IsRight judge
+      → Told see r new.evaluation.turns new.leaves (equation u judge left (made_within u judge left) here mid.evaluation.turns mid.leaves)
+  said_at u left here a b c h judge right =
+      along (sym (moved_unit judge u mid.unit left (left_at mid) here (stand_at mid s) a b c)) (h.by judge right)
+
+-- a scope that is entered, has variables bound in it, and is left
+pub entered_then : (first old new : Evaluation) (scope : ℕ) → SameSetting old new → take scope (rows_of new.scopes.now) ≡ take scope (rows_of old.scopes.now)
+    → scopes_there new ≡ scopes_there old → chain_of new.scopes.now ≡ chain_of old.scopes.now
+    → ScopeEnters first old scope → ScopeEnters first new scope
+entered_then first old new scope same front there chain e = record {
+  source = same.source ∙ e.source;
+  lent = same.lent ∙ e.lent;
+  front = front ∙ e.front;
+  number = e.number;
+  there = there ∙ e.there;
+  chain = chain ∙ e.chain;
+  calls = same.calls ∙ e.calls;
+  depth = same.depth ∙ e.depth;
+}
+
+pub bound_entered : (first old new : Making) (scope : ℕ) → Binds old new scope → ScopeEnters first.evaluation old.evaluation scope
+    → ScopeEnters first.evaluation new.evaluation scope
+bound_entered first old new scope b e = record {
+  source = b.source ∙ e.source;
+  lent = b.lent ∙ e.lent;
+  front = b.front ∙ e.front;
+  number = e.number;
+  there = b.there ∙ e.there;
+  chain = b.chain ∙ e.chain;
+  calls = b.calls ∙ e.calls;
+  depth = b.depth ∙ e.depth;
+}
+
+-- a stand in a scope that was entered
+pub entered_stand : (old new : Making) (s : StandIn) (scope : ℕ) (env : Env) → Enters old new scope
+    → seen new.evaluation.source.now (rows_of new.evaluation.scopes.now) scope ≡ env
+    → stand_at new (record { scope = scope; inside = s.inside; under_mark = s.under_mark })
+    ≡ record { calls = 64 - old.evaluation.calls; env = env; chain = chain_of old.evaluation.scopes.now; inside = s.inside; under_mark = s.under_mark }
+entered_stand old new s scope env e is =
+    ap (λ n. record { calls = 64 - n; env = seen new.evaluation.source.now (rows_of new.evaluation.scopes.now) scope; chain = chain_of new.evaluation.scopes.now; inside = s.inside; under_mark = s.under_mark }) e.evaluation.calls
+    ∙ ap (λ (x : Env). record { calls = 64 - old.evaluation.calls; env = x; chain = chain_of new.evaluation.scopes.now; inside = s.inside; under_mark = s.under_mark }) is
+    ∙ ap (λ (c : Pairs Val). record { calls = 64 - old.evaluation.calls; env = env; chain = c; inside = s.inside; under_mark = s.under_mark }) e.evaluation.chain
+
+pub entered_stands : (old new : Making) (s : StandIn) (scope : ℕ) → Enters old new scope → Stands old s
+    → Stands new (record { scope = scope; inside = s.inside; under_mark = s.under_mark })
+entered_stands old new s scope e h = record {
+  scope = let there = e.evaluation.there in omega arith;
+  inside = checked_still old.unit new.unit s.inside e.unit h.inside;
+}
+
+-- assignments, one behind another
+pub assigns_none : (m : Making) (scope : ℕ) → Assigns m m scope
+assigns_none m scope = record {
+  unit = refl; source = refl; lent = refl; front = refl; there = refl; newer = []; chain = refl; calls = refl; depth = refl;
+}
+
+pub assigns_then : {a b c : Making} {scope : ℕ} → Assigns a b scope → Assigns b c scope → Assigns a c scope
+assigns_then {a = a} {b = b} {c = c} f g = record {
+  unit = g.unit ∙ f.unit;
+  source = g.source ∙ f.source;
+  lent = g.lent ∙ f.lent;
+  front = g.front ∙ f.front;
+  there = g.there ∙ f.there;
+  newer = g.newer ++ f.newer;
+  chain = g.chain ∙ ap (λ l. g.newer ++ l) f.chain ∙ sym (append_assoc g.newer f.newer (chain_of a.evaluation.scopes.now));
+  calls = g.calls ∙ f.calls;
+  depth = g.depth ∙ f.depth;
+}
+
+pub assigns_stand : (old new : Making) (s : StandIn) → Assigns old new s.scope → Stands old s → Stands new s
+assigns_stand old new s a h = record {
+  scope = let there = a.there in omega (arith, h.scope);
+  inside = checked_still old.unit new.unit s.inside a.unit h.inside;
+}
+
+pub oldest_part : {A : Type 0} (n : ℕ) (newer older : List A) → length older ≡ n → oldest n (newer ++ older) ≡ older
+oldest_part n newer older h =
+    let len : length (newer ++ older) - n ≡ length newer = omega (arith, length-append newer older, h) in
+    ap (λ k. drop k (newer ++ older)) len ∙ drop-append_seam newer older
