@@ -1,4 +1,5 @@
 mod Assignments
+mod Counting
 mod Deciding
 mod Judges
 mod Made

@@ -8,6 +8,7 @@ use Rattle.scad_scope.specs.Names.{Pairs, Row, oldest}
 use Rattle.scad_scope.specs.Table.{rows_of, chain_of}
 use Rattle.scad_func.specs.Meaning.{Outcome, Env}
 use Rattle.scad_func.specs.View.{seen, text_of}
+use Rattle.scad_func.specs.Definitions.{IsWhole}
 use Rattle.scad_func.specs.Evaluations.{Keeps, scopes_there, ScopeEnters, CallBegins, EvaluationBegins, SpecialsBegin, SameSetting}
 use Rattle.scad_func.specs.declared.source.Source.{Source}
 use Rattle.scad_func.specs.declared.evaluation.Evaluation.{Evaluation}
@@ -30,12 +31,17 @@ stand_by calls source rows scope chain s = record {
   under_mark = s.under_mark;
 }
 
+pub stand_from : (old new : Making) (s : StandIn) → new.evaluation.calls ≡ old.evaluation.calls → new.evaluation.source.now ≡ old.evaluation.source.now
+    → rows_of new.evaluation.scopes.now ≡ rows_of old.evaluation.scopes.now → chain_of new.evaluation.scopes.now ≡ chain_of old.evaluation.scopes.now
+    → stand_at new s ≡ stand_at old s
+stand_from old new s calls source rows chain =
+    ap (λ n. stand_by n new.evaluation.source.now (rows_of new.evaluation.scopes.now) s.scope (chain_of new.evaluation.scopes.now) s) calls
+    ∙ ap (λ (x : Source). stand_by old.evaluation.calls x (rows_of new.evaluation.scopes.now) s.scope (chain_of new.evaluation.scopes.now) s) source
+    ∙ ap (λ l. stand_by old.evaluation.calls old.evaluation.source.now l s.scope (chain_of new.evaluation.scopes.now) s) rows
+    ∙ ap (λ c. stand_by old.evaluation.calls old.evaluation.source.now (rows_of old.evaluation.scopes.now) s.scope c s) chain
+
 pub same_stand : (old new : Making) (s : StandIn) → Stays old new → stand_at new s ≡ stand_at old s
-same_stand old new s k =
-    ap (λ n. stand_by n new.evaluation.source.now (rows_of new.evaluation.scopes.now) s.scope (chain_of new.evaluation.scopes.now) s) k.calls
-    ∙ ap (λ (x : Source). stand_by old.evaluation.calls x (rows_of new.evaluation.scopes.now) s.scope (chain_of new.evaluation.scopes.now) s) k.source
-    ∙ ap (λ rows. stand_by old.evaluation.calls old.evaluation.source.now rows s.scope (chain_of new.evaluation.scopes.now) s) k.rows
-    ∙ ap (λ chain. stand_by old.evaluation.calls old.evaluation.source.now (rows_of old.evaluation.scopes.now) s.scope chain s) k.chain
+same_stand old new s k = stand_from old new s k.calls k.source k.rows k.chain
 
 pub same_left : (old new : Making) → Stays old new → left_at new ≡ left_at old
 same_left old new k = ap (λ n. 512 - n) k.depth
@@ -64,6 +70,7 @@ checked_still a b o e h = subst (λ (u : LengthUnit). IsChecked u o) (sym e) h
 
 pub stands_still : (old new : Making) (s : StandIn) → Stays old new → Stands old s → Stands new s
 stands_still old new s k h = record {
+  whole = subst (λ (x : Source). IsWhole (text_of x)) (sym k.source) h.whole;
   scope = subst (λ rows. s.scope < length rows) (sym k.rows) h.scope;
   inside = checked_still old.unit new.unit s.inside k.unit h.inside;
 }
@@ -133,6 +140,7 @@ entered_stand old new s scope env e is =
 pub entered_stands : (old new : Making) (s : StandIn) (scope : ℕ) → Enters old new scope → Stands old s
     → Stands new (record { scope = scope; inside = s.inside; under_mark = s.under_mark })
 entered_stands old new s scope e h = record {
+  whole = subst (λ (x : Source). IsWhole (text_of x)) (sym e.evaluation.source) h.whole;
   scope = let there = e.evaluation.there in omega arith;
   inside = checked_still old.unit new.unit s.inside e.unit h.inside;
 }
@@ -158,6 +166,7 @@ assigns_then {a = a} {b = b} {c = c} f g = record {
 
 pub assigns_stand : (old new : Making) (s : StandIn) → Assigns old new s.scope → Stands old s → Stands new s
 assigns_stand old new s a h = record {
+  whole = subst (λ (x : Source). IsWhole (text_of x)) (sym a.source) h.whole;
   scope = let there = a.there in omega (arith, h.scope);
   inside = checked_still old.unit new.unit s.inside a.unit h.inside;
 }

@@ -7,7 +7,7 @@ ghost use Rattle.scad_value.specs.Values.{NumberVal, is_bounded};
 ghost use Rattle.scad_scope.specs.Table.{rows_of};
 ghost use Rattle.scad_func.specs.Meaning.{entered_scope, no_call, module_in};
 ghost use Rattle.scad_func.specs.View.{text_of, seen};
-ghost use Rattle.scad_func.specs.Definitions.{statements_at};
+ghost use Rattle.scad_func.specs.Definitions.{statements_at, IsWhole};
 ghost use Rattle.scad_func.specs.Evaluations.{scopes_there};
 ghost use Rattle.scad_eval.specs.Bodies.{children_in, is_child as is_child_at};
 ghost use Rattle.scad_eval.specs.Positions.{term_of_numbered, HasBlocks};
@@ -52,7 +52,8 @@ impl<'a> Making<'a, '_> {
 
     /// The children among the instances of a block, in its scope.
     fn children(&self, scope: u32, block: u32) -> Result<Vec<NumberedInstance<'a>>, NoMemory>
-        requires { scope < scopes_there self.now.evaluation }
+        requires scope { scope < scopes_there self.now.evaluation }
+        requires whole { IsWhole (text_of self.now.evaluation.source.now) }
         ensures found { let env = seen self.now.evaluation.source.now (rows_of self.now.evaluation.scopes.now) scope in
             IfOk result (λ found. map term_of_numbered found.items ≡ children_in env (statements_at (text_of self.now.evaluation.source.now) block)) }
         ensures blocks { IfOk result (λ found. All (HasBlocks (text_of self.now.evaluation.source.now)) found.items) }
@@ -70,7 +71,8 @@ impl<'a> Making<'a, '_> {
 
     /// How many children a call has whose body is a block, in a scope of it inside the caller's.
     pub(crate) fn count_children(&mut self, caller: u32, block: u32) -> Result<i64, NoMemory>
-        requires { caller < scopes_there self.old.evaluation }
+        requires caller { caller < scopes_there self.old.evaluation }
+        requires whole { IsWhole (text_of self.old.evaluation.source.now) }
         ensures count { let statements = statements_at (text_of self.old.evaluation.source.now) block in
             let env = seen self.old.evaluation.source.now (rows_of self.old.evaluation.scopes.now) caller in
             IfOk result (λ n. n ≡ pos (length (children_in (entered_scope statements no_call env) statements))) }
@@ -96,6 +98,7 @@ impl<'a> Making<'a, '_> {
         chosen: Option<&Chosen>,
     ) -> Result<Vec<NumberedInstance<'a>>, NoMemory>
         requires scope { scope < scopes_there self.now.evaluation }
+        requires whole { IsWhole (text_of self.now.evaluation.source.now) }
         requires safe { IsSafeChosen chosen }
         ensures found { let env = seen self.now.evaluation.source.now (rows_of self.now.evaluation.scopes.now) scope in
             IfOk result (λ found. map term_of_numbered found.items ≡ instances_chosen env (chosen_seen chosen.entry) (statements_at (text_of self.now.evaluation.source.now) block)) }

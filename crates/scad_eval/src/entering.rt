@@ -10,7 +10,7 @@ ghost use Rattle.scad_scope.specs.Table.{rows_of};
 ghost use Rattle.scad_scope.specs.Blocks.{statements_of_body};
 ghost use Rattle.scad_scope.specs.TextView.{module_of};
 ghost use Rattle.scad_func.specs.View.{text_of, seen};
-ghost use Rattle.scad_func.specs.Definitions.{IsBlockOf};
+ghost use Rattle.scad_func.specs.Definitions.{IsBlockOf, IsWhole};
 ghost use Rattle.scad_func.specs.Evaluations.{scopes_there, CallBegins};
 ghost use Rattle.scad_eval.specs.Meaning.{module_scope};
 ghost use Rattle.scad_eval.specs.Makings.{Enters, StopsBefore};
@@ -45,6 +45,7 @@ impl Making<'_, '_> {
         values: Vec<Value>,
         body: NumberedBody<'_>,
     ) -> Result<u32, NoMemory>
+        requires whole { IsWhole (text_of self.old.evaluation.source.now) }
         requires caller { caller < scopes_there self.old.evaluation }
         requires block { IsInBlock (text_of self.old.evaluation.source.now) body }
         requires home { home < scopes_there self.old.evaluation }

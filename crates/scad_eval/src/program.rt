@@ -67,8 +67,9 @@ fn design_of(
 fn first_or_all(alloc: Global, members: Members) -> Result<Design, NoMemory>
     ensures { IfOk result (λ design. plain_of design ≡ or_all (option_map plain_of members.marked) (map plain_of members.designs.items)) }
 {
-    match members.marked {
+    let Members { designs, marked } = members;
+    match marked {
         Some(design) => Ok(design),
-        None => balanced(alloc, Op::Union, members.designs),
+        None => balanced(alloc, Op::Union, designs),
     }
 }
