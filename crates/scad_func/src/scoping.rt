@@ -8,9 +8,9 @@ ghost use Rattle.scad_scope.specs.Arguments.{names_of};
 ghost use Rattle.scad_scope.specs.Table.{rows_of, chain_of};
 ghost use Rattle.scad_scope.specs.Blocks.{assignments_of};
 ghost use Rattle.scad_scope.specs.TextView.{assigned_of};
-ghost use Rattle.scad_func.specs.Meaning.{Within, call_in, module_in, no_call, opened, entered_scope, with_variable, with_values};
+ghost use Rattle.scad_func.specs.Meaning.{Within, call_in, module_in, no_call, opened, with_variable, with_values};
 ghost use Rattle.scad_func.specs.View.{IsCallFound, IsModuleFound, IsNoMemory, specials_in, seen, text_of};
-ghost use Rattle.scad_func.specs.Definitions.{statements_at, IsBlockOf};
+ghost use Rattle.scad_func.specs.Definitions.{statements_at, block_scope, IsBlockOf, IsWhole};
 ghost use Rattle.scad_func.specs.Evaluations.{Keeps, SameSetting, ScopeEnters, SpecialsBegin, scopes_there};
 
 use crate::arguments::{SpecialArgument, bind_specials};
@@ -30,7 +30,8 @@ impl<'a> Evaluation<'a, '_> {
         ensures found { IsModuleFound self.now.source.now (rows_of self.now.scopes.now)
             (module_in (seen self.now.source.now (rows_of self.now.scopes.now) scope) name.now) result }
         ensures there { IfSome result (λ found. found.1 < scopes_there self.now) }
-        ensures body { IfSome result (λ found. IsBlockOf (text_of self.now.source.now) found.0.block (body_of found.0.body.now)) }
+        ensures body { IsWhole (text_of self.now.source.now) →
+            IfSome result (λ found. IsBlockOf (text_of self.now.source.now) found.0.block (body_of found.0.body.now)) }
     {
         find_module(self.source, self.scopes, scope, name)
     }
@@ -39,7 +40,8 @@ impl<'a> Evaluation<'a, '_> {
     /// once has the place of its first assignment and the expression of its last. A block that isn't there has
     /// none. Takes no memory.
     pub fn assignments(&self, block: u32) -> &'a [Assignment<'a>]
-        ensures { map assigned_of result.now ≡ assignments_of (statements_at (text_of self.now.source.now) block) }
+        ensures { IsWhole (text_of self.now.source.now) →
+            map assigned_of result.now ≡ assignments_of (statements_at (text_of self.now.source.now) block) }
     {
         let blocks = &self.source.blocks;
         if (block as usize) < blocks.count() {
@@ -53,7 +55,7 @@ impl<'a> Evaluation<'a, '_> {
         requires { outer < scopes_there self.old }
         ensures entered { IfOk result (ScopeEnters self.old self.new) }
         ensures inside { IfOk result (λ n. seen self.new.source.now (rows_of self.new.scopes.now) n
-            ≡ entered_scope (statements_at (text_of self.old.source.now) block) no_call (seen self.old.source.now (rows_of self.old.scopes.now) outer)) }
+            ≡ block_scope (text_of self.old.source.now) block no_call (seen self.old.source.now (rows_of self.old.scopes.now) outer)) }
         ensures kept { OnErr result (Keeps self.old self.new) }
         ensures turns { self.new.turns ≡ self.old.turns }
     {
@@ -81,7 +83,7 @@ impl<'a> Evaluation<'a, '_> {
         requires caller { call.caller < scopes_there self.old }
         ensures entered { IfOk result (ScopeEnters self.old self.new) }
         ensures inside { IfOk result (λ n. seen self.new.source.now (rows_of self.new.scopes.now) n
-            ≡ entered_scope (statements_at (text_of self.old.source.now) block)
+            ≡ block_scope (text_of self.old.source.now) block
             (opened (statements_at (text_of self.old.source.now) call.children) (seen self.old.source.now (rows_of self.old.scopes.now) call.caller))
             (seen self.old.source.now (rows_of self.old.scopes.now) home)) }
         ensures kept { OnErr result (Keeps self.old self.new) }
