@@ -1,8 +1,10 @@
 mod Assignments
 mod Counting
 mod Deciding
+mod Evaluating
 mod Judges
 mod Made
+mod Membership
 mod Numbering
 mod Rows
 mod Telling
