@@ -3,6 +3,7 @@ mod Counting
 mod Deciding
 mod Evaluating
 mod Judges
+mod Leaving
 mod Made
 mod Membership
 mod Numbering

@@ -6,6 +6,8 @@ ghost use Rattle.scad_ast.specs.Terms.{StatementTerm};
 ghost use Rattle.scad_ast.specs.StatementView.{program_of};
 ghost use Rattle.scad_func.specs.View.{IsTextOf};
 ghost use Rattle.scad_design.specs.View.{plain_of};
+ghost use Rattle.plane_predicate.specs.declared.unit.Unit.{Unit as LengthUnit};
+ghost use Rattle.scad_eval.specs.Verdicts.{Judge};
 ghost use Rattle.scad_eval.specs.Meaning.{or_all};
 ghost use Rattle.scad_eval.specs.Sources.{IsMeaning, a_tree, IsMeaningStop, TellsDesign, IsFirstTable};
 
@@ -65,7 +67,7 @@ fn design_of(
 
 /// The first design that is marked `!`, or else all.
 fn first_or_all(alloc: Global, members: Members) -> Result<Design, NoMemory>
-    ensures { IfOk result (λ design. plain_of design ≡ or_all (option_map plain_of members.marked) (map plain_of members.designs.items)) }
+    ensures { IfOk result (λ design. (in_unit : LengthUnit) (judge : Judge) → plain_of design ≡ or_all in_unit judge (option_map plain_of members.marked) (map plain_of members.designs.items)) }
 {
     let Members { designs, marked } = members;
     match marked {
