@@ -1,0 +1,3 @@
+mod Books
+mod Steps
+mod Worked
