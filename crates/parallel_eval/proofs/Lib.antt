@@ -1,3 +1,5 @@
 mod Books
+mod Laned
+mod Running
 mod Steps
 mod Worked

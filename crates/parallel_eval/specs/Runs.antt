@@ -1,5 +1,5 @@
 -- The solids of the nodes of a store, made in runs by several builders.
-use Rattle.std.specs.Prelude.{◌≡◌, ℕ, ◌+◌, ◌-◌, ◌^◌, ◌≤◌, ◌<◌, List, [], ◌∷◌, map, take, length, get_or}
+use Rattle.std.specs.Prelude.{◌≡◌, ℕ, ◌+◌, ◌-◌, ◌^◌, ◌≤◌, ◌<◌, List, [], ◌∷◌, map, take, length}
 use Rattle.std.specs.Arc.{arc_value}
 use Rattle.std.specs.declared.sync.Arc.{Arc}
 use Rattle.csg_tree.specs.declared.node.CsgNode.{CsgNode}
@@ -46,14 +46,15 @@ pub record IsRunNode (trees : List Formula) (start number : ℕ) (node : CsgNode
   pub proper : IsProper (tree_numbered trees number)
   pub below : IsBelow start node
 
--- nodes that stand one after another behind the first ones, and none over another
-abbrev pub AreRunNodes : List Formula → ℕ → List CsgNode → Type 0
-AreRunNodes trees start nodes = (k : ℕ) (d : CsgNode) → k < length nodes → IsRunNode trees start (start + k + 1) (get_or nodes k d)
+-- nodes that stand one after another behind a number, and none over another
+abbrev pub AreRunNodes : List Formula → ℕ → ℕ → List CsgNode → Type 0
+AreRunNodes trees start before [] = Unit {0}
+AreRunNodes trees start before (node ∷ nodes) = IsRunNode trees start (before + 1) node × AreRunNodes trees start (before + 1) nodes
 
 -- a run: nodes behind those that have their solids
 pub record IsRunWork {Z : Type 0} (trees : List Formula) (solids : List (Arc Solid Z)) (nodes : List CsgNode) : Type 0 where
   pub over : shared_solids solids ≡ map solid_of (take (length solids) trees)
-  pub run : AreRunNodes trees (length solids) nodes
+  pub run : AreRunNodes trees (length solids) (length solids) nodes
   pub within : length solids + length nodes ≤ length trees
   pub few : length trees < 2 ^ 32
 
@@ -109,6 +110,18 @@ module _ {H M K E : Type 0} where
     pub begun : AreBegun (joins_to trees lane.before) (joins_to trees lane.last) lane.share lane'.share count count'
     pub answered : IsComplete lane.before lane.last lane'.made.items →
         AreAnswered (joins_to trees lane.before) (joins_to trees lane.last) lane.share lane'.share count count'
+
+  -- a lane is worked on up to the number k, of which each node has an outcome
+  pub record IsLaneAt (trees : List Formula) (k : ℕ) (lane lane' : Lane H M K E) (count count' : ℕ) : Type 0 where
+    pub before : lane'.before ≡ lane.before
+    pub last : lane'.last ≡ lane.last
+    pub parts : lane'.share.parts ≡ lane.share.parts
+    pub caller : lane'.share.caller ≡ lane.share.caller
+    pub outcomes : AreOutcomes trees lane.before lane'.made.items
+    pub many : lane.before + length lane'.made.items ≡ k
+    pub begun : AreBegun (joins_to trees lane.before) (joins_to trees k) lane.share lane'.share count count'
+    pub answered : AreMade lane'.made.items →
+        AreAnswered (joins_to trees lane.before) (joins_to trees k) lane.share lane'.share count count'
 
   -- lanes with what came of their nodes, which are those from one number to another
   abbrev pub AreLanes : List Formula → ℕ → ℕ → List (Lane H M K E) → Type 0

@@ -1,7 +1,6 @@
 //! Nodes of which none is over another, one after another in a store.
 
-ghost use Rattle.std.specs.Prelude.{◌≡◌, ◌+◌, ◌<◌, ◌≤◌, true, IfOk, length};
-ghost use Rattle.csg_tree.specs.Nodes.{IsNodeOf};
+ghost use Rattle.std.specs.Prelude.{◌≡◌, ◌+◌, ◌<◌, ◌≤◌, true, false, IfOk, length};
 ghost use Rattle.parallel_eval.specs.Runs.{IsBelow, AreRunNodes};
 
 use csg_tree::{CsgNode, CsgStore};
@@ -15,7 +14,7 @@ const MOST_OF_RUN: u32 = 64;
 /// one of the run, so that all of them can be done at the same time.
 pub fn run_nodes(alloc: Global, store: &CsgStore, start: u32) -> Result<Vec<CsgNode<'_>>, NoMemory>
     requires { start < length store.now }
-    ensures nodes { IfOk result (λ v. AreRunNodes store.now start v.items) }
+    ensures nodes { IfOk result (λ v. AreRunNodes store.now start start v.items) }
     ensures some { IfOk result (λ v. 0 < length v.items) }
     ensures within { IfOk result (λ v. start + length v.items ≤ length store.now) }
 {
@@ -34,6 +33,7 @@ pub fn run_nodes(alloc: Global, store: &CsgStore, start: u32) -> Result<Vec<CsgN
 // Whether a node is over none behind the first `start` ones.
 fn is_below(node: CsgNode<'_>, start: u32) -> bool
     ensures yes { result ≡ true → IsBelow start node.entry }
+    ensures no { result ≡ false → IsBelow start node.entry → ⊥ }
 {
     match node {
         CsgNode::Leaf(_) => true,

@@ -3,5 +3,5 @@ use Rattle.parallel_eval.specs.Runs.{AreRunNodes}
 use Rattle.parallel_eval.proofs.node_runs.run_nodes.Given as goal
 
 abbrev pub invariant-loop-before : goal.invariant-loop-before
-invariant-loop-before g l =
-    AreRunNodes l.fn.store.now l.fn.start l.nodes.items × (l.fn.start + length l.nodes.items ≡ l.before)
+invariant-loop-before l =
+    AreRunNodes l.fn.store.now l.fn.start l.fn.start l.nodes.items × (l.fn.start + length l.nodes.items ≡ l.before)
