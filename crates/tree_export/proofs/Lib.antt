@@ -1,0 +1,4 @@
+pub mod LastNode
+pub mod FirstPassed
+pub mod OneExport
+pub mod SmallLeaves
