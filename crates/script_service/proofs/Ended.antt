@@ -208,6 +208,6 @@ pub chosen_no_script : (X : List ℕ → Reply → Type 0) (s : Settings) (left 
 chosen_no_script X s left left' w status (inl r) run = some_anyway left (λ bytes. IsNoScript bytes → status ≢ Done) (λ bytes none e. cc (r, e))
 chosen_no_script X s left left' w status (inr h) run = no_done X s left left' w status run h
 
-pub demo_chosen : (X : List ℕ → Reply → Type 0) (s : Settings) (n : ℕ) (left : Option (List ℕ)) (w : Written) (status : Status) → s ≡ Demo n → ServesBytes X (Demo n) (demo_script n) w status
-    → (status ≡ ReadFault) ⊎ ServesInput X s left left w status
-demo_chosen X s n left w status e h = inr (subst (λ (t : Settings). ServesInput X t left left w status) (sym e) (demo_served X n left w status h))
+pub demo_chosen : (X : Settings → List ℕ → Reply → Type 0) (s : Settings) (n : ℕ) (left : Option (List ℕ)) (w : Written) (status : Status) → s ≡ Demo n → ServesBytes (X (Demo n)) (Demo n) (demo_script n) w status
+    → (status ≡ ReadFault) ⊎ ServesInput (X s) s left left w status
+demo_chosen X s n left w status e h = inr (subst (λ (t : Settings). ServesInput (X t) t left left w status) (sym e) (demo_served (X (Demo n)) n left w status h))

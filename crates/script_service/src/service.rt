@@ -13,6 +13,7 @@ ghost use Rattle.script_reader.specs.Scripts.{IsScript};
 ghost use Rattle.script_reader.specs.FaultLines.{fault_line};
 ghost use Rattle.reply_text.specs.Texts.{output};
 ghost use Rattle.reply_text.specs.Answers.{AllFit};
+ghost use Rattle.script_service.specs.Units.{unit_of as unit_chosen};
 ghost use Rattle.script_service.specs.Endings.{ending};
 ghost use Rattle.script_service.specs.Demos.{demo_text};
 ghost use Rattle.script_service.specs.Serving.{usage_line, IsRun, printed, Serves, BreaksOff, Begins, RefusesScript, IsScriptOf, IsNoScript};
@@ -23,6 +24,7 @@ use crate::ending::ending_lines;
 use crate::status::Status;
 use big_input::make_script;
 use outside_io::{ReadEnd, Sink, Source, read_to_end, write_all};
+use plane_predicate::Unit;
 use reply_text::Replies;
 use run_words::{Settings, read_words};
 use script_output::{OutputEnd, write_output};
@@ -119,6 +121,16 @@ fn write_replies<K: Sink>(
     }
 }
 
+// The unit of the run's lengths.
+fn unit_of(settings: Settings) -> Unit
+    ensures { result ≡ unit_chosen settings }
+{
+    match settings {
+        Settings::Run { half: true, .. } => Unit::Half,
+        Settings::Run { .. } | Settings::Demo(_) => Unit::Whole,
+    }
+}
+
 // Serves the bytes of a script, or refuses them.
 fn serve_bytes<E: Exporter, K: Sink>(
     alloc: Global,
@@ -127,7 +139,7 @@ fn serve_bytes<E: Exporter, K: Sink>(
     bytes: &[u8],
     sink: &mut K,
 ) -> Status
-    ensures served { ServesBytes E.exports settings bytes.now (record { old = K.held sink.old; new = K.held sink.new; before = K.faults sink.old; now = K.faults sink.new }) result }
+    ensures served { ServesBytes (E.exports (unit_chosen settings)) settings bytes.now (record { old = K.held sink.old; new = K.held sink.new; before = K.faults sink.old; now = K.faults sink.new }) result }
     ensures later { K.faults sink.old ≤ K.faults sink.new }
 {
     let script = match read_script(alloc, bytes) {
@@ -135,7 +147,7 @@ fn serve_bytes<E: Exporter, K: Sink>(
         Err(ScriptFault::NoMemory) => return Status::NoMemory,
         Err(fault) => return refuse(alloc, fault, sink),
     };
-    match run_script(alloc, exporter, &script) {
+    match run_script(alloc, exporter, unit_of(settings), &script) {
         Ok(replies) => write_replies(alloc, settings, script.clients.items(), &replies, sink),
         Err(_) => Status::NoMemory,
     }
@@ -151,7 +163,7 @@ fn serve_run<E: Exporter, S: Source, K: Sink>(
 ) -> Status
     requires { IsRun settings }
     ensures read_fault { result ≡ Status.ReadFault → Rose (S.faults source.old) (S.faults source.new) × (sink.new ≡ sink.old) }
-    ensures served { (result ≡ Status.ReadFault) ⊎ ServesInput E.exports settings (S.left source.old) (S.left source.new) (record { old = K.held sink.old; new = K.held sink.new; before = K.faults sink.old; now = K.faults sink.new }) result }
+    ensures served { (result ≡ Status.ReadFault) ⊎ ServesInput (E.exports (unit_chosen settings)) settings (S.left source.old) (S.left source.new) (record { old = K.held sink.old; new = K.held sink.new; before = K.faults sink.old; now = K.faults sink.new }) result }
     ensures counts { (S.faults source.old ≤ S.faults source.new) × (K.faults sink.old ≤ K.faults sink.new) }
 {
     match read_to_end(alloc, source, SCRIPT_BYTES) {
@@ -170,7 +182,7 @@ fn serve_demo<E: Exporter, K: Sink>(
     sink: &mut K,
 ) -> Status
     requires { (1 ≤ parts) × (parts ≤ 200) }
-    ensures served { (ServesBytes E.exports (settings.Demo parts) (demo_script parts) (record { old = K.held sink.old; new = K.held sink.new; before = K.faults sink.old; now = K.faults sink.new }) result) }
+    ensures served { (ServesBytes (E.exports (unit_chosen (settings.Demo parts))) (settings.Demo parts) (demo_script parts) (record { old = K.held sink.old; new = K.held sink.new; before = K.faults sink.old; now = K.faults sink.new }) result) }
     ensures later { K.faults sink.old ≤ K.faults sink.new }
 {
     match make_script(alloc, parts as u32) {
@@ -194,13 +206,13 @@ fn serve_chosen<E: Exporter, S: Source, K: Sink>(
     sink: &mut K,
 ) -> Status
     requires { AreInRange settings }
-    ensures done { result ≡ Status.Done → Serves E.exports settings (S.left source.old) (S.left source.new) (K.held sink.old) (K.held sink.new) }
+    ensures done { result ≡ Status.Done → Serves (E.exports (unit_chosen settings)) settings (S.left source.old) (S.left source.new) (K.held sink.old) (K.held sink.new) }
     ensures bad_script { result ≡ Status.BadScript → RefusesScript settings (S.left source.old) (S.left source.new) (K.held sink.old) (K.held sink.new) }
     ensures read_fault { result ≡ Status.ReadFault → IsRun settings × Rose (S.faults source.old) (S.faults source.new) × (sink.new ≡ sink.old) }
     ensures write_fault { result ≡ Status.WriteFault → Rose (K.faults sink.old) (K.faults sink.new)
-        × BreaksOff E.exports settings (S.left source.old) (S.left source.new) (K.held sink.old) (K.held sink.new) }
+        × BreaksOff (E.exports (unit_chosen settings)) settings (S.left source.old) (S.left source.new) (K.held sink.old) (K.held sink.new) }
     ensures no_memory { result ≡ Status.NoMemory → Appends (K.held sink.old) (K.held sink.new) []
-        ⊎ Begins E.exports settings (S.left source.old) (S.left source.new) (K.held sink.old) (K.held sink.new) }
+        ⊎ Begins (E.exports (unit_chosen settings)) settings (S.left source.old) (S.left source.new) (K.held sink.old) (K.held sink.new) }
     ensures counts { (S.faults source.old ≤ S.faults source.new) × (K.faults sink.old ≤ K.faults sink.new) }
     ensures words { result ≢ Status.BadWords }
     ensures complete { (Rose (S.faults source.old) (S.faults source.new) → ⊥) → (Rose (K.faults sink.old) (K.faults sink.new) → ⊥)
@@ -226,7 +238,7 @@ pub fn serve_with<E: Exporter, S: Source, K: Sink>(
 ) -> Status
     // Whatever is read and written, each client's replies are those that its own commands define.
     ensures done { result ≡ Status.Done → (settings : Settings) × Chooses (map string_bytes words.now) settings
-        × Serves E.exports settings (S.left source.old) (S.left source.new) (K.held sink.old) (K.held sink.new) }
+        × Serves (E.exports (unit_chosen settings)) settings (S.left source.old) (S.left source.new) (K.held sink.old) (K.held sink.new) }
 
     // Words that are outside the grammar, and they alone, are answered by the usage line, and then nothing is read.
     ensures bad_words { result ≡ Status.BadWords → AreOutside (map string_bytes words.now)
@@ -243,10 +255,10 @@ pub fn serve_with<E: Exporter, S: Source, K: Sink>(
         × IsRun settings × Rose (S.faults source.old) (S.faults source.new) × (sink.new ≡ sink.old) }
     ensures write_fault { result ≡ Status.WriteFault → Rose (K.faults sink.old) (K.faults sink.new) }
     ensures output_cut { (settings : Settings) → Chooses (map string_bytes words.now) settings → result ≡ Status.WriteFault
-        → BreaksOff E.exports settings (S.left source.old) (S.left source.new) (K.held sink.old) (K.held sink.new) }
+        → BreaksOff (E.exports (unit_chosen settings)) settings (S.left source.old) (S.left source.new) (K.held sink.old) (K.held sink.new) }
     ensures no_memory { result ≡ Status.NoMemory → Appends (K.held sink.old) (K.held sink.new) []
         ⊎ ((settings : Settings) × Chooses (map string_bytes words.now) settings
-        × Begins E.exports settings (S.left source.old) (S.left source.new) (K.held sink.old) (K.held sink.new)) }
+        × Begins (E.exports (unit_chosen settings)) settings (S.left source.old) (S.left source.new) (K.held sink.old) (K.held sink.new)) }
     ensures counts { (S.faults source.old ≤ S.faults source.new) × (K.faults sink.old ≤ K.faults sink.new) }
 
     // Where no count of faults rose, a script is served and other bytes are refused, unless memory ran out.

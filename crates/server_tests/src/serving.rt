@@ -1,6 +1,7 @@
 ghost use Rattle.std.specs.Prelude.{◌<◌};
 
 use outside_io::{MemorySink, MemorySource};
+use plane_predicate::Unit;
 use reply_text::Reply;
 use script_run::Exporter;
 use script_server::{Status, serve};
@@ -295,9 +296,9 @@ struct OneBox;
 impl Exporter for OneBox {
     ghost use Rattle.std.specs.Prelude.{⊤};
 
-    ghost exports = { λ _ _. ⊤ };
+    ghost exports = { λ _ _ _. ⊤ };
 
-    fn export(&mut self, alloc: Global, _source: &[u8]) -> Result<Reply, NoMemory> {
+    fn export(&mut self, alloc: Global, _unit: Unit, _source: &[u8]) -> Result<Reply, NoMemory> {
         Ok(Reply::Solid(Bytes::of(Vec::from_slice(alloc, BOX_TEXT)?)))
     }
 }
