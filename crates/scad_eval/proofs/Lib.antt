@@ -2,6 +2,7 @@ mod Assignments
 mod Deciding
 mod Judges
 mod Made
+mod OneMeaning
 mod Positions
 mod Rows
 mod Verdicts

@@ -1,6 +1,8 @@
 -- What a program means: the tree of its design in world position, or its first fault.
 use Rattle.std.specs.Prelude.{◌≡◌, List, []}
 use Rattle.text_place.specs.declared.fault.Place.{Place}
+use Rattle.text_place.specs.declared.fault.Stop.{Stop}
+use Rattle.text_place.specs.declared.fault.Stop.TheVariants.{Fault, NoMemory}
 use Rattle.text_place.specs.declared.fault.FaultKind.{FaultKind}
 use Rattle.plane_predicate.specs.declared.unit.Unit.{Unit as LengthUnit}
 use Rattle.csg_tree.specs.Formulas.{Formula}
@@ -29,3 +31,8 @@ IsMeaningOfDesign (Gives turns design) meaning = (out : Placed) × Places design
 abbrev pub IsMeaning : LengthUnit → List StatementTerm → Meaning → Type 0
 IsMeaning unit program meaning =
     (judge : Judge) → IsRight judge → IsMeaningOfDesign (design_of unit judge first_chain (statements_from program)) meaning
+
+-- a stop of evaluation: the program's first fault, or want of memory
+abbrev pub IsMeaningStop : LengthUnit → List StatementTerm → Stop → Type 0
+IsMeaningStop unit program (Fault fault) = IsMeaning unit program (a_fault fault.kind fault.place)
+IsMeaningStop unit program NoMemory = Unit {0}
