@@ -18,6 +18,5 @@ pub fn evaluate(_alloc: Global, program: &Program, unit: Unit) -> Result<CsgTree
     ensures stop { IfErr result (IsMeaningStop unit (program_of program.now)) }
     ensures proper { IfOk result (λ tree. IsProper (formula_of tree)) }
 {
-    let _ = (program, unit);
     Err(Stop::NoMemory)
 }

@@ -1,4 +1,3 @@
 pub mod OneSource
 pub mod OneReply
-pub mod Answering
 pub mod Refusing

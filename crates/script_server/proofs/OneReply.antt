@@ -32,7 +32,7 @@ pub one_reply : OneTree → OneFault → NotBoth → OneExport →
 one_reply trees faults either one unit source r q (inl a) (inl b) = a.2 ∙ ap reply.Faulted (faults unit source a.0 b.0 a.1 b.1) ∙ sym b.2
 one_reply trees faults either one unit source r q (inl a) (inr b) = absurd (either unit source b.0 a.0 b.1 a.1)
 one_reply trees faults either one unit source r q (inr a) (inl b) = absurd (either unit source a.0 b.0 a.1 b.1)
-one_reply trees faults either one unit source r q (inr (f, m, out, is, e)) (inr (g, n, other, is', e')) =
+one_reply trees faults either one unit source r q (inr (f, m, (out, is, e))) (inr (g, n, (other, is', e'))) =
     let same = trees unit source g f n m in
     e ∙ ap reply_of (one unit f out other is (subst (λ (t : Formula). IsExported unit t other) same is')) ∙ sym e'
 
@@ -43,7 +43,7 @@ tree_has_memory (exported.Complex passed) r e none = let wrong : reply.Complex p
 
 has_memory : (unit : LengthUnit) (source : List ℕ) (r : Reply) → Exports unit source r → r ≢ reply.NoMem
 has_memory unit source r (inl a) none = let wrong : reply.Faulted a.0 ≡ reply.NoMem = sym a.2 ∙ none in cc
-has_memory unit source r (inr (f, m, out, is, e)) none = tree_has_memory out r e none
+has_memory unit source r (inr (f, m, (out, is, e))) none = tree_has_memory out r e none
 
 abbrev pub OneReply : Type 0
 OneReply = (unit : LengthUnit) (source : List ℕ) (r q : Reply) → Exports unit source r → Exports unit source q → r ≡ q
@@ -62,12 +62,12 @@ solid_text (exported.Complex passed) bytes e = absurd (cc e)
 solid_within : Texts → (unit : LengthUnit) (source : List ℕ) (r : Reply) (bytes : List ℕ) → Exports unit source r → r ≡ reply.Solid bytes →
     (f : Formula) × Means unit source f × PassesNoLimit unit f
 solid_within texts unit source r bytes (inl a) e = absurd (let wrong : reply.Solid bytes ≡ reply.Faulted a.0 = sym e ∙ a.2 in cc)
-solid_within texts unit source r bytes (inr (f, m, out, is, e')) e = (f, m, (texts unit f out is).0 (solid_text out bytes (sym e ∙ e')))
+solid_within texts unit source r bytes (inr (f, m, (out, is, e'))) e = (f, m, (texts unit f out is).0 (solid_text out bytes (sym e ∙ e')))
 
 within_solid : OneTree → NotBoth → Texts → (unit : LengthUnit) (source : List ℕ) (r : Reply) (f : Formula) → Exports unit source r →
     Means unit source f → PassesNoLimit unit f → (bytes : List ℕ) × (r ≡ reply.Solid bytes)
 within_solid trees either texts unit source r f (inl a) m none = absurd (either unit source f a.0 m a.1)
-within_solid trees either texts unit source r f (inr (g, n, out, is, e)) m none =
+within_solid trees either texts unit source r f (inr (g, n, (out, is, e))) m none =
     let text = (texts unit g out is).1 (subst (PassesNoLimit unit) (trees unit source f g m n) none) in
     (text.0, e ∙ ap reply_of text.1)
 
