@@ -502,3 +502,308 @@ leaf_too_many = refl
 flat_leaf_too_many : begun 0 1024 (and_statement (InstanceStatement (AnInstance (at 1 1) ([]) (ModuleCallTerm (at 1 1) (codes "linear_extrude") ((PositionalTerm (NumberTerm (at 1 16) 1)) ∷ []) (InstanceBody (AnInstance (at 1 19) ([]) (ModuleCallTerm (at 1 19) (codes "square") ((PositionalTerm (NumberTerm (at 1 26) 1)) ∷ []) (EmptyBody (at 1 28)))))))) no_statements) ≡ Faults TooManyParts (at 1 19)
 unfolding made_within evaluated
 flat_leaf_too_many = refl
+-- module m(a,b) {} m(a=1, 2);
+given_twice_by_number : meaning (and_statement (ModuleTerm (at 1 1) (codes "m") (at 1 8) ((PlainTerm (at 1 10) (codes "a")) ∷ (PlainTerm (at 1 12) (codes "b")) ∷ []) (BlockBody (at 1 15) no_statements)) (and_statement (InstanceStatement (AnInstance (at 1 18) ([]) (ModuleCallTerm (at 1 18) (codes "m") ((NamedTerm (at 1 20) (codes "a") (NumberTerm (at 1 22) 1)) ∷ (PositionalTerm (NumberTerm (at 1 25) 2)) ∷ []) (EmptyBody (at 1 27))))) no_statements)) ≡ Faults BadArgument (at 1 25)
+unfolding design_of made_within evaluated
+given_twice_by_number = refl
+
+-- module m(a,b) { cube([a,b,1]); } m(b=2, 1);
+-- is as
+-- cube([1,2,1]);
+later_parameters : seen_in (meaning (and_statement (ModuleTerm (at 1 1) (codes "m") (at 1 8) ((PlainTerm (at 1 10) (codes "a")) ∷ (PlainTerm (at 1 12) (codes "b")) ∷ []) (BlockBody (at 1 15) (and_statement (InstanceStatement (AnInstance (at 1 17) ([]) (ModuleCallTerm (at 1 17) (codes "cube") ((PositionalTerm (ListTerm (at 1 22) (and_term (NameTerm (at 1 23) (codes "a")) (and_term (NameTerm (at 1 25) (codes "b")) (and_term (NumberTerm (at 1 27) 1) no_terms))))) ∷ []) (EmptyBody (at 1 30))))) no_statements))) (and_statement (InstanceStatement (AnInstance (at 1 34) ([]) (ModuleCallTerm (at 1 34) (codes "m") ((NamedTerm (at 1 36) (codes "b") (NumberTerm (at 1 38) 2)) ∷ (PositionalTerm (NumberTerm (at 1 41) 1)) ∷ []) (EmptyBody (at 1 43))))) no_statements))) ≡ seen_in (meaning (and_statement (InstanceStatement (AnInstance (at 1 1) ([]) (ModuleCallTerm (at 1 1) (codes "cube") ((PositionalTerm (ListTerm (at 1 6) (and_term (NumberTerm (at 1 7) 1) (and_term (NumberTerm (at 1 9) 2) (and_term (NumberTerm (at 1 11) 1) no_terms))))) ∷ []) (EmptyBody (at 1 14))))) no_statements))
+unfolding design_of made_within evaluated
+later_parameters = refl
+
+-- module m(a,a) { cube(a); } m(1, 2);
+-- is as
+-- cube(2);
+last_of_two_parameters : seen_in (meaning (and_statement (ModuleTerm (at 1 1) (codes "m") (at 1 8) ((PlainTerm (at 1 10) (codes "a")) ∷ (PlainTerm (at 1 12) (codes "a")) ∷ []) (BlockBody (at 1 15) (and_statement (InstanceStatement (AnInstance (at 1 17) ([]) (ModuleCallTerm (at 1 17) (codes "cube") ((PositionalTerm (NameTerm (at 1 22) (codes "a"))) ∷ []) (EmptyBody (at 1 24))))) no_statements))) (and_statement (InstanceStatement (AnInstance (at 1 28) ([]) (ModuleCallTerm (at 1 28) (codes "m") ((PositionalTerm (NumberTerm (at 1 30) 1)) ∷ (PositionalTerm (NumberTerm (at 1 33) 2)) ∷ []) (EmptyBody (at 1 35))))) no_statements))) ≡ seen_in (meaning (and_statement (InstanceStatement (AnInstance (at 1 1) ([]) (ModuleCallTerm (at 1 1) (codes "cube") ((PositionalTerm (NumberTerm (at 1 6) 2)) ∷ []) (EmptyBody (at 1 8))))) no_statements))
+unfolding design_of made_within evaluated
+last_of_two_parameters = refl
+
+-- module m(a) {} m(b=1/0);
+match_before_value : meaning (and_statement (ModuleTerm (at 1 1) (codes "m") (at 1 8) ((PlainTerm (at 1 10) (codes "a")) ∷ []) (BlockBody (at 1 13) no_statements)) (and_statement (InstanceStatement (AnInstance (at 1 16) ([]) (ModuleCallTerm (at 1 16) (codes "m") ((NamedTerm (at 1 18) (codes "b") (ChainTerm (at 1 20) (NumberTerm (at 1 20) 1) (and_link Divide (at 1 21) (NumberTerm (at 1 22) 0) no_links))) ∷ []) (EmptyBody (at 1 24))))) no_statements)) ≡ Faults BadArgument (at 1 18)
+unfolding design_of made_within evaluated
+match_before_value = refl
+
+-- module m(a) {} m(1/0, 2);
+value_before_match : meaning (and_statement (ModuleTerm (at 1 1) (codes "m") (at 1 8) ((PlainTerm (at 1 10) (codes "a")) ∷ []) (BlockBody (at 1 13) no_statements)) (and_statement (InstanceStatement (AnInstance (at 1 16) ([]) (ModuleCallTerm (at 1 16) (codes "m") ((PositionalTerm (ChainTerm (at 1 18) (NumberTerm (at 1 18) 1) (and_link Divide (at 1 19) (NumberTerm (at 1 20) 0) no_links))) ∷ (PositionalTerm (NumberTerm (at 1 23) 2)) ∷ []) (EmptyBody (at 1 25))))) no_statements)) ≡ Faults ZeroDivisor (at 1 19)
+unfolding design_of made_within evaluated
+value_before_match = refl
+
+-- rotate(90, undef) cube(1);
+given_undef : meaning (and_statement (InstanceStatement (AnInstance (at 1 1) ([]) (ModuleCallTerm (at 1 1) (codes "rotate") ((PositionalTerm (NumberTerm (at 1 8) 90)) ∷ (PositionalTerm (UndefTerm (at 1 12))) ∷ []) (InstanceBody (AnInstance (at 1 19) ([]) (ModuleCallTerm (at 1 19) (codes "cube") ((PositionalTerm (NumberTerm (at 1 24) 1)) ∷ []) (EmptyBody (at 1 26)))))))) no_statements) ≡ Faults NotInProfile (at 1 1)
+unfolding design_of made_within evaluated
+given_undef = refl
+
+-- cube(undef);
+undef_size : meaning (and_statement (InstanceStatement (AnInstance (at 1 1) ([]) (ModuleCallTerm (at 1 1) (codes "cube") ((PositionalTerm (UndefTerm (at 1 6))) ∷ []) (EmptyBody (at 1 12))))) no_statements) ≡ Faults TypeMismatch (at 1 1)
+unfolding design_of made_within evaluated
+undef_size = refl
+
+-- children(undef);
+children_of_undef : meaning (and_statement (InstanceStatement (AnInstance (at 1 1) ([]) (ModuleCallTerm (at 1 1) (codes "children") ((PositionalTerm (UndefTerm (at 1 10))) ∷ []) (EmptyBody (at 1 16))))) no_statements) ≡ Faults TypeMismatch (at 1 1)
+unfolding design_of made_within evaluated
+children_of_undef = refl
+
+-- children(0); cube(1);
+-- is as
+-- cube(1);
+children_outside : seen_in (meaning (and_statement (InstanceStatement (AnInstance (at 1 1) ([]) (ModuleCallTerm (at 1 1) (codes "children") ((PositionalTerm (NumberTerm (at 1 10) 0)) ∷ []) (EmptyBody (at 1 12))))) (and_statement (InstanceStatement (AnInstance (at 1 14) ([]) (ModuleCallTerm (at 1 14) (codes "cube") ((PositionalTerm (NumberTerm (at 1 19) 1)) ∷ []) (EmptyBody (at 1 21))))) no_statements))) ≡ seen_in (meaning (and_statement (InstanceStatement (AnInstance (at 1 1) ([]) (ModuleCallTerm (at 1 1) (codes "cube") ((PositionalTerm (NumberTerm (at 1 6) 1)) ∷ []) (EmptyBody (at 1 8))))) no_statements))
+unfolding design_of made_within evaluated
+children_outside = refl
+
+-- module m() { children(7); } m() { x=1/0; }
+no_child_chosen : meaning (and_statement (ModuleTerm (at 1 1) (codes "m") (at 1 8) ([]) (BlockBody (at 1 12) (and_statement (InstanceStatement (AnInstance (at 1 14) ([]) (ModuleCallTerm (at 1 14) (codes "children") ((PositionalTerm (NumberTerm (at 1 23) 7)) ∷ []) (EmptyBody (at 1 25))))) no_statements))) (and_statement (InstanceStatement (AnInstance (at 1 29) ([]) (ModuleCallTerm (at 1 29) (codes "m") ([]) (BlockBody (at 1 33) (and_statement (AssignmentTerm (at 1 35) (codes "x") (ChainTerm (at 1 37) (NumberTerm (at 1 37) 1) (and_link Divide (at 1 38) (NumberTerm (at 1 39) 0) no_links))) no_statements))))) no_statements)) ≡ Faults ZeroDivisor (at 1 38)
+unfolding design_of made_within evaluated
+no_child_chosen = refl
+
+-- module m() { cube(3); } m() { x=1/0; cube(y); }
+-- is as
+-- cube(3);
+children_not_used : seen_in (meaning (and_statement (ModuleTerm (at 1 1) (codes "m") (at 1 8) ([]) (BlockBody (at 1 12) (and_statement (InstanceStatement (AnInstance (at 1 14) ([]) (ModuleCallTerm (at 1 14) (codes "cube") ((PositionalTerm (NumberTerm (at 1 19) 3)) ∷ []) (EmptyBody (at 1 21))))) no_statements))) (and_statement (InstanceStatement (AnInstance (at 1 25) ([]) (ModuleCallTerm (at 1 25) (codes "m") ([]) (BlockBody (at 1 29) (and_statement (AssignmentTerm (at 1 31) (codes "x") (ChainTerm (at 1 33) (NumberTerm (at 1 33) 1) (and_link Divide (at 1 34) (NumberTerm (at 1 35) 0) no_links))) (and_statement (InstanceStatement (AnInstance (at 1 38) ([]) (ModuleCallTerm (at 1 38) (codes "cube") ((PositionalTerm (NameTerm (at 1 43) (codes "y"))) ∷ []) (EmptyBody (at 1 45))))) no_statements)))))) no_statements))) ≡ seen_in (meaning (and_statement (InstanceStatement (AnInstance (at 1 1) ([]) (ModuleCallTerm (at 1 1) (codes "cube") ((PositionalTerm (NumberTerm (at 1 6) 3)) ∷ []) (EmptyBody (at 1 8))))) no_statements))
+unfolding design_of made_within evaluated
+children_not_used = refl
+
+-- !echo(1); cube(1);
+-- is as
+-- union();
+marked_echo : seen_in (meaning (and_statement (InstanceStatement (AnInstance (at 1 1) ((record { at = (at 1 1); modifier = Root }) ∷ []) (ModuleCallTerm (at 1 2) (codes "echo") ((PositionalTerm (NumberTerm (at 1 7) 1)) ∷ []) (EmptyBody (at 1 9))))) (and_statement (InstanceStatement (AnInstance (at 1 11) ([]) (ModuleCallTerm (at 1 11) (codes "cube") ((PositionalTerm (NumberTerm (at 1 16) 1)) ∷ []) (EmptyBody (at 1 18))))) no_statements))) ≡ seen_in (meaning (and_statement (InstanceStatement (AnInstance (at 1 1) ([]) (ModuleCallTerm (at 1 1) (codes "union") ([]) (EmptyBody (at 1 8))))) no_statements))
+unfolding design_of made_within evaluated
+marked_echo = refl
+
+-- linear_extrude(1) !echo(1);
+marked_echo_inside : meaning (and_statement (InstanceStatement (AnInstance (at 1 1) ([]) (ModuleCallTerm (at 1 1) (codes "linear_extrude") ((PositionalTerm (NumberTerm (at 1 16) 1)) ∷ []) (InstanceBody (AnInstance (at 1 19) ((record { at = (at 1 19); modifier = Root }) ∷ []) (ModuleCallTerm (at 1 20) (codes "echo") ((PositionalTerm (NumberTerm (at 1 25) 1)) ∷ []) (EmptyBody (at 1 27)))))))) no_statements) ≡ Faults WrongDimension (at 1 20)
+unfolding design_of made_within evaluated
+marked_echo_inside = refl
+
+-- module m() { children(); } m() { assert(false); cube(1); }
+-- is as
+-- cube(1);
+echo_of_children_unsaid : seen_in (meaning (and_statement (ModuleTerm (at 1 1) (codes "m") (at 1 8) ([]) (BlockBody (at 1 12) (and_statement (InstanceStatement (AnInstance (at 1 14) ([]) (ModuleCallTerm (at 1 14) (codes "children") ([]) (EmptyBody (at 1 24))))) no_statements))) (and_statement (InstanceStatement (AnInstance (at 1 28) ([]) (ModuleCallTerm (at 1 28) (codes "m") ([]) (BlockBody (at 1 32) (and_statement (InstanceStatement (AnInstance (at 1 34) ([]) (ModuleCallTerm (at 1 34) (codes "assert") ((PositionalTerm (TruthTerm (at 1 41) false)) ∷ []) (EmptyBody (at 1 47))))) (and_statement (InstanceStatement (AnInstance (at 1 49) ([]) (ModuleCallTerm (at 1 49) (codes "cube") ((PositionalTerm (NumberTerm (at 1 54) 1)) ∷ []) (EmptyBody (at 1 56))))) no_statements)))))) no_statements))) ≡ seen_in (meaning (and_statement (InstanceStatement (AnInstance (at 1 1) ([]) (ModuleCallTerm (at 1 1) (codes "cube") ((PositionalTerm (NumberTerm (at 1 6) 1)) ∷ []) (EmptyBody (at 1 8))))) no_statements))
+unfolding design_of made_within evaluated
+echo_of_children_unsaid = refl
+
+-- module m() { children(); } m() { if (true) assert(false); }
+assert_in_child : meaning (and_statement (ModuleTerm (at 1 1) (codes "m") (at 1 8) ([]) (BlockBody (at 1 12) (and_statement (InstanceStatement (AnInstance (at 1 14) ([]) (ModuleCallTerm (at 1 14) (codes "children") ([]) (EmptyBody (at 1 24))))) no_statements))) (and_statement (InstanceStatement (AnInstance (at 1 28) ([]) (ModuleCallTerm (at 1 28) (codes "m") ([]) (BlockBody (at 1 32) (and_statement (InstanceStatement (AnInstance (at 1 34) ([]) (IfTerm (at 1 34) (TruthTerm (at 1 38) true) (InstanceBody (AnInstance (at 1 44) ([]) (ModuleCallTerm (at 1 44) (codes "assert") ((PositionalTerm (TruthTerm (at 1 51) false)) ∷ []) (EmptyBody (at 1 57)))))))) no_statements))))) no_statements)) ≡ Faults AssertFailed (at 1 44)
+unfolding design_of made_within evaluated
+assert_in_child = refl
+
+-- cube(1) cube(1/0); x=1/0;
+body_of_shape_unseen : meaning (and_statement (InstanceStatement (AnInstance (at 1 1) ([]) (ModuleCallTerm (at 1 1) (codes "cube") ((PositionalTerm (NumberTerm (at 1 6) 1)) ∷ []) (InstanceBody (AnInstance (at 1 9) ([]) (ModuleCallTerm (at 1 9) (codes "cube") ((PositionalTerm (ChainTerm (at 1 14) (NumberTerm (at 1 14) 1) (and_link Divide (at 1 15) (NumberTerm (at 1 16) 0) no_links))) ∷ []) (EmptyBody (at 1 18)))))))) (and_statement (AssignmentTerm (at 1 20) (codes "x") (ChainTerm (at 1 22) (NumberTerm (at 1 22) 1) (and_link Divide (at 1 23) (NumberTerm (at 1 24) 0) no_links))) no_statements)) ≡ Faults ZeroDivisor (at 1 23)
+unfolding design_of made_within evaluated
+body_of_shape_unseen = refl
+
+-- cube(1) cube(1/0);
+-- is as
+-- cube(1);
+body_of_shape : seen_in (meaning (and_statement (InstanceStatement (AnInstance (at 1 1) ([]) (ModuleCallTerm (at 1 1) (codes "cube") ((PositionalTerm (NumberTerm (at 1 6) 1)) ∷ []) (InstanceBody (AnInstance (at 1 9) ([]) (ModuleCallTerm (at 1 9) (codes "cube") ((PositionalTerm (ChainTerm (at 1 14) (NumberTerm (at 1 14) 1) (and_link Divide (at 1 15) (NumberTerm (at 1 16) 0) no_links))) ∷ []) (EmptyBody (at 1 18)))))))) no_statements)) ≡ seen_in (meaning (and_statement (InstanceStatement (AnInstance (at 1 1) ([]) (ModuleCallTerm (at 1 1) (codes "cube") ((PositionalTerm (NumberTerm (at 1 6) 1)) ∷ []) (EmptyBody (at 1 8))))) no_statements))
+unfolding design_of made_within evaluated
+body_of_shape = refl
+
+-- module m(a, b=a) {} m(1);
+default_scope : meaning (and_statement (ModuleTerm (at 1 1) (codes "m") (at 1 8) ((PlainTerm (at 1 10) (codes "a")) ∷ (DefaultTerm (at 1 13) (codes "b") (NameTerm (at 1 15) (codes "a"))) ∷ []) (BlockBody (at 1 18) no_statements)) (and_statement (InstanceStatement (AnInstance (at 1 21) ([]) (ModuleCallTerm (at 1 21) (codes "m") ((PositionalTerm (NumberTerm (at 1 23) 1)) ∷ []) (EmptyBody (at 1 25))))) no_statements)) ≡ Faults UnknownName (at 1 15)
+unfolding design_of made_within evaluated
+default_scope = refl
+
+-- a=5; module m(a, b=a) { cube(b); } m(1);
+-- is as
+-- cube(5);
+default_where_defined : seen_in (meaning (and_statement (AssignmentTerm (at 1 1) (codes "a") (NumberTerm (at 1 3) 5)) (and_statement (ModuleTerm (at 1 6) (codes "m") (at 1 13) ((PlainTerm (at 1 15) (codes "a")) ∷ (DefaultTerm (at 1 18) (codes "b") (NameTerm (at 1 20) (codes "a"))) ∷ []) (BlockBody (at 1 23) (and_statement (InstanceStatement (AnInstance (at 1 25) ([]) (ModuleCallTerm (at 1 25) (codes "cube") ((PositionalTerm (NameTerm (at 1 30) (codes "b"))) ∷ []) (EmptyBody (at 1 32))))) no_statements))) (and_statement (InstanceStatement (AnInstance (at 1 36) ([]) (ModuleCallTerm (at 1 36) (codes "m") ((PositionalTerm (NumberTerm (at 1 38) 1)) ∷ []) (EmptyBody (at 1 40))))) no_statements)))) ≡ seen_in (meaning (and_statement (InstanceStatement (AnInstance (at 1 1) ([]) (ModuleCallTerm (at 1 1) (codes "cube") ((PositionalTerm (NumberTerm (at 1 6) 5)) ∷ []) (EmptyBody (at 1 8))))) no_statements))
+unfolding design_of made_within evaluated
+default_where_defined = refl
+
+-- function f(x)=x; y=f(1, $a=1, $a=2);
+two_special : meaning (and_statement (FunctionTerm (at 1 1) (codes "f") (at 1 10) ((PlainTerm (at 1 12) (codes "x")) ∷ []) (NameTerm (at 1 15) (codes "x"))) (and_statement (AssignmentTerm (at 1 18) (codes "y") (CallTerm (at 1 20) (codes "f") (and_positional (NumberTerm (at 1 22) 1) (and_special (at 1 25) (codes "a") (NumberTerm (at 1 28) 1) (and_special (at 1 31) (codes "a") (NumberTerm (at 1 34) 2) no_args))))) no_statements)) ≡ Faults BadArgument (at 1 31)
+unfolding design_of made_within evaluated
+two_special = refl
+
+-- x=abs(1, $fn=4);
+special_of_builtin : meaning (and_statement (AssignmentTerm (at 1 1) (codes "x") (CallTerm (at 1 3) (codes "abs") (and_positional (NumberTerm (at 1 7) 1) (and_special (at 1 10) (codes "fn") (NumberTerm (at 1 14) 4) no_args)))) no_statements) ≡ Faults BadArgument (at 1 3)
+unfolding design_of made_within evaluated
+special_of_builtin = refl
+
+-- function f(x=$q)=x+$q; y=f($q=3); cube(y);
+-- is as
+-- cube(6);
+special_in_function : seen_in (meaning (and_statement (FunctionTerm (at 1 1) (codes "f") (at 1 10) ((DefaultTerm (at 1 12) (codes "x") (SpecialTerm (at 1 14) (codes "q"))) ∷ []) (ChainTerm (at 1 18) (NameTerm (at 1 18) (codes "x")) (and_link Add (at 1 19) (SpecialTerm (at 1 20) (codes "q")) no_links))) (and_statement (AssignmentTerm (at 1 24) (codes "y") (CallTerm (at 1 26) (codes "f") (and_special (at 1 28) (codes "q") (NumberTerm (at 1 31) 3) no_args))) (and_statement (InstanceStatement (AnInstance (at 1 35) ([]) (ModuleCallTerm (at 1 35) (codes "cube") ((PositionalTerm (NameTerm (at 1 40) (codes "y"))) ∷ []) (EmptyBody (at 1 42))))) no_statements)))) ≡ seen_in (meaning (and_statement (InstanceStatement (AnInstance (at 1 1) ([]) (ModuleCallTerm (at 1 1) (codes "cube") ((PositionalTerm (NumberTerm (at 1 6) 6)) ∷ []) (EmptyBody (at 1 8))))) no_statements))
+unfolding design_of made_within evaluated
+special_in_function = refl
+
+-- function f()=1; x=f($q=1); y=$q;
+special_gone : meaning (and_statement (FunctionTerm (at 1 1) (codes "f") (at 1 10) ([]) (NumberTerm (at 1 14) 1)) (and_statement (AssignmentTerm (at 1 17) (codes "x") (CallTerm (at 1 19) (codes "f") (and_special (at 1 21) (codes "q") (NumberTerm (at 1 24) 1) no_args))) (and_statement (AssignmentTerm (at 1 28) (codes "y") (SpecialTerm (at 1 30) (codes "q"))) no_statements))) ≡ Faults UnknownName (at 1 30)
+unfolding design_of made_within evaluated
+special_gone = refl
+
+-- module m() { $q=5; n(); } module n() { cube($q); } $q=1; m(); n();
+-- is as
+-- cube(5); cube(1);
+special_in_scope_only : seen_in (meaning (and_statement (ModuleTerm (at 1 1) (codes "m") (at 1 8) ([]) (BlockBody (at 1 12) (and_statement (SpecialAssignmentTerm (at 1 14) (codes "q") (NumberTerm (at 1 17) 5)) (and_statement (InstanceStatement (AnInstance (at 1 20) ([]) (ModuleCallTerm (at 1 20) (codes "n") ([]) (EmptyBody (at 1 23))))) no_statements)))) (and_statement (ModuleTerm (at 1 27) (codes "n") (at 1 34) ([]) (BlockBody (at 1 38) (and_statement (InstanceStatement (AnInstance (at 1 40) ([]) (ModuleCallTerm (at 1 40) (codes "cube") ((PositionalTerm (SpecialTerm (at 1 45) (codes "q"))) ∷ []) (EmptyBody (at 1 48))))) no_statements))) (and_statement (SpecialAssignmentTerm (at 1 52) (codes "q") (NumberTerm (at 1 55) 1)) (and_statement (InstanceStatement (AnInstance (at 1 58) ([]) (ModuleCallTerm (at 1 58) (codes "m") ([]) (EmptyBody (at 1 61))))) (and_statement (InstanceStatement (AnInstance (at 1 63) ([]) (ModuleCallTerm (at 1 63) (codes "n") ([]) (EmptyBody (at 1 66))))) no_statements)))))) ≡ seen_in (meaning (and_statement (InstanceStatement (AnInstance (at 1 1) ([]) (ModuleCallTerm (at 1 1) (codes "cube") ((PositionalTerm (NumberTerm (at 1 6) 5)) ∷ []) (EmptyBody (at 1 8))))) (and_statement (InstanceStatement (AnInstance (at 1 10) ([]) (ModuleCallTerm (at 1 10) (codes "cube") ((PositionalTerm (NumberTerm (at 1 15) 1)) ∷ []) (EmptyBody (at 1 17))))) no_statements)))
+unfolding design_of made_within evaluated
+special_in_scope_only = refl
+
+-- module n() { cube($q); } union($q=2) { n(); }
+-- is as
+-- cube(2);
+special_of_builtin_module : seen_in (meaning (and_statement (ModuleTerm (at 1 1) (codes "n") (at 1 8) ([]) (BlockBody (at 1 12) (and_statement (InstanceStatement (AnInstance (at 1 14) ([]) (ModuleCallTerm (at 1 14) (codes "cube") ((PositionalTerm (SpecialTerm (at 1 19) (codes "q"))) ∷ []) (EmptyBody (at 1 22))))) no_statements))) (and_statement (InstanceStatement (AnInstance (at 1 26) ([]) (ModuleCallTerm (at 1 26) (codes "union") ((SpecialArgTerm (at 1 32) (codes "q") (NumberTerm (at 1 35) 2)) ∷ []) (BlockBody (at 1 38) (and_statement (InstanceStatement (AnInstance (at 1 40) ([]) (ModuleCallTerm (at 1 40) (codes "n") ([]) (EmptyBody (at 1 43))))) no_statements))))) no_statements))) ≡ seen_in (meaning (and_statement (InstanceStatement (AnInstance (at 1 1) ([]) (ModuleCallTerm (at 1 1) (codes "cube") ((PositionalTerm (NumberTerm (at 1 6) 2)) ∷ []) (EmptyBody (at 1 8))))) no_statements))
+unfolding design_of made_within evaluated
+special_of_builtin_module = refl
+
+-- union($q=2) { } cube($q);
+special_after_builtin_module : meaning (and_statement (InstanceStatement (AnInstance (at 1 1) ([]) (ModuleCallTerm (at 1 1) (codes "union") ((SpecialArgTerm (at 1 7) (codes "q") (NumberTerm (at 1 10) 2)) ∷ []) (BlockBody (at 1 13) no_statements)))) (and_statement (InstanceStatement (AnInstance (at 1 17) ([]) (ModuleCallTerm (at 1 17) (codes "cube") ((PositionalTerm (SpecialTerm (at 1 22) (codes "q"))) ∷ []) (EmptyBody (at 1 25))))) no_statements)) ≡ Faults UnknownName (at 1 22)
+unfolding design_of made_within evaluated
+special_after_builtin_module = refl
+
+-- q=1; $q=2; cube([q,$q,1]);
+-- is as
+-- cube([1,2,1]);
+name_and_special_apart : seen_in (meaning (and_statement (AssignmentTerm (at 1 1) (codes "q") (NumberTerm (at 1 3) 1)) (and_statement (SpecialAssignmentTerm (at 1 6) (codes "q") (NumberTerm (at 1 9) 2)) (and_statement (InstanceStatement (AnInstance (at 1 12) ([]) (ModuleCallTerm (at 1 12) (codes "cube") ((PositionalTerm (ListTerm (at 1 17) (and_term (NameTerm (at 1 18) (codes "q")) (and_term (SpecialTerm (at 1 20) (codes "q")) (and_term (NumberTerm (at 1 23) 1) no_terms))))) ∷ []) (EmptyBody (at 1 26))))) no_statements)))) ≡ seen_in (meaning (and_statement (InstanceStatement (AnInstance (at 1 1) ([]) (ModuleCallTerm (at 1 1) (codes "cube") ((PositionalTerm (ListTerm (at 1 6) (and_term (NumberTerm (at 1 7) 1) (and_term (NumberTerm (at 1 9) 2) (and_term (NumberTerm (at 1 11) 1) no_terms))))) ∷ []) (EmptyBody (at 1 14))))) no_statements))
+unfolding design_of made_within evaluated
+name_and_special_apart = refl
+
+-- x=(([1,2]));
+turns_of_parentheses : turns_in (meaning (and_statement (AssignmentTerm (at 1 1) (codes "x") (ParenTerm (at 1 3) (ParenTerm (at 1 4) (ListTerm (at 1 5) (and_term (NumberTerm (at 1 6) 1) (and_term (NumberTerm (at 1 8) 2) no_terms)))))) no_statements)) ≡ 9
+unfolding design_of made_within evaluated
+turns_of_parentheses = refl
+
+-- x=1?[1]:0;
+turns_of_choice : turns_in (meaning (and_statement (AssignmentTerm (at 1 1) (codes "x") (ChoiceTerm (at 1 3) (NumberTerm (at 1 3) 1) (at 1 4) (ListTerm (at 1 5) (and_term (NumberTerm (at 1 6) 1) no_terms)) (NumberTerm (at 1 9) 0))) no_statements)) ≡ 4
+unfolding design_of made_within evaluated
+turns_of_choice = refl
+
+-- x=[1]?1:0;
+turns_of_condition : turns_in (meaning (and_statement (AssignmentTerm (at 1 1) (codes "x") (ChoiceTerm (at 1 3) (ListTerm (at 1 3) (and_term (NumberTerm (at 1 4) 1) no_terms)) (at 1 6) (NumberTerm (at 1 7) 1) (NumberTerm (at 1 9) 0))) no_statements)) ≡ 0
+unfolding design_of made_within evaluated
+turns_of_condition = refl
+
+-- function f()=[1]; x=f();
+turns_of_function : turns_in (meaning (and_statement (FunctionTerm (at 1 1) (codes "f") (at 1 10) ([]) (ListTerm (at 1 14) (and_term (NumberTerm (at 1 15) 1) no_terms))) (and_statement (AssignmentTerm (at 1 19) (codes "x") (CallTerm (at 1 21) (codes "f") no_args)) no_statements))) ≡ 5
+unfolding design_of made_within evaluated
+turns_of_function = refl
+
+-- x=[1,2][0];
+turns_of_index : turns_in (meaning (and_statement (AssignmentTerm (at 1 1) (codes "x") (PostfixTerm (at 1 3) (ListTerm (at 1 3) (and_term (NumberTerm (at 1 4) 1) (and_term (NumberTerm (at 1 6) 2) no_terms))) (and_index (at 1 8) (NumberTerm (at 1 9) 0) no_suffixes))) no_statements)) ≡ 0
+unfolding design_of made_within evaluated
+turns_of_index = refl
+
+-- module m() { children([0]); } m();
+turns_of_child_list : turns_in (meaning (and_statement (ModuleTerm (at 1 1) (codes "m") (at 1 8) ([]) (BlockBody (at 1 12) (and_statement (InstanceStatement (AnInstance (at 1 14) ([]) (ModuleCallTerm (at 1 14) (codes "children") ((PositionalTerm (ListTerm (at 1 23) (and_term (NumberTerm (at 1 24) 0) no_terms))) ∷ []) (EmptyBody (at 1 27))))) no_statements))) (and_statement (InstanceStatement (AnInstance (at 1 31) ([]) (ModuleCallTerm (at 1 31) (codes "m") ([]) (EmptyBody (at 1 34))))) no_statements))) ≡ 3
+unfolding design_of made_within evaluated
+turns_of_child_list = refl
+
+-- after 99999 turns and 0 leaves
+-- for (i=[1:2], j=[0:-1:5]) ;
+empty_step_too_many : begun 99999 0 (and_statement (InstanceStatement (AnInstance (at 1 1) ([]) (ForTerm (at 1 1) ((record { at = (at 1 6); name = (codes "i"); values = (RangeTerm (at 1 8) (NumberTerm (at 1 9) 1) (NumberTerm (at 1 11) 2)) }) ∷ (record { at = (at 1 15); name = (codes "j"); values = (SteppedRangeTerm (at 1 17) (NumberTerm (at 1 18) 0) (UnaryTerm (at 1 20) Negate (NumberTerm (at 1 21) 1)) (NumberTerm (at 1 23) 5)) }) ∷ []) (EmptyBody (at 1 27))))) no_statements) ≡ Faults TooManyTurns (at 1 1)
+unfolding made_within evaluated
+empty_step_too_many = refl
+
+-- after 100000 turns and 0 leaves
+-- module m(a=1/0) {} m();
+turn_before_default : begun 100000 0 (and_statement (ModuleTerm (at 1 1) (codes "m") (at 1 8) ((DefaultTerm (at 1 10) (codes "a") (ChainTerm (at 1 12) (NumberTerm (at 1 12) 1) (and_link Divide (at 1 13) (NumberTerm (at 1 14) 0) no_links))) ∷ []) (BlockBody (at 1 17) no_statements)) (and_statement (InstanceStatement (AnInstance (at 1 20) ([]) (ModuleCallTerm (at 1 20) (codes "m") ([]) (EmptyBody (at 1 23))))) no_statements)) ≡ Faults TooManyTurns (at 1 20)
+unfolding made_within evaluated
+turn_before_default = refl
+
+-- for (i=[1:2], i=[5]) cube(i);
+-- is as
+-- cube(5); cube(5);
+later_binder_of_one_name : seen_in (meaning (and_statement (InstanceStatement (AnInstance (at 1 1) ([]) (ForTerm (at 1 1) ((record { at = (at 1 6); name = (codes "i"); values = (RangeTerm (at 1 8) (NumberTerm (at 1 9) 1) (NumberTerm (at 1 11) 2)) }) ∷ (record { at = (at 1 15); name = (codes "i"); values = (ListTerm (at 1 17) (and_term (NumberTerm (at 1 18) 5) no_terms)) }) ∷ []) (InstanceBody (AnInstance (at 1 22) ([]) (ModuleCallTerm (at 1 22) (codes "cube") ((PositionalTerm (NameTerm (at 1 27) (codes "i"))) ∷ []) (EmptyBody (at 1 29)))))))) no_statements)) ≡ seen_in (meaning (and_statement (InstanceStatement (AnInstance (at 1 1) ([]) (ModuleCallTerm (at 1 1) (codes "cube") ((PositionalTerm (NumberTerm (at 1 6) 5)) ∷ []) (EmptyBody (at 1 8))))) (and_statement (InstanceStatement (AnInstance (at 1 10) ([]) (ModuleCallTerm (at 1 10) (codes "cube") ((PositionalTerm (NumberTerm (at 1 15) 5)) ∷ []) (EmptyBody (at 1 17))))) no_statements)))
+unfolding design_of made_within evaluated
+later_binder_of_one_name = refl
+
+-- for (i=[2], j=[i:3]) cube(j);
+-- is as
+-- cube(2); cube(3);
+binder_sees_last : seen_in (meaning (and_statement (InstanceStatement (AnInstance (at 1 1) ([]) (ForTerm (at 1 1) ((record { at = (at 1 6); name = (codes "i"); values = (ListTerm (at 1 8) (and_term (NumberTerm (at 1 9) 2) no_terms)) }) ∷ (record { at = (at 1 13); name = (codes "j"); values = (RangeTerm (at 1 15) (NameTerm (at 1 16) (codes "i")) (NumberTerm (at 1 18) 3)) }) ∷ []) (InstanceBody (AnInstance (at 1 22) ([]) (ModuleCallTerm (at 1 22) (codes "cube") ((PositionalTerm (NameTerm (at 1 27) (codes "j"))) ∷ []) (EmptyBody (at 1 29)))))))) no_statements)) ≡ seen_in (meaning (and_statement (InstanceStatement (AnInstance (at 1 1) ([]) (ModuleCallTerm (at 1 1) (codes "cube") ((PositionalTerm (NumberTerm (at 1 6) 2)) ∷ []) (EmptyBody (at 1 8))))) (and_statement (InstanceStatement (AnInstance (at 1 10) ([]) (ModuleCallTerm (at 1 10) (codes "cube") ((PositionalTerm (NumberTerm (at 1 15) 3)) ∷ []) (EmptyBody (at 1 17))))) no_statements)))
+unfolding design_of made_within evaluated
+binder_sees_last = refl
+
+-- function f()=1; function f()=2; cube(f());
+-- is as
+-- cube(2);
+same_name_function : seen_in (meaning (and_statement (FunctionTerm (at 1 1) (codes "f") (at 1 10) ([]) (NumberTerm (at 1 14) 1)) (and_statement (FunctionTerm (at 1 17) (codes "f") (at 1 26) ([]) (NumberTerm (at 1 30) 2)) (and_statement (InstanceStatement (AnInstance (at 1 33) ([]) (ModuleCallTerm (at 1 33) (codes "cube") ((PositionalTerm (CallTerm (at 1 38) (codes "f") no_args)) ∷ []) (EmptyBody (at 1 42))))) no_statements)))) ≡ seen_in (meaning (and_statement (InstanceStatement (AnInstance (at 1 1) ([]) (ModuleCallTerm (at 1 1) (codes "cube") ((PositionalTerm (NumberTerm (at 1 6) 2)) ∷ []) (EmptyBody (at 1 8))))) no_statements))
+unfolding design_of made_within evaluated
+same_name_function = refl
+
+-- function f()=x; y=f(); x=1;
+function_before_bound : meaning (and_statement (FunctionTerm (at 1 1) (codes "f") (at 1 10) ([]) (NameTerm (at 1 14) (codes "x"))) (and_statement (AssignmentTerm (at 1 17) (codes "y") (CallTerm (at 1 19) (codes "f") no_args)) (and_statement (AssignmentTerm (at 1 24) (codes "x") (NumberTerm (at 1 26) 1)) no_statements))) ≡ Faults UnknownName (at 1 14)
+unfolding design_of made_within evaluated
+function_before_bound = refl
+
+-- x=y; y=1; x=1/0; y=2;
+first_of_repeated : meaning (and_statement (AssignmentTerm (at 1 1) (codes "x") (NameTerm (at 1 3) (codes "y"))) (and_statement (AssignmentTerm (at 1 6) (codes "y") (NumberTerm (at 1 8) 1)) (and_statement (AssignmentTerm (at 1 11) (codes "x") (ChainTerm (at 1 13) (NumberTerm (at 1 13) 1) (and_link Divide (at 1 14) (NumberTerm (at 1 15) 0) no_links))) (and_statement (AssignmentTerm (at 1 18) (codes "y") (NumberTerm (at 1 20) 2)) no_statements)))) ≡ Faults ZeroDivisor (at 1 14)
+unfolding design_of made_within evaluated
+first_of_repeated = refl
+
+-- linear_extrude(1) rotate([360,0,0]) square(1);
+inside_first : meaning (and_statement (InstanceStatement (AnInstance (at 1 1) ([]) (ModuleCallTerm (at 1 1) (codes "linear_extrude") ((PositionalTerm (NumberTerm (at 1 16) 1)) ∷ []) (InstanceBody (AnInstance (at 1 19) ([]) (ModuleCallTerm (at 1 19) (codes "rotate") ((PositionalTerm (ListTerm (at 1 26) (and_term (NumberTerm (at 1 27) 360) (and_term (NumberTerm (at 1 31) 0) (and_term (NumberTerm (at 1 33) 0) no_terms))))) ∷ []) (InstanceBody (AnInstance (at 1 37) ([]) (ModuleCallTerm (at 1 37) (codes "square") ((PositionalTerm (NumberTerm (at 1 44) 1)) ∷ []) (EmptyBody (at 1 46))))))))))) no_statements) ≡ Faults WrongDimension (at 1 19)
+unfolding design_of made_within evaluated
+inside_first = refl
+
+-- linear_extrude(1) scale([1,1,0]) square(1);
+zero_factor_inside : meaning (and_statement (InstanceStatement (AnInstance (at 1 1) ([]) (ModuleCallTerm (at 1 1) (codes "linear_extrude") ((PositionalTerm (NumberTerm (at 1 16) 1)) ∷ []) (InstanceBody (AnInstance (at 1 19) ([]) (ModuleCallTerm (at 1 19) (codes "scale") ((PositionalTerm (ListTerm (at 1 25) (and_term (NumberTerm (at 1 26) 1) (and_term (NumberTerm (at 1 28) 1) (and_term (NumberTerm (at 1 30) 0) no_terms))))) ∷ []) (InstanceBody (AnInstance (at 1 34) ([]) (ModuleCallTerm (at 1 34) (codes "square") ((PositionalTerm (NumberTerm (at 1 41) 1)) ∷ []) (EmptyBody (at 1 43))))))))))) no_statements) ≡ Faults Singular (at 1 19)
+unfolding design_of made_within evaluated
+zero_factor_inside = refl
+
+-- linear_extrude(2) scale([2,3,9]) square(1);
+-- is as
+-- linear_extrude(2) square([2,3]);
+flat_scale : seen_in (meaning (and_statement (InstanceStatement (AnInstance (at 1 1) ([]) (ModuleCallTerm (at 1 1) (codes "linear_extrude") ((PositionalTerm (NumberTerm (at 1 16) 2)) ∷ []) (InstanceBody (AnInstance (at 1 19) ([]) (ModuleCallTerm (at 1 19) (codes "scale") ((PositionalTerm (ListTerm (at 1 25) (and_term (NumberTerm (at 1 26) 2) (and_term (NumberTerm (at 1 28) 3) (and_term (NumberTerm (at 1 30) 9) no_terms))))) ∷ []) (InstanceBody (AnInstance (at 1 34) ([]) (ModuleCallTerm (at 1 34) (codes "square") ((PositionalTerm (NumberTerm (at 1 41) 1)) ∷ []) (EmptyBody (at 1 43))))))))))) no_statements)) ≡ seen_in (meaning (and_statement (InstanceStatement (AnInstance (at 1 1) ([]) (ModuleCallTerm (at 1 1) (codes "linear_extrude") ((PositionalTerm (NumberTerm (at 1 16) 2)) ∷ []) (InstanceBody (AnInstance (at 1 19) ([]) (ModuleCallTerm (at 1 19) (codes "square") ((PositionalTerm (ListTerm (at 1 26) (and_term (NumberTerm (at 1 27) 2) (and_term (NumberTerm (at 1 29) 3) no_terms)))) ∷ []) (EmptyBody (at 1 32)))))))) no_statements))
+unfolding design_of made_within evaluated
+flat_scale = refl
+
+-- module m() { translate([1,0,0]) children(); } m() !cube(2); cube(3);
+-- is as
+-- cube(2);
+mark_in_children : seen_in (meaning (and_statement (ModuleTerm (at 1 1) (codes "m") (at 1 8) ([]) (BlockBody (at 1 12) (and_statement (InstanceStatement (AnInstance (at 1 14) ([]) (ModuleCallTerm (at 1 14) (codes "translate") ((PositionalTerm (ListTerm (at 1 24) (and_term (NumberTerm (at 1 25) 1) (and_term (NumberTerm (at 1 27) 0) (and_term (NumberTerm (at 1 29) 0) no_terms))))) ∷ []) (InstanceBody (AnInstance (at 1 33) ([]) (ModuleCallTerm (at 1 33) (codes "children") ([]) (EmptyBody (at 1 43)))))))) no_statements))) (and_statement (InstanceStatement (AnInstance (at 1 47) ([]) (ModuleCallTerm (at 1 47) (codes "m") ([]) (InstanceBody (AnInstance (at 1 51) ((record { at = (at 1 51); modifier = Root }) ∷ []) (ModuleCallTerm (at 1 52) (codes "cube") ((PositionalTerm (NumberTerm (at 1 57) 2)) ∷ []) (EmptyBody (at 1 59)))))))) (and_statement (InstanceStatement (AnInstance (at 1 61) ([]) (ModuleCallTerm (at 1 61) (codes "cube") ((PositionalTerm (NumberTerm (at 1 66) 3)) ∷ []) (EmptyBody (at 1 68))))) no_statements)))) ≡ seen_in (meaning (and_statement (InstanceStatement (AnInstance (at 1 1) ([]) (ModuleCallTerm (at 1 1) (codes "cube") ((PositionalTerm (NumberTerm (at 1 6) 2)) ∷ []) (EmptyBody (at 1 8))))) no_statements))
+unfolding design_of made_within evaluated
+mark_in_children = refl
+
+-- module m() { children(1); children(0); } m() { !cube(1); !cube(2); }
+-- is as
+-- cube(2);
+first_mark : seen_in (meaning (and_statement (ModuleTerm (at 1 1) (codes "m") (at 1 8) ([]) (BlockBody (at 1 12) (and_statement (InstanceStatement (AnInstance (at 1 14) ([]) (ModuleCallTerm (at 1 14) (codes "children") ((PositionalTerm (NumberTerm (at 1 23) 1)) ∷ []) (EmptyBody (at 1 25))))) (and_statement (InstanceStatement (AnInstance (at 1 27) ([]) (ModuleCallTerm (at 1 27) (codes "children") ((PositionalTerm (NumberTerm (at 1 36) 0)) ∷ []) (EmptyBody (at 1 38))))) no_statements)))) (and_statement (InstanceStatement (AnInstance (at 1 42) ([]) (ModuleCallTerm (at 1 42) (codes "m") ([]) (BlockBody (at 1 46) (and_statement (InstanceStatement (AnInstance (at 1 48) ((record { at = (at 1 48); modifier = Root }) ∷ []) (ModuleCallTerm (at 1 49) (codes "cube") ((PositionalTerm (NumberTerm (at 1 54) 1)) ∷ []) (EmptyBody (at 1 56))))) (and_statement (InstanceStatement (AnInstance (at 1 58) ((record { at = (at 1 58); modifier = Root }) ∷ []) (ModuleCallTerm (at 1 59) (codes "cube") ((PositionalTerm (NumberTerm (at 1 64) 2)) ∷ []) (EmptyBody (at 1 66))))) no_statements)))))) no_statements))) ≡ seen_in (meaning (and_statement (InstanceStatement (AnInstance (at 1 1) ([]) (ModuleCallTerm (at 1 1) (codes "cube") ((PositionalTerm (NumberTerm (at 1 6) 2)) ∷ []) (EmptyBody (at 1 8))))) no_statements))
+unfolding design_of made_within evaluated
+first_mark = refl
+
+-- rotate(v=1) cube(1);
+missing_before_left_out : meaning (and_statement (InstanceStatement (AnInstance (at 1 1) ([]) (ModuleCallTerm (at 1 1) (codes "rotate") ((NamedTerm (at 1 8) (codes "v") (NumberTerm (at 1 10) 1)) ∷ []) (InstanceBody (AnInstance (at 1 13) ([]) (ModuleCallTerm (at 1 13) (codes "cube") ((PositionalTerm (NumberTerm (at 1 18) 1)) ∷ []) (EmptyBody (at 1 20)))))))) no_statements) ≡ Faults BadArgument (at 1 1)
+unfolding design_of made_within evaluated
+missing_before_left_out = refl
+
+-- linear_extrude(true, twist=1) square(1);
+left_out_before_type : meaning (and_statement (InstanceStatement (AnInstance (at 1 1) ([]) (ModuleCallTerm (at 1 1) (codes "linear_extrude") ((PositionalTerm (TruthTerm (at 1 16) true)) ∷ (NamedTerm (at 1 22) (codes "twist") (NumberTerm (at 1 28) 1)) ∷ []) (InstanceBody (AnInstance (at 1 31) ([]) (ModuleCallTerm (at 1 31) (codes "square") ((PositionalTerm (NumberTerm (at 1 38) 1)) ∷ []) (EmptyBody (at 1 40)))))))) no_statements) ≡ Faults NotInProfile (at 1 1)
+unfolding design_of made_within evaluated
+left_out_before_type = refl
+
+-- linear_extrude(1) cube(true);
+type_before_inside : meaning (and_statement (InstanceStatement (AnInstance (at 1 1) ([]) (ModuleCallTerm (at 1 1) (codes "linear_extrude") ((PositionalTerm (NumberTerm (at 1 16) 1)) ∷ []) (InstanceBody (AnInstance (at 1 19) ([]) (ModuleCallTerm (at 1 19) (codes "cube") ((PositionalTerm (TruthTerm (at 1 24) true)) ∷ []) (EmptyBody (at 1 29)))))))) no_statements) ≡ Faults TypeMismatch (at 1 19)
+unfolding design_of made_within evaluated
+type_before_inside = refl
+
+-- cylinder(r=1, r1=true);
+radius_twice : meaning (and_statement (InstanceStatement (AnInstance (at 1 1) ([]) (ModuleCallTerm (at 1 1) (codes "cylinder") ((NamedTerm (at 1 10) (codes "r") (NumberTerm (at 1 12) 1)) ∷ (NamedTerm (at 1 15) (codes "r1") (TruthTerm (at 1 18) true)) ∷ []) (EmptyBody (at 1 23))))) no_statements) ≡ Faults BadArgument (at 1 1)
+unfolding design_of made_within evaluated
+radius_twice = refl
+
+-- cylinder(r=1, r1=2, d=3);
+diameter_first : meaning (and_statement (InstanceStatement (AnInstance (at 1 1) ([]) (ModuleCallTerm (at 1 1) (codes "cylinder") ((NamedTerm (at 1 10) (codes "r") (NumberTerm (at 1 12) 1)) ∷ (NamedTerm (at 1 15) (codes "r1") (NumberTerm (at 1 18) 2)) ∷ (NamedTerm (at 1 21) (codes "d") (NumberTerm (at 1 23) 3)) ∷ []) (EmptyBody (at 1 25))))) no_statements) ≡ Faults NotInProfile (at 1 1)
+unfolding design_of made_within evaluated
+diameter_first = refl
+
+-- cylinder($fn=true);
+fragments_type : meaning (and_statement (InstanceStatement (AnInstance (at 1 1) ([]) (ModuleCallTerm (at 1 1) (codes "cylinder") ((SpecialArgTerm (at 1 10) (codes "fn") (TruthTerm (at 1 14) true)) ∷ []) (EmptyBody (at 1 19))))) no_statements) ≡ Faults TypeMismatch (at 1 1)
+unfolding design_of made_within evaluated
+fragments_type = refl
+
+-- linear_extrude(1) cylinder(h=1);
+fragments_after_inside : meaning (and_statement (InstanceStatement (AnInstance (at 1 1) ([]) (ModuleCallTerm (at 1 1) (codes "linear_extrude") ((PositionalTerm (NumberTerm (at 1 16) 1)) ∷ []) (InstanceBody (AnInstance (at 1 19) ([]) (ModuleCallTerm (at 1 19) (codes "cylinder") ((NamedTerm (at 1 28) (codes "h") (NumberTerm (at 1 30) 1)) ∷ []) (EmptyBody (at 1 32)))))))) no_statements) ≡ Faults WrongDimension (at 1 19)
+unfolding design_of made_within evaluated
+fragments_after_inside = refl
+
+-- $fn=4; cylinder(r1=2);
+-- is as
+-- $fn=4; cylinder(h=1, r1=2, r2=1);
+radius_of_one_end : seen_in (meaning (and_statement (SpecialAssignmentTerm (at 1 1) (codes "fn") (NumberTerm (at 1 5) 4)) (and_statement (InstanceStatement (AnInstance (at 1 8) ([]) (ModuleCallTerm (at 1 8) (codes "cylinder") ((NamedTerm (at 1 17) (codes "r1") (NumberTerm (at 1 20) 2)) ∷ []) (EmptyBody (at 1 22))))) no_statements))) ≡ seen_in (meaning (and_statement (SpecialAssignmentTerm (at 1 1) (codes "fn") (NumberTerm (at 1 5) 4)) (and_statement (InstanceStatement (AnInstance (at 1 8) ([]) (ModuleCallTerm (at 1 8) (codes "cylinder") ((NamedTerm (at 1 17) (codes "h") (NumberTerm (at 1 19) 1)) ∷ (NamedTerm (at 1 22) (codes "r1") (NumberTerm (at 1 25) 2)) ∷ (NamedTerm (at 1 28) (codes "r2") (NumberTerm (at 1 31) 1)) ∷ []) (EmptyBody (at 1 33))))) no_statements)))
+unfolding design_of made_within evaluated
+radius_of_one_end = refl
+
