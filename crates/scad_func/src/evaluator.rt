@@ -1,8 +1,9 @@
-ghost use Rattle.std.specs.Prelude.{◌≡◌, ◌-◌, ◌<◌, ◌≤◌, ℕ, IsTrue, [], IfOk, IfErr, OnOk, Err, None, length, true, false, replicate, if◌then◌else◌};
+ghost use Rattle.std.specs.Prelude.{◌≡◌, ◌-◌, ◌<◌, ◌≤◌, ℕ, IsTrue, [], IfOk, IfErr, OnOk, Ok, Err, None, length, true, false, replicate, if◌then◌else◌};
 ghost use Rattle.scad_ast.specs.Terms.{terms_from, args_from, suffixes_from, links_from};
 ghost use Rattle.scad_ast.specs.ExprView.{term_of, terms_of, args_of, suffix_of, suffixes_of, link_of, links_of};
 ghost use Rattle.scad_ast.specs.StatementView.{param_of, params_of};
-ghost use Rattle.scad_value.specs.Values.{Val, is_bounded, vals_from, truth_of as truth_at};
+ghost use Rattle.scad_value.specs.Values.{Val, ListVal, is_bounded, vals_from, truth_of as truth_at};
+ghost use Rattle.scad_value.specs.Operators.{made as made_at, unary_of};
 ghost use Rattle.scad_value.specs.View.{val_of, vals_in};
 ghost use Rattle.scad_scope.specs.Names.{env_of};
 ghost use Rattle.scad_scope.specs.Table.{rows_of};
@@ -27,7 +28,7 @@ use crate::bind::bind_all;
 use crate::evaluation::Evaluation;
 use crate::functions::find;
 use crate::held::{with, with_next};
-use scad_ast::{Args, Expr, Exprs, Link, Links, Param, Params, Suffix, Suffixes};
+use scad_ast::{Args, Expr, Exprs, Link, Links, Param, Params, Suffix, Suffixes, UnaryOp};
 use scad_scope::Function;
 use scad_value::Value;
 use std::mem;
@@ -35,6 +36,9 @@ use text_place::{Fault, FaultKind, Place, Stop};
 
 impl Evaluation<'_, '_> {
     /// The value of an expression, whose parts are counted where it is a list.
+    ///
+    /// At 512 evaluations in one another, each through all forms, it takes less than 4 MiB of the stack: 2.9 MiB were
+    /// measured, and the frames on the longest way add up to 3.7 MiB. No contract speaks of the stack.
     #[cycle(value)]
     #[tactic(auto, using(crate::proofs::Kept::keeps_trans))]
     pub fn expression(&mut self, scope: u32, expr: &Expr) -> Result<Value, Stop>
@@ -88,7 +92,8 @@ impl Evaluation<'_, '_> {
         value
     }
 
-    /// The value of an expression at its own depth.
+    /// The value of an expression at its own depth. Each form stands in a function that is not inlined, so that the
+    /// stack holds the locals of the forms that are met alone.
     #[cycle(value)]
     fn operand(&mut self, scope: u32, expr: &Expr) -> Result<Value, Stop>
         requires scope { scope < scopes_there self.old }
@@ -98,10 +103,10 @@ impl Evaluation<'_, '_> {
     {
         match expr {
             Expr::Number(_, n) => Ok(Value::Number(n.get() as i64)),
-            Expr::Text(_, bytes) => Ok(text_of(self.alloc, bytes)?),
+            Expr::Text(_, bytes) => text_of(self.alloc, bytes),
             Expr::Truth(_, truth) => Ok(Value::Truth(*truth)),
             Expr::Undef(_) => Ok(Value::Undef),
-            Expr::ChildCount(place) => Ok(child_count(self.alloc, self.scopes, scope, *place)?),
+            Expr::ChildCount(place) => child_count(self.alloc, self.scopes, scope, *place),
             Expr::Name(place, name) => {
                 variable_of(self.alloc, self.scopes, scope, name.items(), *place)
             }
@@ -110,22 +115,48 @@ impl Evaluation<'_, '_> {
             }
             Expr::Call(place, parts) => self.call(scope, parts.name.items(), *place, &parts.args),
             Expr::Paren(_, inner) => self.expression(scope, inner),
-            Expr::List(place, items) => {
-                let values = self.each_value(scope, items)?;
-                listed(values, *place)
-            }
+            Expr::List(place, items) => self.list(scope, items, *place),
             Expr::Range(place, parts) => self.range(scope, &parts.from, &parts.to, *place),
             Expr::SteppedRange(place, parts) => {
                 self.stepped_range(scope, &parts.from, &parts.step, &parts.to, *place)
             }
             Expr::Postfix(_, parts) => self.postfix(scope, &parts.of, &parts.suffixes),
-            Expr::Unary(place, op, of) => {
-                let value = self.deeper(scope, of)?;
-                operate_on(self.alloc, *op, value, *place)
-            }
+            Expr::Unary(place, op, of) => self.unary(scope, *op, of, *place),
             Expr::Chain(_, parts) => self.chain(scope, &parts.first, &parts.links),
             Expr::Choice(_, parts) => self.choice(scope, &parts.test, &parts.yes, &parts.no),
         }
+    }
+
+    /// The list of expressions.
+    #[cycle(value)]
+    #[inline(never)]
+    #[tactic(auto, using(crate::proofs::Kept::keeps_trans))]
+    fn list(&mut self, scope: u32, items: &Exprs, place: Place) -> Result<Value, Stop>
+        requires scope { scope < scopes_there self.old }
+        ensures value { Tells result self.new.turns (
+            then_with (values_at (setting self.old scope) (terms_from (terms_of items.now)) self.old.turns) (λ turns vs.
+            answered (made_at (Ok (ListVal vs))) place turns)) }
+        ensures bounded { IfOk result (λ v. IsTrue (is_bounded (val_of v))) }
+        ensures kept { Keeps self.old self.new }
+    {
+        let values = self.each_value(scope, items)?;
+        listed(values, place)
+    }
+
+    /// An operator and its operand, which is one evaluation deeper.
+    #[cycle(value)]
+    #[inline(never)]
+    #[tactic(auto, using(crate::proofs::Kept::keeps_trans))]
+    fn unary(&mut self, scope: u32, op: UnaryOp, of: &Expr, place: Place) -> Result<Value, Stop>
+        requires scope { scope < scopes_there self.old }
+        ensures value { Tells result self.new.turns (
+            then_with (value_at (setting self.old scope) false (term_of of.now) self.old.turns) (λ turns v.
+            answered (unary_of op v) place turns)) }
+        ensures bounded { IfOk result (λ v. IsTrue (is_bounded (val_of v))) }
+        ensures kept { Keeps self.old self.new }
+    {
+        let value = self.deeper(scope, of)?;
+        operate_on(self.alloc, op, value, place)
     }
 
     /// The values of expressions, from the first on.
@@ -218,7 +249,6 @@ impl Evaluation<'_, '_> {
 
     /// The indexes and members behind what is indexed.
     #[cycle(value)]
-    #[inline(never)]
     #[tactic(auto, using(crate::proofs::Kept::keeps_trans))]
     fn suffixes(&mut self, scope: u32, of: Indexed<'_>, rest: &Suffixes) -> Result<Value, Stop>
         requires scope { scope < scopes_there self.old }
@@ -236,7 +266,6 @@ impl Evaluation<'_, '_> {
 
     /// An index or a member.
     #[cycle(value)]
-    #[inline(never)]
     fn suffix(&mut self, scope: u32, of: Indexed<'_>, part: &Suffix) -> Result<Value, Stop>
         requires scope { scope < scopes_there self.old }
         requires there { IsThere (env_of (rows_of self.old.scopes.now) scope) of }
@@ -282,7 +311,6 @@ impl Evaluation<'_, '_> {
 
     /// Operators of one level behind a value, from the left.
     #[cycle(value)]
-    #[inline(never)]
     #[tactic(auto, using(crate::proofs::Kept::keeps_trans))]
     fn links(&mut self, scope: u32, left: Value, rest: &Links) -> Result<Value, Stop>
         requires scope { scope < scopes_there self.old }
@@ -300,7 +328,6 @@ impl Evaluation<'_, '_> {
 
     /// An operator and its right side. A variable on the right is lent where it stands.
     #[cycle(value)]
-    #[inline(never)]
     fn link(&mut self, scope: u32, left: Value, part: &Link) -> Result<Value, Stop>
         requires scope { scope < scopes_there self.old }
         requires left { IsTrue (is_bounded (val_of left)) }

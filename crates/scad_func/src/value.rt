@@ -24,6 +24,8 @@ use text_place::Stop;
 /// After Ok the meter's calls and depth are as before, and its turns have grown by those that were
 /// counted; scopes and chain are always as before. TooDeep comes at the 65th call and at the 513th
 /// evaluation in one another, TooManyTurns at turn 100,001.
+///
+/// It takes less than 4 MiB of the stack, as `Evaluation::expression` says; no contract speaks of that.
 pub fn value_in(
     alloc: Global,
     scopes: &mut Scopes,
