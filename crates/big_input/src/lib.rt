@@ -1,7 +1,9 @@
 //! The script of a demonstration.
 #![tactic(auto)]
 
-ghost use Rattle.std.specs.Prelude.{◌≡◌, ◌++◌, ◌≤◌, IfOk, OnOk};
+ghost use Rattle.std.specs.Prelude.{◌≡◌, ◌++◌, ◌≤◌, ℕ, IfOk, OnOk};
+ghost use Rattle.script_reader.specs.declared.script.Script.{Script};
+ghost use Rattle.script_reader.specs.Scripts.{IsScript};
 ghost use Rattle.big_input.specs.DemoScript.{client_name, module_line, loop_line, client_lines, demo_script};
 
 use std::alloc::Global;
@@ -60,3 +62,8 @@ pub fn make_script(alloc: Global, n: u32) -> Result<Vec<u8>, NoMemory>
     }
     Ok(script)
 }
+
+/// The script of a demonstration is a script: none of its lines has a fault.
+pub fn demo_scripts_have_no_fault()
+    ensures { (n : ℕ) → n ≤ 200 → (script : Script) × IsScript (demo_script n) script }
+{}

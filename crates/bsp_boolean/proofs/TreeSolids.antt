@@ -41,6 +41,12 @@ within_more trees n h w one all = record {
   together = all;
 }
 
+pub one_solid_more : (trees : List Formula) (n : ℕ) → IsNumberIn trees n →
+    map solid_of (take n trees) ≡ map solid_of (take (n - 1) trees) ++ solid_of (tree_numbered trees n) ∷ []
+one_solid_more trees n h =
+    ap (map solid_of) (first_more trees n h)
+    ∙ map-append solid_of (take (n - 1) trees) (tree_numbered trees n ∷ [])
+
 pub solids_more : (trees : List Formula) (n : ℕ) (solids : List Solid) (solid : Solid) → IsNumberIn trees n →
     map tree_of solids ≡ map solid_of (take (n - 1) trees) → tree_of solid ≡ solid_of (tree_numbered trees n) →
     map tree_of (solids ++ solid ∷ []) ≡ map solid_of (take n trees)
@@ -48,8 +54,7 @@ solids_more trees n solids solid h before now =
     map-append tree_of solids (solid ∷ [])
     ∙ ap (λ x. x ++ tree_of solid ∷ []) before
     ∙ ap (λ x. map solid_of (take (n - 1) trees) ++ x ∷ []) now
-    ∙ sym (map-append solid_of (take (n - 1) trees) (tree_numbered trees n ∷ []))
-    ∙ ap (map solid_of) (sym (first_more trees n h))
+    ∙ sym (one_solid_more trees n h)
 
 origin : Coefficients
 origin = record { a = pos 0; b = pos 0; c = pos 0; d = pos 0 }
@@ -74,12 +79,17 @@ over_solids trees n solids (Join op left right) h before is proper =
     let count = so_many trees n solids h before in
     (is.0, omega arith, is.2, omega arith)
 
+pub solid_numbered : (trees : List Formula) (n m : ℕ) → 1 ≤ m → m ≤ n →
+    get_or (map solid_of (take n trees)) (m - 1) outside ≡ solid_of (tree_numbered trees m)
+solid_numbered trees n m low high =
+    get_or-map solid_of (take n trees) (m - 1) nothing
+    ∙ ap solid_of (get_or-take n trees (m - 1) nothing (omega arith))
+
 numbered_before : (trees : List Formula) (n m : ℕ) (solids : List Solid) → map tree_of solids ≡ map solid_of (take (n - 1) trees) →
     1 ≤ m → m < n → get_or (map tree_of solids) (m - 1) outside ≡ solid_of (tree_numbered trees m)
 numbered_before trees n m solids before low high =
     ap (λ x. get_or x (m - 1) outside) before
-    ∙ get_or-map solid_of (take (n - 1) trees) (m - 1) nothing
-    ∙ ap solid_of (get_or-take (n - 1) trees (m - 1) nothing (omega arith))
+    ∙ solid_numbered trees (n - 1) m low (omega arith)
 
 pub same_solid : (trees : List Formula) (n : ℕ) (solids : List Solid) (node : CsgNode) →
     map tree_of solids ≡ map solid_of (take (n - 1) trees) → IsNodeOf trees n node →

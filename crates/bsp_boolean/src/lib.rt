@@ -10,7 +10,7 @@ mod sizes;
 mod tree_solids;
 
 pub use building::{BuildStop, Builder, PlainBuilder};
-pub use laws::{merges_are_operations, solids_are_their_trees};
+pub use laws::{merges_are_operations, one_tree_more, solids_are_their_trees};
 pub use leaves::leaf_solid;
 pub use merging::{merge, merge_within};
 pub use tree_solids::{TreeStop, tree_solid};

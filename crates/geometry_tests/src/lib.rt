@@ -8,6 +8,8 @@ mod cut_facets;
 #[cfg(test)]
 mod cutting;
 #[cfg(test)]
+mod exports;
+#[cfg(test)]
 mod half_spaces;
 #[cfg(test)]
 mod half_units;

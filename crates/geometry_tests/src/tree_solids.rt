@@ -12,7 +12,7 @@ use csg_tree::{CsgTree, Op};
 use std::alloc::Global;
 use std::process::Abort;
 
-fn cuboid(rt: &impl Abort, alloc: Global, low: [i64; 3], high: [i64; 3]) -> CsgTree
+pub fn cuboid(rt: &impl Abort, alloc: Global, low: [i64; 3], high: [i64; 3]) -> CsgTree
     ensures { IsProper (formula_of result) }
 {
     leaf(rt, alloc, &box_faces(low, high))
@@ -31,7 +31,7 @@ fn slab(rt: &impl Abort, alloc: Global, axis: u8, at: u16) -> CsgTree
 }
 
 // The union of so many slabs of an axis, each joined to those before it, with a step between them.
-fn slabs(rt: &impl Abort, alloc: Global, axis: u8, count: u16) -> CsgTree
+pub fn slabs(rt: &impl Abort, alloc: Global, axis: u8, count: u16) -> CsgTree
     ensures { IsProper (formula_of result) }
 {
     let mut all = slab(rt, alloc, axis, 0);
@@ -43,7 +43,7 @@ fn slabs(rt: &impl Abort, alloc: Global, axis: u8, count: u16) -> CsgTree
 }
 
 // Cuboids, where slabs of x and of y meet one slab of z.
-fn cuboids(rt: &impl Abort, alloc: Global, of_x: u16, of_y: u16) -> CsgTree
+pub fn cuboids(rt: &impl Abort, alloc: Global, of_x: u16, of_y: u16) -> CsgTree
     ensures { IsProper (formula_of result) }
 {
     let across = slabs(rt, alloc, 0, of_x);

@@ -1,5 +1,6 @@
-ghost use Rattle.std.specs.Prelude.{◌≡◌, length, IfOk};
-ghost use Rattle.scad_func.specs.View.{IsNumbered};
+ghost use Rattle.std.specs.Prelude.{◌≡◌, length, IfOk, IsTrue};
+ghost use Rattle.scad_func.specs.View.{IsNumbered, text_of};
+ghost use Rattle.scad_scope.specs.Numbered.{modules_below};
 ghost use Rattle.scad_scope.specs.Table.{rows_of};
 
 use crate::evaluating::{first_value, put_answer};
@@ -28,6 +29,7 @@ const NAMED_APART: &[u8] =
 fn entered(alloc: Global, source: &Source<'_>) -> Result<Scopes, NoMemory>
     ensures count { IfOk result (λ s. length (rows_of s) ≡ 6) }
     ensures numbered { IfOk result (λ s. IsNumbered source.now (rows_of s)) }
+    ensures modules { IfOk result (λ s. IsTrue (modules_below (length (text_of source.now).modules) (rows_of s))) }
 {
     let mut scopes = Scopes::new(alloc)?;
     scopes.enter(alloc, 0, &source.blocks, 0)?;
@@ -42,6 +44,7 @@ fn entered(alloc: Global, source: &Source<'_>) -> Result<Scopes, NoMemory>
 fn scopes(rt: &impl Abort, alloc: Global, source: &Source<'_>) -> Result<Scopes, NoMemory>
     ensures count { IfOk result (λ s. length (rows_of s) ≡ 6) }
     ensures numbered { IfOk result (λ s. IsNumbered source.now (rows_of s)) }
+    ensures modules { IfOk result (λ s. IsTrue (modules_below (length (text_of source.now).modules) (rows_of s))) }
 {
     let mut scopes = entered(alloc, source)?;
     for scope in 0..6 {

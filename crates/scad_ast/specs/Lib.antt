@@ -1,3 +1,4 @@
+pub mod Counts
 pub mod ExprView
 pub mod StatementView
 pub mod Terms

@@ -2,6 +2,11 @@ mod Assignments
 mod Deciding
 mod Judges
 mod Made
-mod Positions
+mod Numbering
 mod Rows
 mod Verdicts
+mod BoundedItems
+mod Choosing
+mod Crossing
+mod NumberedItems
+mod RangeNumbers

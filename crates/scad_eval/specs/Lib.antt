@@ -6,3 +6,6 @@ pub mod Lent
 pub mod Loops
 pub mod Meaning
 pub mod Sources
+pub mod BoundedItems
+pub mod Choosing
+pub mod Items

@@ -1,14 +1,30 @@
--- Where a text stands in a program whose blocks, functions and modules are numbered.
-use Rattle.std.specs.Prelude.{◌≡◌, ℕ, ◌<◌, List, ◌++◌, length, drop, slice_index_or}
-use Rattle.scad_scope.specs.Blocks.{Mark, marks_of_body, Function, Module, functions_among, modules_among, bodies_from, Entry, entries_from, NumberedText}
+-- The blocks in which the bodies of instances stand, by number.
+use Rattle.std.specs.Prelude.{ℕ, Bool, true, false}
+use Rattle.scad_ast.specs.StatementView.{instance_of}
+use Rattle.scad_ast.specs.Terms.{InstanceTerm, CoreTerm, IfTerm, IfElseTerm, ForTerm, IntersectionForTerm, ModuleCallTerm}
+use Rattle.scad_scope.specs.Blocks.{NumberedText}
+use Rattle.scad_func.specs.Definitions.{IsBlockOf}
+use Rattle.scad_eval.specs.Meaning.{core_of}
+use Rattle.scad_eval.specs.declared.numbered.NumberedInstance.{NumberedInstance}
 
--- the text with these marks begins at this block number, behind so many functions and modules
-pub record StandsAt (text : NumberedText) (number functions modules : ℕ) (marks : List Mark) : Type 0 where
-  pub entries_behind : List Entry
-  pub functions_behind : List Function
-  pub modules_behind : List Module
-  pub bodies_behind : List ℕ
-  pub entries : drop number text.entries ≡ entries_from number functions modules marks ++ entries_behind
-  pub functions_are : drop functions text.functions ≡ functions_among marks ++ functions_behind
-  pub modules_are : drop modules text.modules ≡ modules_among marks ++ modules_behind
-  pub bodies_are : drop modules text.bodies ≡ bodies_from number marks ++ bodies_behind
+abbrev pub term_of_numbered : NumberedInstance → InstanceTerm
+term_of_numbered i = instance_of i.instance.now
+
+-- the bodies of a core stand in these blocks; the second one counts behind an `else` alone
+abbrev pub CoreHasBlocks : NumberedText → CoreTerm → ℕ → ℕ → Type 0
+CoreHasBlocks text (IfTerm at test body) block other = IsBlockOf text block body
+CoreHasBlocks text (IfElseTerm at test body else_) block other = IsBlockOf text block body × IsBlockOf text other else_
+CoreHasBlocks text (ForTerm at binders body) block other = IsBlockOf text block body
+CoreHasBlocks text (IntersectionForTerm at binders body) block other = IsBlockOf text block body
+CoreHasBlocks text (ModuleCallTerm at name args body) block other = IsBlockOf text block body
+
+abbrev pub HasBlocks : NumberedText → NumberedInstance → Type 0
+HasBlocks text i = CoreHasBlocks text (core_of (term_of_numbered i)) i.block i.other
+
+-- whether a core is a choice with an `else`
+abbrev pub has_else : CoreTerm → Bool
+has_else (IfTerm at test body) = false
+has_else (IfElseTerm at test body else_) = true
+has_else (ForTerm at binders body) = false
+has_else (IntersectionForTerm at binders body) = false
+has_else (ModuleCallTerm at name args body) = false

@@ -11,4 +11,4 @@ pub mod Kept
 pub mod Holding
 pub mod Chains
 pub mod Standing
-pub mod Modules
+pub mod Bodies

@@ -1,11 +1,11 @@
 -- The definitions that a block's numbers stand for are those that stand in its statements.
-use Rattle.std.proofs.Common.{◌≡◌, ℕ, zero, suc, ◌+◌, List, [], ◌∷◌, ◌++◌, length, reverse, get_or, Option, Some, None, refl, sym, ap, subst, ◌∙◌, arith, append_assoc, length-append}
+use Rattle.std.proofs.Common.{◌≡◌, ℕ, zero, suc, ◌+◌, ◌<◌, List, [], ◌∷◌, ◌++◌, length, reverse, get_or, Option, Some, None, refl, sym, ap, subst, ◌∙◌, arith, append_assoc, length-append}
 use Rattle.std.proofs.lemmas.List.{reverse-append}
 use Rattle.scad_ast.specs.Terms.{StatementTerm, EmptyStatement, BlockStatement, AssignmentTerm, SpecialAssignmentTerm, ModuleTerm, FunctionTerm, InstanceStatement, StatementTerms, no_statements, and_statement, InstanceTerm, AnInstance, CoreTerm, IfTerm, IfElseTerm, ForTerm, IntersectionForTerm, ModuleCallTerm, BodyTerm, EmptyBody, BlockBody, InstanceBody, statements_from}
 use Rattle.scad_scope.specs.Names.{Pairs}
-use Rattle.scad_scope.specs.Blocks.{Function, Module, Mark, a_block, a_function, a_module, marks_of, marks_in, marks_of_instance, marks_of_core, marks_of_body, marks_of_program, functions_among, modules_among, count_functions, count_modules, own_functions, own_function, own_modules, own_module, Entry, nothing_there, entries_from, numbered_text}
+use Rattle.scad_scope.specs.Blocks.{Function, Module, Mark, a_block, a_function, a_module, marks_of, marks_in, marks_of_instance, marks_of_core, marks_of_body, marks_of_program, functions_among, modules_among, count_functions, count_modules, own_functions, own_function, own_modules, own_module, Entry, nothing_there, entries_from, numbered_text, NumberedText, assignments_of, count_blocks, StandsInOrder}
 use Rattle.scad_func.specs.Meaning.{Env, Within, Opened, functions_standing_in, function_standing, modules_standing_in, module_standing, entered_scope}
-use Rattle.scad_func.specs.Definitions.{numbered, named, resolved, statements_at, block_scope}
+use Rattle.scad_func.specs.Definitions.{numbered, named, resolved, statements_at, block_scope, IsWhole}
 
 -- lists
 right_nil : {A : Type 0} (xs : List A) → xs ++ [] ≡ xs
@@ -240,3 +240,30 @@ standing program number call outer =
     let e : Entry = get_or (entries_from 0 0 0 (marks_of_program program)) number nothing_there in
     ap (λ l. Within [] l (resolved ms (reverse e.own.modules)) call outer) good.functions
     ∙ ap (λ l. Within [] (functions_standing_in e.statements) l call outer) good.modules
+
+-- the assignments of each block, and where it ends
+assigned_there : (n f m : ℕ) (xs : List Mark) (k : ℕ)
+    → (get_or (entries_from n f m xs) k nothing_there).own.assignments ≡ assignments_of (get_or (entries_from n f m xs) k nothing_there).statements
+assigned_there n f m [] k = refl
+assigned_there n f m (a_block s ∷ xs) zero = refl
+assigned_there n f m (a_block s ∷ xs) (suc k) = assigned_there (n + 1) f m xs k
+assigned_there n f m (a_function g ∷ xs) k = assigned_there n (f + 1) m xs k
+assigned_there n f m (a_module d ∷ xs) k = assigned_there n f (m + 1) xs k
+
+ends_there : (n f m : ℕ) (xs : List Mark) (k : ℕ) → k < length (entries_from n f m xs)
+    → (get_or (entries_from n f m xs) k nothing_there).behind
+    ≡ n + k + 1 + count_blocks (marks_in (get_or (entries_from n f m xs) k nothing_there).statements)
+ends_there n f m [] k h = absurd (omega (arith, h))
+ends_there n f m (a_block s ∷ xs) zero h = omega arith
+ends_there n f m (a_block s ∷ xs) (suc k) h = ends_there (n + 1) f m xs k (omega (arith, h)) ∙ omega arith
+ends_there n f m (a_function g ∷ xs) k h = ends_there n (f + 1) m xs k h
+ends_there n f m (a_module d ∷ xs) k h = ends_there n f (m + 1) xs k h
+
+-- what is known of the text of a program
+pub whole_text : (text : NumberedText) (program : List StatementTerm) → text ≡ numbered_text program → StandsInOrder text → IsWhole text
+whole_text text program e order = subst IsWhole (sym e) (record {
+  scopes = standing program;
+  assignments = assigned_there 0 0 0 (marks_of_program program);
+  behind = λ number h. ends_there 0 0 0 (marks_of_program program) number h ∙ omega arith;
+  order = subst StandsInOrder e order;
+})

@@ -36,6 +36,13 @@ pub record Keeps (old new : Evaluation) : Type 0 where
   pub count : scopes_there new ≡ scopes_there old
   pub same : (scope : ℕ) → setting new scope ≡ setting old scope
 
+-- all but the scopes, the chain and the turns is as before
+pub record SameSetting (old new : Evaluation) : Type 0 where
+  pub source : new.source.now ≡ old.source.now
+  pub lent : new.scopes.ghost_name ≡ old.scopes.ghost_name
+  pub calls : new.calls ≡ old.calls
+  pub depth : new.depth ≡ old.depth
+
 -- one call deeper: all else but the turns is as before
 pub record CallBegins (old new : Evaluation) : Type 0 where
   pub source : new.source.now ≡ old.source.now

@@ -1,13 +1,14 @@
-ghost use Rattle.std.specs.Prelude.{◌≤◌};
+ghost use Rattle.std.specs.Prelude.{◌≤◌, length, IsTrue};
+ghost use Rattle.scad_scope.specs.Numbered.{modules_below};
 ghost use Rattle.scad_scope.specs.Table.{rows_of};
-ghost use Rattle.scad_func.specs.View.{IsNumbered};
+ghost use Rattle.scad_func.specs.View.{IsNumbered, text_of};
 
 use crate::source::Source;
 use scad_scope::Scopes;
 use std::alloc::Global;
 
 /// An evaluation under way: what it reads, the scopes and special names that it adds to, and what it counts. The type
-/// keeps each limit, and that the scopes name functions of the source alone.
+/// keeps each limit, and that the scopes name functions and modules of the source alone.
 #[derive(Drop)]
 pub struct Evaluation<'a, 's> {
     pub alloc: Global,
@@ -20,6 +21,7 @@ pub struct Evaluation<'a, 's> {
     /// Turns so far.
     pub turns: u64,
     ghost numbered: { IsNumbered source.now (rows_of scopes.now) },
+    ghost modules: { IsTrue (modules_below (length (text_of source.now).modules) (rows_of scopes.now)) },
     ghost few_calls: { calls ≤ 64 },
     ghost shallow: { depth ≤ 512 },
     ghost few_turns: { turns ≤ 100000 },

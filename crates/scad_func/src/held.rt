@@ -7,7 +7,7 @@ ghost use Rattle.scad_func.specs.View.{IsLonger};
 use text_place::Stop;
 
 /// What was made before, with what is made next.
-pub(crate) fn with<A: Drop, B>(before: A, next: Result<B, Stop>) -> Result<(A, B), Stop>
+pub fn with<A: Drop, B>(before: A, next: Result<B, Stop>) -> Result<(A, B), Stop>
     ensures ok { IfOk result (λ both. (both.0 ≡ before) × (next ≡ Ok both.1)) }
     ensures err { IfErr result (λ stop. next ≡ Err stop) }
 {
@@ -18,7 +18,7 @@ pub(crate) fn with<A: Drop, B>(before: A, next: Result<B, Stop>) -> Result<(A, B
 }
 
 /// A list with one item more.
-pub(crate) fn with_next<T: Drop>(items: Vec<T>, next: Result<T, Stop>) -> Result<Vec<T>, Stop>
+pub fn with_next<T: Drop>(items: Vec<T>, next: Result<T, Stop>) -> Result<Vec<T>, Stop>
     ensures { IsLonger items.items next result }
 {
     match next {

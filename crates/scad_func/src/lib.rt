@@ -18,6 +18,7 @@ mod value;
 pub use arguments::{ArgumentValues, Names, SpecialArgument};
 pub use evaluation::Evaluation;
 pub use functions::find_module;
+pub use held::{with, with_next};
 pub use laws::enter_what_stands;
 pub use meter::Meter;
 pub use source::Source;

@@ -1,25 +1,55 @@
-ghost use Rattle.std.specs.Prelude.{◌≡◌, ◌<◌, ◌≤◌, ◌+◌, ◌∷◌, ◌++◌, ℕ, length, take, IsTrue, IfOk, IfErr, IfSome, OnOk, OnErr};
-ghost use Rattle.scad_ast.specs.StatementView.{params_of};
+ghost use Rattle.std.specs.Prelude.{◌≡◌, ◌<◌, ◌≤◌, ◌+◌, [], ◌∷◌, ◌++◌, ℕ, length, map, take, IsTrue, IfOk, IfErr, IfSome, OnOk, OnErr};
+ghost use Rattle.scad_ast.specs.StatementView.{params_of, body_of};
 ghost use Rattle.scad_value.specs.Values.{is_bounded, vals_from};
 ghost use Rattle.scad_value.specs.View.{val_of, vals_in};
 ghost use Rattle.scad_builtin.specs.Builtins.{are_bounded};
 ghost use Rattle.scad_scope.specs.Names.{have_bounded, oldest, find_in};
 ghost use Rattle.scad_scope.specs.Arguments.{names_of};
 ghost use Rattle.scad_scope.specs.Table.{rows_of, chain_of};
-ghost use Rattle.scad_func.specs.Meaning.{call_in, no_call, opened, with_variable, with_values};
-ghost use Rattle.scad_func.specs.View.{IsCallFound, IsNoMemory, specials_in, seen, text_of};
-ghost use Rattle.scad_func.specs.Definitions.{statements_at, block_scope};
-ghost use Rattle.scad_func.specs.Evaluations.{Keeps, ScopeEnters, SpecialsBegin, scopes_there};
+ghost use Rattle.scad_scope.specs.Blocks.{assignments_of};
+ghost use Rattle.scad_scope.specs.TextView.{assigned_of};
+ghost use Rattle.scad_func.specs.Meaning.{Within, call_in, module_in, no_call, opened, with_variable, with_values};
+ghost use Rattle.scad_func.specs.View.{IsCallFound, IsModuleFound, IsNoMemory, specials_in, seen, text_of};
+ghost use Rattle.scad_func.specs.Definitions.{statements_at, block_scope, IsBlockOf, IsWhole};
+ghost use Rattle.scad_func.specs.Evaluations.{Keeps, SameSetting, ScopeEnters, SpecialsBegin, scopes_there};
 
 use crate::arguments::{SpecialArgument, bind_specials};
 use crate::bind::{bind_all, bind_one};
 use crate::evaluation::Evaluation;
+use crate::functions::find_module;
 use scad_ast::Params;
-use scad_scope::Call;
+use scad_scope::{Assignment, Call, Module};
 use scad_value::Value;
 use text_place::{NoMemory, Stop};
 
-impl Evaluation<'_, '_> {
+impl<'a> Evaluation<'a, '_> {
+    /// The module that a name stands for, the newest of its name from a scope outward, with its body's block,
+    /// and the number of the scope in which it stands. None where no scope outward has one. Takes no memory.
+    pub fn module(&self, scope: u32, name: &[u8]) -> Option<(Module<'a>, u32)>
+        requires { scope < scopes_there self.now }
+        ensures found { IsModuleFound self.now.source.now (rows_of self.now.scopes.now)
+            (module_in (seen self.now.source.now (rows_of self.now.scopes.now) scope) name.now) result }
+        ensures there { IfSome result (λ found. found.1 < scopes_there self.now) }
+        ensures body { IsWhole (text_of self.now.source.now) →
+            IfSome result (λ found. IsBlockOf (text_of self.now.source.now) found.0.block (body_of found.0.body.now)) }
+    {
+        find_module(self.source, self.scopes, scope, name)
+    }
+
+    /// The assignments of a block, each name once, in the order of the text: a name that is assigned more than
+    /// once has the place of its first assignment and the expression of its last. A block that isn't there has
+    /// none. Takes no memory.
+    pub fn assignments(&self, block: u32) -> &'a [Assignment<'a>]
+        ensures { IsWhole (text_of self.now.source.now) →
+            map assigned_of result.now ≡ assignments_of (statements_at (text_of self.now.source.now) block) }
+    {
+        let blocks = &self.source.blocks;
+        if (block as usize) < blocks.count() {
+            return blocks.assignments(block);
+        }
+        &[]
+    }
+
     /// A new scope of a block inside another scope, and its number. `NoMemory` leaves all as it was.
     pub fn enter_body(&mut self, outer: u32, block: u32) -> Result<u32, NoMemory>
         requires { outer < scopes_there self.old }
@@ -31,6 +61,19 @@ impl Evaluation<'_, '_> {
     {
         let source = self.source;
         self.scopes.enter(self.alloc, outer, &source.blocks, block)
+    }
+
+    /// A new scope without definitions inside another scope, and its number: one in which a loop binds a
+    /// variable. `NoMemory` leaves all as it was.
+    pub fn enter_empty(&mut self, outer: u32) -> Result<u32, NoMemory>
+        requires { outer < scopes_there self.old }
+        ensures entered { IfOk result (ScopeEnters self.old self.new) }
+        ensures inside { IfOk result (λ n. seen self.new.source.now (rows_of self.new.scopes.now) n
+            ≡ Within [] [] [] no_call (seen self.old.source.now (rows_of self.old.scopes.now) outer)) }
+        ensures kept { OnErr result (Keeps self.old self.new) }
+        ensures turns { self.new.turns ≡ self.old.turns }
+    {
+        self.scopes.enter_empty(self.alloc, outer)
     }
 
     /// A new scope of a module's body, as the scope of a call with its children's block and its caller's
@@ -57,6 +100,8 @@ impl Evaluation<'_, '_> {
         requires there { scope ≤ scopes_there self.old }
         ensures rows { rows_of self.new.scopes.now ≡ take scope (rows_of self.old.scopes.now) }
         ensures back { (first : Evaluation) → ScopeEnters first self.old scope → Keeps first self.new }
+        ensures same { SameSetting self.old self.new }
+        ensures chain { chain_of self.new.scopes.now ≡ chain_of self.old.scopes.now }
         ensures turns { self.new.turns ≡ self.old.turns }
     {
         self.scopes.leave(scope);
@@ -70,6 +115,10 @@ impl Evaluation<'_, '_> {
             ≡ with_variable name.now (val_of value) (seen self.old.source.now (rows_of self.old.scopes.now) scope)) }
         ensures entered { (first : Evaluation) → ScopeEnters first self.old scope → ScopeEnters first self.new scope }
         ensures kept { OnErr result (Keeps self.old self.new) }
+        ensures same { SameSetting self.old self.new }
+        ensures front { take scope (rows_of self.new.scopes.now) ≡ take scope (rows_of self.old.scopes.now) }
+        ensures there { scopes_there self.new ≡ scopes_there self.old }
+        ensures chain { chain_of self.new.scopes.now ≡ chain_of self.old.scopes.now }
         ensures turns { self.new.turns ≡ self.old.turns }
     {
         bind_one(self.alloc, self.scopes, scope, name, value)
@@ -88,6 +137,10 @@ impl Evaluation<'_, '_> {
         ensures bound { OnOk result (seen self.new.source.now (rows_of self.new.scopes.now) scope
             ≡ with_values (names_of (params_of params.now)) (vals_from (vals_in values.items)) (seen self.old.source.now (rows_of self.old.scopes.now) scope)) }
         ensures entered { (first : Evaluation) → ScopeEnters first self.old scope → ScopeEnters first self.new scope }
+        ensures same { SameSetting self.old self.new }
+        ensures front { take scope (rows_of self.new.scopes.now) ≡ take scope (rows_of self.old.scopes.now) }
+        ensures there { scopes_there self.new ≡ scopes_there self.old }
+        ensures chain { chain_of self.new.scopes.now ≡ chain_of self.old.scopes.now }
         ensures turns { self.new.turns ≡ self.old.turns }
     {
         bind_all(self.alloc, self.scopes, scope, params, values)
@@ -123,15 +176,31 @@ impl Evaluation<'_, '_> {
         ensures begun { IfOk result (SpecialsBegin self.old self.new) }
         ensures chain { OnOk result (chain_of self.new.scopes.now ≡ (name.now, val_of value) ∷ chain_of self.old.scopes.now) }
         ensures kept { OnErr result (Keeps self.old self.new) }
+        ensures same { SameSetting self.old self.new }
+        ensures rows { rows_of self.new.scopes.now ≡ rows_of self.old.scopes.now }
         ensures turns { self.new.turns ≡ self.old.turns }
     {
         self.scopes.bind_special(self.alloc, name, value)
+    }
+
+    /// How many special names there are. `NoMemory` where they are 2^32 or more.
+    pub fn chain_length(&self) -> Result<u32, NoMemory>
+        ensures { IfOk result (λ n. n ≡ length (chain_of self.now.scopes.now)) }
+    {
+        let length = self.scopes.chain_length();
+        if length > u32::MAX as usize {
+            return Err(NoMemory);
+        }
+        Ok(length as u32)
     }
 
     /// Takes special names from the chain, to where they were put on it.
     pub fn end_specials(&mut self, to: u32)
         requires { to ≤ length (chain_of self.old.scopes.now) }
         ensures back { (first : Evaluation) → SpecialsBegin first self.old to → Keeps first self.new }
+        ensures same { SameSetting self.old self.new }
+        ensures rows { rows_of self.new.scopes.now ≡ rows_of self.old.scopes.now }
+        ensures chain { chain_of self.new.scopes.now ≡ oldest to (chain_of self.old.scopes.now) }
         ensures turns { self.new.turns ≡ self.old.turns }
     {
         self.scopes.unwind(to);

@@ -4,12 +4,12 @@ ghost use Rattle.scad_ast.specs.StatementView.{program_of};
 ghost use Rattle.scad_value.specs.Values.{is_bounded};
 ghost use Rattle.scad_value.specs.View.{val_of};
 ghost use Rattle.scad_scope.specs.Names.{env_of};
-ghost use Rattle.scad_scope.specs.Numbered.{functions_below};
-ghost use Rattle.scad_scope.specs.Blocks.{functions_of_program, numbered_text};
+ghost use Rattle.scad_scope.specs.Numbered.{functions_below, modules_below};
+ghost use Rattle.scad_scope.specs.Blocks.{functions_of_program, modules_of_program, numbered_text};
 ghost use Rattle.scad_scope.specs.Table.{rows_of, chain_of};
 ghost use Rattle.scad_func.specs.Meaning.{evaluated};
 ghost use Rattle.scad_func.specs.Definitions.{env_in};
-ghost use Rattle.scad_func.specs.View.{Tells, IsNumbered, seen};
+ghost use Rattle.scad_func.specs.View.{Tells, IsNumbered, seen, text_of};
 
 use crate::evaluation::Evaluation;
 use crate::meter::Meter;
@@ -24,6 +24,8 @@ use text_place::Stop;
 /// After Ok the meter's calls and depth are as before, and its turns have grown by those that were
 /// counted; scopes and chain are always as before. TooDeep comes at the 65th call and at the 513th
 /// evaluation in one another, TooManyTurns at turn 100,001.
+///
+/// It takes less than 4 MiB of the stack, as `Evaluation::expression` says; no contract speaks of that.
 pub fn value_in(
     alloc: Global,
     scopes: &mut Scopes,
@@ -34,6 +36,7 @@ pub fn value_in(
 ) -> Result<Value, Stop>
     requires scope { scope < length (rows_of scopes.old) }
     requires numbered { IsNumbered source.now (rows_of scopes.old) }
+    requires modules { IsTrue (modules_below (length (text_of source.now).modules) (rows_of scopes.old)) }
     requires calls { meter.old.calls ≤ 64 }
     requires depth { meter.old.depth ≤ 512 }
     requires turns { meter.old.turns ≤ 100000 }
@@ -71,6 +74,7 @@ pub fn value_of(
 ) -> Result<Value, Stop>
     requires scope { scope < length (rows_of scopes.old) }
     requires numbered { IsTrue (functions_below (length (functions_of_program (program_of program.now))) (rows_of scopes.old)) }
+    requires modules { IsTrue (modules_below (length (modules_of_program (program_of program.now))) (rows_of scopes.old)) }
     requires calls { meter.old.calls ≤ 64 }
     requires depth { meter.old.depth ≤ 512 }
     requires turns { meter.old.turns ≤ 100000 }

@@ -1,10 +1,14 @@
 pub mod Ahead
 pub mod Alike
 pub mod Cores
+pub mod Counts
 pub mod Deeper
+pub mod DepthLaws
 pub mod Examples
 pub mod Expressions
+pub mod Filled
 pub mod FirstFaults
+pub mod Fronts
 pub mod Gaps
 pub mod Greedy
 pub mod Levels
@@ -17,8 +21,11 @@ pub mod Programs
 pub mod Readers
 pub mod Regular
 pub mod Separated
+pub mod Shown
 pub mod Shrinks
 pub mod Statements
 pub mod Tests
+pub mod Taken
 pub mod Trailing
+pub mod Unique
 pub mod Wider

@@ -1,4 +1,5 @@
 pub mod Classes
+pub mod Depths
 pub mod Faults
 pub mod FirstFault
 pub mod Grammar

@@ -1,12 +1,14 @@
 //! The grammar of the modelling language, and the laws of reading it from the front.
 #![tactic(auto)]
 
-ghost use Rattle.std.specs.Prelude.{◌≡◌, ℕ, List, true, ◌⊎◌};
+ghost use Rattle.std.specs.Prelude.{◌≡◌, ◌≤◌, ℕ, suc, List, length, true, ◌⊎◌};
 ghost use Rattle.scad_lexer.specs.declared.token.Token.{Token};
 ghost use Rattle.scad_lexer.specs.Tokens.{ends_once};
 ghost use Rattle.scad_ast.specs.Terms.{StatementTerm};
+ghost use Rattle.scad_ast.specs.Counts.{begun_by_program};
 ghost use Rattle.scad_grammar.specs.Grammar.{Program};
-ghost use Rattle.scad_grammar.specs.FirstFault.{IsFirstFault};
+ghost use Rattle.scad_grammar.specs.Depths.{HasDepths, AllBelow, BeginsShallow};
+ghost use Rattle.scad_grammar.specs.FirstFault.{BeginsWithin, IsFirstFault};
 
 /// Why tokens are no program.
 #[derive(Clone, Copy, Debug, PartialEq, Eq)]
@@ -37,4 +39,32 @@ pub fn no_program_has_a_fault()
 /// No list of tokens has two first faults, neither of two kinds nor at two places.
 pub fn one_fault_each()
     ensures { (d : ℕ) (s : List Token) (fault other : SyntaxFault) (at at_other : List Token) → IsFirstFault d s fault at → IsFirstFault d s other at_other → (fault ≡ other) × (at ≡ at_other) }
+{}
+
+/// A program has no more blocks, functions and modules than tokens.
+pub fn few_definitions()
+    ensures { (d : ℕ) (x : List StatementTerm) (s : List Token) → Program d x s → begun_by_program x ≤ length s }
+{}
+
+/// Each token of a program has a depth.
+pub fn one_depth_each()
+    ensures { (x : List StatementTerm) (s : List Token) (depths : List ℕ) → HasDepths x s depths → length depths ≡ length s }
+{}
+
+/// A program's tokens are less deep than so much exactly where each of their depths is less.
+pub fn programs_by_depth()
+    ensures depths { (d : ℕ) (x : List StatementTerm) (s : List Token) → Program (suc d) x s → (depths : List ℕ) × HasDepths x s depths × AllBelow (suc d) depths }
+    ensures program { (d : ℕ) (x : List StatementTerm) (s : List Token) (depths : List ℕ) → HasDepths x s depths → AllBelow (suc d) depths → Program (suc d) x s }
+{}
+
+/// An outline begins with some tokens exactly where a program does in which each of them is less deep than so much:
+/// so `Nested` stands at the first token with which programs go on, but only such in which it is too deep.
+pub fn outlines_by_depth()
+    ensures outline { (d : ℕ) (s : List Token) → BeginsWithin (suc d) s → BeginsShallow (suc d) s }
+    ensures shallow { (d : ℕ) (s : List Token) → BeginsShallow (suc d) s → BeginsWithin (suc d) s }
+{}
+
+/// A token of a program has one depth.
+pub fn one_depth_only()
+    ensures { (x y : List StatementTerm) (s : List Token) (depths others : List ℕ) → HasDepths x s depths → HasDepths y s others → depths ≡ others }
 {}

@@ -1,6 +1,7 @@
 mod EndsOnce
 mod Rows
 pub mod Lexing
+mod Lengths
 pub mod Longest
 pub mod Meanings
 pub mod Scanned

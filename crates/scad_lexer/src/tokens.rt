@@ -22,6 +22,8 @@ pub fn lex(alloc: Global, text: &[u8]) -> Result<Vec<Token>, Stop>
     ensures only { (o : Outcome) → Lexes text.now o → Agrees result o }
     // The last token is the end, and no other is.
     ensures ends { IfOk result (λ ts. ends_once ts.items ≡ true) }
+    // There are no more tokens than bytes, but for the end.
+    ensures few { IfOk result (λ ts. length ts.items ≤ length text.now + 1) }
 {
     read_tokens(alloc, text)
 }

@@ -1,11 +1,13 @@
 //! The output of a script: for each client its name and its replies, and then a few further lines.
 
-ghost use Rattle.std.specs.Prelude.{◌≡◌, ◌≤◌, ◌⊎◌, ◌++◌, ℕ, List, [], length, All, IfErr, OnOk, IsErrOf, codes};
+ghost use Rattle.std.specs.Prelude.{◌≡◌, ◌<◌, ◌≤◌, ◌⊎◌, ◌++◌, ℕ, List, [], length, All, IfErr, OnOk, OnErr, IsErrOf, codes};
 ghost use Rattle.std.specs.Io.KnownBytes.{Appends};
 ghost use Rattle.text_place.specs.Decimals.{numeral};
 ghost use Rattle.script_reader.specs.Lines.{newline};
 ghost use Rattle.outside_io.specs.Counts.{Rose};
+ghost use Rattle.outside_io.specs.Moves.{AppendsProperPrefix};
 ghost use Rattle.reply_text.specs.Texts.{reply_body, replies_text, client_text, output};
+ghost use Rattle.script_output.specs.declared.output.OutputEnd.TheVariants as ends;
 ghost use Rattle.script_output.specs.Sending.{Sends, IsCutOff, HasOutputCause};
 
 use outside_io::{Failed, Sink, write_all};
@@ -38,8 +40,8 @@ impl From<NoMemory> for OutputEnd {
 
 // Writes what the buffer holds, and empties it.
 fn flush<K: Sink>(sink: &mut K, buffer: &mut Vec<u8>) -> Result<(), OutputEnd>
-    ensures ok { OnOk result (Sends (K.held sink.old) (K.held sink.new) [] buffer.old.items × (buffer.new.items ≡ [])) }
-    ensures err { IfErr result (IsCutOff (K.held sink.old) (K.held sink.new) buffer.old.items) }
+    ensures ok { OnOk result (Appends (K.held sink.old) (K.held sink.new) buffer.old.items × (buffer.new.items ≡ [])) }
+    ensures err { IfErr result (λ end. (end ≡ ends.Failed) × AppendsProperPrefix (K.held sink.old) (K.held sink.new) buffer.old.items) }
     ensures cause { HasOutputCause (K.faults sink.old) (K.faults sink.new) result }
 {
     if write_all(sink, buffer.as_slice()).is_err() {
@@ -51,8 +53,8 @@ fn flush<K: Sink>(sink: &mut K, buffer: &mut Vec<u8>) -> Result<(), OutputEnd>
 
 // Writes what the buffer holds once it is long enough.
 fn settle<K: Sink>(sink: &mut K, buffer: &mut Vec<u8>) -> Result<(), OutputEnd>
-    ensures ok { OnOk result (Sends (K.held sink.old) (K.held sink.new) buffer.new.items buffer.old.items) }
-    ensures err { IfErr result (IsCutOff (K.held sink.old) (K.held sink.new) buffer.old.items) }
+    ensures ok { OnOk result (Sends K.held sink.old sink.new buffer.new.items buffer.old.items) }
+    ensures err { IfErr result (IsCutOff K.held sink.old sink.new buffer.old.items) }
     ensures cause { HasOutputCause (K.faults sink.old) (K.faults sink.new) result }
 {
     if buffer.len() < BUFFER_BYTES {
@@ -64,6 +66,7 @@ fn settle<K: Sink>(sink: &mut K, buffer: &mut Vec<u8>) -> Result<(), OutputEnd>
 // Adds bytes to the buffer.
 fn put(buffer: &mut Vec<u8>, bytes: &[u8]) -> Result<(), NoMemory>
     ensures ok { OnOk result (buffer.new.items ≡ buffer.old.items ++ bytes.now) }
+    ensures err { OnErr result (0 < length bytes.now) }
 {
     buffer.extend_from_slice(bytes)?;
     Ok(())
@@ -86,8 +89,8 @@ fn write_reply<K: Sink>(
     number: u32,
     reply: &Reply,
 ) -> Result<(), OutputEnd>
-    ensures ok { OnOk result (Sends (K.held sink.old) (K.held sink.new) buffer.new.items (buffer.old.items ++ (numeral number ++ reply_body reply.now))) }
-    ensures err { IfErr result (IsCutOff (K.held sink.old) (K.held sink.new) (buffer.old.items ++ (numeral number ++ reply_body reply.now))) }
+    ensures ok { OnOk result (Sends K.held sink.old sink.new buffer.new.items (buffer.old.items ++ (numeral number ++ reply_body reply.now))) }
+    ensures err { IfErr result (IsCutOff K.held sink.old sink.new (buffer.old.items ++ (numeral number ++ reply_body reply.now))) }
     ensures cause { HasOutputCause (K.faults sink.old) (K.faults sink.new) result }
 {
     push_reply(alloc, buffer, number, reply)?;
@@ -102,8 +105,8 @@ fn write_replies<K: Sink>(
     replies: &[Reply],
 ) -> Result<(), OutputEnd>
     requires { length replies.now ≤ 8192 }
-    ensures ok { OnOk result (Sends (K.held sink.old) (K.held sink.new) buffer.new.items (buffer.old.items ++ replies_text 1 replies.now)) }
-    ensures err { IfErr result (IsCutOff (K.held sink.old) (K.held sink.new) (buffer.old.items ++ replies_text 1 replies.now)) }
+    ensures ok { OnOk result (Sends K.held sink.old sink.new buffer.new.items (buffer.old.items ++ replies_text 1 replies.now)) }
+    ensures err { IfErr result (IsCutOff K.held sink.old sink.new (buffer.old.items ++ replies_text 1 replies.now)) }
     ensures cause { HasOutputCause (K.faults sink.old) (K.faults sink.new) result }
 {
     let mut number = 0u32;
@@ -123,8 +126,8 @@ fn write_client<K: Sink>(
     replies: &[Reply],
 ) -> Result<(), OutputEnd>
     requires { length replies.now ≤ 8192 }
-    ensures ok { OnOk result (Sends (K.held sink.old) (K.held sink.new) buffer.new.items (buffer.old.items ++ client_text name.now replies.now)) }
-    ensures err { IfErr result (IsCutOff (K.held sink.old) (K.held sink.new) (buffer.old.items ++ client_text name.now replies.now)) }
+    ensures ok { OnOk result (Sends K.held sink.old sink.new buffer.new.items (buffer.old.items ++ client_text name.now replies.now)) }
+    ensures err { IfErr result (IsCutOff K.held sink.old sink.new (buffer.old.items ++ client_text name.now replies.now)) }
     ensures cause { HasOutputCause (K.faults sink.old) (K.faults sink.new) result }
 {
     put_name(buffer, name)?;
@@ -140,8 +143,8 @@ fn write_clients<K: Sink>(
     replies: &[Replies],
 ) -> Result<(), OutputEnd>
     requires { All (λ rs. length rs ≤ 8192) replies.now }
-    ensures ok { OnOk result (Sends (K.held sink.old) (K.held sink.new) buffer.new.items (buffer.old.items ++ output clients.now replies.now)) }
-    ensures err { IfErr result (IsCutOff (K.held sink.old) (K.held sink.new) (buffer.old.items ++ output clients.now replies.now)) }
+    ensures ok { OnOk result (Sends K.held sink.old sink.new buffer.new.items (buffer.old.items ++ output clients.now replies.now)) }
+    ensures err { IfErr result (IsCutOff K.held sink.old sink.new (buffer.old.items ++ output clients.now replies.now)) }
     ensures cause { HasOutputCause (K.faults sink.old) (K.faults sink.new) result }
 {
     let mut left = replies;
@@ -158,7 +161,8 @@ fn write_clients<K: Sink>(
 /// Writes the output of a script whose clients are given these replies, and an ending behind it: reply by
 /// reply, so that beside the replies no more is held than one reply's text and a buffer.
 ///
-/// At an error a prefix of that was appended to the sink, and after `Failed` not the whole.
+/// At an error a prefix of that was appended to the sink, and not the whole; after `NoMemory` the sink is as it was
+/// where nothing was appended.
 pub fn write_output<K: Sink>(
     alloc: Global,
     sink: &mut K,
@@ -168,7 +172,7 @@ pub fn write_output<K: Sink>(
 ) -> Result<(), OutputEnd>
     requires { All (λ rs. length rs ≤ 8192) replies.now }
     ensures ok { OnOk result (Appends (K.held sink.old) (K.held sink.new) (output clients.now replies.now ++ ending.now)) }
-    ensures err { IfErr result (IsCutOff (K.held sink.old) (K.held sink.new) (output clients.now replies.now ++ ending.now)) }
+    ensures err { IfErr result (IsCutOff K.held sink.old sink.new (output clients.now replies.now ++ ending.now)) }
     ensures cause { HasOutputCause (K.faults sink.old) (K.faults sink.new) result }
 {
     let mut buffer = Vec::new(alloc);

@@ -11,6 +11,7 @@ ghost use Rattle.script_run.specs.Steps.{Obeys, Steps};
 
 use crate::exporter::Exporter;
 use edit_session::{Asked, Session, SessionFault};
+use plane_predicate::Unit;
 use reply_text::Reply;
 use script_reader::Command;
 use std::alloc::Global;
@@ -42,14 +43,15 @@ fn show(alloc: Global, session: &mut Session) -> Result<Reply, NoMemory>
 fn export<E: Exporter>(
     alloc: Global,
     exporter: &mut E,
+    unit: Unit,
     session: &mut Session,
 ) -> Result<Reply, NoMemory>
     requires { refusal session.old Export ≡ None }
-    ensures exported { IfOk result (λ reply. E.exports (source_of session.old) reply × (session.new ≡ accepted session.old Export)) }
+    ensures exported { IfOk result (λ reply. E.exports unit (source_of session.old) reply × (session.new ≡ accepted session.old Export)) }
     ensures err { OnErr result (session.new ≡ session.old) }
 {
     let source = session.source(alloc)?;
-    let reply = exporter.export(alloc, source.as_slice())?;
+    let reply = exporter.export(alloc, unit, source.as_slice())?;
     session.book_export();
     Ok(reply)
 }
@@ -58,17 +60,18 @@ fn export<E: Exporter>(
 fn obey<E: Exporter>(
     alloc: Global,
     exporter: &mut E,
+    unit: Unit,
     session: &mut Session,
     command: &Command,
 ) -> Result<Reply, SessionFault>
     requires { HasText command.now }
-    ensures done { IfOk result (λ reply. Obeys E.exports session.old command.now session.new reply) }
+    ensures done { IfOk result (λ reply. Obeys (E.exports unit) session.old command.now session.new reply) }
     ensures refused { IfErr result (λ why. Refuses session.old command.now session.new why) }
 {
     match session.command(alloc, command)? {
         Asked::Lines(count) => Ok(Reply::Lines(count)),
         Asked::Show => Ok(show(alloc, session)?),
-        Asked::Export => Ok(export(alloc, exporter, session)?),
+        Asked::Export => Ok(export(alloc, exporter, unit, session)?),
     }
 }
 
@@ -76,13 +79,14 @@ fn obey<E: Exporter>(
 fn reply_to<E: Exporter>(
     alloc: Global,
     exporter: &mut E,
+    unit: Unit,
     session: &mut Session,
     command: &Command,
 ) -> Reply
     requires { HasText command.now }
-    ensures { Steps E.exports session.old command.now session.new result }
+    ensures { Steps (E.exports unit) session.old command.now session.new result }
 {
-    match obey(alloc, exporter, session, command) {
+    match obey(alloc, exporter, unit, session, command) {
         Ok(reply) => reply,
         Err(SessionFault::NoMemory) => Reply::NoMem,
         Err(why) => Reply::Refused(why),
@@ -93,19 +97,20 @@ fn reply_to<E: Exporter>(
 pub fn serve_client<E: Exporter>(
     alloc: Global,
     exporter: &mut E,
+    unit: Unit,
     commands: &[Command],
     room: Vec<Reply>,
 ) -> Vec<Reply>
     requires empty { room.items ≡ [] }
     requires room { length commands.now ≤ vec_capacity room }
     requires texts { All HasText commands.now }
-    ensures fits { Fits E.exports start commands.now result.items }
+    ensures fits { Fits (E.exports unit) start commands.now result.items }
     ensures count { length result.items ≡ length commands.now }
 {
     let mut replies = room;
     let mut session = Session::new(alloc);
     for command in commands {
-        let reply = reply_to(alloc, exporter, &mut session, command);
+        let reply = reply_to(alloc, exporter, unit, &mut session, command);
         replies.push(reply).unwrap();
     }
     replies

@@ -7,6 +7,7 @@ ghost use Rattle.script_run.specs.Rooms.{AreRooms};
 
 use crate::client::serve_client;
 use crate::exporter::Exporter;
+use plane_predicate::Unit;
 use reply_text::{Replies, Reply};
 use script_reader::{ClientScript, Script};
 use std::alloc::Global;
@@ -23,16 +24,17 @@ fn rooms_for(alloc: Global, clients: &[ClientScript]) -> Result<Vec<Vec<Reply>>,
     Ok(rooms)
 }
 
-/// The replies to the commands of each client, in the clients' order. The room for one reply a command is
+/// The replies to the commands of each client, in the clients' order, with the lengths of sources in a unit. The room for one reply a command is
 /// taken before any command is done: so a command for which memory runs out is answered so, and its session
 /// stays as it was.
 pub fn run_script<E: Exporter>(
     alloc: Global,
     exporter: &mut E,
+    unit: Unit,
     script: &Script,
 ) -> Result<Vec<Replies>, NoMemory>
     requires { AreWithin script.now.clients }
-    ensures fits { IfOk result (λ replies. AllFit E.exports script.now.clients replies.items) }
+    ensures fits { IfOk result (λ replies. AllFit (E.exports unit) script.now.clients replies.items) }
     ensures few { IfOk result (λ replies. All (λ rs. length rs ≤ 8192) replies.items) }
 {
     let clients = script.clients.items();
@@ -40,7 +42,7 @@ pub fn run_script<E: Exporter>(
     let mut all = Vec::with_capacity(alloc, clients.len())?;
     for client in clients {
         let room = rooms.remove(0);
-        let replies = serve_client(alloc, exporter, client.commands.items(), room);
+        let replies = serve_client(alloc, exporter, unit, client.commands.items(), room);
         all.push(Replies::of(replies)).unwrap();
     }
     Ok(all)

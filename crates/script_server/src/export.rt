@@ -11,6 +11,7 @@ use crate::cube::box_of;
 use crate::meaning::Sides;
 use crate::planes::planes_of;
 use crate::solids::answer_leaf;
+use plane_predicate::Unit;
 use reply_text::Reply;
 use scad_ast::Program;
 use scad_lexer::lex;
@@ -64,16 +65,16 @@ fn export(alloc: Global, source: &[u8]) -> Result<Reply, NoMemory>
     }
 }
 
-/// Exports sources by the rule that stands today: boxes are built.
+/// Exports sources by the rule that stands today: boxes are built, in whole units in every run.
 #[derive(Drop)]
 pub struct SourceExporter;
 
 impl Exporter for SourceExporter {
     ghost use Rattle.script_server.specs.Meaning.Exports.{AnswersExport};
 
-    ghost exports = { AnswersExport };
+    ghost exports = { λ _. AnswersExport };
 
-    fn export(&mut self, alloc: Global, source: &[u8]) -> Result<Reply, NoMemory>
+    fn export(&mut self, alloc: Global, _unit: Unit, source: &[u8]) -> Result<Reply, NoMemory>
         requires { length source.now ≤ 4198400 }
         ensures { IfOk result (AnswersExport source.now) }
     {

@@ -1,6 +1,6 @@
 //! The call that does all that the program does.
 
-ghost use Rattle.std.specs.Prelude.{◌≡◌, ◌≢◌, ◌≤◌, ◌⊎◌, [], map, string_bytes, IfSome};
+ghost use Rattle.std.specs.Prelude.{◌≡◌, ◌≢◌, ◌≤◌, ◌⊎◌, map, string_bytes, IfSome};
 ghost use Rattle.std.specs.Io.KnownBytes.{Appends};
 ghost use Rattle.outside_io.specs.Counts.{Rose};
 ghost use Rattle.outside_io.specs.Moves.{AppendsProperPrefix};
@@ -47,8 +47,8 @@ pub fn serve<S: Source, K: Sink, R: Threads + Wait + Sync>(
     ensures write_fault { result ≡ Status.WriteFault → Rose (K.faults sink.old) (K.faults sink.new) }
     ensures output_cut { (settings : Settings) → Chooses (map string_bytes words.now) settings → result ≡ Status.WriteFault
         → BreaksOff AnswersExport settings (S.left source.old) (S.left source.new) (K.held sink.old) (K.held sink.new) }
-    ensures no_memory { result ≡ Status.NoMemory → Appends (K.held sink.old) (K.held sink.new) []
-        ⊎ ((settings : Settings) × Chooses (map string_bytes words.now) settings
+    ensures no_memory { result ≡ Status.NoMemory → (sink.new ≡ sink.old)
+        ⊎ ((settings : Settings) × Chooses (map string_bytes words.now) settings × IsRun settings
         × Begins AnswersExport settings (S.left source.old) (S.left source.new) (K.held sink.old) (K.held sink.new)) }
     ensures counts { (S.faults source.old ≤ S.faults source.new) × (K.faults sink.old ≤ K.faults sink.new) }
 
@@ -61,9 +61,11 @@ pub fn serve<S: Source, K: Sink, R: Threads + Wait + Sync>(
     ensures no_script { (settings : Settings) → Chooses (map string_bytes words.now) settings → IsRun settings
         → IfSome (S.left source.old) (λ bytes. IsNoScript bytes → result ≢ Status.Done) }
 
-    // The demonstration reads nothing.
+    // The demonstration reads nothing, and its script has no fault.
     ensures demo { (settings : Settings) → Chooses (map string_bytes words.now) settings → (IsRun settings → ⊥)
         → (source.new ≡ source.old) × (result ≢ Status.ReadFault) }
+    ensures demo_script { (settings : Settings) → Chooses (map string_bytes words.now) settings → (IsRun settings → ⊥)
+        → result ≢ Status.BadScript }
 {
     serve_with(alloc, &mut SourceExporter, words, source, sink)
 }

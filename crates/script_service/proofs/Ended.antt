@@ -1,49 +1,63 @@
 -- How the writing of a text ended.
 use Rattle.std.proofs.Common.{◌≡◌, ◌≢◌, ◌⊎◌, ⊎_elim, inl, inr, ℕ, ◌<◌, List, [], ◌++◌, length, refl, sym, ap, ◌∙◌, subst, arith, append-nil, length-append}
-use Rattle.std.specs.Prelude.{Option, Some, None, IfSome}
+use Rattle.std.specs.Prelude.{Option, Some, None, IfSome, Bool}
 use Rattle.std.specs.Io.KnownBytes.{Appends, Consumes, IsAtEnd}
 use Rattle.outside_io.specs.Counts.{Rose}
 use Rattle.outside_io.specs.Moves.{AppendsProperPrefix, ConsumesPast}
 use Rattle.run_words.specs.declared.settings.Settings.{Settings}
 use Rattle.run_words.specs.declared.settings.Settings.TheVariants.{Run, Demo}
 use Rattle.big_input.specs.DemoScript.{demo_script}
+use Rattle.script_reader.specs.declared.script.ClientScript.{ClientScript}
 use Rattle.script_reader.specs.declared.script.Script.{Script}
+use Rattle.script_reader.specs.declared.script.ScriptFault.{ScriptFault}
 use Rattle.script_reader.specs.Scripts.{IsScript, IsScriptFault}
 use Rattle.script_reader.specs.declared.script.ScriptFault.TheVariants as fault
 use Rattle.script_reader.specs.FaultLines.{fault_line}
-use Rattle.script_reader.proofs.OneScript.{not_both}
 use Rattle.reply_text.specs.declared.reply.Reply.{Reply}
+use Rattle.reply_text.specs.Texts.{output}
 use Rattle.script_output.specs.declared.output.OutputEnd.{OutputEnd}
 use Rattle.script_output.specs.declared.output.OutputEnd.TheVariants as cause
-use Rattle.script_output.specs.Sending.{Sends, IsCutOff}
-use Rattle.script_output.proofs.Sent.{nothing_sent}
+use Rattle.script_output.specs.Sending.{IsCutOff}
 use Rattle.script_service.specs.declared.status.Status.{Status}
 use Rattle.script_service.specs.declared.status.Status.TheVariants.{Done, BadScript, ReadFault, WriteFault, NoMemory}
-use Rattle.script_service.specs.Serving.{IsInput, IsWholeInput, IsRun, Serves, BreaksOff, Begins, RefusesScript, IsScriptOf, IsNoScript}
-use Rattle.script_service.specs.Outcomes.{Written, Ends, ServesBytes, ServesInput}
+use Rattle.script_service.specs.Endings.{ending}
+use Rattle.script_service.specs.Demos.{demo_text}
+use Rattle.script_service.specs.Serving.{IsInput, IsWholeInput, IsRun, printed, AppendsPart, Serves, BreaksOff, Begins, RefusesScript, IsScriptOf, IsNoScript}
+use Rattle.script_service.specs.Outcomes.{Written, Ends, StopsOnTheWay, Prints, ServesBytes, ServesInput}
+
+-- memory ran out before the end of a text: nothing of it was written, or something
+part_of : {K : Type 0} (held : K → Option (List ℕ)) (a b : K) (text : List ℕ) → IsCutOff held a b text cause.NoMemory → (b ≡ a) ⊎ AppendsPart (held a) (held b) text
+part_of held a b text h = ⊎_elim (λ same. inl same) (λ some. inr (h.2.0, h.0, h.2.1, some, h.1, h.2.2)) h.2.3
 
 -- memory ran out on the way
-pub memory_out : (w : Written) (front lines items ends : List ℕ) (end : OutputEnd) → end ≡ cause.NoMemory → lines ≡ items → items ≡ ends
-    → IsCutOff w.old w.new (front ++ lines) end → Ends Done w (front ++ ends) NoMemory
-memory_out w front lines items ends cause.NoMemory e same lasts h =
-    inr (inr (refl, subst (λ (l : List ℕ). (rest : List ℕ) × Sends w.old w.new rest (front ++ l)) (same ∙ lasts) h))
-memory_out w front lines items ends cause.Failed e same lasts h = absurd (cc e)
+pub memory_out : {K : Type 0} (held : K → Option (List ℕ)) (a b : K) (n m : ℕ) (front lines items ends : List ℕ) (end : OutputEnd) → end ≡ cause.NoMemory → lines ≡ items → items ≡ ends
+    → IsCutOff held a b (front ++ lines) end
+    → Ends Done (record { old = held a; new = held b; before = n; now = m; same = b ≡ a }) (front ++ ends) NoMemory
+    ⊎ StopsOnTheWay (record { old = held a; new = held b; before = n; now = m; same = b ≡ a }) (front ++ ends) NoMemory
+memory_out held a b n m front lines items ends cause.NoMemory e same lasts h =
+    ⊎_elim
+    (λ unchanged. inl (inr (inr (refl, unchanged))))
+    (λ part. inr (refl, part))
+    (part_of held a b (front ++ ends) (subst (λ (l : List ℕ). IsCutOff held a b (front ++ l) cause.NoMemory) (same ∙ lasts) h))
+memory_out held a b n m front lines items ends cause.Failed e same lasts h = absurd (cc e)
 
--- memory ran out before anything was written
-pub memory_out_first : (good : Status) (a : Option (List ℕ)) (n : ℕ) (text : List ℕ) → Ends good (record { old = a; new = a; before = n; now = n }) text NoMemory
-memory_out_first good a n text = inr (inr (refl, (text, nothing_sent a text)))
+-- what was printed of a run
+pub run_prints : (s : Settings) (workers memo share : ℕ) (half tally : Bool) (w : Written) (clients : List ClientScript) (replies : List (List Reply)) (status : Status) → s ≡ Run workers memo share half tally
+    → Ends Done w (output clients replies ++ ending tally share clients) status ⊎ StopsOnTheWay w (output clients replies ++ ending tally share clients) status
+    → Prints s w (printed s clients replies) status
+run_prints s workers memo share half tally w clients replies status e h =
+    subst (λ (t : Settings). Prints t w (printed t clients replies) status) (sym e) (⊎_elim (λ a. inl a) (λ a. inr (tt, a)) h)
 
-nothing_appended : (a : Option (List ℕ)) → Appends a a []
-nothing_appended None = tt
-nothing_appended (Some held) = sym (append-nil held)
+-- and of a demonstration
+pub demo_prints : (s : Settings) (n : ℕ) (w : Written) (clients : List ClientScript) (replies : List (List Reply)) (status : Status) → s ≡ Demo n
+    → Ends Done w (demo_text clients replies) status → Prints s w (printed s clients replies) status
+demo_prints s n w clients replies status e h = subst (λ (t : Settings). Prints t w (printed t clients replies) status) (sym e) (inl h)
 
-pub no_memory_first : (Exports : List ℕ → Reply → Type 0) (settings : Settings) (bytes : List ℕ) (a : Option (List ℕ)) (n : ℕ)
-    → ServesBytes Exports settings bytes (record { old = a; new = a; before = n; now = n }) NoMemory
-no_memory_first Exports settings bytes a n = inr (inr (refl, nothing_appended a))
+pub no_memory_first : (Exports : List ℕ → Reply → Type 0) (settings : Settings) (bytes : List ℕ) (w : Written) → w.same → ServesBytes Exports settings bytes w NoMemory
+no_memory_first Exports settings bytes w same = inr (inr (refl, same))
 
-pub no_input : (Exports : List ℕ → Reply → Type 0) (settings : Settings) (left left' a : Option (List ℕ)) (n : ℕ)
-    → ServesInput Exports settings left left' (record { old = a; new = a; before = n; now = n }) NoMemory
-no_input Exports settings left left' a n = inr (refl, nothing_appended a)
+pub no_input : (Exports : List ℕ → Reply → Type 0) (settings : Settings) (left left' : Option (List ℕ)) (w : Written) → w.same → ServesInput Exports settings left left' w NoMemory
+no_input Exports settings left left' w same = inr (refl, same)
 
 -- ---- the input
 pub run_input : (settings : Settings) (left left' : Option (List ℕ)) (bytes : List ℕ) → IsRun settings → Consumes left left' bytes → IsAtEnd left' ⊎ (1048576 < length bytes) → IsInput settings left left' bytes
@@ -68,6 +82,10 @@ pub demo_input : (Exports : List ℕ → Reply → Type 0) (n : ℕ) (bytes item
     → ServesBytes Exports (Demo n) bytes w status → ServesBytes Exports (Demo n) script w status
 demo_input Exports n bytes items script w status same made h = subst (λ (l : List ℕ). ServesBytes Exports (Demo n) l w status) (same ∙ made) h
 
+-- no bytes are a script and have a fault
+abbrev pub NeverBoth : Type 0
+NeverBoth = (bytes : List ℕ) (s : Script) (f : ScriptFault) → IsScript bytes s → IsScriptFault bytes f → ⊥
+
 -- ---- what a status says
 whole_of : (settings : Settings) (left left' : Option (List ℕ)) (bytes : List ℕ) (script : Script) → IsInput settings left left' bytes → IsScript bytes script → IsWholeInput settings left left' bytes
 whole_of (Run workers memo share half tally) left left' bytes script (read, inl end) h = (read, end)
@@ -84,7 +102,7 @@ ended_cut good w text status a (inl h) e = absurd (a (sym h.0 ∙ e))
 ended_cut good w text status a (inr (inl h)) e = (h.1, h.2)
 ended_cut good w text status a (inr (inr h)) e = absurd (cc (h.0, e))
 
-ended_short : (good : Status) (w : Written) (text : List ℕ) (status : Status) → good ≢ NoMemory → Ends good w text status → status ≡ NoMemory → (rest : List ℕ) × Sends w.old w.new rest text
+ended_short : (good : Status) (w : Written) (text : List ℕ) (status : Status) → good ≢ NoMemory → Ends good w text status → status ≡ NoMemory → w.same
 ended_short good w text status a (inl h) e = absurd (a (sym h.0 ∙ e))
 ended_short good w text status a (inr (inl h)) e = absurd (cc (h.0, e))
 ended_short good w text status a (inr (inr h)) e = h.1
@@ -100,31 +118,35 @@ not_good good w text status other a b c (inr (inl h)) e = b (sym h.0 ∙ e)
 not_good good w text status other a b c (inr (inr h)) e = c (sym h.0 ∙ e)
 
 pub served_done : (X : List ℕ → Reply → Type 0) (s : Settings) (left left' : Option (List ℕ)) (w : Written) (status : Status) → ServesInput X s left left' w status → status ≡ Done → Serves X s left left' w.old w.new
-served_done X s left left' w status (inl (bytes, input, inl (out, fits, ended))) e =
+served_done X s left left' w status (inl (bytes, input, inl (out, fits, inl ended))) e =
     (bytes, out, whole_of s left left' bytes fits.0 input fits.2, fits, ended_good Done w out status (λ f. cc f) (λ f. cc f) ended e)
+served_done X s left left' w status (inl (bytes, input, inl (out, fits, inr (run, stopped)))) e = absurd (cc (stopped.0, e))
 served_done X s left left' w status (inl (bytes, input, inr (inl (f, is, ended)))) e = absurd (not_good BadScript w (fault_line f) status Done (λ f. cc f) (λ f. cc f) (λ f. cc f) ended e)
 served_done X s left left' w status (inl (bytes, input, inr (inr h))) e = absurd (cc (h.0, e))
 served_done X s left left' w status (inr h) e = absurd (cc (h.0, e))
 
 pub served_bad : (X : List ℕ → Reply → Type 0) (s : Settings) (left left' : Option (List ℕ)) (w : Written) (status : Status) → ServesInput X s left left' w status → status ≡ BadScript → RefusesScript s left left' w.old w.new
-served_bad X s left left' w status (inl (bytes, input, inl (out, fits, ended))) e = absurd (not_good Done w out status BadScript (λ f. cc f) (λ f. cc f) (λ f. cc f) ended e)
+served_bad X s left left' w status (inl (bytes, input, inl (out, fits, inl ended))) e = absurd (not_good Done w out status BadScript (λ f. cc f) (λ f. cc f) (λ f. cc f) ended e)
+served_bad X s left left' w status (inl (bytes, input, inl (out, fits, inr (run, stopped)))) e = absurd (cc (stopped.0, e))
 served_bad X s left left' w status (inl (bytes, input, inr (inl (f, is, ended)))) e = (bytes, f, input, is, ended_good BadScript w (fault_line f) status (λ f. cc f) (λ f. cc f) ended e)
 served_bad X s left left' w status (inl (bytes, input, inr (inr h))) e = absurd (cc (h.0, e))
 served_bad X s left left' w status (inr h) e = absurd (cc (h.0, e))
 
 pub served_cut : (X : List ℕ → Reply → Type 0) (s : Settings) (left left' : Option (List ℕ)) (w : Written) (status : Status) → ServesInput X s left left' w status → status ≡ WriteFault → Rose w.before w.now × BreaksOff X s left left' w.old w.new
-served_cut X s left left' w status (inl (bytes, input, inl (out, fits, ended))) e =
+served_cut X s left left' w status (inl (bytes, input, inl (out, fits, inl ended))) e =
     let cut = ended_cut Done w out status (λ f. cc f) ended e in (cut.0, (bytes, out, input, inl fits, cut.1))
+served_cut X s left left' w status (inl (bytes, input, inl (out, fits, inr (run, stopped)))) e = absurd (cc (stopped.0, e))
 served_cut X s left left' w status (inl (bytes, input, inr (inl (f, is, ended)))) e =
     let cut = ended_cut BadScript w (fault_line f) status (λ f. cc f) ended e in (cut.0, (bytes, fault_line f, input, inr (f, is, refl), cut.1))
 served_cut X s left left' w status (inl (bytes, input, inr (inr h))) e = absurd (cc (h.0, e))
 served_cut X s left left' w status (inr h) e = absurd (cc (h.0, e))
 
-pub served_short : (X : List ℕ → Reply → Type 0) (s : Settings) (left left' : Option (List ℕ)) (w : Written) (status : Status) → ServesInput X s left left' w status → status ≡ NoMemory → Appends w.old w.new [] ⊎ Begins X s left left' w.old w.new
-served_short X s left left' w status (inl (bytes, input, inl (out, fits, ended))) e =
-    let short = ended_short Done w out status (λ f. cc f) ended e in inr (bytes, out, short.0, input, inl fits, short.1)
-served_short X s left left' w status (inl (bytes, input, inr (inl (f, is, ended)))) e =
-    let short = ended_short BadScript w (fault_line f) status (λ f. cc f) ended e in inr (bytes, fault_line f, short.0, input, inr (f, is, refl), short.1)
+pub served_short : (X : List ℕ → Reply → Type 0) (s : Settings) (left left' : Option (List ℕ)) (w : Written) (status : Status) → ServesInput X s left left' w status → status ≡ NoMemory
+    → w.same ⊎ (IsRun s × Begins X s left left' w.old w.new)
+served_short X s left left' w status (inl (bytes, input, inl (out, fits, inl ended))) e = inl (ended_short Done w out status (λ f. cc f) ended e)
+served_short X s left left' w status (inl (bytes, input, inl (out, fits, inr (run, stopped)))) e =
+    inr (run, (bytes, out, whole_of s left left' bytes fits.0 input fits.2, fits, stopped.1))
+served_short X s left left' w status (inl (bytes, input, inr (inl (f, is, ended)))) e = inl (ended_short BadScript w (fault_line f) status (λ f. cc f) ended e)
 served_short X s left left' w status (inl (bytes, input, inr (inr h))) e = inl h.1
 served_short X s left left' w status (inr h) e = inl h.1
 
@@ -133,43 +155,51 @@ abbrev pub IsServed : Status → Type 0
 IsServed status = (status ≡ Done) ⊎ (status ≡ BadScript) ⊎ (status ≡ NoMemory) ⊎ (status ≡ WriteFault)
 
 pub served_one : (X : List ℕ → Reply → Type 0) (s : Settings) (left left' : Option (List ℕ)) (w : Written) (status : Status) → ServesInput X s left left' w status → IsServed status
-served_one X s left left' w status (inl (bytes, input, inl (out, fits, inl h))) = inl h.0
-served_one X s left left' w status (inl (bytes, input, inl (out, fits, inr (inl h)))) = inr (inr (inr h.0))
-served_one X s left left' w status (inl (bytes, input, inl (out, fits, inr (inr h)))) = inr (inr (inl h.0))
+served_one X s left left' w status (inl (bytes, input, inl (out, fits, inl (inl h)))) = inl h.0
+served_one X s left left' w status (inl (bytes, input, inl (out, fits, inl (inr (inl h))))) = inr (inr (inr h.0))
+served_one X s left left' w status (inl (bytes, input, inl (out, fits, inl (inr (inr h))))) = inr (inr (inl h.0))
+served_one X s left left' w status (inl (bytes, input, inl (out, fits, inr (run, stopped)))) = inr (inr (inl stopped.0))
 served_one X s left left' w status (inl (bytes, input, inr (inl (f, is, inl h)))) = inr (inl h.0)
 served_one X s left left' w status (inl (bytes, input, inr (inl (f, is, inr (inl h))))) = inr (inr (inr h.0))
 served_one X s left left' w status (inl (bytes, input, inr (inl (f, is, inr (inr h))))) = inr (inr (inl h.0))
 served_one X s left left' w status (inl (bytes, input, inr (inr h))) = inr (inr (inl h.0))
 served_one X s left left' w status (inr h) = inr (inr (inl h.0))
 
+-- the script of a demonstration, which has no fault, isn't refused
+pub no_refusal : NeverBoth → (X : List ℕ → Reply → Type 0) (n : ℕ) (w : Written) (status : Status) → (script : Script) × IsScript (demo_script n) script → ServesBytes X (Demo n) (demo_script n) w status → status ≢ BadScript
+no_refusal never X n w status script (inl (out, fits, inl ended)) e = not_good Done w out status BadScript (λ f. cc f) (λ f. cc f) (λ f. cc f) ended e
+no_refusal never X n w status script (inl (out, fits, inr (run, stopped))) e = cc (stopped.0, e)
+no_refusal never X n w status script (inr (inl (f, is, ended))) e = never (demo_script n) script.0 f script.1 is
+no_refusal never X n w status script (inr (inr h)) e = cc (h.0, e)
+
 -- ---- bytes that a source told
 all_read : (bytes more front : List ℕ) → bytes ≡ front ++ more → more ≡ [] → bytes ≡ front
 all_read bytes more front e none = e ∙ ap (λ (l : List ℕ). front ++ l) none ∙ append-nil front
 
-refused_no_script : (s : Settings) (left left' held held' : Option (List ℕ)) → IsRun s → RefusesScript s left left' held held' → IfSome left (λ bytes. IsScriptOf bytes → ⊥)
-refused_no_script s None left' held held' run h = tt
-refused_no_script s (Some all) None held held' run h = absurd (input_of_run s (Some all) None h.0 run h.2).0
-refused_no_script s (Some all) (Some more) held held' run (front, f, input, is, told) =
+refused_no_script : NeverBoth → (s : Settings) (left left' held held' : Option (List ℕ)) → IsRun s → RefusesScript s left left' held held' → IfSome left (λ bytes. IsScriptOf bytes → ⊥)
+refused_no_script never s None left' held held' run h = tt
+refused_no_script never s (Some all) None held held' run h = absurd (input_of_run s (Some all) None h.0 run h.2).0
+refused_no_script never s (Some all) (Some more) held held' run (front, f, input, is, told) =
     λ script. (let read = input_of_run s (Some all) (Some more) front run input in
     ⊎_elim
-    (λ end. not_both front script.0 f (subst (λ (l : List ℕ). IsScript l script.0) (all_read all more front read.0 end) script.1) is)
+    (λ end. never front script.0 f (subst (λ (l : List ℕ). IsScript l script.0) (all_read all more front read.0 end) script.1) is)
     (λ long. let small = script.1.small in absurd (omega (arith, ap length read.0, length-append front more)))
     read.1)
 
-done_script : (X : List ℕ → Reply → Type 0) (s : Settings) (left left' held held' : Option (List ℕ)) → IsRun s → Serves X s left left' held held' → IfSome left (λ bytes. IsNoScript bytes → ⊥)
-done_script X (Demo n) left left' held held' run h = absurd run
-done_script X (Run a b c d e) None left' held held' run h = tt
-done_script X (Run a b c d e) (Some all) None held held' run h = absurd h.2.0
-done_script X (Run a b c d e) (Some all) (Some more) held held' run (front, out, input, fits, told) =
-    λ none. not_both front fits.0 none.0 fits.2 (subst (λ (l : List ℕ). IsScriptFault l none.0) (all_read all more front input.0 input.1) none.1)
+done_script : NeverBoth → (X : List ℕ → Reply → Type 0) (s : Settings) (left left' held held' : Option (List ℕ)) → IsRun s → Serves X s left left' held held' → IfSome left (λ bytes. IsNoScript bytes → ⊥)
+done_script never X (Demo n) left left' held held' run h = absurd run
+done_script never X (Run a b c d e) None left' held held' run h = tt
+done_script never X (Run a b c d e) (Some all) None held held' run h = absurd h.2.0
+done_script never X (Run a b c d e) (Some all) (Some more) held held' run (front, out, input, fits, told) =
+    λ none. never front fits.0 none.0 fits.2 (subst (λ (l : List ℕ). IsScriptFault l none.0) (all_read all more front input.0 input.1) none.1)
 
-pub no_bad_script : (X : List ℕ → Reply → Type 0) (s : Settings) (left left' : Option (List ℕ)) (w : Written) (status : Status) → IsRun s → ServesInput X s left left' w status → IfSome left (λ bytes. IsScriptOf bytes → status ≢ BadScript)
-no_bad_script X s None left' w status run h = tt
-no_bad_script X s (Some all) left' w status run h = λ script e. refused_no_script s (Some all) left' w.old w.new run (served_bad X s (Some all) left' w status h e) script
+pub no_bad_script : NeverBoth → (X : List ℕ → Reply → Type 0) (s : Settings) (left left' : Option (List ℕ)) (w : Written) (status : Status) → IsRun s → ServesInput X s left left' w status → IfSome left (λ bytes. IsScriptOf bytes → status ≢ BadScript)
+no_bad_script never X s None left' w status run h = tt
+no_bad_script never X s (Some all) left' w status run h = λ script e. refused_no_script never s (Some all) left' w.old w.new run (served_bad X s (Some all) left' w status h e) script
 
-pub no_done : (X : List ℕ → Reply → Type 0) (s : Settings) (left left' : Option (List ℕ)) (w : Written) (status : Status) → IsRun s → ServesInput X s left left' w status → IfSome left (λ bytes. IsNoScript bytes → status ≢ Done)
-no_done X s None left' w status run h = tt
-no_done X s (Some all) left' w status run h = λ none e. done_script X s (Some all) left' w.old w.new run (served_done X s (Some all) left' w status h e) none
+pub no_done : NeverBoth → (X : List ℕ → Reply → Type 0) (s : Settings) (left left' : Option (List ℕ)) (w : Written) (status : Status) → IsRun s → ServesInput X s left left' w status → IfSome left (λ bytes. IsNoScript bytes → status ≢ Done)
+no_done never X s None left' w status run h = tt
+no_done never X s (Some all) left' w status run h = λ none e. done_script never X s (Some all) left' w.old w.new run (served_done X s (Some all) left' w status h e) none
 
 -- the demonstration reads nothing
 pub demo_served : (X : List ℕ → Reply → Type 0) (n : ℕ) (left : Option (List ℕ)) (w : Written) (status : Status) → ServesBytes X (Demo n) (demo_script n) w status → ServesInput X (Demo n) left left w status
@@ -190,7 +220,7 @@ chosen_cut X s left left' w status (inl r) e = absurd (cc (r, e))
 chosen_cut X s left left' w status (inr h) e = served_cut X s left left' w status h e
 
 pub chosen_short : (X : List ℕ → Reply → Type 0) (s : Settings) (left left' : Option (List ℕ)) (w : Written) (status : Status) → (status ≡ ReadFault) ⊎ ServesInput X s left left' w status
-    → status ≡ NoMemory → Appends w.old w.new [] ⊎ Begins X s left left' w.old w.new
+    → status ≡ NoMemory → w.same ⊎ (IsRun s × Begins X s left left' w.old w.new)
 chosen_short X s left left' w status (inl r) e = absurd (cc (r, e))
 chosen_short X s left left' w status (inr h) e = served_short X s left left' w status h e
 
@@ -198,16 +228,16 @@ some_anyway : (left : Option (List ℕ)) (P : List ℕ → Type 0) → ((bytes :
 some_anyway None P h = tt
 some_anyway (Some bytes) P h = h bytes
 
-pub chosen_script : (X : List ℕ → Reply → Type 0) (s : Settings) (left left' : Option (List ℕ)) (w : Written) (status : Status) → (status ≡ ReadFault) ⊎ ServesInput X s left left' w status
+pub chosen_script : NeverBoth → (X : List ℕ → Reply → Type 0) (s : Settings) (left left' : Option (List ℕ)) (w : Written) (status : Status) → (status ≡ ReadFault) ⊎ ServesInput X s left left' w status
     → IsRun s → IfSome left (λ bytes. IsScriptOf bytes → status ≢ BadScript)
-chosen_script X s left left' w status (inl r) run = some_anyway left (λ bytes. IsScriptOf bytes → status ≢ BadScript) (λ bytes script e. cc (r, e))
-chosen_script X s left left' w status (inr h) run = no_bad_script X s left left' w status run h
+chosen_script never X s left left' w status (inl r) run = some_anyway left (λ bytes. IsScriptOf bytes → status ≢ BadScript) (λ bytes script e. cc (r, e))
+chosen_script never X s left left' w status (inr h) run = no_bad_script never X s left left' w status run h
 
-pub chosen_no_script : (X : List ℕ → Reply → Type 0) (s : Settings) (left left' : Option (List ℕ)) (w : Written) (status : Status) → (status ≡ ReadFault) ⊎ ServesInput X s left left' w status
+pub chosen_no_script : NeverBoth → (X : List ℕ → Reply → Type 0) (s : Settings) (left left' : Option (List ℕ)) (w : Written) (status : Status) → (status ≡ ReadFault) ⊎ ServesInput X s left left' w status
     → IsRun s → IfSome left (λ bytes. IsNoScript bytes → status ≢ Done)
-chosen_no_script X s left left' w status (inl r) run = some_anyway left (λ bytes. IsNoScript bytes → status ≢ Done) (λ bytes none e. cc (r, e))
-chosen_no_script X s left left' w status (inr h) run = no_done X s left left' w status run h
+chosen_no_script never X s left left' w status (inl r) run = some_anyway left (λ bytes. IsNoScript bytes → status ≢ Done) (λ bytes none e. cc (r, e))
+chosen_no_script never X s left left' w status (inr h) run = no_done never X s left left' w status run h
 
-pub demo_chosen : (X : List ℕ → Reply → Type 0) (s : Settings) (n : ℕ) (left : Option (List ℕ)) (w : Written) (status : Status) → s ≡ Demo n → ServesBytes X (Demo n) (demo_script n) w status
-    → (status ≡ ReadFault) ⊎ ServesInput X s left left w status
-demo_chosen X s n left w status e h = inr (subst (λ (t : Settings). ServesInput X t left left w status) (sym e) (demo_served X n left w status h))
+pub demo_chosen : (X : Settings → List ℕ → Reply → Type 0) (s : Settings) (n : ℕ) (left : Option (List ℕ)) (w : Written) (status : Status) → s ≡ Demo n → ServesBytes (X (Demo n)) (Demo n) (demo_script n) w status
+    → (status ≡ ReadFault) ⊎ ServesInput (X s) s left left w status
+demo_chosen X s n left w status e h = inr (subst (λ (t : Settings). ServesInput (X t) t left left w status) (sym e) (demo_served (X (Demo n)) n left w status h))

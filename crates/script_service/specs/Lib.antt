@@ -1,5 +1,6 @@
 -- What the program writes, and when it ends how.
 pub mod Statuses
+pub mod Units
 pub mod Endings
 pub mod Demos
 pub mod Serving

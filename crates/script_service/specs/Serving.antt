@@ -15,7 +15,6 @@ use Rattle.script_reader.specs.FaultLines.{fault_line}
 use Rattle.reply_text.specs.declared.reply.Reply.{Reply}
 use Rattle.reply_text.specs.Texts.{output}
 use Rattle.reply_text.specs.Answers.{AllFit}
-use Rattle.script_output.specs.Sending.{Sends}
 use Rattle.script_service.specs.Endings.{ending}
 use Rattle.script_service.specs.Demos.{demo_text}
 
@@ -44,6 +43,12 @@ abbrev pub printed : Settings → List ClientScript → List (List Reply) → Li
 printed (Run workers memo share half tally) clients replies = output clients replies ++ ending tally share clients
 printed (Demo n) clients replies = demo_text clients replies
 
+-- something of the text was appended, and not the whole
+abbrev pub AppendsPart : Option (List ℕ) → Option (List ℕ) → List ℕ → Type 0
+AppendsPart old new text =
+    (front : List ℕ) × (rest : List ℕ) × (front ++ rest ≡ text)
+    × (0 < length front) × (0 < length rest) × Appends old new front
+
 -- `Exports` relates a source to the replies to its export
 module _ (Exports : List ℕ → Reply → Type 0) where
   -- what is written for the bytes of a script: its replies, which its clients' own commands define
@@ -69,11 +74,11 @@ module _ (Exports : List ℕ → Reply → Type 0) where
       (bytes : List ℕ) × (out : List ℕ)
       × IsInput settings left left' bytes × IsAnswer settings bytes out × AppendsProperPrefix held held' out
 
-  -- a prefix of what is to be written was appended
+  -- the whole input was read, and something of its output was appended, and not the whole
   abbrev pub Begins : Settings → Option (List ℕ) → Option (List ℕ) → Option (List ℕ) → Option (List ℕ) → Type 0
   Begins settings left left' held held' =
-      (bytes : List ℕ) × (out : List ℕ) × (rest : List ℕ)
-      × IsInput settings left left' bytes × IsAnswer settings bytes out × Sends held held' rest out
+      (bytes : List ℕ) × (out : List ℕ)
+      × IsWholeInput settings left left' bytes × IsOutput settings bytes out × AppendsPart held held' out
 
 -- the input is no script, and its first fault was told
 abbrev pub RefusesScript : Settings → Option (List ℕ) → Option (List ℕ) → Option (List ℕ) → Option (List ℕ) → Type 0

@@ -13,20 +13,24 @@ ghost use Rattle.script_reader.specs.Scripts.{IsScript};
 ghost use Rattle.script_reader.specs.FaultLines.{fault_line};
 ghost use Rattle.reply_text.specs.Texts.{output};
 ghost use Rattle.reply_text.specs.Answers.{AllFit};
+ghost use Rattle.script_service.specs.Units.{unit_of as unit_chosen};
 ghost use Rattle.script_service.specs.Endings.{ending};
 ghost use Rattle.script_service.specs.Demos.{demo_text};
 ghost use Rattle.script_service.specs.Serving.{usage_line, IsRun, printed, Serves, BreaksOff, Begins, RefusesScript, IsScriptOf, IsNoScript};
-ghost use Rattle.script_service.specs.Outcomes.{Written, Ends, ServesBytes, ServesInput};
+ghost use Rattle.script_service.specs.Outcomes.{Written, Ends, StopsOnTheWay, Prints, ServesBytes, ServesInput};
 
 use crate::demo::demo_lines;
 use crate::ending::ending_lines;
 use crate::status::Status;
-use big_input::make_script;
+use big_input::{demo_scripts_have_no_fault, make_script};
 use outside_io::{ReadEnd, Sink, Source, read_to_end, write_all};
+use plane_predicate::Unit;
 use reply_text::Replies;
 use run_words::{Settings, read_words};
 use script_output::{OutputEnd, write_output};
-use script_reader::{ClientScript, Script, ScriptFault, read_script, write_fault};
+use script_reader::{
+    ClientScript, Script, ScriptFault, bytes_are_one_script, read_script, write_fault,
+};
 use script_run::{Exporter, run_script};
 use std::alloc::Global;
 
@@ -39,7 +43,7 @@ const SCRIPT_BYTES: usize = 1_048_576;
 
 // Writes all of a text, and ends with the status unless the sink fails.
 fn finish<K: Sink>(sink: &mut K, text: &[u8], status: Status) -> Status
-    ensures ends { Ends status (record { old = K.held sink.old; new = K.held sink.new; before = K.faults sink.old; now = K.faults sink.new }) text.now result }
+    ensures ends { Ends status (record { old = K.held sink.old; new = K.held sink.new; before = K.faults sink.old; now = K.faults sink.new; same = sink.new ≡ sink.old }) text.now result }
     ensures quick { (result ≡ status) ⊎ (result ≡ Status.WriteFault) }
     ensures later { K.faults sink.old ≤ K.faults sink.new }
 {
@@ -51,7 +55,7 @@ fn finish<K: Sink>(sink: &mut K, text: &[u8], status: Status) -> Status
 
 // Writes the line of a script's fault.
 fn refuse<K: Sink>(alloc: Global, fault: ScriptFault, sink: &mut K) -> Status
-    ensures ends { Ends Status.BadScript (record { old = K.held sink.old; new = K.held sink.new; before = K.faults sink.old; now = K.faults sink.new }) (fault_line fault) result }
+    ensures ends { Ends Status.BadScript (record { old = K.held sink.old; new = K.held sink.new; before = K.faults sink.old; now = K.faults sink.new; same = sink.new ≡ sink.old }) (fault_line fault) result }
     ensures later { K.faults sink.old ≤ K.faults sink.new }
 {
     match write_fault(alloc, fault) {
@@ -70,7 +74,8 @@ fn write_run<K: Sink>(
     sink: &mut K,
 ) -> Status
     requires { All (λ rs. length rs ≤ 8192) replies.now }
-    ensures ends { Ends Status.Done (record { old = K.held sink.old; new = K.held sink.new; before = K.faults sink.old; now = K.faults sink.new }) (output clients.now replies.now ++ ending tally share clients.now) result }
+    ensures ends { Ends Status.Done (record { old = K.held sink.old; new = K.held sink.new; before = K.faults sink.old; now = K.faults sink.new; same = sink.new ≡ sink.old }) (output clients.now replies.now ++ ending tally share clients.now) result
+        ⊎ StopsOnTheWay (record { old = K.held sink.old; new = K.held sink.new; before = K.faults sink.old; now = K.faults sink.new; same = sink.new ≡ sink.old }) (output clients.now replies.now ++ ending tally share clients.now) result }
     ensures later { K.faults sink.old ≤ K.faults sink.new }
 {
     let Ok(lines) = ending_lines(alloc, tally, share, clients) else {
@@ -90,7 +95,7 @@ fn write_demo<K: Sink>(
     replies: &[Replies],
     sink: &mut K,
 ) -> Status
-    ensures ends { Ends Status.Done (record { old = K.held sink.old; new = K.held sink.new; before = K.faults sink.old; now = K.faults sink.new }) (demo_text clients.now replies.now) result }
+    ensures ends { Ends Status.Done (record { old = K.held sink.old; new = K.held sink.new; before = K.faults sink.old; now = K.faults sink.new; same = sink.new ≡ sink.old }) (demo_text clients.now replies.now) result }
     ensures later { K.faults sink.old ≤ K.faults sink.new }
 {
     match demo_lines(alloc, clients, replies) {
@@ -108,7 +113,7 @@ fn write_replies<K: Sink>(
     sink: &mut K,
 ) -> Status
     requires { All (λ rs. length rs ≤ 8192) replies.now }
-    ensures ends { Ends Status.Done (record { old = K.held sink.old; new = K.held sink.new; before = K.faults sink.old; now = K.faults sink.new }) (printed settings clients.now replies.now) result }
+    ensures ends { Prints settings (record { old = K.held sink.old; new = K.held sink.new; before = K.faults sink.old; now = K.faults sink.new; same = sink.new ≡ sink.old }) (printed settings clients.now replies.now) result }
     ensures later { K.faults sink.old ≤ K.faults sink.new }
 {
     match settings {
@@ -116,6 +121,16 @@ fn write_replies<K: Sink>(
             write_run(alloc, tally, share, clients, replies, sink)
         }
         Settings::Demo(_) => write_demo(alloc, clients, replies, sink),
+    }
+}
+
+// The unit of the run's lengths.
+fn unit_of(settings: Settings) -> Unit
+    ensures { result ≡ unit_chosen settings }
+{
+    match settings {
+        Settings::Run { half: true, .. } => Unit::Half,
+        Settings::Run { .. } | Settings::Demo(_) => Unit::Whole,
     }
 }
 
@@ -127,7 +142,7 @@ fn serve_bytes<E: Exporter, K: Sink>(
     bytes: &[u8],
     sink: &mut K,
 ) -> Status
-    ensures served { ServesBytes E.exports settings bytes.now (record { old = K.held sink.old; new = K.held sink.new; before = K.faults sink.old; now = K.faults sink.new }) result }
+    ensures served { ServesBytes (E.exports (unit_chosen settings)) settings bytes.now (record { old = K.held sink.old; new = K.held sink.new; before = K.faults sink.old; now = K.faults sink.new; same = sink.new ≡ sink.old }) result }
     ensures later { K.faults sink.old ≤ K.faults sink.new }
 {
     let script = match read_script(alloc, bytes) {
@@ -135,7 +150,7 @@ fn serve_bytes<E: Exporter, K: Sink>(
         Err(ScriptFault::NoMemory) => return Status::NoMemory,
         Err(fault) => return refuse(alloc, fault, sink),
     };
-    match run_script(alloc, exporter, &script) {
+    match run_script(alloc, exporter, unit_of(settings), &script) {
         Ok(replies) => write_replies(alloc, settings, script.clients.items(), &replies, sink),
         Err(_) => Status::NoMemory,
     }
@@ -151,7 +166,7 @@ fn serve_run<E: Exporter, S: Source, K: Sink>(
 ) -> Status
     requires { IsRun settings }
     ensures read_fault { result ≡ Status.ReadFault → Rose (S.faults source.old) (S.faults source.new) × (sink.new ≡ sink.old) }
-    ensures served { (result ≡ Status.ReadFault) ⊎ ServesInput E.exports settings (S.left source.old) (S.left source.new) (record { old = K.held sink.old; new = K.held sink.new; before = K.faults sink.old; now = K.faults sink.new }) result }
+    ensures served { (result ≡ Status.ReadFault) ⊎ ServesInput (E.exports (unit_chosen settings)) settings (S.left source.old) (S.left source.new) (record { old = K.held sink.old; new = K.held sink.new; before = K.faults sink.old; now = K.faults sink.new; same = sink.new ≡ sink.old }) result }
     ensures counts { (S.faults source.old ≤ S.faults source.new) × (K.faults sink.old ≤ K.faults sink.new) }
 {
     match read_to_end(alloc, source, SCRIPT_BYTES) {
@@ -170,9 +185,12 @@ fn serve_demo<E: Exporter, K: Sink>(
     sink: &mut K,
 ) -> Status
     requires { (1 ≤ parts) × (parts ≤ 200) }
-    ensures served { (ServesBytes E.exports (settings.Demo parts) (demo_script parts) (record { old = K.held sink.old; new = K.held sink.new; before = K.faults sink.old; now = K.faults sink.new }) result) }
+    ensures whole { result ≢ Status.BadScript }
+    ensures served { (ServesBytes (E.exports (unit_chosen (settings.Demo parts))) (settings.Demo parts) (demo_script parts) (record { old = K.held sink.old; new = K.held sink.new; before = K.faults sink.old; now = K.faults sink.new; same = sink.new ≡ sink.old }) result) }
     ensures later { K.faults sink.old ≤ K.faults sink.new }
 {
+    demo_scripts_have_no_fault();
+    bytes_are_one_script();
     match make_script(alloc, parts as u32) {
         Ok(bytes) => serve_bytes(
             alloc,
@@ -194,13 +212,13 @@ fn serve_chosen<E: Exporter, S: Source, K: Sink>(
     sink: &mut K,
 ) -> Status
     requires { AreInRange settings }
-    ensures done { result ≡ Status.Done → Serves E.exports settings (S.left source.old) (S.left source.new) (K.held sink.old) (K.held sink.new) }
+    ensures done { result ≡ Status.Done → Serves (E.exports (unit_chosen settings)) settings (S.left source.old) (S.left source.new) (K.held sink.old) (K.held sink.new) }
     ensures bad_script { result ≡ Status.BadScript → RefusesScript settings (S.left source.old) (S.left source.new) (K.held sink.old) (K.held sink.new) }
     ensures read_fault { result ≡ Status.ReadFault → IsRun settings × Rose (S.faults source.old) (S.faults source.new) × (sink.new ≡ sink.old) }
     ensures write_fault { result ≡ Status.WriteFault → Rose (K.faults sink.old) (K.faults sink.new)
-        × BreaksOff E.exports settings (S.left source.old) (S.left source.new) (K.held sink.old) (K.held sink.new) }
-    ensures no_memory { result ≡ Status.NoMemory → Appends (K.held sink.old) (K.held sink.new) []
-        ⊎ Begins E.exports settings (S.left source.old) (S.left source.new) (K.held sink.old) (K.held sink.new) }
+        × BreaksOff (E.exports (unit_chosen settings)) settings (S.left source.old) (S.left source.new) (K.held sink.old) (K.held sink.new) }
+    ensures no_memory { result ≡ Status.NoMemory → (sink.new ≡ sink.old)
+        ⊎ (IsRun settings × Begins (E.exports (unit_chosen settings)) settings (S.left source.old) (S.left source.new) (K.held sink.old) (K.held sink.new)) }
     ensures counts { (S.faults source.old ≤ S.faults source.new) × (K.faults sink.old ≤ K.faults sink.new) }
     ensures words { result ≢ Status.BadWords }
     ensures complete { (Rose (S.faults source.old) (S.faults source.new) → ⊥) → (Rose (K.faults sink.old) (K.faults sink.new) → ⊥)
@@ -208,7 +226,9 @@ fn serve_chosen<E: Exporter, S: Source, K: Sink>(
     ensures script { IsRun settings → IfSome (S.left source.old) (λ bytes. IsScriptOf bytes → result ≢ Status.BadScript) }
     ensures no_script { IsRun settings → IfSome (S.left source.old) (λ bytes. IsNoScript bytes → result ≢ Status.Done) }
     ensures demo { (IsRun settings → ⊥) → (source.new ≡ source.old) × (result ≢ Status.ReadFault) }
+    ensures demo_script { (IsRun settings → ⊥) → result ≢ Status.BadScript }
 {
+    bytes_are_one_script();
     match settings {
         Settings::Run { .. } => serve_run(alloc, exporter, settings, source, sink),
         Settings::Demo(parts) => serve_demo(alloc, exporter, parts, sink),
@@ -226,7 +246,7 @@ pub fn serve_with<E: Exporter, S: Source, K: Sink>(
 ) -> Status
     // Whatever is read and written, each client's replies are those that its own commands define.
     ensures done { result ≡ Status.Done → (settings : Settings) × Chooses (map string_bytes words.now) settings
-        × Serves E.exports settings (S.left source.old) (S.left source.new) (K.held sink.old) (K.held sink.new) }
+        × Serves (E.exports (unit_chosen settings)) settings (S.left source.old) (S.left source.new) (K.held sink.old) (K.held sink.new) }
 
     // Words that are outside the grammar, and they alone, are answered by the usage line, and then nothing is read.
     ensures bad_words { result ≡ Status.BadWords → AreOutside (map string_bytes words.now)
@@ -243,10 +263,10 @@ pub fn serve_with<E: Exporter, S: Source, K: Sink>(
         × IsRun settings × Rose (S.faults source.old) (S.faults source.new) × (sink.new ≡ sink.old) }
     ensures write_fault { result ≡ Status.WriteFault → Rose (K.faults sink.old) (K.faults sink.new) }
     ensures output_cut { (settings : Settings) → Chooses (map string_bytes words.now) settings → result ≡ Status.WriteFault
-        → BreaksOff E.exports settings (S.left source.old) (S.left source.new) (K.held sink.old) (K.held sink.new) }
-    ensures no_memory { result ≡ Status.NoMemory → Appends (K.held sink.old) (K.held sink.new) []
-        ⊎ ((settings : Settings) × Chooses (map string_bytes words.now) settings
-        × Begins E.exports settings (S.left source.old) (S.left source.new) (K.held sink.old) (K.held sink.new)) }
+        → BreaksOff (E.exports (unit_chosen settings)) settings (S.left source.old) (S.left source.new) (K.held sink.old) (K.held sink.new) }
+    ensures no_memory { result ≡ Status.NoMemory → (sink.new ≡ sink.old)
+        ⊎ ((settings : Settings) × Chooses (map string_bytes words.now) settings × IsRun settings
+        × Begins (E.exports (unit_chosen settings)) settings (S.left source.old) (S.left source.new) (K.held sink.old) (K.held sink.new)) }
     ensures counts { (S.faults source.old ≤ S.faults source.new) × (K.faults sink.old ≤ K.faults sink.new) }
 
     // Where no count of faults rose, a script is served and other bytes are refused, unless memory ran out.
@@ -258,9 +278,11 @@ pub fn serve_with<E: Exporter, S: Source, K: Sink>(
     ensures no_script { (settings : Settings) → Chooses (map string_bytes words.now) settings → IsRun settings
         → IfSome (S.left source.old) (λ bytes. IsNoScript bytes → result ≢ Status.Done) }
 
-    // The demonstration reads nothing.
+    // The demonstration reads nothing, and its script has no fault.
     ensures demo { (settings : Settings) → Chooses (map string_bytes words.now) settings → (IsRun settings → ⊥)
         → (source.new ≡ source.old) × (result ≢ Status.ReadFault) }
+    ensures demo_script { (settings : Settings) → Chooses (map string_bytes words.now) settings → (IsRun settings → ⊥)
+        → result ≢ Status.BadScript }
 {
     match read_words(words) {
         Ok(settings) => serve_chosen(alloc, exporter, settings, source, sink),

@@ -17,3 +17,5 @@ mod scripts;
 mod serving;
 #[cfg(test)]
 mod sessions;
+#[cfg(test)]
+mod words;

@@ -1,6 +1,7 @@
 ghost use Rattle.std.specs.Prelude.{◌<◌};
 
 use outside_io::{MemorySink, MemorySource};
+use plane_predicate::Unit;
 use reply_text::Reply;
 use script_run::Exporter;
 use script_server::{Status, serve};
@@ -295,9 +296,9 @@ struct OneBox;
 impl Exporter for OneBox {
     ghost use Rattle.std.specs.Prelude.{⊤};
 
-    ghost exports = { λ _ _. ⊤ };
+    ghost exports = { λ _ _ _. ⊤ };
 
-    fn export(&mut self, alloc: Global, _source: &[u8]) -> Result<Reply, NoMemory> {
+    fn export(&mut self, alloc: Global, _unit: Unit, _source: &[u8]) -> Result<Reply, NoMemory> {
         Ok(Reply::Solid(Bytes::of(Vec::from_slice(alloc, BOX_TEXT)?)))
     }
 }
@@ -358,6 +359,27 @@ fn each_read_and_each_write_may_fail(rt: HostRuntime) -> Result<(), Fail> {
     let (ended, held) = check(&rt, rt.alloc(), &["run"], script, outside)?;
     assert!(rt; ended == Status::WriteFault);
     assert_eq!(rt; held.as_slice(), b"== a\n1 ok ".as_slice());
+    Ok(())
+}
+
+#[test]
+fn the_outside_fails_at_its_second_call(rt: HostRuntime) -> Result<(), Fail> {
+    let script = b"a export\n";
+    let read = Outside {
+        read: 2,
+        piece: 4,
+        ..CALM
+    };
+    let (ended, held) = check(&rt, rt.alloc(), &["run"], script, read)?;
+    assert!(rt; ended == Status::ReadFault && held.is_empty());
+    let write = Outside {
+        write: 2,
+        piece: 5,
+        ..CALM
+    };
+    let (ended, held) = check(&rt, rt.alloc(), &["run"], script, write)?;
+    assert!(rt; ended == Status::WriteFault);
+    assert_eq!(rt; held.as_slice(), b"== a\n".as_slice());
     Ok(())
 }
 
@@ -452,5 +474,32 @@ fn clients_commands_and_bytes_have_limits(rt: HostRuntime) -> Result<(), Fail> {
         let (ended, _) = check(&rt, alloc, &["run"], &script, CALM)?;
         assert!(rt; ended == status, "at {length}");
     }
+    Ok(())
+}
+
+#[test]
+fn a_script_may_have_all_clients_commands_and_bytes(rt: HostRuntime) -> Result<(), Fail> {
+    let alloc = rt.alloc();
+    let outside = Outside {
+        room: 1 << 22,
+        ..CALM
+    };
+    // 16 clients with 8,192 lines of 8 bytes each, and then a byte more.
+    let mut script = Vec::new(alloc);
+    for name in b'a'..=b'p' {
+        for _ in 0..8192u32 {
+            script.push(name)?;
+            script.extend_from_slice(b" 45678\n")?;
+        }
+    }
+    assert!(rt; script.len() == 1 << 20);
+    let (ended, held) = check(&rt, alloc, &["run"], &script, outside)?;
+    assert!(rt; ended == Status::Done);
+    assert!(rt; held.starts_with(b"== a\n1 refused BadCommand\n".as_slice()));
+    assert!(rt; held.ends_with(b"\n8192 refused BadCommand\n".as_slice()));
+    script.push(b'\n')?;
+    let (ended, held) = check(&rt, alloc, &["run"], &script, outside)?;
+    assert!(rt; ended == Status::BadScript);
+    assert_eq!(rt; held.as_slice(), b"script TooLarge\n".as_slice());
     Ok(())
 }

@@ -3,7 +3,7 @@ use Rattle.std.specs.Prelude.{IsTrue}
 use Rattle.scad_ast.specs.ExprView.{term_of}
 use Rattle.scad_scope.specs.Names.{env_of}
 use Rattle.scad_scope.specs.Blocks.{NumberedText}
-use Rattle.scad_scope.specs.Numbered.{functions_below}
+use Rattle.scad_scope.specs.Numbered.{functions_below, modules_below}
 use Rattle.scad_scope.specs.Table.{rows_of, chain_of}
 use Rattle.scad_func.specs.Meaning.{evaluated}
 use Rattle.scad_func.specs.Definitions.{env_in}
@@ -12,7 +12,11 @@ use Rattle.scad_func.proofs.value.value_of.Goals as goal
 
 pub value_in-requires-clause-numbered : goal.value_in-requires-clause-numbered
 value_in-requires-clause-numbered c = subst (λ (text : NumberedText). IsTrue (functions_below (length text.functions) (rows_of c.args.scopes.now)))
-    (sym c.in_ok-source.ensures) c.requires.numbered
+    (sym c.in_ok-source.ensures.text) c.requires.numbered
+
+pub value_in-requires-clause-modules : goal.value_in-requires-clause-modules
+value_in-requires-clause-modules c = subst (λ (text : NumberedText). IsTrue (modules_below (length text.modules) (rows_of c.args.scopes.now)))
+    (sym c.in_ok-source.ensures.text) c.requires.modules
 
 pub returns-clause-value : goal.returns-clause-value
 returns-clause-value c =
@@ -20,4 +24,4 @@ returns-clause-value c =
     let e = env_of (rows_of c.args.scopes.now) c.args.scope in
     subst (λ text. Tells c.value_in.result c.value_in.new.meter.turns
     (evaluated (512 - m.depth) true (64 - m.calls) (env_in text e) (chain_of c.args.scopes.now) (term_of c.args.expr.now) m.turns))
-    c.in_ok-source.ensures c.value_in.ensures.value
+    c.in_ok-source.ensures.text c.value_in.ensures.value

@@ -12,7 +12,7 @@ returns-in_err-write_client-clause-err g c =
     let name = c.items.result.now in
     let rs = c.items-in-loop-client.result.now in
     rw (p.1, p.2)
-    (cut_piece _ _ _ c.loop-client.buffer.items (client_text name rs) (output (drop i clients) c.loop-client.left.now) (output (drop (i + 1) clients) c.in-Some.more.now) _ _
+    (cut_piece g.K.Sink.held _ _ _ c.loop-client.buffer.items (client_text name rs) (output (drop i clients) c.loop-client.left.now) (output (drop (i + 1) clients) c.in-Some.more.now) _ _
     (next_client clients c.loop-client.left.now c.in-Some.more.now i c.client-item.result c.in-Some.first.now rs name c.loop-client-test.true c.client-item.is c.in-Some.ensures.cases.0 c.items.ensures c.items-in-loop-client.ensures)
     c.loop-client.invariant.sent c.in_err-write_client.ensures.err)
 
@@ -24,7 +24,7 @@ loop-client-preserved g c =
     let rs = c.items-in-loop-client.result.now in
     record {
       few = further_few c.loop-client.left.now c.in-Some.more.now c.in-Some.first.now c.in-Some.ensures.cases.0 c.loop-client.invariant.few;
-      sent = sent_piece _ _ _ c.loop-client.buffer.items _ (client_text name rs) (output (drop i clients) c.loop-client.left.now) (output (drop (i + 1) clients) c.in-Some.more.now) _
+      sent = sent_piece g.K.Sink.held _ _ _ c.loop-client.buffer.items _ (client_text name rs) (output (drop i clients) c.loop-client.left.now) (output (drop (i + 1) clients) c.in-Some.more.now) _
           (next_client clients c.loop-client.left.now c.in-Some.more.now i c.client-item.result c.in-Some.first.now rs name c.loop-client-test.true c.client-item.is c.in-Some.ensures.cases.0 c.items.ensures c.items-in-loop-client.ensures)
           c.loop-client.invariant.sent c.in_ok-write_client.ensures.ok;
       quiet = search rules;

@@ -9,6 +9,6 @@ use Rattle.script_output.proofs.output.write_clients.Given as goal
 abbrev pub invariant-loop-client : goal.invariant-loop-client
 invariant-loop-client g l = record {
   few : All (λ (rs : List Reply). length rs ≤ 8192) l.left;
-  sent : Sends (g.K.Sink.held l.fn.sink) (g.K.Sink.held l.sink) (l.buffer.items ++ output (drop l.client-index l.clients) l.left) (l.fn.buffer.items ++ output l.clients l.replies);
+  sent : Sends g.K.Sink.held l.fn.sink l.sink (l.buffer.items ++ output (drop l.client-index l.clients) l.left) (l.fn.buffer.items ++ output l.clients l.replies);
   quiet : g.K.Sink.faults l.sink ≡ g.K.Sink.faults l.fn.sink;
 }

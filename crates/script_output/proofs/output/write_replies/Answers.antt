@@ -11,7 +11,7 @@ returns-in_err-write_reply-clause-err g c =
     let i = c.loop-reply.reply-index in
     let piece = numeral (c.loop-reply.number + 1) ++ reply_body c.reply-item.result in
     rw (p.1, p.2)
-    (cut_piece _ _ _ c.loop-reply.buffer.items piece (replies_text (suc i) (drop i c.args.replies.now)) (replies_text (suc (i + 1)) (drop (i + 1) c.args.replies.now)) _ _
+    (cut_piece g.K.Sink.held _ _ _ c.loop-reply.buffer.items piece (replies_text (suc i) (drop i c.args.replies.now)) (replies_text (suc (i + 1)) (drop (i + 1) c.args.replies.now)) _ _
     (next_reply c.args.replies.now i c.loop-reply.number c.reply-item.result c.loop-reply-test.true c.reply-item.is c.loop-reply.invariant.number)
     c.loop-reply.invariant.sent c.in_err-write_reply.ensures.err)
 
@@ -21,7 +21,7 @@ loop-reply-preserved g c =
     let piece = numeral (c.loop-reply.number + 1) ++ reply_body c.reply-item.result in
     record {
       number = omega (arith, c.loop-reply.invariant.number);
-      sent = sent_piece _ _ _ c.loop-reply.buffer.items _ piece (replies_text (suc i) (drop i c.args.replies.now)) (replies_text (suc (i + 1)) (drop (i + 1) c.args.replies.now)) _
+      sent = sent_piece g.K.Sink.held _ _ _ c.loop-reply.buffer.items _ piece (replies_text (suc i) (drop i c.args.replies.now)) (replies_text (suc (i + 1)) (drop (i + 1) c.args.replies.now)) _
           (next_reply c.args.replies.now i c.loop-reply.number c.reply-item.result c.loop-reply-test.true c.reply-item.is c.loop-reply.invariant.number)
           c.loop-reply.invariant.sent c.in_ok-write_reply.ensures.ok;
       quiet = search rules;

@@ -7,6 +7,6 @@ use Rattle.script_output.proofs.output.write_replies.Given as goal
 abbrev pub invariant-loop-reply : goal.invariant-loop-reply
 invariant-loop-reply g l = record {
   number : l.number ≡ l.reply-index;
-  sent : Sends (g.K.Sink.held l.fn.sink) (g.K.Sink.held l.sink) (l.buffer.items ++ replies_text (suc l.reply-index) (drop l.reply-index l.replies)) (l.fn.buffer.items ++ replies_text 1 l.replies);
+  sent : Sends g.K.Sink.held l.fn.sink l.sink (l.buffer.items ++ replies_text (suc l.reply-index) (drop l.reply-index l.replies)) (l.fn.buffer.items ++ replies_text 1 l.replies);
   quiet : g.K.Sink.faults l.sink ≡ g.K.Sink.faults l.fn.sink;
 }

@@ -9,5 +9,5 @@ use Rattle.script_run.proofs.client.serve_client.Goals as goal
 pub returns-clause-fits : goal.returns-clause-fits
 returns-clause-fits g c =
     let ended = drop_all c.loop-command.command-index c.args.commands.now c.loop-command-test.false in
-    subst (λ (rs : List Reply). Fits g.E.Exporter.exports start c.args.commands.now rs) (append-nil c.loop-command.replies.items)
-    (c.loop-command.invariant.fits [] (subst (λ (cs : List Command). Fits g.E.Exporter.exports c.loop-command.session cs []) (sym ended) tt))
+    subst (λ (rs : List Reply). Fits (g.E.Exporter.exports c.args.unit) start c.args.commands.now rs) (append-nil c.loop-command.replies.items)
+    (c.loop-command.invariant.fits [] (subst (λ (cs : List Command). Fits (g.E.Exporter.exports c.args.unit) c.loop-command.session cs []) (sym ended) tt))

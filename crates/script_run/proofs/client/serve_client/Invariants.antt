@@ -10,5 +10,5 @@ abbrev pub invariant-loop-command : goal.invariant-loop-command
 invariant-loop-command g l = record {
   room : vec_len l.replies + length (drop l.command-index l.commands) ≤ vec_capacity l.replies;
   count : vec_len l.replies ≡ l.command-index;
-  fits : (rest : List Reply) → Fits g.E.Exporter.exports l.session (drop l.command-index l.commands) rest → Fits g.E.Exporter.exports start l.commands (l.replies.items ++ rest);
+  fits : (rest : List Reply) → Fits (g.E.Exporter.exports l.unit) l.session (drop l.command-index l.commands) rest → Fits (g.E.Exporter.exports l.unit) start l.commands (l.replies.items ++ rest);
 }

@@ -9,6 +9,6 @@ pub returns-clause-fits : goal.returns-clause-fits
 returns-clause-fits g c =
     let clients = c.items-clients.result.now in
     let ended = drop_all c.loop-client.client-index clients c.loop-client-test.false in
-    let all = subst (λ (rs : List (List Reply)). AllFit g.E.Exporter.exports clients rs) (append-nil c.loop-client.all.items)
-    (c.loop-client.invariant.fits [] (subst (λ (cs : List ClientScript). AllFit g.E.Exporter.exports cs []) (sym ended) tt)) in
-    subst (λ (cs : List ClientScript). AllFit g.E.Exporter.exports cs c.loop-client.all.items) c.items-clients.ensures all
+    let all = subst (λ (rs : List (List Reply)). AllFit (g.E.Exporter.exports c.args.unit) clients rs) (append-nil c.loop-client.all.items)
+    (c.loop-client.invariant.fits [] (subst (λ (cs : List ClientScript). AllFit (g.E.Exporter.exports c.args.unit) cs []) (sym ended) tt)) in
+    subst (λ (cs : List ClientScript). AllFit (g.E.Exporter.exports c.args.unit) cs c.loop-client.all.items) c.items-clients.ensures all

@@ -11,5 +11,5 @@ invariant-loop-client g l = record {
   rooms : AreRooms (drop l.client-index l.clients) l.rooms.items;
   room : vec_len l.all + length (drop l.client-index l.clients) ≤ vec_capacity l.all;
   few : All (λ (rs : List Reply). length rs ≤ 8192) l.all.items;
-  fits : (more : List (List Reply)) → AllFit g.E.Exporter.exports (drop l.client-index l.clients) more → AllFit g.E.Exporter.exports l.clients (l.all.items ++ more);
+  fits : (more : List (List Reply)) → AllFit (g.E.Exporter.exports l.unit) (drop l.client-index l.clients) more → AllFit (g.E.Exporter.exports l.unit) l.clients (l.all.items ++ more);
 }

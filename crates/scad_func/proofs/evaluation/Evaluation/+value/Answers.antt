@@ -61,14 +61,15 @@ deeper-returns-clause-value t c =
     tells_along c.operand-value.result _ _ _ (evaluated_deeper _ _ _ _ _ _ (omega arith))
     c.operand-value.ensures.value
 
-pub operand-returns-in_ok-child_count-in-ChildCount-clause-value : goal.operand-returns-in_ok-child_count-in-ChildCount-clause-value
-operand-returns-in_ok-child_count-in-ChildCount-clause-value t c =
+pub operand-returns-in-ChildCount-clause-value : goal.operand-returns-in-ChildCount-clause-value
+operand-returns-in-ChildCount-clause-value t c =
     let e = c.args.self.now in
-    ap (λ x. operand (setting e c.args.scope) x e.turns)
+    tells_along c.child_count.result e.turns _ _
+    (ap (λ x. operand (setting e c.args.scope) x e.turns)
     (ap term_of c.in-ChildCount.is ∙ count_form c.in-ChildCount.place)
     ∙ ap (λ o. Gives e.turns (or_zero o))
-    (variable_same (text_of e.source.now) (env_of (rows_of e.scopes.now) c.args.scope) (codes "$children"))
-    ∙ ap (Gives e.turns) (sym c.in_ok-child_count-in-ChildCount.ensures.value)
+    (variable_same (text_of e.source.now) (env_of (rows_of e.scopes.now) c.args.scope) (codes "$children")))
+    (c.child_count.ensures.value e.turns)
 
 pub operand-returns-in-Name-clause-value : goal.operand-returns-in-Name-clause-value
 operand-returns-in-Name-clause-value t c =

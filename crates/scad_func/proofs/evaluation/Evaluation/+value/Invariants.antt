@@ -35,6 +35,12 @@ decreases-operand l = work_left l.self.now.source.now l.self.now.calls + 4 * siz
 abbrev pub decreases-each_value : goal.decreases-each_value
 decreases-each_value l = work_left l.self.now.source.now l.self.now.calls + (4 * size-Exprs l.exprs.now + 2)
 
+abbrev pub decreases-list : goal.decreases-list
+decreases-list l = work_left l.self.now.source.now l.self.now.calls + (4 * size-Exprs l.items.now + 3)
+
+abbrev pub decreases-unary : goal.decreases-unary
+decreases-unary l = work_left l.self.now.source.now l.self.now.calls + (4 * size-Expr l.of.now + 2)
+
 abbrev pub decreases-range : goal.decreases-range
 decreases-range l = work_left l.self.now.source.now l.self.now.calls +
     (4 * max (size-Expr l.from.now) (size-Expr l.upto.now) + 3)

@@ -1,0 +1,539 @@
+-- What is written in a whole program is written in an outline too, up to the first token that is too deep; where no
+-- token is, it is written in a program that is no deeper.
+use Rattle.std.proofs.Common.{◌≡◌, ℕ, zero, suc, List, [], ◌∷◌, ◌++◌, length, Bool, true, false, Option, Some, None, inl, inr, refl, sym, ap, ◌∙◌, subst, ◌&&◌}
+use Rattle.std.proofs.lemmas.List.{length-map}
+use Rattle.scad_lexer.specs.declared.token.Token.{Token}
+use Rattle.scad_lexer.specs.declared.token.TokenKind.TheVariants.{Symbol}
+use Rattle.scad_lexer.specs.declared.token.Symbol.TheVariants.{Caret}
+use Rattle.scad_ast.specs.Terms.{Term, ArgTerm, PositionalTerm, ParamTerm, BinderTerm, MarkTerm, StatementTerm, InstanceStatement, InstanceTerm, CoreTerm, BodyTerm, InstanceBody, EmptyBody, UndefTerm}
+use Rattle.scad_grammar.specs.Classes.{numeral, text, true_word, false_word, undef_word, child_count, special, argument_names, open_parenthesis_sign, close_parenthesis_sign, open_bracket_sign, close_bracket_sign, open_brace_sign, close_brace_sign, comma_sign, semicolon_sign, assign_sign, colon_sign, question_sign, dot_sign, minus_sign, plus_sign, not_sign, times_sign, remainder_sign, hash_sign, caret_sign, name, end, if_word, else_word, for_word, intersection_for_word, module_word, function_word, class_of, is, among}
+use Rattle.scad_grammar.specs.Languages.{Language, One, Mapped, Both, BothIf, EitherOf, Nothing, Many, Maybe, Never, Behind, Before, Separated, first_of, second_of, pair_of, cons}
+use Rattle.scad_grammar.specs.Grammar.{InParentheses, Arg, Args, Param, Params, Binder, Binders, Bracket, Primary, Suffix, Unary, Chain, Choice, whole, outline, ArgsIn, ParamsIn, BindersIn, StatementsIn, InstanceIn, Expr, Operand, Core, Instance, BodyOf, StatementOf, Statement, Body, Program, Outline, levels, chain_of, link, items, if_of, IsNearest, ends_open, instance_open, core_open, instance_of, loop_of, call_of, block_of}
+use Rattle.scad_grammar.specs.Depths.{Depths, deeper, one_depth, mapped_depths, both_depths, both_if_depths, of_either, either_depths, nothing_depths, of_many, many_depths, of_maybe, maybe_depths, never_depths, behind_depths, before_depths, separated_depths, parentheses_depths, arg_depths, args_depths, param_depths, params_depths, binders_depths, bracket_depths, primary_depths, suffix_depths, unary_depths, chain_depths, choice_depths, args_in_depths, params_in_depths, binders_in_depths, expr_depths, operand_depths, core_depths, instance_depths, body_of_depths, statement_of_depths, statements_in_depths, instance_in_depths, statement_depths, body_depths, program_depths, AllBelow}
+use Rattle.scad_grammar.specs.Reading.{starts}
+use Rattle.scad_grammar.specs.StatementReads.{firsts_of_statement, firsts_of_instance}
+use Rattle.scad_grammar.specs.Reads.{firsts_of_expression}
+use Rattle.scad_grammar.proofs.Readers.{Opens, both_opens, mapped_opens, one_opens}
+use Rattle.scad_grammar.proofs.Tests.{apart, classes_apart}
+use Rattle.scad_grammar.proofs.Operands.{token}
+use Rattle.scad_grammar.proofs.Expressions.{open_firsts_of_expression, expr_opens, arg_opens, choice_opens, unary_opens}
+use Rattle.scad_grammar.proofs.Cores.{param_opens, binder_opens, instance_opens}
+use Rattle.scad_grammar.proofs.Statements.{statement_at_opens}
+use Rattle.scad_grammar.proofs.Wider.{none_many}
+use Rattle.scad_grammar.proofs.Fronts.{no_gap, no_gap_joined, below_parts, below_less, joined_length, Front, front_joined, front_deeper, front_zero, none_below_zero}
+
+-- Something of the outline's language that shows what is written so; it has no open `if` at its end where the
+-- other has none.
+abbrev pub Shown : ℕ → {A : Type 0} → (A → Bool) → Language A → A → List Token → List ℕ → Type 0
+Shown d {A} opens O x s ns = (y : A) × (os : List Token) × O y os × Front d s ns os × (opens x ≡ false → opens y ≡ false)
+
+pub record Shows (d : ℕ) {A : Type 0} (opens : A → Bool) (L : Language A) (D : Depths L) (W O : Language A) : Type 0 where
+  pub count : (x : A) (s : List Token) (h : L x s) → length (D.of x s h) ≡ length s
+  pub plain : (x : A) (s : List Token) → L x s → no_gap s ≡ true
+  pub kept : (x : A) (s : List Token) (h : L x s) → AllBelow d (D.of x s h) → W x s
+  pub shown : (x : A) (s : List Token) (h : L x s) → Shown d opens O x s (D.of x s h)
+
+-- nothing of this kind ends with an open `if`
+abbrev pub closed : {A : Type 0} → A → Bool
+closed x = false
+
+no_caret : (cs : List ℕ) → apart cs (caret_sign ∷ []) ≡ true → (t : Token) → among cs t ≡ true → no_gap (t ∷ []) ≡ true
+no_caret cs a t h = let e : is caret_sign t ≡ false = classes_apart cs (caret_sign ∷ []) a (class_of t.kind) h in rw e refl
+
+one_shows : {d : ℕ} (cs : List ℕ) → apart cs (caret_sign ∷ []) ≡ true → Shows d closed (One (among cs)) (one_depth (among cs)) (One (among cs)) (One (among cs))
+unfolding one_depth
+one_shows {d} cs a = record {
+  count = λ t s h. ap length (sym h.1);
+  plain = λ t s h. ap no_gap h.1 ∙ no_caret cs a t h.0;
+  kept = λ t s h b. h;
+  shown = λ t s h. (t, t ∷ [], (h.0, refl), subst (λ s. Front d s (0 ∷ []) (t ∷ [])) (sym h.1) (λ l. ([], refl, refl)), λ e. refl);
+}
+
+is_shows : {d : ℕ} (c : ℕ) → apart (c ∷ []) (caret_sign ∷ []) ≡ true → Shows d closed (One (is c)) (one_depth (is c)) (One (is c)) (One (is c))
+is_shows c a = one_shows (c ∷ []) a
+
+mapped_shows : {A B : Type 0} {d : ℕ} (f : A → B) {oa : A → Bool} (ob : B → Bool) {L W O : Language A} {D : Depths L} → ((a y : A) → (oa a ≡ false → oa y ≡ false) → ob (f a) ≡ false → ob (f y) ≡ false)
+    → Shows d oa L D W O → Shows d ob (Mapped f L) (mapped_depths f D) (Mapped f W) (Mapped f O)
+unfolding mapped_depths
+mapped_shows f ob tame h = record {
+  count = λ b s x. h.count x.0 s x.1;
+  plain = λ b s x. h.plain x.0 s x.1;
+  kept = λ b s x l. (x.0, h.kept x.0 s x.1 l, x.2);
+  shown = λ b s x. let y = h.shown x.0 s x.1 in (f y.0, y.1, (y.0, y.2, refl), y.3, λ e. tame x.0 y.0 y.4 (ap ob (sym x.2) ∙ e));
+}
+
+both_shows : {A B C : Type 0} {d : ℕ} (f : A → B → C) {oa : A → Bool} {ob : B → Bool} (oc : C → Bool) {La Wa Oa : Language A} {Lb Wb Ob : Language B} {D : Depths La} {E : Depths Lb}
+    → ((a y : A) (b z : B) → (oa a ≡ false → oa y ≡ false) → (ob b ≡ false → ob z ≡ false) → oc (f a b) ≡ false → oc (f y z) ≡ false)
+    → Shows d oa La D Wa Oa → Shows d ob Lb E Wb Ob → Shows d oc (Both f La Lb) (both_depths f D E) (Both f Wa Wb) (Both f Oa Ob)
+unfolding both_depths
+both_shows {A} {B} {C} {d} f oc {La} {Wa} {Oa} {Lb} {Wb} {Ob} {D} {E} tame h k = record {
+  count = λ c s x. joined_length x.2 x.3 s (D.of x.0 x.2 x.4) (E.of x.1 x.3 x.5) (h.count x.0 x.2 x.4) (k.count x.1 x.3 x.5) x.7;
+  plain = λ c s x. ap no_gap x.7 ∙ no_gap_joined x.2 x.3 (h.plain x.0 x.2 x.4) (k.plain x.1 x.3 x.5);
+  kept = λ c s x l. let parts = below_parts d (D.of x.0 x.2 x.4) (E.of x.1 x.3 x.5) l in (x.0, x.1, x.2, x.3, h.kept x.0 x.2 x.4 parts.0, k.kept x.1 x.3 x.5 parts.1, x.6, x.7);
+  shown = λ c s x.
+      let y = h.shown x.0 x.2 x.4 in
+      let z = k.shown x.1 x.3 x.5 in (
+        f y.0 z.0,
+        y.1 ++ z.1,
+        (y.0, z.0, y.1, z.1, y.2, z.2, refl, refl),
+        subst (λ s. Front d s (D.of x.0 x.2 x.4 ++ E.of x.1 x.3 x.5) (y.1 ++ z.1)) (sym x.7) (front_joined d x.2 (D.of x.0 x.2 x.4) y.1 x.3 (E.of x.1 x.3 x.5) z.1 y.3 z.3),
+        λ e. tame x.0 y.0 x.1 z.0 y.4 z.4 (ap oc (sym x.6) ∙ e),
+      );
+}
+
+plain_shows : {A B C : Type 0} {d : ℕ} (f : A → B → C) {oa : A → Bool} {ob : B → Bool} {La Wa Oa : Language A} {Lb Wb Ob : Language B} {D : Depths La} {E : Depths Lb}
+    → Shows d oa La D Wa Oa → Shows d ob Lb E Wb Ob → Shows d closed (Both f La Lb) (both_depths f D E) (Both f Wa Wb) (Both f Oa Ob)
+plain_shows f h k = both_shows f closed (λ a y b z p q e. refl) h k
+
+-- what an instance or a body has behind it or before it does not open it
+second_shows : {A B C : Type 0} {d : ℕ} (f : A → B → C) {oa : A → Bool} {ob : B → Bool} (oc : C → Bool) {La Wa Oa : Language A} {Lb Wb Ob : Language B} {D : Depths La} {E : Depths Lb}
+    → ((a : A) (b : B) → oc (f a b) ≡ ob b)
+    → Shows d oa La D Wa Oa → Shows d ob Lb E Wb Ob → Shows d oc (Both f La Lb) (both_depths f D E) (Both f Wa Wb) (Both f Oa Ob)
+second_shows f oc same h k = both_shows f oc (λ a y b z p q e. same y z ∙ q (sym (same a b) ∙ e)) h k
+
+module _ {A : Type 0} (d : ℕ) (o : A → Bool) (La Wa Oa Lb Wb Ob : Language A) (D : Depths La) (E : Depths Lb) (h : Shows d o La D Wa Oa) (k : Shows d o Lb E Wb Ob) where
+  either_count : (x : A) (s : List Token) (e : EitherOf La Lb x s) → length (of_either La Lb D E x s e) ≡ length s
+  either_count x s (inl e) = h.count x s e
+  either_count x s (inr e) = k.count x s e
+
+  either_plain : (x : A) (s : List Token) → EitherOf La Lb x s → no_gap s ≡ true
+  either_plain x s (inl e) = h.plain x s e
+  either_plain x s (inr e) = k.plain x s e
+
+  either_kept : (x : A) (s : List Token) (e : EitherOf La Lb x s) → AllBelow d (of_either La Lb D E x s e) → EitherOf Wa Wb x s
+  either_kept x s (inl e) l = inl (h.kept x s e l)
+  either_kept x s (inr e) l = inr (k.kept x s e l)
+
+  either_shown : (x : A) (s : List Token) (e : EitherOf La Lb x s) → Shown d o (EitherOf Oa Ob) x s (of_either La Lb D E x s e)
+  either_shown x s (inl e) = let y = h.shown x s e in (y.0, y.1, inl y.2, y.3, y.4)
+  either_shown x s (inr e) = let y = k.shown x s e in (y.0, y.1, inr y.2, y.3, y.4)
+
+either_shows : {A : Type 0} {d : ℕ} {o : A → Bool} {La Wa Oa Lb Wb Ob : Language A} {D : Depths La} {E : Depths Lb} → Shows d o La D Wa Oa → Shows d o Lb E Wb Ob → Shows d o (EitherOf La Lb) (either_depths D E) (EitherOf Wa Wb) (EitherOf Oa Ob)
+unfolding either_depths
+either_shows {A} {d} {o} {La} {Wa} {Oa} {Lb} {Wb} {Ob} {D} {E} h k = record {
+  count = either_count d o La Wa Oa Lb Wb Ob D E h k;
+  plain = either_plain d o La Wa Oa Lb Wb Ob D E h k;
+  kept = either_kept d o La Wa Oa Lb Wb Ob D E h k;
+  shown = either_shown d o La Wa Oa Lb Wb Ob D E h k;
+}
+
+nothing_shows : {A : Type 0} {d : ℕ} (a : A) → Shows d closed (Nothing a) (nothing_depths a) (Nothing a) (Nothing a)
+unfolding nothing_depths
+nothing_shows {A} {d} a = record {
+  count = λ x s h. ap length (sym h.1);
+  plain = λ x s h. ap no_gap h.1;
+  kept = λ x s h l. h;
+  shown = λ x s h. (a, [], (refl, refl), subst (λ s. Front d s [] []) (sym h.1) refl, λ e. refl);
+}
+
+never_shows : {A : Type 0} {d : ℕ} (o : A → Bool) (W O : Language A) → Shows d o Never never_depths W O
+never_shows o W O = record {
+  count = λ x s h. elim h [ ];
+  plain = λ x s h. elim h [ ];
+  kept = λ x s h l. elim h [ ];
+  shown = λ x s h. elim h [ ];
+}
+
+module _ {A : Type 0} (d : ℕ) (o : A → Bool) (L W O : Language A) (D : Depths L) (h : Shows d o L D W O) where
+  many_count : (xs : List A) (s : List Token) (x : Many L xs s) → length (of_many L D xs s x) ≡ length s
+  many_count [] s x = ap length (sym x)
+  many_count (y ∷ ys) s x = joined_length x.0 x.1 s (D.of y x.0 x.2) (of_many L D ys x.1 x.3) (h.count y x.0 x.2) (many_count ys x.1 x.3) x.4
+
+  many_plain : (xs : List A) (s : List Token) → Many L xs s → no_gap s ≡ true
+  many_plain [] s x = ap no_gap x
+  many_plain (y ∷ ys) s x = ap no_gap x.4 ∙ no_gap_joined x.0 x.1 (h.plain y x.0 x.2) (many_plain ys x.1 x.3)
+
+  many_kept : (xs : List A) (s : List Token) (x : Many L xs s) → AllBelow d (of_many L D xs s x) → Many W xs s
+  many_kept [] s x l = x
+  many_kept (y ∷ ys) s x l =
+      let parts = below_parts d (D.of y x.0 x.2) (of_many L D ys x.1 x.3) l in
+      (x.0, x.1, h.kept y x.0 x.2 parts.0, many_kept ys x.1 x.3 parts.1, x.4)
+
+  many_shown : (xs : List A) (s : List Token) (x : Many L xs s) → Shown d closed (Many O) xs s (of_many L D xs s x)
+  many_shown [] s x = ([], [], refl, subst (λ s. Front d s [] []) (sym x) refl, λ e. refl)
+  many_shown (y ∷ ys) s x =
+      let z = h.shown y x.0 x.2 in
+      let zs = many_shown ys x.1 x.3 in (
+        z.0 ∷ zs.0,
+        z.1 ++ zs.1,
+        (z.1, zs.1, z.2, zs.2, refl),
+        subst (λ s. Front d s (D.of y x.0 x.2 ++ of_many L D ys x.1 x.3) (z.1 ++ zs.1)) (sym x.4) (front_joined d x.0 (D.of y x.0 x.2) z.1 x.1 (of_many L D ys x.1 x.3) zs.1 z.3 zs.3),
+        λ e. refl,
+      )
+
+  maybe_count : (x : Option A) (s : List Token) (e : Maybe L x s) → length (of_maybe L D x s e) ≡ length s
+  maybe_count None s e = ap length (sym e)
+  maybe_count (Some x) s e = h.count x s e
+
+  maybe_plain : (x : Option A) (s : List Token) → Maybe L x s → no_gap s ≡ true
+  maybe_plain None s e = ap no_gap e
+  maybe_plain (Some x) s e = h.plain x s e
+
+  maybe_kept : (x : Option A) (s : List Token) (e : Maybe L x s) → AllBelow d (of_maybe L D x s e) → Maybe W x s
+  maybe_kept None s e l = e
+  maybe_kept (Some x) s e l = h.kept x s e l
+
+  maybe_shown : (x : Option A) (s : List Token) (e : Maybe L x s) → Shown d closed (Maybe O) x s (of_maybe L D x s e)
+  maybe_shown None s e = (None, [], refl, subst (λ s. Front d s [] []) (sym e) refl, λ e. refl)
+  maybe_shown (Some x) s e = let y = h.shown x s e in (Some y.0, y.1, y.2, y.3, λ e. refl)
+
+many_shows : {A : Type 0} {d : ℕ} {o : A → Bool} {L W O : Language A} {D : Depths L} → Shows d o L D W O → Shows d closed (Many L) (many_depths D) (Many W) (Many O)
+unfolding many_depths
+many_shows {A} {d} {o} {L} {W} {O} {D} h = record { count = many_count d o L W O D h; plain = many_plain d o L W O D h; kept = many_kept d o L W O D h; shown = many_shown d o L W O D h }
+
+maybe_shows : {A : Type 0} {d : ℕ} {o : A → Bool} {L W O : Language A} {D : Depths L} → Shows d o L D W O → Shows d closed (Maybe L) (maybe_depths D) (Maybe W) (Maybe O)
+unfolding maybe_depths
+maybe_shows {A} {d} {o} {L} {W} {O} {D} h = record { count = maybe_count d o L W O D h; plain = maybe_plain d o L W O D h; kept = maybe_kept d o L W O D h; shown = maybe_shown d o L W O D h }
+
+deeper_shows : {A : Type 0} {d : ℕ} {o : A → Bool} {L W O : Language A} {D : Depths L} → Shows d o L D W O → Shows (suc d) o L (deeper D) W O
+unfolding deeper
+deeper_shows {A} {d} {o} {L} {W} {O} {D} h = record {
+  count = λ x s e. length-map (D.of x s e) suc ∙ h.count x s e;
+  plain = h.plain;
+  kept = λ x s e l. h.kept x s e (below_less d (D.of x s e) l);
+  shown = λ x s e. let y = h.shown x s e in (y.0, y.1, y.2, front_deeper d s (D.of x s e) y.1 y.3, y.4);
+}
+
+-- an `if` with or without an `else`
+module _ (d : ℕ) (La Wa Oa : Language (Token × (Term × BodyTerm))) (D : Depths La) (h : Shows d (λ p. ends_open p.1.1) La D Wa Oa) (Lb Wb Ob : Language BodyTerm) (E : Depths Lb) (k : Shows d ends_open Lb E Wb Ob) where
+  abbrev Outlines : Language CoreTerm
+  Outlines = BothIf if_of IsNearest Oa (Maybe Ob)
+
+  if_shown : (p : Token × (Term × BodyTerm)) (o : Option BodyTerm) (u v : List Token) (hp : La p u) (ho : Maybe Lb o v) → IsNearest p o → (c : CoreTerm) (s : List Token) → c ≡ if_of p o → s ≡ u ++ v
+      → Shown d core_open Outlines c s (D.of p u hp ++ of_maybe Lb E o v ho)
+  if_shown p None u v hp ho fit c s is e =
+      let y = h.shown p u hp in (
+        if_of y.0 None,
+        y.1 ++ [],
+        (y.0, None, y.1, [], y.2, refl, tt, refl, refl),
+        subst (λ s. Front d s (D.of p u hp ++ []) (y.1 ++ [])) (sym e) (front_joined d u (D.of p u hp) y.1 v [] [] y.3 (subst (λ v. Front d v [] []) (sym ho) refl)),
+        λ o. absurd (let f : true ≡ false = ap core_open (sym is) ∙ o in cc),
+      )
+  if_shown p (Some other) u v hp ho fit c s is e =
+      let y = h.shown p u hp in
+      let z = k.shown other v ho in (
+        if_of y.0 (Some z.0),
+        y.1 ++ z.1,
+        (y.0, Some z.0, y.1, z.1, y.2, z.2, y.4 fit, refl, refl),
+        subst (λ s. Front d s (D.of p u hp ++ E.of other v ho) (y.1 ++ z.1)) (sym e) (front_joined d u (D.of p u hp) y.1 v (E.of other v ho) z.1 y.3 z.3),
+        λ o. z.4 (ap core_open (sym is) ∙ o),
+      )
+
+  if_shows : Shows d core_open (BothIf if_of IsNearest La (Maybe Lb)) (both_if_depths if_of IsNearest D (maybe_depths E)) (BothIf if_of IsNearest Wa (Maybe Wb)) Outlines
+  unfolding both_if_depths maybe_depths
+  if_shows = record {
+    count = λ c s x. joined_length x.2 x.3 s (D.of x.0 x.2 x.4) (of_maybe Lb E x.1 x.3 x.5) (h.count x.0 x.2 x.4) (maybe_count d ends_open Lb Wb Ob E k x.1 x.3 x.5) x.8;
+    plain = λ c s x. ap no_gap x.8 ∙ no_gap_joined x.2 x.3 (h.plain x.0 x.2 x.4) (maybe_plain d ends_open Lb Wb Ob E k x.1 x.3 x.5);
+    kept = λ c s x l.
+        let parts = below_parts d (D.of x.0 x.2 x.4) (of_maybe Lb E x.1 x.3 x.5) l in
+        (x.0, x.1, x.2, x.3, h.kept x.0 x.2 x.4 parts.0, maybe_kept d ends_open Lb Wb Ob E k x.1 x.3 x.5 parts.1, x.6, x.7, x.8);
+    shown = λ c s x. if_shown x.0 x.1 x.2 x.3 x.4 x.5 x.6 c s x.7 x.8;
+  }
+
+behind_shows : {A : Type 0} {d : ℕ} (c : ℕ) → apart (c ∷ []) (caret_sign ∷ []) ≡ true → {o : A → Bool} {L W O : Language A} {D : Depths L} → Shows d o L D W O → Shows d o (Behind (is c) L) (behind_depths (is c) D) (Behind (is c) W) (Behind (is c) O)
+behind_shows c a {o} h = both_shows second_of o (λ a y b z p q e. q e) (is_shows c a) h
+
+before_shows : {A : Type 0} {d : ℕ} (c : ℕ) → apart (c ∷ []) (caret_sign ∷ []) ≡ true → {o : A → Bool} {L W O : Language A} {D : Depths L} → Shows d o L D W O → Shows d o (Before L (is c)) (before_depths (is c) D) (Before W (is c)) (Before O (is c))
+before_shows c a {o} h = both_shows first_of o (λ a y b z p q e. p e) h (is_shows c a)
+
+parentheses_shows : {A : Type 0} {d : ℕ} {o : A → Bool} {L W O : Language A} {D : Depths L} → Shows d o L D W O → Shows (suc d) o (InParentheses L) (parentheses_depths D) (InParentheses W) (InParentheses O)
+parentheses_shows h = behind_shows open_parenthesis_sign refl (before_shows close_parenthesis_sign refl (deeper_shows h))
+
+separated_shows : {A : Type 0} {d : ℕ} {o : A → Bool} {L W O : Language A} {D : Depths L} → Shows d o L D W O → Shows d closed (Separated (is comma_sign) L) (separated_depths (is comma_sign) D) (Separated (is comma_sign) W) (Separated (is comma_sign) O)
+separated_shows h = plain_shows first_of (plain_shows cons h (many_shows (behind_shows comma_sign refl h))) (maybe_shows (is_shows comma_sign refl))
+
+plain_mapped : {A B : Type 0} {d : ℕ} (f : A → B) {oa : A → Bool} {L W O : Language A} {D : Depths L} → Shows d oa L D W O → Shows d closed (Mapped f L) (mapped_depths f D) (Mapped f W) (Mapped f O)
+plain_mapped f h = mapped_shows f closed (λ a y p e. refl) h
+
+module _ (d : ℕ) (L W O : Language Term) (D : Depths L) (e : Shows d closed L D W O) where
+  arg_shows : Shows d closed (Arg L) (arg_depths D) (Arg W) (Arg O)
+  arg_shows = either_shows (plain_shows _ (one_shows argument_names refl) (behind_shows assign_sign refl e)) (plain_mapped PositionalTerm e)
+
+  args_shows : Shows d closed (Args L) (args_depths D) (Args W) (Args O)
+  args_shows = either_shows (separated_shows arg_shows) (nothing_shows [])
+
+  param_shows : Shows d closed (Param L) (param_depths D) (Param W) (Param O)
+  param_shows = plain_shows _ (is_shows name refl) (maybe_shows (behind_shows assign_sign refl e))
+
+  params_shows : Shows d closed (Params (Param L)) (params_depths (param_depths D)) (Params (Param W)) (Params (Param O))
+  params_shows = either_shows (separated_shows param_shows) (nothing_shows [])
+
+  binders_shows : Shows d closed (Binders L) (binders_depths D) (Binders W) (Binders O)
+  binders_shows = separated_shows (plain_shows _ (is_shows name refl) (behind_shows assign_sign refl e))
+
+  bracket_shows : Shows (suc d) closed (Bracket L) (bracket_depths D) (Bracket W) (Bracket O)
+  bracket_shows =
+      plain_shows _ (is_shows open_bracket_sign refl)
+      (before_shows close_bracket_sign refl
+      (deeper_shows (maybe_shows (plain_shows pair_of e
+      (either_shows (behind_shows colon_sign refl (plain_shows _ e (maybe_shows (behind_shows colon_sign refl e))))
+      (plain_mapped items (plain_shows first_of (many_shows (behind_shows comma_sign refl e)) (maybe_shows (is_shows comma_sign refl)))))))))
+
+  suffix_shows : Shows (suc d) closed (Suffix L) (suffix_depths D) (Suffix W) (Suffix O)
+  suffix_shows =
+      either_shows (plain_shows _ (is_shows open_bracket_sign refl) (before_shows close_bracket_sign refl (deeper_shows e)))
+      (plain_shows _ (is_shows dot_sign refl) (is_shows name refl))
+
+-- no operator is a gap
+abbrev operators : List (List ℕ) → Bool
+operators [] = true
+operators (ops ∷ below) = apart ops (caret_sign ∷ []) && operators below
+
+both_parts : (a b : Bool) → (a && b) ≡ true → (a ≡ true) × (b ≡ true)
+both_parts true b e = (refl, e)
+both_parts false b e = absurd (cc)
+
+chain_shows : {d : ℕ} (below : List (List ℕ)) → operators below ≡ true → {L W O : Language Term} {D : Depths L} → Shows d closed L D W O → Shows d closed (Chain below L) (chain_depths below D) (Chain below W) (Chain below O)
+chain_shows [] a h = h
+chain_shows (ops ∷ below) a h =
+    let parts = both_parts (apart ops (caret_sign ∷ [])) (operators below) a in
+    plain_shows chain_of (chain_shows below parts.1 h) (many_shows (plain_shows link (one_shows ops parts.0) (chain_shows below parts.1 h)))
+
+module _ (d : ℕ) (L W O : Language Term) (D : Depths L) (e : Shows d closed L D W O) (As Bs Cs : Language (List ArgTerm)) (DA : Depths As) (a : Shows d closed As DA Bs Cs) (U V X : Language Term) (DU : Depths U) (u : Shows d closed U DU V X) where
+  primary_shows : Shows (suc d) closed (Primary L As) (primary_depths D DA) (Primary W Bs) (Primary O Cs)
+  primary_shows =
+      either_shows (plain_mapped _ (is_shows numeral refl)) (either_shows (plain_mapped _ (is_shows text refl)) (either_shows (plain_mapped _ (is_shows true_word refl)) (either_shows (plain_mapped _ (is_shows false_word refl))
+      (either_shows (plain_mapped _ (is_shows undef_word refl)) (either_shows (plain_mapped _ (is_shows child_count refl)) (either_shows (plain_mapped _ (is_shows special refl))
+      (either_shows (plain_shows _ (is_shows name refl) (maybe_shows (parentheses_shows a)))
+      (either_shows (plain_shows _ (is_shows open_parenthesis_sign refl) (before_shows close_parenthesis_sign refl (deeper_shows e))) (bracket_shows d L W O D e)))))))))
+
+  unary_shows : Shows (suc d) closed (Unary L As U) (unary_depths D DA DU) (Unary W Bs V) (Unary O Cs X)
+  unary_shows = either_shows (plain_shows _ (one_shows (minus_sign ∷ plus_sign ∷ not_sign ∷ []) refl) (deeper_shows u)) (plain_shows _ primary_shows (many_shows (suffix_shows d L W O D e)))
+
+  choice_shows : Shows (suc d) closed (Choice L As U) (choice_depths D DA DU) (Choice W Bs V) (Choice O Cs X)
+  choice_shows =
+      plain_shows _ (chain_shows levels refl unary_shows)
+      (maybe_shows (plain_shows pair_of (is_shows question_sign refl) (plain_shows pair_of (deeper_shows e) (behind_shows colon_sign refl (deeper_shows e)))))
+
+abbrev gap_token : Token
+gap_token = token (Symbol Caret)
+
+-- where no token may stand an outline has a gap, or nothing
+zero_gap : {A : Type 0} {n : ℕ} (o : A → Bool) (L W O : Language A) (D : Depths L) (f : Token → A) → ((t : Token) → o (f t) ≡ false) → ((x : A) → L x [] → ⊥) → Shows n o L D W O → Shows 0 o L D Never (Mapped f (One (is caret_sign)))
+zero_gap o L W O D f tame some h = record {
+  count = h.count;
+  plain = h.plain;
+  kept = λ x s e l. some x (subst (L x) (none_below_zero s (D.of x s e) (h.count x s e) l) e);
+  shown = λ x s e. (
+    f gap_token,
+    gap_token ∷ [],
+    (gap_token, (refl, refl), refl),
+    front_zero s (D.of x s e) (gap_token ∷ []) (h.count x s e) (λ n. absurd (some x (subst (L x) n e))),
+    λ k. tame gap_token,
+  );
+}
+
+zero_nothing : {A : Type 0} {n : ℕ} (L W O : Language (List A)) (D : Depths L) → ((x : List A) → L x [] → x ≡ []) → Shows n closed L D W O → Shows 0 closed L D (Nothing []) (Nothing [])
+zero_nothing L W O D none h = record {
+  count = h.count;
+  plain = h.plain;
+  kept = λ x s e l. let n = none_below_zero s (D.of x s e) (h.count x s e) l in (none x (subst (L x) n e), n);
+  shown = λ x s e. ([], [], (refl, refl), front_zero s (D.of x s e) [] (h.count x s e) (λ n. refl), λ k. refl);
+}
+
+-- nothing may stand where something may be missing
+nothing_in : {A : Type 0} {d : ℕ} (W O : Language (List A)) → ((s : List Token) (x : List A) → Nothing [] x s → W x s) → O [] [] → Shows d closed (Nothing []) (nothing_depths []) W O
+unfolding nothing_depths
+nothing_in {A} {d} W O w o = record {
+  count = λ x s h. ap length (sym h.1);
+  plain = λ x s h. ap no_gap h.1;
+  kept = λ x s h l. w s x h;
+  shown = λ x s h. ([], [], o, subst (λ s. Front d s [] []) (sym h.1) refl, λ e. refl);
+}
+
+-- what opens with a token is not without tokens
+not_empty : {A : Type 0} (L : Language A) (test : Token → Bool) → Opens L test → (x : A) → L x [] → ⊥
+not_empty L test opens x h = absurd (let e = opens x [] [] h in cc)
+
+separated_some : {A : Type 0} (L : Language A) (test : Token → Bool) → Opens L test → (x : List A) → EitherOf (Separated (is comma_sign) L) (Nothing []) x [] → x ≡ []
+separated_some L test opens x (inl h) = elim (not_empty (Separated (is comma_sign) L) test (both_opens first_of _ _ test (both_opens cons L _ test opens)) x h) [ ]
+separated_some L test opens x (inr h) = h.0
+
+many_some : {A : Type 0} (L : Language A) (test : Token → Bool) → Opens L test → (x : List A) → Many L x [] → x ≡ []
+many_some L test opens [] h = refl
+many_some L test opens (x ∷ xs) h =
+    absurd (let e = opens x h.0 h.1 h.2 in let f : starts test [] ≡ true = ap (starts test) h.4 ∙ e in cc)
+
+binders_some : (E : Language Term) (x : List BinderTerm) → Binders E x [] → ⊥
+binders_some E = not_empty (Binders E) (is name) (both_opens first_of _ _ (is name) (both_opens cons (Binder E) _ (is name) (binder_opens E)))
+
+args_in_shows : (k d : ℕ) → Shows d closed (Expr whole k) (expr_depths k) (Expr whole d) (Expr outline d)
+    → Shows d closed (ArgsIn k (Expr whole k)) (args_in_depths k (expr_depths k)) (ArgsIn d (Expr whole d)) (ArgsIn d (Expr outline d))
+args_in_shows zero zero e = nothing_shows []
+args_in_shows zero (suc d) e = nothing_in (Args (Expr whole (suc d))) (Args (Expr outline (suc d))) (λ s x h. inr h) (inr (refl, refl))
+args_in_shows (suc k) zero e =
+    zero_nothing (Args (Expr whole (suc k))) (Args (Expr whole zero)) (Args (Expr outline zero)) (args_depths (expr_depths (suc k)))
+    (separated_some (Arg (Expr whole (suc k))) (among open_firsts_of_expression) (arg_opens (Expr whole (suc k)) (expr_opens whole (suc k))))
+    (args_shows zero (Expr whole (suc k)) (Expr whole zero) (Expr outline zero) (expr_depths (suc k)) e)
+args_in_shows (suc k) (suc d) e = args_shows (suc d) (Expr whole (suc k)) (Expr whole (suc d)) (Expr outline (suc d)) (expr_depths (suc k)) e
+
+params_in_shows : (k d : ℕ) → Shows d closed (Expr whole k) (expr_depths k) (Expr whole d) (Expr outline d)
+    → Shows d closed (ParamsIn k (Expr whole k)) (params_in_depths k (expr_depths k)) (ParamsIn d (Expr whole d)) (ParamsIn d (Expr outline d))
+params_in_shows zero zero e = nothing_shows []
+params_in_shows zero (suc d) e = nothing_in (Params (Param (Expr whole (suc d)))) (Params (Param (Expr outline (suc d)))) (λ s x h. inr h) (inr (refl, refl))
+params_in_shows (suc k) zero e =
+    zero_nothing (Params (Param (Expr whole (suc k)))) (Params (Param (Expr whole zero))) (Params (Param (Expr outline zero))) (params_depths (param_depths (expr_depths (suc k))))
+    (separated_some (Param (Expr whole (suc k))) (is name) (param_opens (Expr whole (suc k))))
+    (params_shows zero (Expr whole (suc k)) (Expr whole zero) (Expr outline zero) (expr_depths (suc k)) e)
+params_in_shows (suc k) (suc d) e = params_shows (suc d) (Expr whole (suc k)) (Expr whole (suc d)) (Expr outline (suc d)) (expr_depths (suc k)) e
+
+binders_in_shows : (k d : ℕ) → Shows d closed (Expr whole k) (expr_depths k) (Expr whole d) (Expr outline d)
+    → Shows d closed (BindersIn whole k (Expr whole k)) (binders_in_depths k (expr_depths k)) (BindersIn whole d (Expr whole d)) (BindersIn outline d (Expr outline d))
+binders_in_shows zero d e = never_shows closed (BindersIn whole d (Expr whole d)) (BindersIn outline d (Expr outline d))
+binders_in_shows (suc k) zero e =
+    zero_gap closed (Binders (Expr whole (suc k))) (Binders (Expr whole zero)) (Binders (Expr outline zero)) (binders_depths (expr_depths (suc k))) (λ t. []) (λ t. refl) (binders_some (Expr whole (suc k)))
+    (binders_shows zero (Expr whole (suc k)) (Expr whole zero) (Expr outline zero) (expr_depths (suc k)) e)
+binders_in_shows (suc k) (suc d) e = binders_shows (suc d) (Expr whole (suc k)) (Expr whole (suc d)) (Expr outline (suc d)) (expr_depths (suc k)) e
+
+-- an expression, and an operand
+abbrev ShowsExpr : ℕ → ℕ → Type 0
+ShowsExpr k d =
+    Shows d closed (Expr whole k) (expr_depths k) (Expr whole d) (Expr outline d)
+    × Shows d closed (Operand whole k) (operand_depths k) (Operand whole d) (Operand outline d)
+
+next_expr : (k d : ℕ) → ShowsExpr k d → ShowsExpr (suc k) (suc d)
+unfolding Expr Operand expr_depths operand_depths
+next_expr k d e =
+    let a = args_in_shows k d e.0 in (
+      choice_shows d (Expr whole k) (Expr whole d) (Expr outline d) (expr_depths k) e.0 (ArgsIn k (Expr whole k)) (ArgsIn d (Expr whole d)) (ArgsIn d (Expr outline d)) (args_in_depths k (expr_depths k)) a
+          (Operand whole k) (Operand whole d) (Operand outline d) (operand_depths k) e.1,
+      unary_shows d (Expr whole k) (Expr whole d) (Expr outline d) (expr_depths k) e.0 (ArgsIn k (Expr whole k)) (ArgsIn d (Expr whole d)) (ArgsIn d (Expr outline d)) (args_in_depths k (expr_depths k)) a
+          (Operand whole k) (Operand whole d) (Operand outline d) (operand_depths k) e.1,
+    )
+
+expr_some : (k : ℕ) (x : Term) → Expr whole (suc k) x [] → ⊥
+unfolding Expr Operand
+expr_some k = not_empty (Expr whole (suc k)) (among firsts_of_expression) (choice_opens (Expr whole k) (ArgsIn k (Expr whole k)) (Operand whole k))
+
+operand_some : (k : ℕ) (x : Term) → Operand whole (suc k) x [] → ⊥
+unfolding Expr Operand
+operand_some k = not_empty (Operand whole (suc k)) (among firsts_of_expression) (unary_opens (Expr whole k) (ArgsIn k (Expr whole k)) (Operand whole k))
+
+zero_expr : (k : ℕ) → ShowsExpr (suc k) 1 → ShowsExpr (suc k) 0
+unfolding Expr Operand
+zero_expr k e = (
+  zero_gap closed (Expr whole (suc k)) (Expr whole 1) (Expr outline 1) (expr_depths (suc k)) (λ t. UndefTerm t.place) (λ t. refl) (expr_some k) e.0,
+  zero_gap closed (Operand whole (suc k)) (Operand whole 1) (Operand outline 1) (operand_depths (suc k)) (λ t. UndefTerm t.place) (λ t. refl) (operand_some k) e.1,
+)
+
+no_expr : (d : ℕ) → ShowsExpr 0 d
+unfolding Expr Operand expr_depths operand_depths
+no_expr d = (never_shows closed (Expr whole d) (Expr outline d), never_shows closed (Operand whole d) (Operand outline d))
+
+expr_shows : (k d : ℕ) → ShowsExpr k d
+expr_shows zero d = no_expr d
+expr_shows (suc k) zero = zero_expr k (next_expr k zero (expr_shows k zero))
+expr_shows (suc k) (suc d) = next_expr k d (expr_shows k d)
+
+pub loop_open : (t : Token) (p : List BinderTerm × BodyTerm) → core_open (loop_of t p) ≡ ends_open p.1
+loop_open t p = go (is for_word t) refl
+  where
+    go : (b : Bool) → is for_word t ≡ b → core_open (loop_of t p) ≡ ends_open p.1
+    go true e = rw e refl
+    go false e = rw e refl
+
+pub same_open : (ms : List MarkTerm) (core : CoreTerm) → instance_open (instance_of ms core) ≡ core_open core
+same_open [] core = refl
+same_open (m ∷ ms) core = refl
+
+module _ (d : ℕ) (E E1 E2 : Language Term) (DE : Depths E) (e : Shows d closed E DE E1 E2) (As A1 A2 : Language (List ArgTerm)) (DA : Depths As) (a : Shows d closed As DA A1 A2) (Ns N1 N2 : Language (List BinderTerm)) (DN : Depths Ns) (n : Shows d closed Ns DN N1 N2) (B B1 B2 : Language BodyTerm) (DB : Depths B) (b : Shows d ends_open B DB B1 B2) where
+  core_shows : Shows (suc d) core_open (Core E As Ns B) (core_depths DE DA DN DB) (Core E1 A1 N1 B1) (Core E2 A2 N2 B2)
+  core_shows =
+      either_shows
+      (if_shows (suc d) _ _ _ _
+      (second_shows pair_of (λ p. ends_open p.1.1) (λ t p. refl) (is_shows if_word refl) (second_shows pair_of (λ p. ends_open p.1) (λ x y. refl) (parentheses_shows e) (deeper_shows b)))
+      _ _ _ _ (behind_shows else_word refl (deeper_shows b)))
+      (either_shows
+      (second_shows loop_of core_open loop_open (one_shows (for_word ∷ intersection_for_word ∷ []) refl) (second_shows pair_of (λ p. ends_open p.1) (λ x y. refl) (parentheses_shows n) (deeper_shows b)))
+      (second_shows call_of core_open (λ t p. refl) (is_shows name refl) (second_shows pair_of (λ p. ends_open p.1) (λ x y. refl) (parentheses_shows a) (deeper_shows b))))
+
+  instance_shows : Shows (suc d) instance_open (Instance E As Ns B) (instance_depths DE DA DN DB) (Instance E1 A1 N1 B1) (Instance E2 A2 N2 B2)
+  instance_shows = second_shows instance_of instance_open same_open (many_shows (plain_mapped _ (one_shows (times_sign ∷ remainder_sign ∷ hash_sign ∷ not_sign ∷ []) refl))) core_shows
+
+module _ (d : ℕ) (I I1 I2 : Language InstanceTerm) (DI : Depths I) (i : Shows (suc d) instance_open I DI I1 I2) (Ss S1 S2 : Language (List StatementTerm)) (DS : Depths Ss) (s : Shows d closed Ss DS S1 S2) where
+  body_of_shows : Shows (suc d) ends_open (BodyOf I Ss) (body_of_depths DI DS) (BodyOf I1 S1) (BodyOf I2 S2)
+  body_of_shows =
+      either_shows (mapped_shows _ ends_open (λ x y p e. refl) (is_shows semicolon_sign refl))
+      (either_shows (both_shows block_of ends_open (λ x y z w p q e. refl) (is_shows open_brace_sign refl) (before_shows close_brace_sign refl (deeper_shows s)))
+      (mapped_shows InstanceBody ends_open (λ x y p e. p e) i))
+
+  statement_of_shows : (X X1 X2 : Language Term) (DX : Depths X) → Shows (suc d) closed X DX X1 X2 → (Ps P1 P2 : Language (List ParamTerm)) (DP : Depths Ps) → Shows d closed Ps DP P1 P2 → (B B1 B2 : Language BodyTerm) (DB : Depths B) → Shows d ends_open B DB B1 B2
+      → Shows (suc d) closed (StatementOf X Ps I Ss B) (statement_of_depths DX DP DI DS DB) (StatementOf X1 P1 I1 S1 B1) (StatementOf X2 P2 I2 S2 B2)
+  statement_of_shows X X1 X2 DX x Ps P1 P2 DP p B B1 B2 DB b =
+      either_shows (plain_mapped _ (is_shows semicolon_sign refl))
+      (either_shows (plain_shows _ (is_shows open_brace_sign refl) (before_shows close_brace_sign refl (deeper_shows s)))
+      (either_shows (plain_shows _ (is_shows special refl) (behind_shows assign_sign refl (before_shows semicolon_sign refl x)))
+      (either_shows (plain_shows _ (is_shows name refl) (behind_shows assign_sign refl (before_shows semicolon_sign refl x)))
+      (either_shows (plain_shows _ (is_shows module_word refl) (plain_shows pair_of (is_shows name refl) (plain_shows pair_of (parentheses_shows p) (deeper_shows b))))
+      (either_shows (plain_shows _ (is_shows function_word refl) (plain_shows pair_of (is_shows name refl) (plain_shows pair_of (parentheses_shows p) (behind_shows assign_sign refl (before_shows semicolon_sign refl x)))))
+      (plain_mapped InstanceStatement i))))))
+
+-- the statements in braces, and a body
+abbrev ShowsBody : ℕ → ℕ → Type 0
+ShowsBody k d =
+    Shows d closed (StatementsIn k (Statement whole k)) (statements_in_depths k (statement_depths k)) (StatementsIn d (Statement whole d)) (StatementsIn d (Statement outline d))
+    × Shows d ends_open (Body whole k) (body_depths k) (Body whole d) (Body outline d)
+
+abbrev ShowsStatement : ℕ → ℕ → Type 0
+ShowsStatement k d = Shows d closed (Statement whole k) (statement_depths k) (Statement whole d) (Statement outline d)
+
+instance_in_shows : (k d : ℕ) → ShowsBody k d → Shows (suc d) instance_open (InstanceIn whole k (Body whole k)) (instance_in_depths k (body_depths k)) (InstanceIn whole d (Body whole d)) (InstanceIn outline d (Body outline d))
+instance_in_shows k d b =
+    let e = (expr_shows k d).0 in
+    instance_shows d (Expr whole k) (Expr whole d) (Expr outline d) (expr_depths k) e
+    (ArgsIn k (Expr whole k)) (ArgsIn d (Expr whole d)) (ArgsIn d (Expr outline d)) (args_in_depths k (expr_depths k)) (args_in_shows k d e)
+    (BindersIn whole k (Expr whole k)) (BindersIn whole d (Expr whole d)) (BindersIn outline d (Expr outline d)) (binders_in_depths k (expr_depths k)) (binders_in_shows k d e)
+    (Body whole k) (Body whole d) (Body outline d) (body_depths k) b.1
+
+next_statement : (k d : ℕ) → ShowsBody k d → ShowsStatement (suc k) (suc d)
+unfolding Statement Body statement_depths body_depths
+next_statement k d b =
+    statement_of_shows d (InstanceIn whole k (Body whole k)) (InstanceIn whole d (Body whole d)) (InstanceIn outline d (Body outline d)) (instance_in_depths k (body_depths k)) (instance_in_shows k d b)
+    (StatementsIn k (Statement whole k)) (StatementsIn d (Statement whole d)) (StatementsIn d (Statement outline d)) (statements_in_depths k (statement_depths k)) b.0
+    (Expr whole (suc k)) (Expr whole (suc d)) (Expr outline (suc d)) (expr_depths (suc k)) (expr_shows (suc k) (suc d)).0
+    (ParamsIn k (Expr whole k)) (ParamsIn d (Expr whole d)) (ParamsIn d (Expr outline d)) (params_in_depths k (expr_depths k)) (params_in_shows k d (expr_shows k d).0)
+    (Body whole k) (Body whole d) (Body outline d) (body_depths k) b.1
+
+next_body : (k d : ℕ) → ShowsBody k d → Shows (suc d) ends_open (Body whole (suc k)) (body_depths (suc k)) (Body whole (suc d)) (Body outline (suc d))
+unfolding Statement Body statement_depths body_depths
+next_body k d b =
+    body_of_shows d (InstanceIn whole k (Body whole k)) (InstanceIn whole d (Body whole d)) (InstanceIn outline d (Body outline d)) (instance_in_depths k (body_depths k)) (instance_in_shows k d b)
+    (StatementsIn k (Statement whole k)) (StatementsIn d (Statement whole d)) (StatementsIn d (Statement outline d)) (statements_in_depths k (statement_depths k)) b.0
+
+body_of_some : (I : Language InstanceTerm) (Ss : Language (List StatementTerm)) → Opens I (among firsts_of_instance) → (x : BodyTerm) → BodyOf I Ss x [] → ⊥
+body_of_some I Ss opens x (inl h) = not_empty (Mapped (λ t. EmptyBody t.place) (One (is semicolon_sign))) (is semicolon_sign) (mapped_opens (λ t. EmptyBody t.place) (One (is semicolon_sign)) (is semicolon_sign) (one_opens (is semicolon_sign))) x h
+body_of_some I Ss opens x (inr (inl h)) = not_empty (Both block_of (One (is open_brace_sign)) (Before Ss (is close_brace_sign))) (is open_brace_sign) (both_opens block_of (One (is open_brace_sign)) (Before Ss (is close_brace_sign)) (is open_brace_sign) (one_opens (is open_brace_sign))) x h
+body_of_some I Ss opens x (inr (inr h)) = not_empty (Mapped InstanceBody I) (among firsts_of_instance) (mapped_opens InstanceBody I (among firsts_of_instance) opens) x h
+
+body_some : (k : ℕ) (x : BodyTerm) → Body whole (suc k) x [] → ⊥
+unfolding Statement Body
+body_some k = body_of_some (InstanceIn whole k (Body whole k)) (StatementsIn k (Statement whole k)) (instance_opens (Expr whole k) (ArgsIn k (Expr whole k)) (BindersIn whole k (Expr whole k)) (Body whole k))
+
+zero_body : (k : ℕ) → ShowsBody k 0 → Shows 0 ends_open (Body whole (suc k)) (body_depths (suc k)) (Body whole 0) (Body outline 0)
+unfolding Statement Body
+zero_body k b = zero_gap ends_open (Body whole (suc k)) (Body whole 1) (Body outline 1) (body_depths (suc k)) (λ t. EmptyBody t.place) (λ t. refl) (body_some k) (next_body k 0 b)
+
+no_body : (d : ℕ) → Shows d ends_open (Body whole 0) (body_depths 0) (Body whole d) (Body outline d)
+unfolding Statement Body statement_depths body_depths
+no_body d = never_shows ends_open (Body whole d) (Body outline d)
+
+body_shows : (k d : ℕ) → ShowsBody k d
+body_shows zero zero = (nothing_shows [], no_body zero)
+body_shows zero (suc d) = (nothing_in (Many (Statement whole (suc d))) (Many (Statement outline (suc d))) (λ s x h. none_many (Statement whole (suc d)) x s h) refl, no_body (suc d))
+body_shows (suc k) zero = (
+  zero_nothing (Many (Statement whole (suc k))) (Many (Statement whole 1)) (Many (Statement outline 1)) (many_depths (statement_depths (suc k))) (many_some (Statement whole (suc k)) (among firsts_of_statement) (statement_at_opens whole (suc k)))
+      (many_shows (next_statement k zero (body_shows k zero))),
+  zero_body k (body_shows k zero),
+)
+body_shows (suc k) (suc d) = (many_shows (next_statement k d (body_shows k d)), next_body k d (body_shows k d))
+
+no_statement : (d : ℕ) → ShowsStatement 0 d
+unfolding Statement Body statement_depths body_depths
+no_statement d = never_shows closed (Statement whole d) (Statement outline d)
+
+statement_shows : (k d : ℕ) → ShowsStatement k (suc d)
+statement_shows zero d = no_statement (suc d)
+statement_shows (suc k) d = next_statement k d (body_shows k d)
+
+pub program_shows : (k d : ℕ) → Shows (suc d) closed (Program k) (program_depths k) (Program (suc d)) (Outline (suc d))
+program_shows k d = before_shows end refl (many_shows (statement_shows k d))

@@ -1,0 +1,5 @@
+pub mod LastNode
+pub mod FirstPassed
+pub mod OneExport
+pub mod SmallLeaves
+pub mod Solids

@@ -1,0 +1,68 @@
+-- What the export of a tree gives: the first limit that it passes, or else the text of its boundary.
+use Rattle.std.specs.Prelude.{◌≡◌, ℕ, ◌<◌, ◌≤◌, List, ◌++◌, length, codes, ◌⊎◌}
+use Rattle.plane_predicate.specs.declared.unit.Unit.{Unit as LengthUnit}
+use Rattle.plane_polygon.specs.Polygons.{Outline}
+use Rattle.csg_tree.specs.Formulas.{Formula}
+use Rattle.csg_tree.specs.Numberings.{nodes_of}
+use Rattle.bsp_boolean.specs.declared.tree_solids.TreeStop.TheVariants.{TooBig, SumTooBig}
+use Rattle.bsp_boolean.specs.Solids.{solid_of}
+use Rattle.bsp_boolean.specs.TreeSolids.{AreWithin, IsTreeStop}
+use Rattle.facet_cut.specs.Facets.{facets_of}
+use Rattle.off_text.specs.Reading.{newline}
+use Rattle.off_text.specs.Texts.{corner_count, most_corners, most_vertices, HasVertices, IsTextOf}
+use Rattle.off_text.specs.Bounding.{IsBoundary}
+use Rattle.reply_text.specs.declared.reply.Complex.{Complex}
+use Rattle.reply_text.specs.declared.reply.Complex.TheVariants as limit
+use Rattle.tree_export.specs.declared.export.Exported.{Exported}
+use Rattle.tree_export.specs.declared.export.Exported.TheVariants as exported
+
+-- the most facets of an export
+abbrev pub most_facets : ℕ
+most_facets = 20000
+
+-- the first limit of size that is passed by trees in order of number: at the first number at which either is, the limit of
+-- that tree's own solid, or else that of all solids up to it
+abbrev pub IsFirstPassed : List Formula → Complex → Type 0
+IsFirstPassed trees (limit.Solid number) = IsTreeStop trees (TooBig number)
+IsFirstPassed trees (limit.Sum number) = IsTreeStop trees (SumTooBig number)
+IsFirstPassed trees _ = ⊥
+
+-- more than 200,000 corners, or more than 60,000 vertices, or the text
+abbrev pub IsWritten : LengthUnit → List Outline → Exported → Type 0
+IsWritten unit facets out =
+    ((most_corners < corner_count facets) × (out ≡ exported.Complex limit.Corners))
+    ⊎ ((corner_count facets ≤ most_corners) ×
+    ((HasVertices unit (λ n. most_vertices < n) facets × (out ≡ exported.Complex limit.Vertices))
+    ⊎ (HasVertices unit (λ n. n ≤ most_vertices) facets × ((bytes : List ℕ) × IsTextOf unit facets bytes × (out ≡ exported.Text bytes)))))
+
+-- more than 20,000 facets, or what they give
+abbrev pub IsCut : LengthUnit → List Outline → Exported → Type 0
+IsCut unit facets out =
+    ((most_facets < length facets) × (out ≡ exported.Complex limit.Facets))
+    ⊎ ((length facets ≤ most_facets) × IsWritten unit facets out)
+
+-- what the export of a tree gives: the first limit of size that its distinct subtrees pass in order of number, or else what
+-- the facets of its solid give
+abbrev pub IsExported : LengthUnit → Formula → Exported → Type 0
+IsExported unit tree out =
+    ((passed : Complex) × IsFirstPassed (nodes_of tree) passed × (out ≡ exported.Complex passed))
+    ⊎ (AreWithin (nodes_of tree) × IsCut unit (facets_of (solid_of tree)) out)
+
+-- a tree that passes none of the limits
+pub record PassesNoLimit (unit : LengthUnit) (tree : Formula) : Type 0 where
+  pub sizes : AreWithin (nodes_of tree)
+  pub facets : length (facets_of (solid_of tree)) ≤ most_facets
+  pub corners : corner_count (facets_of (solid_of tree)) ≤ most_corners
+  pub vertices : HasVertices unit (λ n. n ≤ most_vertices) (facets_of (solid_of tree))
+
+abbrev pub IsText : Exported → Type 0
+IsText out = (bytes : List ℕ) × (out ≡ exported.Text bytes)
+
+-- a text is the boundary of the tree
+abbrev pub Bounds : LengthUnit → Formula → Exported → Type 0
+Bounds unit f (exported.Text bytes) = IsBoundary unit bytes f
+Bounds unit f (exported.Complex passed) = Unit {0}
+
+-- the text without vertices and faces
+abbrev pub empty_text : List ℕ
+empty_text = codes "4OFF" ++ newline ++ codes "0 0 0" ++ newline

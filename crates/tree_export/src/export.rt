@@ -1,0 +1,92 @@
+//! What the export of a tree gives.
+
+ghost use Rattle.std.specs.Prelude.{◌≡◌, IfOk, IfErr, OnOk};
+ghost use Rattle.csg_tree.specs.Formulas.{Formula};
+ghost use Rattle.csg_tree.specs.ProperTrees.{IsProper};
+ghost use Rattle.csg_tree.specs.Numberings.{nodes_of};
+ghost use Rattle.csg_tree.specs.Trees.{formula_of};
+ghost use Rattle.bsp_tree.specs.Shapes.{tree_of};
+ghost use Rattle.bsp_boolean.specs.Solids.{solid_of};
+ghost use Rattle.bsp_boolean.specs.TreeSolids.{AreWithin, IsTreeStop};
+ghost use Rattle.facet_cut.specs.Facets.{facets_of};
+ghost use Rattle.tree_export.specs.Exports.{IsWritten, IsCut, IsExported, Bounds};
+
+use bsp_boolean::{PlainBuilder, TreeStop, tree_solid};
+use bsp_tree::Solid;
+use csg_tree::{CsgStore, CsgTree};
+use facet_cut::{CutStop, Facet, facets};
+use off_text::{OffStop, off_bytes};
+use plane_predicate::Unit;
+use reply_text::Complex;
+use std::alloc::Global;
+use text_place::{Bytes, NoMemory};
+
+// The most facets of an export.
+const FACETS: u32 = 20_000;
+
+/// What the export of a tree gives.
+#[derive(Drop)]
+pub enum Exported {
+    /// The bytes of its 4OFF text.
+    Text(Bytes),
+    /// The first limit that it passes.
+    Complex(Complex),
+}
+
+// What facets within their limit give.
+fn written(alloc: Global, facets: &[Facet], unit: Unit) -> Result<Exported, NoMemory>
+    ensures written { IfOk result (IsWritten unit facets.now) }
+    ensures boundary { (f : Formula) → IsProper f → facets.now ≡ facets_of (solid_of f) → IfOk result (Bounds unit f) }
+{
+    match off_bytes(alloc, facets, unit) {
+        Ok(bytes) => Ok(Exported::Text(Bytes::of(bytes))),
+        Err(OffStop::TooManyCorners) => Ok(Exported::Complex(Complex::Corners)),
+        Err(OffStop::TooManyVertices) => Ok(Exported::Complex(Complex::Vertices)),
+        Err(OffStop::NoMemory) => Err(NoMemory),
+    }
+}
+
+// What a solid within the limits of size gives.
+fn cut(alloc: Global, solid: &Solid, unit: Unit) -> Result<Exported, NoMemory>
+    ensures cut { IfOk result (IsCut unit (facets_of (tree_of solid.now))) }
+    ensures boundary { (f : Formula) → IsProper f → tree_of solid.now ≡ solid_of f → IfOk result (Bounds unit f) }
+{
+    match facets(alloc, solid, FACETS) {
+        Ok(facets) => written(alloc, &facets, unit),
+        Err(CutStop::TooMany) => Ok(Exported::Complex(Complex::Facets)),
+        Err(CutStop::NoMemory) => Err(NoMemory),
+    }
+}
+
+// The solid of a tree, by way of its distinct subtrees. Nothing has none.
+fn solid_within(alloc: Global, tree: &CsgTree) -> Result<Solid, TreeStop>
+    requires { IsProper (formula_of tree.now) }
+    ensures solid { IfOk result (λ s. tree_of s ≡ solid_of (formula_of tree.now)) }
+    ensures within { OnOk result (AreWithin (nodes_of (formula_of tree.now))) }
+    ensures stop { IfErr result (IsTreeStop (nodes_of (formula_of tree.now))) }
+{
+    let store = CsgStore::intern(alloc, tree)?;
+    if store.len() == 0 {
+        return Ok(Solid::Out);
+    }
+    tree_solid(alloc, &store, &mut PlainBuilder::new())
+}
+
+/// The export of a proper tree, whose planes are in grid steps, as a text in units.
+///
+/// `Complex` tells the first limit that is passed: at the first node in order of number at which either is passed,
+/// that the node's solid is above 50,000 in size, or else that the solids up to it are above 500,000 together; then
+/// more than 20,000 facets, more than 200,000 corners, more than 60,000 vertices. Where none is passed it is the text.
+pub fn export_tree(alloc: Global, tree: &CsgTree, unit: Unit) -> Result<Exported, NoMemory>
+    requires { IsProper (formula_of tree.now) }
+    ensures exported { IfOk result (IsExported unit (formula_of tree.now)) }
+    // A text is the boundary of the tree.
+    ensures boundary { IfOk result (Bounds unit (formula_of tree.now)) }
+{
+    match solid_within(alloc, tree) {
+        Ok(solid) => cut(alloc, &solid, unit),
+        Err(TreeStop::TooBig(number)) => Ok(Exported::Complex(Complex::Solid(number))),
+        Err(TreeStop::SumTooBig(number)) => Ok(Exported::Complex(Complex::Sum(number))),
+        Err(TreeStop::NoMemory) => Err(NoMemory),
+    }
+}

@@ -1,0 +1,29 @@
+//! Laws of exports, for the crates above. They are proved, and do nothing when they run.
+
+ghost use Rattle.std.specs.Prelude.{◌≡◌, ◌≤◌, ◌↔◌, ℕ, List, length};
+ghost use Rattle.plane_predicate.specs.declared.unit.Unit.{Unit as LengthUnit};
+ghost use Rattle.plane_predicate.specs.Space.{Coefficients};
+ghost use Rattle.csg_tree.specs.Formulas.{Formula, nothing, leaf};
+ghost use Rattle.tree_export.specs.declared.export.Exported.{Exported};
+ghost use Rattle.tree_export.specs.declared.export.Exported.TheVariants as exported;
+ghost use Rattle.tree_export.specs.Exports.{empty_text, IsText, IsExported, PassesNoLimit};
+
+/// In each unit a tree has one export.
+pub fn one_export()
+    ensures { (unit : LengthUnit) (tree : Formula) (out other : Exported) → IsExported unit tree out → IsExported unit tree other → out ≡ other }
+{}
+
+/// A tree's export is a text exactly where no limit is passed.
+pub fn texts_pass_no_limit()
+    ensures { (unit : LengthUnit) (tree : Formula) (out : Exported) → IsExported unit tree out → IsText out ↔ PassesNoLimit unit tree }
+{}
+
+/// The export of Nothing is the 4OFF text without vertices and faces.
+pub fn nothing_has_the_empty_text()
+    ensures { (unit : LengthUnit) (out : Exported) → IsExported unit nothing out ↔ (out ≡ exported.Text empty_text) }
+{}
+
+/// A leaf of at most eight planes passes no limit.
+pub fn small_leaves_are_texts()
+    ensures { (unit : LengthUnit) (planes : List Coefficients) (out : Exported) → length planes ≤ 8 → IsExported unit (leaf planes) out → IsText out }
+{}

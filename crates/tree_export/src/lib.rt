@@ -1,0 +1,10 @@
+//! Exports of trees: from a tree in world position to the text of its boundary, or to the first limit that it passes.
+#![tactic(auto)]
+
+mod export;
+mod laws;
+
+pub use export::{Exported, export_tree};
+pub use laws::{
+    nothing_has_the_empty_text, one_export, small_leaves_are_texts, texts_pass_no_limit,
+};
