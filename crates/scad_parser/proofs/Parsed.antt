@@ -1,15 +1,17 @@
 -- An answer that is what the reader of whole programs reads is the program or the first fault.
-use Rattle.std.proofs.Common.{◌≡◌, ℕ, List, [], true, Result, Ok, Err, sym, ap, ◌∙◌, IfOk, IfErr, inl, inr}
+use Rattle.std.proofs.Common.{◌≡◌, ℕ, ◌≤◌, List, [], length, true, Result, Ok, Err, sym, ap, ◌∙◌, IfOk, IfErr, inl, inr}
 use Rattle.text_place.specs.declared.fault.Stop.{Stop}
 use Rattle.text_place.specs.declared.fault.Stop.TheVariants.{Fault, NoMemory}
 use Rattle.scad_lexer.specs.declared.token.Token.{Token}
 use Rattle.scad_ast.specs.declared.statement.Program.{Program as ProgramIn}
 use Rattle.scad_ast.specs.Terms.{StatementTerm}
+use Rattle.scad_ast.specs.Counts.{begun_by_program}
 use Rattle.scad_ast.specs.StatementView.{program_of}
 use Rattle.scad_grammar.specs.declared.SyntaxFault.{SyntaxFault}
 use Rattle.scad_grammar.specs.FirstFault.{IsFirstFault}
 use Rattle.scad_grammar.specs.Grammar.{Program}
 use Rattle.scad_grammar.specs.Reading.{after}
+use Rattle.scad_grammar.proofs.Counts.{few_begun}
 use Rattle.scad_grammar.proofs.FirstFaults.{no_fault}
 use Rattle.scad_grammar.proofs.Programs.{complete_at}
 use Rattle.scad_parser.specs.Parsing.{ends, nothing_behind, whole_read, kind_of, place_at, IsStopOf, AnswersProgram, AnswersFault, IsRead}
@@ -19,6 +21,10 @@ module _ (d : ℕ) (ts : List Token) where
   pub found : (r : Result ProgramIn Stop) → IsRead r (whole_read d ts) → IfOk r (λ p. Program d (program_of p) ts)
   found (Ok p) h = whole_found d ts (program_of p) h.0 h.1
   found (Err s) h = tt
+
+  pub few : (r : Result ProgramIn Stop) → IsRead r (whole_read d ts) → IfOk r (λ p. begun_by_program (program_of p) ≤ length ts)
+  few (Ok p) h = few_begun d (program_of p) ts (whole_found d ts (program_of p) h.0 h.1)
+  few (Err s) h = tt
 
   pub program : (r : Result ProgramIn Stop) → IsRead r (whole_read d ts) → (x : List StatementTerm) → Program d x ts → AnswersProgram r x
   program (Ok p) h x g =

@@ -1,6 +1,7 @@
-ghost use Rattle.std.specs.Prelude.{◌≡◌, List, true, IfOk, IfErr};
+ghost use Rattle.std.specs.Prelude.{◌≡◌, ◌≤◌, List, length, true, IfOk, IfErr};
 ghost use Rattle.scad_lexer.specs.declared.token.Token.{Token};
 ghost use Rattle.scad_ast.specs.Terms.{StatementTerm};
+ghost use Rattle.scad_ast.specs.Counts.{begun_by_program};
 ghost use Rattle.scad_ast.specs.StatementView.{program_of};
 ghost use Rattle.scad_grammar.specs.declared.SyntaxFault.{SyntaxFault};
 ghost use Rattle.scad_grammar.specs.Grammar.{Program as ProgramAt};
@@ -31,6 +32,8 @@ pub fn parse(alloc: Global, tokens: &[Token]) -> Result<Program, Stop>
     ensures fault { ends tokens.now ≡ true → IfErr result (λ stop. IsStopOf 65 tokens.now stop) }
     // The tokens' first fault is given, unless memory runs out.
     ensures only { (fault : SyntaxFault) (at : List Token) → IsFirstFault 65 tokens.now fault at → AnswersFault result fault at }
+    // A program has no more blocks, functions and modules than tokens.
+    ensures few { IfOk result (λ p. begun_by_program (program_of p) ≤ length tokens.now) }
 {
     read_program(alloc, tokens)
 }

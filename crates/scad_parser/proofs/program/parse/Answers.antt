@@ -1,4 +1,4 @@
-use Rattle.scad_parser.proofs.Parsed.{found, program, fault, only}
+use Rattle.scad_parser.proofs.Parsed.{found, program, fault, only, few}
 use Rattle.scad_parser.proofs.program.parse.Goals as goal
 
 pub returns-clause-found : goal.returns-clause-found
@@ -12,3 +12,6 @@ returns-clause-fault c = λ e. fault 65 c.args.tokens.now c.read_program.result 
 
 pub returns-clause-only : goal.returns-clause-only
 returns-clause-only c = only 65 c.args.tokens.now c.read_program.result c.read_program.ensures
+
+pub returns-clause-few : goal.returns-clause-few
+returns-clause-few c = few 65 c.args.tokens.now c.read_program.result c.read_program.ensures
