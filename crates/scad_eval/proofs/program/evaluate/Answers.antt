@@ -1,0 +1,20 @@
+use Rattle.scad_ast.specs.StatementView.{program_of}
+use Rattle.scad_eval.proofs.Programs.{placed_tree, placing_stop, proper_tree}
+use Rattle.scad_eval.proofs.program.evaluate.Goals as goal
+
+pub returns-clause-tree : goal.returns-clause-tree
+returns-clause-tree c =
+    placed_tree c.args.unit (program_of c.args.program.now) c.in_ok-design.design
+    (c.in_ok-design.ensures (program_of c.args.program.now) c.in_ok-source.ensures.text) c.place.result c.place.ensures.tree
+
+pub returns-clause-stop : goal.returns-clause-stop
+returns-clause-stop c =
+    placing_stop c.args.unit (program_of c.args.program.now) c.in_ok-design.design
+    (c.in_ok-design.ensures (program_of c.args.program.now) c.in_ok-source.ensures.text) c.place.result c.place.ensures.stop
+
+pub returns-clause-proper : goal.returns-clause-proper
+returns-clause-proper c =
+    let laws = c.designs_stay_trim.ensures in
+    proper_tree c.args.unit (program_of c.args.program.now) c.in_ok-design.design
+    (c.in_ok-design.ensures (program_of c.args.program.now) c.in_ok-source.ensures.text)
+    laws.grouped_trim laws.grouped_parts laws.moved_trim laws.moved_parts laws.pieces c.place.result c.place.ensures.proper
