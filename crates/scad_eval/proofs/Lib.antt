@@ -24,4 +24,5 @@ mod KeptChildren
 mod Slots
 mod ModuleScopes
 mod Programs
+mod OneMeaning
 pub mod Work
