@@ -22,6 +22,10 @@ use scad_ast::{Binder, Binders};
 use scad_value::Value;
 use text_place::{FaultKind, Place, Stop};
 
+// The most scopes in one another when a loop enters that of a variable. Instances and calls enter fewer than half as many,
+// so only loops of very many variables come to it: what they would take of the stack isn't there.
+const SCOPES: u32 = 1536;
+
 impl Making<'_, '_> {
     /// The members of a loop's turns, joined by an operation.
     #[cycle(making)]
@@ -142,7 +146,8 @@ impl Making<'_, '_> {
         Ok(members)
     }
 
-    /// The turns of a loop for one value of a variable, which has a scope of its own.
+    /// The turns of a loop for one value of a variable, which has a scope of its own. `NoMemory` where too many
+    /// scopes stand in one another.
     #[cycle(making)]
     fn turns_with(
         &mut self,
@@ -160,6 +165,9 @@ impl Making<'_, '_> {
         ensures stays { OnOk result (Stays self.old self.new) }
     {
         let scope = self.evaluation.enter_empty(stand.scope)?;
+        if scope > SCOPES {
+            return Err(Stop::NoMemory);
+        }
         self.evaluation.bind(scope, name, value)?;
         let members = self.turns(stand.at(scope), place, rest, body)?;
         self.evaluation.leave(scope);
