@@ -33,7 +33,7 @@ pub fn shapes_have_one_verdict()
         IsHeightVerdict unit center height v → IsHeightVerdict unit center height w → v ≡ w }
 {}
 
-/// A program has one meaning in each unit: one tree, or one first fault.
+/// A program has one meaning at most in each unit: one tree, or one first fault.
 pub fn one_meaning()
     ensures { (unit : LengthUnit) (program : List StatementTerm) (m n : Meaning) → IsMeaning unit program m → IsMeaning unit program n → m ≡ n }
 {

@@ -22,9 +22,9 @@ use scad_ast::{Binder, Binders};
 use scad_value::Value;
 use text_place::{FaultKind, Place, Stop};
 
-// The most scopes in one another when a loop enters that of a variable. Instances and calls enter fewer than half as many,
-// so only loops of very many variables come to it: what they would take of the stack isn't there.
-const SCOPES: u32 = 1536;
+// The most scopes in one another when a loop enters that of a variable. Instances and calls enter fewer than a third as
+// many, so only very many variables of loops in one another come to it: the stack has no room for more.
+const SCOPES: u32 = 2048;
 
 impl Making<'_, '_> {
     /// The members of a loop's turns, joined by an operation.

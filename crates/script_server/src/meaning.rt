@@ -18,7 +18,7 @@ ghost use Rattle.script_server.specs.Meaning.Exports.{Exports, AnswersExport};
 
 use tree_export::{one_export, texts_pass_no_limit};
 
-/// In each unit a source means one tree, or has one first fault, and not both.
+/// In each unit a source means at most one tree, or has at most one first fault, and not both.
 pub fn one_meaning()
     ensures trees { (unit : LengthUnit) (source : List ℕ) (f g : Formula) → Means unit source f → Means unit source g → f ≡ g }
     ensures faults { (unit : LengthUnit) (source : List ℕ) (f g : Fault) → HasFault unit source f → HasFault unit source g → f ≡ g }
@@ -36,7 +36,7 @@ pub fn solids_pass_no_limit()
     texts_pass_no_limit();
 }
 
-/// A source has one reply to its export.
+/// A source has at most one reply to its export.
 pub fn one_reply()
     ensures { (unit : LengthUnit) (source : List ℕ) (r q : Reply) → Exports unit source r → Exports unit source q → r ≡ q }
 {
