@@ -25,4 +25,8 @@ mod Slots
 mod ModuleScopes
 mod Programs
 mod OneMeaning
+mod HeldPlaces
+mod ExpressionPlaces
+mod InstancePlaces
+mod ProgramPlaces
 pub mod Work

@@ -5,6 +5,7 @@ use Rattle.text_place.specs.declared.fault.FaultKind.{FaultKind}
 use Rattle.plane_predicate.specs.declared.unit.Unit.{Unit as LengthUnit}
 use Rattle.csg_tree.specs.Formulas.{Formula}
 use Rattle.scad_ast.specs.Terms.{StatementTerm, statements_from}
+use Rattle.scad_ast.specs.Places.{HoldsPlace}
 use Rattle.text_place.specs.declared.fault.Stop.{Stop}
 use Rattle.text_place.specs.declared.fault.Stop.TheVariants.{Fault, NoMemory}
 use Rattle.scad_scope.specs.declared.scopes.Scopes.{Scopes}
@@ -41,6 +42,11 @@ IsMeaning unit program meaning =
 abbrev pub IsMeaningStop : LengthUnit → List StatementTerm → Stop → Type 0
 IsMeaningStop unit program (Fault fault) = IsMeaning unit program (a_fault fault.kind fault.place)
 IsMeaningStop unit program NoMemory = Unit {0}
+
+-- a fault stands at one of the program's places
+abbrev pub HoldsFault : List StatementTerm → Stop → Type 0
+HoldsFault program (Fault fault) = HoldsPlace program fault.place
+HoldsFault program NoMemory = Unit {0}
 
 -- the design of a program, or its fault, unless memory ran out
 abbrev pub TellsDesign : LengthUnit → List StatementTerm → Result DesignIn Stop → Type 0

@@ -2,13 +2,16 @@
 
 ghost use Rattle.std.specs.Prelude.{◌≡◌, ℤ, Bool, true, List};
 ghost use Rattle.std.specs.List.{AllByRecursion};
+ghost use Rattle.text_place.specs.declared.fault.Place.{Place};
+ghost use Rattle.text_place.specs.declared.fault.FaultKind.{FaultKind};
 ghost use Rattle.scad_ast.specs.Terms.{StatementTerm, StatementTerms};
+ghost use Rattle.scad_ast.specs.Places.{HoldsPlace};
 ghost use Rattle.scad_scope.specs.Blocks.{assigned_in, assignments_of};
 ghost use Rattle.scad_eval.specs.Bodies.{StandsForAll, HaveOwnNames, is_named_in};
 ghost use Rattle.plane_predicate.specs.declared.unit.Unit.{Unit as LengthUnit};
 ghost use Rattle.scad_modules.specs.Effects.{SolidCall, FlatCall};
 ghost use Rattle.scad_eval.specs.Verdicts.{Verdict, Judge, IsRight, IsSolidVerdict, IsFlatVerdict, IsHeightVerdict};
-ghost use Rattle.scad_eval.specs.Sources.{Meaning, IsMeaning};
+ghost use Rattle.scad_eval.specs.Sources.{Meaning, a_fault, IsMeaning};
 
 use scad_design::one_placing;
 
@@ -40,3 +43,9 @@ pub fn one_meaning()
     shapes_have_one_verdict();
     one_placing();
 }
+
+/// A fault can be shown in its program: where a program means a fault, it stands at one of the program's places, that of
+/// a form, a name, an operator or an opening bracket.
+pub fn faults_stand_in_their_program()
+    ensures { (unit : LengthUnit) (program : List StatementTerm) (kind : FaultKind) (at : Place) → IsMeaning unit program (a_fault kind at) → HoldsPlace program at }
+{}

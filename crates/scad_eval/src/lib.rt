@@ -25,7 +25,9 @@ mod shapes;
 mod stand;
 
 pub use bodies::{is_bare, is_marked, is_on};
-pub use laws::{last_assignments_count, one_meaning, shapes_have_one_verdict};
+pub use laws::{
+    faults_stand_in_their_program, last_assignments_count, one_meaning, shapes_have_one_verdict,
+};
 pub use numbered::{NumberedInstance, numbered_instances};
 pub use program::evaluate;
 pub use shapes::{flat_shape, solid_shape};

@@ -11,7 +11,7 @@ ghost use Rattle.scad_design.specs.View.{plain_of};
 ghost use Rattle.plane_predicate.specs.declared.unit.Unit.{Unit as LengthUnit};
 ghost use Rattle.scad_eval.specs.Verdicts.{Judge};
 ghost use Rattle.scad_eval.specs.Meaning.{or_all};
-ghost use Rattle.scad_eval.specs.Sources.{IsMeaning, a_tree, IsMeaningStop, TellsDesign, IsFirstTable};
+ghost use Rattle.scad_eval.specs.Sources.{IsMeaning, a_tree, IsMeaningStop, HoldsFault, TellsDesign, IsFirstTable};
 
 use crate::making::Making;
 use crate::stand::{Members, Stand};
@@ -24,10 +24,11 @@ use scad_scope::Scopes;
 use std::alloc::Global;
 use text_place::{NoMemory, Stop};
 
-/// The tree of a program in world position, in a unit, or its first fault.
+/// The tree of a program in world position, in a unit, or its first fault, which stands at one of the program's places.
 pub fn evaluate(alloc: Global, program: &Program, unit: Unit) -> Result<CsgTree, Stop>
     ensures tree { IfOk result (λ tree. IsMeaning unit (program_of program.now) (a_tree (formula_of tree))) }
     ensures stop { IfErr result (IsMeaningStop unit (program_of program.now)) }
+    ensures place { IfErr result (HoldsFault (program_of program.now)) }
     ensures proper { IfOk result (λ tree. IsProper (formula_of tree)) }
 {
     // Joins of designs have no empty sides, and at most 1,024 parts: a tree has few enough subtrees.
