@@ -3,3 +3,7 @@
 
 #[cfg(test)]
 mod joins;
+#[cfg(test)]
+mod stores;
+#[cfg(test)]
+mod trees;

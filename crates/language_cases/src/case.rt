@@ -4,7 +4,9 @@ use crate::program::{put_program, put_reads};
 use crate::repeat::unfolded;
 use crate::text::{cut, put};
 use crate::tokens::put_tokens;
+use crate::tree::put_meaning;
 use crate::value::put_value_after;
+use plane_predicate::Unit;
 use std::alloc::Global;
 use text_place::{NoMemory, read_decimal};
 
@@ -28,6 +30,10 @@ fn put_answer(
         put_reads(alloc, out, source)
     } else if asked == b"value".as_slice() {
         put_value_after(alloc, out, source, 0)
+    } else if asked == b"tree".as_slice() {
+        put_meaning(alloc, out, source, Unit::Whole)
+    } else if asked == b"half".as_slice() {
+        put_meaning(alloc, out, source, Unit::Half)
     } else {
         put(out, b"no case")
     }

@@ -7,6 +7,8 @@
 //! - `value SOURCE` asks for the value of the first assignment, where `later` is 7, or its first fault.
 //!   Columns of the fault are counted from the one behind `x = `. `turns N SOURCE` asks for the same where
 //!   N turns were counted before.
+//! - `tree SOURCE` asks for the tree that the source means in whole units, `half SOURCE` in half units, or for
+//!   the first fault.
 //!
 //! In a source `` `N TEXT` `` stands for N times TEXT, and `` `N` `` for the byte N, such as 10, a newline. A line
 //! that begins with `#` and an empty line are no cases.
@@ -17,6 +19,7 @@ mod program;
 mod repeat;
 mod text;
 mod tokens;
+mod tree;
 mod value;
 
 use crate::case::put_case;

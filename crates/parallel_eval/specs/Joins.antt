@@ -1,4 +1,4 @@
--- The solid of a join, asked of a memo, and what is counted for it.
+-- The solid of a join, asked of a memo, and what is counted for joins.
 use Rattle.std.specs.Prelude.{◌≡◌, ℕ, ◌+◌, ◌≤◌}
 use Rattle.csg_tree.specs.declared.op.Op.{Op}
 use Rattle.csg_tree.specs.Formulas.{Formula, joined}
@@ -10,16 +10,22 @@ use Rattle.subtree_memo.specs.Shares.{View, probes_of, offered_of}
 abbrev pub IsJoinOf : Op → Tree → Tree → Formula → Type 0
 IsJoinOf op left right tree = (first : Formula) × (second : Formula) × (tree ≡ joined op first second) × (left ≡ solid_of first) × (right ≡ solid_of second)
 
--- One join was answered: it was one probe, and where it was missed, one build and one fill that was
--- offered.
-pub record IsAnswered (share share' : View) (count count' : ℕ) : Type 0 where
-  pub probes : probes_of share' ≡ probes_of share + 1
+-- From one number of joins to another they were answered: each was one probe, and each miss was one build
+-- and one fill that was offered.
+pub record AreAnswered (before after : ℕ) (share share' : View) (count count' : ℕ) : Type 0 where
+  pub probes : probes_of share' + before ≡ probes_of share + after
   pub builds : count' + share.misses ≡ count + share'.misses
   pub offered : offered_of share' + share.misses ≡ offered_of share + share'.misses
 
--- One join was begun: it was at most one probe, and where it was missed, at most one build and one fill
--- that was offered.
-pub record IsBegun (share share' : View) (count count' : ℕ) : Type 0 where
-  pub probes : probes_of share' ≤ probes_of share + 1
+-- From one number of joins to another they were begun, or some of them: each was at most one probe, and each
+-- miss at most one build and one fill that was offered. No number falls.
+pub record AreBegun (before after : ℕ) (share share' : View) (count count' : ℕ) : Type 0 where
+  pub order : before ≤ after
+  pub hits : share.hits ≤ share'.hits
+  pub misses : share.misses ≤ share'.misses
+  pub kept : share.kept ≤ share'.kept
+  pub heavy : share.heavy ≤ share'.heavy
+  pub dropped : share.dropped ≤ share'.dropped
+  pub probes : probes_of share' + before ≤ probes_of share + after
   pub builds : count' + share.misses ≤ count + share'.misses
   pub offered : offered_of share' + share.misses ≤ offered_of share + share'.misses

@@ -1,2 +1,3 @@
 -- Solids of trees by a memo that threads share.
 pub mod Joins
+pub mod Runs

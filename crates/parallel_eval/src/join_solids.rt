@@ -7,7 +7,7 @@ ghost use Rattle.bsp_boolean.specs.Merges.{merged};
 ghost use Rattle.bsp_boolean.specs.Solids.{solid_of, IsBuilt};
 ghost use Rattle.bsp_boolean.specs.TreeSolids.{most_of_one};
 ghost use Rattle.subtree_memo.specs.Shares.{dropped_max};
-ghost use Rattle.parallel_eval.specs.Joins.{IsJoinOf, IsAnswered, IsBegun};
+ghost use Rattle.parallel_eval.specs.Joins.{IsJoinOf, AreAnswered, AreBegun};
 
 use crate::gate::Gate;
 use crate::solid_fit::SolidFit;
@@ -82,9 +82,8 @@ impl<
         ensures parts { share.new.parts ≡ share.old.parts }
         ensures caller { share.new.caller ≡ share.old.caller }
         ensures answered { OnOk result
-            (IsAnswered share.old share.new (B.builds builder.old) (B.builds builder.new)) }
-        ensures begun { OnErr result
-            (IsBegun share.old share.new (B.builds builder.old) (B.builds builder.new)) }
+            (AreAnswered 0 1 share.old share.new (B.builds builder.old) (B.builds builder.new)) }
+        ensures begun { AreBegun 0 1 share.old share.new (B.builds builder.old) (B.builds builder.new) }
     {
         if let Probe::Hit(solid) = self.memo.probe(self.rt, self.alloc, share, node.key)? {
             return within(solid);

@@ -1,10 +1,14 @@
-//! Solids of trees by a memo that threads share: what the memo keeps, where a build may be held, and the
-//! solid of a join.
+//! Solids of trees by a memo that threads share: what the memo keeps, where a build may be held, the
+//! solid of a join, and the solid of a store by many builders at once.
 #![tactic(auto)]
 
 mod gate;
+mod growth;
 mod join_solids;
+mod lanes;
+mod node_runs;
 mod solid_fit;
+mod store_solids;
 mod tree_namer;
 
 pub use gate::{Gate, OpenGate};

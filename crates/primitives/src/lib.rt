@@ -13,5 +13,5 @@ pub use cube::cube_shape;
 pub use extrusion::extrude;
 pub use flat::Flat;
 pub use polygon::polygon_flat;
-pub use sizes::{Ends, ends_of, in_steps};
+pub use sizes::{Ends, ends_of, in_steps, size_fault};
 pub use square::square_flat;

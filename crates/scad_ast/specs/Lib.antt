@@ -1,4 +1,5 @@
 pub mod Counts
 pub mod ExprView
+pub mod Places
 pub mod StatementView
 pub mod Terms

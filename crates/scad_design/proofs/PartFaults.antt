@@ -1,7 +1,7 @@
 -- The faults of a part.
 use Rattle.std.proofs.Common.{◌≡◌, ◌<◌, ℤ, List, length, refl, subst, All, Any}
 use Rattle.text_place.specs.declared.fault.FaultKind.{FaultKind}
-use Rattle.text_place.specs.declared.fault.FaultKind.TheVariants.{BadCharacter, OpenComment, OpenText, NotWhole, TooLarge, TypeMismatch, ZeroDivisor, BadSize, NotOnGrid, OutOfRange, FewPoints, BadPoint, NotFlat, NotConvex, NotClosed, Expected, Nested, UnknownName, UnknownFunction, UnknownModule, BadArgument, TooDeep, TooManyTurns, RangeOrder, AssertFailed, NotInProfile, WrongDimension, NotQuarter, Singular, TooManyParts, TooManyPlanes, LongList, NotYet}
+use Rattle.text_place.specs.declared.fault.FaultKind.TheVariants.{BadCharacter, OpenComment, OpenText, NotWhole, TooLarge, TypeMismatch, ZeroDivisor, BadSize, NotOnGrid, OutOfRange, FewPoints, BadPoint, NotFlat, NotConvex, NotClosed, Expected, Nested, UnknownName, UnknownFunction, UnknownModule, BadArgument, TooDeep, TooManyTurns, RangeOrder, AssertFailed, NotInProfile, WrongDimension, NotQuarter, Singular, TooManyParts, TooManyPlanes, LongList}
 use Rattle.plane_predicate.specs.Space.{Coefficients, point_at, IsInReach}
 use Rattle.int_transform.specs.Maps.{image, map_of, LeavesRange, StaysInRange}
 use Rattle.shape_planes.specs.declared.stop.ShapeStop.TheVariants.{Kind}
@@ -59,7 +59,6 @@ range_fault part known Singular stop large far = absurd stop
 range_fault part known TooManyParts stop large far = absurd stop
 range_fault part known TooManyPlanes stop large far = absurd stop
 range_fault part known LongList stop large far = absurd stop
-range_fault part known NotYet stop large far = absurd stop
 
 -- a stop of a part by itself is one of the part behind other planes
 pub range_stop : (part : Part) (known : List Coefficients) (stop : Stop) → IsRangeStop part stop → IsStopOf (a_part part) known stop
@@ -105,4 +104,3 @@ cause_of part known Singular h = absurd h
 cause_of part known TooManyParts h = absurd h
 cause_of part known TooManyPlanes h = many refl h.0 h.1 h.2.0 h.2.1 h.2.2
 cause_of part known LongList h = absurd h
-cause_of part known NotYet h = absurd h

@@ -10,3 +10,23 @@ mod Choosing
 mod Crossing
 mod NumberedItems
 mod RangeNumbers
+mod Counting
+mod Evaluating
+mod Leaving
+mod Membership
+mod Telling
+mod Standing
+mod Beginning
+mod Saying
+mod Parts
+mod Binding
+mod KeptChildren
+mod Slots
+mod ModuleScopes
+mod Programs
+mod OneMeaning
+mod HeldPlaces
+mod ExpressionPlaces
+mod InstancePlaces
+mod ProgramPlaces
+pub mod Work

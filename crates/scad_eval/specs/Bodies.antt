@@ -2,10 +2,9 @@
 use Rattle.std.specs.Prelude.{◌≡◌, ⊤, Bool, true, false, not, ◌&&◌, ◌||◌, List, [], ◌∷◌, ◌++◌, filter, Option, Some, None, is_some, option_map, codes, if◌then◌else◌}
 use Rattle.std.specs.List.{list_any}
 use Rattle.std.specs.Str.{bytes_eq}
-use Rattle.text_place.specs.declared.fault.Place.{Place}
 use Rattle.scad_ast.specs.declared.operator.Modifier.{Modifier}
 use Rattle.scad_ast.specs.declared.operator.Modifier.TheVariants.{Disable, Background, Highlight, Root}
-use Rattle.scad_ast.specs.Terms.{StatementTerm, EmptyStatement, BlockStatement, AssignmentTerm, SpecialAssignmentTerm, ModuleTerm, FunctionTerm, InstanceStatement, StatementTerms, no_statements, and_statement, InstanceTerm, AnInstance, CoreTerm, IfTerm, IfElseTerm, ForTerm, IntersectionForTerm, ModuleCallTerm, BodyTerm, EmptyBody, BlockBody, InstanceBody}
+use Rattle.scad_ast.specs.Terms.{StatementTerm, EmptyStatement, BlockStatement, AssignmentTerm, SpecialAssignmentTerm, ModuleTerm, FunctionTerm, InstanceStatement, StatementTerms, no_statements, and_statement, InstanceTerm, AnInstance, CoreTerm, ModuleCallTerm, BodyTerm, EmptyBody, BlockBody, InstanceBody}
 use Rattle.scad_scope.specs.Blocks.{Assigned, same_name}
 use Rattle.scad_func.specs.Meaning.{Env, module_in}
 
@@ -88,11 +87,9 @@ is_child env (AnInstance at marks core) = not (says_only env core)
 abbrev pub children_in : Env → StatementTerms → List InstanceTerm
 children_in env statements = filter (is_child env) (evaluated_in statements)
 
--- a body's statements; an instance alone is a body of one statement
-abbrev pub statements_of_body : BodyTerm → StatementTerms
-statements_of_body (EmptyBody at) = no_statements
-statements_of_body (BlockBody at statements) = statements
-statements_of_body (InstanceBody instance) = and_statement (InstanceStatement instance) no_statements
+abbrev pub has_no_items : {A : Type 0} → List A → Bool
+has_no_items [] = true
+has_no_items (x ∷ xs) = false
 
 -- a body without a token of its own: `;` or `{ }`
 abbrev pub is_bare : BodyTerm → Bool
@@ -100,14 +97,3 @@ is_bare (EmptyBody at) = true
 is_bare (BlockBody at no_statements) = true
 is_bare (BlockBody at (and_statement s rest)) = false
 is_bare (InstanceBody instance) = false
-
--- the places of the first tokens
-abbrev pub instance_place : InstanceTerm → Place
-instance_place (AnInstance at marks core) = at
-
-abbrev pub core_place : CoreTerm → Place
-core_place (IfTerm at test body) = at
-core_place (IfElseTerm at test body other) = at
-core_place (ForTerm at binders body) = at
-core_place (IntersectionForTerm at binders body) = at
-core_place (ModuleCallTerm at name args body) = at

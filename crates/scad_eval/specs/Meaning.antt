@@ -7,12 +7,12 @@ use Rattle.csg_tree.specs.declared.op.Op.{Op}
 use Rattle.csg_tree.specs.declared.op.Op.TheVariants.{Union, Intersection}
 use Rattle.plane_predicate.specs.declared.unit.Unit.{Unit as LengthUnit}
 use Rattle.shape_planes.specs.Shapes.{Mesh}
-use Rattle.scad_ast.specs.Terms.{BinderTerm, StatementTerms, InstanceTerm, AnInstance, CoreTerm, IfTerm, IfElseTerm, ForTerm, IntersectionForTerm, ModuleCallTerm, BodyTerm, ArgTerm, ArgTerms, no_args, and_named, and_special, and_positional, SpecialArgTerm, args_from}
+use Rattle.scad_ast.specs.Terms.{BinderTerm, StatementTerms, InstanceTerm, AnInstance, CoreTerm, IfTerm, IfElseTerm, ForTerm, IntersectionForTerm, ModuleCallTerm, BodyTerm, ArgTerm, ArgTerms, no_args, and_named, and_special, and_positional, SpecialArgTerm, args_from, place_of_instance, place_of_core}
 use Rattle.scad_value.specs.Values.{Val, NumberVal, Vals, no_vals, and_val, truth_of}
 use Rattle.scad_value.specs.Operators.{Answer}
 use Rattle.scad_scope.specs.Names.{Pairs, find_in}
 use Rattle.scad_scope.specs.Arguments.{names_of}
-use Rattle.scad_scope.specs.Blocks.{Module, Assigned, assignments_of}
+use Rattle.scad_scope.specs.Blocks.{Module, Assigned, assignments_of, statements_of_body}
 use Rattle.scad_func.specs.Meaning.{Outcome, Gives, Faults, then_with, or_fault, Env, Outermost, Within, Opened, no_call, opened, module_in, call_in, functions_standing_in, modules_standing_in, entered_scope, with_variable, turn, Setting, value_at, one_call_fewer, Arguments, nothing_given, taker_of, with_argument, each_argument, each_parameter, paired, evaluated}
 use Rattle.scad_modules.specs.declared.table.BuiltinModule.{BuiltinModule}
 use Rattle.scad_modules.specs.declared.table.BuiltinModule.TheVariants.{Echo}
@@ -20,8 +20,9 @@ use Rattle.scad_modules.specs.Table.{module_named, is_left_out, parameters_of}
 use Rattle.scad_modules.specs.Effects.{EffectCall, a_solid, a_flat, a_move, a_join, an_extrusion, silence, some_children, FlatCall, ChosenCall}
 use Rattle.scad_modules.specs.Calls.{effect_of}
 use Rattle.scad_design.specs.Designs.{Design, empty, a_part, balanced, grouped, moved_by}
-use Rattle.scad_eval.specs.Verdicts.{Judge, Verdict, solid_of, extruded, Extrusion}
-use Rattle.scad_eval.specs.Bodies.{evaluated_in, children_in, is_marked, says_only, statements_of_body, is_bare, instance_place, core_place}
+use Rattle.scad_eval.specs.declared.stand.Extrusion.{Extrusion}
+use Rattle.scad_eval.specs.Verdicts.{Judge, Verdict, solid_of, extruded}
+use Rattle.scad_eval.specs.Bodies.{evaluated_in, children_in, is_marked, says_only, is_bare}
 use Rattle.scad_eval.specs.Loops.{items_of, chosen_among}
 
 -- where an instance stands: the calls that are left, the scope, the chain of special names, the extrusion that it is inside
@@ -149,25 +150,25 @@ each_step at step (and_val v vs) turns leaves =
     after_step at ms.designs turns (λ turns.
     then_with (each_step at step vs turns ms.leaves) (λ turns more. Gives turns (and_members ms more))))
 
--- the scope of a loop's variables, the newest first
-abbrev pub in_loop : Stand → Pairs Val → Stand
-in_loop here variables = standing here (Within variables [] [] no_call here.env)
+-- a variable of a loop, in a scope of its own
+abbrev pub in_loop : Stand → List ℕ → Val → Stand
+in_loop here name value = standing here (Within ((name, value) ∷ []) [] [] no_call here.env)
 
 -- The turns of a loop: one for each choice of a value for every variable, the first one slowest. Each gives the union of
--- its body
-abbrev pub each_turn : ℕ → Makes → Stand → Place → List BinderTerm → BodyTerm → Pairs Val → ℕ → ℕ → Outcome Members
-each_turn left make here at [] body variables turns leaves =
+-- its body, which stands inside the scopes of the variables
+abbrev pub each_turn : ℕ → Makes → Place → List BinderTerm → BodyTerm → Stand → ℕ → ℕ → Outcome Members
+each_turn left make at [] body here turns leaves =
     turn at turns (λ turns.
-    then_with (body_made left make Union (in_loop here variables) body turns leaves) (λ turns m.
+    then_with (body_made left make Union here body turns leaves) (λ turns m.
     Gives turns (as_member true m)))
-each_turn left make here at (b ∷ bs) body variables turns leaves =
-    then_with (value_at (setting left (in_loop here variables)) true b.values turns) (λ turns v.
+each_turn left make at (b ∷ bs) body here turns leaves =
+    then_with (value_at (setting left here) true b.values turns) (λ turns v.
     or_fault (items_of v) TypeMismatch at (λ items.
-    each_step at (λ item. each_turn left make here at bs body ((b.name, item) ∷ variables)) items turns leaves))
+    each_step at (λ item. each_turn left make at bs body (in_loop here b.name item)) items turns leaves))
 
 abbrev pub loop_made : ℕ → Makes → Op → Stand → Place → List BinderTerm → BodyTerm → ℕ → ℕ → Outcome Made
 loop_made left make op here at binders body turns leaves =
-    then_with (each_turn left make here at binders body [] turns leaves) (λ turns ms. Gives turns (made_of op ms))
+    then_with (each_turn left make at binders body here turns leaves) (λ turns ms. Gives turns (made_of op ms))
 
 -- one leaf more
 abbrev pub leaf_made : Place → Mesh → ℕ → ℕ → Outcome Made
@@ -298,13 +299,13 @@ module _ (unit : LengthUnit) (judge : Judge) where
   abbrev pub instance_made : ℕ → Makes → Makes
   instance_made left make here i turns leaves =
       if is_marked i
-      then (if is_some here.inside then Faults WrongDimension (core_place (core_of i))
+      then (if is_some here.inside then Faults WrongDimension (place_of_core (core_of i))
       else marked_made left make here (core_of i) turns leaves)
       else core_made left make here (core_of i) turns leaves
 
   -- with so many evaluations in one another left
   unfoldable pub made_within : ℕ → Makes
-  made_within zero here i turns leaves = Faults TooDeep (instance_place i)
+  made_within zero here i turns leaves = Faults TooDeep (place_of_instance i)
   made_within (suc left) here i turns leaves = instance_made left (made_within left) here i turns leaves
 
   -- a program's scope stands inside one that is empty; its chain begins with what it is given

@@ -1,15 +1,23 @@
 -- What a program means: the tree of its design in world position, or its first fault.
-use Rattle.std.specs.Prelude.{◌≡◌, List, []}
+use Rattle.std.specs.Prelude.{◌≡◌, ℕ, List, [], ◌∷◌, Result}
 use Rattle.text_place.specs.declared.fault.Place.{Place}
 use Rattle.text_place.specs.declared.fault.FaultKind.{FaultKind}
 use Rattle.plane_predicate.specs.declared.unit.Unit.{Unit as LengthUnit}
 use Rattle.csg_tree.specs.Formulas.{Formula}
 use Rattle.scad_ast.specs.Terms.{StatementTerm, statements_from}
-use Rattle.scad_scope.specs.Names.{first_chain}
+use Rattle.scad_ast.specs.Places.{HoldsPlace}
+use Rattle.text_place.specs.declared.fault.Stop.{Stop}
+use Rattle.text_place.specs.declared.fault.Stop.TheVariants.{Fault, NoMemory}
+use Rattle.scad_scope.specs.declared.scopes.Scopes.{Scopes}
+use Rattle.scad_scope.specs.Table.{rows_of, chain_of}
+use Rattle.scad_scope.specs.Names.{first_chain, first_row}
 use Rattle.scad_func.specs.Meaning.{Outcome, Gives, Faults}
 use Rattle.scad_design.specs.Designs.{Design}
 use Rattle.scad_eval.specs.Verdicts.{Judge, IsRight}
 use Rattle.scad_eval.specs.Meaning.{design_of}
+use Rattle.scad_eval.specs.Seen.{Told}
+use Rattle.scad_design.specs.declared.design.Design.{Design as DesignIn}
+use Rattle.scad_design.specs.View.{plain_of}
 use Rattle.scad_design.specs.Placing.{Placed, placed, unplaced, Places}
 
 pub data Meaning : Type 0 where
@@ -29,3 +37,23 @@ IsMeaningOfDesign (Gives turns design) meaning = (out : Placed) × Places design
 abbrev pub IsMeaning : LengthUnit → List StatementTerm → Meaning → Type 0
 IsMeaning unit program meaning =
     (judge : Judge) → IsRight judge → IsMeaningOfDesign (design_of unit judge first_chain (statements_from program)) meaning
+
+-- a stop of evaluation: the program's first fault, or want of memory
+abbrev pub IsMeaningStop : LengthUnit → List StatementTerm → Stop → Type 0
+IsMeaningStop unit program (Fault fault) = IsMeaning unit program (a_fault fault.kind fault.place)
+IsMeaningStop unit program NoMemory = Unit {0}
+
+-- a fault stands at one of the program's places
+abbrev pub HoldsFault : List StatementTerm → Stop → Type 0
+HoldsFault program (Fault fault) = HoldsPlace program fault.place
+HoldsFault program NoMemory = Unit {0}
+
+-- the design of a program, or its fault, unless memory ran out
+abbrev pub TellsDesign : LengthUnit → List StatementTerm → Result DesignIn Stop → Type 0
+TellsDesign unit program r = (judge : Judge) → IsRight judge →
+    (turns : ℕ) × Told (λ leaves. plain_of) r turns 0 (design_of unit judge first_chain (statements_from program))
+
+-- the table of scopes that evaluation begins with
+pub record IsFirstTable (scopes : Scopes) : Type 0 where
+  pub rows : rows_of scopes ≡ first_row ∷ []
+  pub chain : chain_of scopes ≡ first_chain

@@ -10,6 +10,7 @@ use Rattle.primitives.specs.Prisms.{extrusion_of}
 use Rattle.round_four.specs.Circles.{circle_of, IsCircleSize, IsCircleFault}
 use Rattle.round_four.specs.Cylinders.{cylinder_of, AreCylinderSizes, IsCylinderFault}
 use Rattle.polyhedra.specs.Polyhedra.{mesh_of, IsPolyhedron, IsFaultOf, checks, faults}
+use Rattle.scad_eval.specs.declared.stand.Extrusion.{Extrusion}
 use Rattle.scad_modules.specs.Effects.{SolidCall, cube_call, polyhedron_call, cylinder_call, FlatCall, square_call, polygon_call, circle_call}
 
 -- the first check of shapes that fails, or none
@@ -59,11 +60,6 @@ abbrev pub outline_of : LengthUnit → FlatCall → List (List ℤ)
 outline_of unit (square_call center size) = square_of unit center size
 outline_of unit (polygon_call points) = polygon_of unit points
 outline_of unit (circle_call radius) = circle_of unit radius
-
--- a height through which the plane is moved
-pub record Extrusion : Type 0 where
-  pub center : Bool
-  pub height : ℤ
 
 abbrev pub extruded : LengthUnit → Extrusion → FlatCall → Mesh
 extruded unit through call = extrusion_of unit through.center (outline_of unit call) through.height

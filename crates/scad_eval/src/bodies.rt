@@ -1,16 +1,11 @@
 //! What stands in a body.
 
-ghost use Rattle.std.specs.Prelude.{◌≡◌, ◌++◌, ◌∷◌, [], List, map, IfOk, OnOk};
-ghost use Rattle.std.specs.List.{filter, list_any};
-ghost use Rattle.std.specs.Borrow.{Bor};
-ghost use Rattle.scad_ast.specs.Terms.{statements_from};
-ghost use Rattle.scad_ast.specs.StatementView.{marks_of, instance_of, statement_of, statements_of, body_of};
-ghost use Rattle.scad_eval.specs.Bodies.{switches_off as switches_off_at, is_root as is_root_at, is_on as is_on_at, is_marked as is_marked_at, is_bare as is_bare_at, instances_in, instances_of, evaluated_in};
-ghost use Rattle.scad_eval.specs.Lent.{terms_of_lent, is_empty_list};
+ghost use Rattle.std.specs.Prelude.{◌≡◌};
+ghost use Rattle.std.specs.List.{list_any};
+ghost use Rattle.scad_ast.specs.StatementView.{marks_of, instance_of, statements_of, body_of};
+ghost use Rattle.scad_eval.specs.Bodies.{switches_off as switches_off_at, is_root as is_root_at, is_on as is_on_at, is_marked as is_marked_at, is_bare as is_bare_at, has_no_items};
 
-use scad_ast::{Body, Instance, Marks, Modifier, Statement, Statements};
-use std::alloc::Global;
-use text_place::NoMemory;
+use scad_ast::{Body, Instance, Marks, Modifier, Statements};
 
 /// Whether an instance is evaluated: one marked `*` or `%` counts as not written. Takes no memory.
 pub fn is_on(instance: &Instance) -> bool
@@ -78,56 +73,7 @@ pub fn is_bare(body: &Body) -> bool
 }
 
 fn has_none(statements: &Statements) -> bool
-    ensures { result ≡ is_empty_list (statements_of statements.now) }
+    ensures { result ≡ has_no_items (statements_of statements.now) }
 {
     statements.items.is_empty()
-}
-
-/// The instances of some statements that are evaluated, in order, those of bare blocks too.
-pub fn evaluated_instances<'a>(
-    alloc: Global,
-    statements: &'a Statements,
-) -> Result<Vec<&'a Instance>, NoMemory>
-    ensures { IfOk result (λ found. terms_of_lent found.items ≡ evaluated_in (statements_from (statements_of statements.now))) }
-{
-    let mut found = Vec::new(alloc);
-    add_all(statements, &mut found)?;
-    Ok(found)
-}
-
-#[cycle(instances)]
-fn add_all<'a>(statements: &'a Statements, found: &mut Vec<&'a Instance>) -> Result<(), NoMemory>
-    ensures { OnOk result (terms_of_lent found.new.items ≡ terms_of_lent found.old.items
-        ++ evaluated_in (statements_from (statements_of statements.now))) }
-{
-    'each: for statement in &statements.items {
-        add(statement, found)?;
-    }
-    Ok(())
-}
-
-#[cycle(instances)]
-fn add<'a>(statement: &'a Statement, found: &mut Vec<&'a Instance>) -> Result<(), NoMemory>
-    ensures { OnOk result (terms_of_lent found.new.items ≡ terms_of_lent found.old.items
-        ++ filter is_on_at (instances_of (statement_of statement.now))) }
-{
-    match statement {
-        Statement::Block(_, statements) => add_all(statements, found),
-        Statement::Instantiation(instance) => add_if_on(instance, found),
-        Statement::Empty(_) => Ok(()),
-        Statement::Assignment(_, _, _) => Ok(()),
-        Statement::SpecialAssignment(_, _, _) => Ok(()),
-        Statement::Module(_, _, _, _, _) => Ok(()),
-        Statement::Function(_, _, _, _, _) => Ok(()),
-    }
-}
-
-fn add_if_on<'a>(instance: &'a Instance, found: &mut Vec<&'a Instance>) -> Result<(), NoMemory>
-    ensures { OnOk result (terms_of_lent found.new.items ≡ terms_of_lent found.old.items
-        ++ filter is_on_at (instance_of instance.now ∷ [])) }
-{
-    if is_on(instance) {
-        found.push(instance)?;
-    }
-    Ok(())
 }

@@ -1,13 +1,19 @@
 //! Laws of the meaning of sources, on functions that do nothing.
 
-ghost use Rattle.std.specs.Prelude.{◌≡◌, ℤ, Bool, true};
+ghost use Rattle.std.specs.Prelude.{◌≡◌, ℤ, Bool, true, List};
 ghost use Rattle.std.specs.List.{AllByRecursion};
-ghost use Rattle.scad_ast.specs.Terms.{StatementTerms};
+ghost use Rattle.text_place.specs.declared.fault.Place.{Place};
+ghost use Rattle.text_place.specs.declared.fault.FaultKind.{FaultKind};
+ghost use Rattle.scad_ast.specs.Terms.{StatementTerm, StatementTerms};
+ghost use Rattle.scad_ast.specs.Places.{HoldsPlace};
 ghost use Rattle.scad_scope.specs.Blocks.{assigned_in, assignments_of};
 ghost use Rattle.scad_eval.specs.Bodies.{StandsForAll, HaveOwnNames, is_named_in};
 ghost use Rattle.plane_predicate.specs.declared.unit.Unit.{Unit as LengthUnit};
 ghost use Rattle.scad_modules.specs.Effects.{SolidCall, FlatCall};
 ghost use Rattle.scad_eval.specs.Verdicts.{Verdict, Judge, IsRight, IsSolidVerdict, IsFlatVerdict, IsHeightVerdict};
+ghost use Rattle.scad_eval.specs.Sources.{Meaning, a_fault, IsMeaning};
+
+use scad_design::one_placing;
 
 /// The last assignment of a name in a scope counts everywhere in it (OpenSCAD User Manual, "Variables"): of all
 /// assignments of a body, those that are evaluated have each name once, with its last expression, in the place of its
@@ -28,4 +34,18 @@ pub fn shapes_have_one_verdict()
         IsFlatVerdict unit call v → IsFlatVerdict unit call w → v ≡ w }
     ensures heights { (unit : LengthUnit) (center : Bool) (height : ℤ) (v w : Verdict) →
         IsHeightVerdict unit center height v → IsHeightVerdict unit center height w → v ≡ w }
+{}
+
+/// A program has one meaning at most in each unit: one tree, or one first fault.
+pub fn one_meaning()
+    ensures { (unit : LengthUnit) (program : List StatementTerm) (m n : Meaning) → IsMeaning unit program m → IsMeaning unit program n → m ≡ n }
+{
+    shapes_have_one_verdict();
+    one_placing();
+}
+
+/// A fault can be shown in its program: where a program means a fault, it stands at one of the program's places, that of
+/// a form, a name, an operator or an opening bracket.
+pub fn faults_stand_in_their_program()
+    ensures { (unit : LengthUnit) (program : List StatementTerm) (kind : FaultKind) (at : Place) → IsMeaning unit program (a_fault kind at) → HoldsPlace program at }
 {}

@@ -30,7 +30,7 @@ fewer n m (Gives ts) l h = omega (arith, l, h)
 fewer n m (Faults k p) l h = tt
 
 -- a word has bytes
-some_bytes : (text : List ℕ) (n : ℕ) (word : Word) → word_of (take n text) ≡ Some word → 1 ≤ n
+pub some_bytes : (text : List ℕ) (n : ℕ) (word : Word) → word_of (take n text) ≡ Some word → 1 ≤ n
 some_bytes text zero word e = absurd (let f : ◌≡◌ {A = Option Word} None (Some word) = e in cc)
 some_bytes text (suc n) word e = omega arith
 

@@ -1,4 +1,5 @@
 mod EndsOnce
+mod FaultPlaces
 mod Rows
 pub mod Lexing
 mod Lengths

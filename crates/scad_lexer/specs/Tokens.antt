@@ -189,6 +189,15 @@ IsFaultFrom p text NoMemory = Unit {0}
 abbrev pub IsFault : List ℕ → Stop → Type 0
 IsFault text stop = IsFaultFrom (record { line = 1; column = 1 }) text stop
 
+-- a place is that of a byte of the text, whose first byte stands at the place p
+abbrev pub IsPlaceOfByteFrom : Place → List ℕ → Place → Type 0
+IsPlaceOfByteFrom p text at = (front : List ℕ) × (b : ℕ) × (rest : List ℕ) × (text ≡ front ++ b ∷ rest) × (at ≡ moved p front)
+
+-- a fault stands at a byte of the source; want of memory has no place
+abbrev pub StandsAtByte : List ℕ → Stop → Type 0
+StandsAtByte text (StopFault f) = IsPlaceOfByteFrom (record { line = 1; column = 1 }) text f.place
+StandsAtByte text NoMemory = Unit {0}
+
 -- the answer is this outcome, unless memory ran out
 abbrev pub Agrees : Result (Vec TokenIn) Stop → Outcome → Type 0
 Agrees (Ok ts) o = o ≡ Gives ts.items

@@ -1,6 +1,6 @@
 ghost use Rattle.std.specs.Prelude.{◌≡◌, ℕ, List, true, ◌+◌, ◌-◌, ◌^◌, ◌<◌, ◌≤◌, ◌++◌, ◌∷◌, [], length, IfOk, IfErr, OnOk};
 ghost use Rattle.scad_lexer.specs.Words.{IsLongest};
-ghost use Rattle.scad_lexer.specs.Tokens.{Outcome, Gives, Lexes, Agrees, IsFault, IsFaultFrom, moved, AppendsNext, ends_once};
+ghost use Rattle.scad_lexer.specs.Tokens.{Outcome, Gives, Lexes, Agrees, IsFault, IsFaultFrom, StandsAtByte, moved, AppendsNext, ends_once};
 
 use crate::class::Class;
 use crate::meaning::{Meaning, meant};
@@ -18,6 +18,8 @@ pub fn lex(alloc: Global, text: &[u8]) -> Result<Vec<Token>, Stop>
     ensures found { IfOk result (λ ts. Lexes text.now (Gives ts.items)) }
     // A fault is the source's first one, at its place.
     ensures fault { IfErr result (λ stop. IsFault text.now stop) }
+    // The place of a fault is that of a byte of the source.
+    ensures place { IfErr result (λ stop. StandsAtByte text.now stop) }
     // What the source gives is answered, unless memory runs out.
     ensures only { (o : Outcome) → Lexes text.now o → Agrees result o }
     // The last token is the end, and no other is.

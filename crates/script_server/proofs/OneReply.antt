@@ -1,101 +1,79 @@
--- An export has one reply, and printed replies one reading.
+-- An export has one reply, which is a solid exactly where no limit is passed, and printed replies have one reading.
 use Rattle.std.proofs.Common.{◌≡◌, ◌≢◌, ◌↔◌, inl, inr, ℕ, List, refl, sym, ap, ◌∙◌, subst}
-use Rattle.scad_ast.specs.Terms.{StatementTerm}
-use Rattle.script_reader.specs.declared.script.Script.{Script}
+use Rattle.text_place.specs.declared.fault.Fault.{Fault}
+use Rattle.plane_predicate.specs.declared.unit.Unit.{Unit as LengthUnit}
+use Rattle.csg_tree.specs.Formulas.{Formula}
 use Rattle.reply_text.specs.declared.reply.Reply.{Reply}
 use Rattle.reply_text.specs.declared.reply.Reply.TheVariants as reply
-use Rattle.reply_text.specs.Texts.{output}
-use Rattle.reply_text.specs.Answers.{AllFit, IsExport}
-use Rattle.reply_text.proofs.OneOutput.{same_output}
-use Rattle.script_server.specs.declared.meaning.Sides.{Sides}
-use Rattle.csg_tree.specs.Formulas.{Formula, leaf}
-use Rattle.script_server.specs.Meaning.Sources.{Writes}
-use Rattle.script_server.specs.Meaning.Boxes.{IsBoxProgram, Means, box_planes}
-use Rattle.script_server.specs.Meaning.Solids.{HasText, Bounds}
-use Rattle.script_server.specs.Answers.{AnswersProgram}
-use Rattle.script_server.specs.Meaning.Exports.{not_yet, Builds, Exports, IsBounded, AnswersExport}
-use Rattle.script_server.proofs.OneAnswer.{one_answer, answer_reply, IsExportReply, not_no_memory}
-use Rattle.script_server.proofs.WithinLimits.{text_answer}
-use Rattle.script_server.proofs.BoxPrograms.{one_box}
-use Rattle.script_server.proofs.OneSource.{one_fault, one_program, no_program}
+use Rattle.reply_text.specs.Answers.{IsExport}
+use Rattle.tree_export.specs.declared.export.Exported.{Exported}
+use Rattle.tree_export.specs.declared.export.Exported.TheVariants as exported
+use Rattle.tree_export.specs.Exports.{IsText, IsExported, PassesNoLimit}
+use Rattle.script_server.specs.Meaning.Sources.{Means, HasFault}
+use Rattle.script_server.specs.Meaning.Exports.{reply_of, Exports, AnswersExport}
 
--- a program is answered in one way
-one_building : (program : List StatementTerm) (r q : Reply) → Builds program r → Builds program q → r ≡ q
-one_building program r q (inl a) (inl b) =
-    let same = one_box program b.0 a.0 b.1 a.1 in
-    let other = subst (λ (s : Sides). HasText (leaf (box_planes s)) q) same b.2 in
-    one_answer (leaf (box_planes a.0)) r q (text_answer a.0 r a.2) (text_answer a.0 q other)
-one_building program r q (inl a) (inr b) = absurd (b.0 a.0 a.1)
-one_building program r q (inr a) (inl b) = absurd (a.0 b.0 b.1)
-one_building program r q (inr a) (inr b) = a.1 ∙ sym b.1
+abbrev pub OneTree : Type 0
+OneTree = (unit : LengthUnit) (source : List ℕ) (f g : Formula) → Means unit source f → Means unit source g → f ≡ g
 
-pub one_reply : (source : List ℕ) (r q : Reply) → Exports source r → Exports source q → r ≡ q
-one_reply source r q (inl a) (inl b) = a.2 ∙ ap reply.Faulted (one_fault source a.0 b.0 a.1 b.1) ∙ sym b.2
-one_reply source r q (inl a) (inr b) = absurd (no_program source a.0 b.0 a.1 b.1)
-one_reply source r q (inr a) (inl b) = absurd (no_program source b.0 a.0 b.1 a.1)
-one_reply source r q (inr a) (inr b) = one_building a.0 r q a.2 (subst (λ (p : List StatementTerm). Builds p q) (one_program source b.0 a.0 b.1 a.1) b.2)
+abbrev pub OneFault : Type 0
+OneFault = (unit : LengthUnit) (source : List ℕ) (f g : Fault) → HasFault unit source f → HasFault unit source g → f ≡ g
 
--- an export is answered by a solid, a limit or a fault
-building_reply : (program : List StatementTerm) (r : Reply) → Builds program r → IsExportReply r
-building_reply program r (inl a) = answer_reply (leaf (box_planes a.0)) r (text_answer a.0 r a.2)
-building_reply program r (inr a) = subst IsExportReply (sym a.1) tt
+abbrev pub NotBoth : Type 0
+NotBoth = (unit : LengthUnit) (source : List ℕ) (f : Formula) (fault : Fault) → Means unit source f → HasFault unit source fault → ⊥
 
-pub export_reply : (source : List ℕ) (r : Reply) → Exports source r → IsExportReply r
-export_reply source r (inl a) = subst IsExportReply (sym a.2) tt
-export_reply source r (inr a) = building_reply a.0 r a.2
+abbrev pub OneExport : Type 0
+OneExport = (unit : LengthUnit) (tree : Formula) (out other : Exported) → IsExported unit tree out → IsExported unit tree other → out ≡ other
 
-has_memory : (source : List ℕ) (r : Reply) → Exports source r → r ≢ reply.NoMem
-has_memory source r h = not_no_memory r (export_reply source r h)
+abbrev pub Texts : Type 0
+Texts = (unit : LengthUnit) (tree : Formula) (out : Exported) → IsExported unit tree out → IsText out ↔ PassesNoLimit unit tree
 
--- what was built is answered, and where it is a solid, it is the boundary of what the source means
-pub built : (program : List StatementTerm) (r : Reply) → AnswersProgram program r → Builds program r
-built program r (inl a) = inl (a.0, a.1, a.2.0)
-built program r (inr a) = inr a
+pub one_reply : OneTree → OneFault → NotBoth → OneExport →
+    (unit : LengthUnit) (source : List ℕ) (r q : Reply) → Exports unit source r → Exports unit source q → r ≡ q
+one_reply trees faults either one unit source r q (inl a) (inl b) = a.2 ∙ ap reply.Faulted (faults unit source a.0 b.0 a.1 b.1) ∙ sym b.2
+one_reply trees faults either one unit source r q (inl a) (inr b) = absurd (either unit source b.0 a.0 b.1 a.1)
+one_reply trees faults either one unit source r q (inr a) (inl b) = absurd (either unit source a.0 b.0 a.1 b.1)
+one_reply trees faults either one unit source r q (inr (f, m, (out, is, e))) (inr (g, n, (other, is', e'))) =
+    let same = trees unit source g f n m in
+    e ∙ ap reply_of (one unit f out other is (subst (λ (t : Formula). IsExported unit t other) same is')) ∙ sym e'
 
-box_bounded : (source : List ℕ) (program : List StatementTerm) (s : Sides) (r : Reply) → Writes source program → IsBoxProgram program s → Bounds (leaf (box_planes s)) r → IsBounded source r
-box_bounded source program s (reply.Solid bytes) w h b = (leaf (box_planes s), (program, s, w, h, refl), b)
-box_bounded source program s (reply.Complex limit) w h b = tt
-box_bounded source program s (reply.Faulted fault) w h b = tt
-box_bounded source program s (reply.Lines n) w h b = tt
-box_bounded source program s (reply.Refused why) w h b = tt
-box_bounded source program s reply.NoMem w h b = tt
-box_bounded source program s (reply.Text lines) w h b = tt
+-- memory did not run out
+tree_has_memory : (out : Exported) (r : Reply) → r ≡ reply_of out → r ≢ reply.NoMem
+tree_has_memory (exported.Text bytes) r e none = let wrong : reply.Solid bytes ≡ reply.NoMem = sym e ∙ none in cc
+tree_has_memory (exported.Complex passed) r e none = let wrong : reply.Complex passed ≡ reply.NoMem = sym e ∙ none in cc
 
-pub program_bounded : (source : List ℕ) (program : List StatementTerm) (r : Reply) → Writes source program → AnswersProgram program r → IsBounded source r
-program_bounded source program r w (inl a) = box_bounded source program a.0 r w a.1 a.2.1
-program_bounded source program r w (inr a) = subst (IsBounded source) (sym a.1) tt
+has_memory : (unit : LengthUnit) (source : List ℕ) (r : Reply) → Exports unit source r → r ≢ reply.NoMem
+has_memory unit source r (inl a) none = let wrong : reply.Faulted a.0 ≡ reply.NoMem = sym a.2 ∙ none in cc
+has_memory unit source r (inr (f, m, (out, is, e))) none = tree_has_memory out r e none
 
--- an export is answered by a solid exactly where its source writes one box
-solid_means : (source bytes : List ℕ) (program : List StatementTerm) → Writes source program →
-    Builds program (reply.Solid bytes) → (f : Formula) × Means source f
-solid_means source bytes program w (inl a) = (leaf (box_planes a.0), (program, a.0, w, a.1, refl))
-solid_means source bytes program w (inr a) = absurd (let wrong : reply.Solid bytes ≡ not_yet = a.1 in cc)
+abbrev pub OneReply : Type 0
+OneReply = (unit : LengthUnit) (source : List ℕ) (r q : Reply) → Exports unit source r → Exports unit source q → r ≡ q
 
-solid_exports : (source bytes : List ℕ) → Exports source (reply.Solid bytes) → (f : Formula) × Means source f
-solid_exports source bytes (inl a) = absurd (let wrong : reply.Solid bytes ≡ reply.Faulted a.0 = a.2 in cc)
-solid_exports source bytes (inr a) = solid_means source bytes a.0 a.1 a.2
-
-box_solid : (source : List ℕ) (r : Reply) (f : Formula) → Means source f → Exports source r →
-    (bytes : List ℕ) × (r ≡ reply.Solid bytes)
-box_solid source r f h (inl a) = absurd (no_program source a.0 h.0 a.1 h.2)
-box_solid source r f h (inr (program, w, inl a)) = (a.2.0, a.2.2)
-box_solid source r f h (inr (program, w, inr a)) =
-    let same = one_program source h.0 program h.2 w in
-    absurd (a.0 h.1 (subst (λ (p : List StatementTerm). IsBoxProgram p h.1) same h.3))
-
-pub solids_are_boxes : (source : List ℕ) (r : Reply) → Exports source r →
-    ((bytes : List ℕ) × (r ≡ reply.Solid bytes)) ↔ ((f : Formula) × Means source f)
-solids_are_boxes source r h = (
-  λ solid. solid_exports source solid.0 (subst (Exports source) solid.1 h),
-  λ means. box_solid source r means.0 means.1 h,
-)
-
-pub exports_are : IsExport AnswersExport
-exports_are = record {
-  one = λ source r q h g. one_reply source r q h.0 g.0;
-  has_memory = λ source r h. has_memory source r h.0;
+pub exports_are : OneReply → (unit : LengthUnit) → IsExport (AnswersExport unit)
+exports_are one unit = record {
+  one = λ source r q h g. one unit source r q h.0 g.0;
+  has_memory = λ source r h. has_memory unit source r h.0;
 }
 
-pub one_output : (script : Script) (rs qs : List (List Reply)) → AllFit AnswersExport script.clients rs → AllFit AnswersExport script.clients qs →
-    output script.clients rs ≡ output script.clients qs → rs ≡ qs
-one_output script rs qs h g e = same_output AnswersExport exports_are script.clients rs qs h g e
+-- a solid is a text
+solid_text : (out : Exported) (bytes : List ℕ) → reply.Solid bytes ≡ reply_of out → IsText out
+solid_text (exported.Text text) bytes e = (text, refl)
+solid_text (exported.Complex passed) bytes e = absurd (cc e)
+
+solid_within : Texts → (unit : LengthUnit) (source : List ℕ) (r : Reply) (bytes : List ℕ) → Exports unit source r → r ≡ reply.Solid bytes →
+    (f : Formula) × Means unit source f × PassesNoLimit unit f
+solid_within texts unit source r bytes (inl a) e = absurd (let wrong : reply.Solid bytes ≡ reply.Faulted a.0 = sym e ∙ a.2 in cc)
+solid_within texts unit source r bytes (inr (f, m, (out, is, e'))) e = (f, m, (texts unit f out is).0 (solid_text out bytes (sym e ∙ e')))
+
+within_solid : OneTree → NotBoth → Texts → (unit : LengthUnit) (source : List ℕ) (r : Reply) (f : Formula) → Exports unit source r →
+    Means unit source f → PassesNoLimit unit f → (bytes : List ℕ) × (r ≡ reply.Solid bytes)
+within_solid trees either texts unit source r f (inl a) m none = absurd (either unit source f a.0 m a.1)
+within_solid trees either texts unit source r f (inr (g, n, (out, is, e))) m none =
+    let text = (texts unit g out is).1 (subst (PassesNoLimit unit) (trees unit source f g m n) none) in
+    (text.0, e ∙ ap reply_of text.1)
+
+pub solids : OneTree → NotBoth → Texts → (unit : LengthUnit) (source : List ℕ) (r : Reply) → Exports unit source r →
+    ((bytes : List ℕ) × (r ≡ reply.Solid bytes)) ↔ ((f : Formula) × Means unit source f × PassesNoLimit unit f)
+solids trees either texts unit source r h = (
+  λ solid. solid_within texts unit source r solid.0 h solid.1,
+  λ means. within_solid trees either texts unit source r means.0 h means.1 means.2,
+)

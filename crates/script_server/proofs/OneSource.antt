@@ -1,5 +1,5 @@
--- A source writes one program, or has one fault.
-use Rattle.std.proofs.Common.{◌≡◌, ⊎_elim, ℕ, List, sym, ap, ap₂, ◌∙◌, subst}
+-- A source writes one program, or has one fault; and it means one tree, or has one fault.
+use Rattle.std.proofs.Common.{◌≡◌, ⊎_elim, inl, inr, ℕ, List, sym, ap, ap₂, ◌∙◌, subst}
 use Rattle.text_place.specs.declared.fault.Fault.{Fault}
 use Rattle.text_place.specs.declared.fault.FaultKind.{FaultKind}
 use Rattle.text_place.specs.declared.fault.Place.{Place}
@@ -11,7 +11,10 @@ use Rattle.scad_grammar.specs.Grammar.{Program}
 use Rattle.scad_grammar.proofs.Programs.{one_program as one_program_of}
 use Rattle.scad_grammar.proofs.FirstFaults.{no_fault, one_fault as one_first_fault}
 use Rattle.scad_parser.specs.Parsing.{kind_of, place_at, HasFault as HasSyntaxFault}
-use Rattle.script_server.specs.Meaning.Sources.{Writes, HasFault}
+use Rattle.plane_predicate.specs.declared.unit.Unit.{Unit as LengthUnit}
+use Rattle.csg_tree.specs.Formulas.{Formula}
+use Rattle.scad_eval.specs.Sources.{Meaning, a_tree, a_fault, IsMeaning}
+use Rattle.script_server.specs.Meaning.Sources.{Writes, HasTextFault, Means, HasFault}
 
 one_list : (source : List ℕ) (s t : List Token) → Lexes source (Gives s) → Lexes source (Gives t) → s ≡ t
 one_list source s t h g = let both : Gives s ≡ Gives t = one_outcome source (Gives s) (Gives t) h g in cc
@@ -30,19 +33,19 @@ one_syntax_fault ts f g h i =
     let same = one_first_fault 65 ts h.0 i.0 h.1 i.1 h.2 i.2 in
     same_fault f g (h.3 ∙ ap kind_of same.0 ∙ sym i.3) (h.4 ∙ ap place_at same.1 ∙ sym i.4)
 
-pub one_program : (source : List ℕ) (x y : List StatementTerm) → Writes source x → Writes source y → x ≡ y
+one_program : (source : List ℕ) (x y : List StatementTerm) → Writes source x → Writes source y → x ≡ y
 one_program source x y h g =
     one_program_of 65 65 x y h.0 h.2 (subst (λ (ts : List Token). Program 65 y ts) (one_list source g.0 h.0 g.1 h.1) g.2)
 
-pub no_program : (source : List ℕ) (fault : Fault) (x : List StatementTerm) → HasFault source fault → Writes source x → ⊥
+no_program : (source : List ℕ) (fault : Fault) (x : List StatementTerm) → HasTextFault source fault → Writes source x → ⊥
 no_program source fault x h g =
     ⊎_elim
     (λ a. no_list source g.0 fault.kind fault.place g.1 a)
     (λ a. no_syntax_fault a.0 x fault (subst (λ (ts : List Token). Program 65 x ts) (one_list source g.0 a.0 g.1 a.1) g.2) a.2)
     h
 
-pub one_fault : (source : List ℕ) (f g : Fault) → HasFault source f → HasFault source g → f ≡ g
-one_fault source f g h i =
+one_text_fault : (source : List ℕ) (f g : Fault) → HasTextFault source f → HasTextFault source g → f ≡ g
+one_text_fault source f g h i =
     ⊎_elim
     (λ a. ⊎_elim
     (λ b. (let both : Faults f.kind f.place ≡ Faults g.kind g.place = one_outcome source (Faults f.kind f.place) (Faults g.kind g.place) a b in
@@ -54,3 +57,34 @@ one_fault source f g h i =
     (λ b. absurd (no_list source a.0 g.kind g.place a.1 b))
     (λ b. one_syntax_fault a.0 f g a.2 (subst (λ (ts : List Token). HasSyntaxFault 65 ts g) (one_list source b.0 a.0 b.1 a.1) b.2)) i)
     h
+
+-- a program has one meaning
+abbrev pub OneMeaning : Type 0
+OneMeaning = (unit : LengthUnit) (program : List StatementTerm) (m n : Meaning) → IsMeaning unit program m → IsMeaning unit program n → m ≡ n
+
+one_of_source : OneMeaning → (unit : LengthUnit) (source : List ℕ) (x y : List StatementTerm) (m n : Meaning) →
+    Writes source x → Writes source y → IsMeaning unit x m → IsMeaning unit y n → m ≡ n
+one_of_source one unit source x y m n w v h g =
+    one unit x m n h (subst (λ (p : List StatementTerm). IsMeaning unit p n) (sym (one_program source x y w v)) g)
+
+pub one_tree : OneMeaning → (unit : LengthUnit) (source : List ℕ) (f g : Formula) → Means unit source f → Means unit source g → f ≡ g
+one_tree one unit source f g h i =
+    let both : a_tree f ≡ a_tree g = one_of_source one unit source h.0 i.0 (a_tree f) (a_tree g) h.1 i.1 h.2 i.2 in cc
+
+pub not_both : OneMeaning → (unit : LengthUnit) (source : List ℕ) (f : Formula) (fault : Fault) → Means unit source f → HasFault unit source fault → ⊥
+not_both one unit source f fault h (inl i) = no_program source fault h.0 i h.1
+not_both one unit source f fault h (inr i) =
+    let both : a_tree f ≡ a_fault fault.kind fault.place =
+    one_of_source one unit source h.0 i.0 (a_tree f) (a_fault fault.kind fault.place) h.1 i.1 h.2 i.2 in
+    absurd (cc both)
+
+pub one_fault : OneMeaning → (unit : LengthUnit) (source : List ℕ) (f g : Fault) → HasFault unit source f → HasFault unit source g → f ≡ g
+one_fault one unit source f g (inl h) (inl i) = one_text_fault source f g h i
+one_fault one unit source f g (inl h) (inr i) = absurd (no_program source f i.0 h i.1)
+one_fault one unit source f g (inr h) (inl i) = absurd (no_program source g h.0 i h.1)
+one_fault one unit source f g (inr h) (inr i) =
+    let both : a_fault f.kind f.place ≡ a_fault g.kind g.place =
+    one_of_source one unit source h.0 i.0 (a_fault f.kind f.place) (a_fault g.kind g.place) h.1 i.1 h.2 i.2 in
+    let kinds : f.kind ≡ g.kind = cc in
+    let places : f.place ≡ g.place = cc in
+    same_fault f g kinds places

@@ -1,52 +1,63 @@
-//! What an export means: sources, boxes and what their solids are answered (`specs/Meaning`), and the
-//! laws that their words leave nothing open.
+//! Laws of what an export means (`specs/Meaning`): its words leave nothing open. They are proved, and do nothing when they
+//! run.
 
 ghost use Rattle.std.specs.Prelude.{◌≡◌, ◌↔◌, ℕ, List};
+ghost use Rattle.text_place.specs.declared.fault.Fault.{Fault};
+ghost use Rattle.plane_predicate.specs.declared.unit.Unit.{Unit as LengthUnit};
 ghost use Rattle.script_reader.specs.declared.script.Command.{Command};
-ghost use Rattle.csg_tree.specs.Formulas.{Formula, leaf};
+ghost use Rattle.script_reader.specs.declared.script.Script.{Script};
+ghost use Rattle.csg_tree.specs.Formulas.{Formula};
+ghost use Rattle.edit_session.specs.Sessions.{State};
 ghost use Rattle.reply_text.specs.declared.reply.Reply.{Reply};
 ghost use Rattle.reply_text.specs.declared.reply.Reply.TheVariants as reply;
-ghost use Rattle.script_reader.specs.declared.script.Script.{Script};
-ghost use Rattle.edit_session.specs.Sessions.{State};
 ghost use Rattle.reply_text.specs.Texts.{output};
 ghost use Rattle.reply_text.specs.Answers.{Fits, AllFit, SameWants};
-ghost use Rattle.script_server.specs.Meaning.Boxes.{Means, box_planes};
-ghost use Rattle.script_server.specs.Meaning.Solids.{HasText, IsAnswerTo};
+ghost use Rattle.tree_export.specs.Exports.{PassesNoLimit};
+ghost use Rattle.script_server.specs.Meaning.Sources.{Means, HasFault};
 ghost use Rattle.script_server.specs.Meaning.Exports.{Exports, AnswersExport};
 
-/// The sides of a box along x, y and z.
-#[derive(Clone, Copy, Debug, PartialEq, Eq)]
-pub struct Sides {
-    pub x: u16,
-    pub y: u16,
-    pub z: u16,
+use tree_export::{one_export, texts_pass_no_limit};
+
+/// In each unit a source means at most one tree, or has at most one first fault, and not both.
+pub fn one_meaning()
+    ensures trees { (unit : LengthUnit) (source : List ℕ) (f g : Formula) → Means unit source f → Means unit source g → f ≡ g }
+    ensures faults { (unit : LengthUnit) (source : List ℕ) (f g : Fault) → HasFault unit source f → HasFault unit source g → f ≡ g }
+    ensures either { (unit : LengthUnit) (source : List ℕ) (f : Formula) (fault : Fault) → Means unit source f → HasFault unit source fault → ⊥ }
+{
+    scad_eval::one_meaning();
 }
 
-/// A box passes no limit: what a tree of its planes is answered by the limits is its text.
-pub fn boxes_pass_no_limit()
-    ensures { (s : Sides) (r : Reply) → IsAnswerTo (leaf (box_planes s)) r ↔ HasText (leaf (box_planes s)) r }
-{}
+/// An export is answered by a solid exactly where its source means a tree that passes no limit.
+pub fn solids_pass_no_limit()
+    ensures { (unit : LengthUnit) (source : List ℕ) (r : Reply) → Exports unit source r →
+        ((bytes : List ℕ) × (r ≡ reply.Solid bytes)) ↔ ((f : Formula) × Means unit source f × PassesNoLimit unit f) }
+{
+    one_meaning();
+    texts_pass_no_limit();
+}
 
-/// An export is answered by a solid exactly where its source writes one box.
-pub fn solids_are_boxes()
-    ensures { (source : List ℕ) (r : Reply) → Exports source r →
-        ((bytes : List ℕ) × (r ≡ reply.Solid bytes)) ↔ ((f : Formula) × Means source f) }
-{}
-
-/// A source has one reply to its export.
+/// A source has at most one reply to its export.
 pub fn one_reply()
-    ensures { (source : List ℕ) (r q : Reply) → Exports source r → Exports source q → r ≡ q }
-{}
+    ensures { (unit : LengthUnit) (source : List ℕ) (r q : Reply) → Exports unit source r → Exports unit source q → r ≡ q }
+{
+    one_meaning();
+    one_export();
+}
 
 /// A client's own commands define its replies: only the places at which memory ran out are open.
 pub fn own_replies()
-    ensures { (s : State) (cs : List Command) (rs qs : List Reply) →
-        Fits AnswersExport s cs rs → Fits AnswersExport s cs qs → SameWants rs qs → rs ≡ qs }
-{}
+    ensures { (unit : LengthUnit) (s : State) (cs : List Command) (rs qs : List Reply) →
+        Fits (AnswersExport unit) s cs rs → Fits (AnswersExport unit) s cs qs → SameWants rs qs → rs ≡ qs }
+{
+    one_reply();
+}
 
 /// For one script, replies that its clients' own commands define and that print the same bytes are
 /// equal: so the printed output tells at which places memory ran out.
 pub fn one_output()
-    ensures { (script : Script) (rs qs : List (List Reply)) → AllFit AnswersExport script.clients rs → AllFit AnswersExport script.clients qs →
+    ensures { (unit : LengthUnit) (script : Script) (rs qs : List (List Reply)) →
+        AllFit (AnswersExport unit) script.clients rs → AllFit (AnswersExport unit) script.clients qs →
         output script.clients rs ≡ output script.clients qs → rs ≡ qs }
-{}
+{
+    one_reply();
+}

@@ -5,7 +5,6 @@ fn names_kinds(rt: HostRuntime) {
     let cases = [
         (FaultKind::BadCharacter, "BadCharacter"),
         (FaultKind::ZeroDivisor, "ZeroDivisor"),
-        (FaultKind::NotYet, "NotYet"),
     ];
     for (kind, name) in cases {
         assert_eq!(rt; word(kind), name);

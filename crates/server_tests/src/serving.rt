@@ -28,7 +28,17 @@ const GREAT_BOX: &str = "== client0123456789\n1 ok 1\n2 solid 16\n4OFF\n8 6 0\n\
 0 0 0 1\n0 0 2048 1\n0 1000 2048 1\n0 1000 0 1\n4095 0 0 1\n4095 1000 0 1\n4095 1000 2048 1\n4095 0 2048 1\n\
 4 0 1 2 3\n4 4 5 6 7\n4 0 4 7 1\n4 3 2 6 5\n4 0 3 5 4\n4 1 7 6 2\n";
 
-const NO_BOX: &str = "== a\n1 ok 1\n2 fault 1:1 NotYet\n";
+// The same of a box of 3 by 3 by 3 about the origin, in half units.
+const HALF_BOX: &str = "== a\n1 ok 1\n2 solid 16\n4OFF\n8 6 0\n\
+-3 -3 -3 2\n-3 -3 3 2\n-3 3 3 2\n-3 3 -3 2\n3 -3 -3 2\n3 3 -3 2\n3 3 3 2\n3 -3 3 2\n\
+4 0 1 2 3\n4 4 5 6 7\n4 0 4 7 1\n4 3 2 6 5\n4 0 3 5 4\n4 1 7 6 2\n";
+
+// The same of the last box of 1 by 1 by 1 along x that half units leave room for.
+const FAR_BOX: &str = "== a\n1 ok 1\n2 solid 16\n4OFF\n8 6 0\n\
+2046 0 0 1\n2046 0 1 1\n2046 1 1 1\n2046 1 0 1\n2047 0 0 1\n2047 1 0 1\n2047 1 1 1\n2047 0 1 1\n\
+4 0 1 2 3\n4 4 5 6 7\n4 0 4 7 1\n4 3 2 6 5\n4 0 3 5 4\n4 1 7 6 2\n";
+
+const NOTHING: &str = "== a\n1 ok 1\n2 solid 2\n4OFF\n0 0 0\n";
 
 // A client that edits its lines, with what it is answered.
 const EDITS: &str =
@@ -37,7 +47,9 @@ a cut 1 1\na export\na jump\n";
 
 const EDITED: &str =
     "== a\n1 ok 1\n2 ok 2\n3 ok 3\n4 ok 3\n5 refused NoSuchLine\n6 text 3\n// one\ncube(3);\ncube(2);\n\
-7 ok 2\n8 fault 1:1 NotYet\n9 refused BadCommand\n";
+7 ok 2\n8 solid 16\n4OFF\n8 6 0\n\
+0 0 0 1\n0 0 3 1\n0 3 3 1\n0 3 0 1\n3 0 0 1\n3 3 0 1\n3 3 3 1\n3 0 3 1\n\
+4 0 1 2 3\n4 4 5 6 7\n4 0 4 7 1\n4 3 2 6 5\n4 0 3 5 4\n4 1 7 6 2\n9 refused BadCommand\n";
 
 // The outside of a call: which calls fail, 0 being none, how many bytes a call moves, and the sink's room.
 #[derive(Clone, Copy)]
@@ -97,9 +109,9 @@ fn scripts_are_answered(rt: HostRuntime) -> Result<(), Fail> {
             Status::Done,
             GREAT_BOX,
         ),
-        ("a put 1 \na export\n", Status::Done, NO_BOX),
-        ("a put 1\na export\n", Status::Done, NO_BOX),
-        ("a export", Status::Done, "== a\n1 fault 1:1 NotYet\n"),
+        ("a put 1 \na export\n", Status::Done, NOTHING),
+        ("a put 1\na export\n", Status::Done, NOTHING),
+        ("a export", Status::Done, "== a\n1 solid 2\n4OFF\n0 0 0\n"),
         (EDITS, Status::Done, EDITED),
         // Clients by first appearance, each with its own source.
         (
@@ -129,24 +141,55 @@ fn scripts_are_answered(rt: HostRuntime) -> Result<(), Fail> {
     Ok(())
 }
 
-// What one line is answered when it is exported.
-fn exported<R: Threads + Wait + Sync>(rt: &R, alloc: Global, line: &str) -> Result<Vec<u8>, Fail> {
+// What one line is answered when it is exported in a run by these words.
+fn exported<R: Threads + Wait + Sync>(
+    rt: &R,
+    alloc: Global,
+    words: &[&str],
+    line: &str,
+) -> Result<Vec<u8>, Fail> {
     let mut script = String::from_str(alloc, "a put 1 ")?;
     script.push_str(line)?;
     script.push_str("\na export\n")?;
-    let (_, held) = check(rt, alloc, &["run"], script.as_bytes(), CALM)?;
+    let (_, held) = check(rt, alloc, words, script.as_bytes(), CALM)?;
     Ok(held)
 }
 
 #[test]
-fn boxes_are_built_however_they_are_spaced(rt: HostRuntime) -> Result<(), Fail> {
+fn boxes_are_built_however_they_are_written(rt: HostRuntime) -> Result<(), Fail> {
     for line in [
         "cube( [1, 2, 3] ) ; // box",
         "cube([1.0,2,3]);",
         "/* a box */ cube([01,2,3,],);",
+        "cube(size=[1,2,3]);",
+        "cube([1,2,3]) { }",
+        "#cube([1,2,3]);",
+        "cube([1,2,3]);;",
+        "{cube([1,2,3]);}",
     ] {
-        let held = exported(&rt, rt.alloc(), line)?;
+        let held = exported(&rt, rt.alloc(), &["run"], line)?;
         assert_eq!(rt; held.as_slice(), FIRST_BOX.as_bytes(), "at {line:?}");
+    }
+    Ok(())
+}
+
+#[test]
+fn half_units_halve_the_room(rt: HostRuntime) -> Result<(), Fail> {
+    for (line, told) in [
+        ("cube(3, center=true);", HALF_BOX),
+        ("cube([1,2,3]);", FIRST_BOX),
+        ("translate([2046,0,0]) cube(1);", FAR_BOX),
+        (
+            "translate([2047,0,0]) cube(1);",
+            "== a\n1 ok 1\n2 fault 1:23 OutOfRange\n",
+        ),
+        (
+            "translate([4503599627370496,0,0]) cube(1);",
+            "== a\n1 ok 1\n2 fault 1:1 TooLarge\n",
+        ),
+    ] {
+        let held = exported(&rt, rt.alloc(), &["run", "--half"], line)?;
+        assert_eq!(rt; held.as_slice(), told.as_bytes(), "at {line:?}");
     }
     Ok(())
 }
@@ -169,22 +212,16 @@ fn other_sources_are_told_their_fault(rt: HostRuntime) -> Result<(), Fail> {
         ("cube([1,2,3]),", "1:14 Expected"),
         // The bytes' first.
         ("cube(1] 3a", "1:10 BadCharacter"),
-        // Programs of no box.
-        ("cube(2);", "1:1 NotYet"),
-        ("cube([1,2,4096]);", "1:1 NotYet"),
-        ("cube([0,2,3]);", "1:1 NotYet"),
-        ("cube([1,2]);", "1:1 NotYet"),
-        ("cube([1,2,3,4]);", "1:1 NotYet"),
-        ("cube([1,2,-3]);", "1:1 NotYet"),
-        ("cube([1,2,3],1);", "1:1 NotYet"),
-        ("cube(size=[1,2,3]);", "1:1 NotYet"),
-        ("cube([1,2,3]) { }", "1:1 NotYet"),
-        ("#cube([1,2,3]);", "1:1 NotYet"),
-        ("cubes([1,2,3]);", "1:1 NotYet"),
-        ("cube([1,2,3]);;", "1:1 NotYet"),
-        ("{cube([1,2,3]);}", "1:1 NotYet"),
+        // Programs that mean no tree.
+        ("cube([1,2,4096]);", "1:1 OutOfRange"),
+        ("cube([0,2,3]);", "1:1 BadSize"),
+        ("cube([1,2,-3]);", "1:1 BadSize"),
+        ("cube([1,2]);", "1:1 TypeMismatch"),
+        ("cube([1,2,3,4]);", "1:1 TypeMismatch"),
+        ("cube([1,2,3],1);", "1:1 TypeMismatch"),
+        ("cubes([1,2,3]);", "1:1 UnknownModule"),
     ] {
-        let held = exported(&rt, rt.alloc(), line)?;
+        let held = exported(&rt, rt.alloc(), &["run"], line)?;
         let told = format!(in rt.alloc(); "== a\n1 ok 1\n2 fault {fault}\n")?;
         assert_eq!(rt; held.as_slice(), told.as_bytes(), "at {line:?}");
     }
@@ -277,14 +314,46 @@ fn tallies_and_shares_follow_the_replies(rt: HostRuntime) -> Result<(), Fail> {
 
 #[test]
 fn the_demonstration_reads_nothing(rt: HostRuntime) -> Result<(), Fail> {
-    for parts in ["1", "200"] {
+    // The number of parts, what is counted, and the digests of the texts with holes of height 1, 2 and 3.
+    for (parts, counts, [one, two, three]) in [
+        (
+            "1",
+            "facets 22 vertices 28",
+            [
+                "13dc185556f0daba0027b80cc1cbc4e25e601e36ef92e5f4bd16055585090402",
+                "3f0f9971dd0c020cc0e8d39e5e416851d049a9a8f1d6b05afc7a90e1adc29770",
+                "658901390055c5c0a5e7b8effc249ec1d3097dedbcb95347f8a2239cd4e77079",
+            ],
+        ),
+        (
+            "10",
+            "facets 220 vertices 280",
+            [
+                "721fc78e39f6eca97864764b250222efd14bc9d4354f9e42b7beafb4b1599f00",
+                "545537b341eac5c7799c36e51817ce14ea8d9a3a46a49de671dd354b14b5c084",
+                "5792e0d1340d9253fa748256f98196a56bfc79499091710080ac301469dee670",
+            ],
+        ),
+        (
+            "200",
+            "facets 4400 vertices 5600",
+            [
+                "7148949f047b535731364d7c74c61f7587d53ef6db67eaa8a83644b8fadee9a4",
+                "620e40a48fdcee60aa0351a15de7172cff1d29079dbc1656736efc44996a4b01",
+                "4ccd34e0cc833299d6ee12c7be31f47408c66b0df9ee9621bb990e9602bef706",
+            ],
+        ),
+    ] {
         let outside = Outside { read: 1, ..CALM };
         let (ended, held) = check(&rt, rt.alloc(), &["demo", parts], b"", outside)?;
+        let told = format!(in rt.alloc();
+            "\
+c1 {counts} sha256 {two}\nc2 {counts} sha256 {three}\nc3 {counts} sha256 {one}\n\
+c4 {counts} sha256 {two}\nc5 {counts} sha256 {three}\nc6 {counts} sha256 {one}\n\
+c7 {counts} sha256 {two}\nc8 {counts} sha256 {three}\n"
+        )?;
         assert!(rt; ended == Status::Done);
-        assert_eq!(rt;
-            held.as_slice(),
-            b"c1 fault 1:1 NotYet\nc2 fault 1:1 NotYet\nc3 fault 1:1 NotYet\nc4 fault 1:1 NotYet\nc5 fault 1:1 NotYet\nc6 fault 1:1 NotYet\nc7 fault 1:1 NotYet\nc8 fault 1:1 NotYet\n".as_slice()
-        );
+        assert_eq!(rt; held.as_slice(), told.as_bytes(), "at {parts}");
     }
     Ok(())
 }
@@ -421,7 +490,7 @@ fn clients_commands_and_bytes_have_limits(rt: HostRuntime) -> Result<(), Fail> {
             b"a export\n",
             b"",
             Status::Done,
-            "\n16 fault 1:1 NotYet\n17 refused TooManyExports\n",
+            "\n16 solid 2\n4OFF\n0 0 0\n17 refused TooManyExports\n",
         ),
         (
             17,

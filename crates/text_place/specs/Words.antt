@@ -1,7 +1,7 @@
 -- The names of the kinds of faults.
 use Rattle.std.specs.Prelude.{ℕ, List, codes}
 use Rattle.text_place.specs.declared.fault.FaultKind.{FaultKind}
-use Rattle.text_place.specs.declared.fault.FaultKind.TheVariants.{BadCharacter, OpenComment, OpenText, NotWhole, TooLarge, TypeMismatch, ZeroDivisor, BadSize, NotOnGrid, OutOfRange, FewPoints, BadPoint, NotFlat, NotConvex, NotClosed, Expected, Nested, UnknownName, UnknownFunction, UnknownModule, BadArgument, TooDeep, TooManyTurns, RangeOrder, AssertFailed, NotInProfile, WrongDimension, NotQuarter, Singular, TooManyParts, TooManyPlanes, LongList, NotYet}
+use Rattle.text_place.specs.declared.fault.FaultKind.TheVariants.{BadCharacter, OpenComment, OpenText, NotWhole, TooLarge, TypeMismatch, ZeroDivisor, BadSize, NotOnGrid, OutOfRange, FewPoints, BadPoint, NotFlat, NotConvex, NotClosed, Expected, Nested, UnknownName, UnknownFunction, UnknownModule, BadArgument, TooDeep, TooManyTurns, RangeOrder, AssertFailed, NotInProfile, WrongDimension, NotQuarter, Singular, TooManyParts, TooManyPlanes, LongList}
 
 -- the name of a kind, as it is printed
 abbrev pub word_of : FaultKind → List ℕ
@@ -37,4 +37,3 @@ word_of Singular = codes "Singular"
 word_of TooManyParts = codes "TooManyParts"
 word_of TooManyPlanes = codes "TooManyPlanes"
 word_of LongList = codes "LongList"
-word_of NotYet = codes "NotYet"

@@ -79,8 +79,6 @@ pub enum FaultKind {
     TooManyPlanes,
     /// A list that is too long or too deep.
     LongList,
-    /// A form that this server does not read yet.
-    NotYet,
 }
 
 /// What is wrong with a source, and where.
@@ -134,7 +132,6 @@ pub fn word(kind: FaultKind) -> &'static str
         FaultKind::TooManyParts => "TooManyParts",
         FaultKind::TooManyPlanes => "TooManyPlanes",
         FaultKind::LongList => "LongList",
-        FaultKind::NotYet => "NotYet",
     }
 }
 

@@ -4,4 +4,4 @@ use Rattle.script_server.proofs.OneReply.{exports_are}
 use Rattle.script_server.proofs.meaning.own_replies.Goals as goal
 
 pub returns : goal.returns
-returns c = own_replies AnswersExport exports_are
+returns c = λ unit. own_replies (AnswersExport unit) (exports_are c.one_reply.ensures unit)

@@ -1,0 +1,16 @@
+use Rattle.std.proofs.Common.{◌≡◌, ◌∷◌, ◌++◌, [], All, subst, rules}
+use Rattle.std.proofs.lemmas.List.Elements.{All-append, All-cons, All-nil}
+use Rattle.plane_predicate.specs.Space.{IsPlane}
+use Rattle.csg_tree.specs.ProperTrees.{IsLeafPlane}
+use Rattle.eval_tests.proofs.trees.add.Goals as goal
+
+pub returns : goal.returns
+returns g c =
+    let items : c.push.new.self.items ≡ c.args.planes.now.items ++ c.args.plane ∷ [] = search rules in
+    let plane : IsLeafPlane c.args.plane =
+    record { plane = subst IsPlane c.plane.view_is c.plane.invariant; reach = c.requires.reach } in
+    record {
+      all = rw items
+          (All-append IsLeafPlane c.args.planes.now.items (c.args.plane ∷ []) c.requires.all
+          (All-cons IsLeafPlane c.args.plane [] plane (All-nil IsLeafPlane)));
+    }

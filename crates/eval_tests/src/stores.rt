@@ -1,0 +1,212 @@
+//! Solids of stores, by one or many builders, with memos that keep much or nothing.
+
+ghost use Rattle.std.specs.Prelude.{◌≡◌, ◌*◌, ◌^◌, ◌<◌, ◌≤◌, [], All, IfOk, length, sum};
+ghost use Rattle.std.specs.Arc.{arc_value};
+ghost use Rattle.csg_tree.specs.ProperTrees.{IsProper};
+ghost use Rattle.csg_tree.specs.Trees.{formula_of};
+ghost use Rattle.subtree_memo.specs.Shares.{parts_each};
+
+use crate::trees::{cuboids, pairs, slabs};
+use bsp_boolean::{PlainBuilder, TreeStop};
+use bsp_tree::Solid;
+use csg_tree::{CsgStore, CsgTree};
+use memo_core::MemoCore;
+use parallel_eval::{Builds, OpenGate, ShaNamer, SolidFit};
+use std::alloc::Global;
+use std::marker::Brand;
+use std::process::Abort;
+use std::sync::ledger::Ledger;
+use std::sync::{Arc, Wait};
+use std::thread::Threads;
+use subtree_memo::{Blanks, Memo, MemoLedger, Share, Tally};
+
+// How many builders there are at a time.
+const NUMBERS: [u8; 4] = [1, 2, 8, 64];
+
+// The budgets of a memo that keeps nothing, little and all.
+const BUDGETS: [u64; 3] = [0, 100, 2_000_000];
+
+// The nodes of a tree, which can be shared.
+fn store(rt: &impl Abort, alloc: Global, tree: &CsgTree) -> Arc<CsgStore>
+    requires { IsProper (formula_of tree.now) }
+{
+    let store = CsgStore::intern(alloc, tree).expect(rt, "memory");
+    Arc::new(alloc, store).expect(rt, "memory")
+}
+
+// So many builders that have built nothing.
+fn builders(rt: &impl Abort, alloc: Global, count: u8) -> Vec<PlainBuilder>
+    ensures few { All (λ b. b ≤ 2 ^ 46) result.items }
+    ensures many { length result.items ≡ count }
+{
+    let mut builders = Vec::new(alloc);
+    for _index in 0..count {
+        builders.push(PlainBuilder::new()).expect(rt, "memory");
+    }
+    builders
+}
+
+// The solid of a store, twice by one new memo: the answers, and what was counted in all.
+fn run<
+    H: MemoLedger + Send + Sync,
+    M: Ledger + Send + Sync,
+    K: Ledger + Send + Sync,
+    E: Ledger + Send + Sync,
+    R: Abort + Threads + Wait + Sync,
+>(
+    rt: &R,
+    alloc: Global,
+    core: MemoCore<SolidFit, ShaNamer>,
+    blanks: Blanks,
+    store: &Arc<CsgStore>,
+    count: u8,
+) -> (
+    Result<Arc<Solid>, TreeStop>,
+    Result<Arc<Solid>, TreeStop>,
+    Tally,
+)
+    requires empty { core.journal ≡ [] }
+    requires limits { (core.budget ≡ H.budget) × (core.share ≡ H.share) }
+    requires hits { (blanks.hits.name ≡ H.name) × (blanks.hits.parts ≡ H.parts)
+        × (H.parts ≡ parts_each * 1) }
+    requires misses { (blanks.misses.name ≡ M.name) × (blanks.misses.parts ≡ M.parts)
+        × (M.parts ≡ parts_each * 1) }
+    requires kept { (blanks.kept.name ≡ K.name) × (blanks.kept.parts ≡ K.parts)
+        × (K.parts ≡ parts_each * 1) }
+    requires heavy { (blanks.heavy.name ≡ E.name) × (blanks.heavy.parts ≡ E.parts)
+        × (E.parts ≡ parts_each * 1) }
+    requires some { 0 < length (arc_value store.now) }
+    requires builders { (1 ≤ count) × (count ≤ 64) }
+{
+    let (memo, mut shares): (Memo<SolidFit, ShaNamer, H, M, K, E>, Vec<Share<H, M, K, E>>) =
+        Memo::open(alloc, core, 1, blanks).expect(rt, "memory");
+    let mut share = shares.pop().expect(rt, "a share");
+    let builds = Builds {
+        rt,
+        alloc,
+        memo: &memo,
+        gate: &OpenGate,
+    };
+    let mut first = builders(rt, alloc, count);
+    let mut second = builders(rt, alloc, count);
+    let once = builds.solid_of(store, &mut share, &mut first);
+    let again = builds.solid_of(store, &mut share, &mut second);
+    shares.push(share).expect(rt, "memory");
+    let (tally, _core) = memo.close(shares);
+    (once, again, tally)
+}
+
+// The same with a memo of this budget, for a caller that has no ledgers.
+fn made<R: Abort + Threads + Wait + Sync>(
+    rt: &R,
+    alloc: Global,
+    budget: u64,
+    store: &Arc<CsgStore>,
+    count: u8,
+) -> (
+    Result<Arc<Solid>, TreeStop>,
+    Result<Arc<Solid>, TreeStop>,
+    Tally,
+) {
+    assert!(rt; store.len() > 0);
+    assert!(rt; 1 <= count && count <= 64);
+    let core = MemoCore::new(alloc, SolidFit, ShaNamer, budget, 0).expect(rt, "memory");
+    run::<Brand, Brand, Brand, Brand, R>(rt, alloc, core, Blanks::new(1), store, count)
+}
+
+// By any number of builders and any memo, a tree has a solid of this size, and each of its joins is
+// asked for. A memo that keeps all is asked in vain just once for each, and one that keeps nothing each
+// time.
+fn has_size<R: Abort + Threads + Wait + Sync>(
+    rt: &R,
+    alloc: Global,
+    tree: &CsgTree,
+    size: u64,
+    joins: u64,
+)
+    requires { IsProper (formula_of tree.now) }
+{
+    let store = store(rt, alloc, tree);
+    for budget in BUDGETS {
+        for count in NUMBERS {
+            let (once, again, tally) = made(rt, alloc, budget, &store, count);
+            assert_eq!(rt; once.expect(rt, "a solid").count(), size);
+            assert_eq!(rt; again.expect(rt, "a solid").count(), size);
+            assert_eq!(rt; tally.probes / 2, joins);
+            assert_eq!(rt; tally.offered, tally.misses);
+            if budget == 0 {
+                assert_eq!(rt; (tally.hits, tally.kept), (0, 0));
+            }
+            if budget == 2_000_000 {
+                assert_eq!(rt; (tally.misses, tally.hits), (joins, joins));
+            }
+        }
+    }
+}
+
+// The node of the first number that is too big by itself, or else the one up to which all are.
+fn stopped(answer: Result<Arc<Solid>, TreeStop>) -> (u32, u32) {
+    match answer {
+        Ok(_) | Err(TreeStop::NoMemory) => (0, 0),
+        Err(TreeStop::TooBig(number)) => (number, 0),
+        Err(TreeStop::SumTooBig(number)) => (0, number),
+    }
+}
+
+// By any number of builders and any memo, a tree stops so.
+fn stops<R: Abort + Threads + Wait + Sync>(
+    rt: &R,
+    alloc: Global,
+    tree: &CsgTree,
+    wanted: (u32, u32),
+)
+    requires { IsProper (formula_of tree.now) }
+{
+    let store = store(rt, alloc, tree);
+    for budget in [0, 2_000_000] {
+        for count in NUMBERS {
+            let (once, again, _tally) = made(rt, alloc, budget, &store, count);
+            assert_eq!(rt; stopped(once), wanted);
+            assert_eq!(rt; stopped(again), wanted);
+        }
+    }
+}
+
+// A union of k slabs is 10 k in size, and has k leaves and k - 1 joins.
+#[test]
+fn slabs_have_their_solid(rt: HostRuntime) {
+    let alloc = rt.alloc();
+    has_size(&rt, alloc, &slabs(&rt, alloc, 0, 1), 10, 0);
+    has_size(&rt, alloc, &slabs(&rt, alloc, 1, 2), 20, 1);
+    has_size(&rt, alloc, &slabs(&rt, alloc, 2, 40), 400, 39);
+}
+
+// More than 64 leaves, and more than 64 joins of one height.
+#[test]
+fn nodes_of_one_height_take_more_than_one_run(rt: HostRuntime) {
+    let alloc = rt.alloc();
+    has_size(&rt, alloc, &pairs(&rt, alloc, 0, 70), 1400, 139);
+}
+
+// Two joins of each height.
+#[test]
+fn two_chains_have_their_solid(rt: HostRuntime) {
+    let alloc = rt.alloc();
+    has_size(&rt, alloc, &cuboids(&rt, alloc, 10, 9), 1900, 19);
+}
+
+// Where 50 slabs of x meet n of y and one of z, there are 100 nodes of x, 50 times 2n of y and as many
+// of z, each 5 in size. With n of 50 the tree has 101 leaves and 100 joins.
+#[test]
+fn the_size_of_a_node_has_a_limit(rt: HostRuntime) {
+    let alloc = rt.alloc();
+    stops(&rt, alloc, &cuboids(&rt, alloc, 50, 50), (201, 0));
+}
+
+// The union of k slabs is 10 k in size. Those of all leaves and joins are 497,680 together where there
+// are 314 slabs, and 500,840 at the last node where there are 315.
+#[test]
+fn the_sum_of_sizes_has_a_limit(rt: HostRuntime) {
+    let alloc = rt.alloc();
+    stops(&rt, alloc, &slabs(&rt, alloc, 0, 315), (0, 629));
+}

@@ -1,0 +1,87 @@
+-- Fresh lanes and the builders that get them, and the builders that get none.
+use Rattle.std.proofs.Common.{◌≡◌, ℕ, ◌+◌, ◌^◌, ◌≤◌, List, [], ◌∷◌, length, ap, arith}
+use Rattle.std.proofs.lemmas.List.Elements.{All-head, All-tail}
+use Rattle.pair_work.specs.Pairs.{EachReady}
+use Rattle.subtree_memo.specs.Shares.{View, fresh}
+use Rattle.parallel_eval.specs.declared.lanes.Lane.{Lane}
+use Rattle.parallel_eval.specs.Joins.{AreAnswered, AreBegun}
+use Rattle.parallel_eval.specs.Runs.{IsLaneReady, AreFreshLanes, AreAtMost}
+
+module _ {H M K E : Type 0} where
+  -- fresh lanes end where they say
+  pub fresh_end : (caller before last : ℕ) (lanes : List (Lane H M K E)) → AreFreshLanes caller before last lanes → before ≤ last
+  fresh_end caller before last [] e = omega (arith, e)
+  fresh_end caller before last (lane ∷ lanes) e =
+      let here : before ≤ lane.last = e.2 in
+      let rest : lane.last ≤ last = fresh_end caller lane.last last lanes e.4 in
+      omega arith
+
+module _ {B H M K E : Type 0} (count : B → ℕ) where
+  -- fresh lanes may be worked on, by builders with few builds
+  pub each_ready : (W : Type 0) → W → (start many before last caller most : ℕ) (bs : List B) (ls : List (Lane H M K E)) →
+      AreFreshLanes caller before last ls → start ≤ before → last ≤ start + many → AreAtMost count most bs → most ≤ 2 ^ 47 → length bs ≡ length ls →
+      EachReady (λ (b : B) (l : Lane H M K E). W × IsLaneReady start many (count b) l) bs ls
+  each_ready W w start many before last caller most [] [] e low high few enough same = tt
+  each_ready W w start many before last caller most [] (l ∷ ls) e low high few enough same = absurd (omega arith)
+  each_ready W w start many before last caller most (b ∷ bs) [] e low high few enough same = absurd (omega arith)
+  each_ready W w start many before last caller most (b ∷ bs) (l ∷ ls) e low high few enough same =
+      let share : l.share ≡ fresh caller 1 = e.0 in
+      let parts : l.share.parts ≡ 1 = ap (λ s. s.parts) share in
+      let none : l.share.dropped ≡ 0 = ap (λ s. s.dropped) share in
+      let first : l.before ≡ before = e.1 in
+      let order : before ≤ l.last = e.2 in
+      let end : l.last ≤ last = fresh_end caller l.last last ls e.4 in
+      let some : count b ≤ most = All-head (λ x. count x ≤ most) b bs few in
+      let one : IsLaneReady start many (count b) l =
+      record {
+        parts = omega arith;
+        dropped = omega arith;
+        few = omega arith;
+        empty = e.3;
+        first = omega arith;
+        order = omega arith;
+        last = omega arith;
+      } in
+      ((w, one), each_ready W w start many l.last last caller most bs ls e.4 (omega arith) high (All-tail (λ x. count x ≤ most) b bs few) enough (omega arith))
+
+-- builds that stay as they were change nothing
+pub begun_beside : (a b m n more m' n' : ℕ) (s t : View) → AreBegun a b s t m n → m' ≡ m + more → n' ≡ n + more → AreBegun a b s t m' n'
+begun_beside a b m n more m' n' s t h e f = record {
+  order = h.order;
+  hits = h.hits;
+  misses = h.misses;
+  kept = h.kept;
+  heavy = h.heavy;
+  dropped = h.dropped;
+  probes = h.probes;
+  builds = omega (arith, h.builds);
+  offered = h.offered;
+}
+
+pub answered_beside : (a b m n more m' n' : ℕ) (s t : View) → AreAnswered a b s t m n → m' ≡ m + more → n' ≡ n + more → AreAnswered a b s t m' n'
+answered_beside a b m n more m' n' s t h e f = record {
+  probes = h.probes;
+  builds = omega (arith, h.builds);
+  offered = h.offered;
+}
+
+-- where parts of a share were split off, as much was counted on the whole
+pub begun_with_parts : (a b m n k : ℕ) (s t : View) → AreBegun a b (record s { parts = k }) t m n → AreBegun a b s t m n
+begun_with_parts a b m n k s t h = record {
+  order = h.order;
+  hits = h.hits;
+  misses = h.misses;
+  kept = h.kept;
+  heavy = h.heavy;
+  dropped = h.dropped;
+  probes = h.probes;
+  builds = h.builds;
+  offered = h.offered;
+}
+
+pub answered_with_parts : (a b m n k : ℕ) (s t : View) → AreAnswered a b (record s { parts = k }) t m n → AreAnswered a b s t m n
+answered_with_parts a b m n k s t h = record {
+  probes = h.probes;
+  builds = h.builds;
+  offered = h.offered;
+}

@@ -1,0 +1,7 @@
+mod Books
+mod Dealt
+mod Divided
+mod Laned
+mod Running
+mod Steps
+mod Worked

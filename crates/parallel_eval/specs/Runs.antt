@@ -1,0 +1,150 @@
+-- The solids of the nodes of a store, made in runs by several builders.
+use Rattle.std.specs.Prelude.{◌≡◌, ℕ, ◌+◌, ◌^◌, ◌≤◌, ◌<◌, List, [], ◌∷◌, map, take, length, All}
+use Rattle.std.specs.Arc.{arc_value}
+use Rattle.std.specs.declared.sync.Arc.{Arc}
+use Rattle.csg_tree.specs.declared.node.CsgNode.{CsgNode}
+use Rattle.csg_tree.specs.declared.node.CsgNode.TheVariants.{Leaf, Join}
+use Rattle.csg_tree.specs.Formulas.{Formula}
+use Rattle.csg_tree.specs.ProperTrees.{IsProper}
+use Rattle.csg_tree.specs.Numberings.{tree_numbered}
+use Rattle.csg_tree.specs.Nodes.{IsNodeOf}
+use Rattle.bsp_tree.specs.declared.Solid.{Solid}
+use Rattle.bsp_tree.specs.Trees.{Tree}
+use Rattle.bsp_tree.specs.Shapes.{tree_of}
+use Rattle.bsp_boolean.specs.Solids.{solid_of}
+use Rattle.bsp_boolean.specs.TreeSolids.{most_of_one, solid_size, total_size, joins, AreWithin}
+use Rattle.subtree_memo.specs.Shares.{View, fresh, joined}
+use Rattle.parallel_eval.specs.declared.growth.Growth.{Growth}
+use Rattle.parallel_eval.specs.declared.growth.Outcome.{Outcome}
+use Rattle.parallel_eval.specs.declared.growth.Outcome.TheVariants.{Made, TooBig}
+use Rattle.parallel_eval.specs.declared.lanes.Lane.{Lane}
+use Rattle.parallel_eval.specs.Joins.{AreAnswered, AreBegun}
+
+-- how many of the first n trees are joins
+abbrev pub joins_to : List Formula → ℕ → ℕ
+joins_to trees n = joins (take n trees)
+
+-- the solids that are shared
+module _ {Z : Type 0} where
+  abbrev pub shared_solids : List (Arc Solid Z) → List Tree
+  shared_solids solids = map (λ s. tree_of (arc_value s)) solids
+
+-- the first n nodes have their solids, which are within the limits
+pub record IsGrown (trees : List Formula) (n : ℕ) (growth : Growth) : Type 0 where
+  pub solids : shared_solids growth.solids.items ≡ map solid_of (take n trees)
+  pub sum : growth.sum ≡ total_size (take n trees)
+  pub within : AreWithin (take n trees)
+
+-- a node has no tree behind the first ones
+abbrev pub IsBelow : ℕ → CsgNode → Type 0
+IsBelow start (Leaf planes) = Unit {0}
+IsBelow start (Join op left right) = (left ≤ start) × (right ≤ start)
+
+-- what is told of the node of a number is true, and it has no tree behind the first ones
+pub record IsRunNode (trees : List Formula) (start number : ℕ) (node : CsgNode) : Type 0 where
+  pub told : IsNodeOf trees number node
+  pub proper : IsProper (tree_numbered trees number)
+  pub below : IsBelow start node
+
+-- nodes that stand one after another behind a number, and none over another
+abbrev pub AreRunNodes : List Formula → ℕ → ℕ → List CsgNode → Type 0
+AreRunNodes trees start before [] = Unit {0}
+AreRunNodes trees start before (node ∷ nodes) = IsRunNode trees start (before + 1) node × AreRunNodes trees start (before + 1) nodes
+
+-- a run: nodes behind the first ones, which have their solids
+pub record IsRunWork {Z : Type 0} (trees : List Formula) (start : ℕ) (solids : List (Arc Solid Z)) (nodes : List CsgNode) : Type 0 where
+  pub over : shared_solids solids ≡ map solid_of (take start trees)
+  pub many : length solids ≡ start
+  pub run : AreRunNodes trees start start nodes
+  pub within : start + length nodes ≤ length trees
+  pub few : length trees < 2 ^ 32
+
+-- what came of the node of a number
+abbrev pub IsOutcome : List Formula → ℕ → Outcome → Type 0
+IsOutcome trees number (Made solid) = (tree_of (arc_value solid) ≡ solid_of (tree_numbered trees number))
+    × (solid_size (tree_numbered trees number) ≤ most_of_one)
+IsOutcome trees number TooBig = most_of_one < solid_size (tree_numbered trees number)
+
+-- what came of the nodes behind the first ones, in order of number
+abbrev pub AreOutcomes : List Formula → ℕ → List Outcome → Type 0
+AreOutcomes trees before [] = Unit {0}
+AreOutcomes trees before (outcome ∷ outcomes) = IsOutcome trees (before + 1) outcome × AreOutcomes trees (before + 1) outcomes
+
+-- a solid was made
+abbrev pub IsMade : Outcome → Type 0
+IsMade (Made solid) = Unit {0}
+IsMade TooBig = ⊥
+
+abbrev pub AreMade : List Outcome → Type 0
+AreMade [] = Unit {0}
+AreMade (outcome ∷ outcomes) = IsMade outcome × AreMade outcomes
+
+-- each node up to the last one has a solid
+abbrev pub IsComplete : ℕ → ℕ → List Outcome → Type 0
+IsComplete before last outcomes = (before + length outcomes ≡ last) × AreMade outcomes
+
+module _ {H M K E : Type 0} where
+  -- a lane may be worked on, by a builder with this count: its nodes are among so many behind the first ones
+  pub record IsLaneReady (start count built : ℕ) (lane : Lane H M K E) : Type 0 where
+    pub parts : 0 < lane.share.parts
+    pub dropped : lane.share.dropped ≤ 2 ^ 47
+    pub few : built ≤ 2 ^ 47
+    pub empty : lane.made.items ≡ []
+    pub first : start ≤ lane.before
+    pub order : lane.before ≤ lane.last
+    pub last : lane.last ≤ start + count
+
+  -- lanes of which nothing is done, with the nodes from one number to another
+  abbrev pub AreFreshLanes : ℕ → ℕ → ℕ → List (Lane H M K E) → Type 0
+  AreFreshLanes caller before last [] = before ≡ last
+  AreFreshLanes caller before last (lane ∷ lanes) = (lane.share ≡ fresh caller 1) × (lane.before ≡ before) × (before ≤ lane.last)
+      × (lane.made.items ≡ []) × AreFreshLanes caller lane.last last lanes
+
+  -- a lane was worked on: what came of its nodes, or of the first of them, and what was counted for it
+  pub record IsLaneDone (trees : List Formula) (lane lane' : Lane H M K E) (count count' : ℕ) : Type 0 where
+    pub before : lane'.before ≡ lane.before
+    pub last : lane'.last ≡ lane.last
+    pub parts : lane'.share.parts ≡ lane.share.parts
+    pub caller : lane'.share.caller ≡ lane.share.caller
+    pub outcomes : AreOutcomes trees lane.before lane'.made.items
+    pub most : lane.before + length lane'.made.items ≤ lane.last
+    pub begun : AreBegun (joins_to trees lane.before) (joins_to trees lane.last) lane.share lane'.share count count'
+    pub answered : IsComplete lane.before lane.last lane'.made.items →
+        AreAnswered (joins_to trees lane.before) (joins_to trees lane.last) lane.share lane'.share count count'
+
+  -- a lane is worked on up to the number k, of which each node has an outcome
+  pub record IsLaneAt (trees : List Formula) (k : ℕ) (lane lane' : Lane H M K E) (count count' : ℕ) : Type 0 where
+    pub before : lane'.before ≡ lane.before
+    pub last : lane'.last ≡ lane.last
+    pub parts : lane'.share.parts ≡ lane.share.parts
+    pub caller : lane'.share.caller ≡ lane.share.caller
+    pub outcomes : AreOutcomes trees lane.before lane'.made.items
+    pub many : lane.before + length lane'.made.items ≡ k
+    pub begun : AreBegun (joins_to trees lane.before) (joins_to trees k) lane.share lane'.share count count'
+    pub answered : AreMade lane'.made.items →
+        AreAnswered (joins_to trees lane.before) (joins_to trees k) lane.share lane'.share count count'
+
+  -- lanes with what came of their nodes, which are those from one number to another
+  abbrev pub AreLanes : List Formula → ℕ → ℕ → List (Lane H M K E) → Type 0
+  AreLanes trees before last [] = before ≡ last
+  AreLanes trees before last (lane ∷ lanes) = (lane.before ≡ before) × (before + length lane.made.items ≤ lane.last)
+      × AreOutcomes trees before lane.made.items × AreLanes trees lane.last last lanes
+
+  -- each node of each lane has a solid
+  abbrev pub AreComplete : List (Lane H M K E) → Type 0
+  AreComplete [] = Unit {0}
+  AreComplete (lane ∷ lanes) = IsComplete lane.before lane.last lane.made.items × AreComplete lanes
+
+  -- the shares of lanes are one caller's
+  abbrev pub AreOfCaller : ℕ → List (Lane H M K E) → Type 0
+  AreOfCaller caller [] = Unit {0}
+  AreOfCaller caller (lane ∷ lanes) = (lane.share.caller ≡ caller) × AreOfCaller caller lanes
+
+  -- a share with those of the lanes
+  abbrev pub with_lanes : View → List (Lane H M K E) → View
+  with_lanes share [] = share
+  with_lanes share (lane ∷ lanes) = joined (with_lanes share lanes) lane.share
+
+-- each builder's count is at most so many
+abbrev pub AreAtMost : {B : Type 0} → (B → ℕ) → ℕ → List B → Type 0
+AreAtMost count most bs = All (λ b. count b ≤ most) bs

@@ -1,0 +1,36 @@
+-- Evaluations, calls and turns, as they are counted.
+use Rattle.std.proofs.Common.{◌≡◌, ℕ, zero, suc, ◌+◌, ◌-◌, ◌<◌, true, nat_lt, ap, arith, if◌then◌else◌}
+use Rattle.std.proofs.lemmas.Bool.Decides.{nat_tests}
+use Rattle.text_place.specs.declared.fault.Place.{Place}
+use Rattle.text_place.specs.declared.fault.FaultKind.TheVariants.{TooDeep, TooManyTurns}
+use Rattle.plane_predicate.specs.declared.unit.Unit.{Unit as LengthUnit}
+use Rattle.scad_ast.specs.Terms.{InstanceTerm, place_of_instance}
+use Rattle.scad_func.specs.Meaning.{Outcome, Faults, one_call_fewer, turn}
+use Rattle.scad_eval.specs.Verdicts.{Judge}
+use Rattle.scad_eval.specs.Meaning.{Stand, made_within, instance_made}
+
+one_less : (d : ℕ) → d < 512 → 512 - d ≡ suc (512 - (d + 1))
+one_less d h = omega arith
+
+pub made_deeper : (unit : LengthUnit) (judge : Judge) (d : ℕ) (here : Stand) (i : InstanceTerm) (turns leaves : ℕ) → d < 512
+    → made_within unit judge (512 - d) here i turns leaves
+    ≡ instance_made unit judge (512 - (d + 1)) (made_within unit judge (512 - (d + 1))) here i turns leaves
+unfolding made_within
+made_deeper unit judge d here i turns leaves h = ap (λ n. made_within unit judge n here i turns leaves) (one_less d h)
+
+pub made_too_deep : (unit : LengthUnit) (judge : Judge) (d : ℕ) (here : Stand) (i : InstanceTerm) (turns leaves : ℕ) → d ≡ 512
+    → made_within unit judge (512 - d) here i turns leaves ≡ Faults TooDeep (place_of_instance i)
+unfolding made_within
+made_too_deep unit judge d here i turns leaves h =
+    let k : 512 - d ≡ zero = omega arith in ap (λ n. made_within unit judge n here i turns leaves) k
+
+pub call_counted : {A : Type 0} (calls : ℕ) (at : Place) (go : ℕ → Outcome A) → calls < 64
+    → one_call_fewer (64 - calls) at go ≡ go (64 - (calls + 1))
+call_counted calls at go h =
+    let k : 64 - calls ≡ suc (64 - (calls + 1)) = omega arith in ap (λ n. one_call_fewer n at go) k
+
+below : (n m : ℕ) → n < m → nat_lt n m ≡ true
+below n m h = grind (arith, nat_tests)
+
+pub turn_counted : {A : Type 0} (at : Place) (turns : ℕ) (go : ℕ → Outcome A) → turns < 100000 → turn at turns go ≡ go (turns + 1)
+turn_counted at turns go h = ap (λ b. if b then go (turns + 1) else Faults TooManyTurns at) (below turns 100000 h)

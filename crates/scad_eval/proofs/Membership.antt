@@ -1,0 +1,67 @@
+-- One member more, and one step of a loop more.
+use Rattle.std.proofs.Common.{◌≡◌, ℕ, ◌+◌, ◌<◌, Bool, true, false, nat_lt, not, List, [], ◌∷◌, map, drop, length, get_or, Result, Ok, Err, refl, sym, ap, ◌∙◌, if◌then◌else◌}
+use Rattle.std.proofs.lemmas.List.{at_drop_more}
+use Rattle.text_place.specs.declared.fault.Stop.{Stop}
+use Rattle.text_place.specs.declared.fault.Stop.TheVariants.{Fault, NoMemory}
+use Rattle.text_place.specs.declared.fault.Place.{Place}
+use Rattle.text_place.specs.declared.fault.FaultKind.TheVariants.{TooManyTurns}
+use Rattle.scad_ast.specs.Terms.{InstanceTerm, AnInstance}
+use Rattle.std.specs.Prelude.{Option}
+use Rattle.scad_design.specs.Designs.{Design}
+use Rattle.scad_func.specs.Meaning.{Outcome, Gives, Faults, Env, then_with}
+use Rattle.scad_eval.specs.declared.stand.Made.{Made as MadeIn}
+use Rattle.scad_eval.specs.declared.numbered.NumberedInstance.{NumberedInstance}
+use Rattle.scad_eval.specs.Bodies.{says_only, is_child}
+use Rattle.scad_eval.specs.Meaning.{Made, Members, as_member, and_members, after_step, core_of}
+use Rattle.scad_eval.specs.Positions.{term_of_numbered}
+use Rattle.scad_eval.specs.Seen.{TellsAs, Told, made_seen, member_seen, in_front}
+
+flipped : (b : Bool) → (if b then false else true) ≡ not b
+flipped true = refl
+flipped false = refl
+
+-- what is a child is a member
+pub child_is_member : (env : Env) (i : InstanceTerm) → (if says_only env (core_of i) then false else true) ≡ is_child env i
+child_is_member env (AnInstance at marks core) = flipped (says_only env core)
+
+-- an instance's design, as a member
+as_tells : (b : Bool) (r : Result MadeIn Stop) (m l : ℕ) (out : Outcome Made) → TellsAs made_seen r m l out
+    → TellsAs (member_seen b) r m l (then_with out (λ turns x. Gives turns (as_member b x)))
+as_tells b (Ok made) m l out h = ap (λ o. then_with o (λ turns x. Gives turns (as_member b x))) h
+as_tells b (Err (Fault fault)) m l out h = ap (λ o. then_with o (λ turns x. Gives turns (as_member b x))) h
+as_tells b (Err NoMemory) m l out h = tt
+
+pub as_told : (b : Bool) {r : Result MadeIn Stop} {m l : ℕ} {out : Outcome Made} → Told made_seen r m l out
+    → Told (member_seen b) r m l (then_with out (λ turns x. Gives turns (as_member b x)))
+as_told b {r = r} {m = m} {l = l} {out = out} h = record { is = as_tells b r m l out h.is }
+
+pub member_step : (b : Bool) (out : Outcome Made) (go : ℕ → ℕ → Outcome Members)
+    → then_with out (λ turns m. then_with (go turns m.leaves) (λ turns ms. Gives turns (and_members (as_member b m) ms)))
+    ≡ then_with (then_with out (λ turns m. Gives turns (as_member b m))) (λ turns ms. in_front ms (go turns ms.leaves))
+member_step b (Gives turns m) go = refl
+member_step b (Faults kind at) go = refl
+
+-- a step of a loop counts a turn more, or none
+turned : (at : Place) (b : Bool) (turns : ℕ) (ms : Members) (go : ℕ → ℕ → Outcome Members)
+    → (if b then then_with (go (turns + 1) ms.leaves) (λ turns more. Gives turns (and_members ms more)) else Faults TooManyTurns at)
+    ≡ then_with (if b then Gives (turns + 1) ms else Faults TooManyTurns at) (λ turns ms. in_front ms (go turns ms.leaves))
+turned at true turns ms go = refl
+turned at false turns ms go = refl
+
+stepped : (at : Place) (turns leaves : ℕ) (designs : List Design) (marked : Option Design) (go : ℕ → ℕ → Outcome Members)
+    → after_step at designs turns (λ turns. then_with (go turns leaves) (λ turns more. Gives turns (and_members (record { leaves = leaves; designs = designs; marked = marked }) more)))
+    ≡ then_with (after_step at designs turns (λ turns. Gives turns (record { leaves = leaves; designs = designs; marked = marked }))) (λ turns ms. in_front ms (go turns ms.leaves))
+stepped at turns leaves [] marked go = turned at (nat_lt turns 100000) turns (record { leaves = leaves; designs = []; marked = marked }) go
+stepped at turns leaves (d ∷ ds) marked go = refl
+
+pub loop_step : (at : Place) (out : Outcome Members) (go : ℕ → ℕ → Outcome Members)
+    → then_with out (λ turns ms. after_step at ms.designs turns (λ turns. then_with (go turns ms.leaves) (λ turns more. Gives turns (and_members ms more))))
+    ≡ then_with (then_with out (λ turns ms. after_step at ms.designs turns (λ turns. Gives turns ms))) (λ turns ms. in_front ms (go turns ms.leaves))
+loop_step at (Gives turns ms) go = stepped at turns ms.leaves ms.designs ms.marked go
+loop_step at (Faults kind place) go = refl
+
+-- the next of some instances, and the end of them
+pub instances_here : (xs : List NumberedInstance) (i : ℕ) (x : NumberedInstance) → i < length xs → x ≡ get_or xs i x
+    → map term_of_numbered (drop i xs) ≡ term_of_numbered x ∷ map term_of_numbered (drop (i + 1) xs)
+instances_here xs i x h is =
+    at_drop_more (map term_of_numbered) xs i x h ∙ ap (λ (y : NumberedInstance). term_of_numbered y ∷ map term_of_numbered (drop (i + 1) xs)) (sym is)

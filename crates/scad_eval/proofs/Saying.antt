@@ -1,0 +1,212 @@
+-- What is told from where a step began, of steps that stand elsewhere: in a scope that was entered, one evaluation or call
+-- deeper, or with special arguments on the chain.
+use Rattle.std.proofs.Common.{◌≡◌, ℕ, ◌+◌, ◌-◌, Bool, true, false, List, ◌++◌, Option, Some, is_some, Result, Ok, Err, refl, sym, ap, subst, ◌∙◌}
+use Rattle.std.specs.Prelude.{OnOk}
+use Rattle.text_place.specs.declared.fault.Stop.{Stop}
+use Rattle.text_place.specs.declared.fault.Stop.TheVariants.{Fault, NoMemory}
+use Rattle.text_place.specs.declared.fault.FaultKind.{FaultKind}
+use Rattle.text_place.specs.declared.fault.Place.{Place}
+use Rattle.csg_tree.specs.declared.op.Op.{Op}
+use Rattle.csg_tree.specs.declared.op.Op.TheVariants.{Union}
+use Rattle.plane_predicate.specs.declared.unit.Unit.{Unit as LengthUnit}
+use Rattle.scad_ast.specs.Terms.{StatementTerms, InstanceTerm}
+use Rattle.scad_value.specs.Values.{Val}
+use Rattle.scad_scope.specs.Names.{Pairs, Row}
+use Rattle.scad_scope.specs.Table.{rows_of, chain_of}
+use Rattle.scad_scope.specs.Blocks.{assignments_of}
+use Rattle.scad_func.specs.Meaning.{Outcome, Gives, Faults, Env, Opened, opened, no_call, entered_scope, then_with, evaluated}
+use Rattle.scad_func.specs.View.{seen, text_of, IsFault}
+use Rattle.scad_func.specs.Definitions.{IsWhole, statements_at, block_scope}
+use Rattle.scad_func.specs.Evaluations.{CallBegins, EvaluationBegins, SpecialsBegin}
+use Rattle.scad_func.specs.Evaluations as there
+use Rattle.scad_func.specs.declared.source.Source.{Source}
+use Rattle.scad_modules.specs.Effects.{ChosenCall}
+use Rattle.scad_eval.specs.declared.stand.Stand.{Stand as StandIn}
+use Rattle.scad_eval.specs.declared.stand.Made.{Made as MadeIn}
+use Rattle.scad_eval.specs.declared.stand.Members.{Members as MembersIn}
+use Rattle.scad_eval.specs.declared.making.Making.{Making}
+use Rattle.scad_eval.specs.Verdicts.{Judge, IsRight}
+use Rattle.scad_eval.specs.Bodies.{children_in, is_marked}
+use Rattle.scad_eval.specs.Loops.{chosen_among}
+use Rattle.scad_eval.specs.Meaning.{Stand, Made, Members, Makes, standing, chained, called_from, marked_from, setting, made_within, instance_made, core_made, core_of, made_of, each_assigned, each_member, children_made, no_members, and_members}
+use Rattle.scad_eval.specs.Seen.{TellsAs, Told, made_seen, members_seen, member_seen, apart, IsLengthened, in_front}
+use Rattle.scad_eval.specs.Makings.{left_at, stand_at, Stays, Enters, Equation, Says}
+use Rattle.scad_eval.specs.Steps.{block_members}
+use Rattle.scad_eval.proofs.Telling.{along, then_told, then_then, front_of_none, no_memory}
+use Rattle.scad_eval.proofs.Standing.{said_at, same_stand, entered_stand}
+use Rattle.scad_eval.proofs.Beginning.{deeper_stand, deeper_left, call_stand, call_left, specials_stand, specials_left}
+use Rattle.scad_eval.proofs.Counting.{made_deeper}
+
+-- a fault that stands at a place
+pub refused_told : {A B : Type 0} {see : ℕ → A → B} (stop : Stop) (m l : ℕ) (kind : FaultKind) (at : Place) → IsFault stop kind at
+    → Told see (Err stop) m l (Faults kind at)
+refused_told (Fault fault) m l kind at h =
+    record { is = ap (λ (k : FaultKind). Faults k at) (sym h.0) ∙ ap (λ (p : Place). Faults fault.kind p) (sym h.1) }
+refused_told NoMemory m l kind at h = absurd h
+
+-- members that were joined
+pub joined_told : (op : Op) (members : MembersIn) (made : MadeIn) (turns leaves : ℕ) (out : Outcome Members)
+    → Told members_seen (Ok members) turns leaves out
+    → ((leaves : ℕ) → made_seen leaves made ≡ made_of op (members_seen leaves members))
+    → Told made_seen (Ok made) turns leaves (then_with out (λ turns ms. Gives turns (made_of op ms)))
+joined_told op members made turns leaves out h joined =
+    then_told (λ turns ms. Gives turns (made_of op ms)) h (record { is = ap (λ m. Gives turns m) (sym (joined leaves)) })
+
+-- in a scope that was entered
+pub entered_said : {A B : Type 0} {see : ℕ → A → B} {r : Result A Stop} (equation : Source → Equation B) (old mid new : Making) (s t : StandIn)
+    (scope : ℕ) (env : Env) → Enters old mid scope
+    → seen mid.evaluation.source.now (rows_of mid.evaluation.scopes.now) scope ≡ env
+    → mid.evaluation.turns ≡ old.evaluation.turns
+    → t ≡ record { scope = scope; inside = s.inside; under_mark = s.under_mark }
+    → Says see mid new t r (equation mid.evaluation.source.now) → (judge : Judge) → IsRight judge
+    → Told see r new.evaluation.turns new.leaves
+    (equation old.evaluation.source.now old.unit judge (left_at old) (made_within old.unit judge (left_at old)) (standing (stand_at old s) env)
+    old.evaluation.turns old.leaves)
+entered_said equation old mid new s t scope env e is turns same h judge right =
+    let l = left_at old in
+    let make = made_within old.unit judge l in
+    let here = standing (stand_at old s) env in
+    along (ap (λ (x : Source). equation x old.unit judge l make here old.evaluation.turns old.leaves) (sym e.evaluation.source)
+    ∙ ap (λ n. equation mid.evaluation.source.now old.unit judge l make here n old.leaves) (sym turns)
+    ∙ ap (λ n. equation mid.evaluation.source.now old.unit judge l make here mid.evaluation.turns n) (sym e.leaves))
+    (said_at old.unit l here e.unit (ap (λ n. 512 - n) e.evaluation.depth)
+    (ap (λ (x : StandIn). stand_at mid x) same ∙ entered_stand old mid s scope env e is) h judge right)
+
+-- a block in a scope that was entered
+pub body_entered : {r : Result MembersIn Stop} (old mid new : Making) (s t : StandIn) (scope block : ℕ) (call : Opened) (outer : Env)
+    (chosen : Option ChosenCall) (statements : StatementTerms)
+    → IsWhole (text_of old.evaluation.source.now) → statements_at (text_of old.evaluation.source.now) block ≡ statements
+    → Enters old mid scope
+    → seen mid.evaluation.source.now (rows_of mid.evaluation.scopes.now) scope ≡ block_scope (text_of old.evaluation.source.now) block call outer
+    → mid.evaluation.turns ≡ old.evaluation.turns
+    → t ≡ record { scope = scope; inside = s.inside; under_mark = s.under_mark }
+    → Says members_seen mid new t r (λ unit judge left make. block_members left make chosen (statements_at (text_of mid.evaluation.source.now) block))
+    → (judge : Judge) → IsRight judge
+    → Told members_seen r new.evaluation.turns new.leaves
+    (block_members (left_at old) (made_within old.unit judge (left_at old)) chosen statements
+    (standing (stand_at old s) (entered_scope statements call outer)) old.evaluation.turns old.leaves)
+body_entered old mid new s t scope block call outer chosen statements whole is e inside turns same h judge right =
+    let l = left_at old in
+    let make = made_within old.unit judge l in
+    let here : Stand = standing (stand_at old s) (entered_scope statements call outer) in
+    along (ap (λ (st : StatementTerms). block_members l make chosen st here old.evaluation.turns old.leaves) (sym is))
+    (entered_said (λ (x : Source) unit judge left make. block_members left make chosen (statements_at (text_of x) block))
+    old mid new s t scope (entered_scope statements call outer) e
+    (inside ∙ whole.scopes block call outer ∙ ap (λ (st : StatementTerms). entered_scope st call outer) is)
+    turns same h judge right)
+
+-- one evaluation deeper
+pub deeper_said : {r : Result MadeIn Stop} (old mid new : Making) (s : StandIn) (i : InstanceTerm) → mid.unit ≡ old.unit → mid.leaves ≡ old.leaves
+    → mid.evaluation.turns ≡ old.evaluation.turns → EvaluationBegins old.evaluation mid.evaluation
+    → Says made_seen mid new s r (λ unit judge left make here. instance_made unit judge left make here i) → (judge : Judge) → IsRight judge
+    → Told made_seen r new.evaluation.turns new.leaves
+    (made_within old.unit judge (left_at old) (stand_at old s) i old.evaluation.turns old.leaves)
+deeper_said old mid new s i unit leaves turns b h judge right =
+    let d = old.evaluation.depth in
+    let l = 512 - (d + 1) in
+    let make = made_within old.unit judge l in
+    along (made_deeper old.unit judge d (stand_at old s) i old.evaluation.turns old.leaves b.within
+    ∙ ap (λ n. instance_made old.unit judge l make (stand_at old s) i n old.leaves) (sym turns)
+    ∙ ap (λ n. instance_made old.unit judge l make (stand_at old s) i mid.evaluation.turns n) (sym leaves))
+    (said_at old.unit l (stand_at old s) unit (deeper_left old mid b) (deeper_stand old mid s b) h judge right)
+
+-- one call deeper; the turns are those that a call counts
+pub call_said : {A B : Type 0} {see : ℕ → A → B} {r : Result A Stop} (equation : Source → List Row → Equation B) (old mid new : Making) (s : StandIn)
+    → mid.unit ≡ old.unit → mid.leaves ≡ old.leaves → CallBegins old.evaluation mid.evaluation
+    → Says see mid new s r (equation mid.evaluation.source.now (rows_of mid.evaluation.scopes.now)) → (judge : Judge) → IsRight judge
+    → Told see r new.evaluation.turns new.leaves
+    (equation old.evaluation.source.now (rows_of old.evaluation.scopes.now) old.unit judge (left_at old) (made_within old.unit judge (left_at old))
+    (called_from (stand_at old s) (64 - (old.evaluation.calls + 1))) mid.evaluation.turns old.leaves)
+call_said equation old mid new s unit leaves b h judge right =
+    let l = left_at old in
+    let make = made_within old.unit judge l in
+    let here = called_from (stand_at old s) (64 - (old.evaluation.calls + 1)) in
+    along (ap (λ (x : Source). equation x (rows_of old.evaluation.scopes.now) old.unit judge l make here mid.evaluation.turns old.leaves) (sym b.source)
+    ∙ ap (λ (rows : List Row). equation mid.evaluation.source.now rows old.unit judge l make here mid.evaluation.turns old.leaves) (sym b.rows)
+    ∙ ap (λ n. equation mid.evaluation.source.now (rows_of mid.evaluation.scopes.now) old.unit judge l make here mid.evaluation.turns n) (sym leaves))
+    (said_at old.unit l here unit (call_left old mid b) (call_stand old mid s b) h judge right)
+
+-- with special arguments on the chain, and behind steps that keep all
+pub specials_said : {A B : Type 0} {see : ℕ → A → B} {r : Result A Stop} (equation : Source → List Row → Equation B) (old begun mid new : Making) (s : StandIn)
+    (count : ℕ) (specials : Pairs Val)
+    → begun.unit ≡ old.unit → begun.leaves ≡ old.leaves → SpecialsBegin old.evaluation begun.evaluation count
+    → chain_of begun.evaluation.scopes.now ≡ specials ++ chain_of old.evaluation.scopes.now
+    → Stays begun mid → mid.leaves ≡ begun.leaves
+    → Says see mid new s r (equation mid.evaluation.source.now (rows_of mid.evaluation.scopes.now)) → (judge : Judge) → IsRight judge
+    → Told see r new.evaluation.turns new.leaves
+    (equation old.evaluation.source.now (rows_of old.evaluation.scopes.now) old.unit judge (left_at old) (made_within old.unit judge (left_at old))
+    (chained (stand_at old s) (specials ++ chain_of old.evaluation.scopes.now)) mid.evaluation.turns old.leaves)
+specials_said equation old begun mid new s count specials unit leaves b chain k same h judge right =
+    let l = left_at old in
+    let make = made_within old.unit judge l in
+    let here = chained (stand_at old s) (specials ++ chain_of old.evaluation.scopes.now) in
+    along (ap (λ (x : Source). equation x (rows_of old.evaluation.scopes.now) old.unit judge l make here mid.evaluation.turns old.leaves)
+    (sym (k.source ∙ b.source))
+    ∙ ap (λ (rows : List Row). equation mid.evaluation.source.now rows old.unit judge l make here mid.evaluation.turns old.leaves) (sym (k.rows ∙ b.rows))
+    ∙ ap (λ n. equation mid.evaluation.source.now (rows_of mid.evaluation.scopes.now) old.unit judge l make here mid.evaluation.turns n)
+    (sym (same ∙ leaves)))
+    (said_at old.unit l here (k.unit ∙ unit) (ap (λ n. 512 - n) k.depth ∙ specials_left old begun count b)
+    (same_stand begun mid s k ∙ specials_stand old begun s count specials b chain) h judge right)
+
+-- where an expression stands with special arguments on the chain
+pub specials_setting : (old begun : Making) (s : StandIn) (scope count : ℕ) (specials : Pairs Val) → SpecialsBegin old.evaluation begun.evaluation count
+    → chain_of begun.evaluation.scopes.now ≡ specials ++ chain_of old.evaluation.scopes.now
+    → there.setting begun.evaluation scope
+    ≡ setting (left_at old) (standing (chained (stand_at old s) (specials ++ chain_of old.evaluation.scopes.now))
+    (seen old.evaluation.source.now (rows_of old.evaluation.scopes.now) scope))
+specials_setting old begun s scope count specials b chain =
+    ap (λ n. record { deeper = evaluated (512 - n); calls = 64 - begun.evaluation.calls; env = seen begun.evaluation.source.now (rows_of begun.evaluation.scopes.now) scope; chain = chain_of begun.evaluation.scopes.now }) b.depth
+    ∙ ap (λ n. record { deeper = evaluated (512 - old.evaluation.depth); calls = 64 - n; env = seen begun.evaluation.source.now (rows_of begun.evaluation.scopes.now) scope; chain = chain_of begun.evaluation.scopes.now }) b.calls
+    ∙ ap (λ (x : Source). record { deeper = evaluated (512 - old.evaluation.depth); calls = 64 - old.evaluation.calls; env = seen x (rows_of begun.evaluation.scopes.now) scope; chain = chain_of begun.evaluation.scopes.now }) b.source
+    ∙ ap (λ (rows : List Row). record { deeper = evaluated (512 - old.evaluation.depth); calls = 64 - old.evaluation.calls; env = seen old.evaluation.source.now rows scope; chain = chain_of begun.evaluation.scopes.now }) b.rows
+    ∙ ap (λ (c : Pairs Val). record { deeper = evaluated (512 - old.evaluation.depth); calls = 64 - old.evaluation.calls; env = seen old.evaluation.source.now (rows_of old.evaluation.scopes.now) scope; chain = c }) chain
+
+-- the children of a call are members of its block
+pub children_as_members : (left : ℕ) (make : Makes) (here : Stand) (children : StatementTerms) (caller : Env) (chosen : ChosenCall) (turns leaves : ℕ)
+    → children_made left make here (opened children caller) chosen turns leaves
+    ≡ then_with (block_members left make (Some chosen) children (standing here (entered_scope children no_call caller)) turns leaves)
+    (λ turns ms. Gives turns (made_of Union ms))
+children_as_members left make here children caller chosen turns leaves =
+    sym (then_then (each_assigned left (standing here (entered_scope children no_call caller)) (assignments_of children) turns)
+    (λ turns there. each_member make there (chosen_among (children_in there.env children) chosen) turns leaves)
+    (λ turns ms. Gives turns (made_of Union ms)))
+
+-- an instance whose mark counts
+pub marked_form : (unit : LengthUnit) (judge : Judge) (left : ℕ) (make : Makes) (here : Stand) (i : InstanceTerm) (turns leaves : ℕ)
+    → is_marked i ≡ true → is_some here.inside ≡ false → here.under_mark ≡ false
+    → instance_made unit judge left make here i turns leaves
+    ≡ then_with (core_made unit judge left make (marked_from here) (core_of i) turns leaves) (λ turns m. Gives turns (apart m))
+marked_form unit judge left make here i turns leaves marked outside first =
+    let apart_made : Outcome Made = then_with (core_made unit judge left make (marked_from here) (core_of i) turns leaves) (λ turns m. Gives turns (apart m)) in
+    let plain = core_made unit judge left make here (core_of i) turns leaves in
+    rw (marked, outside, first) refl
+
+-- members with nothing in front, and a step of a loop that gave something
+pub begun_front : (before : MembersIn) (leaves : ℕ) (out : Outcome Members) → members_seen leaves before ≡ no_members leaves
+    → out ≡ in_front (members_seen leaves before) out
+begun_front before leaves out none = sym (ap (λ (ms : Members). in_front ms out) none ∙ front_of_none leaves out)
+
+pub OnOk-at_ok : {A E : Type 0} {P : Type 0} {r : Result A E} {x : A} → r ≡ Ok x → OnOk r P → P
+OnOk-at_ok {P = P} e h = subst (λ s. OnOk s P) e h
+
+pub lengthened_on : {A : Type 0} (see : ℕ → A → Members) (before : MembersIn) (r : Result A Stop) (after : MembersIn) (P : Type 0)
+    → IsLengthened see before r (Ok after) → OnOk r P → P
+lengthened_on see before (Ok x) after P l p = p
+lengthened_on see before (Err stop) after P l p = absurd l
+
+-- one member alone
+pub first_told : (b : Bool) (before : MembersIn) (start : ℕ) (r : Result MadeIn Stop) (all : Result MembersIn Stop) (m l : ℕ) (out : Outcome Members)
+    → ((leaves : ℕ) → members_seen leaves before ≡ no_members leaves) → IsLengthened (member_seen b) before r all
+    → Told (member_seen b) r m l out → Told members_seen all m l out
+first_told b before start (Ok x) (Ok after) m l out none long h = record {
+  is = h.is ∙ ap (λ (ms : Members). Gives m ms)
+      (sym (long start l ∙ ap (λ (ms : Members). and_members ms (member_seen b l x)) (none start)));
+}
+first_told b before start (Ok x) (Err stop) m l out none long h = no_memory long
+first_told b before start (Err fault) (Ok after) m l out none long h = absurd long
+first_told b before start (Err fault) (Err stop) m l out none long h =
+    subst (λ (s : Stop). Told members_seen (Err s) m l out) (sym long) (record { is = tells fault h.is })
+  where
+    tells : (f : Stop) → TellsAs (member_seen b) (Err f) m l out → TellsAs members_seen (Err f) m l out
+    tells (Fault f) t = t
+    tells NoMemory t = tt

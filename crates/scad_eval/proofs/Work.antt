@@ -1,0 +1,12 @@
+-- The evaluations that are left count for more than any step at one depth.
+use Rattle.std.proofs.Common.{◌≡◌, ℕ, ◌+◌, ◌-◌, ◌*◌, ◌<◌, ◌≤◌, ap, arith}
+
+unfoldable pub work : ℕ → ℕ
+work depth = (512 - depth) * 1125899906842624
+
+pub work_falls : (depth : ℕ) → depth < 512 → work (depth + 1) + 1125899906842624 ≤ work depth
+unfolding work
+work_falls depth h = omega arith
+
+pub work_same : (a b : ℕ) → a ≡ b → work a ≡ work b
+work_same a b e = ap work e

@@ -1,0 +1,149 @@
+//! Calls of built-in modules.
+
+ghost use Rattle.std.specs.Prelude.{◌≡◌, IsTrue, OnOk, if◌then◌else◌};
+ghost use Rattle.csg_tree.specs.declared.op.Op.TheVariants.{Union};
+ghost use Rattle.primitives.specs.Sizes.{IsSafe};
+ghost use Rattle.scad_ast.specs.ExprView.{args_of};
+ghost use Rattle.scad_func.specs.Meaning.{Gives, then_with};
+ghost use Rattle.scad_func.specs.View.{text_of, arguments_of, arguments_bounded};
+ghost use Rattle.scad_modules.specs.Bounds.{IsSafeCall};
+ghost use Rattle.scad_modules.specs.Table.{module_named};
+ghost use Rattle.scad_modules.specs.View.{call_of};
+ghost use Rattle.scad_design.specs.Designs.{moved_by};
+ghost use Rattle.scad_eval.specs.Meaning.{built_in_made as built_in_at, effect_made as effect_at, body_made, made_moved, checked, extruding};
+ghost use Rattle.scad_eval.specs.Seen.{made_seen};
+ghost use Rattle.scad_eval.specs.Makings.{Stands, Stays, Says};
+ghost use Rattle.scad_eval.specs.Steps.{built_in_given};
+ghost use Rattle.scad_eval.specs.Within.{body_seen, IsInBlock};
+
+use crate::arguments::{silent, unknown};
+use crate::joins::fault_at;
+use crate::making::Making;
+use crate::stand::{Extrusion, Made, NumberedBody, Stand};
+use csg_tree::Op;
+use int_transform::Step;
+use primitives::size_fault;
+use scad_ast::Args;
+use scad_func::{ArgumentValues, with};
+use scad_modules::{BuiltinModule, Effect, builtin_module};
+use text_place::{Place, Stop};
+
+impl Making<'_, '_> {
+    /// A call of a built-in module.
+    #[cycle(making)]
+    pub(crate) fn built_in_called(
+        &mut self,
+        stand: Stand,
+        place: Place,
+        name: &[u8],
+        args: &Args,
+        body: NumberedBody<'_>,
+    ) -> Result<Made, Stop>
+        requires stand { Stands self.old stand }
+        requires block { IsInBlock (text_of self.old.evaluation.source.now) body }
+        ensures made { Says made_seen self.old self.new stand result (λ unit judge left make here.
+            built_in_at unit judge left make here place name.now (args_of args.now) (body_seen body.entry) (module_named name.now)) }
+        ensures stays { OnOk result (Stays self.old self.new) }
+    {
+        match builtin_module(name) {
+            None => Err(fault_at(unknown(name), place)),
+            Some(built_in) => {
+                let given = self.arguments_for(stand.scope, built_in, args)?;
+                self.built_in_made(stand, place, built_in, given, body)
+            }
+        }
+    }
+
+    /// What a call of a built-in module does, with its special arguments on the chain.
+    #[cycle(making)]
+    fn built_in_made(
+        &mut self,
+        stand: Stand,
+        place: Place,
+        built_in: BuiltinModule,
+        given: ArgumentValues<'_>,
+        body: NumberedBody<'_>,
+    ) -> Result<Made, Stop>
+        requires stand { Stands self.old stand }
+        requires block { IsInBlock (text_of self.old.evaluation.source.now) body }
+        requires bounded { IsTrue (arguments_bounded (arguments_of given)) }
+        ensures made { Says made_seen self.old self.new stand result (λ unit judge left make.
+            built_in_given unit judge left make place built_in (arguments_of given.entry) (body_seen body.entry)) }
+        ensures stays { OnOk result (Stays self.old self.new) }
+    {
+        let ArgumentValues { slots, specials } = given;
+        let begun = self.evaluation.begin_specials(specials);
+        let (slots, length) = with(slots, begun)?;
+        let effect = self.effect_of(stand, place, built_in, slots)?;
+        let made = self.effect_made(stand, place, effect, body)?;
+        self.evaluation.end_specials(length);
+        Ok(made)
+    }
+
+    /// What an effect gives.
+    #[cycle(making)]
+    fn effect_made(
+        &mut self,
+        stand: Stand,
+        place: Place,
+        effect: Effect,
+        body: NumberedBody<'_>,
+    ) -> Result<Made, Stop>
+        requires stand { Stands self.old stand }
+        requires block { IsInBlock (text_of self.old.evaluation.source.now) body }
+        requires safe { IsSafeCall (call_of effect) }
+        ensures made { Says made_seen self.old self.new stand result (λ unit judge left make here.
+            effect_at unit judge left make here place (call_of effect) (body_seen body.entry)) }
+        ensures stays { OnOk result (Stays self.old self.new) }
+    {
+        match effect {
+            Effect::Solid(shape) => self.solid(place, &shape),
+            Effect::Flat(shape) => self.flat(stand, place, &shape),
+            Effect::Move(steps) => self.moved(stand, &steps, body),
+            Effect::Join(op) => self.body(op, stand, body),
+            Effect::Extrusion { height, center } => {
+                self.extruded(stand, place, Extrusion { center, height }, body)
+            }
+            Effect::Nothing => silent(place, body.body),
+            Effect::Children(chosen) => self.children_called(stand, place, &chosen),
+        }
+    }
+
+    /// The union of a body, moved by steps.
+    #[cycle(making)]
+    fn moved(&mut self, stand: Stand, steps: &[Step], body: NumberedBody<'_>) -> Result<Made, Stop>
+        requires stand { Stands self.old stand }
+        requires block { IsInBlock (text_of self.old.evaluation.source.now) body }
+        ensures made { Says made_seen self.old self.new stand result (λ unit judge left make here turns leaves.
+            then_with (body_made left make Union here (body_seen body.entry) turns leaves) (λ turns m. Gives turns (made_moved (moved_by steps.now) m))) }
+        ensures stays { OnOk result (Stays self.old self.new) }
+    {
+        let Made { design, marked } = self.body(Op::Union, stand, body)?;
+        match design.moved_by(self.evaluation.alloc, steps) {
+            Ok(design) => Ok(Made { design, marked }),
+            Err(_) => Err(Stop::NoMemory),
+        }
+    }
+
+    /// The union of a body inside an extrusion.
+    #[cycle(making)]
+    fn extruded(
+        &mut self,
+        stand: Stand,
+        place: Place,
+        through: Extrusion,
+        body: NumberedBody<'_>,
+    ) -> Result<Made, Stop>
+        requires stand { Stands self.old stand }
+        requires block { IsInBlock (text_of self.old.evaluation.source.now) body }
+        requires safe { IsSafe through.height }
+        ensures made { Says made_seen self.old self.new stand result (λ unit judge left make here turns leaves.
+            checked (judge.height unit through.center through.height) place (body_made left make Union (extruding here through) (body_seen body.entry) turns leaves)) }
+        ensures stays { OnOk result (Stays self.old self.new) }
+    {
+        match size_fault(&[through.height], through.center, self.unit) {
+            Some(kind) => Err(fault_at(kind, place)),
+            None => self.body(Op::Union, stand.extruding(through), body),
+        }
+    }
+}

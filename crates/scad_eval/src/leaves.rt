@@ -1,0 +1,104 @@
+//! Shapes, as the leaves of designs.
+
+ghost use Rattle.std.specs.Prelude.{◌≡◌};
+ghost use Rattle.scad_modules.specs.Bounds.{IsSafeSolid, IsSafeFlat};
+ghost use Rattle.scad_modules.specs.View.{solid_of as solid_call, flat_of as flat_call};
+ghost use Rattle.scad_eval.specs.declared.stand.Stand.{Stand as StandIn};
+ghost use Rattle.scad_eval.specs.Verdicts.{solid_of, extruded};
+ghost use Rattle.scad_eval.specs.Meaning.{checked, leaf_made, flat_made};
+ghost use Rattle.scad_eval.specs.Seen.{made_seen, IsStopAt};
+ghost use Rattle.scad_eval.specs.Makings.{IsThrough, Stands, Stays, Says};
+
+use crate::joins::fault_at;
+use crate::making::Making;
+use crate::shapes::{flat_shape, solid_shape};
+use crate::stand::{Extrusion, Made, Stand};
+use primitives::extrude;
+use scad_design::{Design, Part};
+use scad_modules::{FlatShape, SolidShape};
+use shape_planes::{Shape, ShapeStop};
+use text_place::{FaultKind, Place, Stop};
+
+// The most leaves of one design.
+const LEAVES: u32 = 1024;
+
+impl Making<'_, '_> {
+    /// A solid, as one leaf more.
+    pub(crate) fn solid(&mut self, place: Place, shape: &SolidShape) -> Result<Made, Stop>
+        requires { IsSafeSolid (solid_call shape.now) }
+        ensures made { (s : StandIn) → Says made_seen self.old self.new s result (λ unit judge left make here turns leaves.
+            checked (judge.solid unit (solid_call shape.now)) place (leaf_made place (solid_of unit (solid_call shape.now)) turns leaves)) }
+        ensures stays { Stays self.old self.new }
+    {
+        match solid_shape(self.evaluation.alloc, self.unit, shape) {
+            Ok(shape) => self.leaf(place, shape),
+            Err(stop) => Err(stop_at(stop, place)),
+        }
+    }
+
+    /// A shape in the plane, which stands inside an extrusion, as one leaf more.
+    pub(crate) fn flat(
+        &mut self,
+        stand: Stand,
+        place: Place,
+        shape: &FlatShape,
+    ) -> Result<Made, Stop>
+        requires stand { Stands self.old stand }
+        requires safe { IsSafeFlat (flat_call shape.now) }
+        ensures made { Says made_seen self.old self.new stand result (λ unit judge left make here. flat_made unit judge here.inside place (flat_call shape.now)) }
+        ensures stays { Stays self.old self.new }
+    {
+        match stand.inside {
+            None => Err(fault_at(FaultKind::WrongDimension, place)),
+            Some(through) => self.flat_through(place, through, shape),
+        }
+    }
+
+    /// A shape in the plane that is moved through a height, as one leaf more.
+    fn flat_through(
+        &mut self,
+        place: Place,
+        through: Extrusion,
+        shape: &FlatShape,
+    ) -> Result<Made, Stop>
+        requires through { IsThrough self.old.unit through }
+        requires safe { IsSafeFlat (flat_call shape.now) }
+        ensures made { (s : StandIn) → Says made_seen self.old self.new s result (λ unit judge left make here turns leaves.
+            checked (judge.flat unit (flat_call shape.now)) place (leaf_made place (extruded unit through (flat_call shape.now)) turns leaves)) }
+        ensures stays { Stays self.old self.new }
+    {
+        let alloc = self.evaluation.alloc;
+        match flat_shape(alloc, self.unit, shape) {
+            Ok(flat) => match extrude(alloc, &flat, through.height, through.center, self.unit) {
+                Ok(shape) => self.leaf(place, shape),
+                Err(stop) => Err(stop_at(stop, place)),
+            },
+            Err(stop) => Err(stop_at(stop, place)),
+        }
+    }
+
+    /// One leaf more. TooManyParts where it is the 1,025th.
+    fn leaf(&mut self, place: Place, shape: Shape) -> Result<Made, Stop>
+        ensures made { (s : StandIn) → Says made_seen self.old self.new s result (λ unit judge left make here turns leaves. leaf_made place shape turns leaves) }
+        ensures stays { Stays self.old self.new }
+    {
+        if self.leaves == LEAVES {
+            return Err(fault_at(FaultKind::TooManyParts, place));
+        }
+        self.leaves += 1;
+        Ok(Made {
+            design: Design::Leaf(Part::of(self.evaluation.alloc, shape, place)),
+            marked: None,
+        })
+    }
+}
+
+/// A stop of a shape at the place of its module's name.
+fn stop_at(stop: ShapeStop, place: Place) -> Stop
+    ensures { IsStopAt stop place result }
+{
+    match stop {
+        ShapeStop::Kind(kind) => fault_at(kind, place),
+        ShapeStop::NoMemory => Stop::NoMemory,
+    }
+}

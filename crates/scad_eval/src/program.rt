@@ -1,0 +1,84 @@
+//! What a program means.
+
+ghost use Rattle.std.specs.Prelude.{◌≡◌, List, IfOk, IfErr, map, option_map};
+ghost use Rattle.csg_tree.specs.ProperTrees.{IsProper};
+ghost use Rattle.csg_tree.specs.Trees.{formula_of};
+ghost use Rattle.scad_ast.specs.Terms.{StatementTerm};
+ghost use Rattle.scad_ast.specs.StatementView.{program_of};
+ghost use Rattle.scad_func.specs.View.{IsTextOf, text_of};
+ghost use Rattle.scad_func.specs.Definitions.{IsWhole};
+ghost use Rattle.scad_design.specs.View.{plain_of};
+ghost use Rattle.plane_predicate.specs.declared.unit.Unit.{Unit as LengthUnit};
+ghost use Rattle.scad_eval.specs.Verdicts.{Judge};
+ghost use Rattle.scad_eval.specs.Meaning.{or_all};
+ghost use Rattle.scad_eval.specs.Sources.{IsMeaning, a_tree, IsMeaningStop, HoldsFault, TellsDesign, IsFirstTable};
+
+use crate::making::Making;
+use crate::stand::{Members, Stand};
+use csg_tree::{CsgTree, Op};
+use plane_predicate::Unit;
+use scad_ast::Program;
+use scad_design::{Design, balanced, designs_stay_trim, place};
+use scad_func::{Evaluation, Source};
+use scad_scope::Scopes;
+use std::alloc::Global;
+use text_place::{NoMemory, Stop};
+
+/// The tree of a program in world position, in a unit, or its first fault, which stands at one of the program's places.
+pub fn evaluate(alloc: Global, program: &Program, unit: Unit) -> Result<CsgTree, Stop>
+    ensures tree { IfOk result (λ tree. IsMeaning unit (program_of program.now) (a_tree (formula_of tree))) }
+    ensures stop { IfErr result (IsMeaningStop unit (program_of program.now)) }
+    ensures place { IfErr result (HoldsFault (program_of program.now)) }
+    ensures proper { IfOk result (λ tree. IsProper (formula_of tree)) }
+{
+    // Joins of designs have no empty sides, and at most 1,024 parts: a tree has few enough subtrees.
+    designs_stay_trim();
+    let source = Source::of(alloc, program)?;
+    let mut scopes = Scopes::new(alloc)?;
+    let design = design_of(alloc, &source, &mut scopes, unit)?;
+    place(alloc, &design)
+}
+
+/// The design of a program, whose block is the first one.
+fn design_of(
+    alloc: Global,
+    source: &Source<'_>,
+    scopes: &mut Scopes,
+    unit: Unit,
+) -> Result<Design, Stop>
+    requires table { IsFirstTable scopes.old }
+    requires whole { IsWhole (text_of source.now) }
+    ensures { (program : List StatementTerm) → IsTextOf source.now program → TellsDesign unit program result }
+{
+    let mut making = Making {
+        evaluation: Evaluation {
+            alloc,
+            source,
+            scopes,
+            calls: 0,
+            depth: 0,
+            turns: 0,
+        },
+        unit,
+        leaves: 0,
+    };
+    let scope = making.evaluation.enter_body(0, 0)?;
+    let stand = Stand {
+        scope,
+        inside: None,
+        under_mark: false,
+    };
+    let members = making.members_in_scope(stand, 0, None)?;
+    Ok(first_or_all(alloc, members)?)
+}
+
+/// The first design that is marked `!`, or else all.
+fn first_or_all(alloc: Global, members: Members) -> Result<Design, NoMemory>
+    ensures { IfOk result (λ design. (in_unit : LengthUnit) (judge : Judge) → plain_of design ≡ or_all in_unit judge (option_map plain_of members.marked) (map plain_of members.designs.items)) }
+{
+    let Members { designs, marked } = members;
+    match marked {
+        Some(design) => Ok(design),
+        None => balanced(alloc, Op::Union, designs),
+    }
+}
