@@ -1,24 +1,32 @@
 -- An answer that is what the reader of whole programs reads is the program or the first fault.
-use Rattle.std.proofs.Common.{◌≡◌, ℕ, List, [], true, Result, Ok, Err, sym, ap, ◌∙◌, IfOk, IfErr, inl, inr}
+use Rattle.std.proofs.Common.{◌≡◌, ℕ, ◌≤◌, List, [], ◌∷◌, ◌++◌, length, true, Result, Ok, Err, refl, sym, ap, ◌∙◌, subst, arith, IfOk, IfErr, inl, inr}
+use Rattle.std.proofs.lemmas.List.Elements.{Contains-append_right}
+use Rattle.std.specs.Prelude.{Contains}
 use Rattle.text_place.specs.declared.fault.Stop.{Stop}
 use Rattle.text_place.specs.declared.fault.Stop.TheVariants.{Fault, NoMemory}
 use Rattle.scad_lexer.specs.declared.token.Token.{Token}
 use Rattle.scad_ast.specs.declared.statement.Program.{Program as ProgramIn}
 use Rattle.scad_ast.specs.Terms.{StatementTerm}
+use Rattle.scad_ast.specs.Counts.{begun_by_program}
 use Rattle.scad_ast.specs.StatementView.{program_of}
 use Rattle.scad_grammar.specs.declared.SyntaxFault.{SyntaxFault}
 use Rattle.scad_grammar.specs.FirstFault.{IsFirstFault}
 use Rattle.scad_grammar.specs.Grammar.{Program}
 use Rattle.scad_grammar.specs.Reading.{after}
+use Rattle.scad_grammar.proofs.Counts.{few_begun}
 use Rattle.scad_grammar.proofs.FirstFaults.{no_fault}
 use Rattle.scad_grammar.proofs.Programs.{complete_at}
-use Rattle.scad_parser.specs.Parsing.{ends, nothing_behind, whole_read, kind_of, place_at, IsStopOf, AnswersProgram, AnswersFault, IsRead}
+use Rattle.scad_parser.specs.Parsing.{ends, nothing_behind, whole_read, kind_of, place_at, IsStopOf, StandsAtToken, AnswersProgram, AnswersFault, IsRead}
 use Rattle.scad_parser.proofs.Whole.{ReadProgram, verdict, whole_found, only_whole}
 
 module _ (d : ℕ) (ts : List Token) where
   pub found : (r : Result ProgramIn Stop) → IsRead r (whole_read d ts) → IfOk r (λ p. Program d (program_of p) ts)
   found (Ok p) h = whole_found d ts (program_of p) h.0 h.1
   found (Err s) h = tt
+
+  pub few : (r : Result ProgramIn Stop) → IsRead r (whole_read d ts) → IfOk r (λ p. begun_by_program (program_of p) ≤ length ts)
+  few (Ok p) h = few_begun d (program_of p) ts (whole_found d ts (program_of p) h.0 h.1)
+  few (Err s) h = tt
 
   pub program : (r : Result ProgramIn Stop) → IsRead r (whole_read d ts) → (x : List StatementTerm) → Program d x ts → AnswersProgram r x
   program (Ok p) h x g =
@@ -46,3 +54,14 @@ module _ (d : ℕ) (ts : List Token) where
     | inr p ↦ let here = only (Err (Fault f)) h p.0 p.1 p.2 in (p.0, p.1, p.2, here.0, here.1)
   ]
   fault (Err NoMemory) e h = tt
+
+  pub stands : (r : Result ProgramIn Stop) → IfErr r (λ stop. IsStopOf d ts stop) → IfErr r (λ stop. StandsAtToken ts stop)
+  stands (Ok p) h = tt
+  stands (Err (Fault f)) h =
+      let first = h.2 in
+      let whole : ts ≡ first.0 ++ first.1 ∷ first.2 = first.3 ∙ ap (λ l. first.0 ++ l) first.4 in (
+        first.1,
+        subst (λ l. Contains l first.1) (sym whole) (Contains-append_right first.0 (first.1 ∷ first.2) first.1 (0, omega arith, refl)),
+        h.4 ∙ ap place_at first.4,
+      )
+  stands (Err NoMemory) h = tt

@@ -1,5 +1,5 @@
 -- What the parser answers: the program that tokens write, or their first fault.
-use Rattle.std.specs.Prelude.{◌≡◌, ℕ, List, [], ◌∷◌, Bool, false, Some, Result, Ok, Err}
+use Rattle.std.specs.Prelude.{◌≡◌, ℕ, List, [], ◌∷◌, Bool, false, Some, Result, Ok, Err, Contains}
 use Rattle.text_place.specs.declared.fault.Place.{Place}
 use Rattle.text_place.specs.declared.fault.Fault.{Fault as FaultIn}
 use Rattle.text_place.specs.declared.fault.FaultKind.{FaultKind}
@@ -37,6 +37,11 @@ HasFault d tokens f = (fault : SyntaxFault) × (at : List Token) × IsFirstFault
 abbrev pub IsStopOf : ℕ → List Token → Stop → Type 0
 IsStopOf d tokens (Fault f) = HasFault d tokens f
 IsStopOf d tokens NoMemory = Unit {0}
+
+-- a fault stands at one of the tokens, which may be the end; want of memory has no place
+abbrev pub StandsAtToken : List Token → Stop → Type 0
+StandsAtToken tokens (Fault f) = (t : Token) × Contains tokens t × (f.place ≡ t.place)
+StandsAtToken tokens NoMemory = Unit {0}
 
 -- the answer is this program, unless memory ran out
 abbrev pub AnswersProgram : Result ProgramIn Stop → List StatementTerm → Type 0

@@ -1,11 +1,12 @@
-ghost use Rattle.std.specs.Prelude.{◌≡◌, List, true, IfOk, IfErr};
+ghost use Rattle.std.specs.Prelude.{◌≡◌, ◌≤◌, List, length, true, IfOk, IfErr};
 ghost use Rattle.scad_lexer.specs.declared.token.Token.{Token};
 ghost use Rattle.scad_ast.specs.Terms.{StatementTerm};
+ghost use Rattle.scad_ast.specs.Counts.{begun_by_program};
 ghost use Rattle.scad_ast.specs.StatementView.{program_of};
 ghost use Rattle.scad_grammar.specs.declared.SyntaxFault.{SyntaxFault};
 ghost use Rattle.scad_grammar.specs.Grammar.{Program as ProgramAt};
 ghost use Rattle.scad_grammar.specs.FirstFault.{IsFirstFault};
-ghost use Rattle.scad_parser.specs.Parsing.{ends, whole_read, IsStopOf, AnswersProgram, AnswersFault, IsRead, kind_of as kind_at, place_at};
+ghost use Rattle.scad_parser.specs.Parsing.{ends, whole_read, IsStopOf, StandsAtToken, AnswersProgram, AnswersFault, IsRead, kind_of as kind_at, place_at};
 ghost use Rattle.scad_parser.specs.Views.{Gives};
 
 use crate::class::Class;
@@ -29,8 +30,12 @@ pub fn parse(alloc: Global, tokens: &[Token]) -> Result<Program, Stop>
     ensures program { (x : List StatementTerm) → ProgramAt 65 x tokens.now → AnswersProgram result x }
     // A fault of tokens that end with an end is their first one, at its token's place.
     ensures fault { ends tokens.now ≡ true → IfErr result (λ stop. IsStopOf 65 tokens.now stop) }
+    // The place of such a fault is that of one of the tokens, which may be the end.
+    ensures place { ends tokens.now ≡ true → IfErr result (λ stop. StandsAtToken tokens.now stop) }
     // The tokens' first fault is given, unless memory runs out.
     ensures only { (fault : SyntaxFault) (at : List Token) → IsFirstFault 65 tokens.now fault at → AnswersFault result fault at }
+    // A program has no more blocks, functions and modules than tokens.
+    ensures few { IfOk result (λ p. begun_by_program (program_of p) ≤ length tokens.now) }
 {
     read_program(alloc, tokens)
 }
