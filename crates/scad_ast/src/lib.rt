@@ -4,6 +4,7 @@
 
 mod expression;
 mod operator;
+mod program;
 mod statement;
 
 pub use expression::{
@@ -11,7 +12,7 @@ pub use expression::{
     Suffixes,
 };
 pub use operator::{BinaryOp, Modifier, UnaryOp};
+pub use program::Program;
 pub use statement::{
-    Binder, Binders, Body, Core, Instance, Mark, Marks, Param, Params, Program, Statement,
-    Statements,
+    Binder, Binders, Body, Core, Instance, Mark, Marks, Param, Params, Statement, Statements,
 };

@@ -1,8 +1,8 @@
-ghost use Rattle.std.specs.Prelude.{◌≡◌, ◌≤◌, List, length, true, IfOk, IfErr};
+ghost use Rattle.std.specs.Prelude.{◌≡◌, ◌<◌, ◌≤◌, ◌^◌, List, length, true, IfOk, IfErr};
 ghost use Rattle.scad_lexer.specs.declared.token.Token.{Token};
 ghost use Rattle.scad_ast.specs.Terms.{StatementTerm};
 ghost use Rattle.scad_ast.specs.Counts.{begun_by_program};
-ghost use Rattle.scad_ast.specs.StatementView.{program_of};
+ghost use Rattle.scad_ast.specs.ProgramView.{program_of};
 ghost use Rattle.scad_grammar.specs.declared.SyntaxFault.{SyntaxFault};
 ghost use Rattle.scad_grammar.specs.Grammar.{Program as ProgramAt};
 ghost use Rattle.scad_grammar.specs.FirstFault.{IsFirstFault};
@@ -21,9 +21,10 @@ use text_place::{Fault, FaultKind, Place, Stop};
 /// One more than the most that a token may be deep.
 const DEPTH: u32 = 65;
 
-/// The program that tokens write, none of which is more than 64 deep, or their first fault:
-/// `Expected`, `Nested` or `NotInProfile`.
+/// The program that fewer than 2^32 tokens write, none of which is more than 64 deep, or their first
+/// fault: `Expected`, `Nested` or `NotInProfile`.
 pub fn parse(alloc: Global, tokens: &[Token]) -> Result<Program, Stop>
+    requires { length tokens.now < 2 ^ 32 }
     // What is given is a program that the tokens write.
     ensures found { IfOk result (λ p. ProgramAt 65 (program_of p) tokens.now) }
     // The program that the tokens write is given, unless memory runs out.
@@ -41,6 +42,7 @@ pub fn parse(alloc: Global, tokens: &[Token]) -> Result<Program, Stop>
 }
 
 fn read_program(alloc: Global, tokens: &[Token]) -> Result<Program, Stop>
+    requires { length tokens.now < 2 ^ 32 }
     ensures { IsRead result (whole_read 65 tokens.now) }
 {
     match program(alloc, tokens) {
@@ -55,6 +57,7 @@ fn read_program(alloc: Global, tokens: &[Token]) -> Result<Program, Stop>
 
 /// A program and its end, behind which nothing stands.
 fn program<'a>(alloc: Global, tokens: &'a [Token]) -> Parsed<'a, Program>
+    requires { length tokens.now < 2 ^ 32 }
     ensures { Gives (λ p. (program_of p.0, p.1.now)) result (whole_read 65 tokens.now) }
 {
     let (statements, rest) = statements(alloc, tokens, DEPTH)?;

@@ -3,7 +3,8 @@
 ghost use Rattle.std.specs.Prelude.{◌≡◌, map, IfSome, IfNone};
 ghost use Rattle.scad_ast.specs.Terms.{terms_from};
 ghost use Rattle.scad_ast.specs.ExprView.{term_of, args_of};
-ghost use Rattle.scad_ast.specs.StatementView.{core_of, program_of};
+ghost use Rattle.scad_ast.specs.ProgramView.{program_of};
+ghost use Rattle.scad_ast.specs.StatementView.{core_of};
 ghost use Rattle.script_server.specs.Meaning.Boxes.{IsBoxProgram};
 ghost use Rattle.script_server.specs.BoxTrees.{side_from, sides_from, sides_among, sides_given, cube_sides, box_sides};
 ghost use Rattle.script_server.specs.declared.meaning.Sides.{Sides};

@@ -1,7 +1,7 @@
 //! What an export of a source is answered.
 
 ghost use Rattle.std.specs.Prelude.{◌-◌, ◌^◌, ◌<◌, ◌≤◌, IfOk, IfErr, length};
-ghost use Rattle.scad_ast.specs.StatementView.{program_of};
+ghost use Rattle.scad_ast.specs.ProgramView.{program_of};
 ghost use Rattle.script_server.specs.Meaning.Boxes.{IsBox};
 ghost use Rattle.script_server.specs.Answers.{AnswersBox, AnswersProgram};
 ghost use Rattle.script_server.specs.Meaning.Sources.{Writes, Refuses};

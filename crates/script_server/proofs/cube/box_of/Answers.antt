@@ -1,4 +1,4 @@
-use Rattle.scad_ast.specs.StatementView.{program_of}
+use Rattle.scad_ast.specs.ProgramView.{program_of}
 use Rattle.script_server.proofs.BoxPrograms.{box_found, box_none}
 use Rattle.script_server.proofs.cube.box_of.Goals as goal
 

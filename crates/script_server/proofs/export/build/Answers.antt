@@ -1,4 +1,4 @@
-use Rattle.scad_ast.specs.StatementView.{program_of}
+use Rattle.scad_ast.specs.ProgramView.{program_of}
 use Rattle.script_server.proofs.Answering.{program_answer}
 use Rattle.script_server.proofs.export.build.Goals as goal
 

@@ -1,4 +1,4 @@
-use Rattle.scad_ast.specs.StatementView.{program_of}
+use Rattle.scad_ast.specs.ProgramView.{program_of}
 use Rattle.script_server.proofs.Answering.{source_answer, source_bounded}
 use Rattle.script_server.proofs.export.export.Goals as goal
 

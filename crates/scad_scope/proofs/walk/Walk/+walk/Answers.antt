@@ -20,7 +20,7 @@ single-end-requires t c =
 pub single-returns : goal.single-returns
 single-returns t c =
     let i = instance_of c.args.instance.now in
-    ending c.end.result (walked c.args.self.now) (walked c.core.new.self) (walked c.end.new.self) c.in_ok-number.number
+    ending (walked c.args.self.now) (walked c.core.new.self) (walked c.end.new.self) c.in_ok-number.number
     (own_of c.new.result) (and_statement (InstanceStatement i) no_statements) (marks_of_instance i) c.end.ensures
     (c.in_ok-core.ensures ∙ ap (after (walked c.begin.new.self)) (sym (instance_marks c.args.instance.now)) ∙ ap (λ (w : NumberedText). after w (marks_of_instance i)) c.in_ok-number.ensures.walked)
     c.in_ok-number.ensures.number (c.new.ensures ∙ own_single (length (walked c.args.self.now).functions) (length (walked c.args.self.now).modules) i) (single_blocks i)
@@ -35,7 +35,7 @@ braces-end-requires t c =
 pub braces-returns : goal.braces-returns
 braces-returns t c =
     let s = statements_from (statements_of c.args.statements.now) in
-    ending c.end.result (walked c.args.self.now) (walked c.statements.new.self) (walked c.end.new.self) c.in_ok-number.number
+    ending (walked c.args.self.now) (walked c.statements.new.self) (walked c.end.new.self) c.in_ok-number.number
     (own_of c.statements.new.own) s (marks_in s) c.end.ensures
     (c.in_ok-statements.ensures.walked ∙ ap (λ (w : NumberedText). after w (marks_in s)) c.in_ok-number.ensures.walked)
     c.in_ok-number.ensures.number
