@@ -12,7 +12,11 @@ use Rattle.scad_ast.specs.ProgramView.{program_of}
 use Rattle.scad_grammar.specs.declared.SyntaxFault.{SyntaxFault}
 use Rattle.scad_grammar.specs.FirstFault.{IsFirstFault}
 use Rattle.scad_grammar.specs.Grammar.{Program}
-use Rattle.scad_grammar.specs.Reading.{after}
+use Rattle.scad_grammar.specs.Classes.{end, is, among, firsts_of_statement}
+use Rattle.scad_grammar.specs.Faults.{one}
+use Rattle.scad_grammar.specs.Languages.{first_of}
+use Rattle.scad_grammar.specs.Reading.{Read, after, many}
+use Rattle.scad_grammar.specs.StatementReads.{statement_read}
 use Rattle.scad_grammar.proofs.Counts.{few_begun}
 use Rattle.scad_grammar.proofs.FirstFaults.{no_fault}
 use Rattle.scad_grammar.proofs.Programs.{complete_at}
@@ -27,6 +31,13 @@ module _ (d : ℕ) (ts : List Token) where
   pub few : (r : Result ProgramIn Stop) → IsRead r (whole_read d ts) → IfOk r (λ p. begun_by_program (program_of p) ≤ length ts)
   few (Ok p) h = few_begun d (program_of p) ts (whole_found d ts (program_of p) h.0 h.1)
   few (Err s) h = tt
+
+  -- what was read with its end and nothing behind it
+  pub few_read : (x : List StatementTerm) (us : List Token) (t : Token) → many (among firsts_of_statement) (statement_read d) ts ≡ Ok (x, us)
+      → one (is end) us ≡ Ok (t, []) → begun_by_program x ≤ length ts
+  few_read x us t e f = few_begun d x ts (whole_found d ts x []
+      (ap (λ (q : ReadProgram). after (after q (λ x us. after (one (is end) us) (λ t us. Ok (first_of x t, us)))) nothing_behind) e
+      ∙ ap (λ (q : Read Token SyntaxFault Token). after (after q (λ t us. Ok (first_of x t, us))) nothing_behind) f))
 
   pub program : (r : Result ProgramIn Stop) → IsRead r (whole_read d ts) → (x : List StatementTerm) → Program d x ts → AnswersProgram r x
   program (Ok p) h x g =

@@ -51,6 +51,7 @@ impl<'a> Walk<'a> {
     }
 
     #[cycle(walk)]
+    #[tactic(auto, using(crate::proofs::Begun::numbered_mark))]
     fn statement(&mut self, statement: &'a Statement, own: &mut Own<'a>) -> Result<(), NoMemory>
         requires { numbered (walked self.old) + length (marks_of (statement_of statement.now)) < 2 ^ 32 }
         ensures walked { OnOk result (walked self.new ≡ after (walked self.old) (marks_of (statement_of statement.now))) }
@@ -99,6 +100,7 @@ impl<'a> Walk<'a> {
     }
 
     #[cycle(walk)]
+    #[tactic(auto, using(crate::proofs::Begun::numbered_after))]
     fn two(&mut self, body: &'a Body, other: &'a Body) -> Result<(), NoMemory>
         requires { numbered (walked self.old) + length (marks_of_body (body_of body.now)) + length (marks_of_body (body_of other.now)) < 2 ^ 32 }
         ensures { OnOk result (walked self.new ≡ after (walked self.old)
@@ -122,6 +124,7 @@ impl<'a> Walk<'a> {
 
     /// A block that is one instance.
     #[cycle(walk)]
+    #[tactic(auto, using(crate::proofs::Begun::numbered_begun, crate::proofs::Begun::numbered_after))]
     fn single(&mut self, instance: &'a Instance) -> Result<(), NoMemory>
         requires { numbered (walked self.old) + length (marks_of_instance (instance_of instance.now)) + 1 < 2 ^ 32 }
         ensures { OnOk result (walked self.new ≡ after (walked self.old)
@@ -135,6 +138,7 @@ impl<'a> Walk<'a> {
 
     /// A block of statements in braces.
     #[cycle(walk)]
+    #[tactic(auto, using(crate::proofs::Begun::numbered_begun, crate::proofs::Begun::numbered_after))]
     fn braces(&mut self, statements: &'a Statements) -> Result<(), NoMemory>
         requires { numbered (walked self.old) + length (marks_in (statements_from (statements_of statements.now))) + 1 < 2 ^ 32 }
         ensures { OnOk result (walked self.new ≡ after (walked self.old)
@@ -148,6 +152,7 @@ impl<'a> Walk<'a> {
     }
 
     /// A block in which nothing stands.
+    #[tactic(auto, using(crate::proofs::Begun::numbered_begun))]
     fn nothing(&mut self) -> Result<(), NoMemory>
         requires { numbered (walked self.old) + 1 < 2 ^ 32 }
         ensures { OnOk result (walked self.new ≡ after (walked self.old) (a_block no_statements ∷ [])) }
