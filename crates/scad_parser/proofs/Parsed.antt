@@ -12,11 +12,11 @@ use Rattle.scad_ast.specs.ProgramView.{program_of}
 use Rattle.scad_grammar.specs.declared.SyntaxFault.{SyntaxFault}
 use Rattle.scad_grammar.specs.FirstFault.{IsFirstFault}
 use Rattle.scad_grammar.specs.Grammar.{Program}
-use Rattle.scad_grammar.specs.Classes.{end, is, among, firsts_of_statement}
+use Rattle.scad_grammar.specs.Classes.{end, is, among}
 use Rattle.scad_grammar.specs.Faults.{one}
 use Rattle.scad_grammar.specs.Languages.{first_of}
 use Rattle.scad_grammar.specs.Reading.{Read, after, many}
-use Rattle.scad_grammar.specs.StatementReads.{statement_read}
+use Rattle.scad_grammar.specs.StatementReads.{firsts_of_statement, statement_read}
 use Rattle.scad_grammar.proofs.Counts.{few_begun}
 use Rattle.scad_grammar.proofs.FirstFaults.{no_fault}
 use Rattle.scad_grammar.proofs.Programs.{complete_at}
