@@ -3,19 +3,24 @@ use Rattle.scad_ast.specs.declared.statement.Statement.{Statement}
 use Rattle.scad_ast.specs.Terms.{statements_from, no_statements, and_statement, InstanceStatement}
 use Rattle.scad_ast.specs.StatementView.{statements_of, instance_of, body_of}
 use Rattle.scad_scope.specs.Blocks.{marks_in, marks_of_body, marks_of_instance, Own, own_of_block, NumberedText}
-use Rattle.scad_scope.specs.Walk.{walked, after, own_with}
+use Rattle.scad_scope.specs.Walk.{walked, numbered, after, with_text, own_with}
 use Rattle.scad_scope.specs.TextView.{own_of}
+use Rattle.scad_scope.proofs.Begun.{numbered_after, numbered_begun, room_here}
 use Rattle.scad_scope.proofs.Scans.{instance_marks}
 use Rattle.scad_scope.proofs.Walks.{ending, begun_there, joined_told, walked_more, own_more, own_single, single_blocks}
 use Rattle.scad_scope.proofs.walk.Walk.+walk.Goals as goal
 
 pub single-end-requires : goal.single-end-requires
 single-end-requires t c =
+    let w = walked c.args.self.now in
     let i = instance_of c.args.instance.now in
-    begun_there (walked c.args.self.now) (walked c.core.new.self) c.in_ok-number.number
-    (and_statement (InstanceStatement i) no_statements) (marks_of_instance i)
-    (c.in_ok-core.ensures ∙ ap (after (walked c.begin.new.self)) (sym (instance_marks c.args.instance.now)) ∙ ap (λ (w : NumberedText). after w (marks_of_instance i)) c.in_ok-number.ensures.walked)
-    c.in_ok-number.ensures.number
+    let s = and_statement (InstanceStatement i) no_statements in
+    let told : walked c.core.new.self ≡ after (with_text w s) (marks_of_instance i) =
+    c.in_ok-core.ensures ∙ ap (after (walked c.begin.new.self)) (sym (instance_marks c.args.instance.now)) ∙ ap (λ (w : NumberedText). after w (marks_of_instance i)) c.in_ok-number.ensures.walked in
+    record {
+      begun = begun_there w (walked c.core.new.self) c.in_ok-number.number s (marks_of_instance i) told c.in_ok-number.ensures.number;
+      few = omega (arith, ap numbered told, numbered_after (with_text w s) (marks_of_instance i), numbered_begun w s, c.requires);
+    }
 
 pub single-returns : goal.single-returns
 single-returns t c =
@@ -27,10 +32,14 @@ single-returns t c =
 
 pub braces-end-requires : goal.braces-end-requires
 braces-end-requires t c =
+    let w = walked c.args.self.now in
     let s = statements_from (statements_of c.args.statements.now) in
-    begun_there (walked c.args.self.now) (walked c.statements.new.self) c.in_ok-number.number s (marks_in s)
-    (c.in_ok-statements.ensures.walked ∙ ap (λ (w : NumberedText). after w (marks_in s)) c.in_ok-number.ensures.walked)
-    c.in_ok-number.ensures.number
+    let told : walked c.statements.new.self ≡ after (with_text w s) (marks_in s) =
+    c.in_ok-statements.ensures.walked ∙ ap (λ (w : NumberedText). after w (marks_in s)) c.in_ok-number.ensures.walked in
+    record {
+      begun = begun_there w (walked c.statements.new.self) c.in_ok-number.number s (marks_in s) told c.in_ok-number.ensures.number;
+      few = omega (arith, ap numbered told, numbered_after (with_text w s) (marks_in s), numbered_begun w s, c.requires);
+    }
 
 pub braces-returns : goal.braces-returns
 braces-returns t c =
@@ -42,6 +51,20 @@ braces-returns t c =
     (c.in_ok-statements.ensures.own
     ∙ ap (λ (o : Own). own_with o (length (walked c.begin.new.self).functions) (length (walked c.begin.new.self).modules) s) c.new-own.ensures
     ∙ ap (λ (w : NumberedText). own_of_block (length w.functions) (length w.modules) s) c.in_ok-number.ensures.walked) refl
+
+pub statements-statement-requires : goal.statements-statement-requires
+statements-statement-requires t c =
+    let ss = c.args.statements.now.items.items in
+    let i = c.each.statement-index in
+    let h : i < length ss = omega (arith, c.each-test.true, ap length c.deref-statement-items.ensures.value) in
+    let here : c.statement-item.result ≡ get_or ss i c.statement-item.result = c.statement-item.is ∙
+    ap (λ (l : List Statement). get_or l i c.statement-item.result) c.deref-statement-items.ensures.value in
+    room_here (walked c.args.self.now) (walked c.each.self) ss (statements_from (statements_of c.args.statements.now)) i
+    c.statement-item.result h here c.each.invariant.walked_on c.requires
+
+pub two-body-requires-2 : goal.two-body-requires-2
+two-body-requires-2 t c =
+    omega (arith, ap numbered c.in_ok-body.ensures, numbered_after (walked c.args.self.now) (marks_of_body (body_of c.args.body.now)), c.requires)
 
 pub statements-each-preserved : goal.statements-each-preserved
 statements-each-preserved t c =
