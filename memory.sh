@@ -2,3 +2,7 @@
 # given back to the system and asked for again page by page. Whoever has settings of their own keeps them.
 GLIBC_TUNABLES=${GLIBC_TUNABLES:-glibc.malloc.mmap_max=0:glibc.malloc.trim_threshold=1073741824}
 export GLIBC_TUNABLES
+
+# Threads have the stack that `ulimit -s` says. Where it says that there is no limit, the C library gives them 2 MiB, which is
+# less than the deepest sources need.
+[ "$(ulimit -s)" != unlimited ] || ulimit -S -s 8192

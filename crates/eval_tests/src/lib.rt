@@ -2,6 +2,10 @@
 #![tactic(auto)]
 
 #[cfg(test)]
+mod gates;
+#[cfg(test)]
+mod held;
+#[cfg(test)]
 mod joins;
 #[cfg(test)]
 mod stores;

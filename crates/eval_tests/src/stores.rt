@@ -9,9 +9,9 @@ ghost use Rattle.subtree_memo.specs.Shares.{parts_each};
 use crate::trees::{cuboids, pairs, slabs};
 use bsp_boolean::{PlainBuilder, TreeStop};
 use bsp_tree::Solid;
-use csg_tree::{CsgStore, CsgTree};
-use memo_core::MemoCore;
-use parallel_eval::{Builds, OpenGate, ShaNamer, SolidFit};
+use csg_tree::{CsgStore, CsgTree, TreeKey};
+use memo_core::{MemoCore, Namer};
+use parallel_eval::{Builds, Gate, OpenGate, ShaNamer, SolidFit};
 use std::alloc::Global;
 use std::marker::Brand;
 use std::process::Abort;
@@ -27,7 +27,7 @@ const NUMBERS: [u8; 4] = [1, 2, 8, 64];
 const BUDGETS: [u64; 3] = [0, 100, 2_000_000];
 
 // The nodes of a tree, which can be shared.
-fn store(rt: &impl Abort, alloc: Global, tree: &CsgTree) -> Arc<CsgStore>
+pub fn store(rt: &impl Abort, alloc: Global, tree: &CsgTree) -> Arc<CsgStore>
     requires { IsProper (formula_of tree.now) }
 {
     let store = CsgStore::intern(alloc, tree).expect(rt, "memory");
@@ -35,7 +35,7 @@ fn store(rt: &impl Abort, alloc: Global, tree: &CsgTree) -> Arc<CsgStore>
 }
 
 // So many builders that have built nothing.
-fn builders(rt: &impl Abort, alloc: Global, count: u8) -> Vec<PlainBuilder>
+pub fn builders(rt: &impl Abort, alloc: Global, count: u8) -> Vec<PlainBuilder>
     ensures few { All (λ b. b ≤ 2 ^ 46) result.items }
     ensures many { length result.items ≡ count }
 {
@@ -48,16 +48,19 @@ fn builders(rt: &impl Abort, alloc: Global, count: u8) -> Vec<PlainBuilder>
 
 // The solid of a store, twice by one new memo: the answers, and what was counted in all.
 fn run<
+    N: Namer<TreeKey> + Send + Sync,
     H: MemoLedger + Send + Sync,
     M: Ledger + Send + Sync,
     K: Ledger + Send + Sync,
     E: Ledger + Send + Sync,
+    G: Gate + Sync,
     R: Abort + Threads + Wait + Sync,
 >(
     rt: &R,
     alloc: Global,
-    core: MemoCore<SolidFit, ShaNamer>,
+    core: MemoCore<SolidFit, N>,
     blanks: Blanks,
+    gate: &G,
     store: &Arc<CsgStore>,
     count: u8,
 ) -> (
@@ -78,14 +81,15 @@ fn run<
     requires some { 0 < length (arc_value store.now) }
     requires builders { (1 ≤ count) × (count ≤ 64) }
 {
-    let (memo, mut shares): (Memo<SolidFit, ShaNamer, H, M, K, E>, Vec<Share<H, M, K, E>>) =
-        Memo::open(alloc, core, 1, blanks).expect(rt, "memory");
+    let (memo, mut shares): (Memo<SolidFit, N, H, M, K, E>, Vec<Share<H, M, K, E>>) = Memo::open(
+        alloc, core, 1, blanks,
+    ).expect(rt, "memory");
     let mut share = shares.pop().expect(rt, "a share");
     let builds = Builds {
         rt,
         alloc,
         memo: &memo,
-        gate: &OpenGate,
+        gate,
     };
     let mut first = builders(rt, alloc, count);
     let mut second = builders(rt, alloc, count);
@@ -97,10 +101,12 @@ fn run<
 }
 
 // The same with a memo of this budget, for a caller that has no ledgers.
-fn made<R: Abort + Threads + Wait + Sync>(
+pub fn made<N: Namer<TreeKey> + Send + Sync, G: Gate + Sync, R: Abort + Threads + Wait + Sync>(
     rt: &R,
     alloc: Global,
+    namer: N,
     budget: u64,
+    gate: &G,
     store: &Arc<CsgStore>,
     count: u8,
 ) -> (
@@ -110,8 +116,8 @@ fn made<R: Abort + Threads + Wait + Sync>(
 ) {
     assert!(rt; store.len() > 0);
     assert!(rt; 1 <= count && count <= 64);
-    let core = MemoCore::new(alloc, SolidFit, ShaNamer, budget, 0).expect(rt, "memory");
-    run::<Brand, Brand, Brand, Brand, R>(rt, alloc, core, Blanks::new(1), store, count)
+    let core = MemoCore::new(alloc, SolidFit, namer, budget, 0).expect(rt, "memory");
+    run::<N, Brand, Brand, Brand, Brand, G, R>(rt, alloc, core, Blanks::new(1), gate, store, count)
 }
 
 // By any number of builders and any memo, a tree has a solid of this size, and each of its joins is
@@ -129,7 +135,7 @@ fn has_size<R: Abort + Threads + Wait + Sync>(
     let store = store(rt, alloc, tree);
     for budget in BUDGETS {
         for count in NUMBERS {
-            let (once, again, tally) = made(rt, alloc, budget, &store, count);
+            let (once, again, tally) = made(rt, alloc, ShaNamer, budget, &OpenGate, &store, count);
             assert_eq!(rt; once.expect(rt, "a solid").count(), size);
             assert_eq!(rt; again.expect(rt, "a solid").count(), size);
             assert_eq!(rt; tally.probes / 2, joins);
@@ -165,7 +171,7 @@ fn stops<R: Abort + Threads + Wait + Sync>(
     let store = store(rt, alloc, tree);
     for budget in [0, 2_000_000] {
         for count in NUMBERS {
-            let (once, again, _tally) = made(rt, alloc, budget, &store, count);
+            let (once, again, _tally) = made(rt, alloc, ShaNamer, budget, &OpenGate, &store, count);
             assert_eq!(rt; stopped(once), wanted);
             assert_eq!(rt; stopped(again), wanted);
         }

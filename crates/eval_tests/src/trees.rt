@@ -157,3 +157,53 @@ pub fn cuboids(rt: &impl Abort, alloc: Global, of_x: u16, of_y: u16) -> CsgTree
     let bars = joined(rt, alloc, Op::Intersection, across, along);
     joined(rt, alloc, Op::Intersection, bars, slab(rt, alloc, 2, 0))
 }
+
+// A cuboid along the axes, from its least corner to its greatest.
+fn cuboid(rt: &impl Abort, alloc: Global, from: [u16; 3], to: [u16; 3]) -> CsgTree
+    ensures { IsProper (formula_of result) }
+{
+    let [a, b, c] = from;
+    let [d, e, f] = to;
+    leaf(
+        rt,
+        alloc,
+        &[
+            wall(0, i64::from(a), false),
+            wall(0, i64::from(d), true),
+            wall(1, i64::from(b), false),
+            wall(1, i64::from(e), true),
+            wall(2, i64::from(c), false),
+            wall(2, i64::from(f), true),
+        ],
+    )
+}
+
+// A plate of 6 by 3 by 1 with two holes of 1 by 1. The union of the holes is 60 in size, and the whole 70.
+pub fn plate_with_two_holes(rt: &impl Abort, alloc: Global) -> CsgTree
+    ensures { IsProper (formula_of result) }
+{
+    let plate = cuboid(rt, alloc, [0, 0, 0], [6, 3, 1]);
+    let first = cuboid(rt, alloc, [1, 1, 0], [2, 2, 1]);
+    let second = cuboid(rt, alloc, [4, 1, 0], [5, 2, 1]);
+    let holes = joined(rt, alloc, Op::Union, first, second);
+    joined(rt, alloc, Op::Difference, plate, holes)
+}
+
+// The union of a cube of 2 and of one of 3, each without the cube of 1 in its corner. It has three leaves,
+// two joins of one height, and one over them.
+pub fn two_shells(rt: &impl Abort, alloc: Global) -> CsgTree
+    ensures { IsProper (formula_of result) }
+{
+    let first = shell(rt, alloc, 2);
+    let second = shell(rt, alloc, 3);
+    joined(rt, alloc, Op::Union, first, second)
+}
+
+// A cube of this size without the cube of 1 in its corner.
+fn shell(rt: &impl Abort, alloc: Global, size: u16) -> CsgTree
+    ensures { IsProper (formula_of result) }
+{
+    let outer = cuboid(rt, alloc, [0, 0, 0], [size, size, size]);
+    let inner = cuboid(rt, alloc, [0, 0, 0], [1, 1, 1]);
+    joined(rt, alloc, Op::Difference, outer, inner)
+}

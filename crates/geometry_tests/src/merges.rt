@@ -79,6 +79,12 @@ fn merges_have_their_sizes(rt: HostRuntime) {
     let notch = merge(alloc, Op::Difference, &large, &moved).expect(&rt, "memory");
     assert!(rt; holds(&notch, &point(1, 1, 1, 1)));
     assert!(rt; !holds(&notch, &point(3, 3, 3, 1)));
+    let near = cuboid(&rt, alloc, [1, 1, 0], [2, 2, 1]);
+    let far = cuboid(&rt, alloc, [4, 1, 0], [5, 2, 1]);
+    assert!(rt; merges(&rt, alloc, Op::Union, &near, &far, 60));
+    let holes = merge(alloc, Op::Union, &near, &far).expect(&rt, "memory");
+    let plate = cuboid(&rt, alloc, [0, 0, 0], [6, 3, 1]);
+    assert!(rt; merges(&rt, alloc, Op::Difference, &plate, &holes, 70));
 }
 
 #[test]

@@ -2,13 +2,13 @@ use crate::boxes::{box_faces, cuboid, leaf, planes_through};
 use crate::known_texts::{
     BOX, CUT_TETRAHEDRON, EMPTY, NOTCH, POLYHEDRON, SHARED_WALL, SLIVER, TURNED_BOX,
 };
-use crate::laying::Points;
+use crate::laying::{Points, point};
 use bsp_boolean::merge;
-use bsp_tree::Solid;
+use bsp_tree::{Solid, holds};
 use csg_tree::Op;
 use facet_cut::{CutStop, facets};
 use off_text::off_bytes;
-use plane_predicate::Unit;
+use plane_predicate::{Plane, Point, Side, Unit, point_side};
 use std::alloc::Global;
 use std::process::Abort;
 
@@ -112,4 +112,103 @@ fn facets_have_a_limit(rt: HostRuntime) {
     assert!(rt; matches!(facets(alloc, &notch, 14), Err(CutStop::TooMany)));
     let all = facets(alloc, &notch, 15).expect(&rt, "facets");
     assert_eq!(rt; all.len(), 15);
+}
+
+// A plate with two holes through it.
+#[test]
+fn a_plate_has_thirty_four_facets(rt: HostRuntime) {
+    let alloc = rt.alloc();
+    let plate = cuboid(&rt, alloc, [0, 0, 0], [6, 3, 1]);
+    let near = cuboid(&rt, alloc, [1, 1, 0], [2, 2, 1]);
+    let far = cuboid(&rt, alloc, [4, 1, 0], [5, 2, 1]);
+    let holes = merge(alloc, Op::Union, &near, &far).expect(&rt, "memory");
+    let drilled = merge(alloc, Op::Difference, &plate, &holes).expect(&rt, "memory");
+    assert!(rt; matches!(facets(alloc, &drilled, 33), Err(CutStop::TooMany)));
+    let all = facets(alloc, &drilled, 34).expect(&rt, "facets");
+    assert_eq!(rt; all.len(), 34);
+}
+
+// A tetrahedron across the whole range, and its mirror image along x.
+const SLIVER_FACES: [Points; 4] = [
+    [
+        [-4095, -4095, -4095],
+        [-4094, 4095, 4095],
+        [4095, 4095, -4094],
+    ],
+    [
+        [-4095, -4095, -4095],
+        [4095, 4095, -4094],
+        [4095, -4095, 4095],
+    ],
+    [
+        [-4095, -4095, -4095],
+        [4095, -4095, 4095],
+        [-4094, 4095, 4095],
+    ],
+    [
+        [4095, 4095, -4094],
+        [-4094, 4095, 4095],
+        [4095, -4095, 4095],
+    ],
+];
+
+const MIRRORED_FACES: [Points; 4] = [
+    [
+        [4095, -4095, -4095],
+        [-4095, 4095, -4094],
+        [4094, 4095, 4095],
+    ],
+    [
+        [4095, -4095, -4095],
+        [-4095, -4095, 4095],
+        [-4095, 4095, -4094],
+    ],
+    [
+        [4095, -4095, -4095],
+        [4094, 4095, 4095],
+        [-4095, -4095, 4095],
+    ],
+    [
+        [-4095, 4095, -4094],
+        [-4095, -4095, 4095],
+        [4094, 4095, 4095],
+    ],
+];
+
+fn is_off(planes: &[Plane], at: &Point) -> bool {
+    planes
+        .iter()
+        .all(|plane| !matches!(point_side(plane, at), Side::On))
+}
+
+// Whether an operation holds where its two sides do, or do not.
+fn operated(op: Op, left: bool, right: bool) -> bool {
+    match op {
+        Op::Union => left || right,
+        Op::Intersection => left && right,
+        Op::Difference => left && !right,
+    }
+}
+
+// Off all planes, what is joined of two slivers holds where the operation says so of their own walks.
+#[test]
+fn slivers_are_joined_by_their_walks(rt: HostRuntime) {
+    let alloc = rt.alloc();
+    let sliver = solid_of(&rt, alloc, &SLIVER_FACES);
+    let image = solid_of(&rt, alloc, &MIRRORED_FACES);
+    let planes = planes_through(&rt, alloc, &SLIVER_FACES);
+    let others = planes_through(&rt, alloc, &MIRRORED_FACES);
+    for op in [Op::Union, Op::Intersection, Op::Difference] {
+        let both = merge(alloc, op, &sliver, &image).expect(&rt, "memory");
+        for x in [-2000, 1, 2000] {
+            for y in [-2000, 1, 2000] {
+                for z in [-2000, 1, 2000] {
+                    let at = point(x, y, z, 0);
+                    let wanted = operated(op, holds(&sliver, &at), holds(&image, &at));
+                    let is_off = is_off(&planes, &at) && is_off(&others, &at);
+                    assert!(rt; !is_off || holds(&both, &at) == wanted);
+                }
+            }
+        }
+    }
 }

@@ -1,3 +1,3 @@
 pub mod Images
-mod Ranges
+pub mod Ranges
 pub mod Regular

@@ -66,7 +66,7 @@ regular_next steps i s lt is h here = subst (All IsRegular) (sym (take_more step
 one_is_not_zero : pos 1 ≡ pos 0 → ⊥
 one_is_not_zero e = omega (arith, sums, e)
 
-regular_map : (steps : List Affine) → All IsRegular steps → IsRegular (map_of steps)
+pub regular_map : (steps : List Affine) → All IsRegular steps → IsRegular (map_of steps)
 regular_map [] h e = one_is_not_zero e
 regular_map (s ∷ steps) h e =
     no_product (determinant_of (map_of steps)) (determinant_of s) (regular_map steps (All-tail IsRegular s steps h)) (All-head IsRegular s steps h) (sym (determinant-composed (map_of steps) s) ∙ e)

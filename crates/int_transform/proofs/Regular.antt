@@ -19,7 +19,7 @@ no_product a b ha hb e =
       ]
     ]
 
-determinant-diagonal : (a b c : ℤ) → determinant a (pos 0) (pos 0) (pos 0) b (pos 0) (pos 0) (pos 0) c ≡ a *ℤ (b *ℤ c)
+pub determinant-diagonal : (a b c : ℤ) → determinant a (pos 0) (pos 0) (pos 0) b (pos 0) (pos 0) (pos 0) c ≡ a *ℤ (b *ℤ c)
 determinant-diagonal a b c =
     ring (a ∷ b ∷ c ∷ []) (determinantP (var 0) (num (pos 0)) (num (pos 0)) (num (pos 0)) (var 1) (num (pos 0)) (num (pos 0)) (num (pos 0)) (var 2)) (times (var 0) (times (var 1) (var 2))) refl
 

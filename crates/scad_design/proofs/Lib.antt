@@ -5,3 +5,6 @@ pub mod FullTrees
 pub mod DesignTrees
 pub mod OnePlacing
 pub mod TrimDesigns
+pub mod Deciding
+pub mod FacePlanes
+pub mod SomePlacing

@@ -1,8 +1,11 @@
 -- The trees of designs, by themselves.
-use Rattle.std.specs.Prelude.{◌≡◌, ℕ, ◌+◌, List, []}
+use Rattle.std.specs.Prelude.{◌≡◌, ℕ, ◌+◌, pos, List, [], All}
 use Rattle.text_place.specs.declared.fault.Stop.{Stop}
 use Rattle.text_place.specs.declared.fault.Stop.TheVariants.{Fault, NoMemory}
 use Rattle.plane_predicate.specs.Space.{Coefficients}
+use Rattle.int_transform.specs.declared.affine.Affine.{Affine}
+use Rattle.int_transform.specs.Maps.{determinant_of}
+use Rattle.shape_planes.specs.Shapes.{IsShape}
 use Rattle.csg_tree.specs.Formulas.{Formula, nothing, leaf}
 use Rattle.csg_tree.specs.Joins.{join_of}
 use Rattle.csg_tree.specs.ProperTrees.{HasFullLeaves, HasFullJoins}
@@ -43,6 +46,16 @@ abbrev pub IsTrim : Design → Type 0
 IsTrim empty = Unit {0}
 IsTrim (a_part part) = Unit {0}
 IsTrim (joined op left right) = IsPresent left × IsPresent right × IsTrim left × IsTrim right
+
+-- steps that are not singular
+abbrev pub AreRegular : List Affine → Type 0
+AreRegular steps = All (λ s. determinant_of s ≡ pos 0 → ⊥) steps
+
+-- a design of shapes, moved by steps that are not singular
+abbrev pub IsSound : Design → Type 0
+IsSound empty = Unit {0}
+IsSound (a_part part) = IsShape part.mesh × AreRegular part.steps
+IsSound (joined op left right) = IsSound left × IsSound right
 
 -- a stop of a part by itself: its first fault, whatever planes were there before it, or want of memory
 abbrev pub IsRangeStop : Part → Stop → Type 0

@@ -9,7 +9,7 @@ ghost use Rattle.csg_tree.specs.Formulas.{Formula};
 ghost use Rattle.csg_tree.specs.Joins.{balanced_of, join_of};
 ghost use Rattle.scad_design.specs.Designs.{Design, balanced, grouped, join, moved_by};
 ghost use Rattle.scad_design.specs.Placing.{Placed, placed, Places};
-ghost use Rattle.scad_design.specs.Trees.{parts_in, pieces_in, IsTreeOf, IsTrim};
+ghost use Rattle.scad_design.specs.Trees.{parts_in, pieces_in, IsSound, IsTreeOf, IsTrim};
 
 /// The tree of designs that are joined is the join of their trees, by halves as well. Moving keeps
 /// the joins. A design that is placed has its tree.
@@ -23,6 +23,11 @@ pub fn joins_of_designs_are_joins_of_trees()
 /// A design has at most one placing.
 pub fn one_placing()
     ensures { (design : Design) (known : List Coefficients) (out other : Placed) → Places design known out → Places design known other → out ≡ other }
+{}
+
+/// A design of shapes, moved by steps that are not singular, has a placing: a tree, or a first fault.
+pub fn some_placing()
+    ensures { (design : Design) (known : List Coefficients) → IsSound design → (out : Placed) × Places design known out }
 {}
 
 /// Grouping and moving leave no empty side in a join, and add no part. So a design has at most about

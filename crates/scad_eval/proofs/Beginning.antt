@@ -9,7 +9,7 @@ use Rattle.scad_func.specs.Evaluations.{CallBegins, EvaluationBegins, SpecialsBe
 use Rattle.scad_func.specs.declared.source.Source.{Source}
 use Rattle.scad_eval.specs.declared.stand.Stand.{Stand as StandIn}
 use Rattle.scad_eval.specs.declared.making.Making.{Making}
-use Rattle.scad_eval.specs.Meaning.{called_from, chained}
+use Rattle.scad_meaning.specs.Meaning.{called_from, chained}
 use Rattle.scad_eval.specs.Makings.{left_at, stand_at, Stands}
 use Rattle.scad_eval.proofs.Standing.{stand_by, stand_from, checked_still}
 

@@ -8,9 +8,9 @@ use mir.Syntax.{w64, w128}
 use Rattle.scad_value.specs.declared.value.Value.{Value}
 use Rattle.scad_value.specs.Values.{NumberVal, ListVal, RangeVal, Vals, no_vals, and_val, count_of, parts_of, parts_in, is_small, has_small_numbers, have_small_numbers, is_bounded}
 use Rattle.scad_value.specs.View.{val_of}
-use Rattle.scad_eval.specs.Loops.{numbers_by, numbers_of_range, number_vals}
+use Rattle.scad_meaning.specs.Loops.{numbers_by, numbers_of_range, number_vals}
 use Rattle.scad_eval.specs.BoundedItems.{all_bounded}
-use Rattle.scad_eval.proofs.NumberedItems.{after_none}
+use Rattle.scad_pieces.proofs.NumberedItems.{after_none}
 
 -- of a list
 each_bounded : (vs : Vals) → IsTrue (have_small_numbers vs) → parts_in vs < 2 ^ 20 → IsTrue (all_bounded vs)

@@ -6,8 +6,8 @@ use Rattle.text_place.specs.declared.fault.FaultKind.TheVariants.{TooDeep, TooMa
 use Rattle.plane_predicate.specs.declared.unit.Unit.{Unit as LengthUnit}
 use Rattle.scad_ast.specs.Terms.{InstanceTerm, place_of_instance}
 use Rattle.scad_func.specs.Meaning.{Outcome, Faults, one_call_fewer, turn}
-use Rattle.scad_eval.specs.Verdicts.{Judge}
-use Rattle.scad_eval.specs.Meaning.{Stand, made_within, instance_made}
+use Rattle.scad_meaning.specs.Verdicts.{Judge}
+use Rattle.scad_meaning.specs.Meaning.{Stand, made_within, instance_made}
 
 one_less : (d : ℕ) → d < 512 → 512 - d ≡ suc (512 - (d + 1))
 one_less d h = omega arith

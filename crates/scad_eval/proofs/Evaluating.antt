@@ -12,8 +12,9 @@ use Rattle.scad_design.specs.Designs.{Design}
 use Rattle.scad_design.specs.View.{plain_of}
 use Rattle.scad_design.specs.Placing.{placed, unplaced}
 use Rattle.scad_design.specs.Trees.{IsPlacedAs, IsStopOf}
-use Rattle.scad_eval.specs.Meaning.{design_of}
-use Rattle.scad_eval.specs.Sources.{a_tree, a_fault, IsMeaningOfDesign, IsMeaning, IsMeaningStop, TellsDesign}
+use Rattle.scad_meaning.specs.Meaning.{design_of}
+use Rattle.scad_meaning.specs.Sources.{a_tree, a_fault, IsMeaningOfDesign, IsMeaning, IsMeaningStop}
+use Rattle.scad_eval.specs.Programs.{TellsDesign}
 
 placed_meaning : (out : Outcome Design) (turns : ℕ) (design : Design) (tree : Formula) → out ≡ Gives turns design
     → IsPlacedAs design tree → IsMeaningOfDesign out (a_tree tree)

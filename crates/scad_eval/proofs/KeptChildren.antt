@@ -10,11 +10,11 @@ use Rattle.scad_ast.specs.Terms.{StatementTerms, InstanceTerm}
 use Rattle.scad_modules.specs.Effects.{ChosenCall}
 use Rattle.scad_scope.specs.Blocks.{NumberedText}
 use Rattle.scad_func.specs.Meaning.{Env}
-use Rattle.scad_eval.specs.declared.numbered.NumberedInstance.{NumberedInstance}
-use Rattle.scad_eval.specs.Bodies.{is_child, evaluated_in, children_in}
-use Rattle.scad_eval.specs.Positions.{term_of_numbered, HasBlocks}
-use Rattle.scad_eval.specs.Loops.{chosen_among}
-use Rattle.scad_eval.proofs.Choosing.{map_chosen, all_chosen}
+use Rattle.scad_pieces.specs.declared.numbered.NumberedInstance.{NumberedInstance}
+use Rattle.scad_meaning.specs.Bodies.{is_child, evaluated_in, children_in}
+use Rattle.scad_pieces.specs.Positions.{term_of_numbered, HasBlocks}
+use Rattle.scad_meaning.specs.Loops.{chosen_among}
+use Rattle.scad_meaning.proofs.Choosing.{map_chosen, all_chosen}
 
 abbrev pub is_child_here : Env → NumberedInstance → Bool
 is_child_here env i = is_child env (term_of_numbered i)

@@ -7,14 +7,14 @@ use Rattle.plane_predicate.specs.declared.unit.Unit.{Unit as LengthUnit}
 use Rattle.primitives.specs.Sizes.{IsSizeStop}
 use Rattle.shape_planes.specs.declared.stop.ShapeStop.{ShapeStop}
 use Rattle.shape_planes.specs.declared.stop.ShapeStop.TheVariants as shapes
-use Rattle.scad_eval.specs.declared.stand.Extrusion.{Extrusion}
+use Rattle.scad_meaning.specs.declared.extrusion.Extrusion.{Extrusion}
 use Rattle.text_place.specs.declared.fault.Place.{Place}
 use Rattle.shape_planes.specs.Shapes.{Mesh}
-use Rattle.scad_eval.specs.Verdicts.{Verdict}
-use Rattle.scad_eval.specs.Meaning.{checked, leaf_made}
+use Rattle.scad_meaning.specs.Verdicts.{Verdict}
+use Rattle.scad_meaning.specs.Meaning.{checked, leaf_made}
 use Rattle.scad_eval.specs.Seen.{IsStopAt}
 use Rattle.scad_eval.specs.Makings.{IsThrough}
-use Rattle.scad_eval.proofs.Verdicts.{one_height_verdict}
+use Rattle.scad_meaning.proofs.Verdicts.{one_height_verdict}
 
 pub shape_checked : (v : Verdict) (at : Place) (mesh shape : Mesh) (turns leaves : ℕ) → v ≡ None → shape ≡ mesh
     → checked v at (leaf_made at mesh turns leaves) ≡ leaf_made at shape turns leaves

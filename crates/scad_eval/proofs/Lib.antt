@@ -1,15 +1,4 @@
-mod Assignments
-mod Deciding
-mod Judges
-mod Made
-mod Numbering
-mod Rows
-mod Verdicts
 mod BoundedItems
-mod Choosing
-mod Crossing
-mod NumberedItems
-mod RangeNumbers
 mod Counting
 mod Evaluating
 mod Leaving
@@ -24,9 +13,4 @@ mod KeptChildren
 mod Slots
 mod ModuleScopes
 mod Programs
-mod OneMeaning
-mod HeldPlaces
-mod ExpressionPlaces
-mod InstancePlaces
-mod ProgramPlaces
 pub mod Work

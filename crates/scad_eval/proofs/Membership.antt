@@ -10,10 +10,10 @@ use Rattle.std.specs.Prelude.{Option}
 use Rattle.scad_design.specs.Designs.{Design}
 use Rattle.scad_func.specs.Meaning.{Outcome, Gives, Faults, Env, then_with}
 use Rattle.scad_eval.specs.declared.stand.Made.{Made as MadeIn}
-use Rattle.scad_eval.specs.declared.numbered.NumberedInstance.{NumberedInstance}
-use Rattle.scad_eval.specs.Bodies.{says_only, is_child}
-use Rattle.scad_eval.specs.Meaning.{Made, Members, as_member, and_members, after_step, core_of}
-use Rattle.scad_eval.specs.Positions.{term_of_numbered}
+use Rattle.scad_pieces.specs.declared.numbered.NumberedInstance.{NumberedInstance}
+use Rattle.scad_meaning.specs.Bodies.{says_only, is_child}
+use Rattle.scad_meaning.specs.Meaning.{Made, Members, as_member, and_members, after_step, core_of}
+use Rattle.scad_pieces.specs.Positions.{term_of_numbered}
 use Rattle.scad_eval.specs.Seen.{TellsAs, Told, made_seen, member_seen, in_front}
 
 flipped : (b : Bool) → (if b then false else true) ≡ not b

@@ -16,10 +16,10 @@ use Rattle.scad_func.specs.Meaning.{Env, Within, no_call, opened, functions_stan
 use Rattle.scad_func.specs.View.{seen, text_of}
 use Rattle.scad_func.specs.Definitions.{statements_at, block_scope, IsBlockOf, IsWhole}
 use Rattle.scad_func.specs.declared.source.Source.{Source}
-use Rattle.scad_eval.specs.declared.numbered.NumberedInstance.{NumberedInstance}
-use Rattle.scad_eval.specs.Bodies.{children_in}
-use Rattle.scad_eval.specs.Meaning.{module_scope}
-use Rattle.scad_eval.specs.Positions.{term_of_numbered}
+use Rattle.scad_pieces.specs.declared.numbered.NumberedInstance.{NumberedInstance}
+use Rattle.scad_meaning.specs.Bodies.{children_in}
+use Rattle.scad_meaning.specs.Meaning.{module_scope}
+use Rattle.scad_pieces.specs.Positions.{term_of_numbered}
 
 -- the scope of a module's body, by what it depends on
 abbrev scope_by : ℤ → List (List ℕ) → Vals → StatementTerms → StatementTerms → Env → Env → Env

@@ -26,11 +26,11 @@ use Rattle.scad_modules.specs.Effects.{EffectCall, a_solid, a_flat, a_move, a_jo
 use Rattle.scad_modules.specs.Calls.{effect_of}
 use Rattle.scad_design.specs.Designs.{Design, a_part, balanced, grouped, moved_by}
 use Rattle.scad_design.specs.Trees.{parts_in, pieces_in, IsTrim}
-use Rattle.scad_eval.specs.declared.stand.Extrusion.{Extrusion}
-use Rattle.scad_eval.specs.Verdicts.{Judge, Verdict, solid_of, extruded}
-use Rattle.scad_eval.specs.Bodies.{evaluated_in, children_in, is_marked, says_only, is_bare}
-use Rattle.scad_eval.specs.Loops.{items_of, chosen_among}
-use Rattle.scad_eval.specs.Meaning.{Stand, standing, chained, called_from, marked_from, extruding, setting, Made, Members, first_marked, made_nothing, no_members, as_member, and_members, made_of, made_moved, Makes, each_assigned, core_of, each_member, each_in_scope, each_in_body, body_made, after_step, each_step, in_loop, each_turn, loop_made, leaf_made, checked, answered_with, module_scope, module_made, arguments_for, children_made, flat_made, effect_made, built_in_made, call_made, core_made, marked_made, instance_made, made_within, program_stand, or_all, design_of}
+use Rattle.scad_meaning.specs.declared.extrusion.Extrusion.{Extrusion}
+use Rattle.scad_meaning.specs.Verdicts.{Judge, Verdict, solid_of, extruded}
+use Rattle.scad_meaning.specs.Bodies.{evaluated_in, children_in, is_marked, says_only, is_bare}
+use Rattle.scad_meaning.specs.Loops.{items_of, chosen_among}
+use Rattle.scad_meaning.specs.Meaning.{Stand, standing, chained, called_from, marked_from, extruding, setting, Made, Members, first_marked, made_nothing, no_members, as_member, and_members, made_of, made_moved, Makes, each_assigned, core_of, each_member, each_in_scope, each_in_body, body_made, after_step, each_step, in_loop, each_turn, loop_made, leaf_made, checked, answered_with, module_scope, module_made, arguments_for, children_made, flat_made, effect_made, built_in_made, call_made, core_made, marked_made, instance_made, made_within, program_stand, or_all, design_of}
 
 -- what holds of that which an outcome gives
 abbrev Has : {A : Type 0} → (A → Type 0) → Outcome A → Type 0
@@ -322,7 +322,7 @@ module _ (grouped_trim : (op : Op) (designs : List Design) → All IsTrim design
 
   -- the design of a program
   all_small : (marked : Option Design) (designs : List Design) (leaves : ℕ) → IsFew 0 leaves marked → 0 + sum_by parts_in designs ≤ leaves
-      → All IsTrim designs → leaves ≤ 1024 → pieces_in (or_all unit judge marked designs) < 2 ^ 32
+      → All IsTrim designs → leaves ≤ 1024 → pieces_in (or_all marked designs) < 2 ^ 32
   all_small None designs leaves f h trim few =
       let a : parts_in (balanced Union designs) ≤ sum_by parts_in designs = grouped_parts Union designs in
       let b : pieces_in (balanced Union designs) ≤ 1 + 2 * parts_in (balanced Union designs) = pieces (grouped Union designs) (grouped_trim Union designs trim) in
@@ -335,6 +335,6 @@ module _ (grouped_trim : (op : Op) (designs : List Design) → All IsTrim design
   unfolding design_of
   design_small chain statements turns design e =
       subst (Has (λ d. pieces_in d < 2 ^ 32)) e
-      (then_has (AreSmall 0) (λ d. pieces_in d < 2 ^ 32) (each_in_scope 512 (made_within unit judge 512) (program_stand unit judge chain statements) statements 0 0) _
-      (scope_small 512 (made_within unit judge 512) (within_small 512) (program_stand unit judge chain statements) statements 0 0)
+      (then_has (AreSmall 0) (λ d. pieces_in d < 2 ^ 32) (each_in_scope 512 (made_within unit judge 512) (program_stand chain statements) statements 0 0) _
+      (scope_small 512 (made_within unit judge 512) (within_small 512) (program_stand chain statements) statements 0 0)
       (λ turns ms h. all_small ms.marked ms.designs ms.leaves h.marked h.parts h.trim (h.most (omega arith))))

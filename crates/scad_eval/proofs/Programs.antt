@@ -1,8 +1,9 @@
 -- The design of a program, from the members of its block.
-use Rattle.std.proofs.Common.{◌≡◌, ℕ, ◌-◌, ◌<◌, false, List, [], ◌∷◌, map, None, option_map, Result, Ok, Err, sym, ap, ◌∙◌}
+use Rattle.std.proofs.Common.{◌≡◌, ℕ, ◌-◌, ◌<◌, false, List, [], ◌∷◌, map, None, option_map, Result, Ok, Err, refl, sym, ap, subst, ◌∙◌}
 use Rattle.std.specs.Prelude.{IfOk, IfErr, ◌+◌, ◌*◌, ◌≤◌, ◌^◌, All}
 use Rattle.std.specs.List.{sum_by}
 use Rattle.text_place.specs.declared.fault.Stop.{Stop}
+use Rattle.text_place.specs.declared.fault.Stop.TheVariants.{Fault, NoMemory}
 use Rattle.plane_predicate.specs.declared.unit.Unit.{Unit as LengthUnit}
 use Rattle.int_transform.specs.declared.affine.Affine.{Affine}
 use Rattle.csg_tree.specs.declared.op.Op.{Op}
@@ -14,7 +15,7 @@ use Rattle.scad_value.specs.Values.{Val}
 use Rattle.scad_scope.specs.Names.{Pairs, Row, env_of, first_row, first_chain}
 use Rattle.scad_scope.specs.Table.{rows_of, chain_of}
 use Rattle.scad_scope.specs.Blocks.{NumberedText, numbered_text}
-use Rattle.scad_func.specs.Meaning.{Gives, then_with, Env, Within, Outermost, no_call, entered_scope}
+use Rattle.scad_func.specs.Meaning.{Outcome, Gives, then_with, Env, Within, Outermost, no_call, entered_scope}
 use Rattle.scad_func.specs.View.{seen, text_of}
 use Rattle.scad_func.specs.Definitions.{statements_at, block_scope, IsWhole}
 use Rattle.scad_func.specs.Evaluations.{ScopeEnters}
@@ -27,14 +28,16 @@ use Rattle.scad_design.specs.declared.design.Design.{Design as DesignIn}
 use Rattle.scad_eval.specs.declared.stand.Stand.{Stand as StandIn}
 use Rattle.scad_eval.specs.declared.stand.Members.{Members as MembersIn}
 use Rattle.scad_eval.specs.declared.making.Making.{Making}
-use Rattle.scad_eval.specs.Verdicts.{Judge, IsRight}
-use Rattle.scad_eval.specs.Meaning.{Stand, made_within, each_in_scope, program_stand, or_all, design_of}
+use Rattle.scad_meaning.specs.Verdicts.{Judge, IsRight}
+use Rattle.scad_meaning.specs.Meaning.{Stand, made_within, each_in_scope, program_stand, or_all, design_of}
 use Rattle.scad_eval.specs.Seen.{Told, members_seen}
 use Rattle.scad_eval.specs.Steps.{block_members}
 use Rattle.scad_eval.specs.Makings.{stand_at, Says}
-use Rattle.scad_eval.specs.Sources.{a_tree, IsMeaning, IsMeaningStop, TellsDesign}
+use Rattle.scad_meaning.specs.Sources.{a_tree, a_fault, IsMeaning, IsMeaningOfDesign, IsMeaningStop, HoldsFault}
+use Rattle.scad_meaning.proofs.ProgramPlaces.{stop_held}
+use Rattle.scad_eval.specs.Programs.{TellsDesign}
 use Rattle.scad_eval.proofs.Evaluating.{tree_meant, placing_stops}
-use Rattle.scad_eval.proofs.Judges.{some_judge}
+use Rattle.scad_meaning.proofs.Judges.{some_judge}
 use Rattle.scad_eval.proofs.Parts.{design_small}
 use Rattle.scad_eval.proofs.Telling.{along, stop_told}
 
@@ -56,12 +59,12 @@ program_scope source rows program env whole text first is =
 abbrev pub stand_of : ℕ → Env → Pairs Val → Stand
 stand_of calls env chain = record { calls = 64 - calls; env = env; chain = chain; inside = None; under_mark = false }
 
-pub program_begins : {old new : Evaluation} {scope : ℕ} → ScopeEnters old new scope → (unit : LengthUnit) (judge : Judge) (program : List StatementTerm)
+pub program_begins : {old new : Evaluation} {scope : ℕ} → ScopeEnters old new scope → (program : List StatementTerm)
     → IsWhole (text_of old.source.now) → text_of old.source.now ≡ numbered_text program → rows_of old.scopes.now ≡ first_row ∷ []
     → chain_of old.scopes.now ≡ first_chain → old.calls ≡ 0
     → seen new.source.now (rows_of new.scopes.now) scope ≡ block_scope (text_of old.source.now) 0 no_call (seen old.source.now (rows_of old.scopes.now) 0)
-    → stand_of new.calls (seen new.source.now (rows_of new.scopes.now) scope) (chain_of new.scopes.now) ≡ program_stand unit judge first_chain (statements_from program)
-program_begins {old = old} {new = new} {scope = scope} e unit judge program whole text rows chain none is =
+    → stand_of new.calls (seen new.source.now (rows_of new.scopes.now) scope) (chain_of new.scopes.now) ≡ program_stand first_chain (statements_from program)
+program_begins {old = old} {new = new} {scope = scope} e program whole text rows chain none is =
     ap (λ n. stand_of n (seen new.source.now (rows_of new.scopes.now) scope) (chain_of new.scopes.now)) (e.calls ∙ none)
     ∙ ap (λ (x : Env). stand_of 0 x (chain_of new.scopes.now))
     (program_scope old.source.now (rows_of old.scopes.now) program (seen new.source.now (rows_of new.scopes.now) scope) whole text rows is)
@@ -70,17 +73,17 @@ program_begins {old = old} {new = new} {scope = scope} e unit judge program whol
 -- what the members of the block say
 pub program_says : {old new : Making} {s : StandIn} {r : Result MembersIn Stop} (statements : StatementTerms)
     → Says members_seen old new s r (λ unit judge left make. block_members left make None statements)
-    → (program : List StatementTerm) → ((judge : Judge) → stand_at old s ≡ program_stand old.unit judge first_chain (statements_from program))
+    → (program : List StatementTerm) → stand_at old s ≡ program_stand first_chain (statements_from program)
     → statements ≡ statements_from program → old.evaluation.depth ≡ 0 → old.evaluation.turns ≡ 0 → old.leaves ≡ 0
     → (judge : Judge) → IsRight judge → Told members_seen r new.evaluation.turns new.leaves
-    (each_in_scope 512 (made_within old.unit judge 512) (program_stand old.unit judge first_chain (statements_from program)) (statements_from program) 0 0)
+    (each_in_scope 512 (made_within old.unit judge 512) (program_stand first_chain (statements_from program)) (statements_from program) 0 0)
 program_says {old = old} {s = s} statements h program here same depth turns leaves judge right =
     along (sym (
     ap (λ d. block_members (512 - d) (made_within old.unit judge (512 - d)) None statements (stand_at old s) old.evaluation.turns old.leaves) depth
-    ∙ ap (λ x. block_members 512 (made_within old.unit judge 512) None statements x old.evaluation.turns old.leaves) (here judge)
-    ∙ ap (λ st. block_members 512 (made_within old.unit judge 512) None st (program_stand old.unit judge first_chain (statements_from program)) old.evaluation.turns old.leaves) same
-    ∙ ap (λ n. block_members 512 (made_within old.unit judge 512) None (statements_from program) (program_stand old.unit judge first_chain (statements_from program)) n old.leaves) turns
-    ∙ ap (λ n. block_members 512 (made_within old.unit judge 512) None (statements_from program) (program_stand old.unit judge first_chain (statements_from program)) 0 n) leaves))
+    ∙ ap (λ x. block_members 512 (made_within old.unit judge 512) None statements x old.evaluation.turns old.leaves) here
+    ∙ ap (λ st. block_members 512 (made_within old.unit judge 512) None st (program_stand first_chain (statements_from program)) old.evaluation.turns old.leaves) same
+    ∙ ap (λ n. block_members 512 (made_within old.unit judge 512) None (statements_from program) (program_stand first_chain (statements_from program)) n old.leaves) turns
+    ∙ ap (λ n. block_members 512 (made_within old.unit judge 512) None (statements_from program) (program_stand first_chain (statements_from program)) 0 n) leaves))
     (h.by judge right)
 
 pub program_statements : (old new : Source) (program : List StatementTerm) → new ≡ old → text_of old ≡ numbered_text program
@@ -90,19 +93,19 @@ program_statements old new program same e = ap (λ (x : Source). statements_at (
 -- the design
 module _ (unit : LengthUnit) (judge : Judge) (chain : Pairs Val) (statements : StatementTerms) where
   pub design_told : (ms : MembersIn) (design : DesignIn) (m l : ℕ)
-      → Told members_seen (Ok ms) m l (each_in_scope 512 (made_within unit judge 512) (program_stand unit judge chain statements) statements 0 0)
-      → plain_of design ≡ or_all unit judge (option_map plain_of ms.marked) (map plain_of ms.designs.items)
+      → Told members_seen (Ok ms) m l (each_in_scope 512 (made_within unit judge 512) (program_stand chain statements) statements 0 0)
+      → plain_of design ≡ or_all (option_map plain_of ms.marked) (map plain_of ms.designs.items)
       → Told (λ leaves. plain_of) (Ok design) m 0 (design_of unit judge chain statements)
   unfolding design_of
   design_told ms design m l t e = record {
-    is = ap (λ o. then_with o (λ turns ms. Gives turns (or_all unit judge ms.marked ms.designs))) t.is ∙ ap (λ d. Gives m d) (sym e);
+    is = ap (λ o. then_with o (λ turns ms. Gives turns (or_all ms.marked ms.designs))) t.is ∙ ap (λ d. Gives m d) (sym e);
   }
 
   pub design_stops : (stop : Stop) (m l n : ℕ)
-      → Told members_seen (Err stop) m l (each_in_scope 512 (made_within unit judge 512) (program_stand unit judge chain statements) statements 0 0)
+      → Told members_seen (Err stop) m l (each_in_scope 512 (made_within unit judge 512) (program_stand chain statements) statements 0 0)
       → Told (λ leaves. plain_of) (Err stop) n 0 (design_of unit judge chain statements)
   unfolding design_of
-  design_stops stop m l n t = stop_told (λ turns ms. Gives turns (or_all unit judge ms.marked ms.designs)) t
+  design_stops stop m l n t = stop_told (λ turns ms. Gives turns (or_all ms.marked ms.designs)) t
 
 -- the tree of a design
 module _ (unit : LengthUnit) (program : List StatementTerm) (design : DesignIn) (told : TellsDesign unit program (Ok design)) where
@@ -127,3 +130,9 @@ module _ (unit : LengthUnit) (program : List StatementTerm) (design : DesignIn) 
       let t = told j.0 j.1 in
       h (design_small a b c d e unit j.0 first_chain (statements_from program) t.0 (plain_of design) t.1.is)
   proper_tree a b c d e (Err stop) h = tt
+
+-- the fault of a program stands at one of its places
+pub design_stop_held : (unit : LengthUnit) (program : List StatementTerm) (stop : Stop) → TellsDesign unit program (Err stop) → HoldsFault program stop
+design_stop_held unit program (Fault fault) told = stop_held unit program (Fault fault) (λ judge right.
+    subst (λ (out : Outcome Design). IsMeaningOfDesign out (a_fault fault.kind fault.place)) (sym (told judge right).1.is) refl)
+design_stop_held unit program NoMemory told = tt

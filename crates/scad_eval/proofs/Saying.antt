@@ -25,10 +25,10 @@ use Rattle.scad_eval.specs.declared.stand.Stand.{Stand as StandIn}
 use Rattle.scad_eval.specs.declared.stand.Made.{Made as MadeIn}
 use Rattle.scad_eval.specs.declared.stand.Members.{Members as MembersIn}
 use Rattle.scad_eval.specs.declared.making.Making.{Making}
-use Rattle.scad_eval.specs.Verdicts.{Judge, IsRight}
-use Rattle.scad_eval.specs.Bodies.{children_in, is_marked}
-use Rattle.scad_eval.specs.Loops.{chosen_among}
-use Rattle.scad_eval.specs.Meaning.{Stand, Made, Members, Makes, standing, chained, called_from, marked_from, setting, made_within, instance_made, core_made, core_of, made_of, each_assigned, each_member, children_made, no_members, and_members}
+use Rattle.scad_meaning.specs.Verdicts.{Judge, IsRight}
+use Rattle.scad_meaning.specs.Bodies.{children_in, is_marked}
+use Rattle.scad_meaning.specs.Loops.{chosen_among}
+use Rattle.scad_meaning.specs.Meaning.{Stand, Made, Members, Makes, standing, chained, called_from, marked_from, setting, made_within, instance_made, core_made, core_of, made_of, each_assigned, each_member, children_made, no_members, and_members}
 use Rattle.scad_eval.specs.Seen.{TellsAs, Told, made_seen, members_seen, member_seen, apart, IsLengthened, in_front}
 use Rattle.scad_eval.specs.Makings.{left_at, stand_at, Stays, Enters, Equation, Says}
 use Rattle.scad_eval.specs.Steps.{block_members}

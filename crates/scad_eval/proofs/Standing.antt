@@ -9,11 +9,11 @@ use Rattle.scad_func.specs.Meaning.{Env}
 use Rattle.scad_func.specs.View.{seen}
 use Rattle.scad_func.specs.Evaluations.{Keeps}
 use Rattle.scad_func.specs.declared.source.Source.{Source}
-use Rattle.scad_eval.specs.declared.stand.Extrusion.{Extrusion}
+use Rattle.scad_meaning.specs.declared.extrusion.Extrusion.{Extrusion}
 use Rattle.scad_eval.specs.declared.stand.Stand.{Stand as StandIn}
 use Rattle.scad_eval.specs.declared.making.Making.{Making}
-use Rattle.scad_eval.specs.Verdicts.{Judge, IsRight}
-use Rattle.scad_eval.specs.Meaning.{Stand, made_within}
+use Rattle.scad_meaning.specs.Verdicts.{Judge, IsRight}
+use Rattle.scad_meaning.specs.Meaning.{Stand, made_within}
 use Rattle.scad_eval.specs.Seen.{Told}
 use Rattle.scad_eval.specs.Makings.{left_at, stand_at, IsChecked, Stays, Enters, Assigns, Equation, Says}
 use Rattle.scad_eval.proofs.Telling.{along}

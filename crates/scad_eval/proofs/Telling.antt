@@ -9,7 +9,7 @@ use Rattle.scad_design.specs.Designs.{Design}
 use Rattle.scad_func.specs.Meaning.{Outcome, Gives, Faults, then_with}
 use Rattle.scad_func.specs.View.{Tells}
 use Rattle.scad_eval.specs.declared.stand.Members.{Members as MembersIn}
-use Rattle.scad_eval.specs.Meaning.{Members, no_members, and_members, first_marked}
+use Rattle.scad_meaning.specs.Meaning.{Members, no_members, and_members, first_marked}
 use Rattle.scad_eval.specs.Seen.{TellsAs, Told, members_seen, IsLengthened, in_front}
 
 -- what was told of an outcome is told of an equal one

@@ -3,8 +3,8 @@ use Rattle.std.specs.Prelude.{◌-◌, ℤ, pos, ◌+ℤ◌, ◌*ℤ◌, List}
 use Rattle.std.specs.Vec.Iter.{into_iter_items}
 use Rattle.scad_value.specs.Values.{Vals, vals_from}
 use Rattle.scad_value.specs.View.{vals_in}
-use Rattle.scad_eval.specs.Loops.{numbers_by, number_vals}
-use Rattle.scad_eval.specs.declared.ranges.Numbers.{Numbers}
+use Rattle.scad_meaning.specs.Loops.{numbers_by, number_vals}
+use Rattle.scad_eval.specs.declared.items.Numbers.{Numbers}
 use Rattle.scad_eval.specs.declared.items.Left.{Left}
 use Rattle.scad_eval.specs.declared.items.Left.TheVariants.{Listed, Counted}
 

@@ -1,14 +1,7 @@
-pub mod Verdicts
-pub mod Answers
-pub mod Bodies
-pub mod Positions
-pub mod Loops
-pub mod Meaning
-pub mod Sources
 pub mod BoundedItems
-pub mod Choosing
 pub mod Items
 pub mod Seen
 pub mod Makings
 pub mod Steps
 pub mod Within
+pub mod Programs

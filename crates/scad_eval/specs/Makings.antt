@@ -12,11 +12,11 @@ use Rattle.scad_func.specs.View.{seen, text_of}
 use Rattle.scad_func.specs.Definitions.{IsWhole}
 use Rattle.scad_func.specs.Evaluations.{scopes_there, ScopeEnters}
 use Rattle.scad_func.specs.declared.evaluation.Evaluation.{Evaluation}
-use Rattle.scad_eval.specs.declared.stand.Extrusion.{Extrusion}
+use Rattle.scad_meaning.specs.declared.extrusion.Extrusion.{Extrusion}
 use Rattle.scad_eval.specs.declared.stand.Stand.{Stand as StandIn}
 use Rattle.scad_eval.specs.declared.making.Making.{Making}
-use Rattle.scad_eval.specs.Verdicts.{Judge, IsRight}
-use Rattle.scad_eval.specs.Meaning.{Stand, Made, Makes, made_within}
+use Rattle.scad_meaning.specs.Verdicts.{Judge, IsRight}
+use Rattle.scad_meaning.specs.Meaning.{Stand, Made, Makes, made_within}
 use Rattle.scad_eval.specs.Seen.{Told, made_seen}
 
 -- how many evaluations in one another are left

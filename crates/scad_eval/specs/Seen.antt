@@ -12,8 +12,8 @@ use Rattle.scad_design.specs.View.{plain_of}
 use Rattle.scad_func.specs.Meaning.{Outcome, Gives, Faults, then_with}
 use Rattle.scad_eval.specs.declared.stand.Made.{Made as MadeIn}
 use Rattle.scad_eval.specs.declared.stand.Members.{Members as MembersIn}
-use Rattle.scad_eval.specs.Bodies.{is_bare}
-use Rattle.scad_eval.specs.Meaning.{Made, Members, as_member, and_members, made_nothing}
+use Rattle.scad_meaning.specs.Bodies.{is_bare}
+use Rattle.scad_meaning.specs.Meaning.{Made, Members, as_member, and_members, made_nothing}
 
 abbrev pub made_seen : ℕ → MadeIn → Made
 made_seen leaves m = record { leaves = leaves; design = plain_of m.design; marked = option_map plain_of m.marked }

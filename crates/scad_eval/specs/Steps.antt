@@ -24,10 +24,10 @@ use Rattle.scad_modules.specs.Bounds.{IsSafeChoice}
 use Rattle.scad_modules.specs.Effects.{ChosenCall, EffectCall}
 use Rattle.scad_modules.specs.View.{chosen_of, call_of}
 use Rattle.scad_modules.specs.Calls.{effect_of}
-use Rattle.scad_eval.specs.Verdicts.{Judge}
-use Rattle.scad_eval.specs.Bodies.{evaluated_in, children_in}
-use Rattle.scad_eval.specs.Loops.{chosen_among}
-use Rattle.scad_eval.specs.Meaning.{Stand, standing, chained, setting, Made, Members, Makes, made_of, each_assigned, each_member, each_in_scope, each_turn, in_loop, after_step, module_scope, answered_with, effect_made}
+use Rattle.scad_meaning.specs.Verdicts.{Judge}
+use Rattle.scad_meaning.specs.Bodies.{evaluated_in, children_in}
+use Rattle.scad_meaning.specs.Loops.{chosen_among}
+use Rattle.scad_meaning.specs.Meaning.{Stand, standing, chained, setting, Made, Members, Makes, made_of, each_assigned, each_member, each_in_scope, each_turn, in_loop, after_step, module_scope, answered_with, effect_made}
 
 abbrev pub chosen_seen : Option (Bor Chosen) → Option ChosenCall
 chosen_seen = option_map (λ c. chosen_of c.now)

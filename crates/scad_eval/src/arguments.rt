@@ -14,17 +14,17 @@ ghost use Rattle.scad_modules.specs.Bounds.{IsSafeCall};
 ghost use Rattle.scad_modules.specs.Calls.{effect_of as effect_at};
 ghost use Rattle.scad_modules.specs.Table.{is_left_out as leaves_out};
 ghost use Rattle.scad_modules.specs.View.{call_of};
-ghost use Rattle.scad_eval.specs.Meaning.{arguments_for as arguments_at, each_said};
+ghost use Rattle.scad_meaning.specs.Meaning.{arguments_for as arguments_at, each_said};
 ghost use Rattle.scad_eval.specs.Seen.{TellsSilence};
 ghost use Rattle.scad_eval.specs.Steps.{TellsEffectAt, said_once, TellsSpecials};
 
-use crate::bodies::is_bare;
 use crate::joins::{fault_at, nothing_made};
 use crate::making::Making;
 use crate::stand::{Made, Stand};
 use scad_ast::{Arg, Args, Body};
 use scad_func::{ArgumentValues, Names, SpecialArgument};
 use scad_modules::{BuiltinModule, Effect, effect, is_left_out};
+use scad_pieces::is_bare;
 use scad_value::{Value, ValueStop};
 use text_place::{FaultKind, Place, Stop};
 

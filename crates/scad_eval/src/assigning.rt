@@ -7,7 +7,7 @@ ghost use Rattle.scad_func.specs.Meaning.{Gives, then_with};
 ghost use Rattle.scad_func.specs.View.{text_of};
 ghost use Rattle.scad_func.specs.Definitions.{statements_at};
 ghost use Rattle.scad_func.specs.Evaluations.{scopes_there};
-ghost use Rattle.scad_eval.specs.Meaning.{assigned_value, assigned, each_assigned};
+ghost use Rattle.scad_meaning.specs.Meaning.{assigned_value, assigned, each_assigned};
 ghost use Rattle.scad_eval.specs.Makings.{stand_at, Stands, Assigns, Says};
 
 use crate::making::Making;

@@ -8,7 +8,7 @@ ghost use Rattle.scad_func.specs.Definitions.{statements_at};
 ghost use Rattle.scad_func.specs.Evaluations.{scopes_there};
 ghost use Rattle.scad_modules.specs.Bounds.{IsSafeChoice};
 ghost use Rattle.scad_modules.specs.View.{chosen_of};
-ghost use Rattle.scad_eval.specs.Meaning.{children_made as children_at, called_from};
+ghost use Rattle.scad_meaning.specs.Meaning.{children_made as children_at, called_from};
 ghost use Rattle.scad_eval.specs.Seen.{made_seen};
 ghost use Rattle.scad_eval.specs.Makings.{Stands, Stays, Says};
 

@@ -12,7 +12,7 @@ ghost use Rattle.scad_func.specs.Meaning.{module_in};
 ghost use Rattle.scad_func.specs.View.{text_of, seen, arguments_of, arguments_bounded};
 ghost use Rattle.scad_func.specs.Definitions.{IsBlockOf};
 ghost use Rattle.scad_func.specs.Evaluations.{scopes_there};
-ghost use Rattle.scad_eval.specs.Meaning.{call_made, module_made as module_at};
+ghost use Rattle.scad_meaning.specs.Meaning.{call_made, module_made as module_at};
 ghost use Rattle.scad_eval.specs.Seen.{made_seen};
 ghost use Rattle.scad_eval.specs.Makings.{Stands, Stays, Says};
 ghost use Rattle.scad_eval.specs.Steps.{module_filled, module_given};

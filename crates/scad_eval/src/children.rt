@@ -9,16 +9,15 @@ ghost use Rattle.scad_func.specs.Meaning.{entered_scope, no_call, module_in};
 ghost use Rattle.scad_func.specs.View.{text_of, seen};
 ghost use Rattle.scad_func.specs.Definitions.{statements_at, IsWhole};
 ghost use Rattle.scad_func.specs.Evaluations.{scopes_there};
-ghost use Rattle.scad_eval.specs.Bodies.{children_in, is_child as is_child_at};
-ghost use Rattle.scad_eval.specs.Positions.{term_of_numbered, HasBlocks};
+ghost use Rattle.scad_meaning.specs.Bodies.{children_in, is_child as is_child_at};
+ghost use Rattle.scad_pieces.specs.Positions.{term_of_numbered, HasBlocks};
 ghost use Rattle.scad_eval.specs.Makings.{Stays};
 ghost use Rattle.scad_eval.specs.Steps.{chosen_seen, instances_chosen, IsSafeChosen};
 
-use crate::chosen::chosen_among;
 use crate::making::Making;
-use crate::numbered::{NumberedInstance, numbered_instances};
 use scad_ast::{Core, Instance};
 use scad_modules::Chosen;
+use scad_pieces::{NumberedInstance, chosen_among, numbered_instances};
 use text_place::NoMemory;
 
 // The most children of a call: their number is one of the language's.

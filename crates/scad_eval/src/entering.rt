@@ -12,7 +12,7 @@ ghost use Rattle.scad_scope.specs.TextView.{module_of};
 ghost use Rattle.scad_func.specs.View.{text_of, seen};
 ghost use Rattle.scad_func.specs.Definitions.{IsBlockOf, IsWhole};
 ghost use Rattle.scad_func.specs.Evaluations.{scopes_there, CallBegins};
-ghost use Rattle.scad_eval.specs.Meaning.{module_scope};
+ghost use Rattle.scad_meaning.specs.Meaning.{module_scope};
 ghost use Rattle.scad_eval.specs.Makings.{Enters, StopsBefore};
 ghost use Rattle.scad_eval.specs.Within.{body_seen, IsInBlock};
 

@@ -6,19 +6,18 @@ ghost use Rattle.scad_ast.specs.ExprView.{term_of};
 ghost use Rattle.scad_value.specs.Values.{truth_of};
 ghost use Rattle.scad_func.specs.Meaning.{Gives, then_with, value_at};
 ghost use Rattle.scad_func.specs.View.{text_of};
-ghost use Rattle.scad_eval.specs.Meaning.{setting, body_made, made_nothing, each_member, core_of, core_made, instance_made};
-ghost use Rattle.scad_eval.specs.Positions.{term_of_numbered, HasBlocks};
+ghost use Rattle.scad_meaning.specs.Meaning.{setting, body_made, made_nothing, each_member, core_of, core_made, instance_made};
+ghost use Rattle.scad_pieces.specs.Positions.{term_of_numbered, HasBlocks};
 ghost use Rattle.scad_eval.specs.Seen.{made_seen, members_seen};
 ghost use Rattle.scad_eval.specs.Makings.{Stands, Stays, Says};
 ghost use Rattle.scad_eval.specs.Within.{body_seen, IsInBlock};
 
-use crate::bodies::is_marked;
 use crate::joins::{fault_at, no_members, nothing_made, set_apart, with_made};
 use crate::making::Making;
-use crate::numbered::NumberedInstance;
 use crate::stand::{Made, Members, NumberedBody, Stand};
 use csg_tree::Op;
 use scad_ast::{Core, Expr};
+use scad_pieces::{NumberedInstance, is_marked};
 use scad_value::truth;
 use text_place::{FaultKind, Stop};
 

@@ -1,15 +1,54 @@
 //! What a loop goes through.
 
-ghost use Rattle.std.specs.Prelude.{◌≡◌, ◌<◌, IsTrue, IfSome, MatchOption, option_map};
-ghost use Rattle.scad_value.specs.Values.{is_bounded, ListVal, RangeVal, no_vals, and_val, vals_from, count_of};
+ghost use Rattle.std.specs.Prelude.{◌≡◌, ◌<◌, [], ◌∷◌, IsTrue, IfSome, MatchOption, option_map};
+ghost use Rattle.scad_value.specs.Values.{is_bounded, is_small, ListVal, RangeVal, no_vals, and_val, vals_from, count_of};
 ghost use Rattle.scad_value.specs.View.{val_of, vals_of};
-ghost use Rattle.scad_eval.specs.Loops.{items_of, number_vals, numbers_of_range};
+ghost use Rattle.scad_meaning.specs.Loops.{items_of, number_vals, numbers_of_range};
 ghost use Rattle.scad_eval.specs.BoundedItems.{all_bounded};
-ghost use Rattle.scad_eval.specs.Items.{left_in};
+ghost use Rattle.scad_eval.specs.Items.{left_in, numbers_left};
 
-use crate::ranges::Numbers;
+use scad_pieces::{count_of_range, number_at};
 use scad_value::{Value, Values};
 use std::vec::IntoIter;
+
+/// The numbers of a range that are left, from a place on.
+#[derive(Drop)]
+pub(crate) struct Numbers {
+    from: i64,
+    by: i64,
+    count: u64,
+    place: u64,
+}
+
+impl Numbers {
+    /// The numbers from one on, by a step, up to another one.
+    pub(crate) fn of_range(from: i64, by: i64, upto: i64) -> Numbers
+        requires from { IsTrue (is_small from) }
+        requires upto { IsTrue (is_small upto) }
+        ensures { numbers_left result ≡ numbers_of_range from by upto }
+    {
+        Numbers {
+            from,
+            by,
+            count: count_of_range(from, by, upto),
+            place: 0,
+        }
+    }
+
+    /// The next number, where one is left.
+    pub(crate) fn next(&mut self) -> Option<i64>
+        requires { IsTrue (all_bounded (number_vals (numbers_left self.old))) }
+        ensures { MatchOption result ((numbers_left self.old ≡ []) × (numbers_left self.new ≡ []))
+            (λ n. numbers_left self.old ≡ n ∷ numbers_left self.new) }
+    {
+        if self.place >= self.count {
+            return None;
+        }
+        let number = number_at(self.from, self.by, self.place) as i64;
+        self.place += 1;
+        Some(number)
+    }
+}
 
 /// The values that are left of a list, or the numbers that are left of a range.
 #[derive(Drop)]

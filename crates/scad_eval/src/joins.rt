@@ -3,7 +3,7 @@
 ghost use Rattle.std.specs.Prelude.{◌≡◌, ℕ, map, option_map, IfOk};
 ghost use Rattle.text_place.specs.declared.fault.Stop.TheVariants.{Fault};
 ghost use Rattle.scad_design.specs.View.{plain_of};
-ghost use Rattle.scad_eval.specs.Meaning.{first_marked as first_of, made_nothing, made_of, no_members as none_of};
+ghost use Rattle.scad_meaning.specs.Meaning.{first_marked as first_of, made_nothing, made_of, no_members as none_of};
 ghost use Rattle.scad_eval.specs.Seen.{made_seen, members_seen, member_seen, apart, IsLengthened};
 
 use crate::stand::{Made, Members};

@@ -4,18 +4,19 @@ ghost use Rattle.std.specs.Prelude.{◌≡◌};
 ghost use Rattle.scad_modules.specs.Bounds.{IsSafeSolid, IsSafeFlat};
 ghost use Rattle.scad_modules.specs.View.{solid_of as solid_call, flat_of as flat_call};
 ghost use Rattle.scad_eval.specs.declared.stand.Stand.{Stand as StandIn};
-ghost use Rattle.scad_eval.specs.Verdicts.{solid_of, extruded};
-ghost use Rattle.scad_eval.specs.Meaning.{checked, leaf_made, flat_made};
+ghost use Rattle.scad_meaning.specs.Verdicts.{solid_of, extruded};
+ghost use Rattle.scad_meaning.specs.Meaning.{checked, leaf_made, flat_made};
 ghost use Rattle.scad_eval.specs.Seen.{made_seen, IsStopAt};
 ghost use Rattle.scad_eval.specs.Makings.{IsThrough, Stands, Stays, Says};
 
 use crate::joins::fault_at;
 use crate::making::Making;
-use crate::shapes::{flat_shape, solid_shape};
-use crate::stand::{Extrusion, Made, Stand};
+use crate::stand::{Made, Stand};
 use primitives::extrude;
 use scad_design::{Design, Part};
+use scad_meaning::Extrusion;
 use scad_modules::{FlatShape, SolidShape};
+use scad_pieces::{flat_shape, solid_shape};
 use shape_planes::{Shape, ShapeStop};
 use text_place::{FaultKind, Place, Stop};
 

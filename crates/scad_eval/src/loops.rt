@@ -6,7 +6,7 @@ ghost use Rattle.scad_ast.specs.StatementView.{binder_of, binders_of};
 ghost use Rattle.scad_value.specs.Values.{is_bounded};
 ghost use Rattle.scad_value.specs.View.{val_of};
 ghost use Rattle.scad_func.specs.View.{text_of};
-ghost use Rattle.scad_eval.specs.Meaning.{loop_made, each_turn, each_step, in_loop};
+ghost use Rattle.scad_meaning.specs.Meaning.{loop_made, each_turn, each_step, in_loop};
 ghost use Rattle.scad_eval.specs.Items.{left_in};
 ghost use Rattle.scad_eval.specs.Seen.{made_seen, members_seen};
 ghost use Rattle.scad_eval.specs.Makings.{Stands, Stays, Says};

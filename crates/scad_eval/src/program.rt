@@ -4,14 +4,13 @@ ghost use Rattle.std.specs.Prelude.{◌≡◌, List, IfOk, IfErr, map, option_ma
 ghost use Rattle.csg_tree.specs.ProperTrees.{IsProper};
 ghost use Rattle.csg_tree.specs.Trees.{formula_of};
 ghost use Rattle.scad_ast.specs.Terms.{StatementTerm};
-ghost use Rattle.scad_ast.specs.StatementView.{program_of};
+ghost use Rattle.scad_ast.specs.ProgramView.{program_of};
 ghost use Rattle.scad_func.specs.View.{IsTextOf, text_of};
 ghost use Rattle.scad_func.specs.Definitions.{IsWhole};
 ghost use Rattle.scad_design.specs.View.{plain_of};
-ghost use Rattle.plane_predicate.specs.declared.unit.Unit.{Unit as LengthUnit};
-ghost use Rattle.scad_eval.specs.Verdicts.{Judge};
-ghost use Rattle.scad_eval.specs.Meaning.{or_all};
-ghost use Rattle.scad_eval.specs.Sources.{IsMeaning, a_tree, IsMeaningStop, HoldsFault, TellsDesign, IsFirstTable};
+ghost use Rattle.scad_meaning.specs.Meaning.{or_all};
+ghost use Rattle.scad_meaning.specs.Sources.{IsMeaning, a_tree, IsMeaningStop, HoldsFault};
+ghost use Rattle.scad_eval.specs.Programs.{TellsDesign, IsFirstTable};
 
 use crate::making::Making;
 use crate::stand::{Members, Stand};
@@ -74,7 +73,7 @@ fn design_of(
 
 /// The first design that is marked `!`, or else all.
 fn first_or_all(alloc: Global, members: Members) -> Result<Design, NoMemory>
-    ensures { IfOk result (λ design. (in_unit : LengthUnit) (judge : Judge) → plain_of design ≡ or_all in_unit judge (option_map plain_of members.marked) (map plain_of members.designs.items)) }
+    ensures { IfOk result (λ design. plain_of design ≡ or_all (option_map plain_of members.marked) (map plain_of members.designs.items)) }
 {
     let Members { designs, marked } = members;
     match marked {

@@ -4,7 +4,7 @@ ghost use Rattle.std.specs.Prelude.{◌≡◌, ◌+◌, OnOk};
 ghost use Rattle.scad_func.specs.View.{text_of};
 ghost use Rattle.scad_func.specs.Definitions.{statements_at};
 ghost use Rattle.scad_func.specs.Evaluations.{scopes_there};
-ghost use Rattle.scad_eval.specs.Meaning.{each_in_body, body_made};
+ghost use Rattle.scad_meaning.specs.Meaning.{each_in_body, body_made};
 ghost use Rattle.scad_eval.specs.Seen.{made_seen, members_seen};
 ghost use Rattle.scad_eval.specs.Makings.{Stands, Stays, Binds, Says};
 ghost use Rattle.scad_eval.specs.Steps.{chosen_seen, block_members, IsSafeChosen};

@@ -4,13 +4,7 @@ ghost use Rattle.std.specs.Prelude.{◌≡◌, true};
 
 use scad_ast::Body;
 use scad_design::Design;
-
-/// The height through which shapes in the plane are moved, in units.
-#[derive(Clone, Copy)]
-pub struct Extrusion {
-    pub center: bool,
-    pub height: i64,
-}
+use scad_meaning::Extrusion;
 
 /// Where an instance stands: the number of its scope, the extrusion that it is inside of, and whether
 /// it is inside an instance that is marked `!`.

@@ -19,13 +19,13 @@ pub fn trimmed(raw: &[u8]) -> &[u8]
     }
 }
 
-// What stands before and after the first newline, if there is one.
-fn split_newline(bytes: &[u8]) -> Option<(&[u8], &[u8])>
-    ensures around { IfSome result (λ cut. bytes.now ≡ cut.0.now ++ 10 ∷ cut.1.now) }
-    ensures first { IfSome result (λ cut. All (λ b. b ≢ 10) cut.0.now) }
-    ensures none { IfNone result (All (λ b. b ≢ 10) bytes.now) }
+/// What stands before and after the first byte that is this one, if there is one. Takes no memory.
+pub fn split_at_byte(bytes: &[u8], at: u8) -> Option<(&[u8], &[u8])>
+    ensures around { IfSome result (λ cut. bytes.now ≡ cut.0.now ++ at ∷ cut.1.now) }
+    ensures first { IfSome result (λ cut. All (λ b. b ≢ at) cut.0.now) }
+    ensures none { IfNone result (All (λ b. b ≢ at) bytes.now) }
 {
-    let place = bytes.iter().position(|b| *b == b'\n')?;
+    let place = bytes.iter().position(|b| *b == at)?;
     Some((&bytes[..place], &bytes[place + 1..]))
 }
 
@@ -34,7 +34,7 @@ pub fn first_line(bytes: &[u8]) -> (&[u8], &[u8])
     requires { bytes.now ≢ [] }
     ensures { IsFirstLine bytes.now result.0.now result.1.now }
 {
-    match split_newline(bytes) {
+    match split_at_byte(bytes, b'\n') {
         Some((raw, rest)) => (trimmed(raw), rest),
         None => (trimmed(bytes), &[]),
     }

@@ -8,6 +8,7 @@ mod laws;
 mod reader;
 mod script;
 
+pub use cuts::split_at_byte;
 pub use fault_line::write_fault;
 pub use laws::bytes_are_one_script;
 pub use reader::read_script;

@@ -1,6 +1,6 @@
 //! The commands of one client.
 
-ghost use Rattle.std.specs.Prelude.{◌≡◌, ◌≤◌, [], length, All, None, IfOk, IfErr, OnErr, vec_capacity};
+ghost use Rattle.std.specs.Prelude.{◌≡◌, ◌+◌, ◌<◌, ◌≤◌, [], length, All, None, IfOk, IfErr, OnErr, vec_capacity};
 ghost use Rattle.script_reader.specs.declared.script.Command.TheVariants.{Show, Export};
 ghost use Rattle.script_reader.specs.Limits.{HasText};
 ghost use Rattle.edit_session.specs.Sessions.{start, source_of, refusal, accepted};
@@ -46,9 +46,13 @@ fn export<E: Exporter>(
     unit: Unit,
     session: &mut Session,
 ) -> Result<Reply, NoMemory>
-    requires { refusal session.old Export ≡ None }
+    requires may { refusal session.old Export ≡ None }
+    requires asked { E.asked exporter.old < 8192 }
+    requires can_export { E.can_export exporter.old }
     ensures exported { IfOk result (λ reply. E.exports unit (source_of session.old) reply × (session.new ≡ accepted session.old Export)) }
     ensures err { OnErr result (session.new ≡ session.old) }
+    ensures asked { E.asked exporter.new ≤ E.asked exporter.old + 1 }
+    ensures can_export { E.can_export exporter.new }
 {
     let source = session.source(alloc)?;
     let reply = exporter.export(alloc, unit, source.as_slice())?;
@@ -64,9 +68,13 @@ fn obey<E: Exporter>(
     session: &mut Session,
     command: &Command,
 ) -> Result<Reply, SessionFault>
-    requires { HasText command.now }
+    requires text { HasText command.now }
+    requires asked { E.asked exporter.old < 8192 }
+    requires can_export { E.can_export exporter.old }
     ensures done { IfOk result (λ reply. Obeys (E.exports unit) session.old command.now session.new reply) }
     ensures refused { IfErr result (λ why. Refuses session.old command.now session.new why) }
+    ensures asked { E.asked exporter.new ≤ E.asked exporter.old + 1 }
+    ensures can_export { E.can_export exporter.new }
 {
     match session.command(alloc, command)? {
         Asked::Lines(count) => Ok(Reply::Lines(count)),
@@ -83,8 +91,12 @@ fn reply_to<E: Exporter>(
     session: &mut Session,
     command: &Command,
 ) -> Reply
-    requires { HasText command.now }
-    ensures { Steps (E.exports unit) session.old command.now session.new result }
+    requires text { HasText command.now }
+    requires asked { E.asked exporter.old < 8192 }
+    requires can_export { E.can_export exporter.old }
+    ensures steps { Steps (E.exports unit) session.old command.now session.new result }
+    ensures asked { E.asked exporter.new ≤ E.asked exporter.old + 1 }
+    ensures can_export { E.can_export exporter.new }
 {
     match obey(alloc, exporter, unit, session, command) {
         Ok(reply) => reply,
@@ -93,25 +105,25 @@ fn reply_to<E: Exporter>(
     }
 }
 
-/// The replies to a client's commands, in the room that is given for them.
+/// Puts the replies to a client's commands into the room that is given for them.
 pub fn serve_client<E: Exporter>(
     alloc: Global,
     exporter: &mut E,
     unit: Unit,
     commands: &[Command],
-    room: Vec<Reply>,
-) -> Vec<Reply>
-    requires empty { room.items ≡ [] }
-    requires room { length commands.now ≤ vec_capacity room }
+    replies: &mut Vec<Reply>,
+)
+    requires empty { replies.old.items ≡ [] }
+    requires room { length commands.now ≤ vec_capacity replies.old }
     requires texts { All HasText commands.now }
-    ensures fits { Fits (E.exports unit) start commands.now result.items }
-    ensures count { length result.items ≡ length commands.now }
+    requires asked { E.asked exporter.old + length commands.now ≤ 8192 }
+    requires can_export { E.can_export exporter.old }
+    ensures fits { Fits (E.exports unit) start commands.now replies.new.items }
+    ensures count { length replies.new.items ≡ length commands.now }
 {
-    let mut replies = room;
     let mut session = Session::new(alloc);
     for command in commands {
         let reply = reply_to(alloc, exporter, unit, &mut session, command);
-        replies.push(reply).unwrap();
+        replies.push_reserved(reply);
     }
-    replies
 }

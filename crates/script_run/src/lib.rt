@@ -1,9 +1,10 @@
-//! Serves the clients of a script, one after another, by sessions and an exporter.
+//! Serves the clients of a script at the same time, each by a session and an exporter of its own.
 #![tactic(auto)]
 
 mod client;
 mod exporter;
 mod script;
+mod served;
 
 pub use exporter::Exporter;
 pub use script::run_script;

@@ -1,49 +1,71 @@
 //! The clients of a script.
 
-ghost use Rattle.std.specs.Prelude.{◌≤◌, length, All, IfOk};
+ghost use Rattle.std.specs.Prelude.{◌≡◌, ◌≤◌, [], length, All, IfOk, vec_capacity};
 ghost use Rattle.script_reader.specs.Limits.{AreWithin};
 ghost use Rattle.reply_text.specs.Answers.{AllFit};
-ghost use Rattle.script_run.specs.Rooms.{AreRooms};
+ghost use Rattle.script_run.specs.Serving.{AreWaiting, replies_of};
 
-use crate::client::serve_client;
 use crate::exporter::Exporter;
+use crate::served::{Served, Serving};
+use pair_work::work_each;
 use plane_predicate::Unit;
-use reply_text::{Replies, Reply};
+use reply_text::Replies;
 use script_reader::{ClientScript, Script};
 use std::alloc::Global;
+use std::thread::Threads;
 use text_place::NoMemory;
 
-// Room for one reply a command, for each client.
-fn rooms_for(alloc: Global, clients: &[ClientScript]) -> Result<Vec<Vec<Reply>>, NoMemory>
-    ensures { IfOk result (λ rooms. AreRooms clients.now rooms.items) }
+// Each client with its commands, and room for one reply a command.
+fn waiting(alloc: Global, clients: &[ClientScript]) -> Result<Vec<Served<'_>>, NoMemory>
+    ensures { IfOk result (λ all. AreWaiting clients.now all.items) }
 {
-    let mut rooms = Vec::new(alloc);
+    let mut all = Vec::new(alloc);
     for client in clients {
-        rooms.push(Vec::with_capacity(alloc, client.commands.items().len())?)?;
+        let commands = client.commands.items();
+        let replies = Vec::with_capacity(alloc, commands.len())?;
+        all.push(Served { commands, replies })?;
     }
-    Ok(rooms)
+    Ok(all)
 }
 
-/// The replies to the commands of each client, in the clients' order, with the lengths of sources in a unit. The room for one reply a command is
-/// taken before any command is done: so a command for which memory runs out is answered so, and its session
-/// stays as it was.
-pub fn run_script<E: Exporter>(
+// The replies of each client, in the room that is given for them.
+fn taken(clients: Vec<Served<'_>>, room: Vec<Replies>) -> Vec<Replies>
+    requires empty { room.items ≡ [] }
+    requires room { length clients.items ≤ vec_capacity room }
+    ensures { result.items ≡ replies_of clients.entry.items }
+{
+    let mut all = room;
+    for client in clients {
+        let Served { replies, .. } = client;
+        all.push_reserved(Replies::of(replies));
+    }
+    all
+}
+
+/// The replies to the commands of each client, in the clients' order, with the lengths of sources in a unit. The clients
+/// are served at the same time, each by an exporter of its own: the first exporters, in order, and the others stay as they
+/// are. The room for one reply a command is taken before any command is done: so a command for which memory runs out is
+/// answered so, and its session stays as it was.
+pub fn run_script<E: Exporter + Send, R: Threads + Sync>(
+    rt: &R,
     alloc: Global,
-    exporter: &mut E,
+    exporters: &mut [E],
     unit: Unit,
     script: &Script,
 ) -> Result<Vec<Replies>, NoMemory>
-    requires { AreWithin script.now.clients }
+    requires within { AreWithin script.now.clients }
+    requires many { length script.now.clients ≤ length exporters.old }
+    requires fresh { All (λ e. (E.asked e ≡ 0) × E.can_export e) exporters.old }
     ensures fits { IfOk result (λ replies. AllFit (E.exports unit) script.now.clients replies.items) }
     ensures few { IfOk result (λ replies. All (λ rs. length rs ≤ 8192) replies.items) }
+    ensures many { length exporters.new ≡ length exporters.old }
 {
-    let clients = script.clients.items();
-    let mut rooms = rooms_for(alloc, clients)?;
-    let mut all = Vec::with_capacity(alloc, clients.len())?;
-    for client in clients {
-        let room = rooms.remove(0);
-        let replies = serve_client(alloc, exporter, unit, client.commands.items(), room);
-        all.push(Replies::of(replies)).unwrap();
-    }
-    Ok(all)
+    let mut clients = waiting(alloc, script.clients.items())?;
+    let room = Vec::with_capacity(alloc, clients.len())?;
+    let (busy, _idle) = exporters.split_at_mut(clients.len());
+    // A thread gets the stack that the C library gives each one: that of `ulimit -s`, or 8 MiB where nothing else is
+    // set. It is enough for a solid of 1,024 planes, whose deepest merge takes less than 1 MiB, and for the deepest
+    // source, whose evaluation takes less than 7 MiB.
+    work_each(rt, &Serving { alloc, unit }, &mut clients, busy);
+    Ok(taken(clients, room))
 }

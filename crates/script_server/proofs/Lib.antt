@@ -1,3 +1,4 @@
 pub mod OneSource
 pub mod OneReply
 pub mod Refusing
+pub mod Books

@@ -4,13 +4,13 @@ use Rattle.text_place.specs.declared.fault.Stop.{Stop}
 use Rattle.text_place.specs.declared.fault.Stop.TheVariants.{Fault, NoMemory}
 use Rattle.scad_lexer.specs.declared.token.Token.{Token}
 use Rattle.scad_lexer.specs.Tokens.{Lexes, Gives}
-use Rattle.scad_ast.specs.declared.statement.Program.{Program}
+use Rattle.scad_ast.specs.declared.program.Program.{Program}
 use Rattle.scad_ast.specs.Terms.{StatementTerm}
 use Rattle.scad_parser.specs.Parsing.{IsStopOf}
 use Rattle.plane_predicate.specs.declared.unit.Unit.{Unit as LengthUnit}
 use Rattle.csg_tree.specs.declared.tree.CsgTree.{CsgTree}
 use Rattle.csg_tree.specs.Trees.{formula_of}
-use Rattle.scad_eval.specs.Sources.{a_tree, IsMeaning, IsMeaningStop}
+use Rattle.scad_meaning.specs.Sources.{a_tree, IsMeaning, IsMeaningStop}
 use Rattle.script_server.specs.Meaning.Sources.{Writes, RefusesText, Means, Refuses}
 
 pub source_refused : (source : List ℕ) (tokens : List Token) (r : Result Program Stop) → Lexes source (Gives tokens)

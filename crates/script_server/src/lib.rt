@@ -2,11 +2,15 @@
 #![tactic(auto)]
 
 mod export;
+mod exporter;
 mod meaning;
 mod program;
+mod runner;
+mod running;
 mod server;
 
 pub use meaning::{one_meaning, one_output, one_reply, own_replies, solids_pass_no_limit};
 pub use program::run_program;
+pub use running::{Finished, run_gated, run_script};
 pub use script_service::Status;
 pub use server::serve;

@@ -16,6 +16,8 @@ ghost use Rattle.tree_export.specs.Exports.{PassesNoLimit};
 ghost use Rattle.script_server.specs.Meaning.Sources.{Means, HasFault};
 ghost use Rattle.script_server.specs.Meaning.Exports.{Exports, AnswersExport};
 
+use scad_grammar::{no_program_has_a_fault, one_fault_each, one_program_each};
+use scad_lexer::one_outcome;
 use tree_export::{one_export, texts_pass_no_limit};
 
 /// In each unit a source means at most one tree, or has at most one first fault, and not both.
@@ -24,7 +26,11 @@ pub fn one_meaning()
     ensures faults { (unit : LengthUnit) (source : List ℕ) (f g : Fault) → HasFault unit source f → HasFault unit source g → f ≡ g }
     ensures either { (unit : LengthUnit) (source : List ℕ) (f : Formula) (fault : Fault) → Means unit source f → HasFault unit source fault → ⊥ }
 {
-    scad_eval::one_meaning();
+    one_outcome();
+    one_program_each();
+    no_program_has_a_fault();
+    one_fault_each();
+    scad_meaning::one_meaning();
 }
 
 /// An export is answered by a solid exactly where its source means a tree that passes no limit.

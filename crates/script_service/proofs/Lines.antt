@@ -1,17 +1,12 @@
 -- The lines behind the replies, and those of the demonstration.
-use Rattle.std.proofs.Common.{◌≡◌, ◌≢◌, ℕ, List, [], ◌∷◌, ◌++◌, length, refl, ap, arith, codes, true, false}
+use Rattle.std.proofs.Common.{◌≡◌, ◌≢◌, ℕ, List, [], ◌∷◌, ◌++◌, length, refl, ap, arith, true, false}
 use Rattle.std.specs.Prelude.{All, ◌==◌}
 use Rattle.std.proofs.lemmas.List.Elements.{All-head, All-tail}
 use Rattle.std.proofs.lemmas.Bool.Decides.{nat_tests}
-use Rattle.text_place.specs.Decimals.{numeral}
 use Rattle.script_reader.specs.declared.script.ClientScript.{ClientScript}
 use Rattle.reply_text.specs.declared.reply.Reply.{Reply}
-use Rattle.script_service.specs.Endings.{no_tally}
+use Rattle.script_service.specs.Endings.{share_lines}
 use Rattle.script_service.specs.Demos.{before, behind, export_words, last_words, demo_text}
-
-pub no_tally_is : codes "tally probes 0 hits 0 misses 0 offered 0 kept 0 heavy 0 dropped 0 evicted 0\n" ≡ no_tally
-unfolding numeral
-no_tally_is = refl
 
 same_byte : (n : ℕ) → (n == n) ≡ true
 same_byte n = grind (arith, nat_tests)
@@ -48,3 +43,8 @@ pub no_more : (clients : List ClientScript) (left : List (List Reply)) → lengt
 no_more [] left e = refl
 no_more (client ∷ clients) [] e = refl
 no_more (client ∷ clients) (r ∷ left) e = absurd (omega (arith, e))
+
+pub no_weights : (clients : List ClientScript) (left : List ℕ) → length left ≡ 0 → share_lines clients left ≡ []
+no_weights [] left e = refl
+no_weights (client ∷ clients) [] e = refl
+no_weights (client ∷ clients) (owned ∷ left) e = absurd (omega (arith, e))

@@ -4,6 +4,7 @@ use Rattle.std.specs.Io.KnownBytes.{Appends}
 use Rattle.outside_io.specs.Counts.{Rose}
 use Rattle.outside_io.specs.Moves.{AppendsProperPrefix}
 use Rattle.run_words.specs.declared.settings.Settings.{Settings}
+use Rattle.subtree_memo.specs.declared.tally.Tally.{Tally}
 use Rattle.script_reader.specs.declared.script.ScriptFault.{ScriptFault}
 use Rattle.script_reader.specs.Scripts.{IsScriptFault}
 use Rattle.script_reader.specs.FaultLines.{fault_line}
@@ -35,15 +36,17 @@ StopsOnTheWay w text status = (status ≡ NoMemory) × AppendsPart w.old w.new t
 abbrev pub Prints : Settings → Written → List ℕ → Status → Type 0
 Prints settings w text status = Ends Done w text status ⊎ (IsRun settings × StopsOnTheWay w text status)
 
--- bytes were served: their output was written, or the line of their first fault, or memory ran out before
-abbrev pub ServesBytes : (List ℕ → Reply → Type 0) → Settings → List ℕ → Written → Status → Type 0
-ServesBytes Exports settings bytes w status =
-    ((out : List ℕ) × IsOutput Exports settings bytes out × Prints settings w out status)
-    ⊎ ((fault : ScriptFault) × IsScriptFault bytes fault × Ends BadScript w (fault_line fault) status)
-    ⊎ ((status ≡ NoMemory) × w.same)
+-- `Exports` and `Books` are those of `IsOutput`
+module _ (Exports : List ℕ → Reply → Type 0) (Books : ℕ → ℕ → Tally → List ℕ → Type 0) where
+  -- bytes were served: their output was written, or the line of their first fault, or memory ran out before
+  abbrev pub ServesBytes : Settings → List ℕ → Written → Status → Type 0
+  ServesBytes settings bytes w status =
+      ((out : List ℕ) × IsOutput Exports Books settings bytes out × Prints settings w out status)
+      ⊎ ((fault : ScriptFault) × IsScriptFault bytes fault × Ends BadScript w (fault_line fault) status)
+      ⊎ ((status ≡ NoMemory) × w.same)
 
--- the input was served, or memory ran out before there was any
-abbrev pub ServesInput : (List ℕ → Reply → Type 0) → Settings → Option (List ℕ) → Option (List ℕ) → Written → Status → Type 0
-ServesInput Exports settings left left' w status =
-    ((bytes : List ℕ) × IsInput settings left left' bytes × ServesBytes Exports settings bytes w status)
-    ⊎ ((status ≡ NoMemory) × w.same)
+  -- the input was served, or memory ran out before there was any
+  abbrev pub ServesInput : Settings → Option (List ℕ) → Option (List ℕ) → Written → Status → Type 0
+  ServesInput settings left left' w status =
+      ((bytes : List ℕ) × IsInput settings left left' bytes × ServesBytes settings bytes w status)
+      ⊎ ((status ≡ NoMemory) × w.same)

@@ -5,6 +5,7 @@ use Rattle.std.specs.Io.KnownBytes.{Appends, Consumes, IsAtEnd}
 use Rattle.outside_io.specs.Moves.{AppendsProperPrefix}
 use Rattle.run_words.specs.declared.settings.Settings.{Settings}
 use Rattle.run_words.specs.declared.settings.Settings.TheVariants.{Run, Demo}
+use Rattle.subtree_memo.specs.declared.tally.Tally.{Tally}
 use Rattle.big_input.specs.DemoScript.{demo_script}
 use Rattle.script_reader.specs.declared.script.ClientScript.{ClientScript}
 use Rattle.script_reader.specs.declared.script.Script.{Script}
@@ -15,6 +16,7 @@ use Rattle.script_reader.specs.FaultLines.{fault_line}
 use Rattle.reply_text.specs.declared.reply.Reply.{Reply}
 use Rattle.reply_text.specs.Texts.{output}
 use Rattle.reply_text.specs.Answers.{AllFit}
+use Rattle.script_service.specs.Units.{memo_of, share_of}
 use Rattle.script_service.specs.Endings.{ending}
 use Rattle.script_service.specs.Demos.{demo_text}
 
@@ -38,10 +40,11 @@ abbrev pub IsWholeInput : Settings → Option (List ℕ) → Option (List ℕ) �
 IsWholeInput (Run workers memo share half tally) left left' bytes = Consumes left left' bytes × IsAtEnd left'
 IsWholeInput (Demo n) left left' bytes = bytes ≡ demo_script n
 
--- what is written for a script whose clients are given these replies
-abbrev pub printed : Settings → List ClientScript → List (List Reply) → List ℕ
-printed (Run workers memo share half tally) clients replies = output clients replies ++ ending tally share clients
-printed (Demo n) clients replies = demo_text clients replies
+-- what is written for a script whose clients are given these replies, over a memo with this tally and these weights of
+-- the clients' entries
+abbrev pub printed : Settings → List ClientScript → List (List Reply) → Tally → List ℕ → List ℕ
+printed (Run workers memo share half tally) clients replies counts owned = output clients replies ++ ending tally share clients counts owned
+printed (Demo n) clients replies counts owned = demo_text clients replies
 
 -- something of the text was appended, and not the whole
 abbrev pub AppendsPart : Option (List ℕ) → Option (List ℕ) → List ℕ → Type 0
@@ -49,13 +52,17 @@ AppendsPart old new text =
     (front : List ℕ) × (rest : List ℕ) × (front ++ rest ≡ text)
     × (0 < length front) × (0 < length rest) × Appends old new front
 
--- `Exports` relates a source to the replies to its export
-module _ (Exports : List ℕ → Reply → Type 0) where
-  -- what is written for the bytes of a script: its replies, which its clients' own commands define
+-- `Exports` relates a source to the replies to its export, and `Books` a budget and a share of a memo to what it counts in
+-- all and to what each client's entries weigh
+module _ (Exports : List ℕ → Reply → Type 0) (Books : ℕ → ℕ → Tally → List ℕ → Type 0) where
+  -- what is written for the bytes of a script: its replies, which its clients' own commands define, and what the memo of
+  -- the settings' budget and share counts and holds of each client
   abbrev pub IsOutput : Settings → List ℕ → List ℕ → Type 0
   IsOutput settings bytes out =
-      (script : Script) × (replies : List (List Reply))
-      × IsScript bytes script × AllFit Exports script.clients replies × (out ≡ printed settings script.clients replies)
+      (script : Script) × (replies : List (List Reply)) × (counts : Tally) × (owned : List ℕ)
+      × IsScript bytes script × AllFit Exports script.clients replies
+      × Books (memo_of settings) (share_of settings) counts owned × (length owned ≡ length script.clients)
+      × (out ≡ printed settings script.clients replies counts owned)
 
   -- what is written for bytes: the output of a script, or the line of the first fault
   abbrev pub IsAnswer : Settings → List ℕ → List ℕ → Type 0

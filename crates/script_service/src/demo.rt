@@ -1,32 +1,22 @@
 //! The lines of the demonstration.
 
-ghost use Rattle.std.specs.Prelude.{◌≡◌, ◌≢◌, ◌++◌, ◌∷◌, All, IfSome, IfNone, IfOk, OnOk};
+ghost use Rattle.std.specs.Prelude.{◌≡◌, ◌++◌, IfOk, OnOk};
 ghost use Rattle.script_service.specs.Demos.{before, behind, solid_words, export_words, wants_memory, last_words, demo_line, demo_text, vertex_count, face_count};
 ghost use Rattle.sha2.specs.Sha256.{sha256};
 ghost use Rattle.hex.specs.Hex.{encode_lower};
 
 use hex::encode;
 use reply_text::{Replies, Reply, push_words};
-use script_reader::ClientScript;
+use script_reader::{ClientScript, split_at_byte};
 use sha2::{Digest, Sha256};
 use std::alloc::Global;
 use text_place::NoMemory;
-
-// What stands before and after the first byte `at`, if there is one.
-fn split_first(bytes: &[u8], at: u8) -> Option<(&[u8], &[u8])>
-    ensures around { IfSome result (λ cut. bytes.now ≡ cut.0.now ++ at ∷ cut.1.now) }
-    ensures first { IfSome result (λ cut. All (λ b. b ≢ at) cut.0.now) }
-    ensures none { IfNone result (All (λ b. b ≢ at) bytes.now) }
-{
-    let place = bytes.iter().position(|b| *b == at)?;
-    Some((&bytes[..place], &bytes[place + 1..]))
-}
 
 // The bytes before the first one that is `at`, and those behind it.
 fn cut(bytes: &[u8], at: u8) -> (&[u8], &[u8])
     ensures { (result.0.now ≡ before at bytes.now) × (result.1.now ≡ behind at bytes.now) }
 {
-    match split_first(bytes, at) {
+    match split_at_byte(bytes, at) {
         Some(parts) => parts,
         None => (bytes, &[]),
     }

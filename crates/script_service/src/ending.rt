@@ -1,14 +1,53 @@
-//! The lines behind the replies of a run. No memo is asked so far, so they are those of an empty one.
+//! The lines behind the replies of a run.
 
 ghost use Rattle.std.specs.Prelude.{◌≡◌, ◌++◌, IfOk, OnOk};
-ghost use Rattle.script_service.specs.Endings.{no_tally, share_line, no_shares, ending};
+ghost use Rattle.text_place.specs.Decimals.{numeral};
+ghost use Rattle.script_service.specs.Endings.{probe_words, fill_words, tally_line, share_line, share_lines, ending};
 
+use crate::runner::Ran;
 use script_reader::ClientScript;
 use std::alloc::Global;
+use subtree_memo::Tally;
 use text_place::{NoMemory, push_decimal};
 
-const NO_TALLY: &[u8] =
-    b"tally probes 0 hits 0 misses 0 offered 0 kept 0 heavy 0 dropped 0 evicted 0\n";
+// Appends a text and a number.
+fn push_count(alloc: Global, out: &mut Vec<u8>, text: &[u8], count: u64) -> Result<(), NoMemory>
+    ensures { OnOk result (out.new.items ≡ out.old.items ++ text.now ++ numeral count) }
+{
+    out.extend_from_slice(text)?;
+    push_decimal(alloc, out, i128::from(count))
+}
+
+// Appends the numbers of probes.
+fn push_probes(alloc: Global, out: &mut Vec<u8>, tally: Tally) -> Result<(), NoMemory>
+    ensures { OnOk result (out.new.items ≡ out.old.items ++ probe_words tally) }
+{
+    push_count(alloc, out, b" probes ", tally.probes)?;
+    push_count(alloc, out, b" hits ", tally.hits)?;
+    push_count(alloc, out, b" misses ", tally.misses)
+}
+
+// Appends the numbers of fills.
+fn push_fills(alloc: Global, out: &mut Vec<u8>, tally: Tally) -> Result<(), NoMemory>
+    ensures { OnOk result (out.new.items ≡ out.old.items ++ fill_words tally) }
+{
+    push_count(alloc, out, b" offered ", tally.offered)?;
+    push_count(alloc, out, b" kept ", tally.kept)?;
+    push_count(alloc, out, b" heavy ", tally.heavy)?;
+    push_count(alloc, out, b" dropped ", tally.dropped)?;
+    push_count(alloc, out, b" evicted ", tally.evicted)
+}
+
+// Appends the line of the tally.
+fn push_tally(alloc: Global, out: &mut Vec<u8>, tally: Tally) -> Result<(), NoMemory>
+    ensures { OnOk result (out.new.items ≡ out.old.items ++ tally_line tally) }
+{
+    out.extend_from_slice(b"tally")?;
+    push_probes(alloc, out, tally)?;
+    push_fills(alloc, out, tally)?;
+    out.push(b'\n')?;
+    Ok(())
+}
 
 // Appends what a client's entries weigh.
 fn push_share(alloc: Global, out: &mut Vec<u8>, name: &[u8], owned: u64) -> Result<(), NoMemory>
@@ -16,44 +55,46 @@ fn push_share(alloc: Global, out: &mut Vec<u8>, name: &[u8], owned: u64) -> Resu
 {
     out.extend_from_slice(b"share ")?;
     out.extend_from_slice(name)?;
-    out.push(b' ')?;
-    push_decimal(alloc, out, i128::from(owned))?;
+    push_count(alloc, out, b" ", owned)?;
     out.push(b'\n')?;
     Ok(())
 }
 
-// Appends the lines of all clients, which have no entries.
-fn push_shares(alloc: Global, out: &mut Vec<u8>, clients: &[ClientScript]) -> Result<(), NoMemory>
-    ensures { OnOk result (out.new.items ≡ out.old.items ++ no_shares clients.now) }
+// Appends the line of each client, with its own weight.
+fn push_shares(
+    alloc: Global,
+    out: &mut Vec<u8>,
+    clients: &[ClientScript],
+    weights: &[u64],
+) -> Result<(), NoMemory>
+    ensures { OnOk result (out.new.items ≡ out.old.items ++ share_lines clients.now weights.now) }
 {
+    let mut left = weights;
     for client in clients {
-        push_share(alloc, out, client.name.items(), 0)?;
+        let Some((owned, more)) = left.split_first() else {
+            return Ok(());
+        };
+        push_share(alloc, out, client.name.items(), *owned)?;
+        left = more;
     }
     Ok(())
 }
 
-// Appends the line of the tally.
-fn push_tally(out: &mut Vec<u8>) -> Result<(), NoMemory>
-    ensures { OnOk result (out.new.items ≡ out.old.items ++ no_tally) }
-{
-    out.extend_from_slice(NO_TALLY)?;
-    Ok(())
-}
-
-/// The lines behind the replies: with `tally` its line, and with a share above 0 one for each client.
+/// The lines behind the replies: with `tally` that of the memo's counts, and with a share above 0 one for each client.
 pub fn ending_lines(
     alloc: Global,
     tally: bool,
     share: u64,
     clients: &[ClientScript],
+    ran: &Ran,
 ) -> Result<Vec<u8>, NoMemory>
-    ensures { IfOk result (λ lines. lines.items ≡ ending tally share clients.now) }
+    ensures { IfOk result (λ lines. lines.items ≡ ending tally share clients.now ran.now.tally ran.now.owned.items) }
 {
     let mut lines = Vec::new(alloc);
     if tally {
-        push_tally(&mut lines)?;
+        push_tally(alloc, &mut lines, ran.tally)?;
         if 0 < share {
-            push_shares(alloc, &mut lines, clients)?;
+            push_shares(alloc, &mut lines, clients, &ran.owned)?;
         }
     }
     Ok(lines)

@@ -1,4 +1,4 @@
-//! The call that does all that the program does, for any exporter.
+//! The call that does all that the program does, for any runner.
 
 ghost use Rattle.std.specs.Prelude.{◌≡◌, ◌≢◌, ◌≤◌, ◌⊎◌, ◌++◌, [], ℕ, length, All, map, string_bytes, IfSome};
 ghost use Rattle.std.specs.Io.KnownBytes.{Appends};
@@ -13,7 +13,7 @@ ghost use Rattle.script_reader.specs.Scripts.{IsScript};
 ghost use Rattle.script_reader.specs.FaultLines.{fault_line};
 ghost use Rattle.reply_text.specs.Texts.{output};
 ghost use Rattle.reply_text.specs.Answers.{AllFit};
-ghost use Rattle.script_service.specs.Units.{unit_of as unit_chosen};
+ghost use Rattle.script_service.specs.Units.{unit_of};
 ghost use Rattle.script_service.specs.Endings.{ending};
 ghost use Rattle.script_service.specs.Demos.{demo_text};
 ghost use Rattle.script_service.specs.Serving.{usage_line, IsRun, printed, Serves, BreaksOff, Begins, RefusesScript, IsScriptOf, IsNoScript};
@@ -21,18 +21,19 @@ ghost use Rattle.script_service.specs.Outcomes.{Written, Ends, StopsOnTheWay, Pr
 
 use crate::demo::demo_lines;
 use crate::ending::ending_lines;
+use crate::how::How;
+use crate::runner::{Ran, Runner};
 use crate::status::Status;
 use big_input::{demo_scripts_have_no_fault, make_script};
 use outside_io::{ReadEnd, Sink, Source, read_to_end, write_all};
-use plane_predicate::Unit;
-use reply_text::Replies;
 use run_words::{Settings, read_words};
 use script_output::{OutputEnd, write_output};
 use script_reader::{
     ClientScript, Script, ScriptFault, bytes_are_one_script, read_script, write_fault,
 };
-use script_run::{Exporter, run_script};
 use std::alloc::Global;
+use std::sync::Wait;
+use std::thread::Threads;
 
 // How the program is called.
 const USAGE: &[u8] =
@@ -70,18 +71,18 @@ fn write_run<K: Sink>(
     tally: bool,
     share: u64,
     clients: &[ClientScript],
-    replies: &[Replies],
+    ran: &Ran,
     sink: &mut K,
 ) -> Status
-    requires { All (λ rs. length rs ≤ 8192) replies.now }
-    ensures ends { Ends Status.Done (record { old = K.held sink.old; new = K.held sink.new; before = K.faults sink.old; now = K.faults sink.new; same = sink.new ≡ sink.old }) (output clients.now replies.now ++ ending tally share clients.now) result
-        ⊎ StopsOnTheWay (record { old = K.held sink.old; new = K.held sink.new; before = K.faults sink.old; now = K.faults sink.new; same = sink.new ≡ sink.old }) (output clients.now replies.now ++ ending tally share clients.now) result }
+    requires { All (λ rs. length rs ≤ 8192) ran.now.replies.items }
+    ensures ends { Ends Status.Done (record { old = K.held sink.old; new = K.held sink.new; before = K.faults sink.old; now = K.faults sink.new; same = sink.new ≡ sink.old }) (output clients.now ran.now.replies.items ++ ending tally share clients.now ran.now.tally ran.now.owned.items) result
+        ⊎ StopsOnTheWay (record { old = K.held sink.old; new = K.held sink.new; before = K.faults sink.old; now = K.faults sink.new; same = sink.new ≡ sink.old }) (output clients.now ran.now.replies.items ++ ending tally share clients.now ran.now.tally ran.now.owned.items) result }
     ensures later { K.faults sink.old ≤ K.faults sink.new }
 {
-    let Ok(lines) = ending_lines(alloc, tally, share, clients) else {
+    let Ok(lines) = ending_lines(alloc, tally, share, clients, ran) else {
         return Status::NoMemory;
     };
-    match write_output(alloc, sink, clients, replies, lines.as_slice()) {
+    match write_output(alloc, sink, clients, &ran.replies, lines.as_slice()) {
         Ok(()) => Status::Done,
         Err(OutputEnd::Failed) => Status::WriteFault,
         Err(OutputEnd::NoMemory) => Status::NoMemory,
@@ -89,60 +90,45 @@ fn write_run<K: Sink>(
 }
 
 // Writes the lines of the demonstration.
-fn write_demo<K: Sink>(
-    alloc: Global,
-    clients: &[ClientScript],
-    replies: &[Replies],
-    sink: &mut K,
-) -> Status
-    ensures ends { Ends Status.Done (record { old = K.held sink.old; new = K.held sink.new; before = K.faults sink.old; now = K.faults sink.new; same = sink.new ≡ sink.old }) (demo_text clients.now replies.now) result }
+fn write_demo<K: Sink>(alloc: Global, clients: &[ClientScript], ran: &Ran, sink: &mut K) -> Status
+    ensures ends { Ends Status.Done (record { old = K.held sink.old; new = K.held sink.new; before = K.faults sink.old; now = K.faults sink.new; same = sink.new ≡ sink.old }) (demo_text clients.now ran.now.replies.items) result }
     ensures later { K.faults sink.old ≤ K.faults sink.new }
 {
-    match demo_lines(alloc, clients, replies) {
+    match demo_lines(alloc, clients, &ran.replies) {
         Ok(lines) => finish(sink, lines.as_slice(), Status::Done),
         Err(_) => Status::NoMemory,
     }
 }
 
-// Writes what is to be written for a script whose clients are given these replies.
-fn write_replies<K: Sink>(
+// Writes what is to be written for a script whose clients ran.
+fn write_ran<K: Sink>(
     alloc: Global,
     settings: Settings,
     clients: &[ClientScript],
-    replies: &[Replies],
+    ran: &Ran,
     sink: &mut K,
 ) -> Status
-    requires { All (λ rs. length rs ≤ 8192) replies.now }
-    ensures ends { Prints settings (record { old = K.held sink.old; new = K.held sink.new; before = K.faults sink.old; now = K.faults sink.new; same = sink.new ≡ sink.old }) (printed settings clients.now replies.now) result }
+    requires { All (λ rs. length rs ≤ 8192) ran.now.replies.items }
+    ensures ends { Prints settings (record { old = K.held sink.old; new = K.held sink.new; before = K.faults sink.old; now = K.faults sink.new; same = sink.new ≡ sink.old }) (printed settings clients.now ran.now.replies.items ran.now.tally ran.now.owned.items) result }
     ensures later { K.faults sink.old ≤ K.faults sink.new }
 {
     match settings {
-        Settings::Run { share, tally, .. } => {
-            write_run(alloc, tally, share, clients, replies, sink)
-        }
-        Settings::Demo(_) => write_demo(alloc, clients, replies, sink),
-    }
-}
-
-// The unit of the run's lengths.
-fn unit_of(settings: Settings) -> Unit
-    ensures { result ≡ unit_chosen settings }
-{
-    match settings {
-        Settings::Run { half: true, .. } => Unit::Half,
-        Settings::Run { .. } | Settings::Demo(_) => Unit::Whole,
+        Settings::Run { share, tally, .. } => { write_run(alloc, tally, share, clients, ran, sink) }
+        Settings::Demo(_) => write_demo(alloc, clients, ran, sink),
     }
 }
 
 // Serves the bytes of a script, or refuses them.
-fn serve_bytes<E: Exporter, K: Sink>(
+fn serve_bytes<W: Runner, R: Threads + Wait + Sync, K: Sink>(
+    rt: &R,
     alloc: Global,
-    exporter: &mut E,
+    runner: &W,
     settings: Settings,
     bytes: &[u8],
     sink: &mut K,
 ) -> Status
-    ensures served { ServesBytes (E.exports (unit_chosen settings)) settings bytes.now (record { old = K.held sink.old; new = K.held sink.new; before = K.faults sink.old; now = K.faults sink.new; same = sink.new ≡ sink.old }) result }
+    requires { AreInRange settings }
+    ensures served { ServesBytes (W.exports (unit_of settings)) W.books settings bytes.now (record { old = K.held sink.old; new = K.held sink.new; before = K.faults sink.old; now = K.faults sink.new; same = sink.new ≡ sink.old }) result }
     ensures later { K.faults sink.old ≤ K.faults sink.new }
 {
     let script = match read_script(alloc, bytes) {
@@ -150,27 +136,28 @@ fn serve_bytes<E: Exporter, K: Sink>(
         Err(ScriptFault::NoMemory) => return Status::NoMemory,
         Err(fault) => return refuse(alloc, fault, sink),
     };
-    match run_script(alloc, exporter, unit_of(settings), &script) {
-        Ok(replies) => write_replies(alloc, settings, script.clients.items(), &replies, sink),
+    match runner.run(rt, alloc, How::of(settings), &script) {
+        Ok(ran) => write_ran(alloc, settings, script.clients.items(), &ran, sink),
         Err(_) => Status::NoMemory,
     }
 }
 
 // Serves the script of the source.
-fn serve_run<E: Exporter, S: Source, K: Sink>(
+fn serve_run<W: Runner, R: Threads + Wait + Sync, S: Source, K: Sink>(
+    rt: &R,
     alloc: Global,
-    exporter: &mut E,
+    runner: &W,
     settings: Settings,
     source: &mut S,
     sink: &mut K,
 ) -> Status
-    requires { IsRun settings }
+    requires { IsRun settings × AreInRange settings }
     ensures read_fault { result ≡ Status.ReadFault → Rose (S.faults source.old) (S.faults source.new) × (sink.new ≡ sink.old) }
-    ensures served { (result ≡ Status.ReadFault) ⊎ ServesInput (E.exports (unit_chosen settings)) settings (S.left source.old) (S.left source.new) (record { old = K.held sink.old; new = K.held sink.new; before = K.faults sink.old; now = K.faults sink.new; same = sink.new ≡ sink.old }) result }
+    ensures served { (result ≡ Status.ReadFault) ⊎ ServesInput (W.exports (unit_of settings)) W.books settings (S.left source.old) (S.left source.new) (record { old = K.held sink.old; new = K.held sink.new; before = K.faults sink.old; now = K.faults sink.new; same = sink.new ≡ sink.old }) result }
     ensures counts { (S.faults source.old ≤ S.faults source.new) × (K.faults sink.old ≤ K.faults sink.new) }
 {
     match read_to_end(alloc, source, SCRIPT_BYTES) {
-        Ok(bytes) => serve_bytes(alloc, exporter, settings, bytes.as_slice(), sink),
+        Ok(bytes) => serve_bytes(rt, alloc, runner, settings, bytes.as_slice(), sink),
         Err(ReadEnd::TooLarge) => refuse(alloc, ScriptFault::TooLarge, sink),
         Err(ReadEnd::Failed) => Status::ReadFault,
         Err(ReadEnd::NoMemory) => Status::NoMemory,
@@ -178,23 +165,25 @@ fn serve_run<E: Exporter, S: Source, K: Sink>(
 }
 
 // Serves the script of the demonstration.
-fn serve_demo<E: Exporter, K: Sink>(
+fn serve_demo<W: Runner, R: Threads + Wait + Sync, K: Sink>(
+    rt: &R,
     alloc: Global,
-    exporter: &mut E,
+    runner: &W,
     parts: u64,
     sink: &mut K,
 ) -> Status
     requires { (1 ≤ parts) × (parts ≤ 200) }
     ensures whole { result ≢ Status.BadScript }
-    ensures served { (ServesBytes (E.exports (unit_chosen (settings.Demo parts))) (settings.Demo parts) (demo_script parts) (record { old = K.held sink.old; new = K.held sink.new; before = K.faults sink.old; now = K.faults sink.new; same = sink.new ≡ sink.old }) result) }
+    ensures served { (ServesBytes (W.exports (unit_of (settings.Demo parts))) W.books (settings.Demo parts) (demo_script parts) (record { old = K.held sink.old; new = K.held sink.new; before = K.faults sink.old; now = K.faults sink.new; same = sink.new ≡ sink.old }) result) }
     ensures later { K.faults sink.old ≤ K.faults sink.new }
 {
     demo_scripts_have_no_fault();
     bytes_are_one_script();
     match make_script(alloc, parts as u32) {
         Ok(bytes) => serve_bytes(
+            rt,
             alloc,
-            exporter,
+            runner,
             Settings::Demo(parts),
             bytes.as_slice(),
             sink,
@@ -204,21 +193,22 @@ fn serve_demo<E: Exporter, K: Sink>(
 }
 
 // Serves what the settings ask for.
-fn serve_chosen<E: Exporter, S: Source, K: Sink>(
+fn serve_chosen<W: Runner, R: Threads + Wait + Sync, S: Source, K: Sink>(
+    rt: &R,
     alloc: Global,
-    exporter: &mut E,
+    runner: &W,
     settings: Settings,
     source: &mut S,
     sink: &mut K,
 ) -> Status
     requires { AreInRange settings }
-    ensures done { result ≡ Status.Done → Serves (E.exports (unit_chosen settings)) settings (S.left source.old) (S.left source.new) (K.held sink.old) (K.held sink.new) }
+    ensures done { result ≡ Status.Done → Serves (W.exports (unit_of settings)) W.books settings (S.left source.old) (S.left source.new) (K.held sink.old) (K.held sink.new) }
     ensures bad_script { result ≡ Status.BadScript → RefusesScript settings (S.left source.old) (S.left source.new) (K.held sink.old) (K.held sink.new) }
     ensures read_fault { result ≡ Status.ReadFault → IsRun settings × Rose (S.faults source.old) (S.faults source.new) × (sink.new ≡ sink.old) }
     ensures write_fault { result ≡ Status.WriteFault → Rose (K.faults sink.old) (K.faults sink.new)
-        × BreaksOff (E.exports (unit_chosen settings)) settings (S.left source.old) (S.left source.new) (K.held sink.old) (K.held sink.new) }
+        × BreaksOff (W.exports (unit_of settings)) W.books settings (S.left source.old) (S.left source.new) (K.held sink.old) (K.held sink.new) }
     ensures no_memory { result ≡ Status.NoMemory → (sink.new ≡ sink.old)
-        ⊎ (IsRun settings × Begins (E.exports (unit_chosen settings)) settings (S.left source.old) (S.left source.new) (K.held sink.old) (K.held sink.new)) }
+        ⊎ (IsRun settings × Begins (W.exports (unit_of settings)) W.books settings (S.left source.old) (S.left source.new) (K.held sink.old) (K.held sink.new)) }
     ensures counts { (S.faults source.old ≤ S.faults source.new) × (K.faults sink.old ≤ K.faults sink.new) }
     ensures words { result ≢ Status.BadWords }
     ensures complete { (Rose (S.faults source.old) (S.faults source.new) → ⊥) → (Rose (K.faults sink.old) (K.faults sink.new) → ⊥)
@@ -230,23 +220,24 @@ fn serve_chosen<E: Exporter, S: Source, K: Sink>(
 {
     bytes_are_one_script();
     match settings {
-        Settings::Run { .. } => serve_run(alloc, exporter, settings, source, sink),
-        Settings::Demo(parts) => serve_demo(alloc, exporter, parts, sink),
+        Settings::Run { .. } => serve_run(rt, alloc, runner, settings, source, sink),
+        Settings::Demo(parts) => serve_demo(rt, alloc, runner, parts, sink),
     }
 }
 
-/// Does all that the program does, with an exporter: reads the words, serves the script of the source or of the
+/// Does all that the program does, with a runner: reads the words, serves the script of the source or of the
 /// demonstration, and writes what is to be written to the sink.
-pub fn serve_with<E: Exporter, S: Source, K: Sink>(
+pub fn serve_with<W: Runner, R: Threads + Wait + Sync, S: Source, K: Sink>(
+    rt: &R,
     alloc: Global,
-    exporter: &mut E,
+    runner: &W,
     words: &[String],
     source: &mut S,
     sink: &mut K,
 ) -> Status
     // Whatever is read and written, each client's replies are those that its own commands define.
     ensures done { result ≡ Status.Done → (settings : Settings) × Chooses (map string_bytes words.now) settings
-        × Serves (E.exports (unit_chosen settings)) settings (S.left source.old) (S.left source.new) (K.held sink.old) (K.held sink.new) }
+        × Serves (W.exports (unit_of settings)) W.books settings (S.left source.old) (S.left source.new) (K.held sink.old) (K.held sink.new) }
 
     // Words that are outside the grammar, and they alone, are answered by the usage line, and then nothing is read.
     ensures bad_words { result ≡ Status.BadWords → AreOutside (map string_bytes words.now)
@@ -263,10 +254,10 @@ pub fn serve_with<E: Exporter, S: Source, K: Sink>(
         × IsRun settings × Rose (S.faults source.old) (S.faults source.new) × (sink.new ≡ sink.old) }
     ensures write_fault { result ≡ Status.WriteFault → Rose (K.faults sink.old) (K.faults sink.new) }
     ensures output_cut { (settings : Settings) → Chooses (map string_bytes words.now) settings → result ≡ Status.WriteFault
-        → BreaksOff (E.exports (unit_chosen settings)) settings (S.left source.old) (S.left source.new) (K.held sink.old) (K.held sink.new) }
+        → BreaksOff (W.exports (unit_of settings)) W.books settings (S.left source.old) (S.left source.new) (K.held sink.old) (K.held sink.new) }
     ensures no_memory { result ≡ Status.NoMemory → (sink.new ≡ sink.old)
         ⊎ ((settings : Settings) × Chooses (map string_bytes words.now) settings × IsRun settings
-        × Begins (E.exports (unit_chosen settings)) settings (S.left source.old) (S.left source.new) (K.held sink.old) (K.held sink.new)) }
+        × Begins (W.exports (unit_of settings)) W.books settings (S.left source.old) (S.left source.new) (K.held sink.old) (K.held sink.new)) }
     ensures counts { (S.faults source.old ≤ S.faults source.new) × (K.faults sink.old ≤ K.faults sink.new) }
 
     // Where no count of faults rose, a script is served and other bytes are refused, unless memory ran out.
@@ -285,7 +276,7 @@ pub fn serve_with<E: Exporter, S: Source, K: Sink>(
         → result ≢ Status.BadScript }
 {
     match read_words(words) {
-        Ok(settings) => serve_chosen(alloc, exporter, settings, source, sink),
+        Ok(settings) => serve_chosen(rt, alloc, runner, settings, source, sink),
         Err(_) => finish(sink, USAGE, Status::BadWords),
     }
 }

@@ -2,6 +2,8 @@
 #![tactic(auto)]
 
 #[cfg(test)]
+mod box_runner;
+#[cfg(test)]
 mod demonstration;
 #[cfg(test)]
 mod faults;

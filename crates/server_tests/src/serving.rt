@@ -1,16 +1,11 @@
 ghost use Rattle.std.specs.Prelude.{◌<◌};
 
 use outside_io::{MemorySink, MemorySource};
-use plane_predicate::Unit;
-use reply_text::Reply;
-use script_run::Exporter;
 use script_server::{Status, serve};
-use script_service::serve_with;
 use std::alloc::Global;
 use std::sync::Wait;
 use std::test::Fail;
 use std::thread::Threads;
-use text_place::{Bytes, NoMemory};
 
 const USAGE_LINE: &str =
     "usage: scadserve run [--workers N] [--memo W] [--share S] [--half] [--tally] | demo N\n";
@@ -355,42 +350,6 @@ c7 {counts} sha256 {two}\nc8 {counts} sha256 {three}\n"
         assert!(rt; ended == Status::Done);
         assert_eq!(rt; held.as_slice(), told.as_bytes(), "at {parts}");
     }
-    Ok(())
-}
-
-// An exporter that answers each export by the text of one box.
-#[derive(Drop)]
-struct OneBox;
-
-impl Exporter for OneBox {
-    ghost use Rattle.std.specs.Prelude.{⊤};
-
-    ghost exports = { λ _ _ _. ⊤ };
-
-    fn export(&mut self, alloc: Global, _unit: Unit, _source: &[u8]) -> Result<Reply, NoMemory> {
-        Ok(Reply::Solid(Bytes::of(Vec::from_slice(alloc, BOX_TEXT)?)))
-    }
-}
-
-const BOX_TEXT: &[u8] =
-    b"4OFF\n8 6 0\n0 0 0 1\n0 0 3 1\n0 2 3 1\n0 2 0 1\n1 0 0 1\n1 2 0 1\n1 2 3 1\n1 0 3 1\n\
-4 0 1 2 3\n4 4 5 6 7\n4 0 4 7 1\n4 3 2 6 5\n4 0 3 5 4\n4 1 7 6 2\n";
-
-#[test]
-fn the_demonstration_tells_digests(rt: HostRuntime) -> Result<(), Fail> {
-    let alloc = rt.alloc();
-    let mut words = Vec::new(alloc);
-    words.push(String::from_str(alloc, "demo")?)?;
-    words.push(String::from_str(alloc, "007")?)?;
-    let mut source = MemorySource::new(Vec::new(alloc), Vec::new(alloc), 1);
-    let mut sink = MemorySink::new(alloc, 4096, Vec::new(alloc), 7)?;
-    let ended = serve_with(alloc, &mut OneBox, &words, &mut source, &mut sink);
-    assert!(rt; ended == Status::Done);
-    assert!(rt;
-        sink.held().starts_with(
-            b"c1 facets 6 vertices 8 sha256 72eaa4a79b5848d9eb7c73cfca19d973d33b25118c833e29d4a27202421b43be\nc2 facets 6 vertices 8 sha256 ".as_slice()
-        )
-    );
     Ok(())
 }
 

@@ -1,9 +1,15 @@
 -- What the export of a tree gives: the first limit that it passes, or else the text of its boundary.
-use Rattle.std.specs.Prelude.{◌≡◌, ℕ, ◌<◌, ◌≤◌, List, ◌++◌, length, codes, ◌⊎◌}
+use Rattle.std.specs.Prelude.{◌≡◌, ℕ, ◌<◌, ◌≤◌, List, ◌++◌, length, codes, ◌⊎◌, Result, IfOk, OnOk, IfErr}
+use Rattle.std.specs.Arc.{arc_value}
+use Rattle.std.specs.Global.{Global}
+use Rattle.std.specs.declared.sync.Arc.{Arc}
 use Rattle.plane_predicate.specs.declared.unit.Unit.{Unit as LengthUnit}
 use Rattle.plane_polygon.specs.Polygons.{Outline}
 use Rattle.csg_tree.specs.Formulas.{Formula}
 use Rattle.csg_tree.specs.Numberings.{nodes_of}
+use Rattle.bsp_tree.specs.declared.Solid.{Solid}
+use Rattle.bsp_tree.specs.Shapes.{tree_of}
+use Rattle.bsp_boolean.specs.declared.tree_solids.TreeStop.{TreeStop}
 use Rattle.bsp_boolean.specs.declared.tree_solids.TreeStop.TheVariants.{TooBig, SumTooBig}
 use Rattle.bsp_boolean.specs.Solids.{solid_of}
 use Rattle.bsp_boolean.specs.TreeSolids.{AreWithin, IsTreeStop}
@@ -26,6 +32,13 @@ abbrev pub IsFirstPassed : List Formula → Complex → Type 0
 IsFirstPassed trees (limit.Solid number) = IsTreeStop trees (TooBig number)
 IsFirstPassed trees (limit.Sum number) = IsTreeStop trees (SumTooBig number)
 IsFirstPassed trees _ = ⊥
+
+-- the solid of a tree whose distinct subtrees are within the limits of size, or the first of them that passes one
+abbrev pub IsMade : Formula → Result (Arc Solid Global) TreeStop → Type 0
+IsMade tree made =
+    IfOk made (λ solid. tree_of (arc_value solid) ≡ solid_of tree)
+    × OnOk made (AreWithin (nodes_of tree))
+    × IfErr made (IsTreeStop (nodes_of tree))
 
 -- more than 200,000 corners, or more than 60,000 vertices, or the text
 abbrev pub IsWritten : LengthUnit → List Outline → Exported → Type 0

@@ -1,15 +1,17 @@
 //! What the export of a tree gives.
 
 ghost use Rattle.std.specs.Prelude.{◌≡◌, IfOk, IfErr, OnOk};
+ghost use Rattle.std.specs.Arc.{arc_value};
 ghost use Rattle.csg_tree.specs.Formulas.{Formula};
 ghost use Rattle.csg_tree.specs.ProperTrees.{IsProper};
 ghost use Rattle.csg_tree.specs.Numberings.{nodes_of};
 ghost use Rattle.csg_tree.specs.Trees.{formula_of};
 ghost use Rattle.bsp_tree.specs.Shapes.{tree_of};
+ghost use Rattle.bsp_tree.specs.Trees.{outside};
 ghost use Rattle.bsp_boolean.specs.Solids.{solid_of};
 ghost use Rattle.bsp_boolean.specs.TreeSolids.{AreWithin, IsTreeStop};
 ghost use Rattle.facet_cut.specs.Facets.{facets_of};
-ghost use Rattle.tree_export.specs.Exports.{IsWritten, IsCut, IsExported, Bounds};
+ghost use Rattle.tree_export.specs.Exports.{IsWritten, IsCut, IsExported, Bounds, IsMade};
 
 use bsp_boolean::{PlainBuilder, TreeStop, tree_solid};
 use bsp_tree::Solid;
@@ -19,6 +21,7 @@ use off_text::{OffStop, off_bytes};
 use plane_predicate::Unit;
 use reply_text::Complex;
 use std::alloc::Global;
+use std::sync::Arc;
 use text_place::{Bytes, NoMemory};
 
 // The most facets of an export.
@@ -58,35 +61,71 @@ fn cut(alloc: Global, solid: &Solid, unit: Unit) -> Result<Exported, NoMemory>
     }
 }
 
-// The solid of a tree, by way of its distinct subtrees. Nothing has none.
-fn solid_within(alloc: Global, tree: &CsgTree) -> Result<Solid, TreeStop>
-    requires { IsProper (formula_of tree.now) }
-    ensures solid { IfOk result (λ s. tree_of s ≡ solid_of (formula_of tree.now)) }
-    ensures within { OnOk result (AreWithin (nodes_of (formula_of tree.now))) }
-    ensures stop { IfErr result (IsTreeStop (nodes_of (formula_of tree.now))) }
+// A value that many can share.
+fn shared<T: Drop>(alloc: Global, value: T) -> Result<Arc<T>, NoMemory>
+    ensures { IfOk result (λ r. arc_value r ≡ value) }
 {
-    let store = CsgStore::intern(alloc, tree)?;
-    if store.len() == 0 {
-        return Ok(Solid::Out);
-    }
-    tree_solid(alloc, &store, &mut PlainBuilder::new())
+    Ok(Arc::new(alloc, value)?)
 }
 
-/// The export of a proper tree, whose planes are in grid steps, as a text in units.
+/// The distinct subtrees of a proper tree, in order of number, as nodes that many can share. Nothing has none.
+pub fn nodes_of_tree(alloc: Global, tree: &CsgTree) -> Result<Arc<CsgStore>, NoMemory>
+    requires { IsProper (formula_of tree.now) }
+    ensures { IfOk result (λ store. arc_value store ≡ nodes_of (formula_of tree.now)) }
+{
+    shared(alloc, CsgStore::intern(alloc, tree)?)
+}
+
+/// The solid of Nothing, which has no nodes.
+pub fn solid_of_nothing(alloc: Global) -> Result<Arc<Solid>, NoMemory>
+    ensures { IfOk result (λ s. tree_of (arc_value s) ≡ outside) }
+{
+    shared(alloc, Solid::Out)
+}
+
+/// The export of a tree as a text in units, from the solid of its last node or the first node that passes a limit of size.
 ///
 /// `Complex` tells the first limit that is passed: at the first node in order of number at which either is passed,
 /// that the node's solid is above 50,000 in size, or else that the solids up to it are above 500,000 together; then
 /// more than 20,000 facets, more than 200,000 corners, more than 60,000 vertices. Where none is passed it is the text.
-pub fn export_tree(alloc: Global, tree: &CsgTree, unit: Unit) -> Result<Exported, NoMemory>
-    requires { IsProper (formula_of tree.now) }
-    ensures exported { IfOk result (IsExported unit (formula_of tree.now)) }
+pub fn export_made(
+    alloc: Global,
+    made: Result<Arc<Solid>, TreeStop>,
+    unit: Unit,
+) -> Result<Exported, NoMemory>
+    ensures exported { (f : Formula) → IsMade f made → IfOk result (IsExported unit f) }
     // A text is the boundary of the tree.
-    ensures boundary { IfOk result (Bounds unit (formula_of tree.now)) }
+    ensures boundary { (f : Formula) → IsProper f → IsMade f made → IfOk result (Bounds unit f) }
 {
-    match solid_within(alloc, tree) {
+    match made {
         Ok(solid) => cut(alloc, &solid, unit),
         Err(TreeStop::TooBig(number)) => Ok(Exported::Complex(Complex::Solid(number))),
         Err(TreeStop::SumTooBig(number)) => Ok(Exported::Complex(Complex::Sum(number))),
         Err(TreeStop::NoMemory) => Err(NoMemory),
     }
+}
+
+// The solid of a tree, by way of its distinct subtrees.
+fn solid_within(alloc: Global, tree: &CsgTree) -> Result<Arc<Solid>, TreeStop>
+    requires { IsProper (formula_of tree.now) }
+    ensures solid { IfOk result (λ s. tree_of (arc_value s) ≡ solid_of (formula_of tree.now)) }
+    ensures within { OnOk result (AreWithin (nodes_of (formula_of tree.now))) }
+    ensures stop { IfErr result (IsTreeStop (nodes_of (formula_of tree.now))) }
+{
+    let store = nodes_of_tree(alloc, tree)?;
+    if store.len() == 0 {
+        return Ok(solid_of_nothing(alloc)?);
+    }
+    let solid = tree_solid(alloc, &store, &mut PlainBuilder::new())?;
+    Ok(shared(alloc, solid)?)
+}
+
+/// The export of a proper tree, whose planes are in grid steps, without a memo: `export_made` of its solid.
+pub fn export_tree(alloc: Global, tree: &CsgTree, unit: Unit) -> Result<Exported, NoMemory>
+    requires { IsProper (formula_of tree.now) }
+    ensures exported { IfOk result (IsExported unit (formula_of tree.now)) }
+    ensures boundary { IfOk result (Bounds unit (formula_of tree.now)) }
+{
+    let made = solid_within(alloc, tree);
+    export_made(alloc, made, unit)
 }

@@ -1,9 +1,13 @@
 //! Laws of exports, for the crates above. They are proved, and do nothing when they run.
 
-ghost use Rattle.std.specs.Prelude.{◌≡◌, ◌≤◌, ◌↔◌, ℕ, List, length};
+ghost use Rattle.std.specs.Prelude.{◌≡◌, ◌<◌, ◌≤◌, ◌↔◌, ℕ, List, length};
 ghost use Rattle.plane_predicate.specs.declared.unit.Unit.{Unit as LengthUnit};
 ghost use Rattle.plane_predicate.specs.Space.{Coefficients};
 ghost use Rattle.csg_tree.specs.Formulas.{Formula, nothing, leaf};
+ghost use Rattle.csg_tree.specs.Numberings.{nodes_of, tree_numbered};
+ghost use Rattle.bsp_tree.specs.Trees.{outside};
+ghost use Rattle.bsp_boolean.specs.Solids.{solid_of};
+ghost use Rattle.bsp_boolean.specs.TreeSolids.{AreWithin};
 ghost use Rattle.tree_export.specs.declared.export.Exported.{Exported};
 ghost use Rattle.tree_export.specs.declared.export.Exported.TheVariants as exported;
 ghost use Rattle.tree_export.specs.Exports.{empty_text, IsText, IsExported, PassesNoLimit};
@@ -26,4 +30,11 @@ pub fn nothing_has_the_empty_text()
 /// A leaf of at most eight planes passes no limit.
 pub fn small_leaves_are_texts()
     ensures { (unit : LengthUnit) (planes : List Coefficients) (out : Exported) → length planes ≤ 8 → IsExported unit (leaf planes) out → IsText out }
+{}
+
+/// The solid of a tree's last node is that of the tree, and a tree without nodes has the empty solid.
+pub fn last_nodes_are_trees()
+    ensures last { (tree : Formula) → 0 < length (nodes_of tree) → solid_of (tree_numbered (nodes_of tree) (length (nodes_of tree))) ≡ solid_of tree }
+    ensures none { (tree : Formula) → length (nodes_of tree) ≡ 0 → outside ≡ solid_of tree }
+    ensures within { (tree : Formula) → length (nodes_of tree) ≡ 0 → AreWithin (nodes_of tree) }
 {}

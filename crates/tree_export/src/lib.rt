@@ -4,7 +4,8 @@
 mod export;
 mod laws;
 
-pub use export::{Exported, export_tree};
+pub use export::{Exported, export_made, export_tree, nodes_of_tree, solid_of_nothing};
 pub use laws::{
-    nothing_has_the_empty_text, one_export, small_leaves_are_texts, texts_pass_no_limit,
+    last_nodes_are_trees, nothing_has_the_empty_text, one_export, small_leaves_are_texts,
+    texts_pass_no_limit,
 };

@@ -10,7 +10,7 @@ use Rattle.scad_lexer.specs.Tokens.{Lexes, Gives, Faults}
 use Rattle.scad_ast.specs.Terms.{StatementTerm}
 use Rattle.scad_grammar.specs.Grammar.{Program}
 use Rattle.scad_parser.specs.Parsing.{HasFault as HasSyntaxFault}
-use Rattle.scad_eval.specs.Sources.{a_tree, a_fault, IsMeaning}
+use Rattle.scad_meaning.specs.Sources.{a_tree, a_fault, IsMeaning}
 
 -- the source's tokens are the program's, at most 64 deep
 abbrev pub Writes : List ℕ → List StatementTerm → Type 0

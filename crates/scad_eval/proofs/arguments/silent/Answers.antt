@@ -1,7 +1,7 @@
 use Rattle.std.proofs.Common.{sym, ap, ◌∙◌, if◌then◌else◌}
 use Rattle.text_place.specs.declared.fault.FaultKind.TheVariants.{NotInProfile}
 use Rattle.scad_func.specs.Meaning.{Gives, Faults}
-use Rattle.scad_eval.specs.Meaning.{made_nothing}
+use Rattle.scad_meaning.specs.Meaning.{made_nothing}
 use Rattle.scad_eval.proofs.arguments.silent.Goals as goal
 
 pub returns-then-is_bare : goal.returns-then-is_bare

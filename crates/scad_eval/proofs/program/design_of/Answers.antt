@@ -4,7 +4,6 @@ use Rattle.scad_ast.specs.Terms.{statements_from}
 use Rattle.scad_scope.specs.Names.{first_chain}
 use Rattle.scad_func.specs.View.{text_of}
 use Rattle.scad_func.specs.Definitions.{statements_at}
-use Rattle.scad_eval.specs.Verdicts.{Judge}
 use Rattle.scad_eval.proofs.Programs.{program_begins, program_says, program_statements, design_told, design_stops}
 use Rattle.scad_eval.proofs.program.design_of.Goals as goal
 
@@ -14,7 +13,7 @@ returns-in_err-members c = λ program text judge right.
     let entered = c.in_ok-scope.ensures in
     let new = c.enter_body.new.self in
     let after = c.members_in_scope.new.self in
-    let here = λ (j : Judge). program_begins entered.entered c.args.unit j program c.requires.whole text c.requires.table.rows c.requires.table.chain refl entered.inside in
+    let here = program_begins entered.entered program c.requires.whole text c.requires.table.rows c.requires.table.chain refl entered.inside in
     let told = program_says (statements_at (text_of new.source.now) 0) c.in_err-members.ensures.members program here
     (program_statements c.args.source.now new.source.now program entered.entered.source text) entered.entered.depth entered.turns refl judge right in (
       after.evaluation.turns,
@@ -27,10 +26,10 @@ returns c = λ program text judge right.
     let entered = c.in_ok-scope.ensures in
     let new = c.enter_body.new.self in
     let after = c.members_in_scope.new.self in
-    let here = λ (j : Judge). program_begins entered.entered c.args.unit j program c.requires.whole text c.requires.table.rows c.requires.table.chain refl entered.inside in
+    let here = program_begins entered.entered program c.requires.whole text c.requires.table.rows c.requires.table.chain refl entered.inside in
     let told = program_says (statements_at (text_of new.source.now) 0) c.in_ok-members.ensures.members program here
     (program_statements c.args.source.now new.source.now program entered.entered.source text) entered.entered.depth entered.turns refl judge right in (
       after.evaluation.turns,
       design_told c.args.unit judge first_chain (statements_from program) c.in_ok-members.members c.in_ok-first_or_all.field-0
-          after.evaluation.turns after.leaves told (c.in_ok-first_or_all.ensures c.args.unit judge),
+          after.evaluation.turns after.leaves told c.in_ok-first_or_all.ensures,
     )

@@ -5,10 +5,12 @@ use Rattle.reply_text.specs.declared.reply.Reply.{Reply}
 use Rattle.reply_text.specs.Answers.{Fits}
 use Rattle.script_run.proofs.client.serve_client.Given as goal
 
--- replies that fit what is left fit all commands behind the replies so far
+-- replies that fit what is left fit all commands behind the replies so far, and the exporter may be asked for each command that is left
 abbrev pub invariant-loop-command : goal.invariant-loop-command
 invariant-loop-command g l = record {
   room : vec_len l.replies + length (drop l.command-index l.commands) ≤ vec_capacity l.replies;
   count : vec_len l.replies ≡ l.command-index;
+  asked : g.E.Exporter.asked l.exporter + length (drop l.command-index l.commands) ≤ 8192;
+  can_export : g.E.Exporter.can_export l.exporter;
   fits : (rest : List Reply) → Fits (g.E.Exporter.exports l.unit) l.session (drop l.command-index l.commands) rest → Fits (g.E.Exporter.exports l.unit) start l.commands (l.replies.items ++ rest);
 }

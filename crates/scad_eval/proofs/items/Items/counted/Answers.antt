@@ -2,7 +2,7 @@ use Rattle.std.proofs.Common.{List, ℤ, sym, subst}
 use Rattle.std.specs.Prelude.{IsTrue}
 use Rattle.std.proofs.lemmas.Int.{to_z-of_z}
 use mir.Syntax.{w64}
-use Rattle.scad_eval.specs.Loops.{number_vals}
+use Rattle.scad_meaning.specs.Loops.{number_vals}
 use Rattle.scad_eval.specs.BoundedItems.{all_bounded}
 use Rattle.scad_eval.proofs.BoundedItems.{bounded_range}
 use Rattle.scad_eval.proofs.items.Items.counted.Goals as goal

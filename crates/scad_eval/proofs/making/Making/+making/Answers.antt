@@ -24,12 +24,12 @@ use Rattle.scad_func.specs.declared.source.Source.{Source}
 use Rattle.scad_func.specs.declared.arguments.ArgumentValues.{ArgumentValues}
 use Rattle.scad_eval.specs.declared.stand.Stand.{Stand as StandIn}
 use Rattle.scad_eval.specs.Items.{left_in}
-use Rattle.scad_eval.specs.Meaning.{Stand, Members, Made, Makes, made_within, made_of, made_nothing, as_member, and_members, body_made, children_made as children_at, effect_made as effect_at, each_member, each_step, each_turn, in_loop, module_scope, called_from, chained, standing, setting}
-use Rattle.scad_eval.specs.Positions.{term_of_numbered, HasBlocks}
+use Rattle.scad_meaning.specs.Meaning.{Stand, Members, Made, Makes, made_within, made_of, made_nothing, as_member, and_members, body_made, children_made as children_at, effect_made as effect_at, each_member, each_step, each_turn, in_loop, module_scope, called_from, chained, standing, setting}
+use Rattle.scad_pieces.specs.Positions.{term_of_numbered, HasBlocks}
 use Rattle.scad_eval.specs.Seen.{members_seen, member_seen, apart}
 use Rattle.scad_eval.specs.declared.making.Making.{Making}
 use Rattle.scad_func.specs.Evaluations.{CallBegins, SpecialsBegin}
-use Rattle.scad_eval.specs.Bodies.{is_child}
+use Rattle.scad_meaning.specs.Bodies.{is_child}
 use Rattle.scad_eval.specs.Makings.{left_at, stand_at, StopsBefore}
 use Rattle.scad_eval.specs.Steps.{block_members, module_filled, module_given, one_step}
 use Rattle.scad_eval.specs.Within.{body_seen}

@@ -1,9 +1,9 @@
 -- The evaluations that are left count first; at one depth each step calls those of a lower rank.
 use Rattle.std.proofs.Common.{◌≡◌, ℕ, ◌+◌, ◌*◌, length, map, drop}
 use Rattle.scad_ast.specs.StatementView.{binder_of}
-use Rattle.scad_eval.specs.Verdicts.{Judge, IsRight}
-use Rattle.scad_eval.specs.Meaning.{Members, made_within, each_member, each_step, each_turn, in_loop}
-use Rattle.scad_eval.specs.Positions.{term_of_numbered}
+use Rattle.scad_meaning.specs.Verdicts.{Judge, IsRight}
+use Rattle.scad_meaning.specs.Meaning.{Members, made_within, each_member, each_step, each_turn, in_loop}
+use Rattle.scad_pieces.specs.Positions.{term_of_numbered}
 use Rattle.scad_value.specs.Values.{Val, count_of}
 use Rattle.scad_func.specs.Meaning.{Outcome}
 use Rattle.scad_eval.specs.Items.{left_in}

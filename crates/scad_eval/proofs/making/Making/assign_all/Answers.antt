@@ -1,9 +1,9 @@
 use Rattle.std.proofs.Common.{◌-◌, ◌<◌, length, map, ap, ◌∙◌, arith}
 use Rattle.scad_scope.specs.TextView.{assigned_of}
-use Rattle.scad_eval.specs.Meaning.{each_assigned}
+use Rattle.scad_meaning.specs.Meaning.{each_assigned}
 use Rattle.scad_eval.specs.Makings.{left_at, stand_at}
 use Rattle.scad_eval.proofs.Binding.{assigned_next}
-use Rattle.scad_eval.proofs.Judges.{some_judge}
+use Rattle.scad_meaning.proofs.Judges.{some_judge}
 use Rattle.scad_eval.proofs.Standing.{assigns_then}
 use Rattle.scad_eval.proofs.making.Making.assign_all.Goals as goal
 

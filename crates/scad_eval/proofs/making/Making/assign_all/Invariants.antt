@@ -1,6 +1,6 @@
 use Rattle.std.proofs.Common.{◌≡◌, map, drop}
 use Rattle.scad_scope.specs.TextView.{assigned_of}
-use Rattle.scad_eval.specs.Meaning.{each_assigned}
+use Rattle.scad_meaning.specs.Meaning.{each_assigned}
 use Rattle.scad_eval.specs.Makings.{left_at, stand_at, Assigns}
 use Rattle.scad_eval.proofs.making.Making.assign_all.Given as goal
 

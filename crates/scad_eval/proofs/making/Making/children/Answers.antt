@@ -3,7 +3,7 @@ use Rattle.std.specs.Prelude.{All}
 use Rattle.scad_scope.specs.Table.{rows_of}
 use Rattle.scad_func.specs.View.{seen, text_of}
 use Rattle.scad_func.specs.Definitions.{statements_at}
-use Rattle.scad_eval.specs.Positions.{term_of_numbered, HasBlocks}
+use Rattle.scad_pieces.specs.Positions.{term_of_numbered, HasBlocks}
 use Rattle.scad_eval.proofs.KeptChildren.{children_found, children_blocks}
 use Rattle.scad_eval.proofs.making.Making.children.Goals as goal
 

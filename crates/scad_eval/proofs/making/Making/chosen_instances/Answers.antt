@@ -2,7 +2,7 @@ use Rattle.scad_scope.specs.Table.{rows_of}
 use Rattle.scad_func.specs.View.{seen, text_of}
 use Rattle.scad_func.specs.Definitions.{statements_at}
 use Rattle.scad_modules.specs.View.{chosen_of}
-use Rattle.scad_eval.specs.Bodies.{children_in}
+use Rattle.scad_meaning.specs.Bodies.{children_in}
 use Rattle.scad_eval.proofs.KeptChildren.{chosen_found, chosen_blocks}
 use Rattle.scad_eval.proofs.making.Making.chosen_instances.Goals as goal
 

@@ -1,6 +1,6 @@
 use Rattle.std.proofs.Common.{ap}
 use Rattle.scad_modules.specs.View.{flat_of as flat_call}
-use Rattle.scad_eval.specs.Meaning.{flat_made}
+use Rattle.scad_meaning.specs.Meaning.{flat_made}
 use Rattle.scad_eval.proofs.Telling.{along}
 use Rattle.scad_eval.proofs.making.Making.flat.Goals as goal
 

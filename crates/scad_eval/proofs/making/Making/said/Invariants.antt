@@ -6,7 +6,7 @@ use Rattle.scad_scope.specs.Names.{have_bounded}
 use Rattle.scad_func.specs.Meaning.{nothing_given}
 use Rattle.scad_func.specs.View.{specials_in}
 use Rattle.scad_func.specs.Evaluations.{Keeps, setting}
-use Rattle.scad_eval.specs.Meaning.{each_said}
+use Rattle.scad_meaning.specs.Meaning.{each_said}
 use Rattle.scad_eval.proofs.making.Making.said.Given as goal
 
 abbrev pub invariant-each : goal.invariant-each

@@ -1,0 +1,93 @@
+-- A design of shapes, with steps that are not singular, has a placing.
+use Rattle.std.proofs.Common.{⊎_elim, ℕ, suc, ◌<◌, ◌≤◌, List, length, take, refl, arith, pos, unsigned_abs}
+use Rattle.text_place.specs.declared.fault.FaultKind.TheVariants.{TooLarge, OutOfRange, TooManyPlanes}
+use Rattle.plane_predicate.specs.Space.{Coefficients, Coordinates, point_at, IsInReach, IsPlane}
+use Rattle.int_transform.specs.declared.affine.Affine.{Affine}
+use Rattle.int_transform.specs.Maps.{image, map_of, HasSafeCoordinates, StaysInRange}
+use Rattle.int_transform.proofs.Ranges.{regular_map}
+use Rattle.shape_planes.specs.Shapes.{IsShape}
+use Rattle.shape_planes.specs.Placing.{moved, distinct}
+use Rattle.shape_planes.proofs.Distinct.{all_of_distinct}
+use Rattle.shape_planes.proofs.Transforms.{faces_after}
+use Rattle.csg_tree.specs.declared.op.Op.{Op}
+use Rattle.csg_tree.specs.Formulas.{nothing, leaf}
+use Rattle.scad_design.specs.Designs.{Design, empty, a_part, joined, Part}
+use Rattle.scad_design.specs.Placing.{Placed, placed, unplaced, and_new, joined_placed, AreItsPlanes, EndsInReach, Places, PlacesPart, PlacesRight, StaysSafe}
+use Rattle.scad_design.specs.Trees.{AreRegular, IsSound}
+use Rattle.scad_design.proofs.Deciding.{Decided, decided_by, decided_both, decided_at_most, decided_less_ℤ, decided_all, decided_all_below, at_most_or_more}
+use Rattle.scad_design.proofs.FacePlanes.{images_are_in_reach, some_face_planes}
+
+-- ---- the planes of a part that ends within reach
+some_planes : (part : Part) → IsShape part.mesh → AreRegular part.steps → EndsInReach part → (planes : List Coefficients) × AreItsPlanes part planes
+some_planes part shape regular reach =
+    let f = map_of part.steps in
+    let mesh = moved f part.mesh in
+    let solid = faces_after f part.mesh (regular_map part.steps regular) shape.faces in
+    let all = some_face_planes mesh (images_are_in_reach f part.mesh.points reach) part.mesh.faces solid in (
+      distinct all.0,
+      record {
+        reduced = all_of_distinct IsPlane all.0 all.1;
+        solid = solid;
+        faces = record { all = all.0; each = all.2; first = refl };
+      },
+    )
+
+-- ---- the limits of a part
+decided_coordinates : (p : Coordinates) → Decided (HasSafeCoordinates p)
+decided_coordinates p =
+    decided_by (λ h. record { x_size = h.0; y_size = h.1.0; z_size = h.1.1 }) (λ h. (h.x_size, (h.y_size, h.z_size)))
+    (decided_both (decided_at_most (unsigned_abs p.x) 9007199254740991)
+    (decided_both (decided_at_most (unsigned_abs p.y) 9007199254740991) (decided_at_most (unsigned_abs p.z) 9007199254740991)))
+
+abbrev StaysBelow : List Affine → Coordinates → Type 0
+StaysBelow steps p = (k : ℕ) → k < suc (length steps) → HasSafeCoordinates (image (map_of (take k steps)) p)
+
+decided_range : (steps : List Affine) (p : Coordinates) → Decided (StaysInRange steps p)
+decided_range steps p =
+    decided_by {P = StaysBelow steps p} (λ h k le. h k (omega (arith, le))) (λ h k lt. h k (omega (arith, lt)))
+    (decided_all_below (suc (length steps)) (λ k. HasSafeCoordinates (image (map_of (take k steps)) p)) (λ k lt. decided_coordinates (image (map_of (take k steps)) p)))
+
+decided_safe : (part : Part) → Decided (StaysSafe part)
+decided_safe part = decided_all (λ p. StaysInRange part.steps (point_at p)) (λ p. decided_range part.steps (point_at p)) part.mesh.points
+
+decided_reach : (p : Coordinates) → Decided (IsInReach p)
+decided_reach p =
+    decided_by (λ h. record { weight = h.0; x_size = h.1.0; y_size = h.1.1.0; z_size = h.1.1.1 }) (λ h. (h.weight, (h.x_size, (h.y_size, h.z_size))))
+    (decided_both (decided_less_ℤ (pos 0) p.w)
+    (decided_both (decided_at_most (unsigned_abs p.x) _)
+    (decided_both (decided_at_most (unsigned_abs p.y) _) (decided_at_most (unsigned_abs p.z) _))))
+
+decided_near : (part : Part) → Decided (EndsInReach part)
+decided_near part = decided_all (λ p. IsInReach (image (map_of part.steps) (point_at p))) (λ p. decided_reach (image (map_of part.steps) (point_at p))) part.mesh.points
+
+-- ---- a part
+more_than : (n : ℕ) → (n ≤ 1024 → ⊥) → 1024 < n
+more_than n h = ⊎_elim (λ k. absurd (h k)) (λ k. k) (at_most_or_more n 1024)
+
+with_planes : (part : Part) (known planes : List Coefficients) → StaysSafe part → EndsInReach part → AreItsPlanes part planes → (out : Placed) × PlacesPart part known out
+with_planes part known planes safe reach are =
+    ⊎_elim (λ few. (placed (leaf planes) (and_new known planes), (planes, record { safe = safe; reach = reach; planes_are = are; few = few }, refl, refl)))
+    (λ more. (unplaced TooManyPlanes part.at, ((safe, reach, (planes, are, more_than (length (and_new known planes)) more)), refl)))
+    (decided_at_most (length (and_new known planes)) 1024)
+
+some_part : (part : Part) (known : List Coefficients) → IsShape part.mesh → AreRegular part.steps → (out : Placed) × PlacesPart part known out
+some_part part known shape regular =
+    ⊎_elim (λ safe.
+    ⊎_elim (λ reach. let planes = some_planes part shape regular reach in with_planes part known planes.0 safe reach planes.1)
+    (λ far. (unplaced OutOfRange part.at, ((safe, far), refl)))
+    (decided_near part))
+    (λ large. (unplaced TooLarge part.at, (large, refl)))
+    (decided_safe part)
+
+-- ---- a design
+some_right : (op : Op) (right : List Coefficients → Placed → Type 0) → ((known : List Coefficients) → (out : Placed) × right known out) → (first : Placed) → (out : Placed) × PlacesRight right op first out
+some_right op right some (unplaced kind at) = (unplaced kind at, refl)
+some_right op right some (placed tree known) = let next = some known in (joined_placed op tree next.0, (next.0, next.1, refl))
+
+pub some_placing : (design : Design) (known : List Coefficients) → IsSound design → (out : Placed) × Places design known out
+some_placing empty known h = (placed nothing known, refl)
+some_placing (a_part part) known h = some_part part known h.0 h.1
+some_placing (joined op left right) known h =
+    let first = some_placing left known h.0 in
+    let out = some_right op (Places right) (λ known. some_placing right known h.1) first.0 in
+    (out.0, (first.0, first.1, out.1))

@@ -1,0 +1,397 @@
+-- The faults of instances stand at places of the text, and so do the parts of designs, which are sound: by one lemma for each
+-- equation.
+use Rattle.std.proofs.Common.{◌≡◌, refl, subst, ℕ, zero, suc, ◌+◌, ◌/◌, Bool, true, false, nat_lt, List, [], ◌∷◌, ◌++◌, length, take, drop, Option, Some, None, Ok, Err, if◌then◌else◌}
+use Rattle.std.specs.Prelude.{All, IfOk, IfSome, flat_map, is_some, codes}
+use Rattle.std.specs.List.{AllByRecursion}
+use Rattle.std.proofs.lemmas.List.Elements.{All-nil, All-cons, All-head, All-tail, All-append, All-take, All-drop, All-filter}
+use Rattle.text_place.specs.declared.fault.Place.{Place}
+use Rattle.text_place.specs.declared.fault.FaultKind.TheVariants.{TypeMismatch, BadArgument, WrongDimension, NotInProfile, TooManyParts}
+use Rattle.csg_tree.specs.declared.op.Op.{Op}
+use Rattle.csg_tree.specs.declared.op.Op.TheVariants.{Union, Intersection, Difference}
+use Rattle.int_transform.specs.declared.affine.Affine.{Affine}
+use Rattle.plane_predicate.specs.declared.unit.Unit.{Unit as LengthUnit}
+use Rattle.shape_planes.specs.Shapes.{Mesh, IsShape}
+use Rattle.scad_ast.specs.Terms.{BinderTerm, StatementTerms, InstanceTerm, AnInstance, CoreTerm, IfTerm, IfElseTerm, ForTerm, IntersectionForTerm, ModuleCallTerm, BodyTerm, ArgTerm, ArgTerms, no_args, and_named, and_special, and_positional, SpecialArgTerm, args_from, place_of_core}
+use Rattle.scad_ast.specs.Places.{places_of_term, places_of_args, places_of_binder, places_of_mark, places_of_statements, places_of_core, places_of_body}
+use Rattle.scad_value.specs.Values.{Val, Vals, no_vals, and_val, truth_of}
+use Rattle.scad_value.specs.Operators.{Answer}
+use Rattle.scad_scope.specs.Names.{Pairs, find_in}
+use Rattle.scad_scope.specs.Arguments.{names_of}
+use Rattle.scad_scope.specs.Blocks.{Module, Assigned, assignments_of, statements_of_body}
+use Rattle.scad_func.specs.Meaning.{Outcome, Gives, Faults, then_with, Env, Outermost, Within, Opened, no_call, opened, module_in, call_in, entered_scope, with_variable, Setting, value_at, Arguments, nothing_given, taker_of, with_argument, each_argument, each_parameter}
+use Rattle.scad_modules.specs.declared.table.BuiltinModule.{BuiltinModule}
+use Rattle.scad_modules.specs.declared.table.BuiltinModule.TheVariants.{Echo}
+use Rattle.scad_modules.specs.Table.{module_named, parameters_of}
+use Rattle.scad_modules.specs.Effects.{EffectCall, a_solid, a_flat, a_move, a_join, an_extrusion, silence, some_children, FlatCall, ChosenCall}
+use Rattle.scad_modules.specs.Calls.{effect_of}
+use Rattle.scad_design.specs.Designs.{Design, empty, a_part, joined, join, joined_within, balanced, grouped, moved_by}
+use Rattle.int_transform.proofs.Ranges.{IsRegular}
+use Rattle.primitives.specs.Sizes.{AreSizes}
+use Rattle.scad_design.specs.Trees.{AreRegular, IsSound}
+use Rattle.scad_meaning.specs.declared.extrusion.Extrusion.{Extrusion}
+use Rattle.scad_meaning.specs.Verdicts.{Judge, Verdict, IsRight, IsSolidVerdict, IsFlatVerdict, IsHeightVerdict, solid_of, extruded}
+use Rattle.scad_meaning.specs.Bodies.{evaluated_in, is_child, children_in, is_marked, says_only, is_bare}
+use Rattle.scad_meaning.specs.Loops.{items_of, chosen_among}
+use Rattle.scad_meaning.specs.Meaning.{Stand, standing, chained, called_from, marked_from, extruding, setting, Made, Members, first_marked, made_nothing, no_members, as_member, and_members, made_of, Makes, assigned_value, assigned, each_assigned, core_of, each_member, each_in_scope, each_in_body, body_made, after_step, each_step, in_loop, each_turn, loop_made, leaf_made, checked, answered_with, module_scope, module_made, each_said, arguments_for, children_made, flat_made, effect_made, built_in_made, call_made, core_made, marked_made, instance_made, made_within, program_stand, or_all, design_of}
+use Rattle.scad_meaning.proofs.Choosing.{all_chosen}
+use Rattle.scad_meaning.proofs.HeldPlaces.{if_keeps, Whatever, Held, first_held, rest_held, ModuleHeld, ScopeHeld, CallHeld, module_found, call_found, variable_held, functions_held, modules_held, entered_held, body_held, AssignedHeld, assignments_held, InstanceHeld, evaluated_held, Keeps, then_keeps, skip_keeps, some_keeps, turn_keeps, call_keeps}
+use Rattle.scad_meaning.proofs.SoundShapes.{HasFlatSides, IsSoundCall, effect_sound, solid_is_shape, extruded_is_shape}
+use Rattle.scad_meaning.proofs.ExpressionPlaces.{Sits, value_keeps, arguments_keep, parameters_keep, evaluated_good}
+
+module _ (P : Place → Type 0) where
+  -- a sound design whose parts all stand at places among the given ones
+  abbrev pub DesignHeld : Design → Type 0
+  DesignHeld empty = Unit {0}
+  DesignHeld (a_part part) = P part.at × IsSound (a_part part)
+  DesignHeld (joined op left right) = DesignHeld left × DesignHeld right
+
+  join_held : (op : Op) (left right : Design) → DesignHeld left → DesignHeld right → DesignHeld (join op left right)
+  join_held Union empty right hl hr = hr
+  join_held Intersection empty right hl hr = tt
+  join_held Difference empty right hl hr = tt
+  join_held Union (a_part p) empty hl hr = hl
+  join_held Intersection (a_part p) empty hl hr = tt
+  join_held Difference (a_part p) empty hl hr = hl
+  join_held Union (a_part p) (a_part q) hl hr = (hl, hr)
+  join_held Intersection (a_part p) (a_part q) hl hr = (hl, hr)
+  join_held Difference (a_part p) (a_part q) hl hr = (hl, hr)
+  join_held Union (a_part p) (joined k c d) hl hr = (hl, hr)
+  join_held Intersection (a_part p) (joined k c d) hl hr = (hl, hr)
+  join_held Difference (a_part p) (joined k c d) hl hr = (hl, hr)
+  join_held Union (joined o a b) empty hl hr = hl
+  join_held Intersection (joined o a b) empty hl hr = tt
+  join_held Difference (joined o a b) empty hl hr = hl
+  join_held Union (joined o a b) (a_part q) hl hr = (hl, hr)
+  join_held Intersection (joined o a b) (a_part q) hl hr = (hl, hr)
+  join_held Difference (joined o a b) (a_part q) hl hr = (hl, hr)
+  join_held Union (joined o a b) (joined k c d) hl hr = (hl, hr)
+  join_held Intersection (joined o a b) (joined k c d) hl hr = (hl, hr)
+  join_held Difference (joined o a b) (joined k c d) hl hr = (hl, hr)
+
+  within_held : (n : ℕ) (op : Op) (designs : List Design) → All DesignHeld designs → DesignHeld (joined_within n op designs)
+  within_held zero op designs h = tt
+  within_held (suc n) op [] h = tt
+  within_held (suc n) op (d ∷ []) h = All-head DesignHeld d [] h
+  within_held (suc n) op (d ∷ e ∷ designs) h =
+      let all = d ∷ e ∷ designs in
+      let half = length all / 2 in
+      join_held op (joined_within n op (take half all)) (joined_within n op (drop half all))
+      (within_held n op (take half all) (All-take DesignHeld half all h)) (within_held n op (drop half all) (All-drop DesignHeld half all h))
+
+  grouped_held : (op : Op) (designs : List Design) → All DesignHeld designs → DesignHeld (grouped op designs)
+  grouped_held Union designs h = within_held (length designs) Union designs h
+  grouped_held Intersection designs h = within_held (length designs) Intersection designs h
+  grouped_held Difference [] h = tt
+  grouped_held Difference (d ∷ designs) h =
+      join_held Difference d (balanced Union designs) (All-head DesignHeld d designs h)
+      (within_held (length designs) Union designs (All-tail DesignHeld d designs h))
+
+  moved_held : (steps : List Affine) (design : Design) → AreRegular steps → DesignHeld design → DesignHeld (moved_by steps design)
+  moved_held steps empty r h = tt
+  moved_held steps (a_part part) r h = (h.0, (h.1.0, All-append IsRegular part.steps steps h.1.1 r))
+  moved_held steps (joined op left right) r h = (moved_held steps left r h.0, moved_held steps right r h.1)
+
+  -- what instances give
+  abbrev MadeHeld : Made → Type 0
+  MadeHeld m = DesignHeld m.design × IfSome m.marked DesignHeld
+
+  abbrev MembersHeld : Members → Type 0
+  MembersHeld ms = All DesignHeld ms.designs × IfSome ms.marked DesignHeld
+
+  first_marked_held : (x y : Option Design) → IfSome x DesignHeld → IfSome y DesignHeld → IfSome (first_marked x y) DesignHeld
+  first_marked_held (Some d) y h g = h
+  first_marked_held None y h g = g
+
+  and_held : (ms more : Members) → MembersHeld ms → MembersHeld more → MembersHeld (and_members ms more)
+  and_held ms more h g = (All-append DesignHeld ms.designs more.designs h.0 g.0, first_marked_held ms.marked more.marked h.1 g.1)
+
+  as_member_held : (b : Bool) (m : Made) → MadeHeld m → MembersHeld (as_member b m)
+  as_member_held true m h = (All-cons DesignHeld m.design [] h.0 (All-nil DesignHeld), h.1)
+  as_member_held false m h = (All-nil DesignHeld, h.1)
+
+  none_held : (leaves : ℕ) → MembersHeld (no_members leaves)
+  none_held leaves = (All-nil DesignHeld, tt)
+
+  grouped_made : (op : Op) (ms : Members) → MembersHeld ms → MadeHeld (made_of op ms)
+  grouped_made op ms h = (grouped_held op ms.designs h.0, h.1)
+
+  leaf_keeps : (at : Place) (mesh : Mesh) (turns leaves : ℕ) → P at → IsShape mesh → Keeps P MadeHeld (leaf_made at mesh turns leaves)
+  leaf_keeps at mesh turns leaves p shape =
+      if_keeps (Keeps P MadeHeld) (nat_lt leaves 1024)
+      (Gives turns (record { leaves = leaves + 1; design = a_part (record { mesh = mesh; steps = []; at = at }); marked = None }))
+      (Faults TooManyParts at) ((p, (shape, All-nil IsRegular)), tt) p
+
+  checked_keeps : {A : Type 0} (Q : A → Type 0) (v : Verdict) (at : Place) (out : Outcome A) → P at → (v ≡ None → Keeps P Q out) → Keeps P Q (checked v at out)
+  checked_keeps Q None at out p h = h refl
+  checked_keeps Q (Some kind) at out p h = p
+
+  effect_keeps : {A B : Type 0} (R : A → Type 0) (Q : B → Type 0) (answer : Answer A) (at : Place) (go : A → Outcome B)
+      → P at → IfOk answer R → ((x : A) → R x → Keeps P Q (go x)) → Keeps P Q (answered_with answer at go)
+  effect_keeps R Q (Ok x) at go p r g = g x r
+  effect_keeps R Q (Err kind) at go p r g = p
+
+  after_keeps : (Q : Members → Type 0) (at : Place) (designs : List Design) (turns : ℕ) (go : ℕ → Outcome Members)
+      → P at → ((n : ℕ) → Keeps P Q (go n)) → Keeps P Q (after_step at designs turns go)
+  after_keeps Q at [] turns go p g = turn_keeps P Q at turns go p g
+  after_keeps Q at (d ∷ ds) turns go p g = g turns
+
+  module _ (unit : LengthUnit) where
+    -- where instances stand: inside no extrusion, or inside one whose height has nothing wrong
+    abbrev IsSized : Option Extrusion → Type 0
+    IsSized None = Unit {0}
+    IsSized (Some through) = AreSizes unit through.center (through.height ∷ [])
+
+    abbrev StandHeld : Stand → Type 0
+    StandHeld here = ScopeHeld P here.env × IsSized here.inside
+
+    sits : (left : ℕ) (here : Stand) → StandHeld here → Sits P (setting left here)
+    sits left here s = (evaluated_good P left, s.0)
+
+    assigned_keeps : (left : ℕ) (here : Stand) (a : Assigned) (turns : ℕ) → StandHeld here → AssignedHeld P a
+        → Keeps P Whatever (assigned_value left here a turns)
+    assigned_keeps zero here a turns s h = h.0
+    assigned_keeps (suc left) here a turns s h = value_keeps P (setting left here) (sits left here s) true a.value turns h.1
+
+    still_held : (a : Assigned) (v : Val) (here : Stand) → StandHeld here → StandHeld (assigned a v here)
+    still_held a v here s =
+        if_keeps StandHeld a.special (chained here ((a.name, v) ∷ here.chain)) (standing here (with_variable a.name v here.env)) s
+        (variable_held P a.name v here.env s.0, s.1)
+
+    assignments_keep : (left : ℕ) (here : Stand) (as_ : List Assigned) (turns : ℕ) → StandHeld here → AllByRecursion (AssignedHeld P) as_
+        → Keeps P StandHeld (each_assigned left here as_ turns)
+    assignments_keep left here [] turns s h = s
+    assignments_keep left here (a ∷ as_) turns s h =
+        skip_keeps P StandHeld (assigned_value left here a turns) _ (assigned_keeps left here a turns s h.0) (λ turns v.
+        assignments_keep left (assigned a v here) as_ turns (still_held a v here s) h.1)
+
+    -- instances one evaluation deeper
+    abbrev IsGood : Makes → Type 0
+    IsGood make = (here : Stand) (i : InstanceTerm) (turns leaves : ℕ) → StandHeld here → InstanceHeld P i → Keeps P MadeHeld (make here i turns leaves)
+
+    said_keeps : (here : Setting) → Sits P here → (args : ArgTerms) (given : Arguments) (turns : ℕ) → Held P (places_of_args args)
+        → Keeps P Whatever (each_said here args given turns)
+    said_keeps here s no_args given turns h = tt
+    said_keeps here s (and_named at name value rest) given turns h =
+        skip_keeps P Whatever (value_at here true value turns) _ (value_keeps P here s true value turns (first_held P (places_of_term value) (places_of_args rest) h.1)) (λ turns v.
+        said_keeps here s rest given turns (rest_held P (places_of_term value) (places_of_args rest) h.1))
+    said_keeps here s (and_special at name value rest) given turns h =
+        some_keeps P Whatever (taker_of [] 0 given (SpecialArgTerm at name value)) BadArgument at _ h.0 (λ taker.
+        skip_keeps P Whatever (value_at here true value turns) _ (value_keeps P here s true value turns (first_held P (places_of_term value) (places_of_args rest) h.1)) (λ turns v.
+        said_keeps here s rest (with_argument given taker v) turns (rest_held P (places_of_term value) (places_of_args rest) h.1)))
+    said_keeps here s (and_positional value rest) given turns h =
+        skip_keeps P Whatever (value_at here true value turns) _ (value_keeps P here s true value turns (first_held P (places_of_term value) (places_of_args rest) h)) (λ turns v.
+        said_keeps here s rest given turns (rest_held P (places_of_term value) (places_of_args rest) h))
+
+    given_keeps : (m : BuiltinModule) (here : Setting) → Sits P here → (args : ArgTerms) (turns : ℕ) → Held P (places_of_args args)
+        → Keeps P Whatever (arguments_for m here args turns)
+    given_keeps Echo here s args turns h = said_keeps here s args (nothing_given 0) turns h
+    given_keeps m here s args turns h = arguments_keep P here s (parameters_of m) 0 args (nothing_given (length (parameters_of m))) turns h
+
+    module _ (judge : Judge) (right : IsRight judge) where
+      module _ (left : ℕ) (make : Makes) (good : IsGood make) where
+        members_keep : (here : Stand) (is : List InstanceTerm) (turns leaves : ℕ) → StandHeld here → All (InstanceHeld P) is
+            → Keeps P MembersHeld (each_member make here is turns leaves)
+        members_keep here [] turns leaves s h = none_held leaves
+        members_keep here (i ∷ is) turns leaves s h =
+            then_keeps P MadeHeld MembersHeld (make here i turns leaves) _ (good here i turns leaves s (All-head (InstanceHeld P) i is h)) (λ turns m k.
+            then_keeps P MembersHeld MembersHeld (each_member make here is turns m.leaves) _
+            (members_keep here is turns m.leaves s (All-tail (InstanceHeld P) i is h)) (λ turns ms g.
+            and_held (as_member (if says_only here.env (core_of i) then false else true) m) ms
+            (as_member_held (if says_only here.env (core_of i) then false else true) m k) g))
+
+        scope_keeps : (here : Stand) (statements : StatementTerms) (turns leaves : ℕ) → StandHeld here → Held P (places_of_statements statements)
+            → Keeps P MembersHeld (each_in_scope left make here statements turns leaves)
+        scope_keeps here statements turns leaves s h =
+            then_keeps P StandHeld MembersHeld (each_assigned left here (assignments_of statements) turns) _
+            (assignments_keep left here (assignments_of statements) turns s (assignments_held P statements h)) (λ turns there k.
+            members_keep there (evaluated_in statements) turns leaves k (evaluated_held P statements h))
+
+        body_keeps : (op : Op) (here : Stand) (body : BodyTerm) (turns leaves : ℕ) → StandHeld here → Held P (places_of_body body)
+            → Keeps P MadeHeld (body_made left make op here body turns leaves)
+        body_keeps op here body turns leaves s h =
+            then_keeps P MembersHeld MadeHeld (each_in_body left make here body turns leaves) _
+            (scope_keeps (standing here (entered_scope (statements_of_body body) no_call here.env)) (statements_of_body body) turns leaves
+            (entered_held P (statements_of_body body) no_call here.env (body_held P body h) tt s.0, s.1) (body_held P body h))
+            (λ turns ms k. grouped_made op ms k)
+
+        steps_keep : (at : Place) (step : Val → ℕ → ℕ → Outcome Members) → P at
+            → ((v : Val) (turns leaves : ℕ) → Keeps P MembersHeld (step v turns leaves))
+            → (vs : Vals) (turns leaves : ℕ) → Keeps P MembersHeld (each_step at step vs turns leaves)
+        steps_keep at step p g no_vals turns leaves = none_held leaves
+        steps_keep at step p g (and_val v vs) turns leaves =
+            then_keeps P MembersHeld MembersHeld (step v turns leaves) _ (g v turns leaves) (λ turns ms h.
+            after_keeps MembersHeld at ms.designs turns
+            (λ turns. then_with (each_step at step vs turns ms.leaves) (λ turns more. Gives turns (and_members ms more))) p (λ turns.
+            then_keeps P MembersHeld MembersHeld (each_step at step vs turns ms.leaves) _ (steps_keep at step p g vs turns ms.leaves) (λ turns more k.
+            and_held ms more h k)))
+
+        turns_keep : (at : Place) (binders : List BinderTerm) (body : BodyTerm) (here : Stand) (turns leaves : ℕ) → P at
+            → Held P (flat_map places_of_binder binders) → Held P (places_of_body body) → StandHeld here
+            → Keeps P MembersHeld (each_turn left make at binders body here turns leaves)
+        turns_keep at [] body here turns leaves p h k s =
+            turn_keeps P MembersHeld at turns
+            (λ turns. then_with (body_made left make Union here body turns leaves) (λ turns m. Gives turns (as_member true m))) p (λ turns.
+            then_keeps P MadeHeld MembersHeld (body_made left make Union here body turns leaves) _ (body_keeps Union here body turns leaves s k) (λ turns m g.
+            as_member_held true m g))
+        turns_keep at (b ∷ bs) body here turns leaves p h k s =
+            let first = first_held P (places_of_binder b) (flat_map places_of_binder bs) h in
+            skip_keeps P MembersHeld (value_at (setting left here) true b.values turns) _
+            (value_keeps P (setting left here) (sits left here s) true b.values turns first.1) (λ turns v.
+            some_keeps P MembersHeld (items_of v) TypeMismatch at _ p (λ items.
+            steps_keep at (λ item. each_turn left make at bs body (in_loop here b.name item)) p
+            (λ item turns leaves. turns_keep at bs body (in_loop here b.name item) turns leaves p
+            (rest_held P (places_of_binder b) (flat_map places_of_binder bs) h) k ((tt, tt, tt, s.0), s.1)) items turns leaves))
+
+        loop_keeps : (op : Op) (here : Stand) (at : Place) (binders : List BinderTerm) (body : BodyTerm) (turns leaves : ℕ) → P at
+            → Held P (flat_map places_of_binder binders ++ places_of_body body) → StandHeld here
+            → Keeps P MadeHeld (loop_made left make op here at binders body turns leaves)
+        loop_keeps op here at binders body turns leaves p h s =
+            then_keeps P MembersHeld MadeHeld (each_turn left make at binders body here turns leaves) _
+            (turns_keep at binders body here turns leaves p (first_held P (flat_map places_of_binder binders) (places_of_body body) h)
+            (rest_held P (flat_map places_of_binder binders) (places_of_body body) h) s)
+            (λ turns ms k. grouped_made op ms k)
+
+        children_keep : (here : Stand) (call : Opened) (chosen : ChosenCall) (turns leaves : ℕ) → CallHeld P call → IsSized here.inside
+            → Keeps P MadeHeld (children_made left make here call chosen turns leaves)
+        children_keep here no_call chosen turns leaves c i = (tt, tt)
+        children_keep here (opened children caller) chosen turns leaves c i =
+            then_keeps P StandHeld MadeHeld (each_assigned left (standing here (entered_scope children no_call caller)) (assignments_of children) turns) _
+            (assignments_keep left (standing here (entered_scope children no_call caller)) (assignments_of children) turns
+            (entered_held P children no_call caller c.0 tt c.1, i) (assignments_held P children c.0)) (λ turns there s.
+            then_keeps P MembersHeld MadeHeld (each_member make there (chosen_among (children_in there.env children) chosen) turns leaves) _
+            (members_keep there (chosen_among (children_in there.env children) chosen) turns leaves s
+            (all_chosen (InstanceHeld P) (children_in there.env children) chosen
+            (All-filter (is_child there.env) (InstanceHeld P) (evaluated_in children) (evaluated_held P children c.0))))
+            (λ turns ms k. grouped_made Union ms k))
+
+        flat_keeps : (inside : Option Extrusion) (at : Place) (call : FlatCall) (turns leaves : ℕ) → P at → IsSized inside → HasFlatSides call
+            → Keeps P MadeHeld (flat_made unit judge inside at call turns leaves)
+        flat_keeps None at call turns leaves p i sides = p
+        flat_keeps (Some through) at call turns leaves p i sides =
+            checked_keeps MadeHeld (judge.flat unit call) at (leaf_made at (extruded unit through call) turns leaves) p (λ none.
+            leaf_keeps at (extruded unit through call) turns leaves p
+            (extruded_is_shape unit through call i sides (subst (IsFlatVerdict unit call) none (right.flat unit call))))
+
+        call_effect_keeps : (here : Stand) (at : Place) (effect : EffectCall) (body : BodyTerm) (turns leaves : ℕ) → P at
+            → Held P (places_of_body body) → StandHeld here → IsSoundCall effect
+            → Keeps P MadeHeld (effect_made unit judge left make here at effect body turns leaves)
+        call_effect_keeps here at (a_solid call) body turns leaves p h s sound =
+            checked_keeps MadeHeld (judge.solid unit call) at (leaf_made at (solid_of unit call) turns leaves) p (λ none.
+            leaf_keeps at (solid_of unit call) turns leaves p
+            (solid_is_shape unit call sound (subst (IsSolidVerdict unit call) none (right.solid unit call))))
+        call_effect_keeps here at (a_flat call) body turns leaves p h s sound = flat_keeps here.inside at call turns leaves p s.1 sound
+        call_effect_keeps here at (a_move steps) body turns leaves p h s sound =
+            then_keeps P MadeHeld MadeHeld (body_made left make Union here body turns leaves) _ (body_keeps Union here body turns leaves s h)
+            (λ turns m k. (moved_held steps m.design sound k.0, k.1))
+        call_effect_keeps here at (a_join op) body turns leaves p h s sound = body_keeps op here body turns leaves s h
+        call_effect_keeps here at (an_extrusion center height) body turns leaves p h s sound =
+            checked_keeps MadeHeld (judge.height unit center height) at
+            (body_made left make Union (extruding here (record { center = center; height = height })) body turns leaves) p (λ none.
+            body_keeps Union (extruding here (record { center = center; height = height })) body turns leaves
+            (s.0, subst (IsHeightVerdict unit center height) none (right.height unit center height)) h)
+        call_effect_keeps here at silence body turns leaves p h s sound =
+            if_keeps (Keeps P MadeHeld) (is_bare body) (Gives turns (made_nothing leaves)) (Faults NotInProfile at) (tt, tt) p
+        call_effect_keeps here at (some_children chosen) body turns leaves p h s sound =
+            call_keeps P MadeHeld here.calls at _ p (λ calls.
+            children_keep (called_from here calls) (call_in here.env) chosen turns leaves (call_found P here.env s.0) s.1)
+
+        built_in_keeps : (here : Stand) (at : Place) (name : List ℕ) (args : List ArgTerm) (body : BodyTerm) (found : Option BuiltinModule) (turns leaves : ℕ)
+            → P at → Held P (places_of_args (args_from args)) → Held P (places_of_body body) → StandHeld here
+            → Keeps P MadeHeld (built_in_made unit judge left make here at name args body found turns leaves)
+        built_in_keeps here at name args body None turns leaves p a h s = p
+        built_in_keeps here at name args body (Some m) turns leaves p a h s =
+            skip_keeps P MadeHeld (arguments_for m (setting left here) (args_from args) turns) _
+            (given_keeps m (setting left here) (sits left here s) (args_from args) turns a) (λ turns given.
+            effect_keeps IsSoundCall MadeHeld (effect_of unit (is_some here.inside) (find_in (given.specials ++ here.chain) (codes "fn")) m given.slots) at _ p
+            (effect_sound unit (is_some here.inside) (find_in (given.specials ++ here.chain) (codes "fn")) m given.slots) (λ effect sound.
+            call_effect_keeps (chained here (given.specials ++ here.chain)) at effect body turns leaves p h s sound))
+
+        module_keeps : (here : Stand) (at : Place) (found : Module × Env) (given : Arguments) (body : BodyTerm) (turns leaves : ℕ) → P at
+            → ModuleHeld P found.0 → ScopeHeld P found.1 → Held P (places_of_body body) → StandHeld here
+            → Keeps P MadeHeld (module_made left make here at found given body turns leaves)
+        module_keeps here at found given body turns leaves p m o h s =
+            call_keeps P MadeHeld here.calls at _ p (λ calls.
+            let there = called_from (chained here (given.specials ++ here.chain)) calls in
+            turn_keeps P MadeHeld at turns
+            (λ turns. then_with (each_parameter (setting left (standing there found.1)) found.0.params given.slots turns) (λ turns vs.
+            then_with (each_in_scope left make (standing there (module_scope found.1 found.0 vs (statements_of_body body) here.env)) (statements_of_body found.0.body) turns leaves) (λ turns ms.
+            Gives turns (made_of Union ms)))) p (λ turns.
+            skip_keeps P MadeHeld (each_parameter (setting left (standing there found.1)) found.0.params given.slots turns) _
+            (parameters_keep P (setting left (standing there found.1)) (sits left (standing there found.1) (o, s.1)) found.0.params given.slots turns m.0) (λ turns vs.
+            let inner = standing there (module_scope found.1 found.0 vs (statements_of_body body) here.env) in
+            let own = body_held P found.0.body m.1 in
+            then_keeps P MembersHeld MadeHeld (each_in_scope left make inner (statements_of_body found.0.body) turns leaves) _
+            (scope_keeps inner (statements_of_body found.0.body) turns leaves
+            ((functions_held P (statements_of_body found.0.body) own, modules_held P (statements_of_body found.0.body) own, (body_held P body h, s.0), o), s.1) own)
+            (λ turns ms k. grouped_made Union ms k))))
+
+        called_keeps : (here : Stand) (at : Place) (name : List ℕ) (args : List ArgTerm) (body : BodyTerm) (found : Option (Module × Env)) (turns leaves : ℕ)
+            → P at → Held P (places_of_args (args_from args)) → Held P (places_of_body body) → StandHeld here
+            → IfSome found (λ f. ModuleHeld P f.0 × ScopeHeld P f.1)
+            → Keeps P MadeHeld (call_made unit judge left make here at name args body found turns leaves)
+        called_keeps here at name args body (Some found) turns leaves p a h s f =
+            skip_keeps P MadeHeld (each_argument (setting left here) (names_of found.0.params) 0 (args_from args) (nothing_given (length found.0.params)) turns) _
+            (arguments_keep P (setting left here) (sits left here s) (names_of found.0.params) 0 (args_from args) (nothing_given (length found.0.params)) turns a)
+            (λ turns given. module_keeps here at found given body turns leaves p f.0 f.1 h s)
+        called_keeps here at name args body None turns leaves p a h s f = built_in_keeps here at name args body (module_named name) turns leaves p a h s
+
+        core_keeps : (here : Stand) (core : CoreTerm) (turns leaves : ℕ) → StandHeld here → Held P (places_of_core core)
+            → Keeps P MadeHeld (core_made unit judge left make here core turns leaves)
+        core_keeps here (IfTerm at test body) turns leaves s h =
+            skip_keeps P MadeHeld (value_at (setting left here) true test turns) _
+            (value_keeps P (setting left here) (sits left here s) true test turns (first_held P (places_of_term test) (places_of_body body) h.1)) (λ turns v.
+            if_keeps (Keeps P MadeHeld) (truth_of v) (body_made left make Union here body turns leaves) (Gives turns (made_nothing leaves))
+            (body_keeps Union here body turns leaves s (rest_held P (places_of_term test) (places_of_body body) h.1)) (tt, tt))
+        core_keeps here (IfElseTerm at test body other) turns leaves s h =
+            let both = first_held P (places_of_term test ++ places_of_body body) (places_of_body other) h.1 in
+            skip_keeps P MadeHeld (value_at (setting left here) true test turns) _
+            (value_keeps P (setting left here) (sits left here s) true test turns (first_held P (places_of_term test) (places_of_body body) both)) (λ turns v.
+            body_keeps Union here (if truth_of v then body else other) turns leaves s
+            (if_keeps (λ b. Held P (places_of_body b)) (truth_of v) body other (rest_held P (places_of_term test) (places_of_body body) both)
+            (rest_held P (places_of_term test ++ places_of_body body) (places_of_body other) h.1)))
+        core_keeps here (ForTerm at binders body) turns leaves s h = loop_keeps Union here at binders body turns leaves h.0 h.1 s
+        core_keeps here (IntersectionForTerm at binders body) turns leaves s h = loop_keeps Intersection here at binders body turns leaves h.0 h.1 s
+        core_keeps here (ModuleCallTerm at name args body) turns leaves s h =
+            called_keeps here at name args body (module_in here.env name) turns leaves h.0
+            (first_held P (places_of_args (args_from args)) (places_of_body body) h.1) (rest_held P (places_of_args (args_from args)) (places_of_body body) h.1)
+            s (module_found P here.env name s.0)
+
+        marked_keeps : (here : Stand) (core : CoreTerm) (turns leaves : ℕ) → StandHeld here → Held P (places_of_core core)
+            → Keeps P MadeHeld (marked_made unit judge left make here core turns leaves)
+        marked_keeps here core turns leaves s h =
+            if_keeps (Keeps P MadeHeld) here.under_mark (core_made unit judge left make here core turns leaves) _ (core_keeps here core turns leaves s h)
+            (then_keeps P MadeHeld MadeHeld (core_made unit judge left make (marked_from here) core turns leaves) _
+            (core_keeps (marked_from here) core turns leaves s h) (λ turns m k. (tt, k.0)))
+
+        core_place_held : (core : CoreTerm) → Held P (places_of_core core) → P (place_of_core core)
+        core_place_held (IfTerm at test body) h = h.0
+        core_place_held (IfElseTerm at test body other) h = h.0
+        core_place_held (ForTerm at binders body) h = h.0
+        core_place_held (IntersectionForTerm at binders body) h = h.0
+        core_place_held (ModuleCallTerm at name args body) h = h.0
+
+        instance_keeps : IsGood (instance_made unit judge left make)
+        instance_keeps here (AnInstance at marks core) turns leaves s h =
+            let inner = rest_held P (flat_map places_of_mark marks) (places_of_core core) h.1 in
+            if_keeps (Keeps P MadeHeld) (is_marked (AnInstance at marks core)) _ (core_made unit judge left make here core turns leaves)
+            (if_keeps (Keeps P MadeHeld) (is_some here.inside) (Faults WrongDimension (place_of_core core)) (marked_made unit judge left make here core turns leaves)
+            (core_place_held core inner) (marked_keeps here core turns leaves s inner)) (core_keeps here core turns leaves s inner)
+
+      within_keeps : (left : ℕ) → IsGood (made_within unit judge left)
+      unfolding made_within
+      within_keeps zero here (AnInstance at marks core) turns leaves s h = h.0
+      within_keeps (suc left) here i turns leaves s h = instance_keeps left (made_within unit judge left) (within_keeps left) here i turns leaves s h
+
+      -- the design of a program
+      or_all_held : (marked : Option Design) (designs : List Design) → IfSome marked DesignHeld → All DesignHeld designs → DesignHeld (or_all marked designs)
+      or_all_held None designs m h = grouped_held Union designs h
+      or_all_held (Some design) designs m h = m
+
+      pub design_keeps : (chain : Pairs Val) (statements : StatementTerms) → Held P (places_of_statements statements)
+          → Keeps P DesignHeld (design_of unit judge chain statements)
+      unfolding design_of
+      design_keeps chain statements h =
+          then_keeps P MembersHeld DesignHeld (each_in_scope 512 (made_within unit judge 512) (program_stand chain statements) statements 0 0) _
+          (scope_keeps 512 (made_within unit judge 512) (within_keeps 512) (program_stand chain statements) statements 0 0
+          (entered_held P statements no_call (Within [] [] [] no_call Outermost) h tt (tt, tt, tt, tt), tt) h)
+          (λ turns ms k. or_all_held ms.marked ms.designs k.1 k.0)

@@ -1,0 +1,412 @@
+-- A judge that is always right: each check of shapes can be decided.
+use Rattle.std.proofs.Common.{◌≡◌, ◌⊎◌, inl, inr, ⊎_elim, ℕ, ◌<◌, ◌≤◌, ◌%◌, ℤ, pos, ◌<ℤ◌, ◌≤ℤ◌, unsigned_abs, Bool, true, false, List, [], ◌∷◌, length, get_or, All, Any, Some, None, refl, ap, ap₂, subst, arith}
+use Rattle.std.proofs.lemmas.Int.{by_lt_z}
+use Rattle.std.proofs.lemmas.List.{get_or_default}
+use Rattle.text_place.specs.declared.fault.FaultKind.{FaultKind}
+use Rattle.text_place.specs.declared.fault.FaultKind.TheVariants.{BadSize, NotOnGrid, TooLarge, OutOfRange, LongList, FewPoints, NotConvex}
+use Rattle.plane_predicate.specs.declared.unit.Unit.{Unit as LengthUnit}
+use Rattle.plane_predicate.specs.Space.{Coefficients, Coordinates, point_at, opposite_of, inner, through, AreCollinear}
+use Rattle.shape_planes.specs.Shapes.{Mesh, corner, value_at, HasTriangle}
+use Rattle.primitives.specs.Sizes.{AreSizes, IsSizeFault, IsLong, IsEven, IsSafe, AreOnGrid, grid_steps}
+use Rattle.primitives.specs.Polygons.{polygon_of, IsPolygon, IsPolygonFault, IsInRange, IsConvex, GoesLeft, GoesRight, HasCorner, turn, point, after, x_of, y_of}
+use Rattle.round_four.specs.Circles.{IsCircleSize, IsCircleFault}
+use Rattle.round_four.specs.Cylinders.{AreCylinderSizes, IsCylinderFault, HasBody, AreNear, IsOnGrid as IsCentredOnGrid, IsInRange as IsCylinderInRange}
+use Rattle.polyhedra.specs.declared.ways.Way.{Way}
+use Rattle.polyhedra.specs.Checks.{IsWithinLimits, HasEnoughCorners, AreThere, IsInRange as IsPointInRange, IsFlat, IsClosed, HasOuterPlane, IsOnOnePlane, IsConvex as IsConvexMesh}
+use Rattle.polyhedra.specs.Ways.{nowhere, turned, all_ways, ways_of, IsMetOnce, HasNoneLeft}
+use Rattle.polyhedra.specs.Spanning.{SpansFace}
+use Rattle.polyhedra.specs.Bounding.{Bounds, IsBounded}
+use Rattle.polyhedra.specs.Polyhedra.{mesh_of, IsPolyhedron, IsFaultOf, IsFirstToFail, checks, faults}
+use Rattle.polyhedra.proofs.Planes.{flat_by, flat_on}
+use Rattle.polyhedra.proofs.OuterPlanes.{one_plane, bounded_spanned, bounded_opposite}
+use Rattle.polyhedra.proofs.Solids.{convex_by}
+use Rattle.scad_modules.specs.Effects.{SolidCall, cube_call, polyhedron_call, cylinder_call, FlatCall, square_call, polygon_call, circle_call}
+use Rattle.scad_meaning.specs.Verdicts.{Verdict, Judge, IsRight, IsSolidVerdict, IsFlatVerdict, IsHeightVerdict}
+use Rattle.scad_design.proofs.Deciding.{Decided, decided_by, decided_both, decided_either, decided_not, decided_at_most, decided_same, decided_at_most_ℤ, decided_same_ℤ, decided_same_list, decided_all_below, decided_some_below, all_or_any, decided_all, decided_any, decided_below, decided_less_ℤ, all_or_one_below, at_most_or_more}
+
+-- sides and heights
+long_or_short : (s : ℤ) → IsLong s ⊎ (s <ℤ pos 1)
+long_or_short s = by_lt_z s (pos 1) (λ h. inr h) (λ h. inl h)
+
+even_or_odd_number : (n : ℕ) → (n % 2 ≡ 0) ⊎ (n % 2 ≡ 1)
+even_or_odd_number n = ⊎_elim (λ h. inl h) (λ h. inr (omega (arith, h))) (decided_same (n % 2) 0)
+
+even_or_odd : (unit : LengthUnit) (s : ℤ) → IsEven unit s ⊎ (unsigned_abs (grid_steps unit s) % 2 ≡ 1)
+even_or_odd unit s = even_or_odd_number (unsigned_abs (grid_steps unit s))
+
+decided_safe : (n : ℤ) → Decided (IsSafe n)
+decided_safe n = decided_by (λ h. record { size = h }) (λ h. h.size) (decided_at_most (unsigned_abs n) 9007199254740991)
+
+-- on the grid, or some odd one of what is centred
+on_grid_or_odd : (unit : LengthUnit) (center : Bool) (sides : List ℤ) → AreOnGrid unit center sides
+    ⊎ ((center ≡ true) × Any (λ s. unsigned_abs (grid_steps unit s) % 2 ≡ 1) sides)
+on_grid_or_odd unit false sides = inl tt
+on_grid_or_odd unit true sides =
+    ⊎_elim (λ h. inl h) (λ h. inr (refl, h)) (all_or_any (IsEven unit) (λ s. unsigned_abs (grid_steps unit s) % 2 ≡ 1) (even_or_odd unit) sides)
+
+abbrev SizeVerdict : LengthUnit → Bool → List ℤ → Type 0
+SizeVerdict unit center sides = AreSizes unit center sides ⊎ ((kind : FaultKind) × IsSizeFault unit center sides kind)
+
+size_verdict : (unit : LengthUnit) (center : Bool) (sides : List ℤ) → SizeVerdict unit center sides
+size_verdict unit center sides =
+    ⊎_elim (λ long.
+    ⊎_elim (λ grid.
+    ⊎_elim (λ safe. inl (record { long = long; on_grid = grid; safe = safe }))
+    (λ some. inr (TooLarge, (long, grid, some)))
+    (all_or_any (λ s. IsSafe (grid_steps unit s)) (λ s. IsSafe (grid_steps unit s) → ⊥) (λ s. decided_safe (grid_steps unit s)) sides))
+    (λ odd. inr (NotOnGrid, (long, odd.0, odd.1)))
+    (on_grid_or_odd unit center sides))
+    (λ some. inr (BadSize, some))
+    (all_or_any IsLong (λ s. s <ℤ pos 1) long_or_short sides)
+
+-- polygons
+decided_in_range : (p : List ℤ) → Decided (IsInRange p)
+decided_in_range p =
+    decided_by (λ h. record { x_size = h.0; y_size = h.1 }) (λ h. (h.x_size, h.y_size))
+    (decided_both (decided_at_most (unsigned_abs (x_of p)) 65535) (decided_at_most (unsigned_abs (y_of p)) 65535))
+
+decided_left : (points : List (List ℤ)) → Decided (GoesLeft points)
+decided_left points =
+    decided_all_below (length points) (λ i. All (λ r. pos 0 ≤ℤ turn (point points i) (point points (after (length points) i)) r) points)
+    (λ i h. decided_all (λ r. pos 0 ≤ℤ turn (point points i) (point points (after (length points) i)) r) (λ r. decided_at_most_ℤ (pos 0) (turn (point points i) (point points (after (length points) i)) r)) points)
+
+decided_right : (points : List (List ℤ)) → Decided (GoesRight points)
+decided_right points =
+    decided_all_below (length points) (λ i. All (λ r. pos 0 ≤ℤ turn (point points (after (length points) i)) (point points i) r) points)
+    (λ i h. decided_all (λ r. pos 0 ≤ℤ turn (point points (after (length points) i)) (point points i) r) (λ r. decided_at_most_ℤ (pos 0) (turn (point points (after (length points) i)) (point points i) r)) points)
+
+abbrev SomeCorner : List (List ℤ) → Type 0
+SomeCorner points = (i : ℕ) × (i < length points) × ((j : ℕ) × (j < length points) × ((k : ℕ) × (k < length points)
+    × (turn (point points i) (point points j) (point points k) ≡ pos 0 → ⊥)))
+
+decided_corner : (points : List (List ℤ)) → Decided (HasCorner points)
+decided_corner points =
+    decided_by {P = SomeCorner points}
+    (λ h. record { first = h.0; second = h.2.0; third = h.2.2.0; first_in = h.1; second_in = h.2.1; third_in = h.2.2.1; apart = h.2.2.2 })
+    (λ h. (h.first, h.first_in, (h.second, h.second_in, (h.third, h.third_in, h.apart))))
+    (decided_some_below (length points) (λ i. (j : ℕ) × (j < length points) × ((k : ℕ) × (k < length points) × (turn (point points i) (point points j) (point points k) ≡ pos 0 → ⊥)))
+    (λ i h. decided_some_below (length points) (λ j. (k : ℕ) × (k < length points) × (turn (point points i) (point points j) (point points k) ≡ pos 0 → ⊥))
+    (λ j h. decided_some_below (length points) (λ k. turn (point points i) (point points j) (point points k) ≡ pos 0 → ⊥)
+    (λ k h. decided_not (decided_same_ℤ (turn (point points i) (point points j) (point points k)) (pos 0))))))
+
+decided_convex : (points : List (List ℤ)) → Decided (IsConvex points)
+decided_convex points =
+    decided_by (λ h. record { goes = h.0; corner = h.1 }) (λ h. (h.goes, h.corner))
+    (decided_both (decided_either (decided_left points) (decided_right points)) (decided_corner points))
+
+more_than : (m n : ℕ) → (m ≤ n → ⊥) → n < m
+more_than m n h = ⊎_elim (λ k. absurd (h k)) (λ k. k) (at_most_or_more m n)
+
+abbrev PolygonVerdict : LengthUnit → List (List ℤ) → Type 0
+PolygonVerdict unit points = IsPolygon unit points ⊎ ((kind : FaultKind) × IsPolygonFault unit points kind)
+
+polygon_verdict : (unit : LengthUnit) (points : List (List ℤ)) → PolygonVerdict unit points
+polygon_verdict unit points =
+    ⊎_elim (λ most.
+    ⊎_elim (λ least.
+    ⊎_elim (λ range.
+    ⊎_elim (λ convex. inl (record { most = most; least = least; range = range; convex = convex }))
+    (λ h. inr (NotConvex, (most, least, range, h)))
+    (decided_convex (polygon_of unit points)))
+    (λ some. inr (OutOfRange, (most, least, some)))
+    (all_or_any IsInRange (λ p. IsInRange p → ⊥) decided_in_range points))
+    (λ h. inr (FewPoints, more_than 3 (length points) h))
+    (decided_at_most 3 (length points)))
+    (λ h. inr (LongList, more_than (length points) 64 h))
+    (decided_at_most (length points) 64)
+
+-- circles and cylinders
+abbrev CircleVerdict : LengthUnit → ℤ → Type 0
+CircleVerdict unit radius = IsCircleSize unit radius ⊎ ((kind : FaultKind) × IsCircleFault unit radius kind)
+
+circle_verdict : (unit : LengthUnit) (radius : ℤ) → CircleVerdict unit radius
+circle_verdict unit radius =
+    ⊎_elim (λ long.
+    ⊎_elim (λ range. inl (record { long = long; range = range }))
+    (λ h. inr (OutOfRange, (long, h)))
+    (decided_at_most (unsigned_abs (grid_steps unit radius)) 65535))
+    (λ short. inr (BadSize, short))
+    (long_or_short radius)
+
+decided_body : (height low high : ℤ) → Decided (HasBody height low high)
+decided_body height low high =
+    decided_by (λ h. record { long = h.0; low_least = h.1.0; high_least = h.1.1.0; some = λ a b. h.1.1.1 (a, b) })
+    (λ h. (h.long, (h.low_least, (h.high_least, λ both. h.some both.0 both.1))))
+    (decided_both (decided_at_most_ℤ (pos 1) height)
+    (decided_both (decided_at_most_ℤ (pos 0) low)
+    (decided_both (decided_at_most_ℤ (pos 0) high)
+    (decided_not (decided_both (decided_same_ℤ low (pos 0)) (decided_same_ℤ high (pos 0)))))))
+
+height_on_grid_or_odd : (unit : LengthUnit) (center : Bool) (height : ℤ) → IsCentredOnGrid unit center height ⊎ ((center ≡ true) × (unsigned_abs (grid_steps unit height) % 2 ≡ 1))
+height_on_grid_or_odd unit false height = inl tt
+height_on_grid_or_odd unit true height = ⊎_elim (λ h. inl h) (λ h. inr (refl, h)) (even_or_odd unit height)
+
+decided_near : (a b c d : ℤ) → Decided (AreNear a b c d)
+decided_near a b c d =
+    decided_by (λ h. record { first = h.0; second = h.1.0; third = h.1.1.0; fourth = h.1.1.1 }) (λ h. (h.first, (h.second, (h.third, h.fourth))))
+    (decided_both (decided_at_most (unsigned_abs a) 65535)
+    (decided_both (decided_at_most (unsigned_abs b) 65535)
+    (decided_both (decided_at_most (unsigned_abs c) 65535) (decided_at_most (unsigned_abs d) 65535))))
+
+abbrev CylinderVerdict : LengthUnit → Bool → ℤ → ℤ → ℤ → Type 0
+CylinderVerdict unit center height low high =
+    AreCylinderSizes unit center height low high ⊎ ((kind : FaultKind) × IsCylinderFault unit center height low high kind)
+
+decided_cylinder_range : (unit : LengthUnit) (center : Bool) (height low high : ℤ) → Decided (IsCylinderInRange unit center height low high)
+decided_cylinder_range unit center height low high = decided_near _ _ _ _
+
+cylinder_verdict : (unit : LengthUnit) (center : Bool) (height low high : ℤ) → CylinderVerdict unit center height low high
+cylinder_verdict unit center height low high =
+    ⊎_elim (λ body.
+    ⊎_elim (λ grid.
+    ⊎_elim (λ range. inl (record { body = body; on_grid = grid; range = range }))
+    (λ h. inr (OutOfRange, (body, grid, h)))
+    (decided_cylinder_range unit center height low high))
+    (λ odd. inr (NotOnGrid, (body, odd.0, odd.1)))
+    (height_on_grid_or_odd unit center height))
+    (λ h. inr (BadSize, h))
+    (decided_body height low high)
+
+-- polyhedra: what is asked of points and faces as they are written
+decided_limits : (points : List (List ℤ)) (faces : List (List ℕ)) → Decided (IsWithinLimits points faces)
+decided_limits points faces =
+    decided_by (λ h. record { points_most = h.0; faces_most = h.1.0; corners_most = h.1.1 }) (λ h. (h.points_most, (h.faces_most, h.corners_most)))
+    (decided_both (decided_at_most (length points) 128)
+    (decided_both (decided_at_most (length faces) 64) (decided_all (λ f. length f ≤ 64) (λ f. decided_at_most (length f) 64) faces)))
+
+decided_enough : (faces : List (List ℕ)) → Decided (HasEnoughCorners faces)
+decided_enough faces =
+    decided_by (λ h. record { faces_least = h.0; corners_least = h.1 }) (λ h. (h.faces_least, h.corners_least))
+    (decided_both (decided_at_most 4 (length faces)) (decided_all (λ f. 3 ≤ length f) (λ f. decided_at_most 3 (length f)) faces))
+
+decided_there : (points : ℕ) (faces : List (List ℕ)) → Decided (AreThere points faces)
+decided_there points faces = decided_all (λ f. All (λ i. i < points) f) (λ f. decided_all (λ i. i < points) (λ i. decided_below i points) f) faces
+
+decided_point_range : (p : Coordinates) → Decided (IsPointInRange p)
+decided_point_range p =
+    decided_by (λ h. record { x_size = h.0; y_size = h.1.0; z_size = h.1.1 }) (λ h. (h.x_size, (h.y_size, h.z_size)))
+    (decided_both (decided_at_most (unsigned_abs p.x) 65535)
+    (decided_both (decided_at_most (unsigned_abs p.y) 65535) (decided_at_most (unsigned_abs p.z) 65535)))
+
+-- a face whose corners don't lie on one line spans a plane
+decided_collinear : (p q r : Coordinates) → Decided (AreCollinear p q r)
+decided_collinear p q r =
+    decided_by (λ h. record { a = h.0; b = h.1.0; c = h.1.1 }) (λ h. (h.a, (h.b, h.c)))
+    (decided_both (decided_same_ℤ (through p q r).a (pos 0))
+    (decided_both (decided_same_ℤ (through p q r).b (pos 0)) (decided_same_ℤ (through p q r).c (pos 0))))
+
+abbrev at_place : List (List ℤ) → List ℕ → ℕ → Coordinates
+at_place points face i = corner points (get_or face i 0)
+
+abbrev SomeTriangle : List (List ℤ) → List ℕ → Type 0
+SomeTriangle points face = (i : ℕ) × (i < length face) × ((j : ℕ) × (j < length face) × ((k : ℕ) × (k < length face)
+    × (AreCollinear (at_place points face i) (at_place points face j) (at_place points face k) → ⊥)))
+
+decided_triangle : (points : List (List ℤ)) (face : List ℕ) → Decided (HasTriangle points face)
+decided_triangle points face =
+    decided_by {P = SomeTriangle points face}
+    (λ h. record { first = h.0; second = h.2.0; third = h.2.2.0; first_in = h.1; second_in = h.2.1; third_in = h.2.2.1; apart = h.2.2.2 })
+    (λ h. (h.first, h.first_in, (h.second, h.second_in, (h.third, h.third_in, h.apart))))
+    (decided_some_below (length face) (λ i. (j : ℕ) × (j < length face) × ((k : ℕ) × (k < length face) × (AreCollinear (at_place points face i) (at_place points face j) (at_place points face k) → ⊥)))
+    (λ i h. decided_some_below (length face) (λ j. (k : ℕ) × (k < length face) × (AreCollinear (at_place points face i) (at_place points face j) (at_place points face k) → ⊥))
+    (λ j h. decided_some_below (length face) (λ k. AreCollinear (at_place points face i) (at_place points face j) (at_place points face k) → ⊥)
+    (λ k h. decided_not (decided_collinear (at_place points face i) (at_place points face j) (at_place points face k))))))
+
+abbrev plane_by : (points : List (List ℤ)) (face : List ℕ) → HasTriangle points face → Coefficients
+plane_by points face t = through (at_place points face t.first) (at_place points face t.second) (at_place points face t.third)
+
+spans : (points : List (List ℤ)) (face : List ℕ) (t : HasTriangle points face) → SpansFace points face (plane_by points face t)
+spans points face t = record {
+  first = t.first;
+  second = t.second;
+  third = t.third;
+  first_in = t.first_in;
+  second_in = t.second_in;
+  third_in = t.third_in;
+  is = refl;
+  apart = t.apart;
+}
+
+-- flat exactly where all corners are on that plane
+decided_flat : (points : List (List ℤ)) (face : List ℕ) → Decided (IsFlat points face)
+decided_flat points face =
+    ⊎_elim (λ t.
+    decided_by (λ on. flat_by points face (plane_by points face t) (spans points face t) on)
+    (λ flat. flat_on points face (plane_by points face t) (spans points face t) flat)
+    (decided_all (λ i. value_at points (plane_by points face t) i ≡ pos 0) (λ i. decided_same_ℤ (value_at points (plane_by points face t) i) (pos 0)) face))
+    (λ none. inr (λ flat. none flat.triangle))
+    (decided_triangle points face)
+
+-- each way is met once in both directions
+abbrev make_way : List ℤ → List ℤ → Way
+make_way from to = record { from = from; to = to }
+
+same_way : (v w : Way) → (v.from ≡ w.from) × (v.to ≡ w.to) → v ≡ w
+same_way v w h = ap₂ (λ (a b : List ℤ). make_way a b) h.0 h.1
+
+decided_same_way : (v w : Way) → Decided (v ≡ w)
+decided_same_way v w =
+    decided_by (same_way v w) (λ e. (ap (λ (x : Way). x.from) e, ap (λ (x : Way). x.to) e))
+    (decided_both (decided_same_list v.from w.from) (decided_same_list v.to w.to))
+
+only_one : (P Q : Type 0) → Decided P → Decided Q → Decided (P → Q)
+only_one P Q p (inl q) = inl (λ _. q)
+only_one P Q (inl p) (inr n) = inr (λ h. n (h p))
+only_one P Q (inr m) (inr n) = inl (λ p. absurd (m p))
+
+abbrev OnceAt : List Way → Way → ℕ → Type 0
+OnceAt ways w i = (get_or ways i nowhere ≡ w) × ((k : ℕ) → k < length ways → get_or ways k nowhere ≡ w → k ≡ i)
+
+decided_once : (ways : List Way) (w : Way) → Decided (IsMetOnce ways w)
+decided_once ways w =
+    decided_by {P = (i : ℕ) × (i < length ways) × OnceAt ways w i}
+    (λ h. record { at = h.0; at_in = h.1; is = h.2.0; only = h.2.1 }) (λ h. (h.at, h.at_in, (h.is, h.only)))
+    (decided_some_below (length ways) (OnceAt ways w)
+    (λ i lt. decided_both (decided_same_way (get_or ways i nowhere) w)
+    (decided_all_below (length ways) (λ k. get_or ways k nowhere ≡ w → k ≡ i)
+    (λ k below. only_one (get_or ways k nowhere ≡ w) (k ≡ i) (decided_same_way (get_or ways k nowhere) w) (decided_same k i)))))
+
+decided_closed : (points : List (List ℤ)) (faces : List (List ℕ)) → Decided (IsClosed points faces)
+decided_closed points faces =
+    decided_all (λ w. IsMetOnce (all_ways points faces) w × IsMetOnce (all_ways points faces) (turned w))
+    (λ w. decided_both (decided_once (all_ways points faces) w) (decided_once (all_ways points faces) (turned w))) (all_ways points faces)
+
+-- convex, where all faces are flat: each face bounds the body on one of the two sides of its plane
+decided_bounds : (mesh : Mesh) (face : List ℕ) (m : Coefficients) → Decided (Bounds mesh face m)
+decided_bounds mesh face m =
+    decided_by (λ h. record { none_ahead = h.0; some_behind = h.1.0; clockwise = h.1.1 }) (λ h. (h.none_ahead, (h.some_behind, h.clockwise)))
+    (decided_both (decided_all (λ f. All (λ i. value_at mesh.points m i ≤ℤ pos 0) f) (λ f. decided_all (λ i. value_at mesh.points m i ≤ℤ pos 0) (λ i. decided_at_most_ℤ (value_at mesh.points m i) (pos 0)) f) mesh.faces)
+    (decided_both
+    (decided_any (λ f. Any (λ i. pos 0 <ℤ value_at mesh.points (opposite_of m) i) f) (λ f. decided_any (λ i. pos 0 <ℤ value_at mesh.points (opposite_of m) i) (λ i. decided_less_ℤ (pos 0) (value_at mesh.points (opposite_of m) i)) f) mesh.faces)
+    (decided_all (HasNoneLeft mesh.points face m) (λ w. decided_all (λ i. inner m (through (point_at w.from) (point_at w.to) (corner mesh.points i)) ≤ℤ pos 0) (λ i. decided_at_most_ℤ (inner m (through (point_at w.from) (point_at w.to) (corner mesh.points i))) (pos 0)) face) (ways_of mesh.points face))))
+
+-- a flat face that bounds the body, or one that makes the mesh not convex
+bounded_or_not : (mesh : Mesh) (face : List ℕ) → IsFlat mesh.points face → IsBounded mesh face ⊎ (HasOuterPlane mesh face → IsOnOnePlane mesh)
+bounded_or_not mesh face flat =
+    ⊎_elim (λ h. inl (bounded_spanned mesh face (plane_by mesh.points face flat.triangle) (spans mesh.points face flat.triangle) flat h))
+    (λ not_here. ⊎_elim
+    (λ h. inl (bounded_opposite mesh face (plane_by mesh.points face flat.triangle) (spans mesh.points face flat.triangle) flat h))
+    (λ not_there. inr (one_plane mesh face (plane_by mesh.points face flat.triangle) (spans mesh.points face flat.triangle) not_here not_there))
+    (decided_bounds mesh face (opposite_of (plane_by mesh.points face flat.triangle))))
+    (decided_bounds mesh face (plane_by mesh.points face flat.triangle))
+
+-- for each face of a list, all of them or one
+abbrev Wrong : Mesh → List ℕ → Type 0
+Wrong mesh face = HasOuterPlane mesh face → IsOnOnePlane mesh
+
+all_bounded : (mesh : Mesh) → All (IsFlat mesh.points) mesh.faces → All (IsBounded mesh) mesh.faces
+    ⊎ ((k : ℕ) × (k < length mesh.faces) × Wrong mesh (get_or mesh.faces k []))
+all_bounded mesh flat =
+    ⊎_elim (λ all. inl (λ k d lt. subst (λ (f : List ℕ). IsBounded mesh f) (get_or_default mesh.faces k [] d lt) (all k lt))) (λ h. inr h)
+    (all_or_one_below (length mesh.faces) (λ k. IsBounded mesh (get_or mesh.faces k [])) (λ k. Wrong mesh (get_or mesh.faces k []))
+    (λ k lt. bounded_or_not mesh (get_or mesh.faces k []) (flat k [] lt)))
+
+decided_convex_mesh : (mesh : Mesh) → 0 < length mesh.faces → All (IsFlat mesh.points) mesh.faces → Decided (IsConvexMesh mesh)
+decided_convex_mesh mesh some flat =
+    ⊎_elim (λ all. inl (convex_by mesh some flat all)) (λ h. inr (λ convex. convex.solid (h.2 (convex.faces h.0 [] h.1))))
+    (all_bounded mesh flat)
+
+abbrev PolyhedronVerdict : LengthUnit → List (List ℤ) → List (List ℕ) → Type 0
+PolyhedronVerdict unit points faces =
+    IsPolyhedron unit points faces ⊎ ((kind : FaultKind) × IsFaultOf (checks unit points faces) faults kind)
+
+fails_at : (unit : LengthUnit) (points : List (List ℤ)) (faces : List (List ℕ)) (n : ℕ) → IsFirstToFail (checks unit points faces) n → PolyhedronVerdict unit points faces
+fails_at unit points faces n h = inr (get_or faults n NotConvex, record { number = n; is = refl; fails = h })
+
+some_face : (faces : List (List ℕ)) → HasEnoughCorners faces → 0 < length faces
+some_face faces h = omega (arith, h.faces_least)
+
+polyhedron_verdict : (unit : LengthUnit) (points : List (List ℤ)) (faces : List (List ℕ)) → PolyhedronVerdict unit points faces
+polyhedron_verdict unit points faces =
+    ⊎_elim (λ limits.
+    ⊎_elim (λ corners.
+    ⊎_elim (λ there.
+    ⊎_elim (λ range.
+    ⊎_elim (λ flat.
+    ⊎_elim (λ closed.
+    ⊎_elim (λ convex. inl (record {
+      written = record { limits = limits; corners = corners; there = there; range = range };
+      surface = record { flat = flat; closed = closed; convex = convex };
+    }))
+    (λ h. fails_at unit points faces 6 (limits, (corners, (there, (range, (flat, (closed, h)))))))
+    (decided_convex_mesh (mesh_of unit points faces) (some_face faces corners) flat))
+    (λ h. fails_at unit points faces 5 (limits, (corners, (there, (range, (flat, h))))))
+    (decided_closed (mesh_of unit points faces).points faces))
+    (λ h. fails_at unit points faces 4 (limits, (corners, (there, (range, h)))))
+    (decided_all (IsFlat (mesh_of unit points faces).points) (decided_flat (mesh_of unit points faces).points) faces))
+    (λ h. fails_at unit points faces 3 (limits, (corners, (there, h))))
+    (decided_all (λ p. IsPointInRange (point_at p)) (λ p. decided_point_range (point_at p)) points))
+    (λ h. fails_at unit points faces 2 (limits, (corners, h)))
+    (decided_there (length points) faces))
+    (λ h. fails_at unit points faces 1 (limits, h))
+    (decided_enough faces))
+    (λ h. fails_at unit points faces 0 h)
+    (decided_limits points faces)
+
+-- the judge
+abbrev told : {P : Type 0} {F : FaultKind → Type 0} → P ⊎ ((kind : FaultKind) × F kind) → Verdict
+told (inl p) = None
+told (inr f) = Some f.0
+
+judged_solid : LengthUnit → SolidCall → Verdict
+judged_solid unit (cube_call center size) = told (size_verdict unit center size)
+judged_solid unit (polyhedron_call points faces) = told (polyhedron_verdict unit points faces)
+judged_solid unit (cylinder_call center height low high) = told (cylinder_verdict unit center height low high)
+
+judged_flat : LengthUnit → FlatCall → Verdict
+judged_flat unit (square_call center size) = told (size_verdict unit center size)
+judged_flat unit (polygon_call points) = told (polygon_verdict unit points)
+judged_flat unit (circle_call radius) = told (circle_verdict unit radius)
+
+size_right : (unit : LengthUnit) (center : Bool) (size : List ℤ) (v : SizeVerdict unit center size) → IsSolidVerdict unit (cube_call center size) (told v)
+size_right unit center size (inl h) = h
+size_right unit center size (inr f) = f.1
+
+polyhedron_right : (unit : LengthUnit) (points : List (List ℤ)) (faces : List (List ℕ)) (v : PolyhedronVerdict unit points faces) → IsSolidVerdict unit (polyhedron_call points faces) (told v)
+polyhedron_right unit points faces (inl h) = h
+polyhedron_right unit points faces (inr f) = f.1
+
+cylinder_right : (unit : LengthUnit) (center : Bool) (height low high : ℤ) (v : CylinderVerdict unit center height low high) → IsSolidVerdict unit (cylinder_call center height low high) (told v)
+cylinder_right unit center height low high (inl h) = h
+cylinder_right unit center height low high (inr f) = f.1
+
+square_right : (unit : LengthUnit) (center : Bool) (size : List ℤ) (v : SizeVerdict unit center size) → IsFlatVerdict unit (square_call center size) (told v)
+square_right unit center size (inl h) = h
+square_right unit center size (inr f) = f.1
+
+polygon_right : (unit : LengthUnit) (points : List (List ℤ)) (v : PolygonVerdict unit points) → IsFlatVerdict unit (polygon_call points) (told v)
+polygon_right unit points (inl h) = h
+polygon_right unit points (inr f) = f.1
+
+circle_right : (unit : LengthUnit) (radius : ℤ) (v : CircleVerdict unit radius) → IsFlatVerdict unit (circle_call radius) (told v)
+circle_right unit radius (inl h) = h
+circle_right unit radius (inr f) = f.1
+
+height_right : (unit : LengthUnit) (center : Bool) (height : ℤ) (v : SizeVerdict unit center (height ∷ [])) → IsHeightVerdict unit center height (told v)
+height_right unit center height (inl h) = h
+height_right unit center height (inr f) = f.1
+
+solid_right : (unit : LengthUnit) (call : SolidCall) → IsSolidVerdict unit call (judged_solid unit call)
+unfolding judged_solid
+solid_right unit (cube_call center size) = size_right unit center size (size_verdict unit center size)
+solid_right unit (polyhedron_call points faces) = polyhedron_right unit points faces (polyhedron_verdict unit points faces)
+solid_right unit (cylinder_call center height low high) = cylinder_right unit center height low high (cylinder_verdict unit center height low high)
+
+flat_right : (unit : LengthUnit) (call : FlatCall) → IsFlatVerdict unit call (judged_flat unit call)
+unfolding judged_flat
+flat_right unit (square_call center size) = square_right unit center size (size_verdict unit center size)
+flat_right unit (polygon_call points) = polygon_right unit points (polygon_verdict unit points)
+flat_right unit (circle_call radius) = circle_right unit radius (circle_verdict unit radius)
+
+abbrev the_judge : Judge
+the_judge = record { solid = judged_solid; flat = judged_flat; height = λ unit center height. told (size_verdict unit center (height ∷ [])) }
+
+pub some_judge : (judge : Judge) × IsRight judge
+some_judge = (
+  the_judge,
+  record {
+    solid = solid_right;
+    flat = flat_right;
+    height = λ unit center height. height_right unit center height (size_verdict unit center (height ∷ []));
+  },
+)

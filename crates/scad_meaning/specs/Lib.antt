@@ -1,0 +1,5 @@
+pub mod Verdicts
+pub mod Bodies
+pub mod Loops
+pub mod Meaning
+pub mod Sources

@@ -1,0 +1,44 @@
+-- What a program means: the tree of its design in world position, or its first fault.
+use Rattle.std.specs.Prelude.{◌≡◌, List, []}
+use Rattle.text_place.specs.declared.fault.Place.{Place}
+use Rattle.text_place.specs.declared.fault.FaultKind.{FaultKind}
+use Rattle.plane_predicate.specs.declared.unit.Unit.{Unit as LengthUnit}
+use Rattle.csg_tree.specs.Formulas.{Formula}
+use Rattle.scad_ast.specs.Terms.{StatementTerm, statements_from}
+use Rattle.scad_ast.specs.Places.{HoldsPlace}
+use Rattle.text_place.specs.declared.fault.Stop.{Stop}
+use Rattle.text_place.specs.declared.fault.Stop.TheVariants.{Fault, NoMemory}
+use Rattle.scad_scope.specs.Names.{first_chain}
+use Rattle.scad_func.specs.Meaning.{Outcome, Gives, Faults}
+use Rattle.scad_design.specs.Designs.{Design}
+use Rattle.scad_meaning.specs.Verdicts.{Judge, IsRight}
+use Rattle.scad_meaning.specs.Meaning.{design_of}
+use Rattle.scad_design.specs.Placing.{Placed, placed, unplaced, Places}
+
+pub data Meaning : Type 0 where
+  a_tree : (tree : Formula) → Meaning
+  a_fault : (kind : FaultKind) → (at : Place) → Meaning
+
+abbrev pub IsMeaningOf : Placed → Meaning → Type 0
+IsMeaningOf (placed tree known) meaning = meaning ≡ a_tree tree
+IsMeaningOf (unplaced kind at) meaning = meaning ≡ a_fault kind at
+
+-- a fault of evaluation comes before those of placing
+abbrev pub IsMeaningOfDesign : Outcome Design → Meaning → Type 0
+IsMeaningOfDesign (Faults kind at) meaning = meaning ≡ a_fault kind at
+IsMeaningOfDesign (Gives turns design) meaning = (out : Placed) × Places design [] out × IsMeaningOf out meaning
+
+-- the meaning of a program in units, by whatever is right about shapes
+abbrev pub IsMeaning : LengthUnit → List StatementTerm → Meaning → Type 0
+IsMeaning unit program meaning =
+    (judge : Judge) → IsRight judge → IsMeaningOfDesign (design_of unit judge first_chain (statements_from program)) meaning
+
+-- a stop of evaluation: the program's first fault, or want of memory
+abbrev pub IsMeaningStop : LengthUnit → List StatementTerm → Stop → Type 0
+IsMeaningStop unit program (Fault fault) = IsMeaning unit program (a_fault fault.kind fault.place)
+IsMeaningStop unit program NoMemory = Unit {0}
+
+-- a fault stands at one of the program's places
+abbrev pub HoldsFault : List StatementTerm → Stop → Type 0
+HoldsFault program (Fault fault) = HoldsPlace program fault.place
+HoldsFault program NoMemory = Unit {0}

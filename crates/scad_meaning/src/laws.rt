@@ -1,0 +1,59 @@
+//! Laws of the meaning of sources, on functions that do nothing.
+
+ghost use Rattle.std.specs.Prelude.{◌≡◌, ℤ, Bool, true, List};
+ghost use Rattle.std.specs.List.{AllByRecursion};
+ghost use Rattle.text_place.specs.declared.fault.Place.{Place};
+ghost use Rattle.text_place.specs.declared.fault.FaultKind.{FaultKind};
+ghost use Rattle.scad_ast.specs.Terms.{StatementTerm, StatementTerms};
+ghost use Rattle.scad_ast.specs.Places.{HoldsPlace};
+ghost use Rattle.scad_scope.specs.Blocks.{assigned_in, assignments_of};
+ghost use Rattle.scad_meaning.specs.Bodies.{StandsForAll, HaveOwnNames, is_named_in};
+ghost use Rattle.plane_predicate.specs.declared.unit.Unit.{Unit as LengthUnit};
+ghost use Rattle.scad_modules.specs.Effects.{SolidCall, FlatCall};
+ghost use Rattle.scad_meaning.specs.Verdicts.{Verdict, Judge, IsRight, IsSolidVerdict, IsFlatVerdict, IsHeightVerdict};
+ghost use Rattle.scad_meaning.specs.Sources.{Meaning, a_fault, IsMeaning};
+
+use scad_design::{one_placing, some_placing};
+
+/// The last assignment of a name in a scope counts everywhere in it (OpenSCAD User Manual, "Variables"): of all
+/// assignments of a body, those that are evaluated have each name once, with its last expression, in the place of its
+/// first.
+pub fn last_assignments_count()
+    ensures counts { (statements : StatementTerms) → AllByRecursion (StandsForAll (assigned_in statements)) (assignments_of statements) }
+    ensures once { (statements : StatementTerms) → HaveOwnNames (assignments_of statements) }
+    ensures all { (statements : StatementTerms) → AllByRecursion (λ a. is_named_in (assignments_of statements) a ≡ true) (assigned_in statements) }
+{}
+
+/// What is wrong with a shape, or with the height of an extrusion, is one thing: some judge is always right, and no two
+/// verdicts are.
+pub fn shapes_have_one_verdict()
+    ensures some { (judge : Judge) × IsRight judge }
+    ensures solids { (unit : LengthUnit) (call : SolidCall) (v w : Verdict) →
+        IsSolidVerdict unit call v → IsSolidVerdict unit call w → v ≡ w }
+    ensures flats { (unit : LengthUnit) (call : FlatCall) (v w : Verdict) →
+        IsFlatVerdict unit call v → IsFlatVerdict unit call w → v ≡ w }
+    ensures heights { (unit : LengthUnit) (center : Bool) (height : ℤ) (v w : Verdict) →
+        IsHeightVerdict unit center height v → IsHeightVerdict unit center height w → v ≡ w }
+{}
+
+/// A program has one meaning at most in each unit: one tree, or one first fault.
+pub fn one_meaning()
+    ensures { (unit : LengthUnit) (program : List StatementTerm) (m n : Meaning) → IsMeaning unit program m → IsMeaning unit program n → m ≡ n }
+{
+    shapes_have_one_verdict();
+    one_placing();
+}
+
+/// A program has a meaning in each unit: a tree, or a first fault.
+pub fn some_meaning()
+    ensures { (unit : LengthUnit) (program : List StatementTerm) → (meaning : Meaning) × IsMeaning unit program meaning }
+{
+    shapes_have_one_verdict();
+    some_placing();
+}
+
+/// A fault can be shown in its program: where a program means a fault, it stands at one of the program's places, that of
+/// a form, a name, an operator, a `?`, a `.` or the `[` of an index.
+pub fn faults_stand_in_their_program()
+    ensures { (unit : LengthUnit) (program : List StatementTerm) (kind : FaultKind) (at : Place) → IsMeaning unit program (a_fault kind at) → HoldsPlace program at }
+{}

@@ -1,0 +1,11 @@
+//! What a program means: definitions, with laws and worked rows.
+#![tactic(auto)]
+
+mod extrusion;
+mod laws;
+
+pub use extrusion::Extrusion;
+pub use laws::{
+    faults_stand_in_their_program, last_assignments_count, one_meaning, shapes_have_one_verdict,
+    some_meaning,
+};

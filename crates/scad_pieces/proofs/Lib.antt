@@ -1,0 +1,5 @@
+mod Crossing
+mod Made
+pub mod NumberedItems
+mod Numbering
+mod RangeNumbers

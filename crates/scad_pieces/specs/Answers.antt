@@ -1,0 +1,17 @@
+-- What the calls that make shapes answer.
+use Rattle.std.specs.Prelude.{◌≡◌, ℤ, List, Some, None, Result, Ok, Err}
+use Rattle.shape_planes.specs.declared.stop.ShapeStop.{ShapeStop}
+use Rattle.shape_planes.specs.declared.stop.ShapeStop.TheVariants.{Kind, NoMemory}
+use Rattle.shape_planes.specs.Shapes.{Mesh}
+use Rattle.scad_meaning.specs.Verdicts.{Verdict}
+
+-- the shape, where nothing is wrong with it, or the check that it fails, unless memory ran out
+abbrev pub TellsShape : Result Mesh ShapeStop → Verdict → Mesh → Type 0
+TellsShape (Ok shape) verdict mesh = (verdict ≡ None) × (shape ≡ mesh)
+TellsShape (Err (Kind kind)) verdict mesh = verdict ≡ Some kind
+TellsShape (Err NoMemory) verdict mesh = Unit {0}
+
+abbrev pub TellsFlat : Result (List (List ℤ)) ShapeStop → Verdict → List (List ℤ) → Type 0
+TellsFlat (Ok flat) verdict outline = (verdict ≡ None) × (flat ≡ outline)
+TellsFlat (Err (Kind kind)) verdict outline = verdict ≡ Some kind
+TellsFlat (Err NoMemory) verdict outline = Unit {0}

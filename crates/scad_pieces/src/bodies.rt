@@ -1,0 +1,79 @@
+//! What stands in a body.
+
+ghost use Rattle.std.specs.Prelude.{◌≡◌};
+ghost use Rattle.std.specs.List.{list_any};
+ghost use Rattle.scad_ast.specs.StatementView.{marks_of, instance_of, statements_of, body_of};
+ghost use Rattle.scad_meaning.specs.Bodies.{switches_off as switches_off_at, is_root as is_root_at, is_on as is_on_at, is_marked as is_marked_at, is_bare as is_bare_at, has_no_items};
+
+use scad_ast::{Body, Instance, Marks, Modifier, Statements};
+
+/// Whether an instance is evaluated: one marked `*` or `%` counts as not written. Takes no memory.
+pub(crate) fn is_on(instance: &Instance) -> bool
+    ensures { result ≡ is_on_at (instance_of instance.now) }
+{
+    !any_off(&instance.marks)
+}
+
+/// Whether an instance is marked `!`. Takes no memory.
+pub fn is_marked(instance: &Instance) -> bool
+    ensures { result ≡ is_marked_at (instance_of instance.now) }
+{
+    any_root(&instance.marks)
+}
+
+fn any_off(marks: &Marks) -> bool
+    ensures { result ≡ list_any (λ m. switches_off_at m.modifier) (marks_of marks.now) }
+{
+    for mark in &marks.items {
+        if switches_off(mark.modifier) {
+            return true;
+        }
+    }
+    false
+}
+
+fn any_root(marks: &Marks) -> bool
+    ensures { result ≡ list_any (λ m. is_root_at m.modifier) (marks_of marks.now) }
+{
+    for mark in &marks.items {
+        if is_root(mark.modifier) {
+            return true;
+        }
+    }
+    false
+}
+
+fn switches_off(modifier: Modifier) -> bool
+    ensures { result ≡ switches_off_at modifier }
+{
+    match modifier {
+        Modifier::Disable | Modifier::Background => true,
+        Modifier::Highlight | Modifier::Root => false,
+    }
+}
+
+fn is_root(modifier: Modifier) -> bool
+    ensures { result ≡ is_root_at modifier }
+{
+    match modifier {
+        Modifier::Root => true,
+        Modifier::Disable | Modifier::Background | Modifier::Highlight => false,
+    }
+}
+
+/// Whether a body is `;` or `{ }`, with no token between its braces. Takes no memory.
+pub fn is_bare(body: &Body) -> bool
+    ensures { result ≡ is_bare_at (body_of body.now) }
+{
+    match body {
+        Body::Semicolon(_) => true,
+        Body::Braces(_, statements) => has_none(statements),
+        Body::Single(_) => false,
+    }
+}
+
+fn has_none(statements: &Statements) -> bool
+    ensures { result ≡ has_no_items (statements_of statements.now) }
+{
+    statements.items.is_empty()
+}

@@ -1,0 +1,47 @@
+//! Shapes by what is known of them, or the first check that they fail.
+
+ghost use Rattle.std.specs.Prelude.{◌≡◌, None};
+ghost use Rattle.scad_modules.specs.Bounds.{IsSafeSolid, IsSafeFlat};
+ghost use Rattle.primitives.specs.Sizes.{IsSafe};
+ghost use Rattle.scad_modules.specs.View.{solid_of as solid_call, flat_of as flat_call};
+ghost use Rattle.scad_meaning.specs.Verdicts.{Judge, IsRight, solid_of, outline_of, extruded};
+ghost use Rattle.scad_pieces.specs.Answers.{TellsShape, TellsFlat};
+
+use plane_predicate::Unit;
+use polyhedra::polyhedron_shape;
+use primitives::{Flat, cube_shape, polygon_flat, square_flat};
+use round_four::{circle_flat, cylinder_shape};
+use scad_modules::{FlatShape, SolidShape};
+use shape_planes::{Shape, ShapeStop};
+use std::alloc::Global;
+
+/// A solid shape in grid steps, or the first check of shapes that it fails.
+pub fn solid_shape(alloc: Global, unit: Unit, shape: &SolidShape) -> Result<Shape, ShapeStop>
+    requires { IsSafeSolid (solid_call shape.now) }
+    ensures { (judge : Judge) → IsRight judge →
+        TellsShape result (judge.solid unit (solid_call shape.now)) (solid_of unit (solid_call shape.now)) }
+{
+    match shape {
+        SolidShape::Cube { size, center } => cube_shape(alloc, *size, *center, unit),
+        SolidShape::Polyhedron { points, faces } => polyhedron_shape(alloc, points, faces, unit),
+        SolidShape::Cylinder {
+            height,
+            low,
+            high,
+            center,
+        } => cylinder_shape(alloc, *height, *low, *high, *center, unit),
+    }
+}
+
+/// A shape in the plane in grid steps, or the first check of shapes that it fails.
+pub fn flat_shape(alloc: Global, unit: Unit, shape: &FlatShape) -> Result<Flat, ShapeStop>
+    requires { IsSafeFlat (flat_call shape.now) }
+    ensures { (judge : Judge) → IsRight judge →
+        TellsFlat result (judge.flat unit (flat_call shape.now)) (outline_of unit (flat_call shape.now)) }
+{
+    match shape {
+        FlatShape::Square { size, center } => square_flat(alloc, *size, *center, unit),
+        FlatShape::Polygon { points } => polygon_flat(alloc, points, unit),
+        FlatShape::Circle { radius } => circle_flat(alloc, *radius, unit),
+    }
+}

@@ -1,0 +1,89 @@
+-- Clients that wait for an exporter each, and clients that were served.
+use Rattle.std.proofs.Common.{◌≡◌, ℕ, ◌≤◌, List, [], ◌∷◌, ◌++◌, take, drop, length, All, ap, refl, subst, ◌∙◌, arith}
+use Rattle.std.proofs.Math.Seq.{take-append_seam}
+use Rattle.std.proofs.lemmas.List.Elements.{All-head, All-tail, All-nil, All-cons}
+use Rattle.script_reader.specs.declared.script.ClientScript.{ClientScript}
+use Rattle.script_reader.specs.Limits.{IsClientWithin}
+use Rattle.reply_text.specs.declared.reply.Reply.{Reply}
+use Rattle.reply_text.specs.Answers.{Fits, AllFit}
+use Rattle.edit_session.specs.Sessions.{start}
+use Rattle.pair_work.specs.Pairs.{EachReady, EachWorked}
+use Rattle.script_run.specs.declared.served.Served.{Served}
+use Rattle.script_run.specs.Serving.{IsReady, IsServed, AreWaiting, replies_of}
+
+-- as many wait as there are clients
+pub waiting_many : (clients : List ClientScript) (all : List Served) → AreWaiting clients all → length all ≡ length clients
+waiting_many [] [] w = refl
+waiting_many (client ∷ clients) (served ∷ all) w = omega (arith, waiting_many clients all w.3)
+waiting_many [] (served ∷ all) w = absurd w
+waiting_many (client ∷ clients) [] w = absurd w
+
+-- an exporter that was asked for nothing yet, and has what it needs
+abbrev pub IsFresh : {E : Type 0} → (E → ℕ) → (E → Type 0) → E → Type 0
+IsFresh asked CanExport e = (asked e ≡ 0) × CanExport e
+
+module _ {E : Type 0} (Fresh : E → Type 0) where
+  -- each of them may be served by such an exporter
+  pub waiting_ready : (clients : List ClientScript) (all : List Served) (es : List E) → AreWaiting clients all → All IsClientWithin clients →
+      All Fresh es → length es ≡ length all → EachReady (λ (s : Served) (e : E). IsReady s × Fresh e) all es
+  waiting_ready [] [] [] w within fresh same = tt
+  waiting_ready (client ∷ clients) (served ∷ all) (e ∷ es) w within fresh same =
+      let limits = All-head IsClientWithin client clients within in
+      let own = w.0 in
+      let few = limits.few in
+      let room = w.2 in
+      let ready : IsReady served = record {
+        empty = w.1;
+        room = omega (arith, ap length own, room);
+        few = omega (arith, ap length own, few);
+        texts = rw own limits.texts;
+      } in (
+        (ready, All-head Fresh e es fresh),
+        waiting_ready clients all es w.3 (All-tail IsClientWithin client clients within) (All-tail Fresh e es fresh) (omega (arith, same)),
+      )
+  waiting_ready [] [] (e ∷ es) w within fresh same = absurd (omega (arith, same))
+  waiting_ready (client ∷ clients) (served ∷ all) [] w within fresh same = absurd (omega (arith, same))
+  waiting_ready [] (served ∷ all) es w within fresh same = absurd w
+  waiting_ready (client ∷ clients) [] es w within fresh same = absurd w
+
+module _ {E : Type 0} (Exports : List ℕ → Reply → Type 0) where
+  abbrev Done : Served → E → Served → E → Type 0
+  Done old before new after = IsServed Exports old new
+
+  pub served_fit : (clients : List ClientScript) (all : List Served) (es : List E) (all' : List Served) (es' : List E) → AreWaiting clients all →
+      EachWorked Done all es all' es' → AllFit Exports clients (replies_of all')
+  served_fit [] [] [] [] [] w h = tt
+  served_fit (client ∷ clients) [] [] [] [] w h = absurd w
+  served_fit (client ∷ clients) (served ∷ all) (e ∷ es) (served' ∷ all') (e' ∷ es') w h =
+      (subst (λ cs. Fits Exports start cs served'.replies.items) w.0 h.0.fits, served_fit clients all es all' es' w.3 h.1)
+  served_fit [] (served ∷ all) (e ∷ es) (served' ∷ all') (e' ∷ es') w h = absurd w
+  served_fit clients all es all' es' w h = absurd h
+
+  pub served_few : (clients : List ClientScript) (all : List Served) (es : List E) (all' : List Served) (es' : List E) → AreWaiting clients all →
+      All IsClientWithin clients → EachWorked Done all es all' es' → All (λ rs. length rs ≤ 8192) (replies_of all')
+  served_few [] [] [] [] [] w within h = All-nil (λ rs. length rs ≤ 8192)
+  served_few (client ∷ clients) [] [] [] [] w within h = absurd w
+  served_few (client ∷ clients) (served ∷ all) (e ∷ es) (served' ∷ all') (e' ∷ es') w within h =
+      let own = w.0 in
+      let count = h.0.count in
+      let limits = All-head IsClientWithin client clients within in
+      let few = limits.few in
+      All-cons (λ rs. length rs ≤ 8192) served'.replies.items (replies_of all') (omega (arith, ap length own, count, few))
+      (served_few clients all es all' es' w.3 (All-tail IsClientWithin client clients within) h.1)
+  served_few [] (served ∷ all) (e ∷ es) (served' ∷ all') (e' ∷ es') w within h = absurd w
+  served_few clients all es all' es' w within h = absurd h
+
+  pub exporters_many : (all : List Served) (es : List E) (all' : List Served) (es' : List E) → EachWorked Done all es all' es' → length es' ≡ length es
+  exporters_many [] [] [] [] h = refl
+  exporters_many (served ∷ all) (e ∷ es) (served' ∷ all') (e' ∷ es') h = omega (arith, exporters_many all es all' es' h.1)
+  exporters_many all es all' es' h = absurd h
+
+  pub served_many : (all : List Served) (es : List E) (all' : List Served) (es' : List E) → EachWorked Done all es all' es' → length all' ≡ length all
+  served_many [] [] [] [] h = refl
+  served_many (served ∷ all) (e ∷ es) (served' ∷ all') (e' ∷ es') h = omega (arith, served_many all es all' es' h.1)
+  served_many all es all' es' h = absurd h
+
+-- the replies of clients that were all written over
+pub replies_left : (n : ℕ) (new old : List Served) → n ≡ length new → replies_of (take n (new ++ drop (length new) old)) ≡ replies_of new
+replies_left n new old same =
+    ap (λ k. replies_of (take k (new ++ drop (length new) old))) same ∙ ap replies_of (take-append_seam new (drop (length new) old))

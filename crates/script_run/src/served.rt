@@ -1,0 +1,42 @@
+//! The clients of a script with their replies, and the serving of one.
+
+ghost use Rattle.std.specs.Prelude.{◌≡◌};
+ghost use Rattle.script_run.specs.Serving.{IsReady, IsServed};
+
+use crate::client::serve_client;
+use crate::exporter::Exporter;
+use pair_work::PairWork;
+use plane_predicate::Unit;
+use reply_text::Reply;
+use script_reader::Command;
+use std::alloc::Global;
+
+/// A client's commands, and the replies to them, or at first the room for these.
+#[derive(Drop)]
+pub struct Served<'a> {
+    pub commands: &'a [Command],
+    pub replies: Vec<Reply>,
+}
+
+/// The serving of a client by an exporter of its own, with the lengths of sources in a unit.
+#[derive(Drop)]
+pub struct Serving {
+    pub alloc: Global,
+    pub unit: Unit,
+}
+
+impl<'a, E: Exporter> PairWork<Served<'a>, E> for Serving {
+    ghost ready = { λ w client exporter. IsReady client × ((E.asked exporter ≡ 0) × E.can_export exporter) };
+
+    ghost worked = { λ w old before new after. IsServed (E.exports w.unit) old new };
+
+    fn work(&self, client: &mut Served<'a>, exporter: &mut E) {
+        serve_client(
+            self.alloc,
+            exporter,
+            self.unit,
+            client.commands,
+            &mut client.replies,
+        );
+    }
+}

@@ -1,0 +1,178 @@
+//! Exports of sources by what they mean, with solids that a memo may hold.
+
+ghost use Rattle.std.specs.Prelude.{ℕ, ◌≡◌, ◌+◌, ◌^◌, ◌<◌, ◌≤◌, All, length, IfOk};
+ghost use Rattle.csg_tree.specs.ProperTrees.{IsProper};
+ghost use Rattle.csg_tree.specs.Trees.{formula_of};
+ghost use Rattle.subtree_memo.specs.Shares.{parts_each};
+ghost use Rattle.tree_export.specs.Exports.{IsExported, Bounds};
+ghost use Rattle.script_server.specs.Meaning.Exports.{AnswersExport};
+
+use crate::export::{reply, tree_of};
+use bsp_boolean::PlainBuilder;
+use csg_tree::{CsgTree, TreeKey};
+use memo_core::Namer;
+use parallel_eval::{Builds, Gate};
+use plane_predicate::Unit;
+use reply_text::Reply;
+use script_run::Exporter;
+use std::alloc::Global;
+use std::marker::Model;
+use std::sync::Wait;
+use std::sync::ledger::Ledger;
+use std::thread::Threads;
+use subtree_memo::{MemoLedger, Share};
+use text_place::{NoMemory, Stop};
+use tree_export::{Exported, export_made, last_nodes_are_trees, nodes_of_tree, solid_of_nothing};
+
+/// What one client has of its own: its share of the memo's books, how many builders it has, and how often it was exported,
+/// which contracts see it as.
+#[derive(Drop)]
+pub struct Client<H: Ledger, M: Ledger, K: Ledger, E: Ledger> {
+    share: Share<H, M, K, E>,
+    workers: u64,
+    asked: u32,
+}
+
+impl<H: Ledger, M: Ledger, K: Ledger, E: Ledger> Model for Client<H, M, K, E> {
+    ghost use Rattle.std.specs.Prelude.{ℕ, ◌≡◌, ◌*◌, ◌^◌, ◌≤◌};
+    ghost use Rattle.subtree_memo.specs.Shares.{parts_each};
+
+    ghost Value = { ℕ };
+
+    ghost view = { λ c. c.asked };
+
+    ghost invariant = { λ c. (1 ≤ c.workers) × (c.workers ≤ 64)
+        × (c.share.parts ≡ parts_each) × (c.share.dropped ≤ c.asked * 2 ^ 32) };
+}
+
+/// What counts how often it was exported.
+pub trait Counting {
+    ghost asked: { Self → ℕ };
+}
+
+impl<H: Ledger, M: Ledger, K: Ledger, E: Ledger> Counting for Client<H, M, K, E> {
+    ghost asked = { λ asked. asked };
+}
+
+// So many builders, which have built nothing.
+fn builders(alloc: Global, count: u64) -> Result<Vec<PlainBuilder>, NoMemory>
+    ensures many { IfOk result (λ v. length v.items ≡ count) }
+    ensures few { IfOk result (λ v. All (λ b. b ≤ 2 ^ 46) v.items) }
+{
+    let mut builders = Vec::new(alloc);
+    for _index in 0..count {
+        builders.push(PlainBuilder::new())?;
+    }
+    Ok(builders)
+}
+
+impl<H: Ledger, M: Ledger, K: Ledger, E: Ledger> Client<H, M, K, E> {
+    /// A client that was not exported yet, with 1 to 64 builders.
+    pub fn new(share: Share<H, M, K, E>, workers: u64) -> Self
+        requires workers { (1 ≤ workers) × (workers ≤ 64) }
+        requires share { (share.parts ≡ parts_each) × (share.dropped ≡ 0) }
+        ensures { result ≡ 0 }
+    {
+        Client {
+            share,
+            workers,
+            asked: 0,
+        }
+    }
+
+    /// The client's share of the books.
+    pub fn into_share(self) -> Share<H, M, K, E>
+        ensures { result.parts ≡ parts_each }
+    {
+        let Client { share, .. } = self;
+        share
+    }
+}
+
+// The export of a tree for a client.
+fn exported<
+    'a,
+    N: Namer<TreeKey> + Send + Sync,
+    H: MemoLedger + Send + Sync,
+    M: Ledger + Send + Sync,
+    K: Ledger + Send + Sync,
+    E: Ledger + Send + Sync,
+    G: Gate + Sync,
+    R: Threads + Wait + Sync,
+>(
+    builds: &Builds<'a, N, H, M, K, E, G, R>,
+    client: &mut Client<H, M, K, E>,
+    unit: Unit,
+    tree: &CsgTree,
+) -> Result<Exported, NoMemory>
+    requires proper { IsProper (formula_of tree.now) }
+    requires few { client.old < 8192 }
+    ensures exported { IfOk result (IsExported unit (formula_of tree.now)) }
+    ensures boundary { IfOk result (Bounds unit (formula_of tree.now)) }
+    ensures asked { client.new ≤ client.old + 1 }
+{
+    last_nodes_are_trees();
+    let store = nodes_of_tree(builds.alloc, tree)?;
+    let made = if store.len() == 0 {
+        Ok(solid_of_nothing(builds.alloc)?)
+    } else {
+        let mut builders = builders(builds.alloc, client.workers)?;
+        client.asked += 1;
+        builds.solid_of(&store, &mut client.share, &mut builders)
+    };
+    export_made(builds.alloc, made, unit)
+}
+
+/// The reply to the export of a client's source.
+pub fn export_source<
+    'a,
+    N: Namer<TreeKey> + Send + Sync,
+    H: MemoLedger + Send + Sync,
+    M: Ledger + Send + Sync,
+    K: Ledger + Send + Sync,
+    E: Ledger + Send + Sync,
+    G: Gate + Sync,
+    R: Threads + Wait + Sync,
+>(
+    builds: &Builds<'a, N, H, M, K, E, G, R>,
+    client: &mut Client<H, M, K, E>,
+    unit: Unit,
+    source: &[u8],
+) -> Result<Reply, NoMemory>
+    requires short { length source.now ≤ 4198400 }
+    requires few { client.old < 8192 }
+    ensures reply { IfOk result (AnswersExport unit source.now) }
+    ensures asked { client.new ≤ client.old + 1 }
+{
+    match tree_of(builds.alloc, unit, source) {
+        Ok(tree) => Ok(reply(exported(builds, client, unit, &tree)?)),
+        Err(Stop::Fault(fault)) => Ok(Reply::Faulted(fault)),
+        Err(Stop::NoMemory) => Err(NoMemory),
+    }
+}
+
+/// A client with what exports its sources. That is a closure, since no method of a trait can start threads where it runs in
+/// one.
+#[derive(Drop)]
+pub struct ClientExporter<C, F> {
+    pub client: C,
+    pub export: F,
+}
+
+impl<C: Counting, F: Fn(&mut C, Unit, &[u8]) -> Result<Reply, NoMemory>> Exporter
+    for ClientExporter<C, F> {
+    ghost use Rattle.std.specs.Prelude.{◌+◌, ◌<◌, ◌≤◌, length, IfOk};
+    ghost use Rattle.script_server.specs.Meaning.Exports.{AnswersExport};
+
+    ghost exports = { AnswersExport };
+
+    ghost asked = { λ e. C.asked e.client };
+
+    ghost can_export = { λ e. ((client : _) (unit : _) (source : _) → C.asked client.now < 8192 → length source.now ≤ 4198400 → F.pre e.export client unit source)
+        × ((client : _) (unit : _) (source : _) (r : _) (after : _) → F.post e.export client unit source r after →
+        IfOk r (AnswersExport unit source.now) × (C.asked after.now ≤ C.asked client.now + 1)) };
+
+    fn export(&mut self, _alloc: Global, unit: Unit, source: &[u8]) -> Result<Reply, NoMemory> {
+        (self.export)(&mut self.client, unit, source)
+    }
+}

@@ -1,0 +1,204 @@
+//! The clients of a script at the same time, over one memo that they share.
+
+ghost use Rattle.std.specs.Prelude.{◌≡◌, ◌+◌, ◌*◌, ◌<◌, ◌≤◌, [], All, length, vec_capacity, IfOk};
+ghost use Rattle.csg_tree.specs.TreeKeys.{name_of};
+ghost use Rattle.subtree_memo.specs.Shares.{parts_each};
+ghost use Rattle.subtree_memo.specs.Tallies.{tally_of};
+ghost use Rattle.script_reader.specs.Limits.{AreWithin};
+ghost use Rattle.reply_text.specs.Answers.{AllFit};
+ghost use Rattle.script_server.specs.Meaning.Exports.{AnswersExport};
+ghost use Rattle.script_server.specs.Books.{IsSolidMemo};
+
+use crate::exporter::{Client, ClientExporter, export_source};
+use csg_tree::TreeKey;
+use memo_core::{MemoCore, Namer};
+use parallel_eval::{Builds, Gate, OpenGate, ShaNamer, SolidFit};
+use plane_predicate::Unit;
+use reply_text::{Replies, Reply};
+use script_reader::Script;
+use script_service::How;
+use std::alloc::Global;
+use std::marker::Brand;
+use std::sync::Wait;
+use std::sync::ledger::Ledger;
+use std::thread::Threads;
+use subtree_memo::{Blanks, Memo, MemoLedger, Share, Tally};
+use text_place::NoMemory;
+
+/// What came of a script: the replies to its clients, and the memo at the end with its tally.
+#[derive(Drop)]
+pub struct Finished<N: Namer<TreeKey>> {
+    pub replies: Vec<Replies>,
+    pub tally: Tally,
+    pub core: MemoCore<SolidFit, N>,
+}
+
+// The clients of callers with these shares, in their order.
+fn clients_of<H: Ledger, M: Ledger, K: Ledger, E: Ledger>(
+    alloc: Global,
+    workers: u64,
+    shares: Vec<Share<H, M, K, E>>,
+) -> Result<Vec<Client<H, M, K, E>>, NoMemory>
+    requires workers { (1 ≤ workers) × (workers ≤ 64) }
+    requires shares { All (λ s. (s.parts ≡ parts_each) × (s.dropped ≡ 0)) shares.items }
+    ensures many { IfOk result (λ v. length v.items ≡ length shares.items) }
+    ensures unasked { IfOk result (λ v. All (λ asked. asked ≡ 0) v.items) }
+{
+    let mut clients = Vec::with_capacity(alloc, shares.len())?;
+    for share in shares {
+        clients.push(Client::new(share, workers))?;
+    }
+    Ok(clients)
+}
+
+// The exporters of clients, which all export so.
+fn exporters_of<H: Ledger, M: Ledger, K: Ledger, E: Ledger, F: Copy + Drop>(
+    alloc: Global,
+    clients: Vec<Client<H, M, K, E>>,
+    export: F,
+) -> Result<Vec<ClientExporter<Client<H, M, K, E>, F>>, NoMemory>
+    requires { All (λ asked. asked ≡ 0) clients.items }
+    ensures many { IfOk result (λ v. length v.items ≡ length clients.items) }
+    ensures alike { IfOk result (λ v. All (λ e. (e.client ≡ 0) × (e.export ≡ export)) v.items) }
+{
+    let mut exporters = Vec::with_capacity(alloc, clients.len())?;
+    for client in clients {
+        exporters.push(ClientExporter { client, export })?;
+    }
+    Ok(exporters)
+}
+
+// The shares of exporters, in room that is given for them.
+fn shares_of<H: Ledger, M: Ledger, K: Ledger, E: Ledger, F: Drop>(
+    exporters: Vec<ClientExporter<Client<H, M, K, E>, F>>,
+    room: Vec<Share<H, M, K, E>>,
+) -> Vec<Share<H, M, K, E>>
+    requires empty { room.items ≡ [] }
+    requires room { length exporters.items ≤ vec_capacity room }
+    ensures whole { All (λ s. s.parts ≡ parts_each) result.items }
+    ensures many { length result.items ≡ length exporters.items }
+{
+    let mut shares = room;
+    for exporter in exporters {
+        let ClientExporter { client, .. } = exporter;
+        shares.push_reserved(client.into_share());
+    }
+    shares
+}
+
+// Runs the clients over a memo whose ledgers no caller has named.
+fn run_over<
+    N: Namer<TreeKey> + Send + Sync,
+    H: MemoLedger + Send + Sync,
+    M: Ledger + Send + Sync,
+    K: Ledger + Send + Sync,
+    E: Ledger + Send + Sync,
+    G: Gate + Sync,
+    R: Threads + Wait + Sync,
+>(
+    rt: &R,
+    alloc: Global,
+    core: MemoCore<SolidFit, N>,
+    blanks: Blanks,
+    callers: u32,
+    gate: &G,
+    how: How,
+    script: &Script,
+) -> Result<Finished<N>, NoMemory>
+    requires within { AreWithin script.now.clients }
+    requires workers { (1 ≤ how.workers) × (how.workers ≤ 64) }
+    requires callers { (1 ≤ callers) × (callers ≤ 64) × (length script.now.clients ≤ callers) }
+    requires empty { core.journal ≡ [] }
+    requires limits { (core.budget ≡ H.budget) × (core.share ≡ H.share) }
+    requires hits { (blanks.hits.name ≡ H.name) × (blanks.hits.parts ≡ H.parts)
+        × (H.parts ≡ parts_each * callers) }
+    requires misses { (blanks.misses.name ≡ M.name) × (blanks.misses.parts ≡ M.parts)
+        × (M.parts ≡ parts_each * callers) }
+    requires kept { (blanks.kept.name ≡ K.name) × (blanks.kept.parts ≡ K.parts)
+        × (K.parts ≡ parts_each * callers) }
+    requires heavy { (blanks.heavy.name ≡ E.name) × (blanks.heavy.parts ≡ E.parts)
+        × (E.parts ≡ parts_each * callers) }
+    ensures fits { IfOk result (λ f. AllFit (AnswersExport how.unit) script.now.clients f.replies.items) }
+    ensures few { IfOk result (λ f. All (λ rs. length rs ≤ 8192) f.replies.items) }
+    ensures tally { IfOk result (λ f. f.tally ≡ tally_of f.core.journal f.tally.dropped) }
+    ensures sound { IfOk result (λ f. IsSolidMemo N.name_of f.core) }
+    ensures limits { IfOk result (λ f. (f.core.budget ≡ core.budget) × (f.core.share ≡ core.share)) }
+{
+    let (memo, shares): (Memo<SolidFit, N, H, M, K, E>, Vec<Share<H, M, K, E>>) = Memo::open(
+        alloc, core, callers, blanks,
+    )?;
+    let room = Vec::with_capacity(alloc, shares.len())?;
+    let clients = clients_of(alloc, how.workers, shares)?;
+    let builds = Builds {
+        rt,
+        alloc,
+        memo: &memo,
+        gate,
+    };
+    let lent = &builds;
+    let export = |client: &mut Client<H, M, K, E>, unit: Unit, source: &[u8]| -> Result<
+        Reply,
+        NoMemory,
+    >
+        requires { (length source.now ≤ 4198400) × (client.now < 8192) }
+        ensures reply { IfOk result (AnswersExport unit source.now) }
+        ensures asked { client.exit.now ≤ client.entry.now + 1 }
+    { export_source(lent, client, unit, source) };
+    let mut exporters = exporters_of(alloc, clients, export)?;
+    let replies = script_run::run_script(rt, alloc, &mut exporters, how.unit, script)?;
+    let shares = shares_of(exporters, room);
+    let (tally, core) = memo.close(shares);
+    Ok(Finished {
+        replies,
+        tally,
+        core,
+    })
+}
+
+/// Runs the clients of a script at the same time, each with so many builders, over one memo of this budget and share with
+/// these names. Each build of each client enters the gate first, with the client's number from 0; where it is refused, the
+/// export is answered as for want of memory. Where the whole has no memory to begin with, nothing is answered.
+pub fn run_gated<N: Namer<TreeKey> + Send + Sync, G: Gate + Sync, R: Threads + Wait + Sync>(
+    rt: &R,
+    alloc: Global,
+    namer: N,
+    gate: &G,
+    how: How,
+    script: &Script,
+) -> Result<Finished<N>, NoMemory>
+    requires within { AreWithin script.now.clients }
+    requires workers { (1 ≤ how.workers) × (how.workers ≤ 64) }
+    // Each client's replies are those that its own commands define, whatever the others do at the same time.
+    ensures fits { IfOk result (λ f. AllFit (AnswersExport how.unit) script.now.clients f.replies.items) }
+    ensures few { IfOk result (λ f. All (λ rs. length rs ≤ 8192) f.replies.items) }
+    // The tally is that of the memo's journal, which is one of the sequential memo of the budget and share.
+    ensures tally { IfOk result (λ f. f.tally ≡ tally_of f.core.journal f.tally.dropped) }
+    ensures sound { IfOk result (λ f. IsSolidMemo N.name_of f.core) }
+    ensures limits { IfOk result (λ f. (f.core.budget ≡ how.memo) × (f.core.share ≡ how.share)) }
+{
+    // A memo has at least one caller.
+    let callers = script.clients.items().len().max(1) as u32;
+    let core = MemoCore::new(alloc, SolidFit, namer, how.memo, how.share)?;
+    let blanks = Blanks::new(callers);
+    run_over::<N, Brand, Brand, Brand, Brand, G, R>(
+        rt, alloc, core, blanks, callers, gate, how, script,
+    )
+}
+
+/// The same with names by digest and a gate that is open.
+pub fn run_script<R: Threads + Wait + Sync>(
+    rt: &R,
+    alloc: Global,
+    how: How,
+    script: &Script,
+) -> Result<Finished<ShaNamer>, NoMemory>
+    requires within { AreWithin script.now.clients }
+    requires workers { (1 ≤ how.workers) × (how.workers ≤ 64) }
+    ensures fits { IfOk result (λ f. AllFit (AnswersExport how.unit) script.now.clients f.replies.items) }
+    ensures few { IfOk result (λ f. All (λ rs. length rs ≤ 8192) f.replies.items) }
+    ensures tally { IfOk result (λ f. f.tally ≡ tally_of f.core.journal f.tally.dropped) }
+    ensures sound { IfOk result (λ f. IsSolidMemo name_of f.core) }
+    ensures limits { IfOk result (λ f. (f.core.budget ≡ how.memo) × (f.core.share ≡ how.share)) }
+{
+    run_gated(rt, alloc, ShaNamer, &OpenGate, how, script)
+}

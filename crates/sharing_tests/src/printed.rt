@@ -1,0 +1,76 @@
+//! The lines behind the replies of a run.
+
+use crate::runs::{PLATE, script_of};
+use outside_io::{MemorySink, MemorySource};
+use script_server::{Status, serve};
+use std::alloc::Global;
+use std::process::Abort;
+use std::sync::Wait;
+use std::thread::Threads;
+
+// A notch, whose join is 45 in size.
+const NOTCH: &str = "difference() { cube(2); translate([1,1,1]) cube(2); }";
+
+// Whether the output of a run by these words, with one space between two of them, ends so.
+fn ends<R: Abort + Threads + Wait + Sync>(
+    rt: &R,
+    alloc: Global,
+    line: &str,
+    script: &[u8],
+    end: &str,
+) -> bool {
+    let mut words = Vec::new(alloc);
+    for word in line.split(' ') {
+        let word = String::from_str(alloc, word).expect(rt, "memory");
+        words.push(word).expect(rt, "memory");
+    }
+    let bytes = script.to_vec(alloc).expect(rt, "memory");
+    let mut source = MemorySource::new(bytes, Vec::new(alloc), 4096);
+    let mut sink = MemorySink::new(alloc, 1 << 20, Vec::new(alloc), 4096).expect(rt, "memory");
+    let status = serve(rt, alloc, &words, &mut source, &mut sink);
+    status == Status::Done && sink.held().ends_with(end.as_bytes())
+}
+
+// A plate with two holes, whose joins are 60 and 70 in size, is exported twice.
+#[test]
+fn the_tally_is_that_of_the_run(rt: HostRuntime) {
+    let alloc = rt.alloc();
+    let script = script_of(&rt, alloc, &["a"], &PLATE, 2);
+    for (line, end) in [
+        (
+            "run --workers 1 --tally",
+            "\ntally probes 4 hits 2 misses 2 offered 2 kept 2 heavy 0 dropped 0 evicted 0\n",
+        ),
+        (
+            "run --workers 1 --tally --memo 100",
+            "\ntally probes 4 hits 0 misses 4 offered 4 kept 4 heavy 0 dropped 0 evicted 3\n",
+        ),
+        (
+            "run --workers 1 --tally --memo 1",
+            "\ntally probes 4 hits 0 misses 4 offered 4 kept 0 heavy 4 dropped 0 evicted 0\n",
+        ),
+        (
+            "run --workers 1 --tally --memo 0",
+            "\ntally probes 4 hits 0 misses 4 offered 4 kept 0 heavy 4 dropped 0 evicted 0\n",
+        ),
+        (
+            "run --workers 1 --tally --share 1000",
+            "\ntally probes 4 hits 2 misses 2 offered 2 kept 2 heavy 0 dropped 0 evicted 0\nshare a 130\n",
+        ),
+    ] {
+        assert!(&rt; ends(&rt, alloc, line, &script, end), "at {line}");
+    }
+}
+
+// What two clients have of their own, however they meet.
+#[test]
+fn each_share_is_its_clients(rt: HostRuntime) {
+    let alloc = rt.alloc();
+    let mut script = script_of(&rt, alloc, &["a"], &PLATE, 1);
+    let other = script_of(&rt, alloc, &["b"], &[NOTCH], 1);
+    script.extend_from_slice(&other).expect(&rt, "memory");
+    let end =
+        "\ntally probes 3 hits 0 misses 3 offered 3 kept 3 heavy 0 dropped 0 evicted 0\nshare a 130\nshare b 45\n";
+    let line = "run --workers 8 --tally --share 1000";
+    assert!(&rt; ends(&rt, alloc, line, &script, end));
+}
