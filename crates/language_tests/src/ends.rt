@@ -13,7 +13,7 @@ fn read_behind(alloc: Global, source: &[u8], behind: &[u8]) -> Result<Program, S
     }
     let mut tokens = lex(alloc, source)?;
     let mut more = lex(alloc, behind)?;
-    if tokens.append(&mut more).is_err() {
+    if tokens.append(&mut more).is_err() || tokens.len() > 202 {
         return Err(Stop::NoMemory);
     }
     parse(alloc, &tokens)

@@ -3,7 +3,8 @@ use Rattle.std.specs.Prelude.{List, [], ◌∷◌, ◌++◌, flat_map, Contains}
 use Rattle.text_place.specs.declared.fault.Place.{Place}
 use Rattle.scad_ast.specs.Terms.{Term, NumberTerm, TextTerm, TruthTerm, UndefTerm, ChildCountTerm, SpecialTerm, NameTerm, CallTerm, ParenTerm, ListTerm, RangeTerm, SteppedRangeTerm, PostfixTerm, UnaryTerm, ChainTerm, ChoiceTerm, Terms, no_terms, and_term, ArgTerms, no_args, and_named, and_special, and_positional, SuffixTerms, no_suffixes, and_index, and_member, LinkTerms, no_links, and_link, ParamTerm, PlainTerm, DefaultTerm, BinderTerm, MarkTerm, StatementTerm, EmptyStatement, BlockStatement, AssignmentTerm, SpecialAssignmentTerm, ModuleTerm, FunctionTerm, InstanceStatement, StatementTerms, no_statements, and_statement, InstanceTerm, AnInstance, CoreTerm, IfTerm, IfElseTerm, ForTerm, IntersectionForTerm, ModuleCallTerm, BodyTerm, EmptyBody, BlockBody, InstanceBody, args_from, statements_from}
 
--- those of an expression: of its first token, and of all names, operators and opening brackets in it
+-- those of an expression: of its first token and of the first token of each expression in it, of named arguments and
+-- members, and of operators, `?`, `.` and the `[` of indices; the brackets of calls' arguments stand nowhere in it
 abbrev mutual
   pub places_of_term : Term → List Place
   places_of_term (NumberTerm at n) = at ∷ []
@@ -54,7 +55,8 @@ places_of_binder b = b.at ∷ places_of_term b.values
 abbrev pub places_of_mark : MarkTerm → List Place
 places_of_mark m = m.at ∷ []
 
--- of statements: of each form's first token, and of all that stands in it
+-- of statements: of each form's first token, of the name of a module and of a function, and of the parameters, loops'
+-- variables, modifiers, expressions, statements and bodies in it
 abbrev mutual
   pub places_of_statement : StatementTerm → List Place
   places_of_statement (EmptyStatement at) = at ∷ []
@@ -90,6 +92,6 @@ abbrev mutual
 abbrev pub places_of_program : List StatementTerm → List Place
 places_of_program program = places_of_statements (statements_from program)
 
--- a program holds a place: one of its forms, names, operators or opening brackets stands there
+-- a program holds a place: a form begins there, or a name, an operator, a `?`, a `.` or the `[` of an index stands there
 abbrev pub HoldsPlace : List StatementTerm → Place → Type 0
 HoldsPlace program at = Contains (places_of_program program) at

@@ -12,7 +12,6 @@ use Rattle.scad_ast.specs.declared.statement.Statements.{Statements}
 use Rattle.scad_ast.specs.declared.statement.Instance.{Instance}
 use Rattle.scad_ast.specs.declared.statement.Core.{Core}
 use Rattle.scad_ast.specs.declared.statement.Body.{Body}
-use Rattle.scad_ast.specs.declared.statement.Program.{Program}
 use Rattle.scad_ast.specs.declared.statement.Body.TheOpen.{Statement-F, Empty, Block, Assignment, SpecialAssignment, Module, Function, Instantiation, Statements-F, Instance-F, Core-F, If, IfElse, For, IntersectionFor, Call, Body-F, Semicolon, Braces, Single}
 use Rattle.scad_ast.specs.declared.statement.Body.TheFolds.{fold-Statement, fold-Statements, fold-Instance, fold-Core, fold-Body}
 use Rattle.scad_ast.specs.ExprView.{term_of, args_of}
@@ -79,6 +78,3 @@ statement_of = fold-Statement BodyTerm CoreTerm StatementTerm InstanceTerm (List
 
 abbrev pub statements_of : Statements → List StatementTerm
 statements_of = fold-Statements BodyTerm CoreTerm StatementTerm InstanceTerm (List StatementTerm) body_step core_step statement_step instance_step statements_step
-
-abbrev pub program_of : Program → List StatementTerm
-program_of p = statements_of p.statements

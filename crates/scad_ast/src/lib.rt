@@ -1,9 +1,10 @@
-//! Syntax of the modelling language: one variant for each form, every name, call, operator and
-//! opening bracket with its place, and every form with the place of its first token.
+//! Syntax of the modelling language: one variant for each form, every form with the place of its first
+//! token, and every name, operator, `?`, `.` and `[` of an index with its place.
 #![tactic(auto)]
 
 mod expression;
 mod operator;
+mod program;
 mod statement;
 
 pub use expression::{
@@ -11,7 +12,7 @@ pub use expression::{
     Suffixes,
 };
 pub use operator::{BinaryOp, Modifier, UnaryOp};
+pub use program::Program;
 pub use statement::{
-    Binder, Binders, Body, Core, Instance, Mark, Marks, Param, Params, Program, Statement,
-    Statements,
+    Binder, Binders, Body, Core, Instance, Mark, Marks, Param, Params, Statement, Statements,
 };

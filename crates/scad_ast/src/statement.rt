@@ -106,12 +106,6 @@ pub enum Body {
     Single(Box<Instance>),
 }
 
-/// A whole source.
-#[derive(Drop)]
-pub struct Program {
-    pub statements: Statements,
-}
-
 impl Statement {
     /// The place of the first token.
     pub fn place(&self) -> Place

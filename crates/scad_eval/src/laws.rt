@@ -45,7 +45,7 @@ pub fn one_meaning()
 }
 
 /// A fault can be shown in its program: where a program means a fault, it stands at one of the program's places, that of
-/// a form, a name, an operator or an opening bracket.
+/// a form, a name, an operator, a `?`, a `.` or the `[` of an index.
 pub fn faults_stand_in_their_program()
     ensures { (unit : LengthUnit) (program : List StatementTerm) (kind : FaultKind) (at : Place) → IsMeaning unit program (a_fault kind at) → HoldsPlace program at }
 {}

@@ -4,7 +4,7 @@ ghost use Rattle.std.specs.Prelude.{◌≡◌, List, IfOk, IfErr, map, option_ma
 ghost use Rattle.csg_tree.specs.ProperTrees.{IsProper};
 ghost use Rattle.csg_tree.specs.Trees.{formula_of};
 ghost use Rattle.scad_ast.specs.Terms.{StatementTerm};
-ghost use Rattle.scad_ast.specs.StatementView.{program_of};
+ghost use Rattle.scad_ast.specs.ProgramView.{program_of};
 ghost use Rattle.scad_func.specs.View.{IsTextOf, text_of};
 ghost use Rattle.scad_func.specs.Definitions.{IsWhole};
 ghost use Rattle.scad_design.specs.View.{plain_of};

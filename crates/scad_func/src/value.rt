@@ -1,6 +1,6 @@
 ghost use Rattle.std.specs.Prelude.{◌≡◌, ◌-◌, ◌<◌, ◌≤◌, IsTrue, IfOk, OnOk, length, true};
 ghost use Rattle.scad_ast.specs.ExprView.{term_of};
-ghost use Rattle.scad_ast.specs.StatementView.{program_of};
+ghost use Rattle.scad_ast.specs.ProgramView.{program_of};
 ghost use Rattle.scad_value.specs.Values.{is_bounded};
 ghost use Rattle.scad_value.specs.View.{val_of};
 ghost use Rattle.scad_scope.specs.Names.{env_of};

@@ -1,14 +1,14 @@
 -- An answer that is what the reader of whole programs reads is the program or the first fault.
-use Rattle.std.proofs.Common.{◌≡◌, ℕ, ◌≤◌, List, [], ◌∷◌, ◌++◌, length, true, Result, Ok, Err, refl, sym, ap, ◌∙◌, subst, arith, IfOk, IfErr, inl, inr}
+use Rattle.std.proofs.Common.{◌≡◌, ℕ, ◌≤◌, ◌<◌, ◌^◌, List, [], ◌∷◌, ◌++◌, length, true, Result, Ok, Err, refl, sym, ap, ◌∙◌, subst, arith, IfOk, IfErr, inl, inr}
 use Rattle.std.proofs.lemmas.List.Elements.{Contains-append_right}
 use Rattle.std.specs.Prelude.{Contains}
 use Rattle.text_place.specs.declared.fault.Stop.{Stop}
 use Rattle.text_place.specs.declared.fault.Stop.TheVariants.{Fault, NoMemory}
 use Rattle.scad_lexer.specs.declared.token.Token.{Token}
-use Rattle.scad_ast.specs.declared.statement.Program.{Program as ProgramIn}
+use Rattle.scad_ast.specs.declared.program.Program.{Program as ProgramIn}
 use Rattle.scad_ast.specs.Terms.{StatementTerm}
 use Rattle.scad_ast.specs.Counts.{begun_by_program}
-use Rattle.scad_ast.specs.StatementView.{program_of}
+use Rattle.scad_ast.specs.ProgramView.{program_of}
 use Rattle.scad_grammar.specs.declared.SyntaxFault.{SyntaxFault}
 use Rattle.scad_grammar.specs.FirstFault.{IsFirstFault}
 use Rattle.scad_grammar.specs.Grammar.{Program}
@@ -27,6 +27,10 @@ module _ (d : ℕ) (ts : List Token) where
   pub few : (r : Result ProgramIn Stop) → IsRead r (whole_read d ts) → IfOk r (λ p. begun_by_program (program_of p) ≤ length ts)
   few (Ok p) h = few_begun d (program_of p) ts (whole_found d ts (program_of p) h.0 h.1)
   few (Err s) h = tt
+
+  -- what fewer than 2^32 tokens write
+  pub few_read : (x : List StatementTerm) (us : List Token) → length ts < 2 ^ 32 → whole_read d ts ≡ Ok (x, us) → begun_by_program x < 2 ^ 32
+  few_read x us h e = omega (arith, few_begun d x ts (whole_found d ts x us e), h)
 
   pub program : (r : Result ProgramIn Stop) → IsRead r (whole_read d ts) → (x : List StatementTerm) → Program d x ts → AnswersProgram r x
   program (Ok p) h x g =

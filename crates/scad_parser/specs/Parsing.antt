@@ -8,9 +8,9 @@ use Rattle.text_place.specs.declared.fault.Stop.{Stop}
 use Rattle.text_place.specs.declared.fault.Stop.TheVariants.{Fault, NoMemory}
 use Rattle.scad_lexer.specs.declared.token.Token.{Token}
 use Rattle.scad_lexer.specs.Tokens.{is_end}
-use Rattle.scad_ast.specs.declared.statement.Program.{Program as ProgramIn}
+use Rattle.scad_ast.specs.declared.program.Program.{Program as ProgramIn}
 use Rattle.scad_ast.specs.Terms.{StatementTerm}
-use Rattle.scad_ast.specs.StatementView.{program_of}
+use Rattle.scad_ast.specs.ProgramView.{program_of}
 use Rattle.scad_grammar.specs.declared.SyntaxFault.{SyntaxFault}
 use Rattle.scad_grammar.specs.declared.SyntaxFault.TheVariants.{Expected, Nested, NotInProfile}
 use Rattle.scad_grammar.specs.FirstFault.{IsFirstFault}

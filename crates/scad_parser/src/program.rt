@@ -1,8 +1,9 @@
-ghost use Rattle.std.specs.Prelude.{◌≡◌, ◌≤◌, List, length, true, IfOk, IfErr};
+ghost use Rattle.std.specs.Prelude.{◌≡◌, ◌<◌, ◌≤◌, ◌^◌, List, length, true, IfOk, IfErr};
 ghost use Rattle.scad_lexer.specs.declared.token.Token.{Token};
 ghost use Rattle.scad_ast.specs.Terms.{StatementTerm};
 ghost use Rattle.scad_ast.specs.Counts.{begun_by_program};
-ghost use Rattle.scad_ast.specs.StatementView.{program_of};
+ghost use Rattle.scad_ast.specs.ProgramView.{program_of};
+ghost use Rattle.scad_ast.specs.StatementView.{statements_of};
 ghost use Rattle.scad_grammar.specs.declared.SyntaxFault.{SyntaxFault};
 ghost use Rattle.scad_grammar.specs.Grammar.{Program as ProgramAt};
 ghost use Rattle.scad_grammar.specs.FirstFault.{IsFirstFault};
@@ -12,7 +13,7 @@ ghost use Rattle.scad_parser.specs.Views.{Gives};
 use crate::class::Class;
 use crate::next::{Parsed, Stopped, not_expected, take};
 use crate::statement::statements;
-use scad_ast::Program;
+use scad_ast::{Program, Statements};
 use scad_grammar::SyntaxFault;
 use scad_lexer::Token;
 use std::alloc::Global;
@@ -21,9 +22,10 @@ use text_place::{Fault, FaultKind, Place, Stop};
 /// One more than the most that a token may be deep.
 const DEPTH: u32 = 65;
 
-/// The program that tokens write, none of which is more than 64 deep, or their first fault:
-/// `Expected`, `Nested` or `NotInProfile`.
+/// The program that fewer than 2^32 tokens write, none of which is more than 64 deep, or their first
+/// fault: `Expected`, `Nested` or `NotInProfile`.
 pub fn parse(alloc: Global, tokens: &[Token]) -> Result<Program, Stop>
+    requires { length tokens.now < 2 ^ 32 }
     // What is given is a program that the tokens write.
     ensures found { IfOk result (λ p. ProgramAt 65 (program_of p) tokens.now) }
     // The program that the tokens write is given, unless memory runs out.
@@ -40,11 +42,13 @@ pub fn parse(alloc: Global, tokens: &[Token]) -> Result<Program, Stop>
     read_program(alloc, tokens)
 }
 
+#[tactic(auto, using(crate::proofs::Parsed::few_read))]
 fn read_program(alloc: Global, tokens: &[Token]) -> Result<Program, Stop>
+    requires { length tokens.now < 2 ^ 32 }
     ensures { IsRead result (whole_read 65 tokens.now) }
 {
     match program(alloc, tokens) {
-        Ok((program, _)) => Ok(program),
+        Ok((statements, _)) => Ok(Program { statements }),
         Err(Stopped::Fault(fault, at)) => Err(Stop::Fault(Fault {
             kind: kind_of(fault),
             place: place_of(at),
@@ -53,14 +57,14 @@ fn read_program(alloc: Global, tokens: &[Token]) -> Result<Program, Stop>
     }
 }
 
-/// A program and its end, behind which nothing stands.
-fn program<'a>(alloc: Global, tokens: &'a [Token]) -> Parsed<'a, Program>
-    ensures { Gives (λ p. (program_of p.0, p.1.now)) result (whole_read 65 tokens.now) }
+/// A program's statements and its end, behind which nothing stands.
+fn program<'a>(alloc: Global, tokens: &'a [Token]) -> Parsed<'a, Statements>
+    ensures { Gives (λ p. (statements_of p.0, p.1.now)) result (whole_read 65 tokens.now) }
 {
     let (statements, rest) = statements(alloc, tokens, DEPTH)?;
     let (_, rest) = take(Class::End, rest)?;
     match rest {
-        [] => Ok((Program { statements }, rest)),
+        [] => Ok((statements, rest)),
         [_, ..] => Err(not_expected(rest)),
     }
 }

@@ -7,3 +7,4 @@ pub mod Chain
 pub mod Walks
 pub mod Held
 pub mod Order
+pub mod Begun

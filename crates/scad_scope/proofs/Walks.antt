@@ -221,13 +221,12 @@ whole_text xs =
     ∙ ap (λ x. record { entries = entries_from 0 0 0 xs; functions = functions_among xs; modules = modules_among xs; bodies = x }) (bodies_after nothing_walked xs)
 
 -- a block that ends
-pub ending : {A E : Type 0} (r : Result A E) (w v u : NumberedText) (n : ℕ) (own : Own) (s : StatementTerms) (xs : List Mark)
-    → OnOk r (u ≡ ended v n own) → v ≡ after (with_text w s) xs → n ≡ length w.entries
+pub ending : (w v u : NumberedText) (n : ℕ) (own : Own) (s : StatementTerms) (xs : List Mark)
+    → u ≡ ended v n own → v ≡ after (with_text w s) xs → n ≡ length w.entries
     → own ≡ own_of_block (length w.functions) (length w.modules) s → count_blocks xs ≡ count_blocks (marks_in s)
-    → OnOk r (u ≡ after w (a_block s ∷ xs))
-ending (Ok x) w v u n own s xs e f g o m =
+    → u ≡ after w (a_block s ∷ xs)
+ending w v u n own s xs e f g o m =
     e ∙ ap (λ (t : NumberedText). ended t n own) f ∙ ap (λ k. ended (after (with_text w s) xs) k own) g ∙ block_walked w s xs own o m
-ending (Err x) w v u n own s xs e f g o m = tt
 
 pub begun_there : (w v : NumberedText) (n : ℕ) (s : StatementTerms) (xs : List Mark) → v ≡ after (with_text w s) xs
     → n ≡ length w.entries → n < length v.entries

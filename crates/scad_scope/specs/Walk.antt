@@ -1,5 +1,5 @@
 -- What the walk through a program's text has come to.
-use Rattle.std.specs.Prelude.{ℕ, List, [], ◌∷◌, ◌++◌, length, slice_set, slice_index_or}
+use Rattle.std.specs.Prelude.{ℕ, ◌+◌, List, [], ◌∷◌, ◌++◌, length, slice_set, slice_index_or}
 use Rattle.scad_ast.specs.Terms.{StatementTerm, StatementTerms}
 use Rattle.scad_scope.specs.declared.walk.Walk.{Walk}
 use Rattle.scad_scope.specs.Blocks.{Mark, a_block, a_function, a_module, Assigned, with_assigned, all_assigned, assigned_in, assigned_by, own_functions, own_function, own_modules, own_module, Own, no_own, Entry, nothing_there, entry_at, NumberedText}
@@ -7,6 +7,10 @@ use Rattle.scad_scope.specs.TextView.{text_in}
 
 abbrev pub walked : Walk → NumberedText
 walked w = text_in w.entries.items w.functions.items w.modules.items
+
+-- how many blocks, functions and modules have numbers
+abbrev pub numbered : NumberedText → ℕ
+numbered w = length w.entries + length w.functions + length w.modules
 
 -- a walk that has begun with nothing
 abbrev pub nothing_walked : NumberedText

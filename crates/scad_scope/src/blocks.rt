@@ -22,14 +22,13 @@ pub struct Blocks<'a> {
 
 impl<'a> Blocks<'a> {
     ghost use Rattle.std.specs.Prelude.{◌≡◌, ◌<◌, IfOk, slice_index_or};
-    ghost use Rattle.scad_ast.specs.StatementView.{program_of};
+    ghost use Rattle.scad_ast.specs.ProgramView.{program_of};
     ghost use Rattle.scad_scope.specs.Blocks.{numbered_text, nothing_there, StandsInOrder};
     ghost use Rattle.scad_scope.specs.Numbered.{count_of_functions, count_of_modules};
     ghost use Rattle.scad_scope.specs.Tables.{text_held, functions_held, modules_held};
     ghost use Rattle.scad_scope.specs.TextView.{function_of, module_of, assigned_of, text_of};
 
-    /// The blocks, functions and modules of a program, by one walk through its text. `NoMemory` comes
-    /// also where there are more of them than 2^32 - 1.
+    /// The blocks, functions and modules of a program, by one walk through its text.
     pub fn of(alloc: Global, program: &'a Program) -> Result<Blocks<'a>, NoMemory>
         ensures text { IfOk result (λ blocks. text_held blocks ≡ numbered_text (program_of program.now)) }
         ensures order { IfOk result (λ blocks. StandsInOrder (text_held blocks)) }

@@ -1,9 +1,9 @@
-ghost use Rattle.std.specs.Prelude.{◌≡◌, ◌<◌, ◌++◌, [], ◌∷◌, length, IfOk, OnOk};
+ghost use Rattle.std.specs.Prelude.{◌≡◌, ◌<◌, ◌+◌, ◌^◌, ◌++◌, [], ◌∷◌, length, IfOk, OnOk};
 ghost use Rattle.scad_ast.specs.Terms.{statements_from, no_statements, and_statement, InstanceStatement};
 ghost use Rattle.scad_ast.specs.ExprView.{term_of};
 ghost use Rattle.scad_ast.specs.StatementView.{params_of, statement_of, statements_of, instance_of, core_of, body_of};
 ghost use Rattle.scad_scope.specs.Blocks.{marks_of, marks_in, marks_of_core, marks_of_body, marks_of_instance, a_block, a_function, a_module, marks_of_program};
-ghost use Rattle.scad_scope.specs.Walk.{walked, after, with_mark, nothing_walked, own_with, own_by, assigned_own, with_text, ended};
+ghost use Rattle.scad_scope.specs.Walk.{walked, numbered, after, with_mark, nothing_walked, own_with, own_by, assigned_own, with_text, ended};
 ghost use Rattle.scad_scope.specs.TextView.{own_of, text_of};
 
 use crate::text::{Assignment, BlockText, Entry, Function, Module, Named, Own};
@@ -25,20 +25,28 @@ pub(crate) struct Walk<'a> {
 pub(crate) fn walk_program<'a>(alloc: Global, program: &'a Program) -> Result<Walk<'a>, NoMemory>
     ensures { IfOk result (λ w. walked w ≡ after nothing_walked (marks_of_program (statements_of program.now.statements))) }
 {
-    let mut walk = Walk {
-        alloc,
-        entries: Vec::new(alloc),
-        functions: Vec::new(alloc),
-        modules: Vec::new(alloc),
-    };
+    let mut walk = Walk::new(alloc);
     walk.braces(&program.statements)?;
     Ok(walk)
 }
 
 impl<'a> Walk<'a> {
+    /// A walk that has begun with nothing.
+    fn new(alloc: Global) -> Walk<'a>
+        ensures { walked result ≡ nothing_walked }
+    {
+        Walk {
+            alloc,
+            entries: Vec::new(alloc),
+            functions: Vec::new(alloc),
+            modules: Vec::new(alloc),
+        }
+    }
+
     /// Goes on through statements of a block whose own definitions and assignments these are.
     #[cycle(walk)]
     fn statements(&mut self, statements: &'a Statements, own: &mut Own<'a>) -> Result<(), NoMemory>
+        requires { numbered (walked self.old) + length (marks_in (statements_from (statements_of statements.now))) < 2 ^ 32 }
         ensures walked { OnOk result (walked self.new ≡ after (walked self.old) (marks_in (statements_from (statements_of statements.now)))) }
         ensures own { OnOk result (own_of own.new ≡ own_with (own_of own.old) (length (walked self.old).functions)
             (length (walked self.old).modules) (statements_from (statements_of statements.now))) }
@@ -50,7 +58,9 @@ impl<'a> Walk<'a> {
     }
 
     #[cycle(walk)]
+    #[tactic(auto, using(crate::proofs::Begun::numbered_mark))]
     fn statement(&mut self, statement: &'a Statement, own: &mut Own<'a>) -> Result<(), NoMemory>
+        requires { numbered (walked self.old) + length (marks_of (statement_of statement.now)) < 2 ^ 32 }
         ensures walked { OnOk result (walked self.new ≡ after (walked self.old) (marks_of (statement_of statement.now))) }
         ensures own { OnOk result (own_of own.new ≡ own_by (own_of own.old) (length (walked self.old).functions)
             (length (walked self.old).modules) (statement_of statement.now)) }
@@ -84,6 +94,7 @@ impl<'a> Walk<'a> {
 
     #[cycle(walk)]
     fn core(&mut self, core: &'a Core) -> Result<(), NoMemory>
+        requires { numbered (walked self.old) + length (marks_of_core (core_of core.now)) < 2 ^ 32 }
         ensures { OnOk result (walked self.new ≡ after (walked self.old) (marks_of_core (core_of core.now))) }
     {
         match core {
@@ -96,7 +107,9 @@ impl<'a> Walk<'a> {
     }
 
     #[cycle(walk)]
+    #[tactic(auto, using(crate::proofs::Begun::numbered_after))]
     fn two(&mut self, body: &'a Body, other: &'a Body) -> Result<(), NoMemory>
+        requires { numbered (walked self.old) + length (marks_of_body (body_of body.now)) + length (marks_of_body (body_of other.now)) < 2 ^ 32 }
         ensures { OnOk result (walked self.new ≡ after (walked self.old)
             (marks_of_body (body_of body.now) ++ marks_of_body (body_of other.now))) }
     {
@@ -106,6 +119,7 @@ impl<'a> Walk<'a> {
 
     #[cycle(walk)]
     fn body(&mut self, body: &'a Body) -> Result<(), NoMemory>
+        requires { numbered (walked self.old) + length (marks_of_body (body_of body.now)) < 2 ^ 32 }
         ensures { OnOk result (walked self.new ≡ after (walked self.old) (marks_of_body (body_of body.now))) }
     {
         match body {
@@ -117,41 +131,52 @@ impl<'a> Walk<'a> {
 
     /// A block that is one instance.
     #[cycle(walk)]
+    #[tactic(auto, using(crate::proofs::Begun::numbered_begun, crate::proofs::Begun::numbered_after))]
     fn single(&mut self, instance: &'a Instance) -> Result<(), NoMemory>
+        requires { numbered (walked self.old) + length (marks_of_instance (instance_of instance.now)) + 1 < 2 ^ 32 }
         ensures { OnOk result (walked self.new ≡ after (walked self.old)
             (a_block (and_statement (InstanceStatement (instance_of instance.now)) no_statements) ∷ marks_of_instance (instance_of instance.now))) }
     {
         let number = self.begin(BlockText::Single(instance))?;
         self.core(&instance.core)?;
-        self.end(number, Own::new(self.alloc))
+        self.end(number, Own::new(self.alloc));
+        Ok(())
     }
 
     /// A block of statements in braces.
     #[cycle(walk)]
+    #[tactic(auto, using(crate::proofs::Begun::numbered_begun, crate::proofs::Begun::numbered_after))]
     fn braces(&mut self, statements: &'a Statements) -> Result<(), NoMemory>
+        requires { numbered (walked self.old) + length (marks_in (statements_from (statements_of statements.now))) + 1 < 2 ^ 32 }
         ensures { OnOk result (walked self.new ≡ after (walked self.old)
             (a_block (statements_from (statements_of statements.now)) ∷ marks_in (statements_from (statements_of statements.now)))) }
     {
         let number = self.begin(BlockText::Statements(statements))?;
         let mut own = Own::new(self.alloc);
         self.statements(statements, &mut own)?;
-        self.end(number, own)
+        self.end(number, own);
+        Ok(())
     }
 
     /// A block in which nothing stands.
+    #[tactic(auto, using(crate::proofs::Begun::numbered_begun))]
     fn nothing(&mut self) -> Result<(), NoMemory>
+        requires { numbered (walked self.old) + 1 < 2 ^ 32 }
         ensures { OnOk result (walked self.new ≡ after (walked self.old) (a_block no_statements ∷ [])) }
     {
         let number = self.begin(BlockText::Nothing)?;
-        self.end(number, Own::new(self.alloc))
+        self.end(number, Own::new(self.alloc));
+        Ok(())
     }
 
     /// A block begins: its number. What it has of its own comes when it ends.
+    #[tactic(auto, using(crate::proofs::Held::mapped_length))]
     fn begin(&mut self, text: BlockText<'a>) -> Result<u32, NoMemory>
+        requires { numbered (walked self.old) < 2 ^ 32 }
         ensures walked { OnOk result (walked self.new ≡ with_text (walked self.old) (text_of text.entry)) }
         ensures number { IfOk result (λ n. n ≡ length (walked self.old).entries) }
     {
-        let number = numbered(self.entries.len())?;
+        let number = self.entries.len() as u32;
         let own = Own::new(self.alloc);
         self.entries.push(Entry {
             text,
@@ -162,36 +187,41 @@ impl<'a> Walk<'a> {
     }
 
     /// A block ends: it gets what stands in it and the number of the first block behind it.
-    fn end(&mut self, number: u32, own: Own<'a>) -> Result<(), NoMemory>
-        requires { number < length (walked self.old).entries }
-        ensures { OnOk result (walked self.new ≡ ended (walked self.old) number (own_of own.entry)) }
+    #[tactic(auto, using(crate::proofs::Held::mapped_length))]
+    fn end(&mut self, number: u32, own: Own<'a>)
+        requires begun { number < length (walked self.old).entries }
+        requires few { numbered (walked self.old) < 2 ^ 32 }
+        ensures { walked self.new ≡ ended (walked self.old) number (own_of own.entry) }
     {
-        let behind = numbered(self.entries.len())?;
+        let behind = self.entries.len() as u32;
         let entry = &mut self.entries[number as usize];
         entry.own = own;
         entry.behind = behind;
-        Ok(())
     }
 
     /// A function begins: its number.
+    #[tactic(auto, using(crate::proofs::Held::mapped_length))]
     fn function(&mut self, params: &'a Params, value: &'a Expr) -> Result<u32, NoMemory>
+        requires { numbered (walked self.old) < 2 ^ 32 }
         ensures walked { OnOk result (walked self.new ≡ with_mark (walked self.old)
             (a_function (record { params = params_of params.now; value = term_of value.now }))) }
         ensures number { IfOk result (λ n. n ≡ length (walked self.old).functions) }
     {
-        let number = numbered(self.functions.len())?;
+        let number = self.functions.len() as u32;
         self.functions.push(Function { params, value })?;
         Ok(number)
     }
 
     /// A module begins: its number. Its body is the next block.
+    #[tactic(auto, using(crate::proofs::Held::mapped_length))]
     fn module(&mut self, params: &'a Params, body: &'a Body) -> Result<u32, NoMemory>
+        requires { numbered (walked self.old) < 2 ^ 32 }
         ensures walked { OnOk result (walked self.new ≡ with_mark (walked self.old)
             (a_module (record { params = params_of params.now; body = body_of body.now }))) }
         ensures number { IfOk result (λ n. n ≡ length (walked self.old).modules) }
     {
-        let number = numbered(self.modules.len())?;
-        let block = numbered(self.entries.len())?;
+        let number = self.modules.len() as u32;
+        let block = self.entries.len() as u32;
         self.modules.push(Module {
             params,
             body,
@@ -199,16 +229,6 @@ impl<'a> Walk<'a> {
         })?;
         Ok(number)
     }
-}
-
-/// A count as a number; past 2^32 - 1 there are no numbers, and so many things are taken as past memory.
-fn numbered(count: usize) -> Result<u32, NoMemory>
-    ensures { IfOk result (λ n. n ≡ count) }
-{
-    if count > u32::MAX as usize {
-        return Err(NoMemory);
-    }
-    Ok(count as u32)
 }
 
 /// One assignment more of a block.

@@ -4,7 +4,7 @@ use Rattle.text_place.specs.declared.fault.Stop.{Stop}
 use Rattle.text_place.specs.declared.fault.Stop.TheVariants.{Fault, NoMemory}
 use Rattle.scad_lexer.specs.declared.token.Token.{Token}
 use Rattle.scad_lexer.specs.Tokens.{Lexes, Gives}
-use Rattle.scad_ast.specs.declared.statement.Program.{Program}
+use Rattle.scad_ast.specs.declared.program.Program.{Program}
 use Rattle.scad_ast.specs.Terms.{StatementTerm}
 use Rattle.scad_parser.specs.Parsing.{IsStopOf}
 use Rattle.plane_predicate.specs.declared.unit.Unit.{Unit as LengthUnit}

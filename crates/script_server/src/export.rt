@@ -3,7 +3,7 @@
 ghost use Rattle.std.specs.Prelude.{◌≡◌, ◌-◌, ◌^◌, ◌<◌, ◌≤◌, IfOk, IfErr, length};
 ghost use Rattle.csg_tree.specs.ProperTrees.{IsProper};
 ghost use Rattle.csg_tree.specs.Trees.{formula_of};
-ghost use Rattle.scad_ast.specs.StatementView.{program_of};
+ghost use Rattle.scad_ast.specs.ProgramView.{program_of};
 ghost use Rattle.tree_export.specs.Exports.{IsExported, Bounds};
 ghost use Rattle.script_server.specs.Meaning.Sources.{Writes, RefusesText, Means, Refuses};
 ghost use Rattle.script_server.specs.Meaning.Exports.{reply_of, AnswersExport};

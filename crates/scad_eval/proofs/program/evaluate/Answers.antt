@@ -1,5 +1,5 @@
 use Rattle.std.proofs.lemmas.Result.{err_from_is_err_and}
-use Rattle.scad_ast.specs.StatementView.{program_of}
+use Rattle.scad_ast.specs.ProgramView.{program_of}
 use Rattle.scad_eval.proofs.Programs.{placed_tree, placing_stop, proper_tree}
 use Rattle.scad_eval.proofs.ProgramPlaces.{design_stop_held, result_held}
 use Rattle.scad_eval.proofs.program.evaluate.Goals as goal

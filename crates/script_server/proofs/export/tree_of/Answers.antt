@@ -1,4 +1,4 @@
-use Rattle.scad_ast.specs.StatementView.{program_of}
+use Rattle.scad_ast.specs.ProgramView.{program_of}
 use Rattle.script_server.proofs.Refusing.{program_means, program_refused}
 use Rattle.script_server.proofs.export.tree_of.Goals as goal
 

@@ -1,6 +1,6 @@
 use Rattle.std.proofs.Common.{◌≡◌, ◌∙◌, length, sym, ap, subst}
 use Rattle.std.specs.Prelude.{IsTrue}
-use Rattle.scad_ast.specs.StatementView.{program_of}
+use Rattle.scad_ast.specs.ProgramView.{program_of}
 use Rattle.scad_scope.specs.Blocks.{marks_of_program, numbered_text, NumberedText, StandsInOrder}
 use Rattle.scad_scope.specs.Numbered.{entries_below}
 use Rattle.scad_scope.specs.TextView.{function_of, module_of}

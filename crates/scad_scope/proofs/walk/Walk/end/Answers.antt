@@ -7,12 +7,12 @@ use Rattle.scad_scope.proofs.walk.Walk.end.Goals as goal
 pub returns : goal.returns
 returns c =
     let es = c.args.self.now.entries.items in
-    let here : c.args.number < length es = omega (arith, c.requires, mapped_length entry_of es) in
-    let behind : c.in_ok-behind.behind ≡ length es = search rules in
+    let here : c.args.number < length es = omega (arith, c.requires.begun, mapped_length entry_of es) in
+    let behind : c.len-behind.result ≡ length es = search rules in
     ap (λ (l : List Entry). record {
       entries = l;
       functions = map function_of c.args.self.now.functions.items;
       modules = map module_of c.args.self.now.modules.items;
       bodies = map block_of_module c.args.self.now.modules.items;
-    }) (entry_set es c.args.number c.index_mut-entry.result.now c.args.own c.in_ok-behind.behind here
+    }) (entry_set es c.args.number c.index_mut-entry.result.now c.args.own c.len-behind.result here
     c.index_mut-entry.ensures.value behind)

@@ -6,5 +6,5 @@ use Rattle.scad_scope.proofs.Walks.{ending}
 use Rattle.scad_scope.proofs.walk.Walk.nothing.Goals as goal
 
 pub returns : goal.returns
-returns c = ending c.end.result (walked c.args.self.now) (walked c.begin.new.self) (walked c.end.new.self) c.in_ok-number.number
+returns c = ending (walked c.args.self.now) (walked c.begin.new.self) (walked c.end.new.self) c.in_ok-number.number
     (own_of c.new.result) no_statements [] c.end.ensures c.in_ok-number.ensures.walked c.in_ok-number.ensures.number c.new.ensures refl

@@ -1,0 +1,8 @@
+-- The statements of a program in memory, as plain trees.
+use Rattle.std.specs.Prelude.{List}
+use Rattle.scad_ast.specs.declared.program.Program.{Program}
+use Rattle.scad_ast.specs.Terms.{StatementTerm}
+use Rattle.scad_ast.specs.StatementView.{statements_of}
+
+abbrev pub program_of : Program → List StatementTerm
+program_of p = statements_of p.statements
