@@ -1,9 +1,6 @@
 //! The parser of the modelling language: exactly the program that tokens write, or their first fault.
 #![tactic(auto)]
 
-mod class;
-mod expression;
-mod next;
 mod program;
 mod statement;
 

@@ -8,12 +8,11 @@ ghost use Rattle.scad_grammar.specs.declared.SyntaxFault.{SyntaxFault};
 ghost use Rattle.scad_grammar.specs.Grammar.{Program as ProgramAt};
 ghost use Rattle.scad_grammar.specs.FirstFault.{IsFirstFault};
 ghost use Rattle.scad_parser.specs.Parsing.{ends, whole_read, IsStopOf, StandsAtToken, AnswersProgram, AnswersFault, IsRead, kind_of as kind_at, place_at};
-ghost use Rattle.scad_parser.specs.Views.{Gives};
+ghost use Rattle.scad_expressions.specs.Views.{Gives};
 
-use crate::class::Class;
-use crate::next::{Parsed, Stopped, not_expected, take};
 use crate::statement::statements;
 use scad_ast::{Program, Statements};
+use scad_expressions::{Class, Parsed, Stopped, not_expected, take};
 use scad_grammar::SyntaxFault;
 use scad_lexer::Token;
 use std::alloc::Global;

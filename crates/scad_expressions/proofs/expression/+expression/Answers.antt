@@ -7,20 +7,20 @@ use Rattle.scad_grammar.specs.Grammar.{levels}
 use Rattle.scad_grammar.specs.Reading.{with_front}
 use Rattle.scad_grammar.specs.Reads.{expr_read, operand_read, arg_in, suffix_read}
 use Rattle.scad_grammar.proofs.Readers.{loop_more, loop_end, loop_fault}
-use Rattle.scad_parser.specs.declared.class.Level.TheVariants.{Or}
-use Rattle.scad_parser.specs.TokenClasses.{operators_at, levels_below, suffix_signs}
-use Rattle.scad_parser.specs.Views.{has_lone_atom}
-use Rattle.scad_parser.proofs.Climbs.{chain_climbs, chain_stops, climb_none, climb_step, climb_step_none, climb_stops, many_none}
-use Rattle.scad_parser.proofs.Atoms.{atom_is_operand, atom_is_side, atom_is_expression}
-use Rattle.scad_parser.proofs.Levels.{same_level, looser_step}
-use Rattle.scad_parser.proofs.Depths.{expr_none, expr_deeper, operand_none, operand_deeper}
-use Rattle.scad_parser.proofs.Given.{arg_given}
-use Rattle.scad_parser.proofs.Lengths.{link_strict, suffix_strict, expr_shorter, arg_shorter}
-use Rattle.scad_parser.proofs.Loops.{many_more, many_end, many_stop, trailing_more, trailing_end, trailing_stop}
-use Rattle.scad_parser.proofs.Stops.{operand_goes, item_goes, link_goes, first_link_goes, more_links_go, suffix_goes, first_suffix_goes, more_suffixes_go, arg_goes}
-use Rattle.scad_parser.proofs.Trees.{terms_roll, chain_made, postfix_made, args_roll}
-use Rattle.scad_parser.proofs.expression.+expression.Goals as goal
-use Rattle.scad_parser.proofs.expression.+expression.Goals.{climb_below-then-begins+in_ok-chained, climb_below-else-begins}
+use Rattle.scad_expressions.specs.declared.class.Level.TheVariants.{Or}
+use Rattle.scad_expressions.specs.TokenClasses.{operators_at, levels_below, suffix_signs}
+use Rattle.scad_expressions.specs.Views.{has_lone_atom}
+use Rattle.scad_expressions.proofs.Climbs.{chain_climbs, chain_stops, climb_none, climb_step, climb_step_none, climb_stops, many_none}
+use Rattle.scad_expressions.proofs.Atoms.{atom_is_operand, atom_is_side, atom_is_expression}
+use Rattle.scad_expressions.proofs.Levels.{same_level, looser_step}
+use Rattle.scad_expressions.proofs.Depths.{expr_none, expr_deeper, operand_none, operand_deeper}
+use Rattle.scad_expressions.proofs.Given.{arg_given}
+use Rattle.scad_expressions.proofs.Lengths.{link_strict, suffix_strict, expr_shorter, arg_shorter}
+use Rattle.scad_expressions.proofs.Loops.{many_more, many_end, many_stop, trailing_more, trailing_end, trailing_stop}
+use Rattle.scad_expressions.proofs.Stops.{operand_goes, item_goes, link_goes, first_link_goes, more_links_go, suffix_goes, first_suffix_goes, more_suffixes_go, arg_goes}
+use Rattle.scad_expressions.proofs.Trees.{terms_roll, chain_made, postfix_made, args_roll}
+use Rattle.scad_expressions.proofs.expression.+expression.Goals as goal
+use Rattle.scad_expressions.proofs.expression.+expression.Goals.{climb_below-then-begins+in_ok-chained, climb_below-else-begins}
 
 pub expr-returns-then-depth-eq0-clause-value : goal.expr-returns-then-depth-eq0-clause-value
 expr-returns-then-depth-eq0-clause-value t c = rw (expr_none c.args.depth c.args.tokens.now c.if-depth-eq0.true) (search rules)

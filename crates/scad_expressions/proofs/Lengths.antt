@@ -15,9 +15,9 @@ use Rattle.scad_grammar.proofs.Readers.{Told, IsReader, Opens}
 use Rattle.scad_grammar.proofs.Shrinks.{left, Shrinks, one_shrinks, nothing_shrinks, mapped_shrinks, both_shrinks, choice_shrinks, ahead_shrinks, many_shrinks}
 use Rattle.scad_grammar.proofs.Expressions.{depth_reads}
 use Rattle.scad_grammar.proofs.Statements.{statement_depth_reads, statement_depth_opens}
-use Rattle.scad_parser.specs.declared.class.Level.{Level}
-use Rattle.scad_parser.specs.TokenClasses.{operators_at, levels_below}
-use Rattle.scad_parser.proofs.Loops.{Shorter, Strictly}
+use Rattle.scad_expressions.specs.declared.class.Level.{Level}
+use Rattle.scad_expressions.specs.TokenClasses.{operators_at, levels_below}
+use Rattle.scad_expressions.proofs.Loops.{Shorter, Strictly}
 
 shorter : {A : Type 0} (r : Reads A) → Shrinks r → Shorter r
 shorter r h ts x us e = omega (arith, h.at ts, ap left e)

@@ -8,9 +8,9 @@ ghost use Rattle.scad_grammar.specs.Grammar.{levels, given_of, link as link_at, 
 ghost use Rattle.scad_grammar.specs.Languages.{pair_of, second_of};
 ghost use Rattle.scad_grammar.specs.Reading.{starts, both, mapped, many, trailing, in_front};
 ghost use Rattle.scad_grammar.specs.Reads.{expr_read, operand_read, arg_in, args_read, primary_read, unary_read, postfix_read, suffix_read, chain_read, choice_read, name_read, paren_read, bracket_read, range_read, rest_read, in_parentheses};
-ghost use Rattle.scad_parser.specs.Climbing.{climb_read};
-ghost use Rattle.scad_parser.specs.TokenClasses.{operators_at, levels_below, atoms, literals, suffix_signs, unary_signs};
-ghost use Rattle.scad_parser.specs.Views.{Gives, atom_of};
+ghost use Rattle.scad_expressions.specs.Climbing.{climb_read};
+ghost use Rattle.scad_expressions.specs.TokenClasses.{operators_at, levels_below, atoms, literals, suffix_signs, unary_signs};
+ghost use Rattle.scad_expressions.specs.Views.{Gives, atom_of};
 
 use crate::class::{Class, Level};
 use crate::next::{
