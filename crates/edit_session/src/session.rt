@@ -86,8 +86,7 @@ impl Session {
         if self.lines.len() == LINES {
             return Err(SessionFault::TooManyLines);
         }
-        let text = Vec::from_slice(alloc, text)?;
-        self.lines.insert(at - 1, Bytes::of(text))?;
+        self.lines.insert(at - 1, Bytes::copy_of(alloc, text)?)?;
         Ok(self.lines.len() as u32)
     }
 
@@ -102,8 +101,7 @@ impl Session {
         if at < 1 || at > self.lines.len() {
             return Err(SessionFault::NoSuchLine);
         }
-        let text = Vec::from_slice(alloc, text)?;
-        self.lines[at - 1] = Bytes::of(text);
+        self.lines[at - 1] = Bytes::copy_of(alloc, text)?;
         Ok(self.lines.len() as u32)
     }
 

@@ -1,5 +1,5 @@
 -- The faces of a text are the polygons.
-use Rattle.std.proofs.Common.{◌≡◌, ◌≢◌, ℕ, zero, suc, ◌<◌, ◌≤◌, not, List, filter, [], ◌∷◌, map, length, get_or, sym, ap, ◌∙◌, subst, arith, All, pos, ◌<ℤ◌}
+use Rattle.std.proofs.Common.{◌≡◌, ◌≢◌, ℕ, zero, suc, ◌<◌, ◌≤◌, not, List, filter, [], ◌∷◌, map, length, get_or, refl, sym, ap, ◌∙◌, subst, arith, All, pos, ◌<ℤ◌}
 use Rattle.std.proofs.lemmas.List.{length-map}
 use Rattle.std.proofs.lemmas.List.Elements.{All-append, All-filter, All-map, All-from_get_or}
 use Rattle.std.proofs.lemmas.List.Sums.{passes_at_first}
@@ -10,7 +10,7 @@ use Rattle.plane_polygon.specs.Polygons.{Outline, sides, IsPolygon, IsStrictlyWi
 use Rattle.plane_polygon.proofs.Rounds.{step, step_below}
 use Rattle.off_text.specs.Reading.{IsVertex, IsFace, off_text}
 use Rattle.off_text.specs.Boundaries.{origin, corner, grid_corner, after, Faces, Covers}
-use Rattle.off_text.specs.Texts.{same_point, distinct, number_among, from_least, printed_corners, vertices_of, faces_of, AreCornersOf}
+use Rattle.off_text.specs.Texts.{same_point, distinct, number_among, from_least, printed_corners, vertices_of, faces_of, AreCornersOf, IsTextOf}
 use Rattle.off_text.specs.Numbering.{AreNumbered}
 use Rattle.off_text.specs.Prints.{IsFaceOf, AreFacesOf, Prints}
 use Rattle.off_text.proofs.Numbers.{Known, AllKnown, place_below, same_equal, grown_knows}
@@ -161,3 +161,9 @@ prints unit polygons vertices faces bytes h e =
       };
       drawn = all.0;
     }
+
+-- the text of polygons is read back as the polygons
+pub text_prints : (unit : LengthUnit) (polygons : List Outline) (bytes : List ℕ) → All IsPolygon polygons → IsTextOf unit polygons bytes → Prints unit polygons bytes
+text_prints unit polygons bytes all text =
+    prints unit polygons (vertices_of text.faces) (faces_of text.faces) bytes
+    (record { all_polygons = all; found = text.faces; corners = text.corners; vertices_are = refl; faces_are = refl }) text.spelled

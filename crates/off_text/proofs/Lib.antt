@@ -14,6 +14,7 @@ pub mod Printed
 pub mod Drawn
 pub mod Covered
 pub mod Unique
+pub mod SomeCorners
 pub mod Boxed
 pub mod BesideFaces
 pub mod FacesOfFacets

@@ -4,7 +4,7 @@ ghost use Rattle.std.specs.Prelude.{◌≡◌, ℕ, ◌+◌, ◌*◌, ◌^◌, �
 ghost use Rattle.plane_predicate.specs.declared.unit.Unit.{Unit as LengthUnit};
 ghost use Rattle.plane_predicate.specs.Space.{Coefficients, Coordinates, IsInClosedWorld, IsPlane, IsPointTimes};
 ghost use Rattle.plane_predicate.specs.InUnits.{in_steps, in_units};
-ghost use Rattle.plane_polygon.specs.Polygons.{Outline};
+ghost use Rattle.plane_polygon.specs.Polygons.{Outline, IsPolygon};
 ghost use Rattle.csg_tree.specs.Formulas.{Formula, leaf, holds};
 ghost use Rattle.csg_tree.specs.FacePlanes.{IsOnOneFacePlane, just_ahead, just_behind};
 ghost use Rattle.csg_tree.specs.ProperTrees.{IsProper};
@@ -28,6 +28,16 @@ pub fn one_reading()
 pub fn one_text()
     ensures corners { (unit : LengthUnit) (polygons : List Outline) (faces faces' : List (List Coordinates)) → AreCornersOf unit polygons faces → AreCornersOf unit polygons faces' → faces ≡ faces' }
     ensures text { (unit : LengthUnit) (polygons : List Outline) (bytes bytes' : List ℕ) → IsTextOf unit polygons bytes → IsTextOf unit polygons bytes' → bytes ≡ bytes' }
+{}
+
+/// In each unit polygons have reduced corners.
+pub fn some_corners()
+    ensures { (unit : LengthUnit) (polygons : List Outline) → All IsPolygon polygons → (faces : List (List Coordinates)) × AreCornersOf unit polygons faces }
+{}
+
+/// The text of polygons is read back as the polygons, one face after another.
+pub fn texts_print_polygons()
+    ensures { (unit : LengthUnit) (polygons : List Outline) (bytes : List ℕ) → All IsPolygon polygons → IsTextOf unit polygons bytes → Prints unit polygons bytes }
 {}
 
 /// Printed faces cover a point as their facets do: where exactly one facet covers it facing a

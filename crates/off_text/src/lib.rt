@@ -9,6 +9,7 @@ mod writing;
 
 pub use laws::{
     faces_cover_as_facets, leaves_beside_face_planes, leaves_stay_small, one_reading, one_text,
-    printed_corners_stay_in_the_world, texts_are_boundaries, vertices_are_corners,
+    printed_corners_stay_in_the_world, some_corners, texts_are_boundaries, texts_print_polygons,
+    vertices_are_corners,
 };
 pub use text::{OffStop, off_bytes};

@@ -1,5 +1,5 @@
 -- Replies and outputs that are written out.
-use Rattle.std.proofs.Common.{◌≡◌, ℕ, List, [], ◌∷◌, refl, codes, inl, inr}
+use Rattle.std.proofs.Common.{◌≡◌, ℕ, List, [], ◌∷◌, length, refl, codes, inl, inr}
 use Rattle.text_place.specs.declared.fault.FaultKind.TheVariants.{UnknownName}
 use Rattle.text_place.specs.Decimals.{numeral}
 use Rattle.script_reader.specs.declared.script.Command.{Command}
@@ -12,6 +12,7 @@ use Rattle.reply_text.specs.declared.reply.Reply.{Reply}
 use Rattle.reply_text.specs.declared.reply.Reply.TheVariants as reply
 use Rattle.reply_text.specs.Texts.{replies_text, output}
 use Rattle.reply_text.specs.Answers.{Fits}
+use Rattle.reply_text.specs.Sums.{LackNoSolid, SumTo, AllSumTo}
 
 -- an export gives its source back
 abbrev GivesBack : List ℕ → Reply → Type 0
@@ -71,3 +72,70 @@ exports_fit = inl (refl, inr (refl, inr (refl, tt)))
 lines_are : replies_text 9 (reply.Faulted (record { kind = UnknownName; place = record { line = 1; column = 23 } }) ∷ reply.NoMem ∷ reply.Complex (limit.Solid 7) ∷ reply.Complex (limit.Sum 12) ∷ reply.Complex limit.Facets ∷ reply.Complex limit.Corners ∷ reply.Complex limit.Vertices ∷ reply.Text [] ∷ []) ≡ codes "9 fault 1:23 UnknownName\n10 nomem\n11 complex solid 7\n12 complex sum 12\n13 complex facets\n14 complex corners\n15 complex vertices\n16 text 0\n"
 unfolding numeral
 lines_are = refl
+
+-- ---- sums over exports
+abbrev HasLength : List ℕ → ℕ → Type 0
+HasLength source n = n ≡ length source
+
+-- two lines of nine bytes, exported once
+sum_is : SumTo HasLength start commands replies 18
+sum_is = (
+  0,
+  18,
+  refl,
+  (
+    0,
+    18,
+    refl,
+    (
+      0,
+      18,
+      refl,
+      (
+        0,
+        18,
+        refl,
+        (
+          0,
+          18,
+          refl,
+          (
+            0,
+            18,
+            refl,
+            (
+              0,
+              18,
+              refl,
+              (18, 0, refl, (0, 0, refl, refl, refl), refl),
+              refl,
+            ),
+            refl,
+          ),
+          refl,
+        ),
+        refl,
+      ),
+      refl,
+    ),
+    refl,
+  ),
+  refl,
+)
+
+-- a line that had no memory is not exported, and an export that the session refuses comes to nothing
+wanting_sum_is : SumTo HasLength nearly_exported (Put 1 (codes "x") ∷ Put 1 (codes "yz") ∷ Export ∷ Export ∷ []) (reply.NoMem ∷ reply.Lines 1 ∷ reply.Solid [] ∷ reply.Refused TooManyExports ∷ []) 3
+wanting_sum_is = (0, 3, refl, (0, 3, refl, (3, 0, refl, (0, 0, refl, refl, refl), refl), refl), refl)
+
+all_sum_is : AllSumTo HasLength (client ∷ exporting ∷ client ∷ []) (replies ∷ (reply.Solid [] ∷ []) ∷ replies ∷ []) 36
+all_sum_is = (18, 18, sum_is, (0, 18, (0, 0, refl, refl, refl), (18, 0, sum_is, refl, refl), refl), refl)
+
+-- a fault, a limit of the boundary and a refusal lack no solid, and a line that had no memory is no export
+none_lacks : LackNoSolid (Put 1 (codes "x") ∷ Export ∷ Export ∷ Export ∷ []) (reply.NoMem ∷ reply.Faulted (record { kind = UnknownName; place = record { line = 1; column = 1 } }) ∷ reply.Complex limit.Facets ∷ reply.Refused TooManyExports ∷ [])
+none_lacks = (tt, ((λ size. size), (tt, tt)))
+
+one_wants : LackNoSolid (Export ∷ []) (reply.NoMem ∷ []) → ⊥
+one_wants h = h.0
+
+one_is_large : LackNoSolid (Export ∷ []) (reply.Complex (limit.Sum 3) ∷ []) → ⊥
+one_is_large h = h.0 tt

@@ -52,7 +52,7 @@ plain OpenText bytes = tt
 plain (Symbol s) bytes = refl
 
 -- the tokens, where there are some, end once
-abbrev EndsOnce : Outcome → Type 0
+abbrev pub EndsOnce : Outcome → Type 0
 EndsOnce (Gives ts) = ends_once ts ≡ true
 EndsOnce (Faults k p) = Unit {0}
 
@@ -71,7 +71,7 @@ last p text o (inl a) = subst EndsOnce (sym a.1) refl
 last p text o (inr (inl a)) = subst EndsOnce (sym a.2) tt
 last p text o (inr (inr a)) = subst EndsOnce (sym a.outcome) tt
 
-reads_end : (pieces : List Piece) (p : Place) (text : List ℕ) (o : Outcome) → Reads pieces p text o → EndsOnce o
+pub reads_end : (pieces : List Piece) (p : Place) (text : List ℕ) (o : Outcome) → Reads pieces p text o → EndsOnce o
 reads_end [] p text o h = last p text o h
 reads_end (x ∷ xs) p text o h = subst EndsOnce (sym h.2.2) (more_tokens p (meaning_of x.word (take x.bytes text)) h.2.0 (plain x.word (take x.bytes text)) (reads_end xs (moved p (take x.bytes text)) (drop x.bytes text) h.2.0 h.2.1))
 

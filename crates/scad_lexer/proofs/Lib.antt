@@ -6,3 +6,4 @@ mod Lengths
 pub mod Longest
 pub mod Meanings
 pub mod Scanned
+mod SomeOutcome

@@ -10,4 +10,4 @@ mod tokens;
 mod word;
 
 pub use token::{Reserved, Symbol, Token, TokenKind};
-pub use tokens::{lex, one_outcome};
+pub use tokens::{lex, one_outcome, some_outcome};

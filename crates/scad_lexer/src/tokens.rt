@@ -1,6 +1,6 @@
-ghost use Rattle.std.specs.Prelude.{◌≡◌, ℕ, List, true, ◌+◌, ◌-◌, ◌^◌, ◌<◌, ◌≤◌, ◌++◌, ◌∷◌, [], length, IfOk, IfErr, OnOk};
+ghost use Rattle.std.specs.Prelude.{◌≡◌, ℕ, List, true, ◌+◌, ◌-◌, ◌^◌, ◌<◌, ◌≤◌, ◌++◌, ◌∷◌, [], ◌⊎◌, length, IfOk, IfErr, OnOk};
 ghost use Rattle.scad_lexer.specs.Words.{IsLongest};
-ghost use Rattle.scad_lexer.specs.Tokens.{Outcome, Gives, Lexes, Agrees, IsFault, IsFaultFrom, StandsAtByte, moved, AppendsNext, ends_once};
+ghost use Rattle.scad_lexer.specs.Tokens.{Outcome, Gives, Faults, Lexes, Agrees, IsFault, IsFaultFrom, StandsAtByte, moved, AppendsNext, ends_once};
 
 use crate::class::Class;
 use crate::meaning::{Meaning, meant};
@@ -33,6 +33,11 @@ pub fn lex(alloc: Global, text: &[u8]) -> Result<Vec<Token>, Stop>
 /// A source gives one thing: its tokens, or its first fault.
 pub fn one_outcome()
     ensures { (text : List ℕ) (o q : Outcome) → Lexes text o → Lexes text q → o ≡ q }
+{}
+
+/// Each source gives something: its tokens, the last of which is their only end, or its first fault.
+pub fn some_outcome()
+    ensures { (text : List ℕ) → ((tokens : List Token) × Lexes text (Gives tokens) × (ends_once tokens ≡ true)) ⊎ ((kind : FaultKind) × (at : Place) × Lexes text (Faults kind at)) }
 {}
 
 /// Most words are blank bytes, and symbols that begin no longer word: they are read without a search for the

@@ -1,4 +1,1 @@
-pub mod Climbing
 pub mod Parsing
-pub mod TokenClasses
-pub mod Views

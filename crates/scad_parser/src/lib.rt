@@ -1,10 +1,7 @@
 //! The parser of the modelling language: exactly the program that tokens write, or their first fault.
 #![tactic(auto)]
 
-mod class;
-mod expression;
-mod next;
 mod program;
 mod statement;
 
-pub use program::parse;
+pub use program::{an_only_end_is_last, parse};

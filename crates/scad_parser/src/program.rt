@@ -1,5 +1,6 @@
 ghost use Rattle.std.specs.Prelude.{◌≡◌, ◌<◌, ◌≤◌, ◌^◌, List, length, true, IfOk, IfErr};
 ghost use Rattle.scad_lexer.specs.declared.token.Token.{Token};
+ghost use Rattle.scad_lexer.specs.Tokens.{ends_once};
 ghost use Rattle.scad_ast.specs.Terms.{StatementTerm};
 ghost use Rattle.scad_ast.specs.Counts.{begun_by_program};
 ghost use Rattle.scad_ast.specs.ProgramView.{program_of};
@@ -8,12 +9,11 @@ ghost use Rattle.scad_grammar.specs.declared.SyntaxFault.{SyntaxFault};
 ghost use Rattle.scad_grammar.specs.Grammar.{Program as ProgramAt};
 ghost use Rattle.scad_grammar.specs.FirstFault.{IsFirstFault};
 ghost use Rattle.scad_parser.specs.Parsing.{ends, whole_read, IsStopOf, StandsAtToken, AnswersProgram, AnswersFault, IsRead, kind_of as kind_at, place_at};
-ghost use Rattle.scad_parser.specs.Views.{Gives};
+ghost use Rattle.scad_expressions.specs.Views.{Gives};
 
-use crate::class::Class;
-use crate::next::{Parsed, Stopped, not_expected, take};
 use crate::statement::statements;
 use scad_ast::{Program, Statements};
+use scad_expressions::{Class, Parsed, Stopped, not_expected, take};
 use scad_grammar::SyntaxFault;
 use scad_lexer::Token;
 use std::alloc::Global;
@@ -41,6 +41,11 @@ pub fn parse(alloc: Global, tokens: &[Token]) -> Result<Program, Stop>
 {
     read_program(alloc, tokens)
 }
+
+/// Tokens whose only end is the last of them end with an end.
+pub fn an_only_end_is_last()
+    ensures { (ts : List Token) → ends_once ts ≡ true → ends ts ≡ true }
+{}
 
 #[tactic(auto, using(crate::proofs::Parsed::few_read))]
 fn read_program(alloc: Global, tokens: &[Token]) -> Result<Program, Stop>

@@ -57,7 +57,7 @@ fn defined(alloc: Global, names: &[Named<'_>]) -> Result<Vec<Definition>, NoMemo
 {
     let mut definitions = Vec::new(alloc);
     for named in names {
-        let name = Bytes::of(Vec::from_slice(alloc, named.name)?);
+        let name = Bytes::copy_of(alloc, named.name)?;
         definitions.push(Definition {
             name,
             number: named.number,

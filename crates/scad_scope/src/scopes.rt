@@ -236,7 +236,7 @@ impl Scopes {
         ensures unchanged { OnErr result (rows_of self.new ≡ rows_of self.old) }
         ensures chain { chain_of self.new ≡ chain_of self.old }
     {
-        let name = Bytes::of(Vec::from_slice(alloc, name)?);
+        let name = Bytes::copy_of(alloc, name)?;
         self.scopes[scope as usize].bind(name, value)
     }
 
@@ -282,7 +282,7 @@ impl Scopes {
         if before > u32::MAX as usize {
             return Err(NoMemory);
         }
-        let name = Bytes::of(Vec::from_slice(alloc, name)?);
+        let name = Bytes::copy_of(alloc, name)?;
         self.chain.push(Variable { name, value })?;
         Ok(before as u32)
     }

@@ -128,7 +128,7 @@ pub(crate) fn definitions(family: Family, scope: &Scope) -> &[Definition]
 pub(crate) fn first(alloc: Global, name: &[u8], number: i64) -> Result<Variable, NoMemory>
     ensures { IfOk result (λ v. variable_of v ≡ (name.now, NumberVal number)) }
 {
-    let name = Bytes::of(Vec::from_slice(alloc, name)?);
+    let name = Bytes::copy_of(alloc, name)?;
     Ok(Variable {
         name,
         value: Value::Number(number),

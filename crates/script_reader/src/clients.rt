@@ -64,7 +64,7 @@ fn push_client(
     commands.push(command)?;
     let commands = Commands::of(commands);
     clients.numbers.insert(Vec::from_slice(alloc, name)?)?;
-    let name = Bytes::of(Vec::from_slice(alloc, name)?);
+    let name = Bytes::copy_of(alloc, name)?;
     clients.scripts.push(ClientScript { name, commands })?;
     Ok(())
 }

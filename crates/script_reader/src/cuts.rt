@@ -107,7 +107,7 @@ fn put_command(alloc: Global, edit: &[u8]) -> Result<Command, NoMemory>
     let Some((line, text)) = edit_of(edit) else {
         return Ok(Command::Bad);
     };
-    let text = Bytes::of(Vec::from_slice(alloc, text)?);
+    let text = Bytes::copy_of(alloc, text)?;
     Ok(Command::Put { line, text })
 }
 
@@ -118,7 +118,7 @@ fn set_command(alloc: Global, edit: &[u8]) -> Result<Command, NoMemory>
     let Some((line, text)) = edit_of(edit) else {
         return Ok(Command::Bad);
     };
-    let text = Bytes::of(Vec::from_slice(alloc, text)?);
+    let text = Bytes::copy_of(alloc, text)?;
     Ok(Command::Set { line, text })
 }
 

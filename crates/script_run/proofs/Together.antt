@@ -9,6 +9,7 @@ use Rattle.reply_text.specs.Answers.{Fits, AllFit}
 use Rattle.edit_session.specs.Sessions.{start}
 use Rattle.pair_work.specs.Pairs.{EachReady, EachWorked}
 use Rattle.script_run.specs.declared.served.Served.{Served}
+use Rattle.script_run.specs.Moves.{MovesAlong, AllMove}
 use Rattle.script_run.specs.Serving.{IsReady, IsServed, AreWaiting, replies_of}
 
 -- as many wait as there are clients
@@ -46,9 +47,9 @@ module _ {E : Type 0} (Fresh : E → Type 0) where
   waiting_ready [] (served ∷ all) es w within fresh same = absurd w
   waiting_ready (client ∷ clients) [] es w within fresh same = absurd w
 
-module _ {E : Type 0} (Exports : List ℕ → Reply → Type 0) where
+module _ {E : Type 0} (Exports : List ℕ → Reply → Type 0) (Moves : List ℕ → Reply → E → E → Type 0) where
   abbrev Done : Served → E → Served → E → Type 0
-  Done old before new after = IsServed Exports old new
+  Done old before new after = IsServed Exports Moves old before new after
 
   pub served_fit : (clients : List ClientScript) (all : List Served) (es : List E) (all' : List Served) (es' : List E) → AreWaiting clients all →
       EachWorked Done all es all' es' → AllFit Exports clients (replies_of all')
@@ -58,6 +59,16 @@ module _ {E : Type 0} (Exports : List ℕ → Reply → Type 0) where
       (subst (λ cs. Fits Exports start cs served'.replies.items) w.0 h.0.fits, served_fit clients all es all' es' w.3 h.1)
   served_fit [] (served ∷ all) (e ∷ es) (served' ∷ all') (e' ∷ es') w h = absurd w
   served_fit clients all es all' es' w h = absurd h
+
+  -- the exporters of the clients are what their commands make of them, and those behind stay as they are
+  pub served_move : (clients : List ClientScript) (all : List Served) (es idle : List E) (all' : List Served) (es' : List E) → AreWaiting clients all →
+      EachWorked Done all es all' es' → AllMove Moves clients (replies_of all') (es ++ idle) (es' ++ idle)
+  served_move [] [] [] idle [] [] w h = refl
+  served_move (client ∷ clients) [] [] idle [] [] w h = absurd w
+  served_move (client ∷ clients) (served ∷ all) (e ∷ es) idle (served' ∷ all') (e' ∷ es') w h =
+      (subst (λ cs. MovesAlong Moves start cs served'.replies.items e e') w.0 h.0.moved, served_move clients all es idle all' es' w.3 h.1)
+  served_move [] (served ∷ all) (e ∷ es) idle (served' ∷ all') (e' ∷ es') w h = absurd w
+  served_move clients all es idle all' es' w h = absurd h
 
   pub served_few : (clients : List ClientScript) (all : List Served) (es : List E) (all' : List Served) (es' : List E) → AreWaiting clients all →
       All IsClientWithin clients → EachWorked Done all es all' es' → All (λ rs. length rs ≤ 8192) (replies_of all')

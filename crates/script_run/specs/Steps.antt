@@ -1,6 +1,8 @@
 -- What one command does to a session, and what it is answered.
-use Rattle.std.specs.Prelude.{◌≡◌, ℕ, ◌⊎◌, List, None}
+use Rattle.std.specs.Prelude.{◌≡◌, ℕ, ◌⊎◌, List, None, Result, Ok, Err}
 use Rattle.script_reader.specs.declared.script.Command.{Command}
+use Rattle.edit_session.specs.declared.fault.SessionFault.{SessionFault}
+use Rattle.edit_session.specs.declared.fault.SessionFault.TheVariants as fault
 use Rattle.edit_session.specs.Sessions.{State, refusal, accepted, next}
 use Rattle.reply_text.specs.declared.reply.Reply.{Reply}
 use Rattle.reply_text.specs.declared.reply.Reply.TheVariants as reply
@@ -16,3 +18,9 @@ pub record Obeys (Exports : List ℕ → Reply → Type 0) (old : State) (c : Co
 abbrev pub Steps : (List ℕ → Reply → Type 0) → State → Command → State → Reply → Type 0
 Steps Exports old c new r =
     ((r ≡ reply.NoMem) × (new ≡ old)) ⊎ (Answers Exports old c r × (new ≡ next old c))
+
+-- the reply that tells what came of a command
+abbrev pub reply_in : Result Reply SessionFault → Reply
+reply_in (Ok r) = r
+reply_in (Err fault.NoMemory) = reply.NoMem
+reply_in (Err why) = reply.Refused why

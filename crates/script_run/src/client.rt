@@ -1,13 +1,14 @@
 //! The commands of one client.
 
-ghost use Rattle.std.specs.Prelude.{◌≡◌, ◌+◌, ◌<◌, ◌≤◌, [], length, All, None, IfOk, IfErr, OnErr, vec_capacity};
+ghost use Rattle.std.specs.Prelude.{◌≡◌, ◌≢◌, ◌+◌, ◌<◌, ◌≤◌, [], length, All, None, IfOk, IfErr, OnErr, vec_capacity};
 ghost use Rattle.script_reader.specs.declared.script.Command.TheVariants.{Show, Export};
 ghost use Rattle.script_reader.specs.Limits.{HasText};
 ghost use Rattle.edit_session.specs.Sessions.{start, source_of, refusal, accepted};
-ghost use Rattle.reply_text.specs.Answers.{Fits};
+ghost use Rattle.reply_text.specs.Answers.{Fits, state_after};
 ghost use Rattle.edit_session.specs.Asking.{Refuses};
 ghost use Rattle.reply_text.specs.declared.reply.Reply.TheVariants as replies;
-ghost use Rattle.script_run.specs.Steps.{Obeys, Steps};
+ghost use Rattle.script_run.specs.Steps.{Obeys, Steps, reply_in};
+ghost use Rattle.script_run.specs.Moves.{MovesAt, MovesAlong};
 
 use crate::exporter::Exporter;
 use edit_session::{Asked, Session, SessionFault};
@@ -15,18 +16,7 @@ use plane_predicate::Unit;
 use reply_text::Reply;
 use script_reader::Command;
 use std::alloc::Global;
-use text_place::{Bytes, Lines, NoMemory};
-
-// A copy of lines.
-fn copy_lines(alloc: Global, lines: &[Bytes]) -> Result<Lines, NoMemory>
-    ensures { IfOk result (λ copy. copy ≡ lines.now) }
-{
-    let mut copy = Vec::new(alloc);
-    for line in lines {
-        copy.push(Bytes::of(Vec::from_slice(alloc, line.items())?))?;
-    }
-    Ok(Lines::of(copy))
-}
+use text_place::{Lines, NoMemory};
 
 // Shows the lines, and books it.
 fn show(alloc: Global, session: &mut Session) -> Result<Reply, NoMemory>
@@ -34,7 +24,7 @@ fn show(alloc: Global, session: &mut Session) -> Result<Reply, NoMemory>
     ensures shown { IfOk result (λ reply. (reply ≡ replies.Text session.old.lines) × (session.new ≡ accepted session.old Show)) }
     ensures err { OnErr result (session.new ≡ session.old) }
 {
-    let lines = copy_lines(alloc, session.lines())?;
+    let lines = Lines::copy_of(alloc, session.lines())?;
     session.book_show();
     Ok(Reply::Text(lines))
 }
@@ -51,6 +41,8 @@ fn export<E: Exporter>(
     requires can_export { E.can_export exporter.old }
     ensures exported { IfOk result (λ reply. E.exports unit (source_of session.old) reply × (session.new ≡ accepted session.old Export)) }
     ensures err { OnErr result (session.new ≡ session.old) }
+    ensures has_memory { IfOk result (λ reply. reply ≢ replies.NoMem) }
+    ensures moved { IfOk result (λ reply. E.moves unit (source_of session.old) reply exporter.old exporter.new) }
     ensures asked { E.asked exporter.new ≤ E.asked exporter.old + 1 }
     ensures can_export { E.can_export exporter.new }
 {
@@ -73,6 +65,8 @@ fn obey<E: Exporter>(
     requires can_export { E.can_export exporter.old }
     ensures done { IfOk result (λ reply. Obeys (E.exports unit) session.old command.now session.new reply) }
     ensures refused { IfErr result (λ why. Refuses session.old command.now session.new why) }
+    ensures state { session.new ≡ state_after session.old command.now (reply_in result) }
+    ensures moved { MovesAt (E.moves unit) session.old command.now (reply_in result) exporter.old exporter.new }
     ensures asked { E.asked exporter.new ≤ E.asked exporter.old + 1 }
     ensures can_export { E.can_export exporter.new }
 {
@@ -95,6 +89,8 @@ fn reply_to<E: Exporter>(
     requires asked { E.asked exporter.old < 8192 }
     requires can_export { E.can_export exporter.old }
     ensures steps { Steps (E.exports unit) session.old command.now session.new result }
+    ensures state { session.new ≡ state_after session.old command.now result }
+    ensures moved { MovesAt (E.moves unit) session.old command.now result exporter.old exporter.new }
     ensures asked { E.asked exporter.new ≤ E.asked exporter.old + 1 }
     ensures can_export { E.can_export exporter.new }
 {
@@ -120,6 +116,7 @@ pub fn serve_client<E: Exporter>(
     requires can_export { E.can_export exporter.old }
     ensures fits { Fits (E.exports unit) start commands.now replies.new.items }
     ensures count { length replies.new.items ≡ length commands.now }
+    ensures moved { MovesAlong (E.moves unit) start commands.now replies.new.items exporter.old exporter.new }
 {
     let mut session = Session::new(alloc);
     for command in commands {

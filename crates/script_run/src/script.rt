@@ -3,6 +3,7 @@
 ghost use Rattle.std.specs.Prelude.{◌≡◌, ◌≤◌, [], length, All, IfOk, vec_capacity};
 ghost use Rattle.script_reader.specs.Limits.{AreWithin};
 ghost use Rattle.reply_text.specs.Answers.{AllFit};
+ghost use Rattle.script_run.specs.Moves.{AllMove};
 ghost use Rattle.script_run.specs.Serving.{AreWaiting, replies_of};
 
 use crate::exporter::Exporter;
@@ -58,14 +59,15 @@ pub fn run_script<E: Exporter + Send, R: Threads + Sync>(
     requires fresh { All (λ e. (E.asked e ≡ 0) × E.can_export e) exporters.old }
     ensures fits { IfOk result (λ replies. AllFit (E.exports unit) script.now.clients replies.items) }
     ensures few { IfOk result (λ replies. All (λ rs. length rs ≤ 8192) replies.items) }
+    ensures moved { IfOk result (λ replies. AllMove (E.moves unit) script.now.clients replies.items exporters.old exporters.new) }
     ensures many { length exporters.new ≡ length exporters.old }
 {
     let mut clients = waiting(alloc, script.clients.items())?;
     let room = Vec::with_capacity(alloc, clients.len())?;
     let (busy, _idle) = exporters.split_at_mut(clients.len());
-    // A thread gets the stack that the C library gives each one: that of `ulimit -s`, or 8 MiB where nothing else is
-    // set. It is enough for a solid of 1,024 planes, whose deepest merge takes less than 1 MiB, and for the deepest
-    // source, whose evaluation takes less than 7 MiB.
+    // A thread gets the stack that the C library gives each one: that of `ulimit -s`, or 2 MiB where it says
+    // `unlimited`. The usual 8 MiB are enough for a solid of 1,024 planes, whose deepest merge takes less than 1 MiB,
+    // and for the deepest source, whose evaluation takes less than 7 MiB.
     work_each(rt, &Serving { alloc, unit }, &mut clients, busy);
     Ok(taken(clients, room))
 }

@@ -28,7 +28,7 @@ pub struct Serving {
 impl<'a, E: Exporter> PairWork<Served<'a>, E> for Serving {
     ghost ready = { λ w client exporter. IsReady client × ((E.asked exporter ≡ 0) × E.can_export exporter) };
 
-    ghost worked = { λ w old before new after. IsServed (E.exports w.unit) old new };
+    ghost worked = { λ w old before new after. IsServed (E.exports w.unit) (E.moves w.unit) old before new after };
 
     fn work(&self, client: &mut Served<'a>, exporter: &mut E) {
         serve_client(

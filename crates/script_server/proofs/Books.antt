@@ -1,6 +1,7 @@
 -- Weights that are told, and parts of the books that come back.
-use Rattle.std.proofs.Common.{◌≡◌, ℕ, zero, suc, ◌+◌, ◌*◌, List, [], ◌∷◌, ◌++◌, length, length-append, take, drop, cond, nat_eq, All, refl, ap, sym, ◌∙◌, add-one, arith}
+use Rattle.std.proofs.Common.{◌≡◌, ℕ, zero, suc, ◌+◌, ◌*◌, List, [], ◌∷◌, ◌++◌, length, length-append, map, take, drop, cond, nat_eq, All, refl, ap, sym, ◌∙◌, add-one, arith}
 use Rattle.std.specs.Prelude.{sum_by}
+use Rattle.std.proofs.lemmas.List.{length-map, map-append}
 use Rattle.std.proofs.lemmas.List.Elements.{All-head, All-tail, All-nil, All-cons, All-append}
 use Rattle.std.proofs.lemmas.List.Sums.{sum_by-cons}
 use Rattle.std.proofs.Math.Seq.{take-append_seam}
@@ -43,7 +44,24 @@ pub opened_many : (n : ℕ) → length (opened n) ≡ n
 opened_many zero = refl
 opened_many (suc n) = omega (arith, length-append (opened n) (fresh n parts_each ∷ []), opened_many n)
 
--- as many are left where all were written over
-pub written_over : {A : Type 0} (n : ℕ) (new old : List A) → n ≡ length new → length (take n (new ++ drop (length new) old)) ≡ length new
-written_over n new old same =
-    ap (λ k. length (take k (new ++ drop (length new) old))) same ∙ ap length (take-append_seam new (drop (length new) old))
+-- all that is left where all were written over
+pub written_over : {A : Type 0} (n : ℕ) (new old : List A) → n ≡ length new → take n (new ++ drop (length new) old) ≡ new
+written_over n new old same = ap (λ k. take k (new ++ drop (length new) old)) same ∙ take-append_seam new (drop (length new) old)
+
+-- lists that are read item by item
+pub mapped_many : {A B : Type 0} (f : A → B) (xs : List A) (ys : List B) → map f xs ≡ ys → length xs ≡ length ys
+mapped_many f xs ys e = sym (length-map xs f) ∙ ap length e
+
+composed : {A B C : Type 0} (f : A → B) (g : B → C) (xs : List A) → map (λ x. g (f x)) xs ≡ map g (map f xs)
+composed f g [] = refl
+composed f g (x ∷ xs) = ap (λ rest. g (f x) ∷ rest) (composed f g xs)
+
+pub mapped_twice : {A B C : Type 0} (f : A → B) (g : B → C) (xs : List A) (ys : List B) (zs : List C) → map f xs ≡ ys → map g ys ≡ zs → map (λ x. g (f x)) xs ≡ zs
+mapped_twice f g xs ys zs e h = composed f g xs ∙ ap (map g) e ∙ h
+
+-- a list that is read item by item, with one item more
+pub mapped_push : {A B : Type 0} (f : A → B) (xs : List A) (x : A) (ys : List B) (y : B) → map f xs ≡ ys → f x ≡ y → map f (xs ++ x ∷ []) ≡ ys ++ y ∷ []
+mapped_push f xs x ys y e h = map-append f xs (x ∷ []) ∙ ap (λ l. l ++ f x ∷ []) e ∙ ap (λ z. ys ++ z ∷ []) h
+
+pub All_push : {A : Type 0} (P : A → Type 0) (xs : List A) (x : A) → All P xs → P x → All P (xs ++ x ∷ [])
+All_push P xs x all here = All-append P xs (x ∷ []) all (All-cons P x [] here (All-nil P))

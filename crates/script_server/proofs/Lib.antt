@@ -2,3 +2,5 @@ pub mod OneSource
 pub mod OneReply
 pub mod Refusing
 pub mod Books
+pub mod SomeReply
+pub mod Sums

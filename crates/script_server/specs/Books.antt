@@ -1,16 +1,23 @@
 -- What is told of a memo at the end of a run.
-use Rattle.std.specs.Prelude.{◌≡◌, ℕ, zero, suc, List, [], ◌∷◌, ◌++◌, length}
+use Rattle.std.specs.Prelude.{◌≡◌, ℕ, zero, suc, List, [], ◌∷◌, ◌++◌, ◌⊎◌, length}
+use Rattle.text_place.specs.declared.fault.Fault.{Fault}
+use Rattle.plane_predicate.specs.declared.unit.Unit.{Unit as LengthUnit}
 use Rattle.csg_tree.specs.Formulas.{Formula}
-use Rattle.csg_tree.specs.Numberings.{is_same_tree}
+use Rattle.csg_tree.specs.Numberings.{is_same_tree, nodes_of}
 use Rattle.csg_tree.specs.TreeKeys.{name_of}
 use Rattle.bsp_tree.specs.declared.Solid.{Solid}
 use Rattle.bsp_tree.specs.Trees.{size}
 use Rattle.bsp_tree.specs.Shapes.{tree_of}
 use Rattle.bsp_boolean.specs.Solids.{solid_of}
+use Rattle.bsp_boolean.specs.TreeSolids.{joins}
 use Rattle.memo_core.specs.Memo.{Item, Mark, itself, owned, replay, IsLegal}
 use Rattle.memo_core.specs.Views.{Core, IsSound}
 use Rattle.subtree_memo.specs.declared.tally.Tally.{Tally}
 use Rattle.subtree_memo.specs.Tallies.{tally_of}
+use Rattle.script_reader.specs.declared.script.ClientScript.{ClientScript}
+use Rattle.reply_text.specs.declared.reply.Reply.{Reply}
+use Rattle.reply_text.specs.Sums.{AllLackNoSolid, AllSumTo}
+use Rattle.script_server.specs.Meaning.Sources.{Means, HasFault}
 
 -- A memo of solids by trees: each entry holds the solid of its tree with its size as its weight, and the journal is one that
 -- the sequential memo keeps, and replays to the entries.
@@ -22,10 +29,23 @@ abbrev pub weights_of : ℕ → List (Mark Formula) → List ℕ
 weights_of zero marks = []
 weights_of (suc n) marks = weights_of n marks ++ owned itself n marks ∷ []
 
+-- how many joins an export of a source has: those among the distinct subtrees of its tree, and none where it has a fault
+abbrev pub HasJoins : LengthUnit → List ℕ → ℕ → Type 0
+HasJoins unit source n =
+    ((fault : Fault) × HasFault unit source fault × (n ≡ 0))
+    ⊎ ((tree : Formula) × Means unit source tree × (n ≡ joins (nodes_of tree)))
+
+-- Where no export was answered by want of memory or by a limit of size, the probes are the joins of all exports in sum, and as many
+-- fills were offered as there were misses.
+abbrev pub AddsUp : LengthUnit → List ClientScript → List (List Reply) → Tally → Type 0
+AddsUp unit clients replies tally =
+    AllLackNoSolid clients replies → AllSumTo (HasJoins unit) clients replies tally.probes × (tally.offered ≡ tally.misses)
+
 -- A tally and the weights of the callers' entries are those of some journal that the sequential memo of this budget and share
--- keeps, with trees as its keys and the digests of their bytes as names.
-abbrev pub AreBooks : ℕ → ℕ → Tally → List ℕ → Type 0
-AreBooks budget share tally weights =
+-- keeps, with trees as its keys and the digests of their bytes as names; and the tally adds up.
+abbrev pub AreBooks : LengthUnit → List ClientScript → List (List Reply) → ℕ → ℕ → Tally → List ℕ → Type 0
+AreBooks unit clients replies budget share tally weights =
     (items : List (Item Formula)) × IsLegal is_same_tree name_of budget share [] items
     × (tally ≡ tally_of items tally.dropped)
     × (weights ≡ weights_of (length weights) (replay is_same_tree name_of budget share [] items))
+    × AddsUp unit clients replies tally

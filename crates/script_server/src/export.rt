@@ -13,7 +13,7 @@ use reply_text::Reply;
 use scad_ast::Program;
 use scad_eval::evaluate;
 use scad_lexer::lex;
-use scad_parser::parse;
+use scad_parser::{an_only_end_is_last, parse};
 use std::alloc::Global;
 use text_place::Stop;
 use tree_export::Exported;
@@ -24,6 +24,7 @@ fn read_program(alloc: Global, source: &[u8]) -> Result<Program, Stop>
     ensures found { IfOk result (λ program. Writes source.now (program_of program)) }
     ensures fault { IfErr result (RefusesText source.now) }
 {
+    an_only_end_is_last();
     let tokens = lex(alloc, source)?;
     parse(alloc, tokens.as_slice())
 }

@@ -1,11 +1,15 @@
 //! Exports of sources by what they mean, with solids that a memo may hold.
 
-ghost use Rattle.std.specs.Prelude.{ℕ, ◌≡◌, ◌+◌, ◌^◌, ◌<◌, ◌≤◌, All, length, IfOk};
+ghost use Rattle.std.specs.Prelude.{◌≡◌, ◌+◌, ◌^◌, ◌<◌, ◌≤◌, All, length, IfOk};
 ghost use Rattle.csg_tree.specs.ProperTrees.{IsProper};
+ghost use Rattle.csg_tree.specs.Numberings.{nodes_of};
 ghost use Rattle.csg_tree.specs.Trees.{formula_of};
+ghost use Rattle.bsp_boolean.specs.TreeSolids.{joins};
 ghost use Rattle.subtree_memo.specs.Shares.{parts_each};
+ghost use Rattle.reply_text.specs.Sums.{LacksNoSolid};
 ghost use Rattle.tree_export.specs.Exports.{IsExported, Bounds};
-ghost use Rattle.script_server.specs.Meaning.Exports.{AnswersExport};
+ghost use Rattle.script_server.specs.Meaning.Exports.{reply_of};
+ghost use Rattle.script_server.specs.Clients.{ClientBooks, AreProbed, ExportsFor};
 
 use crate::export::{reply, tree_of};
 use bsp_boolean::PlainBuilder;
@@ -13,7 +17,7 @@ use csg_tree::{CsgTree, TreeKey};
 use memo_core::Namer;
 use parallel_eval::{Builds, Gate};
 use plane_predicate::Unit;
-use reply_text::Reply;
+use reply_text::{Exporting, Reply};
 use script_run::Exporter;
 use std::alloc::Global;
 use std::marker::Model;
@@ -24,8 +28,8 @@ use subtree_memo::{MemoLedger, Share};
 use text_place::{NoMemory, Stop};
 use tree_export::{Exported, export_made, last_nodes_are_trees, nodes_of_tree, solid_of_nothing};
 
-/// What one client has of its own: its share of the memo's books, how many builders it has, and how often it was exported,
-/// which contracts see it as.
+/// What one client has of its own: its share of the memo's books, how many builders it has, and how often a solid was
+/// asked for.
 #[derive(Drop)]
 pub struct Client<H: Ledger, M: Ledger, K: Ledger, E: Ledger> {
     share: Share<H, M, K, E>,
@@ -34,24 +38,25 @@ pub struct Client<H: Ledger, M: Ledger, K: Ledger, E: Ledger> {
 }
 
 impl<H: Ledger, M: Ledger, K: Ledger, E: Ledger> Model for Client<H, M, K, E> {
-    ghost use Rattle.std.specs.Prelude.{ℕ, ◌≡◌, ◌*◌, ◌^◌, ◌≤◌};
+    ghost use Rattle.std.specs.Prelude.{◌≡◌, ◌*◌, ◌^◌, ◌≤◌};
     ghost use Rattle.subtree_memo.specs.Shares.{parts_each};
+    ghost use Rattle.script_server.specs.Clients.{ClientBooks};
 
-    ghost Value = { ℕ };
+    ghost Value = { ClientBooks };
 
-    ghost view = { λ c. c.asked };
+    ghost view = { λ c. record { asked = c.asked; share = c.share } };
 
     ghost invariant = { λ c. (1 ≤ c.workers) × (c.workers ≤ 64)
         × (c.share.parts ≡ parts_each) × (c.share.dropped ≤ c.asked * 2 ^ 32) };
 }
 
-/// What counts how often it was exported.
-pub trait Counting {
-    ghost asked: { Self → ℕ };
+/// What counts how often a solid was asked for, and has a share of a memo's books.
+pub trait Booking {
+    ghost books: { Self → ClientBooks };
 }
 
-impl<H: Ledger, M: Ledger, K: Ledger, E: Ledger> Counting for Client<H, M, K, E> {
-    ghost asked = { λ asked. asked };
+impl<H: Ledger, M: Ledger, K: Ledger, E: Ledger> Booking for Client<H, M, K, E> {
+    ghost books = { λ client. client };
 }
 
 // So many builders, which have built nothing.
@@ -67,11 +72,11 @@ fn builders(alloc: Global, count: u64) -> Result<Vec<PlainBuilder>, NoMemory>
 }
 
 impl<H: Ledger, M: Ledger, K: Ledger, E: Ledger> Client<H, M, K, E> {
-    /// A client that was not exported yet, with 1 to 64 builders.
+    /// A client for which no solid was asked yet, with 1 to 64 builders.
     pub fn new(share: Share<H, M, K, E>, workers: u64) -> Self
         requires workers { (1 ≤ workers) × (workers ≤ 64) }
         requires share { (share.parts ≡ parts_each) × (share.dropped ≡ 0) }
-        ensures { result ≡ 0 }
+        ensures { result ≡ record { asked = 0; share = share } }
     {
         Client {
             share,
@@ -82,7 +87,8 @@ impl<H: Ledger, M: Ledger, K: Ledger, E: Ledger> Client<H, M, K, E> {
 
     /// The client's share of the books.
     pub fn into_share(self) -> Share<H, M, K, E>
-        ensures { result.parts ≡ parts_each }
+        ensures share { result ≡ self.share }
+        ensures whole { result.parts ≡ parts_each }
     {
         let Client { share, .. } = self;
         share
@@ -106,10 +112,11 @@ fn exported<
     tree: &CsgTree,
 ) -> Result<Exported, NoMemory>
     requires proper { IsProper (formula_of tree.now) }
-    requires few { client.old < 8192 }
+    requires few { client.old.asked < 8192 }
     ensures exported { IfOk result (IsExported unit (formula_of tree.now)) }
     ensures boundary { IfOk result (Bounds unit (formula_of tree.now)) }
-    ensures asked { client.new ≤ client.old + 1 }
+    ensures probed { IfOk result (λ out. LacksNoSolid (reply_of out) → AreProbed (joins (nodes_of (formula_of tree.now))) client.old.share client.new.share) }
+    ensures asked { client.new.asked ≤ client.old.asked + 1 }
 {
     last_nodes_are_trees();
     let store = nodes_of_tree(builds.alloc, tree)?;
@@ -140,9 +147,8 @@ pub fn export_source<
     source: &[u8],
 ) -> Result<Reply, NoMemory>
     requires short { length source.now ≤ 4198400 }
-    requires few { client.old < 8192 }
-    ensures reply { IfOk result (AnswersExport unit source.now) }
-    ensures asked { client.new ≤ client.old + 1 }
+    requires few { client.old.asked < 8192 }
+    ensures { ExportsFor unit source.now result client.old client.new }
 {
     match tree_of(builds.alloc, unit, source) {
         Ok(tree) => Ok(reply(exported(builds, client, unit, &tree)?)),
@@ -159,18 +165,24 @@ pub struct ClientExporter<C, F> {
     pub export: F,
 }
 
-impl<C: Counting, F: Fn(&mut C, Unit, &[u8]) -> Result<Reply, NoMemory>> Exporter
-    for ClientExporter<C, F> {
-    ghost use Rattle.std.specs.Prelude.{◌+◌, ◌<◌, ◌≤◌, length, IfOk};
+impl<C, F> Exporting for ClientExporter<C, F> {
     ghost use Rattle.script_server.specs.Meaning.Exports.{AnswersExport};
 
     ghost exports = { AnswersExport };
+}
 
-    ghost asked = { λ e. C.asked e.client };
+impl<C: Booking, F: Fn(&mut C, Unit, &[u8]) -> Result<Reply, NoMemory>> Exporter
+    for ClientExporter<C, F> {
+    ghost use Rattle.std.specs.Prelude.{◌<◌, ◌≤◌, length};
+    ghost use Rattle.script_server.specs.Clients.{Probes, ExportsFor};
 
-    ghost can_export = { λ e. ((client : _) (unit : _) (source : _) → C.asked client.now < 8192 → length source.now ≤ 4198400 → F.pre e.export client unit source)
+    ghost asked = { λ e. (C.books e.client).asked };
+
+    ghost moves = { λ unit source reply old new. Probes unit source reply (C.books old.client) (C.books new.client) };
+
+    ghost can_export = { λ e. ((client : _) (unit : _) (source : _) → (C.books client.now).asked < 8192 → length source.now ≤ 4198400 → F.pre e.export client unit source)
         × ((client : _) (unit : _) (source : _) (r : _) (after : _) → F.post e.export client unit source r after →
-        IfOk r (AnswersExport unit source.now) × (C.asked after.now ≤ C.asked client.now + 1)) };
+        ExportsFor unit source.now r (C.books client.now) (C.books after.now)) };
 
     fn export(&mut self, _alloc: Global, unit: Unit, source: &[u8]) -> Result<Reply, NoMemory> {
         (self.export)(&mut self.client, unit, source)

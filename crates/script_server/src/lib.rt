@@ -9,7 +9,9 @@ mod runner;
 mod running;
 mod server;
 
-pub use meaning::{one_meaning, one_output, one_reply, own_replies, solids_pass_no_limit};
+pub use meaning::{
+    one_meaning, one_output, one_reply, own_replies, solids_pass_no_limit, some_meaning, some_reply,
+};
 pub use program::run_program;
 pub use running::{Finished, run_gated, run_script};
 pub use script_service::Status;

@@ -1,12 +1,13 @@
 //! Laws of what an export means (`specs/Meaning`): its words leave nothing open. They are proved, and do nothing when they
 //! run.
 
-ghost use Rattle.std.specs.Prelude.{◌≡◌, ◌↔◌, ℕ, List};
+ghost use Rattle.std.specs.Prelude.{◌≡◌, ◌↔◌, ◌⊎◌, ℕ, List};
 ghost use Rattle.text_place.specs.declared.fault.Fault.{Fault};
 ghost use Rattle.plane_predicate.specs.declared.unit.Unit.{Unit as LengthUnit};
 ghost use Rattle.script_reader.specs.declared.script.Command.{Command};
 ghost use Rattle.script_reader.specs.declared.script.Script.{Script};
 ghost use Rattle.csg_tree.specs.Formulas.{Formula};
+ghost use Rattle.csg_tree.specs.ProperTrees.{IsProper};
 ghost use Rattle.edit_session.specs.Sessions.{State};
 ghost use Rattle.reply_text.specs.declared.reply.Reply.{Reply};
 ghost use Rattle.reply_text.specs.declared.reply.Reply.TheVariants as reply;
@@ -16,9 +17,10 @@ ghost use Rattle.tree_export.specs.Exports.{PassesNoLimit};
 ghost use Rattle.script_server.specs.Meaning.Sources.{Means, HasFault};
 ghost use Rattle.script_server.specs.Meaning.Exports.{Exports, AnswersExport};
 
-use scad_grammar::{no_program_has_a_fault, one_fault_each, one_program_each};
-use scad_lexer::one_outcome;
-use tree_export::{one_export, texts_pass_no_limit};
+use crate::runner::ScriptRunner;
+use scad_grammar::{no_program_has_a_fault, one_fault_each, one_program_each, program_or_fault};
+use scad_lexer::{one_outcome, some_outcome};
+use tree_export::{one_export, some_export, texts_pass_no_limit};
 
 /// In each unit a source means at most one tree, or has at most one first fault, and not both.
 pub fn one_meaning()
@@ -31,6 +33,15 @@ pub fn one_meaning()
     no_program_has_a_fault();
     one_fault_each();
     scad_meaning::one_meaning();
+}
+
+/// In each unit a source means a tree, or has a first fault.
+pub fn some_meaning()
+    ensures { (unit : LengthUnit) (source : List ℕ) → ((tree : Formula) × Means unit source tree) ⊎ ((fault : Fault) × HasFault unit source fault) }
+{
+    some_outcome();
+    program_or_fault();
+    scad_meaning::some_meaning();
 }
 
 /// An export is answered by a solid exactly where its source means a tree that passes no limit.
@@ -50,12 +61,21 @@ pub fn one_reply()
     one_export();
 }
 
+/// A source that means a proper tree has a reply to its export, and so has one with a fault.
+pub fn some_reply()
+    ensures tree { (unit : LengthUnit) (source : List ℕ) (tree : Formula) → Means unit source tree → IsProper tree → (r : Reply) × AnswersExport unit source r }
+    ensures fault { (unit : LengthUnit) (source : List ℕ) (fault : Fault) → HasFault unit source fault → (r : Reply) × AnswersExport unit source r }
+{
+    some_export();
+}
+
 /// A client's own commands define its replies: only the places at which memory ran out are open.
 pub fn own_replies()
     ensures { (unit : LengthUnit) (s : State) (cs : List Command) (rs qs : List Reply) →
         Fits (AnswersExport unit) s cs rs → Fits (AnswersExport unit) s cs qs → SameWants rs qs → rs ≡ qs }
 {
     one_reply();
+    reply_text::own_replies::<ScriptRunner>();
 }
 
 /// For one script, replies that its clients' own commands define and that print the same bytes are
@@ -66,4 +86,5 @@ pub fn one_output()
         output script.clients rs ≡ output script.clients qs → rs ≡ qs }
 {
     one_reply();
+    reply_text::one_output::<ScriptRunner>();
 }

@@ -7,6 +7,7 @@ ghost use Rattle.script_server.specs.Books.{weights_of};
 use crate::running::{Finished, run_script};
 use memo_core::MemoCore;
 use parallel_eval::{ShaNamer, SolidFit};
+use reply_text::Exporting;
 use script_reader::Script;
 use script_service::{How, Ran, Runner};
 use std::alloc::Global;
@@ -34,11 +35,14 @@ fn weights(
 #[derive(Clone, Copy)]
 pub struct ScriptRunner;
 
-impl Runner for ScriptRunner {
+impl Exporting for ScriptRunner {
     ghost use Rattle.script_server.specs.Meaning.Exports.{AnswersExport};
-    ghost use Rattle.script_server.specs.Books.{AreBooks};
 
     ghost exports = { AnswersExport };
+}
+
+impl Runner for ScriptRunner {
+    ghost use Rattle.script_server.specs.Books.{AreBooks};
 
     ghost books = { AreBooks };
 

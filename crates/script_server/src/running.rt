@@ -1,13 +1,14 @@
 //! The clients of a script at the same time, over one memo that they share.
 
-ghost use Rattle.std.specs.Prelude.{◌≡◌, ◌+◌, ◌*◌, ◌<◌, ◌≤◌, [], All, length, vec_capacity, IfOk};
+ghost use Rattle.std.specs.Prelude.{◌≡◌, ◌+◌, ◌*◌, ◌<◌, ◌≤◌, [], All, length, map, vec_capacity, IfOk};
 ghost use Rattle.csg_tree.specs.TreeKeys.{name_of};
 ghost use Rattle.subtree_memo.specs.Shares.{parts_each};
 ghost use Rattle.subtree_memo.specs.Tallies.{tally_of};
 ghost use Rattle.script_reader.specs.Limits.{AreWithin};
 ghost use Rattle.reply_text.specs.Answers.{AllFit};
 ghost use Rattle.script_server.specs.Meaning.Exports.{AnswersExport};
-ghost use Rattle.script_server.specs.Books.{IsSolidMemo};
+ghost use Rattle.script_server.specs.Books.{AddsUp, IsSolidMemo};
+ghost use Rattle.script_server.specs.Clients.{ExportsFor};
 
 use crate::exporter::{Client, ClientExporter, export_source};
 use csg_tree::TreeKey;
@@ -41,8 +42,8 @@ fn clients_of<H: Ledger, M: Ledger, K: Ledger, E: Ledger>(
 ) -> Result<Vec<Client<H, M, K, E>>, NoMemory>
     requires workers { (1 ≤ workers) × (workers ≤ 64) }
     requires shares { All (λ s. (s.parts ≡ parts_each) × (s.dropped ≡ 0)) shares.items }
-    ensures many { IfOk result (λ v. length v.items ≡ length shares.items) }
-    ensures unasked { IfOk result (λ v. All (λ asked. asked ≡ 0) v.items) }
+    ensures shares { IfOk result (λ v. map (λ c. c.share) v.items ≡ shares.items) }
+    ensures unasked { IfOk result (λ v. All (λ c. c.asked ≡ 0) v.items) }
 {
     let mut clients = Vec::with_capacity(alloc, shares.len())?;
     for share in shares {
@@ -57,9 +58,9 @@ fn exporters_of<H: Ledger, M: Ledger, K: Ledger, E: Ledger, F: Copy + Drop>(
     clients: Vec<Client<H, M, K, E>>,
     export: F,
 ) -> Result<Vec<ClientExporter<Client<H, M, K, E>, F>>, NoMemory>
-    requires { All (λ asked. asked ≡ 0) clients.items }
-    ensures many { IfOk result (λ v. length v.items ≡ length clients.items) }
-    ensures alike { IfOk result (λ v. All (λ e. (e.client ≡ 0) × (e.export ≡ export)) v.items) }
+    requires { All (λ c. c.asked ≡ 0) clients.items }
+    ensures clients { IfOk result (λ v. map (λ e. e.client) v.items ≡ clients.items) }
+    ensures alike { IfOk result (λ v. All (λ e. (e.client.asked ≡ 0) × (e.export ≡ export)) v.items) }
 {
     let mut exporters = Vec::with_capacity(alloc, clients.len())?;
     for client in clients {
@@ -75,8 +76,8 @@ fn shares_of<H: Ledger, M: Ledger, K: Ledger, E: Ledger, F: Drop>(
 ) -> Vec<Share<H, M, K, E>>
     requires empty { room.items ≡ [] }
     requires room { length exporters.items ≤ vec_capacity room }
+    ensures shares { result.items ≡ map (λ e. e.client.share) exporters.items }
     ensures whole { All (λ s. s.parts ≡ parts_each) result.items }
-    ensures many { length result.items ≡ length exporters.items }
 {
     let mut shares = room;
     for exporter in exporters {
@@ -121,6 +122,7 @@ fn run_over<
     ensures fits { IfOk result (λ f. AllFit (AnswersExport how.unit) script.now.clients f.replies.items) }
     ensures few { IfOk result (λ f. All (λ rs. length rs ≤ 8192) f.replies.items) }
     ensures tally { IfOk result (λ f. f.tally ≡ tally_of f.core.journal f.tally.dropped) }
+    ensures sums { IfOk result (λ f. AddsUp how.unit script.now.clients f.replies.items f.tally) }
     ensures sound { IfOk result (λ f. IsSolidMemo N.name_of f.core) }
     ensures limits { IfOk result (λ f. (f.core.budget ≡ core.budget) × (f.core.share ≡ core.share)) }
 {
@@ -140,9 +142,8 @@ fn run_over<
         Reply,
         NoMemory,
     >
-        requires { (length source.now ≤ 4198400) × (client.now < 8192) }
-        ensures reply { IfOk result (AnswersExport unit source.now) }
-        ensures asked { client.exit.now ≤ client.entry.now + 1 }
+        requires { (length source.now ≤ 4198400) × (client.now.asked < 8192) }
+        ensures { ExportsFor unit source.now result client.entry.now client.exit.now }
     { export_source(lent, client, unit, source) };
     let mut exporters = exporters_of(alloc, clients, export)?;
     let replies = script_run::run_script(rt, alloc, &mut exporters, how.unit, script)?;
@@ -173,6 +174,8 @@ pub fn run_gated<N: Namer<TreeKey> + Send + Sync, G: Gate + Sync, R: Threads + W
     ensures few { IfOk result (λ f. All (λ rs. length rs ≤ 8192) f.replies.items) }
     // The tally is that of the memo's journal, which is one of the sequential memo of the budget and share.
     ensures tally { IfOk result (λ f. f.tally ≡ tally_of f.core.journal f.tally.dropped) }
+    // Where no export lacked its solid, it adds up to the joins of all exports.
+    ensures sums { IfOk result (λ f. AddsUp how.unit script.now.clients f.replies.items f.tally) }
     ensures sound { IfOk result (λ f. IsSolidMemo N.name_of f.core) }
     ensures limits { IfOk result (λ f. (f.core.budget ≡ how.memo) × (f.core.share ≡ how.share)) }
 {
@@ -197,6 +200,7 @@ pub fn run_script<R: Threads + Wait + Sync>(
     ensures fits { IfOk result (λ f. AllFit (AnswersExport how.unit) script.now.clients f.replies.items) }
     ensures few { IfOk result (λ f. All (λ rs. length rs ≤ 8192) f.replies.items) }
     ensures tally { IfOk result (λ f. f.tally ≡ tally_of f.core.journal f.tally.dropped) }
+    ensures sums { IfOk result (λ f. AddsUp how.unit script.now.clients f.replies.items f.tally) }
     ensures sound { IfOk result (λ f. IsSolidMemo name_of f.core) }
     ensures limits { IfOk result (λ f. (f.core.budget ≡ how.memo) × (f.core.share ≡ how.share)) }
 {

@@ -31,7 +31,7 @@ pub fn serve<S: Source, K: Sink, R: Threads + Wait + Sync>(
     // Whatever is read and written, each client's replies are those that its own commands define, and each solid is the
     // boundary of what the client's source means, in the unit of the run.
     ensures done { result ≡ Status.Done → (settings : Settings) × Chooses (map string_bytes words.now) settings
-        × Serves (AnswersExport (unit_of settings)) AreBooks settings (S.left source.old) (S.left source.new) (K.held sink.old) (K.held sink.new) }
+        × Serves (AnswersExport (unit_of settings)) (AreBooks (unit_of settings)) settings (S.left source.old) (S.left source.new) (K.held sink.old) (K.held sink.new) }
 
     // Words that are outside the grammar, and they alone, are answered by the usage line, and then nothing is read.
     ensures bad_words { result ≡ Status.BadWords → AreOutside (map string_bytes words.now)
@@ -48,10 +48,10 @@ pub fn serve<S: Source, K: Sink, R: Threads + Wait + Sync>(
         × IsRun settings × Rose (S.faults source.old) (S.faults source.new) × (sink.new ≡ sink.old) }
     ensures write_fault { result ≡ Status.WriteFault → Rose (K.faults sink.old) (K.faults sink.new) }
     ensures output_cut { (settings : Settings) → Chooses (map string_bytes words.now) settings → result ≡ Status.WriteFault
-        → BreaksOff (AnswersExport (unit_of settings)) AreBooks settings (S.left source.old) (S.left source.new) (K.held sink.old) (K.held sink.new) }
+        → BreaksOff (AnswersExport (unit_of settings)) (AreBooks (unit_of settings)) settings (S.left source.old) (S.left source.new) (K.held sink.old) (K.held sink.new) }
     ensures no_memory { result ≡ Status.NoMemory → (sink.new ≡ sink.old)
         ⊎ ((settings : Settings) × Chooses (map string_bytes words.now) settings × IsRun settings
-        × Begins (AnswersExport (unit_of settings)) AreBooks settings (S.left source.old) (S.left source.new) (K.held sink.old) (K.held sink.new)) }
+        × Begins (AnswersExport (unit_of settings)) (AreBooks (unit_of settings)) settings (S.left source.old) (S.left source.new) (K.held sink.old) (K.held sink.new)) }
     ensures counts { (S.faults source.old ≤ S.faults source.new) × (K.faults sink.old ≤ K.faults sink.new) }
 
     // Where no count of faults rose, a script is served and other bytes are refused, unless memory ran out.

@@ -4,14 +4,13 @@ use Rattle.std.specs.Io.KnownBytes.{Appends}
 use Rattle.outside_io.specs.Counts.{Rose}
 use Rattle.outside_io.specs.Moves.{AppendsProperPrefix}
 use Rattle.run_words.specs.declared.settings.Settings.{Settings}
-use Rattle.subtree_memo.specs.declared.tally.Tally.{Tally}
 use Rattle.script_reader.specs.declared.script.ScriptFault.{ScriptFault}
 use Rattle.script_reader.specs.Scripts.{IsScriptFault}
 use Rattle.script_reader.specs.FaultLines.{fault_line}
 use Rattle.reply_text.specs.declared.reply.Reply.{Reply}
 use Rattle.script_service.specs.declared.status.Status.{Status}
 use Rattle.script_service.specs.declared.status.Status.TheVariants.{Done, BadScript, WriteFault, NoMemory}
-use Rattle.script_service.specs.Serving.{IsRun, IsOutput, IsInput, AppendsPart}
+use Rattle.script_service.specs.Serving.{Bookkeeping, IsRun, IsOutput, IsInput, AppendsPart}
 
 -- a sink before and after: the bytes that it holds, its faults, and that it is as it was
 pub record Written : Type 1 where
@@ -37,7 +36,7 @@ abbrev pub Prints : Settings → Written → List ℕ → Status → Type 0
 Prints settings w text status = Ends Done w text status ⊎ (IsRun settings × StopsOnTheWay w text status)
 
 -- `Exports` and `Books` are those of `IsOutput`
-module _ (Exports : List ℕ → Reply → Type 0) (Books : ℕ → ℕ → Tally → List ℕ → Type 0) where
+module _ (Exports : List ℕ → Reply → Type 0) (Books : Bookkeeping) where
   -- bytes were served: their output was written, or the line of their first fault, or memory ran out before
   abbrev pub ServesBytes : Settings → List ℕ → Written → Status → Type 0
   ServesBytes settings bytes w status =

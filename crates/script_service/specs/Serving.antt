@@ -52,16 +52,20 @@ AppendsPart old new text =
     (front : List ℕ) × (rest : List ℕ) × (front ++ rest ≡ text)
     × (0 < length front) × (0 < length rest) × Appends old new front
 
--- `Exports` relates a source to the replies to its export, and `Books` a budget and a share of a memo to what it counts in
--- all and to what each client's entries weigh
-module _ (Exports : List ℕ → Reply → Type 0) (Books : ℕ → ℕ → Tally → List ℕ → Type 0) where
+-- Relates clients and the replies to them, and the budget and the share of a memo, to what that memo counts in all and to what
+-- each client's entries weigh.
+abbrev pub Bookkeeping : Type 1
+Bookkeeping = List ClientScript → List (List Reply) → ℕ → ℕ → Tally → List ℕ → Type 0
+
+-- `Exports` relates a source to the replies to its export
+module _ (Exports : List ℕ → Reply → Type 0) (Books : Bookkeeping) where
   -- what is written for the bytes of a script: its replies, which its clients' own commands define, and what the memo of
   -- the settings' budget and share counts and holds of each client
   abbrev pub IsOutput : Settings → List ℕ → List ℕ → Type 0
   IsOutput settings bytes out =
       (script : Script) × (replies : List (List Reply)) × (counts : Tally) × (owned : List ℕ)
       × IsScript bytes script × AllFit Exports script.clients replies
-      × Books (memo_of settings) (share_of settings) counts owned × (length owned ≡ length script.clients)
+      × Books script.clients replies (memo_of settings) (share_of settings) counts owned × (length owned ≡ length script.clients)
       × (out ≡ printed settings script.clients replies counts owned)
 
   -- what is written for bytes: the output of a script, or the line of the first fault

@@ -1,15 +1,14 @@
 //! What runs the clients of a script.
 
-ghost use Rattle.std.specs.Prelude.{◌≡◌, ◌≤◌, ◌*◌, ℕ, List, length, All, IfOk};
+ghost use Rattle.std.specs.Prelude.{◌≡◌, ◌≤◌, ◌*◌, length, All, IfOk};
 ghost use Rattle.std.specs.Thread.{IsSync};
 ghost use Rattle.plane_predicate.specs.declared.unit.Unit.{Unit as LengthUnit};
-ghost use Rattle.subtree_memo.specs.declared.tally.Tally.{Tally as Counted};
 ghost use Rattle.script_reader.specs.Limits.{AreWithin};
-ghost use Rattle.reply_text.specs.declared.reply.Reply.{Reply};
 ghost use Rattle.reply_text.specs.Answers.{AllFit};
+ghost use Rattle.script_service.specs.Serving.{Bookkeeping};
 
 use crate::how::How;
-use reply_text::Replies;
+use reply_text::{Exporting, Replies};
 use script_reader::Script;
 use std::alloc::Global;
 use std::sync::Wait;
@@ -29,12 +28,9 @@ pub struct Ran {
 }
 
 /// Runs the clients of a script.
-pub trait Runner {
-    // Which replies an export of a source in a unit may have.
-    ghost exports: { LengthUnit → List ℕ → Reply → Type 0 };
-
-    // What a memo of a budget and a share may count in all, and what each client's entries may weigh beside that.
-    ghost books: { ℕ → ℕ → Counted → List ℕ → Type 0 };
+pub trait Runner: Exporting {
+    // What a memo may count in all and what each client's entries may weigh, beside the replies, in a run with lengths in a unit.
+    ghost books: { LengthUnit → Bookkeeping };
 
     /// Runs the clients of a script: 1 to 64 builders each, over a memo of a budget of at most 2,000,000, of which at
     /// most a sixteenth is reserved for each.
@@ -48,8 +44,8 @@ pub trait Runner {
         requires threads { IsSync R.row }
         requires clients { AreWithin script.now.clients }
         requires limits { (1 ≤ how.workers) × (how.workers ≤ 64) × (how.memo ≤ 2000000) × (how.share * 16 ≤ how.memo) }
-        ensures fits { IfOk result (λ ran. AllFit (exports how.unit) script.now.clients ran.replies.items) }
+        ensures fits { IfOk result (λ ran. AllFit (Self.exports how.unit) script.now.clients ran.replies.items) }
         ensures few { IfOk result (λ ran. All (λ rs. length rs ≤ 8192) ran.replies.items) }
-        ensures books { IfOk result (λ ran. books how.memo how.share ran.tally ran.owned.items) }
+        ensures books { IfOk result (λ ran. books how.unit script.now.clients ran.replies.items how.memo how.share ran.tally ran.owned.items) }
         ensures owned { IfOk result (λ ran. length ran.owned.items ≡ length script.now.clients) };
 }

@@ -128,7 +128,7 @@ fn serve_bytes<W: Runner, R: Threads + Wait + Sync, K: Sink>(
     sink: &mut K,
 ) -> Status
     requires { AreInRange settings }
-    ensures served { ServesBytes (W.exports (unit_of settings)) W.books settings bytes.now (record { old = K.held sink.old; new = K.held sink.new; before = K.faults sink.old; now = K.faults sink.new; same = sink.new ≡ sink.old }) result }
+    ensures served { ServesBytes (W.exports (unit_of settings)) (W.books (unit_of settings)) settings bytes.now (record { old = K.held sink.old; new = K.held sink.new; before = K.faults sink.old; now = K.faults sink.new; same = sink.new ≡ sink.old }) result }
     ensures later { K.faults sink.old ≤ K.faults sink.new }
 {
     let script = match read_script(alloc, bytes) {
@@ -153,7 +153,7 @@ fn serve_run<W: Runner, R: Threads + Wait + Sync, S: Source, K: Sink>(
 ) -> Status
     requires { IsRun settings × AreInRange settings }
     ensures read_fault { result ≡ Status.ReadFault → Rose (S.faults source.old) (S.faults source.new) × (sink.new ≡ sink.old) }
-    ensures served { (result ≡ Status.ReadFault) ⊎ ServesInput (W.exports (unit_of settings)) W.books settings (S.left source.old) (S.left source.new) (record { old = K.held sink.old; new = K.held sink.new; before = K.faults sink.old; now = K.faults sink.new; same = sink.new ≡ sink.old }) result }
+    ensures served { (result ≡ Status.ReadFault) ⊎ ServesInput (W.exports (unit_of settings)) (W.books (unit_of settings)) settings (S.left source.old) (S.left source.new) (record { old = K.held sink.old; new = K.held sink.new; before = K.faults sink.old; now = K.faults sink.new; same = sink.new ≡ sink.old }) result }
     ensures counts { (S.faults source.old ≤ S.faults source.new) × (K.faults sink.old ≤ K.faults sink.new) }
 {
     match read_to_end(alloc, source, SCRIPT_BYTES) {
@@ -174,7 +174,7 @@ fn serve_demo<W: Runner, R: Threads + Wait + Sync, K: Sink>(
 ) -> Status
     requires { (1 ≤ parts) × (parts ≤ 200) }
     ensures whole { result ≢ Status.BadScript }
-    ensures served { (ServesBytes (W.exports (unit_of (settings.Demo parts))) W.books (settings.Demo parts) (demo_script parts) (record { old = K.held sink.old; new = K.held sink.new; before = K.faults sink.old; now = K.faults sink.new; same = sink.new ≡ sink.old }) result) }
+    ensures served { (ServesBytes (W.exports (unit_of (settings.Demo parts))) (W.books (unit_of (settings.Demo parts))) (settings.Demo parts) (demo_script parts) (record { old = K.held sink.old; new = K.held sink.new; before = K.faults sink.old; now = K.faults sink.new; same = sink.new ≡ sink.old }) result) }
     ensures later { K.faults sink.old ≤ K.faults sink.new }
 {
     demo_scripts_have_no_fault();
@@ -202,13 +202,13 @@ fn serve_chosen<W: Runner, R: Threads + Wait + Sync, S: Source, K: Sink>(
     sink: &mut K,
 ) -> Status
     requires { AreInRange settings }
-    ensures done { result ≡ Status.Done → Serves (W.exports (unit_of settings)) W.books settings (S.left source.old) (S.left source.new) (K.held sink.old) (K.held sink.new) }
+    ensures done { result ≡ Status.Done → Serves (W.exports (unit_of settings)) (W.books (unit_of settings)) settings (S.left source.old) (S.left source.new) (K.held sink.old) (K.held sink.new) }
     ensures bad_script { result ≡ Status.BadScript → RefusesScript settings (S.left source.old) (S.left source.new) (K.held sink.old) (K.held sink.new) }
     ensures read_fault { result ≡ Status.ReadFault → IsRun settings × Rose (S.faults source.old) (S.faults source.new) × (sink.new ≡ sink.old) }
     ensures write_fault { result ≡ Status.WriteFault → Rose (K.faults sink.old) (K.faults sink.new)
-        × BreaksOff (W.exports (unit_of settings)) W.books settings (S.left source.old) (S.left source.new) (K.held sink.old) (K.held sink.new) }
+        × BreaksOff (W.exports (unit_of settings)) (W.books (unit_of settings)) settings (S.left source.old) (S.left source.new) (K.held sink.old) (K.held sink.new) }
     ensures no_memory { result ≡ Status.NoMemory → (sink.new ≡ sink.old)
-        ⊎ (IsRun settings × Begins (W.exports (unit_of settings)) W.books settings (S.left source.old) (S.left source.new) (K.held sink.old) (K.held sink.new)) }
+        ⊎ (IsRun settings × Begins (W.exports (unit_of settings)) (W.books (unit_of settings)) settings (S.left source.old) (S.left source.new) (K.held sink.old) (K.held sink.new)) }
     ensures counts { (S.faults source.old ≤ S.faults source.new) × (K.faults sink.old ≤ K.faults sink.new) }
     ensures words { result ≢ Status.BadWords }
     ensures complete { (Rose (S.faults source.old) (S.faults source.new) → ⊥) → (Rose (K.faults sink.old) (K.faults sink.new) → ⊥)
@@ -237,7 +237,7 @@ pub fn serve_with<W: Runner, R: Threads + Wait + Sync, S: Source, K: Sink>(
 ) -> Status
     // Whatever is read and written, each client's replies are those that its own commands define.
     ensures done { result ≡ Status.Done → (settings : Settings) × Chooses (map string_bytes words.now) settings
-        × Serves (W.exports (unit_of settings)) W.books settings (S.left source.old) (S.left source.new) (K.held sink.old) (K.held sink.new) }
+        × Serves (W.exports (unit_of settings)) (W.books (unit_of settings)) settings (S.left source.old) (S.left source.new) (K.held sink.old) (K.held sink.new) }
 
     // Words that are outside the grammar, and they alone, are answered by the usage line, and then nothing is read.
     ensures bad_words { result ≡ Status.BadWords → AreOutside (map string_bytes words.now)
@@ -254,10 +254,10 @@ pub fn serve_with<W: Runner, R: Threads + Wait + Sync, S: Source, K: Sink>(
         × IsRun settings × Rose (S.faults source.old) (S.faults source.new) × (sink.new ≡ sink.old) }
     ensures write_fault { result ≡ Status.WriteFault → Rose (K.faults sink.old) (K.faults sink.new) }
     ensures output_cut { (settings : Settings) → Chooses (map string_bytes words.now) settings → result ≡ Status.WriteFault
-        → BreaksOff (W.exports (unit_of settings)) W.books settings (S.left source.old) (S.left source.new) (K.held sink.old) (K.held sink.new) }
+        → BreaksOff (W.exports (unit_of settings)) (W.books (unit_of settings)) settings (S.left source.old) (S.left source.new) (K.held sink.old) (K.held sink.new) }
     ensures no_memory { result ≡ Status.NoMemory → (sink.new ≡ sink.old)
         ⊎ ((settings : Settings) × Chooses (map string_bytes words.now) settings × IsRun settings
-        × Begins (W.exports (unit_of settings)) W.books settings (S.left source.old) (S.left source.new) (K.held sink.old) (K.held sink.new)) }
+        × Begins (W.exports (unit_of settings)) (W.books (unit_of settings)) settings (S.left source.old) (S.left source.new) (K.held sink.old) (K.held sink.new)) }
     ensures counts { (S.faults source.old ≤ S.faults source.new) × (K.faults sink.old ≤ K.faults sink.new) }
 
     // Where no count of faults rose, a script is served and other bytes are refused, unless memory ran out.

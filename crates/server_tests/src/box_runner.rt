@@ -2,7 +2,7 @@
 
 use outside_io::{MemorySink, MemorySource};
 use plane_predicate::Unit;
-use reply_text::Reply;
+use reply_text::{Exporting, Reply};
 use script_reader::Script;
 use script_run::{Exporter, run_script};
 use script_service::{How, Ran, Runner, Status, serve_with};
@@ -36,17 +36,23 @@ const REPLIES: &[u8] = b"== b\n1 text 0\n2 refused BadCommand\n== a\n1 text 0\n"
 #[derive(Clone, Copy)]
 struct OneBox;
 
-impl Exporter for OneBox {
+impl Exporting for OneBox {
     ghost use Rattle.std.specs.Prelude.{⊤};
 
     ghost exports = { λ _ _ _. ⊤ };
+}
+
+impl Exporter for OneBox {
+    ghost use Rattle.std.specs.Prelude.{⊤};
 
     ghost asked = { λ _. 0 };
 
     ghost can_export = { λ _. ⊤ };
 
+    ghost moves = { λ _ _ _ _ _. ⊤ };
+
     fn export(&mut self, alloc: Global, _unit: Unit, _source: &[u8]) -> Result<Reply, NoMemory> {
-        Ok(Reply::Solid(Bytes::of(Vec::from_slice(alloc, BOX_TEXT)?)))
+        Ok(Reply::Solid(Bytes::copy_of(alloc, BOX_TEXT)?))
     }
 }
 
@@ -54,12 +60,16 @@ impl Exporter for OneBox {
 #[derive(Clone, Copy)]
 struct BoxRunner;
 
-impl Runner for BoxRunner {
+impl Exporting for BoxRunner {
     ghost use Rattle.std.specs.Prelude.{⊤};
 
     ghost exports = { λ _ _ _. ⊤ };
+}
 
-    ghost books = { λ _ _ _ _. ⊤ };
+impl Runner for BoxRunner {
+    ghost use Rattle.std.specs.Prelude.{⊤};
+
+    ghost books = { λ _ _ _ _ _ _ _. ⊤ };
 
     fn run<R: Threads + Wait + Sync>(
         &self,

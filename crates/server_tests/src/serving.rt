@@ -169,6 +169,27 @@ fn boxes_are_built_however_they_are_written(rt: HostRuntime) -> Result<(), Fail>
 }
 
 #[test]
+fn many_cubes_are_one_solid(rt: HostRuntime) -> Result<(), Fail> {
+    let line = "for (i=[1:170]) translate([2*i,2*i,2*i]) cube(1);";
+    let held = exported(&rt, rt.alloc(), &["run"], line)?;
+    let counts = b"== a\n1 ok 1\n2 solid 2382\n4OFF\n1360 1020 0\n";
+    assert!(rt; held.starts_with(counts.as_slice()));
+    // Of the lines with four numbers, which are those of vertices, four begin with each first coordinate of a cube.
+    for first in 2..342u32 {
+        let start = format!(in rt.alloc(); "{first} ")?;
+        let mut vertices = 0u32;
+        for line in held.split(|byte| *byte == b'\n') {
+            let spaces = line.iter().filter(|byte| **byte == b' ').count();
+            if spaces == 3 && line.starts_with(start.as_bytes()) {
+                vertices = vertices.saturating_add(1);
+            }
+        }
+        assert!(rt; vertices == 4, "at {first}");
+    }
+    Ok(())
+}
+
+#[test]
 fn half_units_halve_the_room(rt: HostRuntime) -> Result<(), Fail> {
     for (line, told) in [
         ("cube(3, center=true);", HALF_BOX),

@@ -1,5 +1,7 @@
-ghost use Rattle.std.specs.Prelude.{◌≡◌};
+ghost use Rattle.std.specs.Prelude.{◌≡◌, IfOk};
 
+use crate::memory::NoMemory;
+use std::alloc::Global;
 use std::marker::Model;
 
 /// Bytes, which contracts see as a list.
@@ -22,6 +24,13 @@ impl Bytes {
         ensures { result ≡ items.items }
     {
         Bytes { items }
+    }
+
+    /// A copy of bytes.
+    pub fn copy_of(alloc: Global, bytes: &[u8]) -> Result<Self, NoMemory>
+        ensures { IfOk result (λ copy. copy ≡ bytes.now) }
+    {
+        Ok(Bytes::of(Vec::from_slice(alloc, bytes)?))
     }
 
     /// The bytes in order. Takes no memory.
@@ -52,6 +61,17 @@ impl Lines {
         ensures { result ≡ items.items }
     {
         Lines { items }
+    }
+
+    /// A copy of lines.
+    pub fn copy_of(alloc: Global, lines: &[Bytes]) -> Result<Self, NoMemory>
+        ensures { IfOk result (λ copy. copy ≡ lines.now) }
+    {
+        let mut copy = Vec::new(alloc);
+        for line in lines {
+            copy.push(Bytes::copy_of(alloc, line.items())?)?;
+        }
+        Ok(Lines::of(copy))
     }
 
     /// The lines in order. Takes no memory.

@@ -1,15 +1,19 @@
 -- Trees in order of number pass one limit of size first, or none.
 use Rattle.std.proofs.Common.{◌≡◌, ◌⊎◌, ℕ, zero, suc, ◌-◌, ◌<◌, ◌≤◌, List, [], ◌∷◌, take, length, refl, sym, ap, subst, inl, inr, arith}
 use Rattle.std.proofs.lemmas.Bool.{cases_lt}
-use Rattle.std.proofs.lemmas.List.{get_or-take, length-take-le}
+use Rattle.std.proofs.lemmas.List.{get_or-take, length-take-le, take_all}
 use Rattle.std.proofs.lemmas.List.Sums.{sum_by-take-le}
-use Rattle.std.proofs.lemmas.List.Elements.{All-get_or}
+use Rattle.std.proofs.lemmas.List.Elements.{All-nil, All-get_or}
 use Rattle.csg_tree.specs.Formulas.{Formula, nothing}
 use Rattle.csg_tree.specs.Numberings.{tree_numbered, IsNumberIn}
 use Rattle.bsp_boolean.specs.TreeSolids.{most_of_one, most_of_all, solid_size, total_size, AreWithin}
 use Rattle.reply_text.specs.declared.reply.Complex.{Complex}
 use Rattle.reply_text.specs.declared.reply.Complex.TheVariants as limit
 use Rattle.tree_export.specs.Exports.{IsFirstPassed}
+
+-- without trees no limit is passed
+pub no_trees : AreWithin []
+no_trees = record { each = All-nil (λ tree. solid_size tree ≤ most_of_one); together = omega arith }
 
 -- a limit is passed at a number, and none before it
 record Passes (trees : List Formula) (n : ℕ) : Type 0 where
@@ -83,3 +87,33 @@ one_passed trees (limit.Sum n) limit.Vertices h g = absurd g
 one_passed trees limit.Facets b h g = absurd h
 one_passed trees limit.Corners b h g = absurd h
 one_passed trees limit.Vertices b h g = absurd h
+
+-- the first trees are within the limits, or a first limit is passed
+abbrev pub IsSettled : List Formula → List Formula → Type 0
+IsSettled trees front = AreWithin front ⊎ ((passed : Complex) × IsFirstPassed trees passed)
+
+-- ---- a limit is passed, or none is: one tree more is within the limits where its own size and the sum are
+module _ (trees : List Formula) (more : (n : ℕ) → IsNumberIn trees n → AreWithin (take (n - 1) trees) →
+    solid_size (tree_numbered trees n) ≤ most_of_one → total_size (take n trees) ≤ most_of_all → AreWithin (take n trees)) where
+  one_more : (n : ℕ) → IsNumberIn trees n → AreWithin (take (n - 1) trees) → IsSettled trees (take n trees)
+  one_more n number before =
+      elim (cases_lt most_of_one (solid_size (tree_numbered trees n))) [
+        | inl past ↦ inr (limit.Solid n, (number, before, past))
+        | inr one ↦
+            elim (cases_lt most_of_all (total_size (take n trees))) [
+              | inl past ↦ inr (limit.Sum n, (number, before, one, past))
+              | inr all ↦ inl (more n number before one all)
+            ]
+      ]
+
+  first_ones : (n : ℕ) → n ≤ length trees → IsSettled trees (take n trees)
+  first_ones zero h = inl no_trees
+  first_ones (suc n) h =
+      let back : n ≡ suc n - 1 = omega arith in
+      elim (first_ones n (omega (arith, h))) [
+        | inl within ↦ one_more (suc n) (omega arith, h) (subst (λ (k : ℕ). AreWithin (take k trees)) back within)
+        | inr passed ↦ inr passed
+      ]
+
+  pub some_passed : IsSettled trees trees
+  some_passed = subst (IsSettled trees) (take_all (length trees) trees (omega arith)) (first_ones (length trees) (omega arith))

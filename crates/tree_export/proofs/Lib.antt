@@ -1,5 +1,6 @@
 pub mod LastNode
 pub mod FirstPassed
 pub mod OneExport
+pub mod SomeExport
 pub mod SmallLeaves
 pub mod Solids

@@ -1,13 +1,11 @@
 -- A tree has one export, which is a text exactly where no limit is passed.
 use Rattle.std.proofs.Common.{◌≡◌, ◌↔◌, ◌<◌, ◌≤◌, List, [], length, refl, sym, ap, subst, ◌∙◌, inl, inr, arith}
-use Rattle.std.proofs.lemmas.List.Elements.{All-nil}
 use Rattle.text_place.specs.Decimals.{numeral}
 use Rattle.plane_predicate.specs.declared.unit.Unit.{Unit as LengthUnit}
 use Rattle.plane_polygon.specs.Polygons.{Outline}
 use Rattle.csg_tree.specs.Formulas.{Formula, nothing}
 use Rattle.csg_tree.specs.Numberings.{nodes_of}
 use Rattle.bsp_boolean.specs.Solids.{solid_of}
-use Rattle.bsp_boolean.specs.TreeSolids.{most_of_one, solid_size, AreWithin}
 use Rattle.facet_cut.specs.Facets.{facets_of}
 use Rattle.off_text.specs.Texts.{most_vertices, vertices_of, HasVertices}
 use Rattle.off_text.proofs.Unique.{one_corners, one_text}
@@ -15,7 +13,7 @@ use Rattle.reply_text.specs.declared.reply.Complex.{Complex}
 use Rattle.tree_export.specs.declared.export.Exported.{Exported}
 use Rattle.tree_export.specs.declared.export.Exported.TheVariants as exported
 use Rattle.tree_export.specs.Exports.{empty_text, IsText, IsWritten, IsCut, IsExported, PassesNoLimit}
-use Rattle.tree_export.proofs.FirstPassed.{one_passed, none_passed}
+use Rattle.tree_export.proofs.FirstPassed.{no_trees, one_passed, none_passed}
 
 one_count : (unit : LengthUnit) (facets : List Outline) → HasVertices unit (λ n. most_vertices < n) facets →
     HasVertices unit (λ n. n ≤ most_vertices) facets → ⊥
@@ -67,14 +65,11 @@ pub texts : (unit : LengthUnit) (tree : Formula) (out : Exported) → IsExported
 texts unit tree out h = (no_limit unit tree out h, text_within unit tree out h)
 
 -- Nothing has no nodes and no facets
-pub no_nodes : AreWithin (nodes_of nothing)
-no_nodes = record { each = All-nil (λ tree. solid_size tree ≤ most_of_one); together = omega arith }
-
 nothing_empty : (unit : LengthUnit) → IsExported unit nothing (exported.Text empty_text)
 unfolding numeral
 nothing_empty unit =
     inr (
-      no_nodes,
+      no_trees,
       inr (
         omega arith,
         inr (

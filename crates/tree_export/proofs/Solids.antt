@@ -1,11 +1,11 @@
 -- The solid of a tree is that of its last node, where it has nodes.
-use Rattle.std.proofs.Common.{◌≡◌, ◌<◌, ◌≤◌, length, refl, ap, subst, sym, arith}
-use Rattle.std.proofs.lemmas.List.Elements.{All-nil}
+use Rattle.std.proofs.Common.{◌≡◌, ◌<◌, length, refl, ap, subst, sym, arith}
 use Rattle.csg_tree.specs.Formulas.{Formula, nothing, leaf, joined}
 use Rattle.csg_tree.specs.Numberings.{nodes_of, tree_numbered}
 use Rattle.bsp_tree.specs.Trees.{outside}
 use Rattle.bsp_boolean.specs.Solids.{solid_of}
-use Rattle.bsp_boolean.specs.TreeSolids.{most_of_one, solid_size, AreWithin}
+use Rattle.bsp_boolean.specs.TreeSolids.{AreWithin}
+use Rattle.tree_export.proofs.FirstPassed.{no_trees}
 use Rattle.tree_export.proofs.LastNode.{some_node, last_node}
 
 -- only Nothing has none
@@ -18,9 +18,7 @@ pub no_solid : (tree : Formula) → length (nodes_of tree) ≡ 0 → outside ≡
 no_solid tree none = ap solid_of (sym (without_nodes tree none))
 
 pub nothing_within : (tree : Formula) → length (nodes_of tree) ≡ 0 → AreWithin (nodes_of tree)
-nothing_within tree none =
-    let empty : AreWithin (nodes_of nothing) = record { each = All-nil (λ t. solid_size t ≤ most_of_one); together = omega (arith) } in
-    subst (λ f. AreWithin (nodes_of f)) (sym (without_nodes tree none)) empty
+nothing_within tree none = subst (λ f. AreWithin (nodes_of f)) (sym (without_nodes tree none)) no_trees
 
 last_tree : (tree : Formula) → 0 < length (nodes_of tree) → tree_numbered (nodes_of tree) (length (nodes_of tree)) ≡ tree
 last_tree nothing some = absurd (omega (arith, some))

@@ -33,7 +33,8 @@ IsFirstPassed trees (limit.Solid number) = IsTreeStop trees (TooBig number)
 IsFirstPassed trees (limit.Sum number) = IsTreeStop trees (SumTooBig number)
 IsFirstPassed trees _ = ⊥
 
--- the solid of a tree whose distinct subtrees are within the limits of size, or the first of them that passes one
+-- the solid of a tree whose distinct subtrees are within the limits of size, or the first of them that passes one, or want of
+-- memory
 abbrev pub IsMade : Formula → Result (Arc Solid Global) TreeStop → Type 0
 IsMade tree made =
     IfOk made (λ solid. tree_of (arc_value solid) ≡ solid_of tree)

@@ -1,6 +1,6 @@
 //! What the export of a tree gives.
 
-ghost use Rattle.std.specs.Prelude.{◌≡◌, IfOk, IfErr, OnOk};
+ghost use Rattle.std.specs.Prelude.{◌≡◌, IfOk, IfErr, OnOk, OnErr};
 ghost use Rattle.std.specs.Arc.{arc_value};
 ghost use Rattle.csg_tree.specs.Formulas.{Formula};
 ghost use Rattle.csg_tree.specs.ProperTrees.{IsProper};
@@ -11,6 +11,9 @@ ghost use Rattle.bsp_tree.specs.Trees.{outside};
 ghost use Rattle.bsp_boolean.specs.Solids.{solid_of};
 ghost use Rattle.bsp_boolean.specs.TreeSolids.{AreWithin, IsTreeStop};
 ghost use Rattle.facet_cut.specs.Facets.{facets_of};
+ghost use Rattle.reply_text.specs.declared.reply.Complex.{Complex as Limit};
+ghost use Rattle.reply_text.specs.Sums.{IsSizeLimit};
+ghost use Rattle.tree_export.specs.declared.export.Exported.TheVariants as exported;
 ghost use Rattle.tree_export.specs.Exports.{IsWritten, IsCut, IsExported, Bounds, IsMade};
 
 use bsp_boolean::{PlainBuilder, TreeStop, tree_solid};
@@ -96,6 +99,8 @@ pub fn export_made(
     ensures exported { (f : Formula) → IsMade f made → IfOk result (IsExported unit f) }
     // A text is the boundary of the tree.
     ensures boundary { (f : Formula) → IsProper f → IsMade f made → IfOk result (Bounds unit f) }
+    // Without a solid there is no other export than a limit of size.
+    ensures stopped { OnErr made (IfOk result (λ out. (passed : Limit) × IsSizeLimit passed × (out ≡ exported.Complex passed))) }
 {
     match made {
         Ok(solid) => cut(alloc, &solid, unit),

@@ -5,17 +5,34 @@ ghost use Rattle.plane_predicate.specs.declared.unit.Unit.{Unit as LengthUnit};
 ghost use Rattle.plane_predicate.specs.Space.{Coefficients};
 ghost use Rattle.csg_tree.specs.Formulas.{Formula, nothing, leaf};
 ghost use Rattle.csg_tree.specs.Numberings.{nodes_of, tree_numbered};
+ghost use Rattle.csg_tree.specs.ProperTrees.{IsProper};
 ghost use Rattle.bsp_tree.specs.Trees.{outside};
 ghost use Rattle.bsp_boolean.specs.Solids.{solid_of};
 ghost use Rattle.bsp_boolean.specs.TreeSolids.{AreWithin};
 ghost use Rattle.tree_export.specs.declared.export.Exported.{Exported};
 ghost use Rattle.tree_export.specs.declared.export.Exported.TheVariants as exported;
-ghost use Rattle.tree_export.specs.Exports.{empty_text, IsText, IsExported, PassesNoLimit};
+ghost use Rattle.tree_export.specs.Exports.{empty_text, Bounds, IsText, IsExported, PassesNoLimit};
+
+use bsp_boolean::{one_tree_more, solids_are_their_trees};
+use facet_cut::facets_are_polygons;
+use off_text::{some_corners, texts_are_boundaries, texts_print_polygons};
 
 /// In each unit a tree has one export.
 pub fn one_export()
     ensures { (unit : LengthUnit) (tree : Formula) (out other : Exported) → IsExported unit tree out → IsExported unit tree other → out ≡ other }
 {}
+
+/// In each unit each proper tree has an export, and a text is the boundary of the tree.
+pub fn some_export()
+    ensures { (unit : LengthUnit) (tree : Formula) → IsProper tree → (out : Exported) × IsExported unit tree out × Bounds unit tree out }
+{
+    one_tree_more();
+    solids_are_their_trees();
+    facets_are_polygons();
+    some_corners();
+    texts_print_polygons();
+    texts_are_boundaries();
+}
 
 /// A tree's export is a text exactly where no limit is passed.
 pub fn texts_pass_no_limit()

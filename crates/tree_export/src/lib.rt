@@ -7,5 +7,5 @@ mod laws;
 pub use export::{Exported, export_made, export_tree, nodes_of_tree, solid_of_nothing};
 pub use laws::{
     last_nodes_are_trees, nothing_has_the_empty_text, one_export, small_leaves_are_texts,
-    texts_pass_no_limit,
+    some_export, texts_pass_no_limit,
 };

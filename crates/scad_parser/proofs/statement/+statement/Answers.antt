@@ -5,11 +5,11 @@ use Rattle.scad_ast.specs.StatementView.{statement_of}
 use Rattle.scad_grammar.specs.Classes.{among}
 use Rattle.scad_grammar.specs.StatementReads.{firsts_of_statement}
 use Rattle.scad_grammar.proofs.Readers.{loop_more, loop_end, loop_fault}
-use Rattle.scad_parser.proofs.Depths.{statement_none, statement_deeper, body_none, body_deeper}
-use Rattle.scad_parser.proofs.Lengths.{statement_strict}
-use Rattle.scad_parser.proofs.Loops.{many_more, many_end, many_stop}
-use Rattle.scad_parser.proofs.Stops.{statement_goes}
-use Rattle.scad_parser.proofs.Trees.{statements_roll}
+use Rattle.scad_expressions.proofs.Depths.{statement_none, statement_deeper, body_none, body_deeper}
+use Rattle.scad_expressions.proofs.Lengths.{statement_strict}
+use Rattle.scad_expressions.proofs.Loops.{many_more, many_end, many_stop}
+use Rattle.scad_expressions.proofs.Stops.{statement_goes}
+use Rattle.scad_expressions.proofs.Trees.{statements_roll}
 use Rattle.scad_parser.proofs.statement.+statement.Goals as goal
 
 pub statement-returns-then-depth-eq0-clause-value : goal.statement-returns-then-depth-eq0-clause-value

@@ -5,9 +5,9 @@ use Rattle.scad_ast.specs.StatementView.{mark_of}
 use Rattle.scad_grammar.specs.Classes.{among}
 use Rattle.scad_grammar.specs.StatementReads.{mark_signs}
 use Rattle.scad_grammar.proofs.Readers.{loop_more, loop_end, loop_fault}
-use Rattle.scad_parser.proofs.Lengths.{mark_strict}
-use Rattle.scad_parser.proofs.Loops.{many_more, many_end, many_stop}
-use Rattle.scad_parser.proofs.Stops.{mark_goes}
+use Rattle.scad_expressions.proofs.Lengths.{mark_strict}
+use Rattle.scad_expressions.proofs.Loops.{many_more, many_end, many_stop}
+use Rattle.scad_expressions.proofs.Stops.{mark_goes}
 use Rattle.scad_parser.proofs.statement.marks.Goals as goal
 
 pub returns-in_err-item-clause-value : goal.returns-in_err-item-clause-value

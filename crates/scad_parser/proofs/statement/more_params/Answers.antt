@@ -6,9 +6,9 @@ use Rattle.scad_grammar.specs.Classes.{name, is}
 use Rattle.scad_grammar.specs.Reads.{expr_read}
 use Rattle.scad_grammar.specs.StatementReads.{param_in}
 use Rattle.scad_grammar.proofs.Readers.{loop_more, loop_end, loop_fault}
-use Rattle.scad_parser.proofs.Lengths.{param_shorter}
-use Rattle.scad_parser.proofs.Loops.{trailing_more, trailing_end, trailing_stop}
-use Rattle.scad_parser.proofs.Stops.{param_goes}
+use Rattle.scad_expressions.proofs.Lengths.{param_shorter}
+use Rattle.scad_expressions.proofs.Loops.{trailing_more, trailing_end, trailing_stop}
+use Rattle.scad_expressions.proofs.Stops.{param_goes}
 use Rattle.scad_parser.proofs.statement.more_params.Goals as goal
 
 pub returns-in_err-item-clause-value : goal.returns-in_err-item-clause-value

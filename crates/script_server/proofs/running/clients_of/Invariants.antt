@@ -1,5 +1,6 @@
-use Rattle.std.proofs.Common.{◌≡◌, ℕ, All, length}
+use Rattle.std.proofs.Common.{◌≡◌, All, map}
+use Rattle.script_server.specs.Clients.{ClientBooks}
 use Rattle.script_server.proofs.running.clients_of.Given as goal
 
 abbrev pub invariant-loop-share : goal.invariant-loop-share
-invariant-loop-share g l = All (λ (asked : ℕ). asked ≡ 0) l.clients.items × (length l.clients.items ≡ length l.yielded)
+invariant-loop-share g l = All (λ (c : ClientBooks). c.asked ≡ 0) l.clients.items × (map (λ (c : ClientBooks). c.share) l.clients.items ≡ l.yielded)

@@ -13,7 +13,7 @@ invariant_of-self c =
     let h : c.args.scope < length ss = omega (arith, c.requires.scope, rows_length ss) in
     record {
       chain_bounded = c.args.self.now.chain_bounded;
-      bounded = binding_bounded ss c.args.scope c.bind.new.self c.index_mut.result.now c.of-name.result
+      bounded = binding_bounded ss c.args.scope c.bind.new.self c.index_mut.result.now c.in_ok-name.name
           (val_of c.args.value) h c.index_mut.ensures.value c.bind.result
           c.bind.ensures.bound c.bind.ensures.unchanged c.requires.bounded c.args.self.now.bounded;
     }
@@ -22,7 +22,7 @@ pub returns-clause-bound : goal.returns-clause-bound
 returns-clause-bound c =
     let ss = c.args.self.now.scopes.items in
     let h : c.args.scope < length ss = omega (arith, c.requires.scope, rows_length ss) in
-    let name : c.of-name.result ≡ c.args.name.now = c.of-name.ensures ∙ c.in_ok-from_slice.ensures.items in
+    let name : c.in_ok-name.name ≡ c.args.name.now = c.in_ok-name.ensures in
     binding_told ss c.args.scope c.bind.new.self c.index_mut.result.now c.args.name.now (val_of c.args.value)
     h c.index_mut.ensures.value c.bind.result
     (subst (λ n. OnOk c.bind.result (row_of c.bind.new.self ≡ with_variable n (val_of c.args.value)

@@ -1,0 +1,57 @@
+-- What the exports of a script come to in all, where each source has a number of its own.
+use Rattle.std.specs.Prelude.{◌≡◌, ℕ, ◌+◌, List, [], ◌∷◌, MatchOption}
+use Rattle.script_reader.specs.declared.script.Command.{Command}
+use Rattle.script_reader.specs.declared.script.Command.TheVariants.{Export}
+use Rattle.script_reader.specs.declared.script.ClientScript.{ClientScript}
+use Rattle.edit_session.specs.Sessions.{State, start, source_of, refusal}
+use Rattle.reply_text.specs.declared.reply.Complex.{Complex}
+use Rattle.reply_text.specs.declared.reply.Complex.TheVariants as limit
+use Rattle.reply_text.specs.declared.reply.Reply.{Reply}
+use Rattle.reply_text.specs.declared.reply.Reply.TheVariants as reply
+use Rattle.reply_text.specs.Answers.{state_after}
+
+-- a limit of size: of one solid, or of all together
+abbrev pub IsSizeLimit : Complex → Type 0
+IsSizeLimit (limit.Solid number) = Unit {0}
+IsSizeLimit (limit.Sum number) = Unit {0}
+IsSizeLimit _ = ⊥
+
+-- an export that is answered so lacks no solid: memory did not run out, and no limit of size was passed
+abbrev pub LacksNoSolid : Reply → Type 0
+LacksNoSolid reply.NoMem = ⊥
+LacksNoSolid (reply.Complex passed) = IsSizeLimit passed → ⊥
+LacksNoSolid _ = Unit {0}
+
+-- no export among these commands lacks its solid
+abbrev pub LackNoSolid : List Command → List Reply → Type 0
+LackNoSolid (Export ∷ cs) (r ∷ rs) = LacksNoSolid r × LackNoSolid cs rs
+LackNoSolid (c ∷ cs) (r ∷ rs) = LackNoSolid cs rs
+LackNoSolid _ _ = Unit {0}
+
+-- no export of any client lacks its solid
+abbrev pub AllLackNoSolid : List ClientScript → List (List Reply) → Type 0
+AllLackNoSolid (client ∷ clients) (replies ∷ more) = LackNoSolid client.commands replies × AllLackNoSolid clients more
+AllLackNoSolid _ _ = Unit {0}
+
+-- `Counts` relates a source to its number
+module _ (Counts : List ℕ → ℕ → Type 0) where
+  -- what a command comes to: an export that the session doesn't refuse to the number of its source, also where memory ran out,
+  -- and any other to nothing
+  abbrev pub ComesTo : State → Command → ℕ → Type 0
+  ComesTo s Export n = MatchOption (refusal s Export) (Counts (source_of s) n) (λ why. n ≡ 0)
+  ComesTo s _ n = n ≡ 0
+
+  -- what commands that are answered so come to in all
+  abbrev pub SumTo : State → List Command → List Reply → ℕ → Type 0
+  SumTo s [] [] n = n ≡ 0
+  SumTo s (c ∷ cs) (r ∷ rs) n = (here : ℕ) × (more : ℕ) × ComesTo s c here × SumTo (state_after s c r) cs rs more × (n ≡ here + more)
+  SumTo s (c ∷ cs) [] n = ⊥
+  SumTo s [] (r ∷ rs) n = ⊥
+
+  -- what the commands of all clients come to
+  abbrev pub AllSumTo : List ClientScript → List (List Reply) → ℕ → Type 0
+  AllSumTo [] [] n = n ≡ 0
+  AllSumTo (client ∷ clients) (replies ∷ more) n =
+      (here : ℕ) × (others : ℕ) × SumTo start client.commands replies here × AllSumTo clients more others × (n ≡ here + others)
+  AllSumTo (client ∷ clients) [] n = ⊥
+  AllSumTo [] (replies ∷ more) n = ⊥

@@ -1,0 +1,133 @@
+-- An atom with which nothing goes on is read as it is: as an operand, between operators and as an expression.
+use Rattle.std.proofs.Common.{◌≡◌, ℕ, List, [], ◌∷◌, ◌++◌, Bool, true, false, not, ◌&&◌, cond, Ok, Err, refl, sym, ap, ◌∙◌, nat_eq}
+use Rattle.std.proofs.lemmas.Bool.{eqb-true}
+use Rattle.scad_lexer.specs.declared.token.Token.{Token}
+use Rattle.scad_ast.specs.Terms.{Term, NameTerm, ArgTerm}
+use Rattle.scad_grammar.specs.declared.SyntaxFault.{SyntaxFault}
+use Rattle.scad_grammar.specs.Classes.{numeral, text, true_word, false_word, undef_word, child_count, special, name, question_sign, open_parenthesis_sign, class_of, listed, among, is, other_than, bytes_of}
+use Rattle.scad_grammar.specs.Faults.{Reads}
+use Rattle.scad_grammar.specs.Grammar.{levels}
+use Rattle.scad_grammar.specs.Reading.{Read, after, starts, choice}
+use Rattle.scad_grammar.specs.Reads.{suffix_read, unary_read, chain_read, paren_read, bracket_read, name_read, primary_read, choice_read}
+use Rattle.scad_expressions.specs.declared.class.Level.{Level}
+use Rattle.scad_expressions.specs.Climbing.{climb_read}
+use Rattle.scad_expressions.specs.TokenClasses.{joined, binary_signs, unary_signs, suffix_signs, literals, atoms, continuations, operators_at, levels_below}
+use Rattle.scad_expressions.specs.Views.{has_lone_atom, atom_of}
+use Rattle.scad_expressions.proofs.Climbs.{chain_climbs, climbs_none, many_none, starts_apart, none_at, none_below}
+
+module _ (us : List Token) (e : starts (among continuations) us ≡ false) where
+  no_choice : starts (is question_sign) us ≡ false
+  no_choice = (starts_apart (question_sign ∷ []) ((open_parenthesis_sign ∷ []) ++ (suffix_signs ++ binary_signs)) us e).0
+
+  not_chosen : starts (among ((open_parenthesis_sign ∷ []) ++ (suffix_signs ++ binary_signs))) us ≡ false
+  not_chosen = (starts_apart (question_sign ∷ []) ((open_parenthesis_sign ∷ []) ++ (suffix_signs ++ binary_signs)) us e).1
+
+  no_arguments : starts (is open_parenthesis_sign) us ≡ false
+  no_arguments = (starts_apart (open_parenthesis_sign ∷ []) (suffix_signs ++ binary_signs) us not_chosen).0
+
+  not_called : starts (among (suffix_signs ++ binary_signs)) us ≡ false
+  not_called = (starts_apart (open_parenthesis_sign ∷ []) (suffix_signs ++ binary_signs) us not_chosen).1
+
+  no_suffix : starts (among suffix_signs) us ≡ false
+  no_suffix = (starts_apart suffix_signs binary_signs us not_called).0
+
+  no_operator : starts (among binary_signs) us ≡ false
+  no_operator = (starts_apart suffix_signs binary_signs us not_called).1
+
+-- a class that is not the first of a list
+not_first : (c : ℕ) (cs : List ℕ) (k : ℕ) → listed (c ∷ []) k ≡ false → listed (c ∷ cs) k ≡ listed cs k
+not_first c cs k e = go (nat_eq k c) e
+  where
+    go : (b : Bool) → cond b true false ≡ false → cond b true (listed cs k) ≡ listed cs k
+    go true e = absurd (cc)
+    go false e = refl
+
+not_atom : (k : ℕ) → listed (numeral ∷ []) k ≡ false → listed (text ∷ []) k ≡ false → listed (true_word ∷ []) k ≡ false → listed (false_word ∷ []) k ≡ false
+    → listed (undef_word ∷ []) k ≡ false → listed (child_count ∷ []) k ≡ false → listed (special ∷ []) k ≡ false → listed (name ∷ []) k ≡ false → listed atoms k ≡ false
+not_atom k n x y z v w s g =
+    not_first name literals k g
+    ∙ not_first numeral (text ∷ true_word ∷ false_word ∷ undef_word ∷ child_count ∷ special ∷ []) k n
+    ∙ not_first text (true_word ∷ false_word ∷ undef_word ∷ child_count ∷ special ∷ []) k x
+    ∙ not_first true_word (false_word ∷ undef_word ∷ child_count ∷ special ∷ []) k y
+    ∙ not_first false_word (undef_word ∷ child_count ∷ special ∷ []) k z
+    ∙ not_first undef_word (child_count ∷ special ∷ []) k v
+    ∙ not_first child_count (special ∷ []) k w
+    ∙ not_first special [] k s
+
+-- a test that none of a list meets
+abbrev Spares : (ℕ → Bool) → List ℕ → Type 0
+Spares f [] = Unit {0}
+Spares f (c ∷ cs) = (f c ≡ false) × Spares f cs
+
+spared : (f : ℕ → Bool) (cs : List ℕ) (k : ℕ) → Spares f cs → listed cs k ≡ true → f k ≡ false
+spared f [] k h e = absurd (cc)
+spared f (c ∷ cs) k h e = go (nat_eq k c) refl e (spared f cs k h.1)
+  where
+    go : (b : Bool) → nat_eq k c ≡ b → cond b true (listed cs k) ≡ true → (listed cs k ≡ true → f k ≡ false) → f k ≡ false
+    go true g e more = ap f (eqb-true k c g) ∙ h.0
+    go false g e more = more e
+
+both_hold : (b c : Bool) → (b && c) ≡ true → (b ≡ true) × (c ≡ true)
+both_hold true true e = (refl, refl)
+both_hold true false e = absurd (cc)
+both_hold false c e = absurd (cc)
+
+module _ (e : Reads Term) (a : Reads ArgTerm) (t : Token) (us : List Token) where
+  -- one literal, or something else
+  literal_or : (f : Token → Term) (b : Bool) (y : SyntaxFault × List Token) (other : Read Token SyntaxFault Term) (z : Term)
+      → (b ≡ false → other ≡ Ok (z, us)) → cond b (after (cond {A = Read Token SyntaxFault Token} b (Ok (t, us)) (Err y)) (λ x ts. Ok (f x, ts))) other ≡ Ok (cond b (f t) z, us)
+  literal_or f true y other z h = refl
+  literal_or f false y other z h = h refl
+
+  name_alone : is name t ≡ true → starts (is open_parenthesis_sign) us ≡ false → name_read a (t ∷ us) ≡ Ok (NameTerm t.place (bytes_of t.kind), us)
+  name_alone g h = rw (g, h) refl
+
+  -- an atom is read as what it writes, where no arguments follow
+  atom_read : among atoms t ≡ true → starts (is open_parenthesis_sign) us ≡ false → primary_read e a (t ∷ us) ≡ Ok (atom_of t, us)
+  atom_read atom alone =
+      literal_or _ (is numeral t) _ _ _ (λ n. literal_or _ (is text t) _ _ _ (λ x. literal_or _ (is true_word t) _ _ _ (λ y.
+      literal_or _ (is false_word t) _ _ _ (λ z. literal_or _ (is undef_word t) _ _ _ (λ v. literal_or _ (is child_count t) _ _ _ (λ w.
+      literal_or _ (is special t) _ _ _ (λ s. last n x y z v w s (is name t) refl)))))))
+    where
+      last : is numeral t ≡ false → is text t ≡ false → is true_word t ≡ false → is false_word t ≡ false → is undef_word t ≡ false → is child_count t ≡ false → is special t ≡ false
+          → (b : Bool) → is name t ≡ b → cond b (name_read a (t ∷ us)) (choice (is open_parenthesis_sign) (paren_read e) (bracket_read e) (t ∷ us)) ≡ Ok (NameTerm t.place (bytes_of t.kind), us)
+      last n x y z v w s true g = name_alone g alone
+      last n x y z v w s false g =
+          let none : true ≡ false = sym atom ∙ not_atom (class_of t.kind) n x y z v w s g in
+          absurd (cc)
+
+unsigned : (t : Token) → among atoms t ≡ true → among unary_signs t ≡ false
+unsigned t = spared (listed unary_signs) atoms (class_of t.kind) (refl, (refl, (refl, (refl, (refl, (refl, (refl, (refl, tt))))))))
+
+-- what stands behind an atom alone does not go on with it
+apart : (us : List Token) → starts (other_than continuations) us ≡ true → starts (among continuations) us ≡ false
+apart [] h = refl
+apart (u ∷ us) h = go (among continuations u) h
+  where
+    go : (b : Bool) → not b ≡ true → b ≡ false
+    go true h = absurd (cc)
+    go false h = refl
+
+module _ (e w : Reads Term) (a : Reads ArgTerm) (t : Token) (us : List Token) (h : has_lone_atom (t ∷ us) ≡ true) where
+  atom : among atoms t ≡ true
+  atom = (both_hold (among atoms t) (starts (other_than continuations) us) h).0
+
+  ends : starts (among continuations) us ≡ false
+  ends = apart us (both_hold (among atoms t) (starts (other_than continuations) us) h).1
+
+  pub atom_is_operand : unary_read e w (primary_read e a) (t ∷ us) ≡ Ok (atom_of t, us)
+  atom_is_operand =
+      rw (unsigned t atom, atom_read e a t us atom (no_arguments us ends), many_none (among suffix_signs) (suffix_read e) us (no_suffix us ends)) refl
+
+  atom_is_chain : (ls : List (List ℕ)) → ((vs : List Token) → starts (among binary_signs) vs ≡ false → starts (among (joined ls)) vs ≡ false)
+      → chain_read ls (unary_read e w (primary_read e a)) (t ∷ us) ≡ Ok (atom_of t, us)
+  atom_is_chain ls none =
+      chain_climbs ls (unary_read e w (primary_read e a)) (t ∷ us)
+      ∙ ap (λ q. after q (climb_read ls (unary_read e w (primary_read e a)))) atom_is_operand
+      ∙ climbs_none ls (unary_read e w (primary_read e a)) (atom_of t) us (none us (no_operator us ends))
+
+  pub atom_is_side : (level : Level) → chain_read (levels_below level) (unary_read e w (primary_read e a)) (t ∷ us) ≡ Ok (atom_of t, us)
+  atom_is_side level = atom_is_chain (levels_below level) (λ vs g. none_below (operators_at level) (levels_below level) vs (none_at level vs g))
+
+  pub atom_is_expression : choice_read e w (primary_read e a) (t ∷ us) ≡ Ok (atom_of t, us)
+  atom_is_expression = rw (atom_is_chain levels (λ vs g. g), no_choice us ends) refl

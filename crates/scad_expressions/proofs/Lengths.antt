@@ -1,0 +1,129 @@
+-- What the parser's loops read leaves no more tokens than there were, or fewer.
+use Rattle.std.proofs.Common.{◌≡◌, ℕ, zero, suc, ◌<◌, ◌≤◌, List, [], ◌∷◌, ◌++◌, length, Bool, true, false, cond, Ok, Err, Some, None, refl, ap, arith, length-append}
+use Rattle.scad_lexer.specs.declared.token.Token.{Token}
+use Rattle.scad_ast.specs.Terms.{Term, PositionalTerm}
+use Rattle.scad_grammar.specs.declared.SyntaxFault.{SyntaxFault}
+use Rattle.scad_grammar.specs.declared.SyntaxFault.TheVariants.{Nested}
+use Rattle.scad_grammar.specs.Classes.{name, argument_names, open_bracket_sign, close_bracket_sign, dot_sign, assign_sign, among, is}
+use Rattle.scad_grammar.specs.Languages.{Language, first_of, second_of}
+use Rattle.scad_grammar.specs.Grammar.{whole, Statement, link, chain_of, index_of, member_of, mark_of, param_of, binder_of}
+use Rattle.scad_grammar.specs.Faults.{Reads, one, fault_of, left_out, left_out_of_expressions}
+use Rattle.scad_grammar.specs.Reading.{Read, after, starts, mapped, nothing, both, maybe, many}
+use Rattle.scad_grammar.specs.Reads.{firsts_of_expression, nested, head_of, given, suffix_read, unary_read, primary_read, chain_read, arg_in, expr_read, operand_read}
+use Rattle.scad_grammar.specs.StatementReads.{mark_signs, param_in, binder_in, firsts_of_statement, statement_read}
+use Rattle.scad_grammar.proofs.Readers.{Told, IsReader, Opens}
+use Rattle.scad_grammar.proofs.Shrinks.{left, Shrinks, one_shrinks, nothing_shrinks, mapped_shrinks, both_shrinks, choice_shrinks, ahead_shrinks, many_shrinks}
+use Rattle.scad_grammar.proofs.Expressions.{depth_reads}
+use Rattle.scad_grammar.proofs.Statements.{statement_depth_reads, statement_depth_opens}
+use Rattle.scad_expressions.specs.declared.class.Level.{Level}
+use Rattle.scad_expressions.specs.TokenClasses.{operators_at, levels_below}
+use Rattle.scad_expressions.proofs.Loops.{Shorter, Strictly}
+
+shorter : {A : Type 0} (r : Reads A) → Shrinks r → Shorter r
+shorter r h ts x us e = omega (arith, h.at ts, ap left e)
+
+-- what a reader of the grammar leaves
+told_left : {A : Type 0} (r : Reads A) (L W : Language A) (ts : List Token) (q : Read Token SyntaxFault A) → Told r L W ts q → left q ≤ length ts
+told_left r L W ts (Ok p) t = omega (arith, ap length t.1, length-append t.0 p.1)
+told_left r L W ts (Err y) t = omega (arith, ap length t.1, length-append t.0 y.1)
+
+reader_shrinks : {A : Type 0} (r : Reads A) (L W : Language A) (more : A → Token → Bool) → IsReader r L W more → Shrinks r
+reader_shrinks r L W more ir = record { at = λ ts. told_left r L W ts (r ts) (ir.told ts) }
+
+nested_left : (A : Type 0) (begins classes : List ℕ) (ts : List Token) (b : Bool) → left (cond {A = Read Token SyntaxFault A} b (Err (Nested, ts)) (Err (fault_of classes (head_of ts), ts))) ≤ length ts
+nested_left A begins classes ts true = omega arith
+nested_left A begins classes ts false = omega arith
+
+nested_shrinks : {A : Type 0} (begins classes : List ℕ) → Shrinks (nested {A = A} begins classes)
+nested_shrinks {A} begins classes = record { at = λ ts. nested_left A begins classes ts (starts (among begins) ts) }
+
+maybe_shrinks : {A : Type 0} (test : Token → Bool) (r : Reads A) → Shrinks r → Shrinks (maybe test r)
+maybe_shrinks test r h = choice_shrinks test (mapped Some r) (nothing None) (mapped_shrinks Some r h) (nothing_shrinks None)
+
+taken_shrinks : (test : Token → Bool) → Shrinks (one test)
+taken_shrinks test = one_shrinks test (fault_of left_out)
+
+expr_shrinks : (d : ℕ) → Shrinks (expr_read d)
+expr_shrinks d = reader_shrinks (expr_read d) _ _ _ (depth_reads d).0
+
+unary_shrinks : (d : ℕ) → Shrinks (unary_read (expr_read d) (operand_read d) (primary_read (expr_read d) (arg_in d (expr_read d))))
+unfolding operand_read
+unary_shrinks d = reader_shrinks (operand_read (suc d)) _ _ _ (depth_reads (suc d)).1
+
+chain_shrinks : (levels : List (List ℕ)) (u : Reads Term) → Shrinks u → Shrinks (chain_read levels u)
+chain_shrinks [] u h = h
+chain_shrinks (ops ∷ levels) u h =
+    let below = chain_shrinks levels u h in
+    both_shrinks chain_of (chain_read levels u) (many (among ops) (both link (one (among ops)) (chain_read levels u))) below
+    (many_shrinks (among ops) (both link (one (among ops)) (chain_read levels u)) (both_shrinks link (one (among ops)) (chain_read levels u) (taken_shrinks (among ops)) below))
+
+valued_shrinks : (d : ℕ) → Shrinks (both second_of (one (is assign_sign)) (expr_read d))
+valued_shrinks d = both_shrinks second_of (one (is assign_sign)) (expr_read d) (taken_shrinks (is assign_sign)) (expr_shrinks d)
+
+-- expressions, arguments, parameters and variables of a loop
+pub expr_shorter : (d : ℕ) → Shorter (expr_read d)
+expr_shorter d = shorter (expr_read d) (expr_shrinks d)
+
+pub arg_shorter : (d : ℕ) → Shorter (arg_in d (expr_read d))
+arg_shorter zero = shorter (arg_in zero (expr_read zero)) (nested_shrinks firsts_of_expression left_out_of_expressions)
+arg_shorter (suc d) = shorter (arg_in (suc d) (expr_read (suc d))) (ahead_shrinks given (among argument_names) (is assign_sign) (expr_read (suc d)) (mapped PositionalTerm (expr_read (suc d))) (expr_shrinks (suc d)) (mapped_shrinks PositionalTerm (expr_read (suc d)) (expr_shrinks (suc d))))
+
+pub param_shorter : (d : ℕ) → Shorter (param_in d (expr_read d))
+param_shorter zero = shorter (param_in zero (expr_read zero)) (nested_shrinks (name ∷ []) left_out)
+param_shorter (suc d) =
+    shorter (param_in (suc d) (expr_read (suc d)))
+    (both_shrinks param_of (one (is name)) (maybe (is assign_sign) (both second_of (one (is assign_sign)) (expr_read (suc d)))) (taken_shrinks (is name)) (maybe_shrinks (is assign_sign) (both second_of (one (is assign_sign)) (expr_read (suc d))) (valued_shrinks (suc d))))
+
+pub binder_shorter : (d : ℕ) → Shorter (binder_in d (expr_read d))
+binder_shorter zero = shorter (binder_in zero (expr_read zero)) (nested_shrinks (name ∷ []) left_out)
+binder_shorter (suc d) = shorter (binder_in (suc d) (expr_read (suc d))) (both_shrinks binder_of (one (is name)) (both second_of (one (is assign_sign)) (expr_read (suc d))) (taken_shrinks (is name)) (valued_shrinks (suc d)))
+
+pub one_strict : (test : Token → Bool) → Strictly (one test)
+one_strict test [] x us e = absurd (cc)
+one_strict test (t ∷ ts) x us e = go (test t) e
+  where
+    go : (b : Bool) → cond {A = Read Token SyntaxFault Token} b (Ok (t, ts)) (Err (fault_of left_out (Some t), t ∷ ts)) ≡ Ok (x, us) → length us < suc (length ts)
+    go true e =
+        let f : ◌≡◌ {A = Token × List Token} (t, ts) (x, us) = cc in
+        omega (arith, ap length (ap (λ (p : Token × List Token). p.1) f))
+    go false e = absurd (cc)
+
+-- a token, and then something
+module _ {A C : Type 0} (f : Token → A → C) (test : Token → Bool) (r : Reads A) (h : Shrinks r) where
+  then_left : (ts : List Token) (q : Read Token SyntaxFault Token) → one test ts ≡ q → (x : C) (us : List Token) → after q (λ t vs. after (r vs) (λ y ws. Ok (f t y, ws))) ≡ Ok (x, us) → length us < length ts
+  then_left ts (Ok p) g x us e =
+      let less : length p.1 < length ts = one_strict test ts p.0 p.1 g in
+      omega (arith, less, (both_shrinks (λ (u : Unit {0}) y. f p.0 y) (nothing tt) r (nothing_shrinks tt) h).at p.1, ap left e)
+  then_left ts (Err y) g x us e = absurd (cc)
+
+  pub then_strict : Strictly (both f (one test) r)
+  then_strict ts x us e = then_left ts (one test ts) refl x us e
+
+pub link_strict : (level : Level) (d : ℕ) → Strictly (both link (one (among (operators_at level))) (chain_read (levels_below level) (unary_read (expr_read d) (operand_read d) (primary_read (expr_read d) (arg_in d (expr_read d))))))
+link_strict level d = then_strict link (among (operators_at level)) _ (chain_shrinks (levels_below level) _ (unary_shrinks d))
+
+pub suffix_strict : (d : ℕ) → Strictly (suffix_read (expr_read d))
+suffix_strict d ts x us e = go (starts (is open_bracket_sign) ts) e
+  where
+    go : (b : Bool) → cond b (both index_of (one (is open_bracket_sign)) (both first_of (expr_read d) (one (is close_bracket_sign))) ts) (both member_of (one (is dot_sign)) (one (is name)) ts) ≡ Ok (x, us) → length us < length ts
+    go true e = then_strict index_of (is open_bracket_sign) _ (both_shrinks first_of (expr_read d) (one (is close_bracket_sign)) (expr_shrinks d) (taken_shrinks (is close_bracket_sign))) ts x us e
+    go false e = then_strict member_of (is dot_sign) (one (is name)) (taken_shrinks (is name)) ts x us e
+
+pub mark_strict : Strictly (mapped mark_of (one (among mark_signs)))
+mark_strict ts x us e = go (one (among mark_signs) ts) refl e
+  where
+    go : (q : Read Token SyntaxFault Token) → one (among mark_signs) ts ≡ q → after q (λ t vs. Ok (mark_of t, vs)) ≡ Ok (x, us) → length us < length ts
+    go (Ok p) g e = let less : length p.1 < length ts = one_strict (among mark_signs) ts p.0 p.1 g in omega (arith, less, ap left e)
+    go (Err y) g e = absurd (cc)
+
+-- a statement has a token
+some_token : (s : List Token) (test : Token → Bool) → starts test (s ++ []) ≡ true → 0 < length s
+some_token [] test e = absurd (cc)
+some_token (t ∷ s) test e = omega arith
+
+told_strict : {A : Type 0} (r : Reads A) (L W : Language A) (test : Token → Bool) → Opens L test → (ts : List Token) (q : Read Token SyntaxFault A) → Told r L W ts q → (x : A) (us : List Token) → q ≡ Ok (x, us) → length us < length ts
+told_strict r L W test opens ts (Ok p) t x us e = omega (arith, ap length t.1, length-append t.0 p.1, some_token t.0 test (opens p.0 t.0 [] t.2), ap left e)
+told_strict r L W test opens ts (Err y) t x us e = absurd (cc)
+
+pub statement_strict : (d : ℕ) → Strictly (statement_read d)
+statement_strict d ts = told_strict (statement_read d) (Statement whole d) (Statement whole (suc (suc d))) (among firsts_of_statement) (statement_depth_opens d) ts (statement_read d ts) ((statement_depth_reads d).0.told ts)

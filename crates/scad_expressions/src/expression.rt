@@ -1,0 +1,642 @@
+ghost use Rattle.std.specs.Prelude.{◌≡◌, ◌≤◌, ◌<◌, ◌∷◌, [], true, Some, IfOk, length, map};
+ghost use Rattle.scad_ast.specs.Terms.{Term, ArgTerm};
+ghost use Rattle.scad_ast.specs.ExprView.{term_of, terms_of, link_of, suffix_of, arg_of, args_of};
+ghost use Rattle.scad_grammar.specs.Classes.{among, is, other_than, symbol_class, bytes_of};
+ghost use Rattle.scad_grammar.specs.Classes.{comma_sign, close_bracket_sign, close_parenthesis_sign, colon_sign, question_sign};
+ghost use Rattle.scad_grammar.specs.Faults.{Reads, one};
+ghost use Rattle.scad_grammar.specs.Grammar.{levels, given_of, link as link_at, chain_of as chain_at, choice_of as choice_at, postfix_of as postfix_at, unary_of as unary_at, named_of, filled_of};
+ghost use Rattle.scad_grammar.specs.Languages.{pair_of, second_of};
+ghost use Rattle.scad_grammar.specs.Reading.{starts, both, mapped, many, trailing, in_front};
+ghost use Rattle.scad_grammar.specs.Reads.{expr_read, operand_read, arg_in, args_read, primary_read, unary_read, postfix_read, suffix_read, chain_read, choice_read, name_read, paren_read, bracket_read, range_read, rest_read, in_parentheses};
+ghost use Rattle.scad_expressions.specs.Climbing.{climb_read};
+ghost use Rattle.scad_expressions.specs.TokenClasses.{operators_at, levels_below, atoms, literals, suffix_signs, unary_signs};
+ghost use Rattle.scad_expressions.specs.Views.{Gives, atom_of};
+
+use crate::class::{Class, Level};
+use crate::next::{
+    Parsed, behind_comma, binary, bytes, is_before, is_comma_before, is_given, list_of, lone_atom,
+    take, take_first, too_deep, unary_operator, with,
+};
+use compact_bytes::CompactBytes;
+use scad_ast::{
+    Arg, Args, Call, Chain, Choice, Expr, Exprs, Link, Links, Postfix, Range, SteppedRange, Suffix,
+    Suffixes,
+};
+use scad_lexer::{Reserved, Symbol, Token, TokenKind};
+use std::alloc::{AllocError, Global};
+
+// What is rare stands in functions that are not inlined: the locals of a function are cleared at each call, also
+// those of forms that are not met. What was read is handed on as it is where nothing follows it, rather than taken
+// apart and put together again. Most expressions are a literal or a name alone: `atom` makes these where the caller
+// wants them, since it is inlined like `expr` and `arg`.
+
+/// An expression whose tokens are less deep than so much.
+#[cycle(expression)]
+#[inline(always)]
+pub fn expr<'a>(alloc: Global, tokens: &'a [Token], depth: u32) -> Parsed<'a, Expr>
+    ensures value { Gives (λ p. (term_of p.0, p.1.now)) result (expr_read depth tokens.now) }
+    ensures rest { IfOk result (λ p. length p.1.now ≤ length tokens.now) }
+{
+    if depth == 0 {
+        return Err(too_deep(Class::Expression, Class::LeftOutOfExpressions, tokens));
+    }
+    if let Some((token, rest)) = lone_atom(tokens) {
+        return Ok((atom(alloc, token)?, rest));
+    }
+    choice(alloc, tokens, depth - 1)
+}
+
+/// An expression with its choice, over what is less deep than so much.
+#[cycle(expression)]
+#[inline(never)]
+fn choice<'a>(alloc: Global, tokens: &'a [Token], depth: u32) -> Parsed<'a, Expr>
+    ensures value { Gives (λ p. (term_of p.0, p.1.now)) result (choice_read (expr_read depth) (operand_read depth) (primary_read (expr_read depth) (arg_in depth (expr_read depth))) tokens.now) }
+    ensures rest { IfOk result (λ p. length p.1.now ≤ length tokens.now) }
+{
+    match chain(alloc, tokens, depth) {
+        Ok((test, rest)) if Class::Sign(Symbol::Question).begins(rest) => {
+            chosen(alloc, test, rest, depth)
+        }
+        read => read,
+    }
+}
+
+/// A choice by what was read before its `?`.
+#[cycle(expression)]
+#[inline(never)]
+fn chosen<'a>(alloc: Global, test: Expr, tokens: &'a [Token], depth: u32) -> Parsed<'a, Expr>
+    ensures value { Gives (λ p. (term_of p.0, p.1.now)) result (mapped (choice_at (term_of test)) (mapped Some (both pair_of (one (is question_sign)) (both pair_of (expr_read depth) (both second_of (one (is colon_sign)) (expr_read depth))))) tokens.now) }
+    ensures rest { IfOk result (λ p. length p.1.now ≤ length tokens.now) }
+{
+    let ((test, (mark, (yes, no))), rest) = with(test, sides(alloc, tokens, depth))?;
+    let place = test.place();
+    let choice = Choice {
+        test,
+        mark: mark.place,
+        yes,
+        no,
+    };
+    Ok((Expr::Choice(place, Box::new(alloc, choice)?), rest))
+}
+
+/// The mark of a choice and its two sides.
+#[cycle(expression)]
+#[inline(always)]
+fn sides<'a>(
+    alloc: Global,
+    tokens: &'a [Token],
+    depth: u32,
+) -> Parsed<'a, (&'a Token, (Expr, Expr))>
+    ensures value { Gives (λ p. ((p.0.0.now, (term_of p.0.1.0, term_of p.0.1.1)), p.1.now)) result (both pair_of (one (is question_sign)) (both pair_of (expr_read depth) (both second_of (one (is colon_sign)) (expr_read depth))) tokens.now) }
+    ensures rest { IfOk result (λ p. length p.1.now ≤ length tokens.now) }
+{
+    let (mark, rest) = take(Class::Sign(Symbol::Question), tokens)?;
+    let (yes, rest) = expr(alloc, rest, depth)?;
+    let (sides, rest) = with(yes, behind(alloc, Symbol::Colon, rest, depth))?;
+    Ok(((mark, sides), rest))
+}
+
+/// A sign and the expression behind it.
+#[cycle(expression)]
+#[inline(always)]
+pub fn behind<'a>(alloc: Global, sign: Symbol, tokens: &'a [Token], depth: u32) -> Parsed<'a, Expr>
+    ensures value { Gives (λ p. (term_of p.0, p.1.now)) result (both second_of (one (is (symbol_class sign))) (expr_read depth) tokens.now) }
+    ensures rest { IfOk result (λ p. length p.1.now ≤ length tokens.now) }
+{
+    let (_, rest) = take(Class::Sign(sign), tokens)?;
+    expr(alloc, rest, depth)
+}
+
+/// Operands with operators between them.
+#[cycle(expression)]
+fn chain<'a>(alloc: Global, tokens: &'a [Token], depth: u32) -> Parsed<'a, Expr>
+    ensures value { Gives (λ p. (term_of p.0, p.1.now)) result (chain_read levels (unary_read (expr_read depth) (operand_read depth) (primary_read (expr_read depth) (arg_in depth (expr_read depth)))) tokens.now) }
+    ensures rest { IfOk result (λ p. length p.1.now ≤ length tokens.now) }
+{
+    match unary(alloc, tokens, depth) {
+        Ok((first, rest)) if Class::BinaryOperator.begins(rest) => {
+            climbed(alloc, first, rest, depth)
+        }
+        read => read,
+    }
+}
+
+/// What the operators of a level stand between.
+#[cycle(expression)]
+fn side<'a>(alloc: Global, tokens: &'a [Token], depth: u32, level: Level) -> Parsed<'a, Expr>
+    ensures value { Gives (λ p. (term_of p.0, p.1.now)) result (chain_read (levels_below level) (unary_read (expr_read depth) (operand_read depth) (primary_read (expr_read depth) (arg_in depth (expr_read depth)))) tokens.now) }
+    ensures rest { IfOk result (λ p. length p.1.now ≤ length tokens.now) }
+{
+    if let Some((token, rest)) = lone_atom(tokens) {
+        return Ok((atom(alloc, token)?, rest));
+    }
+    let (first, rest) = unary(alloc, tokens, depth)?;
+    climb_below(alloc, first, rest, depth, level)
+}
+
+/// An operand that was read, with the operators behind it.
+#[cycle(expression)]
+#[inline(never)]
+fn climbed<'a>(alloc: Global, first: Expr, tokens: &'a [Token], depth: u32) -> Parsed<'a, Expr>
+    ensures value { Gives (λ p. (term_of p.0, p.1.now)) result (climb_read levels (unary_read (expr_read depth) (operand_read depth) (primary_read (expr_read depth) (arg_in depth (expr_read depth)))) (term_of first) tokens.now) }
+    ensures rest { IfOk result (λ p. length p.1.now ≤ length tokens.now) }
+{
+    match climb_below(alloc, first, tokens, depth, Level::Or) {
+        Ok((first, rest)) if Class::Operator(Level::Or).begins(rest) => {
+            linked(alloc, first, rest, depth, Level::Or)
+        }
+        read => read,
+    }
+}
+
+/// The same with the operators that bind more tightly than those of a level: those of the tightest level first, then
+/// those of the next one around what they make, and so on.
+#[cycle(expression)]
+fn climb_below<'a>(
+    alloc: Global,
+    first: Expr,
+    tokens: &'a [Token],
+    depth: u32,
+    level: Level,
+) -> Parsed<'a, Expr>
+    ensures value { Gives (λ p. (term_of p.0, p.1.now)) result (climb_read (levels_below level) (unary_read (expr_read depth) (operand_read depth) (primary_read (expr_read depth) (arg_in depth (expr_read depth)))) (term_of first) tokens.now) }
+    ensures rest { IfOk result (λ p. length p.1.now ≤ length tokens.now) }
+{
+    let levels = level.tighter_levels();
+    let mut first = first;
+    let mut rest = tokens;
+    let mut at = Level::Product;
+    'levels: while at.tighter_levels() < levels {
+        if Class::Operator(at).begins(rest) {
+            let (chained, after) = linked(alloc, first, rest, depth, at)?;
+            first = chained;
+            rest = after;
+        }
+        at = at.looser();
+    }
+    Ok((first, rest))
+}
+
+/// What was read, with the operators of a level behind it.
+#[cycle(expression)]
+#[inline(never)]
+fn linked<'a>(
+    alloc: Global,
+    first: Expr,
+    tokens: &'a [Token],
+    depth: u32,
+    level: Level,
+) -> Parsed<'a, Expr>
+    requires { starts (among (operators_at level)) tokens.now ≡ true }
+    ensures value { Gives (λ p. (term_of p.0, p.1.now)) result (mapped (chain_at (term_of first)) (many (among (operators_at level)) (both link_at (one (among (operators_at level))) (chain_read (levels_below level) (unary_read (expr_read depth) (operand_read depth) (primary_read (expr_read depth) (arg_in depth (expr_read depth))))))) tokens.now) }
+    ensures rest { IfOk result (λ p. length p.1.now ≤ length tokens.now) }
+{
+    let ((first, (next, more)), rest) = with(first, some_links(alloc, tokens, depth, level))?;
+    let place = first.place();
+    let links = Links { first: next, more };
+    let chain = Chain { first, links };
+    Ok((Expr::Chain(place, Box::new(alloc, chain)?), rest))
+}
+
+/// An operator of a level and what stands behind it, and more of them.
+#[cycle(expression)]
+#[inline(always)]
+fn some_links<'a>(
+    alloc: Global,
+    tokens: &'a [Token],
+    depth: u32,
+    level: Level,
+) -> Parsed<'a, (Link, Vec<Link>)>
+    requires { starts (among (operators_at level)) tokens.now ≡ true }
+    ensures value { Gives (λ p. (link_of p.0.0 ∷ map link_of p.0.1.items, p.1.now)) result (many (among (operators_at level)) (both link_at (one (among (operators_at level))) (chain_read (levels_below level) (unary_read (expr_read depth) (operand_read depth) (primary_read (expr_read depth) (arg_in depth (expr_read depth)))))) tokens.now) }
+    ensures rest { IfOk result (λ p. length p.1.now ≤ length tokens.now) }
+{
+    let (next, rest) = link(alloc, tokens, depth, level)?;
+    let (links, rest) = with(next, links(alloc, rest, depth, level))?;
+    Ok((links, rest))
+}
+
+/// More operators of a level and what stands behind each.
+#[cycle(expression)]
+fn links<'a>(alloc: Global, tokens: &'a [Token], depth: u32, level: Level) -> Parsed<'a, Vec<Link>>
+    ensures value { Gives (λ p. (map link_of p.0.items, p.1.now)) result (many (among (operators_at level)) (both link_at (one (among (operators_at level))) (chain_read (levels_below level) (unary_read (expr_read depth) (operand_read depth) (primary_read (expr_read depth) (arg_in depth (expr_read depth)))))) tokens.now) }
+    ensures rest { IfOk result (λ p. length p.1.now ≤ length tokens.now) }
+{
+    let mut items = Vec::new(alloc);
+    let mut rest = tokens;
+    'links: while Class::Operator(level).begins(rest) {
+        let (item, after) = link(alloc, rest, depth, level)?;
+        items.push(item)?;
+        rest = after;
+    }
+    Ok((items, rest))
+}
+
+/// An operator of a level and what stands behind it.
+#[cycle(expression)]
+fn link<'a>(alloc: Global, tokens: &'a [Token], depth: u32, level: Level) -> Parsed<'a, Link>
+    ensures value { Gives (λ p. (link_of p.0, p.1.now)) result (both link_at (one (among (operators_at level))) (chain_read (levels_below level) (unary_read (expr_read depth) (operand_read depth) (primary_read (expr_read depth) (arg_in depth (expr_read depth))))) tokens.now) }
+    ensures shorter { IfOk result (λ p. length p.1.now < length tokens.now) }
+{
+    let (operator, rest) = take(Class::Operator(level), tokens)?;
+    let (right, rest) = side(alloc, rest, depth, level)?;
+    let op = binary(&operator.kind);
+    let place = operator.place;
+    Ok((Link { op, place, right }, rest))
+}
+
+/// An operand with its operators before it.
+#[cycle(expression)]
+fn unary<'a>(alloc: Global, tokens: &'a [Token], depth: u32) -> Parsed<'a, Expr>
+    ensures value { Gives (λ p. (term_of p.0, p.1.now)) result (unary_read (expr_read depth) (operand_read depth) (primary_read (expr_read depth) (arg_in depth (expr_read depth))) tokens.now) }
+    ensures rest { IfOk result (λ p. length p.1.now ≤ length tokens.now) }
+{
+    if Class::UnaryOperator.begins(tokens) {
+        signed(alloc, tokens, depth)
+    } else {
+        postfix(alloc, tokens, depth)
+    }
+}
+
+/// An operator and its operand.
+#[cycle(expression)]
+#[inline(never)]
+fn signed<'a>(alloc: Global, tokens: &'a [Token], depth: u32) -> Parsed<'a, Expr>
+    ensures value { Gives (λ p. (term_of p.0, p.1.now)) result (both unary_at (one (among unary_signs)) (operand_read depth) tokens.now) }
+    ensures rest { IfOk result (λ p. length p.1.now ≤ length tokens.now) }
+{
+    let (operator, rest) = take(Class::UnaryOperator, tokens)?;
+    let (of, rest) = operand(alloc, rest, depth)?;
+    let op = unary_operator(&operator.kind);
+    Ok((Expr::Unary(operator.place, op, Box::new(alloc, of)?), rest))
+}
+
+/// An operand of a unary operator, whose tokens are less deep than so much.
+#[cycle(expression)]
+fn operand<'a>(alloc: Global, tokens: &'a [Token], depth: u32) -> Parsed<'a, Expr>
+    ensures value { Gives (λ p. (term_of p.0, p.1.now)) result (operand_read depth tokens.now) }
+    ensures rest { IfOk result (λ p. length p.1.now ≤ length tokens.now) }
+{
+    if depth == 0 {
+        return Err(too_deep(Class::Expression, Class::LeftOutOfExpressions, tokens));
+    }
+    if let Some((token, rest)) = lone_atom(tokens) {
+        return Ok((atom(alloc, token)?, rest));
+    }
+    unary(alloc, tokens, depth - 1)
+}
+
+/// A primary with its indexes and members.
+#[cycle(expression)]
+fn postfix<'a>(alloc: Global, tokens: &'a [Token], depth: u32) -> Parsed<'a, Expr>
+    ensures value { Gives (λ p. (term_of p.0, p.1.now)) result (postfix_read (expr_read depth) (primary_read (expr_read depth) (arg_in depth (expr_read depth))) tokens.now) }
+    ensures rest { IfOk result (λ p. length p.1.now ≤ length tokens.now) }
+{
+    match primary(alloc, tokens, depth) {
+        Ok((of, rest)) if Class::Suffix.begins(rest) => suffixed(alloc, of, rest, depth),
+        read => read,
+    }
+}
+
+/// A primary that was read, with its indexes and members.
+#[cycle(expression)]
+#[inline(never)]
+fn suffixed<'a>(alloc: Global, of: Expr, tokens: &'a [Token], depth: u32) -> Parsed<'a, Expr>
+    requires { starts (among suffix_signs) tokens.now ≡ true }
+    ensures value { Gives (λ p. (term_of p.0, p.1.now)) result (mapped (postfix_at (term_of of)) (many (among suffix_signs) (suffix_read (expr_read depth))) tokens.now) }
+    ensures rest { IfOk result (λ p. length p.1.now ≤ length tokens.now) }
+{
+    let ((of, (next, more)), rest) = with(of, some_suffixes(alloc, tokens, depth))?;
+    let place = of.place();
+    let suffixes = Suffixes { first: next, more };
+    let postfix = Postfix { of, suffixes };
+    Ok((Expr::Postfix(place, Box::new(alloc, postfix)?), rest))
+}
+
+/// An index or a member, and more of them.
+#[cycle(expression)]
+#[inline(always)]
+fn some_suffixes<'a>(
+    alloc: Global,
+    tokens: &'a [Token],
+    depth: u32,
+) -> Parsed<'a, (Suffix, Vec<Suffix>)>
+    requires { starts (among suffix_signs) tokens.now ≡ true }
+    ensures value { Gives (λ p. (suffix_of p.0.0 ∷ map suffix_of p.0.1.items, p.1.now)) result (many (among suffix_signs) (suffix_read (expr_read depth)) tokens.now) }
+    ensures rest { IfOk result (λ p. length p.1.now ≤ length tokens.now) }
+{
+    let (next, rest) = suffix(alloc, tokens, depth)?;
+    let (suffixes, rest) = with(next, suffixes(alloc, rest, depth))?;
+    Ok((suffixes, rest))
+}
+
+/// More indexes and members.
+#[cycle(expression)]
+fn suffixes<'a>(alloc: Global, tokens: &'a [Token], depth: u32) -> Parsed<'a, Vec<Suffix>>
+    ensures value { Gives (λ p. (map suffix_of p.0.items, p.1.now)) result (many (among suffix_signs) (suffix_read (expr_read depth)) tokens.now) }
+    ensures rest { IfOk result (λ p. length p.1.now ≤ length tokens.now) }
+{
+    let mut items = Vec::new(alloc);
+    let mut rest = tokens;
+    'suffixes: while Class::Suffix.begins(rest) {
+        let (item, after) = suffix(alloc, rest, depth)?;
+        items.push(item)?;
+        rest = after;
+    }
+    Ok((items, rest))
+}
+
+/// An index or a member.
+#[cycle(expression)]
+fn suffix<'a>(alloc: Global, tokens: &'a [Token], depth: u32) -> Parsed<'a, Suffix>
+    ensures value { Gives (λ p. (suffix_of p.0, p.1.now)) result (suffix_read (expr_read depth) tokens.now) }
+    ensures shorter { IfOk result (λ p. length p.1.now < length tokens.now) }
+{
+    if Class::Sign(Symbol::OpenBracket).begins(tokens) {
+        let (open, rest) = take(Class::Sign(Symbol::OpenBracket), tokens)?;
+        let (index, rest) = expr(alloc, rest, depth)?;
+        let ((index, _), rest) = with(index, take(Class::Sign(Symbol::CloseBracket), rest))?;
+        Ok((Suffix::Index(open.place, index), rest))
+    } else {
+        let (dot, rest) = take(Class::Sign(Symbol::Dot), tokens)?;
+        let (name, rest) = take(Class::Name, rest)?;
+        let bytes = bytes(alloc, &name.kind)?;
+        Ok((Suffix::Member(dot.place, bytes, name.place), rest))
+    }
+}
+
+/// An expression without operators.
+#[cycle(expression)]
+fn primary<'a>(alloc: Global, tokens: &'a [Token], depth: u32) -> Parsed<'a, Expr>
+    ensures value { Gives (λ p. (term_of p.0, p.1.now)) result (primary_read (expr_read depth) (arg_in depth (expr_read depth)) tokens.now) }
+    ensures rest { IfOk result (λ p. length p.1.now ≤ length tokens.now) }
+{
+    if Class::Literal.begins(tokens) {
+        literal(alloc, tokens)
+    } else if Class::Name.begins(tokens) {
+        named(alloc, tokens, depth)
+    } else if Class::Sign(Symbol::OpenParenthesis).begins(tokens) {
+        paren(alloc, tokens, depth)
+    } else {
+        bracket(alloc, tokens, depth)
+    }
+}
+
+/// An expression in parentheses.
+#[cycle(expression)]
+#[inline(never)]
+fn paren<'a>(alloc: Global, tokens: &'a [Token], depth: u32) -> Parsed<'a, Expr>
+    ensures value { Gives (λ p. (term_of p.0, p.1.now)) result (paren_read (expr_read depth) tokens.now) }
+    ensures rest { IfOk result (λ p. length p.1.now ≤ length tokens.now) }
+{
+    let (open, rest) = take(Class::Sign(Symbol::OpenParenthesis), tokens)?;
+    let (inner, rest) = expr(alloc, rest, depth)?;
+    let ((inner, _), rest) = with(inner, take(Class::Sign(Symbol::CloseParenthesis), rest))?;
+    Ok((Expr::Paren(open.place, Box::new(alloc, inner)?), rest))
+}
+
+/// A numeral, a text, a truth, `undef` or a special name.
+#[inline(always)]
+fn literal<'a>(alloc: Global, tokens: &'a [Token]) -> Parsed<'a, Expr>
+    requires { starts (among literals) tokens.now ≡ true }
+    ensures value { (e : Reads Term) (a : Reads ArgTerm) → Gives (λ p. (term_of p.0, p.1.now)) result (primary_read e a tokens.now) }
+    ensures rest { IfOk result (λ p. length p.1.now ≤ length tokens.now) }
+{
+    let (token, rest) = take(Class::Literal, tokens)?;
+    Ok((atom(alloc, token)?, rest))
+}
+
+/// A literal or a name alone.
+#[inline(always)]
+fn atom(alloc: Global, token: &Token) -> Result<Expr, AllocError>
+    requires { among atoms token.now ≡ true }
+    ensures { IfOk result (λ e. term_of e ≡ atom_of token.now) }
+{
+    let place = token.place;
+    Ok(match &token.kind {
+        TokenKind::Name(_) => Expr::Name(place, bytes(alloc, &token.kind)?),
+        TokenKind::Numeral(number) => Expr::Number(place, *number),
+        TokenKind::Text(_) => Expr::Text(place, bytes(alloc, &token.kind)?),
+        TokenKind::Reserved(Reserved::True) => Expr::Truth(place, true),
+        TokenKind::Reserved(Reserved::False) => Expr::Truth(place, false),
+        TokenKind::Reserved(Reserved::Undef) => Expr::Undef(place),
+        kind if Class::Special.has(kind) => Expr::Special(place, bytes(alloc, kind)?),
+        _ => Expr::ChildCount(place),
+    })
+}
+
+/// A name, and its arguments where it has some.
+#[cycle(expression)]
+fn named<'a>(alloc: Global, tokens: &'a [Token], depth: u32) -> Parsed<'a, Expr>
+    ensures value { Gives (λ p. (term_of p.0, p.1.now)) result (name_read (arg_in depth (expr_read depth)) tokens.now) }
+    ensures rest { IfOk result (λ p. length p.1.now ≤ length tokens.now) }
+{
+    let (name, rest) = take(Class::Name, tokens)?;
+    if Class::Sign(Symbol::OpenParenthesis).begins(rest) {
+        return called(alloc, name, rest, depth);
+    }
+    Ok((atom(alloc, name)?, rest))
+}
+
+/// A call of a function, by its name.
+#[cycle(expression)]
+#[inline(never)]
+fn called<'a>(alloc: Global, name: &Token, tokens: &'a [Token], depth: u32) -> Parsed<'a, Expr>
+    ensures value { Gives (λ p. (term_of p.0, p.1.now)) result (mapped (named_of name.now) (mapped Some (in_parentheses (args_read (arg_in depth (expr_read depth))))) tokens.now) }
+    ensures rest { IfOk result (λ p. length p.1.now ≤ length tokens.now) }
+{
+    let bytes = bytes(alloc, &name.kind)?;
+    let ((bytes, args), rest) = with(bytes, arguments(alloc, tokens, depth))?;
+    let call = Call { name: bytes, args };
+    Ok((Expr::Call(name.place, Box::new(alloc, call)?), rest))
+}
+
+/// A list or a range.
+#[cycle(expression)]
+#[inline(never)]
+fn bracket<'a>(alloc: Global, tokens: &'a [Token], depth: u32) -> Parsed<'a, Expr>
+    ensures value { Gives (λ p. (term_of p.0, p.1.now)) result (bracket_read (expr_read depth) tokens.now) }
+    ensures rest { IfOk result (λ p. length p.1.now ≤ length tokens.now) }
+{
+    let (open, rest) = take_first(Class::Sign(Symbol::OpenBracket), tokens)?;
+    if !is_before(Symbol::CloseBracket, rest) {
+        let (_, rest) = take(Class::Sign(Symbol::CloseBracket), rest)?;
+        let items = Box::new(alloc, no_items(alloc))?;
+        return Ok((Expr::List(open.place, items), rest));
+    }
+    let (first, rest) = expr(alloc, rest, depth)?;
+    let (list, rest) = filled(alloc, open, first, rest, depth)?;
+    let ((list, _), rest) = with(list, take(Class::Sign(Symbol::CloseBracket), rest))?;
+    Ok((list, rest))
+}
+
+/// What a bracket and its first expression make with what follows: a list or a range.
+#[cycle(expression)]
+fn filled<'a>(
+    alloc: Global,
+    bracket: &Token,
+    first: Expr,
+    tokens: &'a [Token],
+    depth: u32,
+) -> Parsed<'a, Expr>
+    ensures value { Gives (λ p. (term_of p.0, p.1.now)) result (mapped (filled_of bracket.now (term_of first)) (rest_read (expr_read depth)) tokens.now) }
+    ensures rest { IfOk result (λ p. length p.1.now ≤ length tokens.now) }
+{
+    if !Class::Sign(Symbol::Colon).begins(tokens) {
+        let more = is_comma_before(Symbol::CloseBracket, tokens);
+        let items = list_of(alloc, first, if more { 3 } else { 1 })?;
+        let (items, rest) = more_items(alloc, items, tokens, depth)?;
+        let items = Box::new(alloc, items)?;
+        return Ok((Expr::List(bracket.place, items), rest));
+    }
+    range(alloc, bracket, first, tokens, depth)
+}
+
+/// A range, by its bracket and its first expression.
+#[cycle(expression)]
+#[inline(never)]
+fn range<'a>(
+    alloc: Global,
+    bracket: &Token,
+    from: Expr,
+    tokens: &'a [Token],
+    depth: u32,
+) -> Parsed<'a, Expr>
+    ensures value { Gives (λ p. (term_of p.0, p.1.now)) result (mapped (filled_of bracket.now (term_of from)) (range_read (expr_read depth)) tokens.now) }
+    ensures rest { IfOk result (λ p. length p.1.now ≤ length tokens.now) }
+{
+    let place = bracket.place;
+    let ((from, _), rest) = with(from, take(Class::Sign(Symbol::Colon), tokens))?;
+    let ((from, next), rest) = with(from, expr(alloc, rest, depth))?;
+    if !Class::Sign(Symbol::Colon).begins(rest) {
+        let range = Range { from, to: next };
+        return Ok((Expr::Range(place, Box::new(alloc, range)?), rest));
+    }
+    let (((from, next), to), rest) = with((from, next), behind(alloc, Symbol::Colon, rest, depth))?;
+    let range = SteppedRange {
+        from,
+        step: next,
+        to,
+    };
+    Ok((Expr::SteppedRange(place, Box::new(alloc, range)?), rest))
+}
+
+/// More items of a list, each behind a comma, and maybe a comma behind the last.
+#[cycle(expression)]
+fn more_items<'a>(
+    alloc: Global,
+    mut items: Vec<Expr>,
+    tokens: &'a [Token],
+    depth: u32,
+) -> Parsed<'a, Exprs>
+    ensures value { Gives (λ p. (terms_of p.0, p.1.now)) result (in_front (map term_of items.items) (trailing (is comma_sign) (other_than (close_bracket_sign ∷ [])) (expr_read depth) tokens.now)) }
+    ensures rest { IfOk result (λ p. length p.1.now ≤ length tokens.now) }
+{
+    let mut rest = tokens;
+    'commas: while is_comma_before(Symbol::CloseBracket, rest) {
+        let (item, after) = expr(alloc, behind_comma(rest), depth)?;
+        items.push(item)?;
+        rest = after;
+    }
+    Ok((Exprs { items }, behind_comma(rest)))
+}
+
+/// Arguments in parentheses.
+#[cycle(expression)]
+#[inline(always)]
+pub fn arguments<'a>(alloc: Global, tokens: &'a [Token], depth: u32) -> Parsed<'a, Args>
+    ensures value { Gives (λ p. (args_of p.0, p.1.now)) result (in_parentheses (args_read (arg_in depth (expr_read depth))) tokens.now) }
+    ensures rest { IfOk result (λ p. length p.1.now ≤ length tokens.now) }
+{
+    let (_, rest) = take(Class::Sign(Symbol::OpenParenthesis), tokens)?;
+    let (args, rest) = args(alloc, rest, depth)?;
+    let ((args, _), rest) = with(args, take(Class::Sign(Symbol::CloseParenthesis), rest))?;
+    Ok((args, rest))
+}
+
+/// Arguments, and maybe a comma behind the last.
+#[cycle(expression)]
+fn args<'a>(alloc: Global, tokens: &'a [Token], depth: u32) -> Parsed<'a, Args>
+    ensures value { Gives (λ p. (args_of p.0, p.1.now)) result (args_read (arg_in depth (expr_read depth)) tokens.now) }
+    ensures rest { IfOk result (λ p. length p.1.now ≤ length tokens.now) }
+{
+    if !is_before(Symbol::CloseParenthesis, tokens) {
+        return Ok((no_args(alloc), tokens));
+    }
+    let (first, rest) = arg(alloc, tokens, depth)?;
+    let more = is_comma_before(Symbol::CloseParenthesis, rest);
+    let items = list_of(alloc, first, if more { 2 } else { 1 })?;
+    more_args(alloc, items, rest, depth)
+}
+
+/// More arguments, each behind a comma, and maybe a comma behind the last.
+#[cycle(expression)]
+fn more_args<'a>(
+    alloc: Global,
+    mut items: Vec<Arg>,
+    tokens: &'a [Token],
+    depth: u32,
+) -> Parsed<'a, Args>
+    ensures value { Gives (λ p. (args_of p.0, p.1.now)) result (in_front (map arg_of items.items) (trailing (is comma_sign) (other_than (close_parenthesis_sign ∷ [])) (arg_in depth (expr_read depth)) tokens.now)) }
+    ensures rest { IfOk result (λ p. length p.1.now ≤ length tokens.now) }
+{
+    let mut rest = tokens;
+    'commas: while is_comma_before(Symbol::CloseParenthesis, rest) {
+        let (item, after) = arg(alloc, behind_comma(rest), depth)?;
+        items.push(item)?;
+        rest = after;
+    }
+    Ok((Args { items }, behind_comma(rest)))
+}
+
+/// An argument whose tokens are less deep than so much.
+#[cycle(expression)]
+#[inline(always)]
+fn arg<'a>(alloc: Global, tokens: &'a [Token], depth: u32) -> Parsed<'a, Arg>
+    ensures value { Gives (λ p. (arg_of p.0, p.1.now)) result (arg_in depth (expr_read depth) tokens.now) }
+    ensures rest { IfOk result (λ p. length p.1.now ≤ length tokens.now) }
+{
+    if depth == 0 {
+        return Err(too_deep(Class::Expression, Class::LeftOutOfExpressions, tokens));
+    }
+    if !is_given(tokens) {
+        let (value, rest) = expr(alloc, tokens, depth)?;
+        return Ok((Arg::Positional(value), rest));
+    }
+    let (name, rest) = take(Class::ArgumentName, tokens)?;
+    let (_, rest) = take(Class::Sign(Symbol::Assign), rest)?;
+    let bytes = bytes(alloc, &name.kind)?;
+    let ((bytes, value), rest) = with(bytes, expr(alloc, rest, depth))?;
+    Ok((given(name, bytes, value), rest))
+}
+
+/// An argument by its name and its value.
+#[inline(always)]
+fn given(name: &Token, bytes: CompactBytes, value: Expr) -> Arg
+    requires { bytes ≡ bytes_of name.now.kind }
+    ensures { arg_of result ≡ given_of name.now (term_of value) }
+{
+    if Class::Special.has(&name.kind) {
+        Arg::Special(name.place, bytes, value)
+    } else {
+        Arg::Named(name.place, bytes, value)
+    }
+}
+
+/// A list of nothing.
+fn no_items(alloc: Global) -> Exprs
+    ensures { terms_of result ≡ [] }
+{
+    Exprs {
+        items: Vec::new(alloc),
+    }
+}
+
+/// No arguments.
+fn no_args(alloc: Global) -> Args
+    ensures { args_of result ≡ [] }
+{
+    Args {
+        items: Vec::new(alloc),
+    }
+}

@@ -1,0 +1,19 @@
+-- Commands in front of others.
+use Rattle.std.proofs.Common.{◌≡◌, ℕ, List, ◌∷◌, inl, inr, subst}
+use Rattle.script_reader.specs.declared.script.Command.{Command}
+use Rattle.edit_session.specs.Sessions.{State}
+use Rattle.reply_text.specs.declared.reply.Reply.{Reply}
+use Rattle.reply_text.specs.Answers.{Fits, state_after}
+use Rattle.script_run.specs.Steps.{Steps}
+use Rattle.script_run.specs.Moves.{MovesAt, MovesAlong}
+
+-- a reply that fits in front of others that fit
+pub fits_on : (Exports : List ℕ → Reply → Type 0) (s t : State) (c : Command) (r : Reply) (cs : List Command) (rs : List Reply) → Steps Exports s c t r →
+    Fits Exports t cs rs → Fits Exports s (c ∷ cs) (r ∷ rs)
+fits_on Exports s t c r cs rs (inl (e, same)) fit = inl (e, subst (λ u. Fits Exports u cs rs) same fit)
+fits_on Exports s t c r cs rs (inr (answered, same)) fit = inr (answered, subst (λ u. Fits Exports u cs rs) same fit)
+
+-- a command in front of others moves the exporter first
+pub moves_on : {E : Type 0} (Moves : List ℕ → Reply → E → E → Type 0) (s t : State) (c : Command) (r : Reply) (cs : List Command) (rs : List Reply) (x y z : E) → MovesAt Moves s c r x y → t ≡ state_after s c r →
+    MovesAlong Moves t cs rs y z → MovesAlong Moves s (c ∷ cs) (r ∷ rs) x z
+moves_on Moves s t c r cs rs x y z here same more = (y, here, subst (λ u. MovesAlong Moves u cs rs y z) same more)

@@ -1,0 +1,63 @@
+-- A source means a tree or has a first fault, and then its export has a reply.
+use Rattle.std.proofs.Common.{◌≡◌, true, ℕ, List, ◌⊎◌, inl, inr, refl}
+use Rattle.text_place.specs.declared.fault.Place.{Place}
+use Rattle.text_place.specs.declared.fault.Fault.{Fault}
+use Rattle.text_place.specs.declared.fault.FaultKind.{FaultKind}
+use Rattle.plane_predicate.specs.declared.unit.Unit.{Unit as LengthUnit}
+use Rattle.csg_tree.specs.Formulas.{Formula}
+use Rattle.csg_tree.specs.ProperTrees.{IsProper}
+use Rattle.scad_lexer.specs.declared.token.Token.{Token}
+use Rattle.scad_lexer.specs.Tokens.{Lexes, Gives, Faults, ends_once}
+use Rattle.scad_ast.specs.Terms.{StatementTerm}
+use Rattle.scad_grammar.specs.declared.SyntaxFault.{SyntaxFault}
+use Rattle.scad_grammar.specs.Grammar.{Program}
+use Rattle.scad_grammar.specs.FirstFault.{IsFirstFault}
+use Rattle.scad_parser.specs.Parsing.{kind_of, place_at}
+use Rattle.scad_meaning.specs.Sources.{Meaning, a_tree, a_fault, IsMeaning}
+use Rattle.reply_text.specs.declared.reply.Reply.{Reply}
+use Rattle.reply_text.specs.declared.reply.Reply.TheVariants as reply
+use Rattle.tree_export.specs.declared.export.Exported.{Exported}
+use Rattle.tree_export.specs.declared.export.Exported.TheVariants as exported
+use Rattle.tree_export.specs.Exports.{IsExported, Bounds}
+use Rattle.script_server.specs.Meaning.Sources.{Writes, Means, HasFault}
+use Rattle.script_server.specs.Meaning.Exports.{reply_of, IsBounded, AnswersExport}
+
+-- what is known of the texts, the programs and the trees of sources
+pub record SomeText : Type 0 where
+  pub outcome : (text : List ℕ) → ((tokens : List Token) × Lexes text (Gives tokens) × (ends_once tokens ≡ true)) ⊎ ((kind : FaultKind) × (at : Place) × Lexes text (Faults kind at))
+  pub program : (d : ℕ) (s : List Token) → ends_once s ≡ true → ((x : List StatementTerm) × Program d x s) ⊎ ((fault : SyntaxFault) × (at : List Token) × IsFirstFault d s fault at)
+  pub meaning : (unit : LengthUnit) (program : List StatementTerm) → (m : Meaning) × IsMeaning unit program m
+
+abbrev pub MeansSome : LengthUnit → List ℕ → Type 0
+MeansSome unit source = ((tree : Formula) × Means unit source tree) ⊎ ((fault : Fault) × HasFault unit source fault)
+
+of_program : (unit : LengthUnit) (source : List ℕ) (program : List StatementTerm) (m : Meaning) → Writes source program → IsMeaning unit program m → MeansSome unit source
+of_program unit source program (a_tree tree) writes means = inl (tree, (program, writes, means))
+of_program unit source program (a_fault kind at) writes means = inr (record { kind = kind; place = at }, inr (program, writes, means))
+
+pub some_meaning : SomeText → (unit : LengthUnit) (source : List ℕ) → MeansSome unit source
+some_meaning text unit source = go (text.outcome source)
+  where
+    with_tokens : (tokens : List Token) → Lexes source (Gives tokens) → ((x : List StatementTerm) × Program 65 x tokens) ⊎ ((fault : SyntaxFault) × (at : List Token) × IsFirstFault 65 tokens fault at) → MeansSome unit source
+    with_tokens tokens lexes (inl (program, is)) = let m = text.meaning unit program in of_program unit source program m.0 (tokens, lexes, is) m.1
+    with_tokens tokens lexes (inr (fault, at, first)) = inr (record { kind = kind_of fault; place = place_at at }, inl (inr (tokens, lexes, (fault, at, first, refl, refl))))
+
+    go : ((tokens : List Token) × Lexes source (Gives tokens) × (ends_once tokens ≡ true)) ⊎ ((kind : FaultKind) × (at : Place) × Lexes source (Faults kind at)) → MeansSome unit source
+    go (inl (tokens, lexes, ends)) = with_tokens tokens lexes (text.program 65 tokens ends)
+    go (inr (kind, at, lexes)) = inr (record { kind = kind; place = at }, inl (inl lexes))
+
+-- the reply of what the export of a tree gives
+tree_bounded : (unit : LengthUnit) (source : List ℕ) (tree : Formula) (out : Exported) → Means unit source tree → Bounds unit tree out → IsBounded unit source (reply_of out)
+tree_bounded unit source tree (exported.Text bytes) means bounds = (tree, means, bounds)
+tree_bounded unit source tree (exported.Complex passed) means bounds = tt
+
+abbrev pub SomeExport : Type 0
+SomeExport = (unit : LengthUnit) (tree : Formula) → IsProper tree → (out : Exported) × IsExported unit tree out × Bounds unit tree out
+
+pub tree_answered : SomeExport → (unit : LengthUnit) (source : List ℕ) (tree : Formula) → Means unit source tree → IsProper tree → (r : Reply) × AnswersExport unit source r
+tree_answered some unit source tree means proper =
+    let (out, is, bounds) = some unit tree proper in
+    (reply_of out, (inr (tree, means, (out, is, refl)), tree_bounded unit source tree out means bounds))
+
+pub fault_answered : (unit : LengthUnit) (source : List ℕ) (fault : Fault) → HasFault unit source fault → (r : Reply) × AnswersExport unit source r
+fault_answered unit source fault has = (reply.Faulted fault, (inl (fault, has, refl), tt))
