@@ -1,2 +1,3 @@
 mod Moving
 mod Together
+mod Rows

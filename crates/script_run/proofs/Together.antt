@@ -1,5 +1,5 @@
 -- Clients that wait for an exporter each, and clients that were served.
-use Rattle.std.proofs.Common.{◌≡◌, ℕ, ◌≤◌, List, [], ◌∷◌, ◌++◌, take, drop, length, All, ap, refl, subst, ◌∙◌, arith}
+use Rattle.std.proofs.Common.{◌≡◌, ℕ, ◌≤◌, List, [], ◌∷◌, ◌++◌, take, drop, length, All, ap, refl, sym, subst, ◌∙◌, arith}
 use Rattle.std.proofs.Math.Seq.{take-append_seam}
 use Rattle.std.proofs.lemmas.List.Elements.{All-head, All-tail, All-nil, All-cons}
 use Rattle.script_reader.specs.declared.script.ClientScript.{ClientScript}
@@ -46,6 +46,11 @@ module _ {E : Type 0} (Fresh : E → Type 0) where
   waiting_ready (client ∷ clients) (served ∷ all) [] w within fresh same = absurd (omega (arith, same))
   waiting_ready [] (served ∷ all) es w within fresh same = absurd w
   waiting_ready (client ∷ clients) [] es w within fresh same = absurd w
+
+-- the replies of clients that were all written over
+pub replies_left : (n : ℕ) (new old : List Served) → n ≡ length new → replies_of (take n (new ++ drop (length new) old)) ≡ replies_of new
+replies_left n new old same =
+    ap (λ k. replies_of (take k (new ++ drop (length new) old))) same ∙ ap replies_of (take-append_seam new (drop (length new) old))
 
 module _ {E : Type 0} (Exports : List ℕ → Reply → Type 0) (Moves : List ℕ → Reply → E → E → Type 0) where
   abbrev Done : Served → E → Served → E → Type 0
@@ -94,7 +99,20 @@ module _ {E : Type 0} (Exports : List ℕ → Reply → Type 0) (Moves : List �
   served_many (served ∷ all) (e ∷ es) (served' ∷ all') (e' ∷ es') h = omega (arith, served_many all es all' es' h.1)
   served_many all es all' es' h = absurd h
 
--- the replies of clients that were all written over
-pub replies_left : (n : ℕ) (new old : List Served) → n ≡ length new → replies_of (take n (new ++ drop (length new) old)) ≡ replies_of new
-replies_left n new old same =
-    ap (λ k. replies_of (take k (new ++ drop (length new) old))) same ∙ ap replies_of (take-append_seam new (drop (length new) old))
+  -- what is told of clients that were all served, with the replies that were taken of them
+  pub record AllServed (clients : List ClientScript) (taken : List (List Reply)) (es idle es' : List E) : Type 0 where
+    pub fits : AllFit Exports clients taken
+    pub few : All (λ rs. length rs ≤ 8192) taken
+    pub moved : AllMove Moves clients taken (es ++ idle) (es' ++ idle)
+
+  pub all_served : (clients : List ClientScript) (items all : List Served) (es idle : List E) (all' : List Served) (es' : List E) (n : ℕ) (taken : List (List Reply)) →
+      AreWaiting clients items → All IsClientWithin clients → all ≡ items → n ≡ length items → EachWorked Done all es all' es' →
+      taken ≡ replies_of (take n (all' ++ drop (length all') items)) → AllServed clients taken es idle es'
+  all_served clients items all es idle all' es' n taken waits within same long worked told =
+      let waiting = subst (AreWaiting clients) (sym same) waits in
+      let many = served_many all es all' es' worked in
+      let after : taken ≡ replies_of all' = told ∙ replies_left n all' items (omega (arith, many, ap length same, long)) in record {
+        fits = subst (AllFit Exports clients) (sym after) (served_fit clients all es all' es' waiting worked);
+        few = subst (All (λ (rs : List Reply). length rs ≤ 8192)) (sym after) (served_few clients all es all' es' waiting within worked);
+        moved = subst (λ rs. AllMove Moves clients rs (es ++ idle) (es' ++ idle)) (sym after) (served_move clients all es idle all' es' waiting worked);
+      }

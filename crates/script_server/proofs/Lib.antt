@@ -4,3 +4,4 @@ pub mod Refusing
 pub mod Books
 pub mod SomeReply
 pub mod Sums
+mod Rows

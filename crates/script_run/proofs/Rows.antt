@@ -1,0 +1,41 @@
+-- Exporters that count their exports.
+use Rattle.std.proofs.Common.{◌≡◌, ℕ, ◌+◌, List, [], ◌∷◌, refl, codes}
+use Rattle.script_reader.specs.declared.script.Command.{Command}
+use Rattle.script_reader.specs.declared.script.Command.TheVariants.{Put, Show, Export, Bad}
+use Rattle.script_reader.specs.declared.script.ClientScript.{ClientScript}
+use Rattle.edit_session.specs.declared.fault.SessionFault.TheVariants.{NoSuchLine, TooManyExports, BadCommand}
+use Rattle.edit_session.specs.Sessions.{State, start}
+use Rattle.reply_text.specs.declared.reply.Complex.TheVariants as limit
+use Rattle.reply_text.specs.declared.reply.Reply.{Reply}
+use Rattle.reply_text.specs.declared.reply.Reply.TheVariants as reply
+use Rattle.script_run.specs.Moves.{MovesAlong, AllMove}
+
+abbrev IsCounted : List ℕ → Reply → ℕ → ℕ → Type 0
+IsCounted source r old new = new ≡ old + 1
+
+abbrev commands : List Command
+commands = Put 2 (codes "x") ∷ Put 1 (codes "x") ∷ Export ∷ Show ∷ Bad ∷ Export ∷ []
+
+abbrev replies : List Reply
+replies = reply.Refused NoSuchLine ∷ reply.Lines 1 ∷ reply.Solid [] ∷ reply.Text (codes "x" ∷ []) ∷ reply.Refused BadCommand ∷ reply.Complex limit.Facets ∷ []
+
+-- exports move it, and nothing else does
+two_exports : MovesAlong IsCounted start commands replies 5 7
+two_exports = (5, refl, (5, refl, (6, (λ has. refl), (6, refl, (6, refl, (7, (λ has. refl), refl))))))
+
+abbrev nearly_exported : State
+nearly_exported = record { lines = []; shows = 0; exports = 15 }
+
+-- nor does an export that the session refuses
+one_is_refused : MovesAlong IsCounted nearly_exported (Export ∷ Export ∷ []) (reply.Solid [] ∷ reply.Refused TooManyExports ∷ []) 0 1
+one_is_refused = (1, (λ has. refl), (1, (λ has. refl), refl))
+
+abbrev client : ClientScript
+client = record { name = codes "a"; commands = commands }
+
+-- an exporter without a client stays as it is
+all_move : AllMove IsCounted (client ∷ client ∷ []) (replies ∷ replies ∷ []) (0 ∷ 1 ∷ 9 ∷ []) (2 ∷ 3 ∷ 9 ∷ [])
+all_move = (
+  (0, refl, (0, refl, (1, (λ has. refl), (1, refl, (1, refl, (2, (λ has. refl), refl)))))),
+  ((1, refl, (1, refl, (2, (λ has. refl), (2, refl, (2, refl, (3, (λ has. refl), refl)))))), refl),
+)
