@@ -1,7 +1,8 @@
 #!/bin/sh
-# Tries the wrong bodies of wrong-bodies/, those of the crates that are named or of all, and prints which the prover
-# did not refuse. They are tried in a copy of the tree by `rt must-fail`, which begins with what `rt check` kept of a
-# crate, so check a crate first. `rt ci` tries the few that stand in crates/*/must-fail by itself.
+# Tries wrong bodies of wrong-bodies/: all, or those that are named by CRATE or CRATE/NAME. Prints a line for each crate,
+# with a line below it for each wrong body that the prover did not refuse, and one line at the end. They are tried side
+# by side, as many as there are processors, in a copy of the tree by `rt ci` of their crates: it proves a crate only
+# where no earlier run on this machine did, and tries a wrong body only where it was not tried over the same files.
 set -u
 top=$(cd "$(dirname "$0")/.." && pwd) || exit 1
 cd "$top" || exit 1
@@ -18,16 +19,34 @@ for crate in crates/*; do
         [ ! -d "$crate/$part" ] || cp -R "$crate/$part" "$copy/$crate"
     done
 done
-for crate in "$@"; do
-    if [ ! -d "wrong-bodies/$crate" ]; then
-        echo "wrong-bodies: there are none of a crate $crate" >&2
+for name in "$@"; do
+    crate=${name%%/*}
+    case $name in
+        */*) bodies=wrong-bodies/${name%.edit}.edit ;;
+        *) bodies=wrong-bodies/$name/*.edit ;;
+    esac
+    mkdir -p "$copy/crates/$crate/must-fail"
+    # (the pattern stands unquoted, to be filled in)
+    if ! cp $bodies "$copy/crates/$crate/must-fail" 2>/dev/null; then
+        echo "wrong-bodies: there is nothing to try of the name $name" >&2
         exit 2
     fi
-    cp -R "wrong-bodies/$crate" "$copy/crates/$crate/must-fail"
 done
 
-(cd "$copy" && rt must-fail "$@") >"$copy/said" 2>&1
-status=$?
-grep -v -e ': refused, as it must be' -e ': begins with what a check kept' "$copy/said"
-echo "$(grep -c ': refused, as it must be' "$copy/said") of $(ls "$copy"/crates/*/must-fail/*.edit | wc -l) wrong bodies were refused"
-exit $status
+crates=$(cd "$copy/crates" && ls -d */must-fail | sed 's|/.*||')
+(cd "$copy" && rt ci $crates) >"$copy/said" 2>&1
+all=0
+refused=0
+for crate in $crates; do
+    of=$(ls "$copy/crates/$crate/must-fail" | wc -l)
+    did=$(grep -c "must-fail $crate/.*: refused, as it must be" "$copy/said")
+    echo "$crate: $did of $of refused"
+    grep "must-fail $crate/" "$copy/said" | grep -v ': refused, as it must be' | sed 's/^/    /'
+    all=$((all + of))
+    refused=$((refused + did))
+done
+echo "$refused of $all wrong bodies were refused"
+if [ "$refused" -ne "$all" ]; then
+    grep -e 'NOT PROVED' -e '^rt: FAILED' "$copy/said" >&2
+    exit 1
+fi
