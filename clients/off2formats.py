@@ -1,0 +1,167 @@
+"""Writes triangles as STL, OFF, OBJ and 3MF.
+
+Corners are exact fractions until they are printed. A text format prints the shortest decimal number of the nearest
+double, and binary STL has the nearest single; a corner one of whose numbers that changes is rounded. Corners that
+become one by rounding are one from then on, and a triangle that loses a corner so is left out, which leaves a closed
+surface closed.
+"""
+
+from __future__ import annotations
+
+import struct
+import zipfile
+from dataclasses import dataclass
+from fractions import Fraction
+from math import sqrt
+from typing import BinaryIO, Callable, Sequence
+
+from clients.closing import Ring
+from clients.fouroff import Boundary, Plane
+
+#: A corner as it is printed: three numbers of a text, or three singles.
+Printed = tuple[str, str, str]
+
+
+@dataclass(frozen=True)
+class Mesh:
+    """Triangles as they are written."""
+
+    name: str
+    points: list[Printed]
+    triangles: list[Ring]
+    #: The plane of each triangle before rounding, whose direction points outward.
+    planes: list[Plane]
+    #: How many corners are not printed exactly.
+    rounded: int
+
+
+def mesh(name: str, boundary: Boundary, cuts: Sequence[Sequence[Ring]], unit: Fraction, form: str) -> Mesh:
+    """The triangles of each face with their corners times the unit, rounded for this format."""
+    round_off = _single if form == "binstl" else _double
+    printed: dict[tuple[int, int], tuple[str, bool]] = {}
+
+    def print_place(above: int, below: int) -> tuple[str, bool]:
+        """The number above/below times the unit as digits, and whether it is what these say."""
+        if (above, below) not in printed:
+            exact = Fraction(above, below) * unit
+            text, value = round_off(exact)
+            printed[above, below] = (text, value == exact)
+        return printed[above, below]
+
+    places: dict[Printed, int] = {}
+    moved, rounded = [], 0
+    for corner in boundary.corners:
+        parts = [print_place(corner[axis], corner[3]) for axis in range(3)]
+        point = (parts[0][0], parts[1][0], parts[2][0])
+        moved.append(places.setdefault(point, len(places)))
+        rounded += not all(exact for _, exact in parts)
+    solid = Mesh(name, list(places), [], [], rounded)
+    for cut, plane in zip(cuts, boundary.planes):
+        for triangle in cut:
+            a, b, c = (moved[corner] for corner in triangle)
+            if a != b and b != c and c != a:
+                solid.triangles.append((a, b, c))
+                solid.planes.append(plane)
+    return solid
+
+
+def _double(number: Fraction) -> tuple[str, Fraction]:
+    """The shortest digits of the nearest double, and the number that they say."""
+    text = repr(float(number))
+    if text.endswith(".0"):
+        text = text[:-2]
+    return text, Fraction(text)
+
+
+def _single(number: Fraction) -> tuple[str, Fraction]:
+    """The shortest digits of the nearest single as a double, and that single."""
+    (single,) = struct.unpack("<f", struct.pack("<f", float(number)))
+    return repr(single), Fraction(single)
+
+
+def _normal(plane: Plane) -> tuple[float, float, float]:
+    """The outward direction of length 1."""
+    greatest = max(map(abs, plane[:3]))
+    a, b, c = (part / greatest for part in plane[:3])
+    length = sqrt(a * a + b * b + c * c)
+    return a / length + 0.0, b / length + 0.0, c / length + 0.0
+
+
+def _write_stl(sink: BinaryIO, solid: Mesh) -> None:
+    lines = [f"solid {solid.name}"]
+    for triangle, plane in zip(solid.triangles, solid.planes):
+        lines.append("facet normal {:.9g} {:.9g} {:.9g}".format(*_normal(plane)))
+        lines.append("outer loop")
+        lines += ["vertex " + " ".join(solid.points[corner]) for corner in triangle]
+        lines += ["endloop", "endfacet"]
+    lines.append(f"endsolid {solid.name}")
+    _write_lines(sink, lines)
+
+
+def _write_binary_stl(sink: BinaryIO, solid: Mesh) -> None:
+    # The header must not begin as a text does.
+    sink.write(struct.pack("<80sI", f"binary STL of {solid.name}".encode()[:80], len(solid.triangles)))
+    for triangle, plane in zip(solid.triangles, solid.planes):
+        numbers = [float(number) for corner in triangle for number in solid.points[corner]]
+        sink.write(struct.pack("<12fH", *_normal(plane), *numbers, 0))
+
+
+def _write_off(sink: BinaryIO, solid: Mesh) -> None:
+    lines = ["OFF", f"{len(solid.points)} {len(solid.triangles)} 0"]
+    lines += [" ".join(point) for point in solid.points]
+    lines += [f"3 {a} {b} {c}" for a, b, c in solid.triangles]
+    _write_lines(sink, lines)
+
+
+def _write_obj(sink: BinaryIO, solid: Mesh) -> None:
+    lines = [f"o {solid.name}"]
+    lines += ["v " + " ".join(point) for point in solid.points]
+    lines += [f"f {a + 1} {b + 1} {c + 1}" for a, b, c in solid.triangles]
+    _write_lines(sink, lines)
+
+
+_TYPES = """<?xml version="1.0" encoding="UTF-8"?>
+<Types xmlns="http://schemas.openxmlformats.org/package/2006/content-types">
+<Default Extension="rels" ContentType="application/vnd.openxmlformats-package.relationships+xml"/>
+<Default Extension="model" ContentType="application/vnd.ms-package.3dmanufacturing-3dmodel+xml"/>
+</Types>
+"""
+_RELATIONS = """<?xml version="1.0" encoding="UTF-8"?>
+<Relationships xmlns="http://schemas.openxmlformats.org/package/2006/relationships">
+<Relationship Target="/3D/3dmodel.model" Id="rel0" Type="http://schemas.microsoft.com/3dmanufacturing/2013/01/3dmodel"/>
+</Relationships>
+"""
+
+
+def _write_3mf(sink: BinaryIO, solid: Mesh) -> None:
+    """The 3MF core specification: a package of one model in millimetres with one object."""
+    lines = ['<?xml version="1.0" encoding="UTF-8"?>']
+    lines.append('<model unit="millimeter" xml:lang="en" xmlns="http://schemas.microsoft.com/3dmanufacturing/core/2015/02">')
+    lines.append(f'<resources><object id="1" type="model" name="{solid.name}"><mesh><vertices>')
+    lines += ['<vertex x="{}" y="{}" z="{}"/>'.format(*point) for point in solid.points]
+    lines.append("</vertices><triangles>")
+    lines += ['<triangle v1="{}" v2="{}" v3="{}"/>'.format(*triangle) for triangle in solid.triangles]
+    lines.append("</triangles></mesh></object></resources>")
+    lines.append('<build><item objectid="1"/></build>')
+    lines.append("</model>")
+    parts = {"[Content_Types].xml": _TYPES, "_rels/.rels": _RELATIONS, "3D/3dmodel.model": "\n".join(lines) + "\n"}
+    with zipfile.ZipFile(sink, "w", zipfile.ZIP_DEFLATED) as package:
+        for name, text in parts.items():
+            # A fixed date, so that one solid is one file.
+            entry = zipfile.ZipInfo(name, (1980, 1, 1, 0, 0, 0))
+            entry.compress_type = zipfile.ZIP_DEFLATED
+            package.writestr(entry, text)
+
+
+def _write_lines(sink: BinaryIO, lines: list[str]) -> None:
+    sink.write("".join(line + "\n" for line in lines).encode("ascii"))
+
+
+#: How each format is written, by its name.
+WRITERS: dict[str, Callable[[BinaryIO, Mesh], None]] = {
+    "stl": _write_stl,
+    "binstl": _write_binary_stl,
+    "off": _write_off,
+    "obj": _write_obj,
+    "3mf": _write_3mf,
+}
