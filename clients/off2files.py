@@ -8,6 +8,7 @@ from __future__ import annotations
 
 import argparse
 import os
+import re
 import signal
 import sys
 import tempfile
@@ -58,6 +59,11 @@ def run(tool: Callable[[list[str]], None], words: list[str]) -> int:
 def called(file: str) -> str:
     """What a file is called in messages."""
     return "standard input" if file == "-" else file
+
+
+def stem(file: str) -> str:
+    """What a solid is called inside a new file: the name of its 4OFF file, in letters that each format has."""
+    return re.sub(r"[^A-Za-z0-9_-]", "_", os.path.splitext(os.path.basename(file))[0]) if file != "-" else "solid"
 
 
 def read(file: str) -> fouroff.Boundary:

@@ -35,7 +35,7 @@ def _convert(words: list[str]) -> None:
     boundary = off2files.read(asked.file)
     rings = closing.close(boundary)
     cuts = closing.triangles(boundary, rings)
-    mesh = off2formats.mesh(_stem(asked.file), boundary, cuts, asked.unit, asked.format)
+    mesh = off2formats.mesh(off2files.stem(asked.file), boundary, cuts, asked.unit, asked.format)
     volume = fouroff_measures.volume(boundary)
     unpaired = closing.open_edges(closing.ways(mesh.triangles))
     if unpaired:
@@ -82,8 +82,3 @@ def _unit(text: str) -> Fraction:
     if _UNIT.fullmatch(text) is None or not text.strip("0./") or re.search("/0+$", text):
         raise ArgumentTypeError(f"{text!r} is no number above 0 like 2, 25.4 or 1/10")
     return Fraction(text)
-
-
-def _stem(file: str) -> str:
-    """What the solid is called inside its file: the name of the 4OFF file in the letters that each format has."""
-    return re.sub(r"[^A-Za-z0-9_-]", "_", os.path.splitext(os.path.basename(file))[0]) if file != "-" else "solid"

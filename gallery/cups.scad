@@ -1,4 +1,4 @@
-// Cups of three sizes by one module.
+// Cups of four sizes by one module.
 module cup(size, wall = 1) {
   inner = size - 2 * wall;
   difference() {
@@ -7,4 +7,4 @@ module cup(size, wall = 1) {
   }
 }
 
-for (size = [4 : 2 : 8]) translate([size * size, 0, 0]) cup(size);
+for (size = [4 : 2 : 10]) translate([size * size / 2, 0, 0]) cup(size);
