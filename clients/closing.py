@@ -17,7 +17,7 @@ from fractions import Fraction
 from math import gcd
 from typing import Iterable, Sequence
 
-from clients.fouroff import Boundary, Corner, Flat, flatten, turn
+from fouroff import Boundary, Corner, Flat, flatten, turn
 
 #: The direction and the moment of a line, without a common factor, the first number that is not 0 above 0.
 Line = tuple[int, ...]
@@ -130,3 +130,22 @@ def open_edges(used: Ways) -> int:
 def shared_edges(used: Ways) -> int:
     """How many edges more than two rings have in common, as where a solid touches itself."""
     return sum(1 for (p, q), times in used.items() if times + used[q, p] > 2 and (p < q or (q, p) not in used))
+
+
+def touching_corners(rings: Iterable[Ring]) -> int:
+    """How many corners have rings that do not hang together there by edges: the solid touches itself at that point."""
+    neighbours: dict[int, dict[int, int]] = {}
+    for ring in rings:
+        for before, corner, behind in zip(ring[-1:] + ring[:-1], ring, ring[1:] + ring[:1]):
+            groups = neighbours.setdefault(corner, {})
+            groups[_group(groups, before)] = _group(groups, behind)
+    return sum(1 for groups in neighbours.values() if len({_group(groups, corner) for corner in list(groups)}) > 1)
+
+
+def _group(groups: dict[int, int], corner: int) -> int:
+    """The corner that stands for all that hang together with this one: each names one of them, and itself at the end."""
+    while groups.setdefault(corner, corner) != corner:
+        # The way to the end is halved for the next time.
+        groups[corner] = groups[groups[corner]]
+        corner = groups[corner]
+    return corner

@@ -7,14 +7,14 @@ from fractions import Fraction
 from math import lcm
 from typing import NamedTuple, Sequence
 
-from clients.fouroff import Boundary, Corner
+from fouroff import Boundary, Corner
 
 # A common denominator of more bits belongs to a volume whose exact digits nobody reads.
 _MOST_BITS = 4096
 # An approximate volume is off by less than the number of triangles times this.
 _STEP = Fraction(1, 2**192)
 # A fraction with more digits is printed as a decimal number, with the word 'about' before it.
-_MOST_DIGITS = 40
+_MOST_DIGITS = 100
 _MOST_PLACES = 12
 
 

@@ -8,15 +8,16 @@ surface closed.
 
 from __future__ import annotations
 
+import io
 import struct
 import zipfile
 from dataclasses import dataclass
 from fractions import Fraction
 from math import sqrt
-from typing import BinaryIO, Callable, Sequence
+from typing import Callable, Sequence
 
-from clients.closing import Ring
-from clients.fouroff import Boundary, Plane
+from closing import Ring
+from fouroff import Boundary, Plane
 
 #: A corner as it is printed: three numbers of a text, or three singles.
 Printed = tuple[str, str, str]
@@ -87,81 +88,78 @@ def _normal(plane: Plane) -> tuple[float, float, float]:
     return a / length + 0.0, b / length + 0.0, c / length + 0.0
 
 
-def _write_stl(sink: BinaryIO, solid: Mesh) -> None:
+def _stl(solid: Mesh) -> bytes:
     lines = [f"solid {solid.name}"]
     for triangle, plane in zip(solid.triangles, solid.planes):
         lines.append("facet normal {:.9g} {:.9g} {:.9g}".format(*_normal(plane)))
         lines.append("outer loop")
         lines += ["vertex " + " ".join(solid.points[corner]) for corner in triangle]
         lines += ["endloop", "endfacet"]
-    lines.append(f"endsolid {solid.name}")
-    _write_lines(sink, lines)
+    return _text(lines + [f"endsolid {solid.name}"])
 
 
-def _write_binary_stl(sink: BinaryIO, solid: Mesh) -> None:
-    # The header must not begin as a text does.
-    sink.write(struct.pack("<80sI", f"binary STL of {solid.name}".encode()[:80], len(solid.triangles)))
+def _binary_stl(solid: Mesh) -> bytes:
+    # The first 80 bytes must not begin as a text does.
+    parts = [struct.pack("<80sI", f"binary STL of {solid.name}".encode("ascii"), len(solid.triangles))]
     for triangle, plane in zip(solid.triangles, solid.planes):
         numbers = [float(number) for corner in triangle for number in solid.points[corner]]
-        sink.write(struct.pack("<12fH", *_normal(plane), *numbers, 0))
+        parts.append(struct.pack("<12fH", *_normal(plane), *numbers, 0))
+    return b"".join(parts)
 
 
-def _write_off(sink: BinaryIO, solid: Mesh) -> None:
+def _off(solid: Mesh) -> bytes:
     lines = ["OFF", f"{len(solid.points)} {len(solid.triangles)} 0"]
     lines += [" ".join(point) for point in solid.points]
-    lines += [f"3 {a} {b} {c}" for a, b, c in solid.triangles]
-    _write_lines(sink, lines)
+    return _text(lines + [f"3 {a} {b} {c}" for a, b, c in solid.triangles])
 
 
-def _write_obj(sink: BinaryIO, solid: Mesh) -> None:
+def _obj(solid: Mesh) -> bytes:
     lines = [f"o {solid.name}"]
     lines += ["v " + " ".join(point) for point in solid.points]
-    lines += [f"f {a + 1} {b + 1} {c + 1}" for a, b, c in solid.triangles]
-    _write_lines(sink, lines)
+    return _text(lines + [f"f {a + 1} {b + 1} {c + 1}" for a, b, c in solid.triangles])
 
 
-_TYPES = """<?xml version="1.0" encoding="UTF-8"?>
+_XML = '<?xml version="1.0" encoding="UTF-8"?>'
+_TYPES = f"""{_XML}
 <Types xmlns="http://schemas.openxmlformats.org/package/2006/content-types">
 <Default Extension="rels" ContentType="application/vnd.openxmlformats-package.relationships+xml"/>
 <Default Extension="model" ContentType="application/vnd.ms-package.3dmanufacturing-3dmodel+xml"/>
 </Types>
 """
-_RELATIONS = """<?xml version="1.0" encoding="UTF-8"?>
+_RELATIONS = f"""{_XML}
 <Relationships xmlns="http://schemas.openxmlformats.org/package/2006/relationships">
 <Relationship Target="/3D/3dmodel.model" Id="rel0" Type="http://schemas.microsoft.com/3dmanufacturing/2013/01/3dmodel"/>
 </Relationships>
 """
 
 
-def _write_3mf(sink: BinaryIO, solid: Mesh) -> None:
+def _3mf(solid: Mesh) -> bytes:
     """The 3MF core specification: a package of one model in millimetres with one object."""
-    lines = ['<?xml version="1.0" encoding="UTF-8"?>']
-    lines.append('<model unit="millimeter" xml:lang="en" xmlns="http://schemas.microsoft.com/3dmanufacturing/core/2015/02">')
-    lines.append(f'<resources><object id="1" type="model" name="{solid.name}"><mesh><vertices>')
-    lines += ['<vertex x="{}" y="{}" z="{}"/>'.format(*point) for point in solid.points]
-    lines.append("</vertices><triangles>")
-    lines += ['<triangle v1="{}" v2="{}" v3="{}"/>'.format(*triangle) for triangle in solid.triangles]
-    lines.append("</triangles></mesh></object></resources>")
-    lines.append('<build><item objectid="1"/></build>')
-    lines.append("</model>")
-    parts = {"[Content_Types].xml": _TYPES, "_rels/.rels": _RELATIONS, "3D/3dmodel.model": "\n".join(lines) + "\n"}
-    with zipfile.ZipFile(sink, "w", zipfile.ZIP_DEFLATED) as package:
-        for name, text in parts.items():
-            # A fixed date, so that one solid is one file.
+    lines = [
+        _XML,
+        '<model unit="millimeter" xml:lang="en" xmlns="http://schemas.microsoft.com/3dmanufacturing/core/2015/02">',
+        f'<resources><object id="1" type="model" name="{solid.name}"><mesh><vertices>',
+        *('<vertex x="{}" y="{}" z="{}"/>'.format(*point) for point in solid.points),
+        "</vertices><triangles>",
+        *('<triangle v1="{}" v2="{}" v3="{}"/>'.format(*triangle) for triangle in solid.triangles),
+        "</triangles></mesh></object></resources>",
+        '<build><item objectid="1"/></build>',
+        "</model>",
+    ]
+    parts = {"[Content_Types].xml": _TYPES, "_rels/.rels": _RELATIONS, "3D/3dmodel.model": _text(lines)}
+    data = io.BytesIO()
+    with zipfile.ZipFile(data, "w", zipfile.ZIP_DEFLATED) as package:
+        for name, part in parts.items():
+            # The date is fixed, so that a solid is always the same file.
             entry = zipfile.ZipInfo(name, (1980, 1, 1, 0, 0, 0))
             entry.compress_type = zipfile.ZIP_DEFLATED
-            package.writestr(entry, text)
+            package.writestr(entry, part)
+    return data.getvalue()
 
 
-def _write_lines(sink: BinaryIO, lines: list[str]) -> None:
-    sink.write("".join(line + "\n" for line in lines).encode("ascii"))
+def _text(lines: Sequence[str]) -> bytes:
+    return "".join(line + "\n" for line in lines).encode("ascii")
 
 
-#: How each format is written, by its name.
-WRITERS: dict[str, Callable[[BinaryIO, Mesh], None]] = {
-    "stl": _write_stl,
-    "binstl": _write_binary_stl,
-    "off": _write_off,
-    "obj": _write_obj,
-    "3mf": _write_3mf,
-}
+#: What each format makes of a mesh, by its name.
+WRITERS: dict[str, Callable[[Mesh], bytes]] = {"stl": _stl, "binstl": _binary_stl, "off": _off, "obj": _obj, "3mf": _3mf}

@@ -11,8 +11,8 @@ from dataclasses import dataclass
 from math import gcd
 from typing import Iterator, Sequence
 
-from clients.closing import Ring
-from clients.fouroff import Boundary, Corner, Plane, flatten, turn
+from closing import Ring
+from fouroff import Boundary, Corner, Plane, flatten, turn
 
 #: A corner of a convex piece, and whether the way from it to the next was made by a cut and is no edge of the solid.
 Step = tuple[Corner, bool]

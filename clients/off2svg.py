@@ -11,14 +11,19 @@ import re
 from argparse import ArgumentTypeError
 from math import cos, radians, sin, sqrt
 from typing import Callable, Sequence
-from xml.sax.saxutils import escape
 
-from clients import closing, off2files
-from clients.fouroff import Boundary, Corner, Plane
-from clients.off2files import NOTHING, Stop
-from clients.off2painter import Step, outline, painted, visible_patches
+import closing
+import off2tool
+from closing import Ring
+from fouroff import Boundary, Corner, Plane
+from off2painter import Step, outline, painted, visible_patches
+from off2tool import SOLID_FAULT, Stop
 
 MOST_FACES = 5000
+#: The view where none is asked for, in degrees.
+VIEW = (30.0, 30.0)
+_VIEW_HELP = "the degrees of the viewer to the right of the front, and above it; else 30 30"
+_VIEWERS = "look at it with geomview, or with f3d or meshlab at what off2stl makes of it"
 _DESCRIPTION = "Draws the solid of a 4OFF text of the server in SVG."
 # The view is this long, in whole numbers, so that the order of painting is exact.
 _LENGTH = 1000000
@@ -73,33 +78,29 @@ def _normal(numbers: Sequence[int]) -> Direction:
     return a / length, b / length, c / length
 
 
-def main(words: list[str]) -> int:
+def main(words: Sequence[str]) -> int:
     """Runs the tool on its words, without its name; gives its status."""
-    return off2files.run(_draw, words)
+    return off2tool.run(_draw, words)
 
 
-def _draw(words: list[str]) -> None:
-    parser = off2files.Words("off2svg", _DESCRIPTION)
-    parser.add_argument(
-        "--view", nargs=2, type=_degrees, default=[30.0, 30.0], metavar=("AZ", "EL"),
-        help="the degrees of the viewer to the right of the front, and above it; 30 30 where not given",
-    )
-    parser.add_argument("--width", type=_pixels, default=480, metavar="PX", help="the width in pixels; 480 where not given")
+def _draw(words: Sequence[str]) -> None:
+    parser = off2tool.Words("off2svg", _DESCRIPTION)
+    parser.add_argument("--view", nargs=2, type=_degrees, default=VIEW, metavar=("AZ", "EL"), help=_VIEW_HELP)
+    parser.add_argument("--width", type=_pixels, default=480, metavar="PX", help="the width in pixels, else 480")
     asked = parser.parse_args(words)
-    name = off2files.called(asked.file)
-    boundary = off2files.read(asked.file)
+    boundary = off2tool.read(asked.file, asked.out)
     if len(boundary.faces) > MOST_FACES:
-        raise Stop(NOTHING, f"{name}: {len(boundary.faces)} faces are too many to draw, above {MOST_FACES}: look at it with "
-                   "geomview, or at what off2stl makes of it with f3d or meshlab")
-    camera = Camera(asked.view[0], max(-90.0, min(90.0, asked.view[1])))
-    text = drawing(boundary, camera, asked.width, off2files.stem(asked.file))
-    with off2files.writing(asked.out) as sink:
-        sink.write(text.encode())
+        count = f"{len(boundary.faces)} faces are too many to draw, which are {MOST_FACES} at most"
+        raise Stop(SOLID_FAULT, f"{off2tool.called(asked.file)}: {count}: {_VIEWERS}")
+    rings = closing.close(boundary)
+    off2tool.check(asked.file, boundary, rings)
+    text = drawing(boundary, rings, Camera(*asked.view), asked.width, off2tool.stem(asked.file))
+    off2tool.write(asked.out, text.encode("ascii"))
 
 
-def drawing(boundary: Boundary, camera: Camera, width: int, title: str) -> str:
-    """The drawing of a closed solid, so many pixels wide, as the text of an SVG file."""
-    patches = list(painted(visible_patches(boundary, closing.close(boundary), camera.view)))
+def drawing(boundary: Boundary, rings: Sequence[Ring], camera: Camera, width: int, title: str) -> str:
+    """The drawing of a solid, whose faces go round these closed rings, so many pixels wide: the text of an SVG file."""
+    patches = painted(visible_patches(boundary, rings, camera.view))
     places = [camera.project(corner) for corner in boundary.corners]
     left, top = min(x for x, _ in places), max(y for _, y in places)
     breadth, height = max(x for x, _ in places) - left, top - min(y for _, y in places)
@@ -113,7 +114,7 @@ def drawing(boundary: Boundary, camera: Camera, width: int, title: str) -> str:
     tall = round(height * scale) + 2 * _MARGIN
     lines = [
         f'<svg xmlns="http://www.w3.org/2000/svg" width="{width}" height="{-(-tall // 10)}" viewBox="0 0 {10 * width} {tall}">',
-        f"<title>{escape(title)}</title>",
+        f"<title>{title}</title>",
         f'<g fill="none" stroke="{_LINE}" stroke-width="{_LINE_WIDTH}" stroke-linejoin="round" stroke-linecap="round">',
     ]
     for patch in patches:
