@@ -81,7 +81,7 @@ def _edges(ring: Ring) -> Iterable[tuple[int, int]]:
 
 def triangles(boundary: Boundary, rings: Sequence[Ring]) -> list[list[Ring]]:
     """The triangles into which each face is cut, in the order of the faces, which are given with all their corners."""
-    cut = []
+    cut: list[list[Ring]] = []
     for ring, plane in zip(rings, boundary.planes):
         flat = flatten([boundary.corners[corner] for corner in ring], plane)
         cut.append([(ring[a], ring[b], ring[c]) for a, b, c in ears(flat)])
@@ -102,7 +102,7 @@ def ears(ring: Sequence[Flat]) -> list[tuple[int, int, int]]:
     pointed = [i for i in range(size) if turns[i]]
     # Every second corner goes first, which leaves triangles less thin than a fan.
     queue = deque(pointed[::2] + pointed[1::2])
-    cut = []
+    cut: list[tuple[int, int, int]] = []
     while len(cut) < size - 3:
         tip = queue.popleft()
         left, right = before[tip], behind[tip]

@@ -1,25 +1,25 @@
-"""The box and the volume of a solid from its boundary, exactly, and numbers printed as they are."""
+"""The box and the volume of a solid from its boundary, exactly; numbers as digits; directions as floats."""
 
 from __future__ import annotations
 
 from collections import Counter
 from fractions import Fraction
-from math import lcm
-from typing import NamedTuple, Sequence
+from math import lcm, sqrt
+from typing import Mapping, NamedTuple, Sequence
 
 from fouroff import Boundary, Corner
 
 # A common denominator of more bits belongs to a volume whose exact digits nobody reads.
 _MOST_BITS = 4096
-# An approximate volume is off by less than the number of triangles times this.
-_STEP = Fraction(1, 2**192)
+# The first and the last number of bits behind the point with which an approximate volume is tried.
+_FEW_BITS, _MANY_BITS = 192, 1 << 16
 # A fraction with more digits is printed as a decimal number, with the word 'about' before it.
 _MOST_DIGITS = 100
 _MOST_PLACES = 12
 
 
 class Volume(NamedTuple):
-    """A volume in cubic units; where it is not exact, it is off by less than 2 to the power -160."""
+    """A volume in cubic units; where it is not exact, it is off by less than a part in 10 to the power 13."""
 
     value: Fraction
     exact: bool
@@ -49,9 +49,27 @@ def volume(boundary: Boundary) -> Volume:
     for denominator in parts:
         common = lcm(common, denominator)
         if common.bit_length() > _MOST_BITS:
-            scale = _STEP.denominator
-            return Volume(sum(part * scale // below for below, part in parts.items()) * _STEP, False)
+            return Volume(_approximate(parts), False)
     return Volume(Fraction(sum(part * (common // below) for below, part in parts.items()), common), True)
+
+
+def _approximate(parts: Mapping[int, int]) -> Fraction:
+    """The sum of fractions, given as numerators by denominators, to a part in 10 to the power 13."""
+    bits = _FEW_BITS
+    while True:
+        # Each fraction is rounded down by less than 1.
+        total = sum((part << bits) // below for below, part in parts.items())
+        if abs(total) > 10**14 * len(parts) or bits >= _MANY_BITS:
+            return Fraction(total, 1 << bits)
+        bits *= 2
+
+
+def direction(plane: Sequence[int]) -> tuple[float, float, float]:
+    """The direction of a plane's, or of any, first three numbers, with the length 1."""
+    greatest = max(abs(number) for number in plane[:3])
+    a, b, c = (number / greatest for number in plane[:3])
+    length = sqrt(a * a + b * b + c * c)
+    return a / length, b / length, c / length
 
 
 def _determinant(p: Corner, q: Corner, r: Corner) -> int:

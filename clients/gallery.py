@@ -53,6 +53,10 @@ cubic units. `tools/gallery.sh` makes all of it again, this page too, and `tools
 """
 
 
+class BadText(ValueError):
+    """A part's text is no 4OFF text."""
+
+
 @dataclass(frozen=True)
 class Entry:
     """A part of the gallery: its text, its picture, what its source says of it, and what is counted."""
@@ -94,8 +98,13 @@ def page(entries: Sequence[Entry]) -> str:
 
 
 def made(texts: Mapping[str, bytes]) -> dict[str, bytes]:
-    """The bytes of each file of the gallery but its sources, by its place in the project."""
-    entries = [entry(name, read_file(f"{TOP}/gallery/{name}.scad"), texts[name]) for name in PARTS]
+    """The bytes of each file of the gallery but its sources, by its place in the project. Raises BadText."""
+    entries = []
+    for name in PARTS:
+        try:
+            entries.append(entry(name, read_file(f"{TOP}/gallery/{name}.scad"), texts[name]))
+        except fouroff.Malformed as fault:
+            raise BadText(f"gallery/{name}.4off:{fault}") from fault
     files = {PAGE: page(entries).encode("ascii")}
     for it in entries:
         files[f"gallery/{it.name}.4off"] = it.text
@@ -147,7 +156,7 @@ def main(words: Sequence[str]) -> int:
     except subprocess.CalledProcessError as error:
         say(f"scad2off ended with status {error.returncode}\n")
         return 1
-    except (OSError, fouroff.Malformed) as error:
+    except (OSError, BadText) as error:
         say(f"{error}\n")
         return 2
     print(f"{len(files)} files made")

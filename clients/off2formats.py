@@ -13,11 +13,11 @@ import struct
 import zipfile
 from dataclasses import dataclass
 from fractions import Fraction
-from math import sqrt
 from typing import Callable, Sequence
 
 from closing import Ring
 from fouroff import Boundary, Plane
+from fouroff_measures import direction
 
 #: A corner as it is printed: three numbers of a text, or three singles.
 Printed = tuple[str, str, str]
@@ -80,18 +80,10 @@ def _single(number: Fraction) -> tuple[str, Fraction]:
     return repr(single), Fraction(single)
 
 
-def _normal(plane: Plane) -> tuple[float, float, float]:
-    """The outward direction of length 1."""
-    greatest = max(map(abs, plane[:3]))
-    a, b, c = (part / greatest for part in plane[:3])
-    length = sqrt(a * a + b * b + c * c)
-    return a / length + 0.0, b / length + 0.0, c / length + 0.0
-
-
 def _stl(solid: Mesh) -> bytes:
     lines = [f"solid {solid.name}"]
     for triangle, plane in zip(solid.triangles, solid.planes):
-        lines.append("facet normal {:.9g} {:.9g} {:.9g}".format(*_normal(plane)))
+        lines.append("facet normal {:.9g} {:.9g} {:.9g}".format(*direction(plane)))
         lines.append("outer loop")
         lines += ["vertex " + " ".join(solid.points[corner]) for corner in triangle]
         lines += ["endloop", "endfacet"]
@@ -103,7 +95,7 @@ def _binary_stl(solid: Mesh) -> bytes:
     parts = [struct.pack("<80sI", f"binary STL of {solid.name}".encode("ascii"), len(solid.triangles))]
     for triangle, plane in zip(solid.triangles, solid.planes):
         numbers = [float(number) for corner in triangle for number in solid.points[corner]]
-        parts.append(struct.pack("<12fH", *_normal(plane), *numbers, 0))
+        parts.append(struct.pack("<12fH", *direction(plane), *numbers, 0))
     return b"".join(parts)
 
 
@@ -125,12 +117,12 @@ _TYPES = f"""{_XML}
 <Default Extension="rels" ContentType="application/vnd.openxmlformats-package.relationships+xml"/>
 <Default Extension="model" ContentType="application/vnd.ms-package.3dmanufacturing-3dmodel+xml"/>
 </Types>
-"""
+""".encode()
 _RELATIONS = f"""{_XML}
 <Relationships xmlns="http://schemas.openxmlformats.org/package/2006/relationships">
 <Relationship Target="/3D/3dmodel.model" Id="rel0" Type="http://schemas.microsoft.com/3dmanufacturing/2013/01/3dmodel"/>
 </Relationships>
-"""
+""".encode()
 
 
 def _3mf(solid: Mesh) -> bytes:

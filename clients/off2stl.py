@@ -51,21 +51,23 @@ def _convert(words: Sequence[str]) -> None:
 
 def _summary(boundary: Boundary, rings: Sequence[closing.Ring], solid: Mesh, volume: Volume, unit: Fraction) -> str:
     """What is told of a solid that is closed."""
+    shape = f"{len(boundary.faces)} faces, {_counted(len(solid.triangles), 'triangle')}, closed"
+    shared, touching = closing.shared_edges(closing.ways(rings)), closing.touching_corners(rings)
+    if shared:
+        shape += f", {_counted(shared, 'edge')} of more than two faces"
+    if touching:
+        shape += f", {_counted(touching, 'corner')} where it touches itself"
     sides = " x ".join(shown((high - low) * unit) for low, high in box(boundary))
-    touching = [
-        (closing.shared_edges(closing.ways(rings)), "edges of more than two faces"),
-        (closing.touching_corners(rings), "corners where it touches itself"),
-    ]
-    lost = sum(len(face) - 2 for face in rings) - len(solid.triangles)
-    return "; ".join(
-        [
-            f"{len(boundary.faces)} faces, {len(solid.triangles)} triangles, closed"
-            + "".join(f", {count} {what}" for count, what in touching if count),
-            f"box {sides}",
-            f"volume {shown(volume.value * unit**3, volume.exact)}",
-            f"{solid.rounded} corners rounded" + (f", {lost} triangles lost by that" if lost else ""),
-        ]
-    )
+    rounded = f"{_counted(solid.rounded, 'corner')} rounded"
+    lost = sum(len(ring) - 2 for ring in rings) - len(solid.triangles)
+    if lost:
+        rounded += f", {_counted(lost, 'triangle')} lost by that"
+    return f"{shape}; box {sides}; volume {shown(volume.value * unit**3, volume.exact)}; {rounded}"
+
+
+def _counted(count: int, what: str) -> str:
+    """How many there are of something, in words."""
+    return f"{count} {what}" if count == 1 else f"{count} {what}s"
 
 
 def _read_words(words: Sequence[str]) -> Namespace:

@@ -9,13 +9,14 @@ from __future__ import annotations
 
 import re
 from argparse import ArgumentTypeError
-from math import cos, radians, sin, sqrt
+from math import cos, radians, sin
 from typing import Callable, Sequence
 
 import closing
 import off2tool
 from closing import Ring
 from fouroff import Boundary, Corner, Plane
+from fouroff_measures import direction
 from off2painter import Step, outline, painted, visible_patches
 from off2tool import SOLID_FAULT, Stop
 
@@ -45,8 +46,8 @@ class Camera:
         view = (sin(across) * cos(up), -cos(across) * cos(up), sin(up))
         #: To the viewer, in whole numbers.
         self.view = (round(view[0] * _LENGTH), round(view[1] * _LENGTH), round(view[2] * _LENGTH))
-        self._towards = _normal(self.view)
-        self._right = _normal((round(cos(across) * _LENGTH), round(sin(across) * _LENGTH), 0))
+        self._towards = direction(self.view)
+        self._right = direction((round(cos(across) * _LENGTH), round(sin(across) * _LENGTH), 0))
         self._up = _cross(self._towards, self._right)
 
     def project(self, point: Corner) -> tuple[float, float]:
@@ -56,8 +57,8 @@ class Camera:
 
     def color(self, plane: Plane) -> str:
         """The colour of the faces on a plane, brighter the more they look to the light."""
-        normal = _normal(plane)
-        seen = (_dot(normal, self._right), _dot(normal, self._up), _dot(normal, self._towards))
+        ahead = direction(plane)
+        seen = (_dot(ahead, self._right), _dot(ahead, self._up), _dot(ahead, self._towards))
         light = min(1.0, max(0.0, 0.5 + 0.5 * _dot(seen, _LIGHT)))
         return "#" + "".join(f"{round(dark + (bright - dark) * light):02x}" for dark, bright in zip(_DARK, _BRIGHT))
 
@@ -68,14 +69,6 @@ def _dot(p: Direction, q: Direction) -> float:
 
 def _cross(p: Direction, q: Direction) -> Direction:
     return (p[1] * q[2] - p[2] * q[1], p[2] * q[0] - p[0] * q[2], p[0] * q[1] - p[1] * q[0])
-
-
-def _normal(numbers: Sequence[int]) -> Direction:
-    """The direction of the first three numbers, of length 1."""
-    greatest = max(map(abs, numbers[:3]))
-    a, b, c = (number / greatest for number in numbers[:3])
-    length = sqrt(a * a + b * b + c * c)
-    return a / length, b / length, c / length
 
 
 def main(words: Sequence[str]) -> int:
@@ -118,11 +111,11 @@ def drawing(boundary: Boundary, rings: Sequence[Ring], camera: Camera, width: in
         f'<g fill="none" stroke="{_LINE}" stroke-width="{_LINE_WIDTH}" stroke-linejoin="round" stroke-linecap="round">',
     ]
     for patch in patches:
-        lines += _paths(outline(patch), camera.color(patch.plane), pixel)
+        lines += paths(outline(patch), camera.color(patch.plane), pixel)
     return "\n".join(lines + ["</g>", "</svg>"]) + "\n"
 
 
-def _paths(loops: list[list[Step]], color: str, pixel: Callable[[Corner], tuple[int, int]]) -> list[str]:
+def paths(loops: list[list[Step]], color: str, pixel: Callable[[Corner], tuple[int, int]]) -> list[str]:
     """The elements that paint the loops round the faces of one plane, without a line where a cut is."""
     filled = "".join(_path([pixel(corner) for corner, _ in loop]) + "z" for loop in loops)
     if not any(was_cut for loop in loops for _, was_cut in loop):
