@@ -46,7 +46,7 @@ def painted(patches: list[Patch]) -> Iterator[Patch]:
             yield next_one
         elif next_one:
             middle = _divider(next_one)
-            halves = [_divide(patch, middle.plane) for patch in next_one if patch is not middle]
+            halves = [divide(patch, middle.plane) for patch in next_one if patch is not middle]
             todo.append([ahead for _, ahead in halves if ahead])
             todo.append(middle)
             todo.append([behind for behind, _ in halves if behind])
@@ -80,7 +80,7 @@ def _value(plane: Plane, point: Corner) -> int:
     return plane[0] * point[0] + plane[1] * point[1] + plane[2] * point[2] - plane[3] * point[3]
 
 
-def _divide(patch: Patch, plane: Plane) -> tuple[Patch | None, Patch | None]:
+def divide(patch: Patch, plane: Plane) -> tuple[Patch | None, Patch | None]:
     """What of the patch is behind and what is ahead of another plane."""
     behind, ahead = [], []
     for piece in patch.pieces:

@@ -108,6 +108,7 @@ class Closing(unittest.TestCase):
         self.assertEqual(closing.open_edges(closing.ways(rings)), 4)
         _, rings, _ = closed(off(UNIT_BOX + [[(0, 0, 0), (1, 0, 0), (1, 1, 0)]]))
         self.assertEqual(closing.open_edges(closing.ways(rings)), 3)
+        self.assertEqual(closing.shared_edges(closing.ways(rings)), 2)
 
 
 class Touching(unittest.TestCase):

@@ -111,7 +111,8 @@ class Refusing(unittest.TestCase):
         star = [(0, 5, 0), (3, -4, 0), (-5, 2, 0), (5, 2, 0), (-3, -4, 0)]
         straight = [(0, 0, 0), (1, 0, 0), (2, 0, 0), (0, 2, 0)]
         twice_round = [(0, 0, 0), (9, 0, 0), (9, 9, 0), (0, 9, 0), (1, 1, 0), (8, 1, 0), (8, 8, 0), (1, 8, 0)]
-        for ring in (dart, star, star[::-1], twice_round):
+        spiral = [(0, 0, 0), (10, 0, 0), (-2, 10, 0), (-9, -4, 0), (5, -9, 0), (9, 3, 0)]
+        for ring in (dart, star, star[::-1], twice_round, spiral):
             self.assertEqual(reason(off([ring]))[1], "the face is not convex", ring)
         for start in range(4):
             self.assertIsNotNone(reason(off([straight[start:] + straight[:start]])), start)

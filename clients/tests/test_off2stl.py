@@ -133,7 +133,8 @@ class Formats(Case):
 
     def test_rounding_to_singles(self):
         file = self.file("a.4off", BLOCK)
-        for unit, rounded in (("1/10", 6), ("1/4", 0), ("1/134217728", 0)):
+        # 20, 12 and 16 times 2 to the power 24 and 1 have too many bits for a single, and none for a double.
+        for unit, rounded in (("1/10", 6), ("1/4", 0), ("1/134217728", 0), ("16777217", 7)):
             _, line = self.call("--format", "binstl", "--unit", unit, "-o", self.path("a.stl"), file)
             self.assertTrue(line.endswith(f"; {rounded} corners rounded\n"), line)
 

@@ -11,7 +11,7 @@ from fractions import Fraction
 import off2svg
 from closing import close
 from fouroff import flatten, read, turn
-from off2painter import Patch, crossing, outline, painted, side, visible_patches
+from off2painter import Patch, crossing, divide, outline, painted, side, visible_patches
 from off2svg import Camera
 from tests import calls
 from tests.solids import CUT_CUBE, EMPTY, TOP, box, comb, examples, gallery, off, split_box
@@ -157,6 +157,18 @@ class Outlines(unittest.TestCase):
         outer = {(0, 0), (6, 0), (6, 3), (0, 3)}
         self.assertLessEqual(outer, corners)
         self.assertEqual(len(corners), 4 + 2 * 4)
+
+    def test_a_square_is_cut_through_two_corners(self):
+        square = [((x, y, 0, 1), False) for x, y in ((0, 0), (4, 0), (4, 4), (0, 4))]
+        behind, ahead = divide(Patch((0, 0, 1, 0), [square]), (1, -1, 0, 0))
+        self.assertEqual(behind.pieces, [[((0, 0, 0, 1), True), ((4, 4, 0, 1), False), ((0, 4, 0, 1), False)]])
+        self.assertEqual(ahead.pieces, [[((0, 0, 0, 1), False), ((4, 0, 0, 1), False), ((4, 4, 0, 1), True)]])
+
+    def test_a_corner_where_a_cut_begins_stays(self):
+        ring = [((0, 0, 0, 1), False), ((2, 0, 0, 1), True), ((4, 0, 0, 1), False), ((0, 4, 0, 1), False)]
+        self.assertEqual(outline(Patch((0, 0, 1, 0), [ring])), [ring])
+        ring[1] = ((2, 0, 0, 1), False)
+        self.assertEqual(outline(Patch((0, 0, 1, 0), [ring])), [ring[:1] + ring[2:]])
 
     def test_a_cut_is_no_line(self):
         square = [((0, 0, 0, 1), False), ((4, 0, 0, 1), False), ((4, 4, 0, 1), True), ((0, 4, 0, 1), False)]
