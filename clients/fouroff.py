@@ -20,9 +20,11 @@ Plane = tuple[int, int, int, int]
 #: A corner seen along an axis: the point (u/w, v/w), as u, v and w.
 Flat = tuple[int, int, int]
 
-# A number of more digits comes from no server, and reading it would take long.
-_WHOLE = r"(0|-?[1-9][0-9]{0,299})"
-_CORNER = re.compile(rf"{_WHOLE} {_WHOLE} {_WHOLE} ([1-9][0-9]{{0,299}})")
+#: Coordinates are at most so many units in size.
+ROOM = 4096
+# The numbers of corners have 30 digits at most, since those of planes are in bounds.
+_WHOLE = r"(0|-?[1-9][0-9]{0,39})"
+_CORNER = re.compile(rf"{_WHOLE} {_WHOLE} {_WHOLE} ([1-9][0-9]{{0,39}})")
 _COUNTS = re.compile(r"(0|[1-9][0-9]{0,8}) (0|[1-9][0-9]{0,8}) 0")
 _FACE = re.compile(r"(?:0|[1-9][0-9]{0,8})(?: (?:0|[1-9][0-9]{0,8}))*")
 
@@ -89,6 +91,8 @@ def _corners(lines: list[str]) -> list[Corner]:
         corner = (int(parts[1]), int(parts[2]), int(parts[3]), int(parts[4]))
         if gcd(*corner) != 1:
             raise Malformed(number, "the numbers of a vertex have a common factor")
+        if max(map(abs, corner[:3])) > ROOM * corner[3]:
+            raise Malformed(number, f"the vertex is further than {ROOM} units from the origin along an axis")
         if corner in seen:
             raise Malformed(number, f"the vertex stands on line {seen[corner]} too")
         seen[corner] = number

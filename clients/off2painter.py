@@ -11,10 +11,10 @@ from dataclasses import dataclass
 from math import gcd
 from typing import Iterator, Sequence
 
-from closing import Ring
+from closing import Ring, ways
 from fouroff import Boundary, Corner, Plane, flatten, turn
 
-#: A corner of a convex piece, and whether the way from it to the next was made by a cut and is no edge of the solid.
+#: A corner, and whether the way from it to the next is no edge of the solid, but has a neighbour on the same plane.
 Step = tuple[Corner, bool]
 #: The more of them are tried as the next plane, the fewer faces are cut.
 _TRIED = 12
@@ -30,11 +30,16 @@ class Patch:
 
 def visible_patches(boundary: Boundary, rings: Sequence[Ring], view: tuple[int, int, int]) -> list[Patch]:
     """The faces that look to where `view` points, to the viewer, those of one plane together."""
-    by_plane: dict[Plane, list[list[Step]]] = {}
+    by_plane: dict[Plane, list[Ring]] = {}
     for plane, ring in zip(boundary.planes, rings):
         if sum(a * v for a, v in zip(plane, view)) > 0:
-            by_plane.setdefault(plane, []).append([(boundary.corners[corner], False) for corner in ring])
-    return [Patch(plane, pieces) for plane, pieces in by_plane.items()]
+            by_plane.setdefault(plane, []).append(ring)
+    patches = []
+    for plane, near in by_plane.items():
+        used = ways(near)
+        pieces = [[(boundary.corners[p], (q, p) in used) for p, q in zip(ring, ring[1:] + ring[:1])] for ring in near]
+        patches.append(Patch(plane, pieces))
+    return patches
 
 
 def painted(patches: list[Patch]) -> Iterator[Patch]:
@@ -98,12 +103,12 @@ def divide(patch: Patch, plane: Plane) -> tuple[Patch | None, Patch | None]:
 def _part(piece: list[Step], plane: Plane, kept: int) -> list[Step]:
     """The part of a piece that goes across the plane on one side of it, 1 for ahead and -1 for behind."""
     part = []
-    for (corner, was_cut), (following, _) in zip(piece, piece[1:] + piece[:1]):
+    for (corner, is_cut), (following, _) in zip(piece, piece[1:] + piece[:1]):
         here, there = kept * side(plane, corner), kept * side(plane, following)
         if here >= 0:
-            part.append((corner, was_cut if here > 0 or there >= 0 else True))
+            part.append((corner, is_cut if here > 0 or there >= 0 else True))
         if here * there < 0:
-            part.append((crossing(plane, corner, following), was_cut if here < 0 else True))
+            part.append((crossing(plane, corner, following), is_cut if here < 0 else True))
     return part
 
 
@@ -117,25 +122,25 @@ def crossing(plane: Plane, p: Corner, q: Corner) -> Corner:
 
 def outline(patch: Patch) -> list[list[Step]]:
     """The loops round the patch, without ways between its pieces and without corners inside straight lines."""
-    ways: dict[tuple[Corner, Corner], bool] = {}
+    border: dict[tuple[Corner, Corner], bool] = {}
     for piece in patch.pieces:
-        for (corner, was_cut), (following, _) in zip(piece, piece[1:] + piece[:1]):
-            if (following, corner) in ways:
-                del ways[following, corner]
+        for (corner, is_cut), (following, _) in zip(piece, piece[1:] + piece[:1]):
+            if (following, corner) in border:
+                del border[following, corner]
             else:
-                ways[corner, following] = was_cut
+                border[corner, following] = is_cut
     onward: dict[Corner, list[Step]] = {}
-    for (corner, following), was_cut in ways.items():
-        onward.setdefault(corner, []).append((following, was_cut))
+    for (corner, following), is_cut in border.items():
+        onward.setdefault(corner, []).append((following, is_cut))
     loops = []
     while onward:
         loop: list[Step] = []
         corner = next(iter(onward))
         while corner in onward:
-            following, was_cut = onward[corner].pop()
+            following, is_cut = onward[corner].pop()
             if not onward[corner]:
                 del onward[corner]
-            loop.append((corner, was_cut))
+            loop.append((corner, is_cut))
             corner = following
         loops.append(_straightened(loop, patch.plane))
     return loops

@@ -83,7 +83,7 @@ def _draw(words: Sequence[str]) -> None:
     asked = parser.parse_args(words)
     boundary = off2tool.read(asked.file, asked.out)
     if len(boundary.faces) > MOST_FACES:
-        count = f"{len(boundary.faces)} faces are too many to draw, which are {MOST_FACES} at most"
+        count = f"{len(boundary.faces)} faces are too many to draw, above {MOST_FACES}"
         raise Stop(SOLID_FAULT, f"{off2tool.called(asked.file)}: {count}: {_VIEWERS}")
     rings = closing.close(boundary)
     off2tool.check(asked.file, boundary, rings)
@@ -92,19 +92,22 @@ def _draw(words: Sequence[str]) -> None:
 
 
 def drawing(boundary: Boundary, rings: Sequence[Ring], camera: Camera, width: int, title: str) -> str:
-    """The drawing of a solid, whose faces go round these closed rings, so many pixels wide: the text of an SVG file."""
+    """The drawing of a solid, whose faces go round these closed rings, as the text of an SVG file.
+
+    It is so many pixels wide, and at most twice as tall.
+    """
     patches = painted(visible_patches(boundary, rings, camera.view))
     places = [camera.project(corner) for corner in boundary.corners]
-    left, top = min(x for x, _ in places), max(y for _, y in places)
-    breadth, height = max(x for x, _ in places) - left, top - min(y for _, y in places)
-    scale = (10 * width - 2 * _MARGIN) / breadth
+    left, right = min(x for x, _ in places), max(x for x, _ in places)
+    low, high = min(y for _, y in places), max(y for _, y in places)
+    scale = (10 * width - 2 * _MARGIN) / (max(right - left, (high - low) / 2) or 1.0)
 
     def pixel(corner: Corner) -> tuple[int, int]:
         """Where a corner is drawn, in tenths of a pixel."""
         x, y = camera.project(corner)
-        return round((x - left) * scale) + _MARGIN, round((top - y) * scale) + _MARGIN
+        return round(5 * width + (x - (left + right) / 2) * scale), round(_MARGIN + (high - y) * scale)
 
-    tall = round(height * scale) + 2 * _MARGIN
+    tall = round((high - low) * scale) + 2 * _MARGIN
     lines = [
         f'<svg xmlns="http://www.w3.org/2000/svg" width="{width}" height="{-(-tall // 10)}" viewBox="0 0 {10 * width} {tall}">',
         f"<title>{title}</title>",
@@ -118,7 +121,7 @@ def drawing(boundary: Boundary, rings: Sequence[Ring], camera: Camera, width: in
 def paths(loops: list[list[Step]], color: str, pixel: Callable[[Corner], tuple[int, int]]) -> list[str]:
     """The elements that paint the loops round the faces of one plane, without a line where a cut is."""
     filled = "".join(_path([pixel(corner) for corner, _ in loop]) + "z" for loop in loops)
-    if not any(was_cut for loop in loops for _, was_cut in loop):
+    if not any(is_cut for loop in loops for _, is_cut in loop):
         return [f'<path fill="{color}" d="{filled}"/>']
     # A thin line in the same colour closes the seam to what was cut off.
     elements = [f'<path fill="{color}" stroke="{color}" stroke-width="{_SEAM}" d="{filled}"/>']
@@ -128,15 +131,15 @@ def paths(loops: list[list[Step]], color: str, pixel: Callable[[Corner], tuple[i
 
 def _uncut(loop: list[Step]) -> list[list[Corner]]:
     """The lines of a loop between its cuts."""
-    start = next((i + 1 for i, (_, was_cut) in enumerate(loop) if was_cut), 0) % len(loop)
+    start = next((i + 1 for i, (_, is_cut) in enumerate(loop) if is_cut), 0) % len(loop)
     lines: list[list[Corner]] = []
     on_line = False
-    for corner, was_cut in loop[start:] + loop[:start] + loop[start : start + 1]:
+    for corner, is_cut in loop[start:] + loop[:start] + loop[start : start + 1]:
         if on_line:
             lines[-1].append(corner)
-        elif not was_cut:
+        elif not is_cut:
             lines.append([corner])
-        on_line = not was_cut
+        on_line = not is_cut
     return [line for line in lines if len(line) > 1]
 
 

@@ -68,12 +68,12 @@ def split_box():
     ]
 
 
-def comb(teeth):
-    """A bar with so many teeth: 5 faces and 6 for each tooth. Its long edges have two corners a tooth inside them."""
-    faces = box((0, 0, 0), (2 * teeth, 3, 1))[:5]
+def comb(teeth, y=0):
+    """A bar from y to y + 3 with so many teeth, which begin at 0, 2, 4 and so on: 5 faces, and 6 for each tooth."""
+    faces = box((0, y, 0), (2 * teeth, y + 3, 1))[:5]
     for left in range(0, 2 * teeth, 2):
-        tooth = box((left, 0, 1), (left + 1, 3, 3))
-        faces += tooth[:4] + tooth[5:] + [box((left + 1, 0, 0), (left + 2, 3, 1))[5]]
+        tooth = box((left, y, 1), (left + 1, y + 3, 3))
+        faces += tooth[:4] + tooth[5:] + [box((left + 1, y, 0), (left + 2, y + 3, 1))[5]]
     return faces
 
 

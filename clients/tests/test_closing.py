@@ -212,14 +212,14 @@ class Parts(unittest.TestCase):
                     self.assertEqual(inside, [])
 
     def test_twenty_thousand_faces_take_seconds(self):
-        text = off(comb(3333))
+        text = off(comb(1667) + comb(1667, 10))
         start = time.process_time()
         boundary, rings, triangles = closed(text)
         self.assertEqual(closing.open_edges(closing.ways(triangles)), 0)
         self.assertLess(time.process_time() - start, 10)
-        self.assertEqual(len(boundary.faces), 5 + 6 * 3333)
-        # The bar's front and back have the corners at 1, 2 .. 6665 inside their upper edge.
-        self.assertEqual(len(triangles), 2 * len(boundary.faces) + 2 * 6665)
+        self.assertEqual(len(boundary.faces), 2 * (5 + 6 * 1667))
+        # Front and back of both bars have the corners at 1, 2 .. 3333 inside their upper edge.
+        self.assertEqual(len(triangles), 2 * len(boundary.faces) + 4 * 3333)
 
 
 if __name__ == "__main__":

@@ -90,6 +90,8 @@ class Refusing(unittest.TestCase):
         for other in [*wrong, b"1" * 5000 + b" 2 3 1"]:
             self.assert_refused(b"\n1 2 3 1\n", b"\n" + other + b"\n", 9, "not 'X Y Z W'")
         self.assert_refused(b"\n1 2 3 1\n", b"\n2 4 6 2\n", 9, "common factor")
+        for other in (b"4097 2 3 1", b"1 2 -8193 2"):
+            self.assert_refused(b"\n1 2 3 1\n", b"\n" + other + b"\n", 9, "further than 4096 units")
         self.assert_refused(b"\n1 2 3 1\n", b"\n0 2 3 1\n", 9, "stands on line 5 too")
 
     def test_faces(self):

@@ -9,7 +9,7 @@ import xml.etree.ElementTree as ElementTree
 from fractions import Fraction
 
 import off2svg
-from closing import close
+from closing import close, line_through
 from fouroff import flatten, read, turn
 from off2painter import Patch, crossing, divide, outline, painted, side, visible_patches
 from off2svg import Camera
@@ -104,7 +104,7 @@ class Painting(unittest.TestCase):
     def test_a_cycle_is_cut(self):
         # Four tops, four sides to the front and to the right of them: some are in pieces.
         order = patches(off(leaning_bars()), (1, 2, 30))
-        cut = [patch for patch in order if any(was_cut for piece in patch.pieces for _, was_cut in piece)]
+        cut = [patch for patch in order if any(is_cut for loop in outline(patch) for _, is_cut in loop)]
         self.assertGreaterEqual(len(cut), 2)
         area = {}
         for patch in order:
@@ -147,6 +147,28 @@ class Outlines(unittest.TestCase):
         loops = outline(top)
         self.assertEqual(len(loops), 1)
         self.assertEqual({corner for corner, _ in loops[0]}, {(0, 0, 1, 1), (2, 0, 1, 1), (2, 1, 1, 1), (0, 1, 1, 1)})
+
+    def test_neighbours_that_are_parted_along_their_edge_have_no_line_there(self):
+        top = next(patch for patch in patches(off(split_box()), (1, -1, 1)) if patch.plane == (0, 0, 1, 1))
+        for part, (first, second) in zip(divide(top, (1, 0, 0, 1)), (((1, 0), (1, 1)), ((1, 1), (1, 0)))):
+            [loop] = outline(part)
+            cuts = [(p[:2], q[:2]) for (p, is_cut), (q, _) in zip(loop, loop[1:] + loop[:1]) if is_cut]
+            self.assertEqual(cuts, [(first, second)])
+
+    def test_each_line_lies_on_an_edge_between_two_planes(self):
+        for name, data in {**gallery(), "cut cube": CUT_CUBE, "bars": off(leaning_bars())}.items():
+            with self.subTest(name):
+                boundary = read(data)
+                rings = close(boundary)
+                planes = {}
+                for plane, ring in zip(boundary.planes, rings):
+                    planes.update(((p, q), plane) for p, q in zip(ring, ring[1:] + ring[:1]))
+                corners = boundary.corners
+                edges = {line_through(corners[p], corners[q]) for p, q in planes if planes[p, q] != planes[q, p]}
+                for patch in painted(visible_patches(boundary, rings, Camera(30, 30).view)):
+                    for loop in outline(patch):
+                        for (corner, is_cut), (following, _) in zip(loop, loop[1:] + loop[:1]):
+                            self.assertTrue(is_cut or line_through(corner, following) in edges)
 
     def test_a_plate_with_two_holes(self):
         # examples/plate: the top of a plate 6 x 3 with two holes is one rectangle with two notches or holes.
@@ -200,6 +222,11 @@ class Tool(calls.Case):
         [path] = re.findall(' d="([^"]*)"', text)
         numbers = list(map(int, re.findall("-?[0-9]+", path)))
         self.assertEqual(sorted(map(abs, numbers[2:])), [0, 0, 0, 1576, 1576, 3152])
+
+    def test_a_needle_is_drawn_twice_as_tall_as_wide_at_most(self):
+        needle = off(box((9, 9, 0), (Fraction(9 * 10**30 + 1, 10**30), 10, 4000)))
+        _, root = self.draw(needle, "--view", "0", "0")
+        self.assertEqual((root.get("width"), root.get("height")), ("480", "958"))
 
     def test_sizes(self):
         for name in ("plate", "bracket"):
