@@ -2,8 +2,9 @@
 
 A text is Geomview's 4OFF in one spelling (docs/SPECIFICATION.md, "4OFF"): a corner `X Y Z W` stands for the point
 (X/W, Y/W, Z/W) in units, and a face goes counterclockwise round its corners as seen from outside the solid. All numbers
-stay whole here. Whatever is not such a text is refused with the line and the reason, also where only the geometry is
-wrong: a face that is not flat or not convex, a corner that stands twice.
+stay whole here. A text with another spelling is refused with its line and the reason, and so is one whose vertices repeat
+or are not numbered by first appearance, or one of whose faces is not flat or not convex. Which corner a face begins with is
+not looked at, nor whether the faces are the boundary of anything: `closing` tells whether they are closed.
 """
 
 from __future__ import annotations

@@ -45,8 +45,9 @@ PAGE = "docs/GALLERY.md"
 _INTRODUCTION = """# Gallery
 
 {count} parts with their sources. Each was made by `scad2off gallery/NAME.scad -o gallery/NAME.4off`, and its picture by
-`off2svg gallery/NAME.4off -o gallery/NAME.svg`. Triangles are those of `off2stl`; boxes and volumes are exact, in units and
-cubic units. `tools/gallery.sh` makes all of it again, this page too, and `tools/gallery.sh --compare` compares it.
+`off2svg gallery/NAME.4off -o gallery/NAME.svg`. Triangles are those of `off2stl`. Boxes and volumes are exact, in units and
+cubic units, and a test works each of them out by hand. `tools/gallery.sh` makes all of it again, this page too, and
+`tools/gallery.sh --compare` compares it.
 
 | Part | Faces | Triangles | Box | Volume |
 |---|---|---|---|---|

@@ -50,6 +50,18 @@ class Others(calls.Case):
                 self.assertNotRegex(said, "ERROR|WARNING")
                 self.assertRegex(said, r"Simple: +yes\n")
 
+    @unittest.skipUnless(shutil.which("openscad"), "OpenSCAD is not installed")
+    def test_openscad_reads_each_format(self):
+        file = self.file("a.4off", gallery()["bracket"])
+        for ending, words in (("stl", []), ("stl", ["--format", "binstl"]), ("off", []), ("3mf", [])):
+            with self.subTest(ending):
+                self.assertEqual(self.call(*words, "-o", self.path(f"a.{ending}"), file)[0], 0)
+                self.file("a.scad", b'import("a.%s");' % ending.encode())
+                command = ["openscad", "-o", "b.off", "a.scad"]
+                done = subprocess.run(command, cwd=self.folder, stderr=subprocess.PIPE, check=True)
+                self.assertRegex(done.stderr.decode(), r"Facets: +120\n")
+                self.assertNotRegex(done.stderr.decode(), "ERROR|WARNING")
+
 
 if __name__ == "__main__":
     unittest.main()
