@@ -92,7 +92,7 @@ def _corners(lines: list[str]) -> list[Corner]:
         corner = (int(parts[1]), int(parts[2]), int(parts[3]), int(parts[4]))
         if gcd(*corner) != 1:
             raise Malformed(number, "the numbers of a vertex have a common factor")
-        if max(map(abs, corner[:3])) > ROOM * corner[3]:
+        if max(abs(part) for part in corner[:3]) > ROOM * corner[3]:
             raise Malformed(number, f"the vertex is further than {ROOM} units from the origin along an axis")
         if corner in seen:
             raise Malformed(number, f"the vertex stands on line {seen[corner]} too")
