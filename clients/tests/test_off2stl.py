@@ -15,13 +15,13 @@ from fractions import Fraction
 from unittest import mock
 
 import off2stl
-from tests import calls
+from tests import tool_case
 from tests.solids import CUT_CUBE, EMPTY, TOP, box, gallery, off, split_box
 
 BLOCK = off(box((0, 0, 0), (20, 12, 16)))
 
 
-class Case(calls.Case):
+class Case(tool_case.Case):
     """A call of off2stl, and what it writes."""
 
     tool = off2stl

@@ -7,11 +7,11 @@ import unittest
 from concurrent.futures import ThreadPoolExecutor
 
 import off2stl
-from tests import calls
+from tests import tool_case
 from tests.solids import examples, gallery
 
 
-class Others(calls.Case):
+class Others(tool_case.Case):
     """Other programs read back what is written of every part."""
 
     tool = off2stl

@@ -13,7 +13,7 @@ from closing import close, line_through
 from fouroff import flatten, read, turn
 from off2painter import Patch, crossing, divide, outline, painted, side, visible_patches
 from off2svg import Camera
-from tests import calls
+from tests import tool_case
 from tests.solids import CUT_CUBE, EMPTY, TOP, box, comb, examples, gallery, off, split_box
 
 def patches(data, view):
@@ -200,7 +200,7 @@ class Outlines(unittest.TestCase):
         self.assertEqual(drawn[1], '<path d="M0 4l0-4 4 0 0 4"/>')
 
 
-class Tool(calls.Case):
+class Tool(tool_case.Case):
     tool = off2svg
 
     def draw(self, data, *words):
