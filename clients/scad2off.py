@@ -82,7 +82,7 @@ def _explained(word: str) -> int:
 
 def _parts(options: Options) -> List[Part]:
     """The parts of a call. Raises BadCall where a file can't be read, or none can be written where its text goes."""
-    parts, refused = [], _refused_outs(options)
+    parts, refused = [], []
     for file, out in zip(options.files, outs_of(options)):
         try:
             # (a source that is larger than a script is past a limit)
@@ -94,6 +94,7 @@ def _parts(options: Options) -> List[Part]:
             refused.append(f"cannot write {out}: that is the source itself")
         name = "<stdin>" if file == "-" else file
         parts.append(Part(name, lines if lines[-1] else lines[:-1], options.definitions, out))
+    refused = refused or _refused_outs(options)
     if refused:
         raise BadCall(*refused)
     return parts
