@@ -52,7 +52,7 @@ FAULTS: Dict[str, Tuple[str, str]] = {
     "Singular": ("this transform would flatten space", "no factor may be 0, nor a matrix's determinant"),
     "TooManyParts": ("more than 1,024 shapes", "make several parts of it"),
     "TooManyPlanes": ("the part has more than 1,024 distinct planes", "make several parts of it"),
-    "LongList": ("a list is too long, or lists are too deep in one another", "docs/FAULTS.md has the limits of each kind of list"),
+    "LongList": ("a list is too long, or lists are too deep in one another", "docs/FAULTS.md has each list's limits"),
 }
 
 # Of the limits that are tested before a source is sent, and of what a session or a script is told.
@@ -90,24 +90,29 @@ STATUSES: Dict[int, str] = {
 }
 
 NO_MEMORY = ("memory ran out", "convert fewer files at once")
-EMPTY = ("this source makes no solid at all", "look for a * or %, an if, or a difference that leaves nothing; or use --allow-empty")
+EMPTY = (
+    "this source makes no solid at all",
+    "look for a * or %, an if, or a difference that leaves nothing; or use --allow-empty",
+)
 
 TOKEN = re.compile(
-    rb"(?:[0-9]+\.?[0-9]*|\.[0-9]+)(?:[eE][+-]?[0-9]+)?|\$?[A-Za-z_][A-Za-z0-9_]*|\"(?:\\.|[^\"\\])*\"?|[<>=!]=|&&|\|\||[^\x80-\xff]|[\x80-\xff]+",
+    rb"(?:[0-9]+\.?[0-9]*|\.[0-9]+)(?:[eE][+-]?[0-9]+)?"  # a numeral
+    rb"|\$?[A-Za-z_][A-Za-z0-9_]*"  # a name
+    rb'|"(?:\\.|[^"\\])*"?'  # a text
+    rb"|[<>=!]=|&&|\|\||[\x80-\xff]+|.",  # a symbol, or what is none
     re.DOTALL,
 )
 
 
 def what_is_wrong(word: str, line: Optional[bytes], column: int) -> Tuple[str, str]:
     """What a fault of this kind says is wrong at a byte of a source's line, from 1, and its cure. No line: at the end."""
+    said, cure = FAULTS.get(word, (word, PAGE))
     if line is None:
-        said, cure = FAULTS.get(word, (word, PAGE))
-        return ("the source ends in the middle of a statement" if word == "Expected" else said.format("the end"), cure)
+        return "the source ends in the middle of a statement" if word == "Expected" else said.format("the end"), cure
     token = TOKEN.match(line, column - 1)
     shown = printable(token[0]) if token else "this"
-    if word == "NotWhole" and not shown[:1].isdigit() and shown[:1] != ".":
+    if word == "NotWhole" and not re.match(r"[0-9.]", shown):
         shown = f"what {shown} gives"
-    said, cure = FAULTS.get(word, (word, PAGE))
     return said.format(shown), cure
 
 

@@ -86,7 +86,8 @@ class Kinds(unittest.TestCase):
             read(script, b"== a\n1 nomem\n2 ok 2\n3 text 1\ny\n")
 
     def test_the_17th_show_and_export_are_refused(self):
-        for command, answer, word in ((b"show", b"text 0\n", b"TooManyShows"), (b"export", b"fault 1:1 Expected\n", b"TooManyExports")):
+        show, export = (b"show", b"text 0\n", b"TooManyShows"), (b"export", b"fault 1:1 Expected\n", b"TooManyExports")
+        for command, answer, word in (show, export):
             script = b"a nothing\n" + b"a %b\n" % command * 18
             replies = [b"refused BadCommand\n", b"nomem\n", *[answer] * 16, b"refused %b\n" % word]
             output = b"== a\n" + b"".join(b"%d %b" % it for it in enumerate(replies, 1))

@@ -8,7 +8,7 @@ import threading
 import time
 import unittest
 
-from tests.calls import STAND_IN, TOP, Calls
+from tests.calls import TOP, Calls
 from tests.stand_in import BOX
 
 BOX_1, BOX_6, BOX_8 = (BOX.format(it).encode() for it in (1, 6, 8))
@@ -87,7 +87,8 @@ class Files(Calls):
         self.assertEqual((done.returncode, done.stdout, done.stderr), (0, BOX_6, b""))
 
     def test_names_of_every_kind_are_names_of_files(self):
-        for name in ("w=6.scad", "dir\\new.scad", "two words.scad", "-x.scad", "%s.scad", "$HOME.scad", "a'b\".scad", "ä.scad", "\udcff.scad"):
+        names = ["w=6.scad", "dir\\new.scad", "two words.scad", "-x.scad", "%s.scad", "$HOME.scad", "a'b\".scad", "ä.scad"]
+        for name in [*names, "\udcff.scad"]:
             with self.subTest(name=name):
                 self.assertEqual(self.call("--", self.write(name, "w=8;\n"), stdin=b"w=6;\n"), (0, BOX_8, b""))
                 status, out, error = self.call("--", self.write(name, "cube(2.5);\n"))
@@ -250,8 +251,9 @@ class Words(Calls):
 
     def test_the_script_is_printed_and_not_run(self):
         for name in ("box", "bracket", "family", "fault", "plate"):
-            with open(os.path.join(TOP, "examples", f"{name}.script"), "rb") as script:
-                self.assertEqual(self.call("--script", os.path.join(TOP, "examples", f"{name}.scad")), (0, script.read(), b""))
+            path = os.path.join(TOP, "examples", name)
+            with open(f"{path}.script", "rb") as script:
+                self.assertEqual(self.call("--script", f"{path}.scad"), (0, script.read(), b""))
         self.write("a.scad", "w=1;\n")
         self.write("b.scad", "w=2;\n")
         self.assertEqual(self.call("--script", "-o", "two.script", "a.scad", "b.scad"), (0, b"", b""))
@@ -345,8 +347,22 @@ class Outputs(Calls):
                     [os.path.join(TOP, "scad2off"), "part.scad", *words],
                     stdout=out, stderr=subprocess.PIPE, cwd=self.folder, env=self.environment, timeout=50,
                 )
-            name = b"/dev/full" if words else b"standard output"
-            self.assertEqual((done.returncode, done.stderr), (2, b"scad2off: cannot write " + name + b": No space left on device\n"))
+            name = "/dev/full" if words else "standard output"
+            said = f"scad2off: cannot write {name}: No space left on device\n"
+            self.assertEqual((done.returncode, done.stderr), (2, said.encode()))
+
+    def test_an_output_that_nobody_reads_ends_it_without_a_word(self):
+        self.write("part.scad", "w=6;\n")
+        to_read, to_write = os.pipe()
+        os.close(to_read)
+        try:
+            done = subprocess.run(
+                [os.path.join(TOP, "scad2off"), "part.scad"],
+                stdout=to_write, stderr=subprocess.PIPE, cwd=self.folder, env=self.environment, timeout=50,
+            )
+        finally:
+            os.close(to_write)
+        self.assertEqual((done.returncode, done.stderr), (141, b""))
 
     def test_many_files_go_to_a_folder_in_few_runs(self):
         names = [f"part{it}.scad" for it in range(300)]
@@ -398,12 +414,16 @@ class Outputs(Calls):
         self.assertEqual(status, 6)
         self.assertEqual(
             error.decode().splitlines()[::2],
-            ["first.scad: error: nomem: memory ran out", "last.scad: error: nomem: memory ran out", "17 files: 15 solids, 2 faults"],
+            [
+                "first.scad: error: nomem: memory ran out",
+                "last.scad: error: nomem: memory ran out",
+                "17 files: 15 solids, 2 faults",
+            ],
         )
         self.assertNotIn("last.4off", os.listdir(self.path("out")))
 
 
-class Places_of_the_tool(Calls):
+class Calling(Calls):
     """The tool is found wherever it is called from."""
 
     def test_it_is_called_through_links(self):
@@ -413,7 +433,8 @@ class Places_of_the_tool(Calls):
         os.symlink("one", self.path("bin/two"))
         for tool in ("bin/one", "bin/two"):
             self.assertEqual(self.call("part.scad", tool=self.path(tool)), (0, BOX_6, b""))
-        self.assertEqual(self.call("part.scad", tool="two", environment={"PATH": self.path("bin") + ":" + os.environ["PATH"]}), (0, BOX_6, b""))
+        on_path = {"PATH": self.path("bin") + ":" + os.environ["PATH"]}
+        self.assertEqual(self.call("part.scad", tool="two", environment=on_path), (0, BOX_6, b""))
 
     def test_it_is_called_with_a_path_for_cd(self):
         self.write("part.scad", "w=6;\n")
