@@ -223,6 +223,8 @@ class Words(Calls):
         self.write("a.scad", "")
         os.makedirs(self.path("b/c"))
         self.write("b/a.scad", "")
+        self.write("b/x.scad", "")
+        self.write("x.4off", "")
         for words, said in (
             ([], "no FILE is named"),
             (["--nonsense", "a.scad"], "option --nonsense not recognized"),
@@ -236,7 +238,8 @@ class Words(Calls):
             (["-D", "w", "a.scad"], "-D takes NAME=VALUE, and not w"),
             (["-D", "2=w", "a.scad"], "-D takes NAME=VALUE, and not 2=w"),
             (["-D", "w=1\nx=2", "a.scad"], "-D takes NAME=VALUE"),
-            (["-o", "a.scad", "a.scad"], "cannot write a.scad: that is the source itself"),
+            (["-o", "a.scad", "a.scad"], "cannot write a.scad: that is a source"),
+            (["-d", ".", "b/x.scad", "x.4off"], "cannot write ./x.4off: that is a source"),
             (["-o", "b", "a.scad"], "cannot write b: Is a directory"),
             (["-o", "no/a.4off", "a.scad"], "cannot write no/a.4off: No such file or directory"),
             (["-d", "a.scad", "a.scad"], "cannot make the folder a.scad: File exists"),

@@ -106,10 +106,25 @@ class Limits(unittest.TestCase):
         client = script.client("a")
         client.put(1, b"x")
         written = bytes(script)
-        for call, arguments in ((client.put, (1, b"x" * 1_017)), (client.cut, (2, 2)), (client.source, ([b""] * 8_192,))):
-            with self.assertRaises(Limit):
-                call(*arguments)
+        self.assert_refused("TooLong", client.put, 1, b"x" * 1_017)
+        self.assert_refused("NoSuchLine", client.cut, 2, 2)
+        self.assert_refused("TooManyLines", client.source, [b""] * 4_097)
+        self.assert_refused("TooLong", client.source, [b"", b"x" * 1_017])
+        self.assert_refused("TooLarge", client.source, [b"x" * 1_000] * 1_100)
+        with self.assertRaises(ValueError):
+            client.source([b"x", b"y\nz"])
         self.assertEqual(bytes(script), written)
+        self.assertEqual(client.export(), 1)
+
+    def test_a_source_is_put_within_the_commands_of_its_client(self):
+        client = Script().client("a")
+        client.source([b""] * 4_095)
+        self.assertTrue(client.has_room([b""] * 4_095))
+        client.source([b""] * 4_095)
+        # 4,095 and 4,096 are 8,191 commands: there is one left, for the export.
+        self.assert_refused("TooManyCommands", client.source, [b""])
+        client.export()
+        self.assert_refused("TooManyCommands", client.export)
 
     def test_a_line_with_a_newline_is_no_line(self):
         for call in ("put", "set"):
