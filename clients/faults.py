@@ -110,7 +110,7 @@ def what_is_wrong(word: str, line: Optional[bytes], column: int) -> Tuple[str, s
     if line is None:
         return "the source ends in the middle of a statement" if word == "Expected" else said.format("the end"), cure
     token = TOKEN.match(line, column - 1)
-    shown = printable(token[0]) if token else "this"
+    shown = printable(token[0] if len(token[0]) <= 40 else token[0][:40] + b"..") if token else "this"
     if word == "NotWhole" and not re.match(r"[0-9.]", shown):
         shown = f"what {shown} gives"
     return said.format(shown), cure

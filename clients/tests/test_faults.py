@@ -50,6 +50,7 @@ class Lines(unittest.TestCase):
         ("NotInProfile", b"x = 2 ^ 3;", 7, "^ is left out of this profile of OpenSCAD"),
         ("Expected", b"a >= >= b;", 6, ">= can't follow what stands before it"),
         ("Expected", b'a "b c" d', 3, '"b c" can\'t follow what stands before it'),
+        ("Expected", b'"' + b"x" * 99, 1, '"' + "x" * 39 + ".. can't follow what stands before it"),
         ("Expected", None, 1, "the source ends in the middle of a statement"),
         ("BadCharacter", b"\xef\xbb\xbfcube(1);", 1, "\\ufeff can't stand here"),
         ("BadCharacter", b"cube(\x00);", 6, "\\x00 can't stand here"),
