@@ -12,11 +12,11 @@ PAGE = "docs/OPENSCAD.md says what there is, and what to write instead"
 
 # Of each kind of fault what is wrong, in which {} stands for the token at its place, and its cure.
 FAULTS: Dict[str, Tuple[str, str]] = {
-    "BadCharacter": ("{} can't stand here", "comments may hold any byte, all else is ASCII, and a byte order mark is none"),
+    "BadCharacter": ("{} can't stand here", "any byte may stand in comments; all else is plain ASCII, without a byte order mark"),
     "OpenComment": ("this comment is not closed", "close it by */"),
     "OpenText": ("this text is not closed on its line", 'close it by " on the same line'),
     "NotWhole": ("{} is no whole number", "write lengths in tenths, 25 for 2.5, and print by off2stl --unit 1/10"),
-    "TooLarge": ("{} leads past 9007199254740991", "numbers and coordinates are at most 2^53 - 1 in size"),
+    "TooLarge": ("at {} a number is past its limit", "numbers are at most 2^53 - 1 in size, those of a multmatrix 65,535"),
     "TypeMismatch": ("a value of another type is wanted at {}", PAGE),
     "ZeroDivisor": ("a division by 0", "test the divisor first: b == 0 ? 0 : a / b"),
     "BadSize": ("a side, a height or a radius is below 1", "leave out what has no size, as in if (w > 2 * t) cube(w - 2 * t);"),
@@ -89,7 +89,7 @@ STATUSES: Dict[int, str] = {
     125: ", without an answer",
 }
 
-NO_MEMORY = ("memory ran out", "convert fewer files at once")
+NO_MEMORY = ("memory ran out", "convert fewer files at once, or put fewer loops in one another")
 EMPTY = (
     "this source makes no solid at all",
     "look for a * or %, an if, or a difference that leaves nothing; or use --allow-empty",

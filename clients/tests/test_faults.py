@@ -44,7 +44,7 @@ class Lines(unittest.TestCase):
         ("NotWhole", b"cube(.5e1);", 6, ".5e1 is no whole number"),
         ("NotWhole", b"w = 7 / 2;", 7, "what / gives is no whole number"),
         ("NotWhole", b"w = pow(2, -1);", 5, "what pow gives is no whole number"),
-        ("TooLarge", b"w = 9007199254740992;", 5, "9007199254740992 leads past 9007199254740991"),
+        ("TooLarge", b"w = 9007199254740992;", 5, "at 9007199254740992 a number is past its limit"),
         ("UnknownName", b"cube($x);", 6, "$x has no value here"),
         ("UnknownModule", b"cub(1);", 1, "there is no module cub"),
         ("NotInProfile", b"x = 2 ^ 3;", 7, "^ is left out of this profile of OpenSCAD"),
