@@ -12,11 +12,11 @@ PAGE = "docs/OPENSCAD.md says what there is, and what to write instead"
 
 # Of each kind of fault what is wrong, in which {} stands for the token at its place, and its cure.
 FAULTS: Dict[str, Tuple[str, str]] = {
-    "BadCharacter": ("{} can't stand here", "comments may hold any byte, all else is ASCII, and a byte order mark is none"),
+    "BadCharacter": ("{} can't stand here", "any byte may stand in comments; all else is plain ASCII, without a byte order mark"),
     "OpenComment": ("this comment is not closed", "close it by */"),
     "OpenText": ("this text is not closed on its line", 'close it by " on the same line'),
     "NotWhole": ("{} is no whole number", "write lengths in tenths, 25 for 2.5, and print by off2stl --unit 1/10"),
-    "TooLarge": ("{} leads past 9007199254740991", "numbers and coordinates are at most 2^53 - 1 in size"),
+    "TooLarge": ("at {} a number is past its limit", "numbers are at most 2^53 - 1 in size, those of a multmatrix 65,535"),
     "TypeMismatch": ("a value of another type is wanted at {}", PAGE),
     "ZeroDivisor": ("a division by 0", "test the divisor first: b == 0 ? 0 : a / b"),
     "BadSize": ("a side, a height or a radius is below 1", "leave out what has no size, as in if (w > 2 * t) cube(w - 2 * t);"),
@@ -52,7 +52,7 @@ FAULTS: Dict[str, Tuple[str, str]] = {
     "Singular": ("this transform would flatten space", "no factor may be 0, nor a matrix's determinant"),
     "TooManyParts": ("more than 1,024 shapes", "make several parts of it"),
     "TooManyPlanes": ("the part has more than 1,024 distinct planes", "make several parts of it"),
-    "LongList": ("a list is too long, or lists are too deep in one another", "docs/FAULTS.md has the limits of each kind of list"),
+    "LongList": ("a list is too long, or lists are too deep in one another", "docs/FAULTS.md has each list's limits"),
 }
 
 # Of the limits that are tested before a source is sent, and of what a session or a script is told.
@@ -89,25 +89,30 @@ STATUSES: Dict[int, str] = {
     125: ", without an answer",
 }
 
-NO_MEMORY = ("memory ran out", "convert fewer files at once")
-EMPTY = ("this source makes no solid at all", "look for a * or %, an if, or a difference that leaves nothing; or use --allow-empty")
+NO_MEMORY = ("memory ran out", "convert fewer files at once, or put fewer loops in one another")
+EMPTY = (
+    "this source makes no solid at all",
+    "look for a * or %, an if, or a difference that leaves nothing; or use --allow-empty",
+)
 
 TOKEN = re.compile(
-    rb"(?:[0-9]+\.?[0-9]*|\.[0-9]+)(?:[eE][+-]?[0-9]+)?|\$?[A-Za-z_][A-Za-z0-9_]*|\"(?:\\.|[^\"\\])*\"?|[<>=!]=|&&|\|\||[^\x80-\xff]|[\x80-\xff]+",
+    rb"(?:[0-9]+\.?[0-9]*|\.[0-9]+)(?:[eE][+-]?[0-9]+)?"  # a numeral
+    rb"|\$?[A-Za-z_][A-Za-z0-9_]*"  # a name
+    rb'|"(?:\\.|[^"\\])*"?'  # a text
+    rb"|[<>=!]=|&&|\|\||[\x80-\xff]+|.",  # a symbol, or what is none
     re.DOTALL,
 )
 
 
 def what_is_wrong(word: str, line: Optional[bytes], column: int) -> Tuple[str, str]:
     """What a fault of this kind says is wrong at a byte of a source's line, from 1, and its cure. No line: at the end."""
-    if line is None:
-        said, cure = FAULTS.get(word, (word, PAGE))
-        return ("the source ends in the middle of a statement" if word == "Expected" else said.format("the end"), cure)
-    token = TOKEN.match(line, column - 1)
-    shown = printable(token[0]) if token else "this"
-    if word == "NotWhole" and not shown[:1].isdigit() and shown[:1] != ".":
-        shown = f"what {shown} gives"
     said, cure = FAULTS.get(word, (word, PAGE))
+    if line is None:
+        return "the source ends in the middle of a statement" if word == "Expected" else said.format("the end"), cure
+    token = TOKEN.match(line, column - 1)
+    shown = printable(token[0] if len(token[0]) <= 40 else token[0][:40] + b"..") if token else "this"
+    if word == "NotWhole" and not re.match(r"[0-9.]", shown):
+        shown = f"what {shown} gives"
     return said.format(shown), cure
 
 

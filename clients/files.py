@@ -18,12 +18,13 @@ def read_file(path: str, most: int = -1) -> bytes:
 def write_file(path: str, data: bytes) -> None:
     """Writes a file beside its place and renames it, so that it has these bytes or stays as it was. `-` is standard output,
     and what is no ordinary file, as a pipe or a terminal, is written itself. Raises OSError."""
-    if path == "-" or (os.path.exists(path) and not os.path.isfile(path)):
+    if _is_stream(path):
         with open(1 if path == "-" else path, "wb", closefd=path != "-") as it:
             it.write(data)
         return
     path = os.path.realpath(path)
-    beside = os.path.join(os.path.dirname(path), f".{os.getpid()}.tmp")
+    # (a name that no other process has, on another machine neither)
+    beside = os.path.join(os.path.dirname(path), f".{os.urandom(8).hex()}.tmp")
     file = os.open(beside, os.O_WRONLY | os.O_CREAT | os.O_EXCL, 0o666)
     try:
         with open(file, "wb") as it:
@@ -40,13 +41,18 @@ def write_file(path: str, data: bytes) -> None:
 def refusal_to_write(path: str) -> Optional[str]:
     """Why a file can't be written here, as far as that shows before it is tried; None where nothing speaks against it."""
     folder = os.path.dirname(os.path.realpath(path))
-    if path == "-":
-        return None
     if os.path.isdir(path):
         return os.strerror(errno.EISDIR)
+    if _is_stream(path):
+        return None
     if not os.path.isdir(folder):
         return os.strerror(errno.ENOENT)
     return None if os.access(folder, os.W_OK) else os.strerror(errno.EACCES)
+
+
+def _is_stream(path: str) -> bool:
+    """Whether a path is that of a pipe, a terminal or the like, or of standard output."""
+    return path == "-" or (os.path.exists(path) and not os.path.isfile(path))
 
 
 def say(text: str) -> None:

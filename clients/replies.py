@@ -18,15 +18,16 @@ COMMAND = re.compile(
     rb"|cut (?P<first>[0-9]{1,7}) (?P<last>[0-9]{1,7})|(?P<ask>show|export)",
     re.DOTALL,
 )
-COUNT, INTEGER = rb"(?:0|[1-9][0-9]*)", rb"(?:0|-?[1-9][0-9]*)"
+FROM_ONE, INTEGER = "[1-9][0-9]{0,9}", "(?:0|-?[1-9][0-9]*)"  # (a count of more digits comes from no server)
+COUNT = f"(?:0|{FROM_ONE})"
 REPLY = re.compile(
-    rb"ok (?P<ok>%b)|refused (?P<refused>[A-Za-z]+)|(?P<nomem>nomem)|text (?P<text>%b)|solid (?P<solid>%b)"
-    rb"|fault (?P<line>[1-9][0-9]*):(?P<column>[1-9][0-9]*) (?P<fault>[A-Za-z]+)"
-    rb"|complex (?:(?P<kind>solid|sum) (?P<node>[1-9][0-9]*)|(?P<count>facets|corners|vertices))" % (COUNT, COUNT, COUNT)
+    f"ok (?P<ok>{COUNT})|refused (?P<refused>[A-Za-z]+)|(?P<nomem>nomem)|text (?P<text>{COUNT})|solid (?P<solid>{COUNT})"
+    f"|fault (?P<line>{FROM_ONE}):(?P<column>{FROM_ONE}) (?P<fault>[A-Za-z]+)"
+    f"|complex (?:(?P<kind>solid|sum) (?P<node>{FROM_ONE})|(?P<count>facets|corners|vertices))".encode()
 )
-HEADER = re.compile(rb"(%b) (%b) 0" % (COUNT, COUNT))
-VERTEX = re.compile(rb"(?:%b ){3}[1-9][0-9]*" % INTEGER)
-FACE = re.compile(rb"%b(?: %b){3,}" % (COUNT, COUNT))
+HEADER = re.compile(f"({COUNT}) ({COUNT}) 0".encode())
+VERTEX = re.compile(f"(?:{INTEGER} ){{3}}[1-9][0-9]*".encode())
+FACE = re.compile(f"{COUNT}(?: {COUNT}){{3,}}".encode())
 
 
 class Malformed(Exception):
@@ -252,18 +253,24 @@ def _as_type(match: "re.Match[bytes]", left: _Output) -> Reply:
 
 
 def _solid(lines: List[bytes]) -> Solid:
-    """The solid of a 4OFF text in its one spelling."""
+    """The solid of a 4OFF text in its one spelling, in which vertices are numbered as the faces first have them."""
     header = HEADER.fullmatch(lines[1]) if len(lines) > 1 and lines[0] == b"4OFF" else None
     if header is None:
         raise Malformed("a solid does not begin as a 4OFF text")
     vertices, faces = int(header[1]), int(header[2])
-    body = lines[2:]
-    if len(body) != vertices + faces:
+    if len(lines) != 2 + vertices + faces:
         raise Malformed("a 4OFF text has other counts than lines")
-    if not all(map(VERTEX.fullmatch, body[:vertices])):
+    if not all(map(VERTEX.fullmatch, lines[2 : 2 + vertices])):
         raise Malformed("a 4OFF text has a line that is no vertex")
-    for line in body[vertices:]:
-        corners = list(map(int, line.split(b" "))) if FACE.fullmatch(line) else [0]
-        if corners[0] != len(corners) - 1 or max(corners[1:], default=vertices) >= vertices:
-            raise Malformed("a 4OFF text has a line that is no face of its vertices")
+    met = 0
+    for line in lines[2 + vertices :]:
+        count, *corners = map(int, line.split(b" ")) if FACE.fullmatch(line) else [1]
+        if count != len(corners):
+            raise Malformed("a 4OFF text has a line that is no face")
+        for corner in corners:
+            if corner > met:
+                raise Malformed("the faces of a 4OFF text have other corners than its vertices, in order")
+            met = max(met, corner + 1)
+    if met != vertices:
+        raise Malformed("a 4OFF text has vertices that no face has")
     return Solid(vertices, faces, b"".join(it + b"\n" for it in lines))

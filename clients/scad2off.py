@@ -6,7 +6,7 @@ import os
 import signal
 import sys
 from dataclasses import replace
-from typing import Iterator, List, NoReturn, Sequence, Tuple
+from typing import Iterator, List, NoReturn, Optional, Sequence, Tuple
 
 from batches import batches
 from faults import STATUSES, explanation
@@ -22,7 +22,8 @@ def main(words: Sequence[str]) -> int:
     """Does what the words of a call ask for, and gives its status. The environment's SCADSERVE names another server."""
     server = [os.environ["SCADSERVE"]] if os.environ.get("SCADSERVE") else SERVER
     for it in (signal.SIGTERM, signal.SIGHUP):
-        signal.signal(it, _end)
+        if signal.getsignal(it) is not signal.SIG_IGN:
+            signal.signal(it, _end)
     try:
         return _do(options_of(words), server)
     except BadCall as bad:
@@ -82,7 +83,8 @@ def _explained(word: str) -> int:
 
 def _parts(options: Options) -> List[Part]:
     """The parts of a call. Raises BadCall where a file can't be read, or none can be written where its text goes."""
-    parts, refused = [], _refused_outs(options)
+    parts, refused = [], []
+    sources = [_identity(it) for it in options.files]
     for file, out in zip(options.files, outs_of(options)):
         try:
             # (a source that is larger than a script is past a limit)
@@ -90,13 +92,23 @@ def _parts(options: Options) -> List[Part]:
         except OSError as error:
             refused.append(f"cannot open {file}: {error.strerror}")
             continue
-        if os.path.isfile(file) and os.path.isfile(out) and os.path.samefile(file, out):
-            refused.append(f"cannot write {out}: that is the source itself")
+        if os.path.isfile(out) and _identity(out) in sources:
+            refused.append(f"cannot write {out}: that is a source")
         name = "<stdin>" if file == "-" else file
         parts.append(Part(name, lines if lines[-1] else lines[:-1], options.definitions, out))
+    refused = refused or _refused_outs(options)
     if refused:
         raise BadCall(*refused)
     return parts
+
+
+def _identity(path: str) -> Optional[Tuple[int, int]]:
+    """What tells a file from others, whatever it is called; None where there is none."""
+    try:
+        found = os.stat(path)
+    except OSError:
+        return None
+    return found.st_dev, found.st_ino
 
 
 def _refused_outs(options: Options) -> List[str]:

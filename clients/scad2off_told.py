@@ -36,7 +36,7 @@ def reply_told(part: Part, reply: Reply) -> str:
     if isinstance(reply, Complex):
         said, cure = COMPLEX[reply.kind]
         word = f"complex {reply.kind}" + ("" if reply.node is None else f" {reply.node}")
-        return _told(f"{part.name}: error: {word}: {said}", "", cure)
+        return _told(f"{part.name}: error: {word}: {said.format(reply.node)}", "", cure)
     word, (said, cure) = ("Empty", EMPTY) if isinstance(reply, Solid) else ("nomem", NO_MEMORY)
     return _told(f"{part.name}: error: {word}: {said}", "", cure)
 

@@ -109,11 +109,14 @@ class Client:
         return self._add(b"export")
 
     def source(self, lines: Sequence[bytes]) -> range:
-        """Makes these lines the whole source, by a cut of the old ones and a put for each: the places of their replies.
-        Adds all of these commands, or none."""
+        """Makes these lines the whole source, by a cut of the old ones and a put for each, and gives the places of their
+        replies. Adds all of these commands, or none."""
         commands = self._rewriting(lines)
         self._test(commands)
-        return range(self._commands, self._commands + sum(self._add(it) >= 0 for it in commands))
+        first = self._commands
+        for command in commands:
+            self._add(command)
+        return range(first, self._commands)
 
     def has_room(self, lines: Sequence[bytes]) -> bool:
         """Whether these lines can be made the whole source and be exported."""
@@ -124,12 +127,13 @@ class Client:
         return self._session.exports < ANSWERED
 
     def _rewriting(self, lines: Sequence[bytes]) -> List[bytes]:
+        """The commands that make these lines the whole source."""
+        if len(lines) > SOURCE_LINES:
+            raise Limit("TooManyLines")
         held = len(self._session.lines)
         return [b"cut 1 %d" % held] * (held > 0) + _puts(self._name, lines)
 
     def _add(self, command: bytes) -> int:
-        if b"\n" in command:
-            raise ValueError("a line of a source has no newline")
         self._test([command])
         answer = self._session.answer(command)
         if isinstance(answer, Refused):
@@ -139,7 +143,9 @@ class Client:
         return self._commands - 1
 
     def _test(self, commands: Sequence[bytes]) -> None:
-        """Raises Limit where the script can't go on with these commands."""
+        """Raises Limit where the script can't go on with these commands, and ValueError where one is no line."""
+        if any(b"\n" in it for it in commands):
+            raise ValueError("a line of a source has no newline")
         if any(_is_long(self._name, it) for it in commands):
             raise Limit("TooLong")
         if self._commands + len(commands) > COMMANDS:
