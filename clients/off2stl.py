@@ -31,7 +31,7 @@ _DESCRIPTION = "Writes the solid of a 4OFF text as a closed surface of triangles
 
 def main(words: Sequence[str]) -> int:
     """Runs the tool on its words, without its name; gives its status."""
-    return off2tool.run(_convert, words)
+    return off2tool.run("off2stl", _convert, words)
 
 
 def _convert(words: Sequence[str]) -> None:

@@ -18,7 +18,7 @@ from closing import Ring
 from fouroff import Boundary, Corner, Plane
 from fouroff_measures import direction
 from off2painter import Step, outline, painted, visible_patches
-from off2tool import SOLID_FAULT, Stop
+from off2tool import UNUSABLE, BadSolid
 
 MOST_FACES = 5000
 #: The view where none is asked for, in degrees.
@@ -73,7 +73,7 @@ def _cross(p: Direction, q: Direction) -> Direction:
 
 def main(words: Sequence[str]) -> int:
     """Runs the tool on its words, without its name; gives its status."""
-    return off2tool.run(_draw, words)
+    return off2tool.run("off2svg", _draw, words)
 
 
 def _draw(words: Sequence[str]) -> None:
@@ -84,7 +84,7 @@ def _draw(words: Sequence[str]) -> None:
     boundary = off2tool.read(asked.file, asked.out)
     if len(boundary.faces) > MOST_FACES:
         count = f"{len(boundary.faces)} faces are too many to draw, above {MOST_FACES}"
-        raise Stop(SOLID_FAULT, f"{off2tool.called(asked.file)}: {count}: {_VIEWERS}")
+        raise BadSolid(f"{off2tool.called(asked.file)}: {count}: {_VIEWERS}", UNUSABLE)
     rings = closing.close(boundary)
     off2tool.check(asked.file, boundary, rings)
     text = drawing(boundary, rings, Camera(*asked.view), asked.width, off2tool.stem(asked.file))

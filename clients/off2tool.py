@@ -18,19 +18,23 @@ import fouroff
 import fouroff_measures
 from files import read_file, refusal_to_write, say, write_file
 
-SOLID_FAULT, BAD_CALL, INTERRUPTED, PIPE_CLOSED = 1, 2, 130, 141
+UNUSABLE, BAD_CALL, INTERRUPTED, PIPE_CLOSED = 1, 2, 130, 141
 
 
-class Stop(Exception):
-    """Ends a tool with a status, and with a message, which is one line on standard error."""
+class BadCall(Exception):
+    """Words are wrong, or a file can't be read or written: one line, which is said behind the tool's name."""
 
-    def __init__(self, status: int, message: str) -> None:
-        super().__init__(message)
+
+class BadSolid(Exception):
+    """A file has no solid that can be written: one line, which begins with the file's name, and the status."""
+
+    def __init__(self, line: str, status: int = BAD_CALL) -> None:
+        super().__init__(line)
         self.status = status
 
 
 class Words(argparse.ArgumentParser):
-    """The words of a tool; an option is never told by a part of its name. Faulty words stop the tool."""
+    """The words of a tool; an option is never told by a part of its name. Wrong words raise BadCall."""
 
     def __init__(self, tool: str, description: str) -> None:
         super().__init__(prog=tool, description=description, allow_abbrev=False)
@@ -38,19 +42,23 @@ class Words(argparse.ArgumentParser):
         self.add_argument("file", nargs="?", default="-", metavar="FILE", help="a 4OFF text; else standard input")
 
     def error(self, message: str) -> NoReturn:
-        """Stops the tool for its words."""
-        raise Stop(BAD_CALL, f"{self.prog}: {message} (see {self.prog} --help)")
+        """Raises the fault of a call."""
+        raise BadCall(f"{message} (see {self.prog} --help)")
 
 
-def run(tool: Callable[[Sequence[str]], None], words: Sequence[str]) -> int:
-    """Runs a tool on its words: the status, with the fault told where there is one."""
+def run(name: str, tool: Callable[[Sequence[str]], None], words: Sequence[str]) -> int:
+    """Runs the tool of this name on its words: the status, with the fault told where there is one."""
     for number in (signal.SIGTERM, signal.SIGHUP):
-        signal.signal(number, _end)
+        if signal.getsignal(number) is not signal.SIG_IGN:
+            signal.signal(number, _end)
     try:
         tool(words)
-    except Stop as stop:
-        say(f"{stop}\n")
-        return stop.status
+    except BadCall as bad:
+        say(f"{name}: {bad}\n")
+        return BAD_CALL
+    except BadSolid as bad:
+        say(f"{bad}\n")
+        return bad.status
     except BrokenPipeError:
         return PIPE_CLOSED
     except KeyboardInterrupt:
@@ -65,7 +73,7 @@ def _end(number: int, _frame: object) -> NoReturn:
 
 def called(file: str) -> str:
     """What a file is called in messages."""
-    return "standard input" if file == "-" else file
+    return "<stdin>" if file == "-" else file
 
 
 def stem(file: str) -> str:
@@ -74,40 +82,48 @@ def stem(file: str) -> str:
 
 
 def read(file: str, out: str) -> fouroff.Boundary:
-    """The boundary of the solid in a file, for what is then written to `out`; stops where it has no faces."""
-    refusal = refusal_to_write(out)
-    if refusal:
-        raise Stop(BAD_CALL, f"cannot write {out}: {refusal}")
+    """The boundary of the solid in a file, for what is then written to `out`.
+
+    Raises BadCall where the one can't be read or the other not be written, and BadSolid at a text that is no 4OFF text and
+    at the empty solid.
+    """
     try:
-        boundary = fouroff.read(read_file(file))
+        data = read_file(file)
     except (OSError, ValueError) as error:
-        if isinstance(error, fouroff.Malformed):
-            raise Stop(BAD_CALL, f"{called(file)}:{error.line}: {error.reason}") from None
-        raise Stop(BAD_CALL, f"cannot read {called(file)}: {_why(error)}") from None
+        raise BadCall(f"cannot open {called(file)}: {_why(error)}") from None
+    refusal = refusal_to_write(out)
+    if os.path.isfile(file) and os.path.isfile(out) and os.path.samefile(file, out):
+        refusal = "that is the 4OFF text itself"
+    if refusal:
+        raise BadCall(f"cannot write {out}: {refusal}")
+    try:
+        boundary = fouroff.read(data)
+    except fouroff.Malformed as fault:
+        raise BadSolid(f"{called(file)}:{fault.line}: {fault.reason}") from None
     if not boundary.faces:
-        raise Stop(SOLID_FAULT, f"{called(file)}: the solid is empty, so nothing is written")
+        raise BadSolid(f"{called(file)}: the solid is empty, so nothing is written", UNUSABLE)
     return boundary
 
 
 def check(file: str, boundary: fouroff.Boundary, rings: Sequence[closing.Ring]) -> fouroff_measures.Volume:
-    """The volume; stops where the rings, which go round the boundary's faces, are not closed or look inward."""
+    """The volume. Raises BadSolid where the rings, which go round the boundary's faces, are not closed or look inward."""
     unpaired = closing.open_edges(closing.ways(rings))
     if unpaired:
-        raise Stop(BAD_CALL, f"{called(file)}: not closed: {unpaired} edges are not met as often one way as the other")
+        raise BadSolid(f"{called(file)}: not closed: {unpaired} edges are not met as often one way as the other")
     volume = fouroff_measures.volume(boundary)
     if volume.value <= 0:
-        raise Stop(BAD_CALL, f"{called(file)}: its faces look inward: the volume is {fouroff_measures.shown(*volume)}")
+        raise BadSolid(f"{called(file)}: its faces look inward: the volume is {fouroff_measures.shown(*volume)}")
     return volume
 
 
 def write(out: str, data: bytes) -> None:
-    """Writes a file whole or not at all; `-` is standard output."""
+    """Writes a file whole or not at all; `-` is standard output. Raises BadCall."""
     try:
         write_file(out, data)
     except BrokenPipeError:
         raise
     except (OSError, ValueError) as error:
-        raise Stop(BAD_CALL, f"cannot write {'standard output' if out == '-' else out}: {_why(error)}") from None
+        raise BadCall(f"cannot write {'standard output' if out == '-' else out}: {_why(error)}") from None
 
 
 def _why(error: Exception) -> str:

@@ -193,13 +193,17 @@ class Faults(Case):
 
     def test_files(self):
         out = ["-o", self.path("a.stl")]
-        self.assert_fault(2, [*out, self.path("none.4off")], "cannot read none.4off: No such file or directory\n")
+        self.assert_fault(2, [*out, self.path("none.4off")], "off2stl: cannot open none.4off: No such file or directory\n")
         self.assert_fault(2, [*out, self.folder], "Is a directory\n")
-        self.assert_fault(2, [*out, "a\0b"], "cannot read a\0b: ")
-        file = self.file("a.4off", BLOCK)
-        self.assert_fault(2, ["-o", self.path("none/a.stl"), file], "cannot write none/a.stl: No such file or directory\n")
+        self.assert_fault(2, [*out, "a\0b"], "off2stl: cannot open a\0b: ")
+        file = self.file("a.off", BLOCK)
+        os.symlink(file, self.path("b.off"))
+        for out in (file, self.path("b.off")):
+            self.assert_fault(2, ["-o", out, file], ".off: that is the 4OFF text itself\n")
+            self.assertEqual(self.bytes_of("a.off"), BLOCK)
+        self.assert_fault(2, ["-o", self.path("none/a.stl"), file], "off2stl: cannot write none/a.stl: No such file or directory\n")
         os.mkdir(self.path("folder.stl"))
-        self.assert_fault(2, ["-o", self.path("folder.stl"), file], "cannot write folder.stl: Is a directory\n")
+        self.assert_fault(2, ["-o", self.path("folder.stl"), file], "off2stl: cannot write folder.stl: Is a directory\n")
 
     def test_texts(self):
         for data, said in (
@@ -216,14 +220,14 @@ class Faults(Case):
     def test_a_write_that_fails_leaves_the_old_file(self):
         file, old = self.file("a.4off", BLOCK), self.file("old.stl", b"as it was")
         with mock.patch("os.replace", side_effect=OSError(28, "No space left on device")):
-            self.assert_fault(2, ["-o", old, file], "cannot write old.stl: No space left on device\n")
+            self.assert_fault(2, ["-o", old, file], "off2stl: cannot write old.stl: No space left on device\n")
         self.assertEqual(self.bytes_of("old.stl"), b"as it was")
 
     @unittest.skipUnless(os.path.exists("/dev/full"), "there is no /dev/full")
     def test_standard_output_that_is_full(self):
         with open("/dev/full", "wb") as full:
             done = subprocess.run([TOP + "/off2stl"], input=BLOCK, stdout=full, stderr=subprocess.PIPE, check=False)
-        self.assertEqual((done.returncode, done.stderr), (2, b"cannot write standard output: No space left on device\n"))
+        self.assertEqual((done.returncode, done.stderr), (2, b"off2stl: cannot write standard output: No space left on device\n"))
 
 
 class Calling(Case):
@@ -233,7 +237,7 @@ class Calling(Case):
         for words in ([], ["-"], ["-o", "-"]):
             done = subprocess.run([link, *words], input=BLOCK, capture_output=True, cwd=self.folder, check=True)
             self.assertTrue(done.stdout.startswith(b"solid solid\n"))
-            self.assertTrue(done.stderr.startswith(b"standard input: 6 faces"))
+            self.assertTrue(done.stderr.startswith(b"<stdin>: 6 faces"))
 
     def test_a_reader_that_leaves(self):
         part = self.file("a.4off", gallery()["menger"])
