@@ -86,8 +86,12 @@ class Parts(unittest.TestCase):
 
 
 class Made(unittest.TestCase):
+    @classmethod
+    def setUpClass(cls):
+        cls.files = gallery.made(gallery.kept_texts())
+
     def test_all_files_are_as_they_are_made(self):
-        self.assertEqual(gallery.differences(gallery.made(gallery.kept_texts())), [])
+        self.assertEqual(gallery.differences(self.files), [])
 
     @unittest.skipUnless(os.access(PROGRAM, os.X_OK), "the program is not built")
     @mock.patch.dict(os.environ, {"SCADSERVE": PROGRAM})
@@ -96,7 +100,7 @@ class Made(unittest.TestCase):
 
     def test_what_differs_is_told(self):
         place = "gallery/bracket.svg"
-        files = gallery.made(gallery.kept_texts())
+        files = dict(self.files)
         self.assertEqual(gallery.differences({**files, place: b""}), [place + " differs from what is made"])
         self.assertEqual(gallery.differences({**files, "gallery/none": b""}), ["gallery/none: No such file or directory"])
         del files[place]
