@@ -22,8 +22,9 @@ seconds() {
 
 # One source through both.
 both() {
-    ours=$(seconds "$top/scad2off" "$work/part.scad")
-    said=$(head -c 60 "$work/said" | head -n 1)
+    "$top/scad2off" --script "$work/part.scad" >"$work/part.script"
+    ours=$(seconds sh -c '"$0" run <"$1"' "$top/scadserve" "$work/part.script")
+    said=$(grep -m 1 -E '^[0-9]+ (solid|fault|complex|nomem)' "$work/said")
     theirs=$(seconds openscad -o "$work/part.off" "$work/part.scad")
     awk -v name="$1" -v ours="$ours" -v theirs="$theirs" -v said="$said" \
         'BEGIN { printf "%-28s %8s s %8s s %8.1f  %s\n", name, ours, theirs, theirs / (ours > 0.01 ? ours : 0.01), said }'

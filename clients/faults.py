@@ -1,0 +1,141 @@
+"""What the words of the server's answers mean, each in a line, with a line of cure; docs/FAULTS.md says more of each."""
+
+from __future__ import annotations
+
+import os
+import re
+from typing import Dict, Optional, Tuple
+
+DOCUMENT = os.path.join(os.path.dirname(os.path.dirname(os.path.realpath(__file__))), "docs", "FAULTS.md")
+
+PAGE = "docs/OPENSCAD.md says what there is, and what to write instead"
+
+# Of each kind of fault what is wrong, in which {} stands for the token at its place, and its cure.
+FAULTS: Dict[str, Tuple[str, str]] = {
+    "BadCharacter": ("{} can't stand here", "any byte may stand in comments; all else is plain ASCII, without a byte order mark"),
+    "OpenComment": ("this comment is not closed", "close it by */"),
+    "OpenText": ("this text is not closed on its line", 'close it by " on the same line'),
+    "NotWhole": ("{} is no whole number", "write lengths in tenths, 25 for 2.5, and print by off2stl --unit 1/10"),
+    "TooLarge": ("at {} a number is past its limit", "numbers are at most 2^53 - 1 in size, those of a multmatrix 65,535"),
+    "TypeMismatch": ("a value of another type is wanted at {}", PAGE),
+    "ZeroDivisor": ("a division by 0", "test the divisor first: b == 0 ? 0 : a / b"),
+    "BadSize": ("a side, a height or a radius is below 1", "leave out what has no size, as in if (w > 2 * t) cube(w - 2 * t);"),
+    "NotOnGrid": ("what is centred would lie between whole numbers", "make its sides even, or use --half"),
+    "OutOfRange": (
+        "a coordinate of {} is past its limit",
+        "there is room for 4095 units to each side of the origin, with --half for 2047",
+    ),
+    "FewPoints": ("too few points or faces", "a polygon has 3 points at least, and a polyhedron 4 faces of 3 corners"),
+    "BadPoint": ("a face names a point that is not there", "points are numbered from 0"),
+    "NotFlat": ("the points of a face lie on one line, or on no one plane", "divide that face into triangles"),
+    "NotConvex": (
+        "this shape is not convex, or its faces are turned inside out",
+        "join convex shapes by union; corners of a polyhedron's faces go clockwise as seen from outside",
+    ),
+    "NotClosed": ("these faces do not close a body", "each edge belongs to two faces, once in each direction"),
+    "Expected": ("{} can't follow what stands before it", "look before it: often a ; or a closing bracket is missing there"),
+    "Nested": ("more than 64 brackets, bodies and signs in one another", "give inner parts names, as variables or modules"),
+    "UnknownName": ("{} has no value here", "assign it before this place, in the same scope or in one around it"),
+    "UnknownFunction": ("there is no function {}", PAGE),
+    "UnknownModule": ("there is no module {}", PAGE),
+    "BadArgument": ("an argument is surplus, unknown, given twice or missing", PAGE),
+    "TooDeep": ("more than 64 calls, or 512 evaluations, in one another", "let the recursion end sooner, or use a for loop"),
+    "TooManyTurns": ("loops, calls and lists take more than 100,000 turns", "make several parts of it, or shorter ranges"),
+    "RangeOrder": ("this range ends before it starts, or its step is 0", "write the step: [5 : -1 : 1]"),
+    "AssertFailed": ("this assertion does not hold", "its condition says what the part needs"),
+    "NotInProfile": ("{} is left out of this profile of OpenSCAD", PAGE),
+    "WrongDimension": (
+        "a flat shape stands where a solid is wanted, or a solid where a flat shape is",
+        "linear_extrude(1) makes a solid of flat shapes, and holds flat shapes alone",
+    ),
+    "NotQuarter": ("the angle is no multiple of 90", "turn by quarters, or by a multmatrix of whole numbers"),
+    "Singular": ("this transform would flatten space", "no factor may be 0, nor a matrix's determinant"),
+    "TooManyParts": ("more than 1,024 shapes", "make several parts of it"),
+    "TooManyPlanes": ("the part has more than 1,024 distinct planes", "make several parts of it"),
+    "LongList": ("a list is too long, or lists are too deep in one another", "docs/FAULTS.md has each list's limits"),
+}
+
+# Of the limits that are tested before a source is sent, and of what a session or a script is told.
+LIMITS: Dict[str, Tuple[str, str]] = {
+    "TooLong": ("a line of a source has at most 1,016 bytes", "break the line, at any blank"),
+    "TooManyLines": ("a source has at most 4,096 lines", "join lines, or make several parts of it"),
+    "TooLarge": ("the source fills more than a script's 1 MiB", "make several parts of it"),
+    "NoSuchLine": ("the source has no such line", "lines are numbered from 1"),
+    "TooManyShows": ("a client is shown its lines 16 times at most", "use another client"),
+    "TooManyExports": ("a client exports 16 times at most", "use another client"),
+    "BadCommand": ("this is no command", "docs/SPECIFICATION.md has the commands"),
+    "NoName": ("a line begins with no client's name", "names have 1 to 16 of a to z and 0 to 9"),
+    "TooManyClients": ("a script has at most 16 clients", "use several scripts"),
+    "TooManyCommands": ("a client has at most 8,192 commands", "use several clients"),
+}
+
+# Of solids that pass a limit, by its kind.
+COMPLEX_CURE = "make several parts of it, or fewer cuts that go across all of it"
+COMPLEX: Dict[str, Tuple[str, str]] = {
+    "solid": ("one of its solids grows past 50,000 in size, at node {}", COMPLEX_CURE),
+    "sum": ("its solids grow past 500,000 in size together, at node {}", COMPLEX_CURE),
+    "facets": ("it has more than 20,000 faces", COMPLEX_CURE),
+    "corners": ("its faces have more than 200,000 corners", COMPLEX_CURE),
+    "vertices": ("it has more than 60,000 vertices", COMPLEX_CURE),
+}
+
+# Of statuses with which the server fails.
+STATUSES: Dict[int, str] = {
+    2: ", since it does not know these words",
+    3: ", since what it was sent is no script",
+    4: ", since it could not read what it was sent",
+    5: ", since it could not write its output",
+    6: ", since memory ran out: convert fewer files at once",
+    125: ", without an answer",
+}
+
+NO_MEMORY = ("memory ran out", "convert fewer files at once, or put fewer loops in one another")
+EMPTY = (
+    "this source makes no solid at all",
+    "look for a * or %, an if, or a difference that leaves nothing; or use --allow-empty",
+)
+
+TOKEN = re.compile(
+    rb"(?:[0-9]+\.?[0-9]*|\.[0-9]+)(?:[eE][+-]?[0-9]+)?"  # a numeral
+    rb"|\$?[A-Za-z_][A-Za-z0-9_]*"  # a name
+    rb'|"(?:\\.|[^"\\])*"?'  # a text
+    rb"|[<>=!]=|&&|\|\||[\x80-\xff]+|.",  # a symbol, or what is none
+    re.DOTALL,
+)
+
+
+def what_is_wrong(word: str, line: Optional[bytes], column: int) -> Tuple[str, str]:
+    """What a fault of this kind says is wrong at a byte of a source's line, from 1, and its cure. No line: at the end."""
+    said, cure = FAULTS.get(word, (word, PAGE))
+    if line is None:
+        return "the source ends in the middle of a statement" if word == "Expected" else said.format("the end"), cure
+    token = TOKEN.match(line, column - 1)
+    shown = printable(token[0] if len(token[0]) <= 40 else token[0][:40] + b"..") if token else "this"
+    if word == "NotWhole" and not re.match(r"[0-9.]", shown):
+        shown = f"what {shown} gives"
+    return said.format(shown), cure
+
+
+def printable(text: bytes) -> str:
+    """A text as a terminal shows it: what is no UTF-8 and control characters but tabs as escapes."""
+    shown = text.decode("utf-8", "backslashreplace")
+    return "".join(it if it == "\t" or it.isprintable() else it.encode("unicode_escape").decode() for it in shown)
+
+
+def excerpt(line: bytes, column: int) -> str:
+    """The part of a line that is near to a byte of it, from 1, and a line with a caret below that byte."""
+    first = max(0, column - 61)
+    before, after = printable(line[first : column - 1]), printable(line[column - 1 : column + 59].rstrip(b"\r"))
+    below = "".join(it if it == "\t" else " " for it in before)
+    return f"    {before}{after}\n    {below}^\n"
+
+
+def explanation(word: str, document: str = DOCUMENT) -> Optional[str]:
+    """The section of a document that has this word as its heading; None where there is none. Raises OSError."""
+    with open(document, encoding="utf-8") as it:
+        sections = re.split(r"^(?=## )", it.read(), flags=re.MULTILINE)
+    for section in sections:
+        heading, _, _ = section.partition("\n")
+        if heading.startswith("## ") and heading[3:].strip().casefold() == word.casefold():
+            return section.rstrip() + "\n"
+    return None

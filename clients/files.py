@@ -1,0 +1,62 @@
+"""Files that the tools read and write: bytes in, bytes out, and no file is ever left half written."""
+
+from __future__ import annotations
+
+import contextlib
+import errno
+import os
+import sys
+from typing import Optional
+
+
+def read_file(path: str, most: int = -1) -> bytes:
+    """The bytes of a file, of a pipe too, which is read once; `-` is standard input. No more than `most`. Raises OSError."""
+    with open(0 if path == "-" else path, "rb", closefd=path != "-") as it:
+        return it.read(most)
+
+
+def write_file(path: str, data: bytes) -> None:
+    """Writes a file beside its place and renames it, so that it has these bytes or stays as it was. `-` is standard output,
+    and what is no ordinary file, as a pipe or a terminal, is written itself. Raises OSError."""
+    if _is_stream(path):
+        with open(1 if path == "-" else path, "wb", closefd=path != "-") as it:
+            it.write(data)
+        return
+    path = os.path.realpath(path)
+    # (a name that no other process has, on another machine neither)
+    beside = os.path.join(os.path.dirname(path), f".{os.urandom(8).hex()}.tmp")
+    file = os.open(beside, os.O_WRONLY | os.O_CREAT | os.O_EXCL, 0o666)
+    try:
+        with open(file, "wb") as it:
+            with contextlib.suppress(FileNotFoundError):
+                os.chmod(file, os.stat(path).st_mode & 0o777)
+            it.write(data)
+        os.replace(beside, path)
+    except BaseException:
+        with contextlib.suppress(FileNotFoundError):
+            os.unlink(beside)
+        raise
+
+
+def refusal_to_write(path: str) -> Optional[str]:
+    """Why a file can't be written here, as far as that shows before it is tried; None where nothing speaks against it."""
+    folder = os.path.dirname(os.path.realpath(path))
+    if os.path.isdir(path):
+        return os.strerror(errno.EISDIR)
+    if _is_stream(path):
+        return None
+    if not os.path.isdir(folder):
+        return os.strerror(errno.ENOENT)
+    return None if os.access(folder, os.W_OK) else os.strerror(errno.EACCES)
+
+
+def _is_stream(path: str) -> bool:
+    """Whether a path is that of a pipe, a terminal or the like, or of standard output."""
+    return path == "-" or (os.path.exists(path) and not os.path.isfile(path))
+
+
+def say(text: str) -> None:
+    """Writes a text to standard error, with names of files as they are. Where that is closed, nothing is said."""
+    with contextlib.suppress(AttributeError, OSError, ValueError):
+        sys.stderr.buffer.write(text.encode("utf-8", "surrogateescape"))
+        sys.stderr.buffer.flush()

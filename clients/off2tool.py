@@ -1,0 +1,131 @@
+"""What `off2stl` and `off2svg` have in common: their words, the solid that they read, and the file that they write.
+
+Faults are one line on standard error. The status is 0 where all was written, 1 where the solid is empty or too large to
+draw, 2 where words or files are faulty, 130 after Ctrl-C, and 141 where nobody reads the output.
+"""
+
+from __future__ import annotations
+
+import argparse
+import os
+import re
+import signal
+import sys
+from typing import Callable, NoReturn, Sequence
+
+import closing
+import fouroff
+import fouroff_measures
+from files import read_file, refusal_to_write, say, write_file
+
+UNUSABLE, BAD_CALL, INTERRUPTED, PIPE_CLOSED = 1, 2, 130, 141
+
+
+class BadCall(Exception):
+    """Words are wrong, or a file can't be read or written: one line, which is said behind the tool's name."""
+
+
+class BadSolid(Exception):
+    """A file has no solid that can be written: one line, which begins with the file's name, and the status."""
+
+    def __init__(self, line: str, status: int = BAD_CALL) -> None:
+        super().__init__(line)
+        self.status = status
+
+
+class Words(argparse.ArgumentParser):
+    """The words of a tool; an option is never told by a part of its name. Wrong words raise BadCall."""
+
+    def __init__(self, tool: str, description: str) -> None:
+        super().__init__(prog=tool, description=description, allow_abbrev=False)
+        self.add_argument("-o", dest="out", metavar="OUT", default="-", help="the file to write; else standard output")
+        self.add_argument("file", nargs="?", default="-", metavar="FILE", help="a 4OFF text; else standard input")
+
+    def error(self, message: str) -> NoReturn:
+        """Raises the fault of a call."""
+        raise BadCall(f"{message} (see {self.prog} --help)")
+
+
+def run(name: str, tool: Callable[[Sequence[str]], None], words: Sequence[str]) -> int:
+    """Runs the tool of this name on its words: the status, with the fault told where there is one."""
+    for number in (signal.SIGTERM, signal.SIGHUP):
+        if signal.getsignal(number) is not signal.SIG_IGN:
+            signal.signal(number, _end)
+    try:
+        tool(words)
+    except BadCall as bad:
+        say(f"{name}: {bad}\n")
+        return BAD_CALL
+    except BadSolid as bad:
+        say(f"{bad}\n")
+        return bad.status
+    except BrokenPipeError:
+        return PIPE_CLOSED
+    except KeyboardInterrupt:
+        return INTERRUPTED
+    return 0
+
+
+def _end(number: int, _frame: object) -> NoReturn:
+    """Ends by a signal, so that no file is left half written."""
+    sys.exit(128 + number)
+
+
+def called(file: str) -> str:
+    """What a file is called in messages."""
+    return "<stdin>" if file == "-" else file
+
+
+def stem(file: str) -> str:
+    """What a solid is called inside a new file: the name of its 4OFF file, in letters that each format has."""
+    return re.sub(r"[^A-Za-z0-9_-]", "_", os.path.splitext(os.path.basename(file))[0]) if file != "-" else "solid"
+
+
+def read(file: str, out: str) -> fouroff.Boundary:
+    """The boundary of the solid in a file, for what is then written to `out`.
+
+    Raises BadCall where the one can't be read or the other not be written, and BadSolid at a text that is no 4OFF text and
+    at the empty solid.
+    """
+    try:
+        data = read_file(file)
+    except (OSError, ValueError) as error:
+        raise BadCall(f"cannot open {called(file)}: {_why(error)}") from None
+    refusal = refusal_to_write(out)
+    if os.path.isfile(file) and os.path.isfile(out) and os.path.samefile(file, out):
+        refusal = "that is the 4OFF text itself"
+    if refusal:
+        raise BadCall(f"cannot write {out}: {refusal}")
+    try:
+        boundary = fouroff.read(data)
+    except fouroff.Malformed as fault:
+        raise BadSolid(f"{called(file)}:{fault.line}: {fault.reason}") from None
+    if not boundary.faces:
+        raise BadSolid(f"{called(file)}: the solid is empty, so nothing is written", UNUSABLE)
+    return boundary
+
+
+def check(file: str, boundary: fouroff.Boundary, rings: Sequence[closing.Ring]) -> fouroff_measures.Volume:
+    """The volume. Raises BadSolid where the rings, which go round the boundary's faces, are not closed or look inward."""
+    unpaired = closing.open_edges(closing.ways(rings))
+    if unpaired:
+        raise BadSolid(f"{called(file)}: not closed: {unpaired} edges are not met as often one way as the other")
+    volume = fouroff_measures.volume(boundary)
+    if volume.value <= 0:
+        raise BadSolid(f"{called(file)}: its faces look inward: the volume is {fouroff_measures.shown(*volume)}")
+    return volume
+
+
+def write(out: str, data: bytes) -> None:
+    """Writes a file whole or not at all; `-` is standard output. Raises BadCall."""
+    try:
+        write_file(out, data)
+    except BrokenPipeError:
+        raise
+    except (OSError, ValueError) as error:
+        raise BadCall(f"cannot write {'standard output' if out == '-' else out}: {_why(error)}") from None
+
+
+def _why(error: Exception) -> str:
+    """The reason alone, without the number and the name of the file."""
+    return (error.strerror if isinstance(error, OSError) else None) or str(error)

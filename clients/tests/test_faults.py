@@ -1,0 +1,98 @@
+"""Each word that the program answers has a line and a cure, and a section in docs/FAULTS.md."""
+
+import os
+import re
+import tempfile
+import unittest
+
+import faults
+from tests.calls import TOP, Calls
+
+WORDS = {*faults.FAULTS, *faults.LIMITS, *faults.COMPLEX, "complex", "nomem", "Empty"}
+
+
+def text_of(*path):
+    with open(os.path.join(TOP, *path), encoding="utf-8") as it:
+        return it.read()
+
+
+class Tables(unittest.TestCase):
+    def test_each_kind_of_fault_of_the_program_has_a_line_and_a_cure(self):
+        kinds = re.findall(r'FaultKind::\w+ => "(\w+)"', text_of("crates", "text_place", "src", "fault.rt"))
+        self.assertEqual(sorted(faults.FAULTS), sorted(kinds))
+
+    def test_each_word_of_a_session_and_of_a_script_has_a_line_and_a_cure(self):
+        tables = re.findall(r"\n\| Fault \| Where \|\n\|---\|---\|\n((?:\|.*\n)+)", text_of("docs", "SPECIFICATION.md"))
+        script = [re.match(r"\| (\w+)", it)[1] for it in tables[0].splitlines()]
+        self.assertEqual(script[:2], ["TooLarge", "TooLong"])
+        section = text_of("docs", "SPECIFICATION.md").partition("\n## Sessions\n")[2].partition("\n## ")[0]
+        session = re.findall(r"(?<=\| |; )[A-Z]\w+(?= where| unless)", section) + ["BadCommand"]
+        self.assertEqual(sorted(faults.LIMITS), sorted({*script, *session}))
+
+    def test_lines_and_cures_are_short(self):
+        for table in (faults.FAULTS, faults.LIMITS, faults.COMPLEX):
+            for word, (said, cure) in table.items():
+                with self.subTest(word=word):
+                    self.assertLess(len(word + said), 110)
+                    self.assertLess(len(cure), 110)
+                    self.assertNotIn("\n", said + cure)
+
+
+class Lines(unittest.TestCase):
+    CASES = [
+        ("NotWhole", b"cube(2.5);", 6, "2.5 is no whole number"),
+        ("NotWhole", b"cube(.5e1);", 6, ".5e1 is no whole number"),
+        ("NotWhole", b"w = 7 / 2;", 7, "what / gives is no whole number"),
+        ("NotWhole", b"w = pow(2, -1);", 5, "what pow gives is no whole number"),
+        ("TooLarge", b"w = 9007199254740992;", 5, "at 9007199254740992 a number is past its limit"),
+        ("UnknownName", b"cube($x);", 6, "$x has no value here"),
+        ("UnknownModule", b"cub(1);", 1, "there is no module cub"),
+        ("NotInProfile", b"x = 2 ^ 3;", 7, "^ is left out of this profile of OpenSCAD"),
+        ("Expected", b"a >= >= b;", 6, ">= can't follow what stands before it"),
+        ("Expected", b'a "b c" d', 3, '"b c" can\'t follow what stands before it'),
+        ("Expected", b'"' + b"x" * 99, 1, '"' + "x" * 39 + ".. can't follow what stands before it"),
+        ("Expected", None, 1, "the source ends in the middle of a statement"),
+        ("BadCharacter", b"\xef\xbb\xbfcube(1);", 1, "\\ufeff can't stand here"),
+        ("BadCharacter", b"cube(\x00);", 6, "\\x00 can't stand here"),
+        ("OutOfRange", b"  cube(9999);", 3, "a coordinate of cube is past its limit"),
+        ("SomethingNew", b"cube(1);", 1, "SomethingNew"),
+    ]
+
+    def test_what_is_wrong_names_the_token_at_the_place(self):
+        for word, line, column, said in self.CASES:
+            with self.subTest(word=word, line=line):
+                self.assertEqual(faults.what_is_wrong(word, line, column)[0], said)
+
+
+class Explanations(Calls):
+    DOCUMENT = "# Faults\n\nOf each.\n\n## NotWhole\n\n    cube(2.5);\n\nA cause.\n\n### Cure\n\nx\n\n## Empty\n\nNothing.\n"
+
+    def test_a_section_is_what_stands_below_its_heading(self):
+        with tempfile.NamedTemporaryFile("w", suffix=".md") as it:
+            it.write(self.DOCUMENT)
+            it.flush()
+            self.assertEqual(
+                faults.explanation("NotWhole", it.name), "## NotWhole\n\n    cube(2.5);\n\nA cause.\n\n### Cure\n\nx\n"
+            )
+            self.assertEqual(faults.explanation("empty", it.name), "## Empty\n\nNothing.\n")
+            for word in ("Whole", "", "Cure", "Faults", "NotWhole\n"):
+                self.assertIsNone(faults.explanation(word, it.name), word)
+
+    @unittest.skipUnless(os.path.isfile(faults.DOCUMENT), "docs/FAULTS.md is not there")
+    def test_each_word_is_explained(self):
+        for word in sorted(WORDS):
+            with self.subTest(word=word):
+                self.assertIsNotNone(faults.explanation(word))
+        status, out, error = self.call("--explain", "NotWhole")
+        self.assertEqual((status, error), (0, b""))
+        self.assertTrue(out.startswith(b"## NotWhole\n"), out)
+
+    @unittest.skipUnless(os.path.isfile(faults.DOCUMENT), "docs/FAULTS.md is not there")
+    def test_an_unknown_word_is_told(self):
+        self.assertEqual(
+            self.call("--explain", "Nonsense"), (2, b"", b"scad2off: docs/FAULTS.md does not explain Nonsense\n")
+        )
+
+
+if __name__ == "__main__":
+    unittest.main()

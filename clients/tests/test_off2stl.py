@@ -1,0 +1,266 @@
+"""The tool off2stl: what it writes is closed and what it tells is so; and what it can't read or write is told in a line."""
+
+import contextlib
+import io
+import os
+import re
+import stat
+import struct
+import subprocess
+import unittest
+import xml.etree.ElementTree as ElementTree
+import zipfile
+from collections import Counter
+from fractions import Fraction
+from unittest import mock
+
+import off2stl
+from tests import tool_case
+from tests.solids import CUT_CUBE, EMPTY, TOP, box, gallery, off, split_box
+
+BLOCK = off(box((0, 0, 0), (20, 12, 16)))
+
+
+class Case(tool_case.Case):
+    """A call of off2stl, and what it writes."""
+
+    tool = off2stl
+
+    def triangles(self, name):
+        """The triangles of an STL text as points of exact decimals, and their normals."""
+        text = self.bytes_of(name).decode("ascii")
+        number = r"(-?[0-9.]+(?:e-?[0-9]+)?)"
+        facet = r"facet [^\n]*\nouter loop\n(vertex [^\n]*\n){3}endloop\nendfacet\n"
+        self.assertRegex(text, rf"\Asolid [\w-]+\n({facet})*endsolid [\w-]+\n\Z")
+        corners = [tuple(map(Fraction, found)) for found in re.findall(rf"vertex {number} {number} {number}\n", text)]
+        normals = [tuple(map(float, found)) for found in re.findall(rf"facet normal {number} {number} {number}\n", text)]
+        return list(zip(corners[::3], corners[1::3], corners[2::3])), normals
+
+    def assert_closed(self, triangles, volume):
+        """Triangles of points go along each edge as often one way as the other, and enclose this volume."""
+        ways = Counter((t[i], t[(i + 1) % 3]) for t in triangles for i in range(3))
+        self.assertEqual([way for way in ways if ways[way] != ways[way[::-1]]], [])
+        six = sum(
+            p[0] * (q[1] * r[2] - q[2] * r[1]) - p[1] * (q[0] * r[2] - q[2] * r[0]) + p[2] * (q[0] * r[1] - q[1] * r[0])
+            for p, q, r in triangles
+        )
+        self.assertEqual(Fraction(six) / 6, volume)
+
+
+class Telling(Case):
+    def told(self, data, *words):
+        """What is told of a solid, behind its name."""
+        status, line = self.call(*words, "-o", self.path("a.stl"), self.file("a.4off", data))
+        self.assertEqual(status, 0, line)
+        self.assertTrue(line.startswith("a.4off: "))
+        return line[len("a.4off: ") : -1]
+
+    def test_the_bracket(self):
+        expected = "46 faces, 120 triangles, closed; box 20 x 12 x 16; volume 824; 0 corners rounded"
+        self.assertEqual(self.told(gallery()["bracket"]), expected)
+
+    def test_a_unit(self):
+        self.assertEqual(self.told(BLOCK), "6 faces, 12 triangles, closed; box 20 x 12 x 16; volume 3840; 0 corners rounded")
+        for unit, rest in (
+            ("1/10", "box 2 x 1.2 x 1.6; volume 3.84; 0 corners rounded"),
+            ("0.1", "box 2 x 1.2 x 1.6; volume 3.84; 0 corners rounded"),
+            ("25.4", "box 508 x 304.8 x 406.4; volume 62926325.76; 0 corners rounded"),
+            ("1/3", "box 20/3 x 4 x 16/3; volume 1280/9; 6 corners rounded"),
+        ):
+            self.assertEqual(self.told(BLOCK, "--unit", unit), f"6 faces, 12 triangles, closed; {rest}")
+
+    def test_thirds_are_rounded(self):
+        # The corner that is cut off has the legs 1, 2/3 and 2/3: a sixth of their product is missing, 2/27.
+        expected = "7 faces, 14 triangles, closed; box 1 x 1 x 1; volume 25/27; 2 corners rounded"
+        self.assertEqual(self.told(CUT_CUBE), expected)
+        expected = "7 faces, 14 triangles, closed; box 3 x 3 x 3; volume 25; 0 corners rounded"
+        self.assertEqual(self.told(CUT_CUBE, "--unit", "3"), expected)
+
+    def test_a_solid_that_touches_itself(self):
+        cube = box((0, 0, 0), (1, 1, 1))
+        self.assertIn("closed, 1 edge of more than two faces; box", self.told(off(cube + box((1, 1, 0), (2, 2, 1)))))
+        self.assertIn("closed, 1 corner where it touches itself; box", self.told(off(cube + box((1, 1, 1), (2, 2, 2)))))
+
+    def test_corners_that_rounding_makes_one(self):
+        thin = off(box((0, 0, 1), (1, 1, 1 + Fraction(1, 10**30))))
+        expected = "6 faces, 4 triangles, closed; box 1 x 1 x 1/1" + 30 * "0"
+        self.assertEqual(self.told(thin), f"{expected}; volume 1/1{30 * '0'}; 4 corners rounded, 8 triangles lost by that")
+        self.assert_closed(self.triangles("a.stl")[0], 0)
+
+    def test_a_volume_with_too_many_digits(self):
+        # A tetrahedron with the legs 1/p, 1/q and 1/r: a sixth of 1/pqr.
+        p, q, r = 10**36 + 7, 10**36 + 9, 10**36 + 33
+        tips = [(0, 0, 0), (Fraction(1, p), 0, 0), (0, Fraction(1, q), 0), (0, 0, Fraction(1, r))]
+        tetrahedron = [[tips[a], tips[b], tips[c]] for a, b, c in ((0, 2, 1), (0, 1, 3), (0, 3, 2), (1, 2, 3))]
+        self.assertIn("; volume about 1.66666666667e-109; ", self.told(off(tetrahedron)))
+
+    def test_info_writes_nothing(self):
+        file = self.file("a.4off", BLOCK)
+        done = subprocess.run([TOP + "/off2stl", "--info", file], capture_output=True, check=True)
+        expected = "6 faces, 12 triangles, closed; box 20 x 12 x 16; volume 3840; 0 corners rounded"
+        self.assertEqual(done.stdout.decode(), f"{file}: {expected}\n")
+        self.assertEqual((done.stderr, os.listdir(self.folder)), (b"", ["a.4off"]))
+
+
+class Formats(Case):
+    def write(self, data, ending, *words):
+        """Writes a solid called a-b in the format of an ending; gives the name of the file."""
+        status, line = self.call(*words, "-o", self.path("new." + ending), self.file("a b.4off", data))
+        self.assertEqual(status, 0, line)
+        return "new." + ending
+
+    def test_stl(self):
+        triangles, normals = self.triangles(self.write(off(split_box()), "stl", "--unit", "1/10"))
+        self.assertEqual(len(triangles), 16)
+        self.assert_closed(triangles, Fraction(2, 1000))
+        self.assertEqual(set(normals), {(1, 0, 0), (-1, 0, 0), (0, 1, 0), (0, -1, 0), (0, 0, 1), (0, 0, -1)})
+        self.assertTrue(self.bytes_of("new.stl").startswith(b"solid a_b\nfacet normal -1 0 0\nouter loop\n"))
+
+    def test_normals_have_length_1(self):
+        _, normals = self.triangles(self.write(CUT_CUBE, "stl"))
+        slanted = [normal for normal in normals if 0 not in normal]
+        self.assertEqual(len(slanted), 1)
+        for part, expected in zip(slanted[0], (2, 3, 3)):
+            self.assertAlmostEqual(part, expected / 22**0.5, 8)
+
+    def test_binary_stl(self):
+        data = self.bytes_of(self.write(off(split_box()), "stl", "--format", "binstl", "--unit", "1/2"))
+        self.assertEqual(data[:18], b"binary STL of a_b\0")
+        self.assertEqual((len(data), struct.unpack_from("<I", data, 80)), (84 + 50 * 16, (16,)))
+        records = [struct.unpack_from("<12fH", data, 84 + 50 * at) for at in range(16)]
+        self.assert_closed([(r[3:6], r[6:9], r[9:12]) for r in records], Fraction(1, 4))
+        self.assertEqual({r[12] for r in records}, {0})
+
+    def test_rounding_to_singles(self):
+        file = self.file("a.4off", BLOCK)
+        # 20, 12 and 16 times 2 to the power 24 and 1 have too many bits for a single, and none for a double.
+        for unit, rounded in (("1/10", 6), ("1/4", 0), ("1/134217728", 0), ("16777217", 7)):
+            _, line = self.call("--format", "binstl", "--unit", unit, "-o", self.path("a.stl"), file)
+            self.assertTrue(line.endswith(f"; {rounded} corners rounded\n"), line)
+
+    def test_off_and_obj(self):
+        lines = self.bytes_of(self.write(off(split_box()), "off")).decode().split("\n")
+        self.assertEqual((lines[:2], lines.pop()), (["OFF", "10 16 0"], ""))
+        points = [tuple(map(Fraction, line.split())) for line in lines[2:12]]
+        faces = [list(map(int, line.split())) for line in lines[12:]]
+        self.assertEqual({face[0] for face in faces}, {3})
+        self.assert_closed([tuple(points[at] for at in face[1:]) for face in faces], 2)
+        lines = self.bytes_of(self.write(off(split_box()), "obj")).decode().split("\n")
+        self.assertEqual((lines[0], lines.pop()), ("o a_b", ""))
+        self.assertEqual([tuple(map(Fraction, line[2:].split())) for line in lines[1:11]], points)
+        others = [tuple(points[int(at) - 1] for at in line[2:].split()) for line in lines[11:]]
+        self.assertEqual({line[:2] for line in lines[11:]}, {"f "})
+        self.assert_closed(others, 2)
+
+    def test_3mf(self):
+        name = self.write(off(split_box()), "3mf")
+        first = self.bytes_of(name)
+        with zipfile.ZipFile(self.path(name)) as package:
+            self.assertIsNone(package.testzip())
+            self.assertEqual(package.namelist(), ["[Content_Types].xml", "_rels/.rels", "3D/3dmodel.model"])
+            types, relations, model = (ElementTree.fromstring(package.read(part)) for part in package.namelist())
+        core = "{http://schemas.microsoft.com/3dmanufacturing/core/2015/02}"
+        self.assertEqual((model.tag, model.get("unit")), (core + "model", "millimeter"))
+        self.assertEqual(relations[0].get("Target"), "/3D/3dmodel.model")
+        self.assertEqual({kind.get("Extension") for kind in types}, {"rels", "model"})
+        points = [tuple(Fraction(vertex.get(axis)) for axis in "xyz") for vertex in model.iter(core + "vertex")]
+        triangles = [tuple(points[int(it.get(f"v{at}"))] for at in "123") for it in model.iter(core + "triangle")]
+        self.assert_closed(triangles, 2)
+        item, thing = model.find(f"{core}build/{core}item"), model.find(f"{core}resources/{core}object")
+        self.assertEqual(item.get("objectid"), thing.get("id"))
+        self.write(off(split_box()), "3mf")
+        self.assertEqual(self.bytes_of(name), first)
+
+    def test_capital_endings_and_formats_that_are_told(self):
+        self.assertTrue(self.bytes_of(self.write(BLOCK, "OBJ")).startswith(b"o a_b\n"))
+        self.assertTrue(self.bytes_of(self.write(BLOCK, "txt", "--format", "off")).startswith(b"OFF\n"))
+
+
+class Faults(Case):
+    def test_the_empty_solid(self):
+        file = self.file("a.4off", EMPTY)
+        self.assert_fault(1, ["-o", self.path("a.stl"), file], "a.4off: the solid is empty, so nothing is written\n")
+        self.assert_fault(1, ["--info", file], "a.4off: the solid is empty")
+
+    def test_words(self):
+        file = self.file("a.4off", BLOCK)
+        for words in ("--wide", "--uni 2", "--format ply", "--format", "-o", "--info -o a.stl", "b.4off"):
+            self.assert_fault(2, [file, *words.split()], "off2stl: ")
+        for unit in ("0", "0/7", "1/0", "-1", "1e9", "1.", ".5", "1/2/3", "x", "", " 1", "1" * 10, "0.0"):
+            self.assert_fault(2, [f"--unit={unit}", file], "is no number above 0")
+        for out in ("a", "a.ply", "stl"):
+            self.assert_fault(2, ["-o", self.path(out), file], "is no format: say --format")
+
+    def test_files(self):
+        out = ["-o", self.path("a.stl")]
+        self.assert_fault(2, [*out, self.path("none.4off")], "off2stl: cannot open none.4off: No such file or directory\n")
+        self.assert_fault(2, [*out, self.folder], "Is a directory\n")
+        self.assert_fault(2, [*out, "a\0b"], "off2stl: cannot open a\0b: ")
+        file = self.file("a.off", BLOCK)
+        os.symlink(file, self.path("b.off"))
+        for out in (file, self.path("b.off")):
+            self.assert_fault(2, ["-o", out, file], ".off: that is the 4OFF text itself\n")
+            self.assertEqual(self.bytes_of("a.off"), BLOCK)
+        self.assert_fault(2, ["-o", self.path("none/a.stl"), file], "off2stl: cannot write none/a.stl: No such file or directory\n")
+        os.mkdir(self.path("folder.stl"))
+        self.assert_fault(2, ["-o", self.path("folder.stl"), file], "off2stl: cannot write folder.stl: Is a directory\n")
+
+    def test_texts(self):
+        for data, said in (
+            (b"", "a.4off:1: the text is empty\n"),
+            (b"part.scad:2:10: error: NotWhole\n", "a.4off:1: the first line is not '4OFF'\n"),
+            (BLOCK[:-1], "a.4off:16: the text breaks off: no newline at its end\n"),
+            (off(box((0, 0, 0), (1, 1, 1))[1:]), "a.4off: not closed: 4 edges are not met as often one way as the other\n"),
+            (off([face[::-1] for face in box((0, 0, 0), (1, 2, 3))]), "a.4off: its faces look inward: the volume is -6\n"),
+        ):
+            self.file("old.stl", b"as it was")
+            self.assert_fault(2, ["-o", self.path("old.stl"), self.file("a.4off", data)], said)
+            self.assertEqual(self.bytes_of("old.stl"), b"as it was")
+
+    def test_a_write_that_fails_leaves_the_old_file(self):
+        file, old = self.file("a.4off", BLOCK), self.file("old.stl", b"as it was")
+        with mock.patch("os.replace", side_effect=OSError(28, "No space left on device")):
+            self.assert_fault(2, ["-o", old, file], "off2stl: cannot write old.stl: No space left on device\n")
+        self.assertEqual(self.bytes_of("old.stl"), b"as it was")
+
+    @unittest.skipUnless(os.path.exists("/dev/full"), "there is no /dev/full")
+    def test_standard_output_that_is_full(self):
+        with open("/dev/full", "wb") as full:
+            done = subprocess.run([TOP + "/off2stl"], input=BLOCK, stdout=full, stderr=subprocess.PIPE, check=False)
+        self.assertEqual((done.returncode, done.stderr), (2, b"off2stl: cannot write standard output: No space left on device\n"))
+
+
+class Calling(Case):
+    def test_through_a_link_from_a_pipe(self):
+        link = self.path("link")
+        os.symlink(TOP + "/off2stl", link)
+        for words in ([], ["-"], ["-o", "-"]):
+            done = subprocess.run([link, *words], input=BLOCK, capture_output=True, cwd=self.folder, check=True)
+            self.assertTrue(done.stdout.startswith(b"solid solid\n"))
+            self.assertTrue(done.stderr.startswith(b"<stdin>: 6 faces"))
+
+    def test_a_reader_that_leaves(self):
+        part = self.file("a.4off", gallery()["menger"])
+        done = subprocess.run(f"'{TOP}/off2stl' '{part}' | head -n 1", shell=True, capture_output=True, check=True)
+        self.assertEqual((done.stdout, done.stderr), (b"solid a\n", b""))
+
+    def test_a_file_is_replaced_as_it_was(self):
+        old = self.file("old.stl", b"as it was")
+        os.chmod(old, 0o640)
+        os.symlink(old, self.path("link.stl"))
+        self.assertEqual(self.call("-o", self.path("link.stl"), self.file("-a=b.4off", BLOCK))[0], 0)
+        self.assertTrue(os.path.islink(self.path("link.stl")))
+        self.assertEqual(stat.S_IMODE(os.stat(old).st_mode), 0o640)
+        self.assertTrue(self.bytes_of("old.stl").startswith(b"solid -a_b\n"))
+        self.assertEqual(sorted(os.listdir(self.folder)), ["-a=b.4off", "link.stl", "old.stl"])
+
+    def test_help(self):
+        with contextlib.redirect_stdout(io.StringIO()) as out, self.assertRaises(SystemExit) as ended:
+            off2stl.main(["--help"])
+        self.assertEqual(ended.exception.code, 0)
+        for word in ("--unit", "--format", "--info", "-o OUT", "FILE"):
+            self.assertIn(word, out.getvalue())
+
+
+if __name__ == "__main__":
+    unittest.main()

@@ -1,0 +1,153 @@
+"""The options of scad2off, and the statuses it ends with."""
+
+import os
+import signal
+import subprocess
+import time
+import unittest
+
+from tests.calls import TOP, Calls
+from tests.stand_in import BOX
+
+BOX_6, BOX_8 = (BOX.format(it).encode() for it in (6, 8))
+
+
+class Words(Calls):
+    def test_a_variable_is_assigned_behind_the_source(self):
+        self.write("part.scad", "w=6;")
+        self.assertEqual(self.call("-D", "w=8", "part.scad"), (0, BOX_8, b""))
+        self.assertEqual(self.call("-Dw=1", "-D", "w=6", "part.scad", "-D", "$fn=4"), (0, BOX_6, b""))
+        self.assertEqual(self.runs()[1][1], b"a put 1 w=6;\na put 2 w=1;\na put 3 w=6;\na put 4 $fn=4;\na export\n")
+
+    def test_a_fault_in_an_assignment_is_told_of_it(self):
+        self.write("part.scad", "w=6;\n")
+        status, out, error = self.call("-D", "h=3", "-D", "w=2.5", "part.scad")
+        self.assertEqual((status, out), (1, b""))
+        self.assertEqual(
+            error.decode().splitlines()[:3],
+            ["-D w=2.5: error: NotWhole: 2.5 is no whole number (with part.scad)", "    w=2.5;", "      ^"],
+        )
+
+    def test_a_limit_that_an_assignment_passes_is_told_of_it(self):
+        status, _, error = self.call("-D", "w=8", self.write("part.scad", b"\n" * 4_096))
+        self.assertEqual(status, 1)
+        self.assertTrue(error.startswith(b"-D w=8: error: TooManyLines: "), error)
+
+    def test_a_file_that_ends_in_the_middle_of_a_statement_is_told_of_its_end(self):
+        self.write("open.scad", "w=6;\n//= open\n")
+        self.write("good.scad", "w=6;\n")
+        self.write("half.scad", "cube(2.5);\n")
+        status, _, error = self.call("-D", "w=8", "-d", "out", "open.scad", "half.scad", "good.scad")
+        self.assertEqual(status, 1)
+        firsts = [it for it in error.decode().splitlines() if "error" in it]
+        self.assertEqual(
+            firsts,
+            [
+                "open.scad:3:1: error: Expected: the source ends in the middle of a statement",
+                "half.scad:1:6: error: NotWhole: 2.5 is no whole number",
+            ],
+        )
+        self.assertEqual(self.read("out/good.4off"), BOX_8)
+
+    def test_half_units_are_asked_of_the_server(self):
+        self.call("--half", self.write("part.scad", "w=6;\n"))
+        self.assertEqual(self.runs()[0][0], b"run --half")
+
+    def test_help_tells_each_option(self):
+        status, out, error = self.call("--help")
+        self.assertEqual((status, error), (0, b""))
+        for option in (b"-o", b"-d", b"--half", b"-D", b"--allow-empty", b"--script", b"--explain", b"--"):
+            self.assertIn(b"\n  %b " % option, out)
+
+    def test_wrong_words_are_told_and_nothing_runs(self):
+        self.write("a.scad", "")
+        os.makedirs(self.path("b/c"))
+        self.write("b/a.scad", "")
+        self.write("b/x.scad", "")
+        self.write("x.4off", "")
+        for words, said in (
+            ([], "no FILE is named"),
+            (["--nonsense", "a.scad"], "option --nonsense not recognized"),
+            (["-x"], "option -x not recognized"),
+            (["-o"], "option -o requires argument"),
+            (["a.scad", "b/a.scad"], "several FILEs need -d DIR"),
+            (["-d", "out", "-o", "out", "a.scad"], "-o and -d can't both be given"),
+            (["-d", "out", "--script", "a.scad"], "--script prints one script"),
+            (["-d", "out", "a.scad", "b/a.scad"], "a.scad and b/a.scad would both be written to out/a.4off"),
+            (["-d", "out", "-"], "`-` is read once, and has no name for -d"),
+            (["-D", "w", "a.scad"], "-D takes NAME=VALUE, and not w"),
+            (["-D", "2=w", "a.scad"], "-D takes NAME=VALUE, and not 2=w"),
+            (["-D", "w=1\nx=2", "a.scad"], "-D takes NAME=VALUE"),
+            (["-o", "a.scad", "a.scad"], "cannot write a.scad: that is a source"),
+            (["-d", ".", "b/x.scad", "x.4off"], "cannot write ./x.4off: that is a source"),
+            (["-o", "b", "a.scad"], "cannot write b: Is a directory"),
+            (["-o", "no/a.4off", "a.scad"], "cannot write no/a.4off: No such file or directory"),
+            (["-d", "a.scad", "a.scad"], "cannot make the folder a.scad: File exists"),
+        ):
+            with self.subTest(words=words):
+                status, out, error = self.call(*words)
+                self.assertEqual((status, out), (2, b""))
+                self.assertIn(said, error.decode())
+                self.assertEqual(error.count(b"scad2off: "), 1)
+        self.assertEqual(self.runs(), [])
+        self.assertNotIn("out", self.names())
+
+    def test_the_script_is_printed_and_not_run(self):
+        for name in ("box", "bracket", "family", "fault", "plate"):
+            path = os.path.join(TOP, "examples", name)
+            with open(f"{path}.script", "rb") as script:
+                self.assertEqual(self.call("--script", f"{path}.scad"), (0, script.read(), b""))
+        self.write("a.scad", "w=1;\n")
+        self.write("b.scad", "w=2;\n")
+        self.assertEqual(self.call("--script", "-o", "two.script", "a.scad", "b.scad"), (0, b"", b""))
+        self.assertEqual(self.read("two.script"), b"a put 1 w=1;\na export\nb put 1 w=2;\nb export\n")
+        self.assertEqual(self.runs(), [])
+
+
+class Statuses(Calls):
+    def test_a_fault_of_the_server_is_its_status(self):
+        for status, said in (
+            (3, "what it was sent is no script"),
+            (4, "it could not read what it was sent"),
+            (5, "it could not write its output"),
+            (6, "memory ran out: convert fewer files at once"),
+            (125, "without an answer"),
+            (77, "the server ended with status 77"),
+        ):
+            with self.subTest(status=status):
+                ended, out, error = self.call(self.write("part.scad", f"//= status {status}\n"), "-o", "out.4off")
+                self.assertEqual((ended, out, self.names()), (status, b"", ["part.scad"]))
+                self.assertIn(said, error.decode())
+                self.assertEqual(len(error.splitlines()), 1)
+
+    def test_an_answer_that_cannot_be_is_no_solid(self):
+        for line in ("//= cut off", "//= silence", "//= solid 3", "//= complex", "//= ok 1"):
+            with self.subTest(line=line):
+                status, out, error = self.call(self.write("part.scad", line))
+                self.assertEqual((status, out), (125, b""))
+                self.assertTrue(error.startswith(b"scad2off: the server's output is no answer: "), error)
+
+    def test_a_server_that_does_not_start_is_told(self):
+        self.assertEqual(
+            self.call(self.write("part.scad", ""), environment={"SCADSERVE": "/no/server"}),
+            (127, b"", b"scad2off: /no/server does not start: No such file or directory\n"),
+        )
+
+    def test_an_interrupt_ends_the_server_too_and_leaves_no_file(self):
+        self.write("part.scad", "//= wait\n")
+        for number, status in ((signal.SIGINT, 130), (signal.SIGTERM, 143)):
+            with self.subTest(status=status):
+                began = len(self.runs())
+                tool = subprocess.Popen(
+                    [os.path.join(TOP, "scad2off"), "part.scad", "-o", "part.4off"], cwd=self.folder, env=self.environment,
+                    stderr=subprocess.PIPE, preexec_fn=lambda: signal.signal(signal.SIGINT, signal.default_int_handler),
+                )
+                while len(self.runs()) == began:
+                    time.sleep(0.02)
+                tool.send_signal(number)
+                error = tool.communicate(timeout=20)[1]
+                self.assertEqual((tool.returncode, error, self.names()), (status, b"", ["part.scad"]))
+
+
+if __name__ == "__main__":
+    unittest.main()
