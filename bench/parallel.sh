@@ -14,8 +14,8 @@ trap 'exit 1' HUP INT TERM
 mkdir "$work/parts"
 for number in $(seq 1024); do
     cat >"$work/parts/plate$number.scad" <<END
-n = $((number % 16 + 1));
-h = $((number / 16 + 1));
+n = $((number % 8 + 1));
+h = $((number / 8 + 1));
 difference() {
   cube([4 * n + 2, 4 * n + 2, h]);
   for (x = [0 : n - 1], y = [0 : n - 1]) translate([4 * x + 2, 4 * y + 2, 0]) cube([2, 2, h]);
