@@ -18,7 +18,7 @@ PROGRAM = TOP / "crates/scadserve/out/scadserve"
 DOCUMENTS = [TOP / "README.md", *sorted((TOP / "docs").glob("*.md"))]
 
 SECTION = re.compile(
-    r"## (?P<word>\w+)\n\n(?:(?P<block>(?:    .+\n)+)|Source: none is known\..*\n)\n"
+    r"## (?P<word>\w+)\n\n(?:(?P<block>(?:    .+\n)+)|Source: none is known.+\n)\n"
     r"Answer: `(?P<answer>[^`\n]+)`\n\nCause: (?P<cause>.+?)\n\nCure: (?P<cure>.+?)\n(?:\n(?P<cured>(?:    .+\n)+))?",
     re.DOTALL,
 )
@@ -30,7 +30,7 @@ WORDS = {
     "crates/script_service/src/status.rt": r"^    (\w+),$",
 }
 # Answers that no source is known to have.
-UNKNOWN = {"corners", "vertices"}
+UNKNOWN = {"corners", "vertices", "NoMemory"}
 
 
 class Section(NamedTuple):
