@@ -129,6 +129,40 @@ class Program(Calls):
         self.assertEqual(replies[0], Fault(1, 1, "NotOnGrid"))
         self.assertIn(b"\n-3 -3 -3 2\n", replies[1].text)
 
+    def test_a_source_that_makes_nothing_is_told_unless_it_is_allowed(self):
+        sources = [b"", b"// cube(1);\n/* cube(1); */", b"// one\rcube(1);\r", b"*cube(1);"]
+        for source in [*sources, b"difference() { union(); cube(1); }\n"]:
+            with self.subTest(source=source):
+                status, out, error = self.call(self.write("part.scad", source), "-o", "part.4off")
+                self.assertEqual((status, out, self.names()), (1, b"", ["part.scad"]))
+                self.assertTrue(error.startswith(b"part.scad: error: Empty: "), error)
+                self.assertEqual(self.call("part.scad", "--allow-empty"), (0, b"4OFF\n0 0 0\n", b""))
+
+    def test_a_byte_of_0_hides_nothing(self):
+        self.write("part.scad", b"// \x00\ncube(1); // \x00 cube(9);\nw = 2; /* \x00 */ w = 3; translate([1, 0, 0]) cube(w);")
+        self.assertIn(b"\n4 3 3 1\n", self.call("part.scad")[1])
+        error = self.call(self.write("part.scad", b"cube(\x00);"))[2]
+        self.assertTrue(error.startswith(b"part.scad:1:6: error: BadCharacter: "), error)
+
+    def test_an_assignment_behind_the_source_counts(self):
+        self.write("part.scad", "w = 2; cube(w);\n")
+        self.assertIn(b"\n8 8 8 1\n", self.call("part.scad", "-D", "w=3", "-D", "w=2 * 4")[1])
+        error = self.call("part.scad", "-D", "w=7 / 2")[2]
+        said = "-D w=7 / 2: error: NotWhole: what / gives is no whole number (with part.scad)\n"
+        self.assertTrue(error.decode().startswith(said), error)
+
+    def test_a_source_is_told_of_its_own_end_and_not_of_assignments_behind_it(self):
+        for source, said in (
+            ("cube(2));", "1:8: error: Expected: ) can't follow"),
+            ("cube(2", "2:1: error: Expected: the source ends in the middle"),
+            ("translate([1, 0, 0])", "2:1: error: Expected: the source ends in the middle"),
+            ("module m() {\n", "2:1: error: Expected: the source ends in the middle"),
+            ("x = 5 +", "2:1: error: Expected: the source ends in the middle"),
+        ):
+            with self.subTest(source=source):
+                error = self.call(self.write("part.scad", source), "-D", "w=8")[2]
+                self.assertTrue(error.decode().startswith(f"part.scad:{said}"), error)
+
     def test_a_solid_past_a_limit_is_told(self):
         bars = "module bars(v, s) for (i = [0 : 14]) translate(2 * i * v) cube(s);\nintersection() {\n"
         bars += "bars([1, 0, 0], [1, 30, 30]); bars([0, 1, 0], [30, 1, 30]); bars([0, 0, 1], [30, 30, 1]); }\n"
