@@ -90,7 +90,7 @@ def _parts(options: Options) -> List[Part]:
             # (a source that is larger than a script is past a limit)
             lines = read_file(file, SCRIPT_BYTES + 1).split(b"\n")
         except OSError as error:
-            refused.append(f"cannot open {file}: {error.strerror}")
+            refused.append(f"cannot open {'standard input' if file == '-' else file}: {error.strerror}")
             continue
         if os.path.isfile(out) and _identity(out) in sources:
             refused.append(f"cannot write {out}: that is a source")

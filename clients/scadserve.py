@@ -90,33 +90,28 @@ class Client:
 
     def put(self, number: int, text: bytes) -> int:
         """Makes a text, which has no newline, the line of this number, from 1; that line and later ones move down."""
-        return self._add(b"put %d %b" % (number, text))
+        return self._add([b"put %d %b" % (number, text)])[0]
 
     def set(self, number: int, text: bytes) -> int:
         """Makes the line of this number another text."""
-        return self._add(b"set %d %b" % (number, text))
+        return self._add([b"set %d %b" % (number, text)])[0]
 
     def cut(self, first: int, last: int) -> int:
         """Removes the lines from the first number to the last."""
-        return self._add(b"cut %d %d" % (first, last))
+        return self._add([b"cut %d %d" % (first, last)])[0]
 
     def show(self) -> int:
         """Asks for the lines: a Text."""
-        return self._add(b"show")
+        return self._add([b"show"])[0]
 
     def export(self) -> int:
         """Asks for the solid of the source: a Solid, a Fault or a Complex."""
-        return self._add(b"export")
+        return self._add([b"export"])[0]
 
     def source(self, lines: Sequence[bytes]) -> range:
         """Makes these lines the whole source, by a cut of the old ones and a put for each, and gives the places of their
         replies. Adds all of these commands, or none."""
-        commands = self._rewriting(lines)
-        self._test(commands)
-        first = self._commands
-        for command in commands:
-            self._add(command)
-        return range(first, self._commands)
+        return self._add(self._rewriting(lines))
 
     def has_room(self, lines: Sequence[bytes]) -> bool:
         """Whether these lines can be made the whole source and be exported."""
@@ -133,14 +128,16 @@ class Client:
         held = len(self._session.lines)
         return [b"cut 1 %d" % held] * (held > 0) + _puts(self._name, lines)
 
-    def _add(self, command: bytes) -> int:
-        self._test([command])
-        answer = self._session.answer(command)
-        if isinstance(answer, Refused):
-            raise Limit(answer.word)
-        self._script._append(_line(self._name, command))
-        self._commands += 1
-        return self._commands - 1
+    def _add(self, commands: Sequence[bytes]) -> range:
+        """Adds one command, or several that no session refuses, and gives the places of their replies."""
+        self._test(commands)
+        for command in commands:
+            answer = self._session.answer(command)
+            if isinstance(answer, Refused):
+                raise Limit(answer.word)
+            self._script._append(_line(self._name, command))
+        self._commands += len(commands)
+        return range(self._commands - len(commands), self._commands)
 
     def _test(self, commands: Sequence[bytes]) -> None:
         """Raises Limit where the script can't go on with these commands, and ValueError where one is no line."""

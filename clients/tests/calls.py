@@ -2,6 +2,7 @@
 
 import os
 import subprocess
+import sys
 import tempfile
 import unittest
 
@@ -9,10 +10,12 @@ TOP = os.path.dirname(os.path.dirname(os.path.dirname(os.path.realpath(__file__)
 STAND_IN = os.path.join(TOP, "clients", "tests", "stand_in.py")
 
 
-class Calls(unittest.TestCase):
-    """A test that calls tools; `self.folder` is the folder they are called in, and `self.log` has what the server was sent."""
+# (without the packages of the machine, which Python is slow to look for)
+SCAD2OFF = [sys.executable, "-S", os.path.join(TOP, "scad2off")]
 
-    tool = "scad2off"
+
+class Calls(unittest.TestCase):
+    """A test that calls tools in the folder `self.folder`; `self.log` has what the server was sent."""
 
     def setUp(self):
         folder = tempfile.TemporaryDirectory()
@@ -41,10 +44,9 @@ class Calls(unittest.TestCase):
         return sorted(os.listdir(self.folder))
 
     def call(self, *words, stdin=b"", tool=None, environment=None):
-        """The status, the standard output and the standard error of a call."""
-        tool = tool or os.path.join(TOP, self.tool)
-        environment = {**self.environment, **(environment or {})}
-        done = subprocess.run([tool, *words], input=stdin, capture_output=True, cwd=self.folder, env=environment, timeout=50)
+        """The status, the standard output and the standard error of a call, of scad2off where no tool is named."""
+        how = {"cwd": self.folder, "env": {**self.environment, **(environment or {})}, "timeout": 100}
+        done = subprocess.run([*([tool] if tool else SCAD2OFF), *words], input=stdin, capture_output=True, **how)
         return done.returncode, done.stdout, done.stderr
 
     def runs(self):

@@ -1,10 +1,11 @@
-#!/usr/bin/env python3
+#!/usr/bin/env -S python3 -S
 """Stands in for the server in tests of its clients: answers scripts at once, in the server's form, and evaluates nothing.
 
-A source is a box with sides of 1, or of what the last `w=N` in it says. A number with a fraction is a fault, as in the server.
-A line `//= WORDS` of a source asks for another answer: `empty`, `open` (a statement that the next line would end), `nomem`, or
-a reply of one line. A line that is put with `//= unput` is answered nomem. Words for the whole run are `//= status N`,
-`//= cut off`, `//= silence` and `//= wait`. With STAND_IN_LOG each run's words and script are left in files of that folder.
+A source is a box with sides of 1, or of what the last `w=N` in it says. A number with a fraction is a fault, as it is for the
+server. A line `//= WORDS` of a source asks for another answer: `empty`, `open` (a statement that the next line would end),
+`nomem`, or a reply of one line. A line that is put as `//= unput` is answered nomem. Words for the whole run are
+`//= status N`, `//= cut off`, `//= silence` and `//= wait`. With STAND_IN_LOG each run's words and script are left in files of
+that folder.
 """
 
 import os

@@ -7,7 +7,7 @@ from tests.calls import TOP, Calls
 
 CASE = "import unittest\nclass Case(unittest.TestCase):\n"
 PASSES = CASE + "    def test(self):\n        pass\n"
-FAILS = CASE + "    def test(self):\n        for it in (1, 2):\n            with self.subTest(it):\n                self.fail()\n"
+FAILS = CASE + "    def test(self):\n        for it in 1, 2:\n            with self.subTest(it):\n                self.fail()\n"
 SKIPS = CASE + "    @unittest.skip('not here')\n    def test(self):\n        pass\n"
 
 

@@ -74,13 +74,13 @@ class Files(Calls):
                     if feed:
                         feed.join()
                     self.assertEqual((status, out), wanted)
-                    if status:
-                        self.assertEqual(error.decode().splitlines()[0], f"{name}:1:3: error: NotWhole: 6.5 is no whole number")
+                    first = f"{name}:1:3: error: NotWhole: 6.5 is no whole number\n" if status else ""
+                    self.assertTrue(error.decode().startswith(first), error)
 
     def test_the_output_of_a_command_is_a_file(self):
         tool = os.path.join(TOP, "scad2off")
         done = subprocess.run(
-            ["bash", "-c", f"'{tool}' <(echo 'w=6;')"], capture_output=True, cwd=self.folder, env=self.environment, timeout=50
+            ["bash", "-c", f"'{tool}' <(echo 'w=6;')"], capture_output=True, cwd=self.folder, env=self.environment, timeout=100
         )
         self.assertEqual((done.returncode, done.stdout, done.stderr), (0, BOX_6, b""))
 
@@ -186,7 +186,8 @@ class Calling(Calls):
     def test_it_is_called_with_a_path_for_cd(self):
         self.write("part.scad", "w=6;\n")
         os.makedirs(self.path("clients"))
-        self.assertEqual(self.call("part.scad", environment={"CDPATH": f"{self.folder}:/"}), (0, BOX_6, b""))
+        tool = os.path.join(TOP, "scad2off")
+        self.assertEqual(self.call("part.scad", tool=tool, environment={"CDPATH": f"{self.folder}:/"}), (0, BOX_6, b""))
 
 
 if __name__ == "__main__":

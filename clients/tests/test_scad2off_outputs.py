@@ -4,7 +4,7 @@ import os
 import subprocess
 import unittest
 
-from tests.calls import TOP, Calls
+from tests.calls import SCAD2OFF, Calls
 from tests.stand_in import BOX
 
 BOX_6 = BOX.format(6).encode()
@@ -48,8 +48,8 @@ class Outputs(Calls):
         for words, to in ((["-o", "/dev/full"], "/dev/null"), ([], "/dev/full")):
             with open(to, "wb") as out:
                 done = subprocess.run(
-                    [os.path.join(TOP, "scad2off"), "part.scad", *words],
-                    stdout=out, stderr=subprocess.PIPE, cwd=self.folder, env=self.environment, timeout=50,
+                    [*SCAD2OFF, "part.scad", *words],
+                    stdout=out, stderr=subprocess.PIPE, cwd=self.folder, env=self.environment, timeout=100,
                 )
             name = "/dev/full" if words else "standard output"
             said = f"scad2off: cannot write {name}: No space left on device\n"
@@ -61,8 +61,8 @@ class Outputs(Calls):
         os.close(to_read)
         try:
             done = subprocess.run(
-                [os.path.join(TOP, "scad2off"), "part.scad"],
-                stdout=to_write, stderr=subprocess.PIPE, cwd=self.folder, env=self.environment, timeout=50,
+                [*SCAD2OFF, "part.scad"],
+                stdout=to_write, stderr=subprocess.PIPE, cwd=self.folder, env=self.environment, timeout=100,
             )
         finally:
             os.close(to_write)

@@ -6,7 +6,7 @@ import subprocess
 import time
 import unittest
 
-from tests.calls import TOP, Calls
+from tests.calls import SCAD2OFF, TOP, Calls
 from tests.stand_in import BOX
 
 BOX_6, BOX_8 = (BOX.format(it).encode() for it in (6, 8))
@@ -139,13 +139,13 @@ class Statuses(Calls):
             with self.subTest(status=status):
                 began = len(self.runs())
                 tool = subprocess.Popen(
-                    [os.path.join(TOP, "scad2off"), "part.scad", "-o", "part.4off"], cwd=self.folder, env=self.environment,
+                    [*SCAD2OFF, "part.scad", "-o", "part.4off"], cwd=self.folder, env=self.environment,
                     stderr=subprocess.PIPE, preexec_fn=lambda: signal.signal(signal.SIGINT, signal.default_int_handler),
                 )
                 while len(self.runs()) == began:
                     time.sleep(0.02)
                 tool.send_signal(number)
-                error = tool.communicate(timeout=20)[1]
+                error = tool.communicate(timeout=100)[1]
                 self.assertEqual((tool.returncode, error, self.names()), (status, b"", ["part.scad"]))
 
 

@@ -8,7 +8,7 @@ import unittest
 import scadserve
 from scadserve import Fault, Limit, Malformed, Ok, Script, Solid, Text, passed_limit, run
 
-STAND_IN = (sys.executable, os.path.join(os.path.dirname(os.path.realpath(__file__)), "stand_in.py"))
+STAND_IN = (sys.executable, "-S", os.path.join(os.path.dirname(os.path.realpath(__file__)), "stand_in.py"))
 MIB = 1_048_576
 
 

@@ -49,7 +49,8 @@ class Unproved(Calls):
         self.program("bin/rt", RT.replace("{STATUS}", str(status)).replace("{ALSO}", also))
 
     def serve(self, *words, tool=None, environment=None):
-        status, out, error = self.call(*words, stdin=b"a show\n", tool=tool or f"{self.top}/scadserve", environment=environment)
+        tool = tool or f"{self.top}/scadserve"
+        status, out, error = self.call(*words, stdin=b"a show\n", tool=tool, environment=environment)
         self.assertEqual(os.listdir(self.log), [])
         return status, out, error.decode()
 
@@ -86,10 +87,8 @@ class Unproved(Calls):
         self.rt(also=PAST_1_MIB)
         status, _, error = self.serve("run")
         self.assertEqual(status, 125)
-        self.assertEqual(
-            error.splitlines()[1:],
-            ["scadserve: an unproved run can write 1 MiB at most, and this one would write more: the program that `rt ci` builds can"],
-        )
+        [said] = error.splitlines()[1:]
+        self.assertTrue(said.startswith("scadserve: an unproved run can write 1 MiB at most, and this one would write more"))
 
     def test_a_missing_rt_is_told(self):
         status, out, error = self.serve("run")
@@ -103,7 +102,7 @@ class Unproved(Calls):
             ["sh", "-c", f"(echo 'a show'; /bin/sleep 1; echo 'b show') | '{self.top}/scadserve' run"],
             stdout=subprocess.PIPE, stderr=subprocess.DEVNULL, env=self.environment,
         )
-        self.assertEqual(tool.communicate(timeout=50)[0], b"a show\nb show\n")
+        self.assertEqual(tool.communicate(timeout=100)[0], b"a show\nb show\n")
 
     def test_a_demonstration_reads_nothing(self):
         self.rt()
