@@ -7,14 +7,17 @@ built, each is run. A block below a cure is a source that is answered by a solid
 from __future__ import annotations
 
 import re
+import shlex
 import subprocess
 import sys
 import unittest
 from pathlib import Path
 from typing import Dict, List, NamedTuple
 
-TOP = Path(__file__).resolve().parents[2]
-PROGRAM = TOP / "crates/scadserve/out/scadserve"
+from tests import calls
+from tests.calls import PROGRAM, needs_program
+
+TOP = Path(calls.TOP)
 DOCUMENTS = [TOP / "README.md", *sorted((TOP / "docs").glob("*.md"))]
 
 SECTION = re.compile(
@@ -90,7 +93,7 @@ class Faults(unittest.TestCase):
     def test_only_these_words_have_no_source(self) -> None:
         self.assertEqual({word for word, it in sections().items() if not it.source}, UNKNOWN)
 
-    @unittest.skipUnless(PROGRAM.exists(), "the proved program isn't built")
+    @needs_program
     def test_sources_have_their_answers(self) -> None:
         found = [(word, it) for word, it in sections().items() if it.source and not it.source[0].startswith("$")]
         for at in range(0, len(found), 16):
@@ -98,18 +101,18 @@ class Faults(unittest.TestCase):
             for (word, it), answer in zip(found[at : at + 16], said):
                 self.assertEqual(answer, it.answer, word)
 
-    @unittest.skipUnless(PROGRAM.exists(), "the proved program isn't built")
+    @needs_program
     def test_cured_sources_are_solids(self) -> None:
         found = [(word, it.cured) for word, it in sections().items() if it.cured]
         for at in range(0, len(found), 16):
             for (word, _), answer in zip(found[at : at + 16], answers([it for _, it in found[at : at + 16]])):
                 self.assertTrue(answer.startswith("solid ") and answer != "solid 2", f"{word}: {answer}")
 
-    @unittest.skipUnless(PROGRAM.exists(), "the proved program isn't built")
+    @needs_program
     def test_commands_have_their_answers(self) -> None:
         for word, it in sections().items():
             if it.source and it.source[0].startswith("$"):
-                command = "\n".join(it.source)[2:]
+                command = "\n".join(it.source)[2:].replace("./scadserve", shlex.quote(PROGRAM))
                 said = subprocess.run(command, shell=True, cwd=TOP, stdout=subprocess.PIPE, stderr=subprocess.DEVNULL, check=False)
                 printed = [re.sub(r"^\d+ ", "", line) for line in said.stdout.decode().splitlines()]
                 self.assertIn(it.answer, printed, word)
@@ -142,7 +145,7 @@ class Differences(unittest.TestCase):
         self.assertEqual(set(self.rows()), set(self.BOXES))
         self.assertEqual({len(it) for it in self.rows().values()}, {2})
 
-    @unittest.skipUnless(PROGRAM.exists(), "the proved program isn't built")
+    @needs_program
     def test_sources_are_answered_so(self) -> None:
         for number, source in self.rows().items():
             said = subprocess.run([PROGRAM, "run"], input=script_of([source]).encode(), stdout=subprocess.PIPE, check=True)
