@@ -4,6 +4,7 @@ from __future__ import annotations
 
 import os
 import re
+from codecs import BOM_UTF8
 from typing import Dict, Optional, Tuple
 
 DOCUMENT = os.path.join(os.path.dirname(os.path.dirname(os.path.realpath(__file__))), "docs", "FAULTS.md")
@@ -54,6 +55,16 @@ FAULTS: Dict[str, Tuple[str, str]] = {
     "TooManyPlanes": ("the part has more than 1,024 distinct planes", "make several parts of it"),
     "LongList": ("a list is too long, or lists are too deep in one another", "docs/FAULTS.md has each list's limits"),
 }
+
+# What is wrong where the profile has a word in other forms alone, and the cures.
+OTHER_FORM = "this form of {} is left out of this profile of OpenSCAD"
+ROUND = "give r, and $fn = 4 for a square on its corner; docs/OPENSCAD.md has a prism with twelve corners"
+FORMS: Dict[str, str] = {
+    **dict.fromkeys(["circle", "cylinder"], ROUND),
+    **dict.fromkeys(["for", "function", "linear_extrude", "mirror", "polygon", "rotate"], PAGE),
+}
+# The cure of a division that does not come out even.
+EVEN = "count in tenths, 70 / 2 for 7 / 2, or drop the rest: (w - w % 2) / 2"
 
 # Of the limits that are tested before a source is sent, and of what a session or a script is told.
 LIMITS: Dict[str, Tuple[str, str]] = {
@@ -109,11 +120,22 @@ def what_is_wrong(word: str, line: Optional[bytes], column: int) -> Tuple[str, s
     said, cure = FAULTS.get(word, (word, PAGE))
     if line is None:
         return "the source ends in the middle of a statement" if word == "Expected" else said.format("the end"), cure
-    token = TOKEN.match(line, column - 1)
-    shown = printable(token[0] if len(token[0]) <= 40 else token[0][:40] + b"..") if token else "this"
+    shown = _token(line, column)
+    if word == "NotInProfile" and shown in FORMS:
+        return OTHER_FORM.format(shown), FORMS[shown]
     if word == "NotWhole" and not re.match(r"[0-9.]", shown):
-        shown = f"what {shown} gives"
+        return said.format(f"what {shown} gives"), EVEN
     return said.format(shown), cure
+
+
+def _token(line: bytes, column: int) -> str:
+    """What a message calls the token at a byte of a line, from 1."""
+    token = TOKEN.match(line, column - 1)
+    if token is None:
+        return "this"
+    if token[0] == BOM_UTF8:
+        return "a byte order mark"
+    return printable(token[0] if len(token[0]) <= 40 else token[0][:40] + b"..")
 
 
 def printable(text: bytes) -> str:

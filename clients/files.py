@@ -38,6 +38,11 @@ def write_file(path: str, data: bytes) -> None:
         raise
 
 
+def called(path: str, stream: str = "<stdin>") -> str:
+    """What a file is called in messages, in which `-` is this stream."""
+    return stream if path == "-" else path
+
+
 def refusal_to_write(path: str) -> Optional[str]:
     """Why a file can't be written here, as far as that shows before it is tried; None where nothing speaks against it."""
     folder = os.path.dirname(os.path.realpath(path))

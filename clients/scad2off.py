@@ -3,27 +3,28 @@
 from __future__ import annotations
 
 import os
-import signal
-import sys
 from dataclasses import replace
-from typing import Iterator, List, NoReturn, Optional, Sequence, Tuple
+from typing import Iterator, List, Optional, Sequence, Tuple
 
 from batches import batches
+from ending import BAD_CALL, PART_FAULT, ended
 from faults import STATUSES, explanation
-from files import read_file, refusal_to_write, say, write_file
+from files import called, read_file, refusal_to_write, say, write_file
 from scad2off_told import Part, limit_told, reply_told
 from scad2off_words import HELP, BadCall, Options, options_of, outs_of
 from scadserve import SCRIPT_BYTES, SERVER, Fault, Malformed, NoMemory, Reply, ServerFailed, Solid, passed_limit, run
 
-PART_FAULT, BAD_CALL, NO_MEMORY, NO_ANSWER, NOT_STARTED, INTERRUPTED, PIPE_CLOSED = 1, 2, 6, 125, 127, 130, 141
+NO_MEMORY, NO_ANSWER = 6, 125
 
 
 def main(words: Sequence[str]) -> int:
     """Does what the words of a call ask for, and gives its status. The environment's SCADSERVE names another server."""
     server = [os.environ["SCADSERVE"]] if os.environ.get("SCADSERVE") else SERVER
-    for it in (signal.SIGTERM, signal.SIGHUP):
-        if signal.getsignal(it) is not signal.SIG_IGN:
-            signal.signal(it, _end)
+    return ended(lambda: _told(words, server))
+
+
+def _told(words: Sequence[str], server: Sequence[str]) -> int:
+    """The status, with what is wrong with the whole call told."""
     try:
         return _do(options_of(words), server)
     except BadCall as bad:
@@ -35,15 +36,6 @@ def main(words: Sequence[str]) -> int:
     except Malformed as malformed:
         say(f"scad2off: the server's output is no answer: {malformed}\n")
         return NO_ANSWER
-    except BrokenPipeError:
-        return PIPE_CLOSED
-    except KeyboardInterrupt:
-        return INTERRUPTED
-
-
-def _end(number: int, _frame: object) -> NoReturn:
-    """Ends by a signal, so that the server is ended and no file is left half written."""
-    sys.exit(128 + number)
 
 
 def _do(options: Options, server: Sequence[str]) -> int:
@@ -90,12 +82,11 @@ def _parts(options: Options) -> List[Part]:
             # (a source that is larger than a script is past a limit)
             lines = read_file(file, SCRIPT_BYTES + 1).split(b"\n")
         except OSError as error:
-            refused.append(f"cannot open {'standard input' if file == '-' else file}: {error.strerror}")
+            refused.append(f"cannot open {called(file, 'standard input')}: {error.strerror}")
             continue
         if os.path.isfile(out) and _identity(out) in sources:
             refused.append(f"cannot write {out}: that is a source")
-        name = "<stdin>" if file == "-" else file
-        parts.append(Part(name, lines if lines[-1] else lines[:-1], options.definitions, out))
+        parts.append(Part(called(file), lines if lines[-1] else lines[:-1], options.definitions, out))
     refused = refused or _refused_outs(options)
     if refused:
         raise BadCall(*refused)
@@ -169,6 +160,6 @@ def _written(out: str, data: bytes) -> int:
     except BrokenPipeError:
         raise
     except OSError as error:
-        say(f"scad2off: cannot write {'standard output' if out == '-' else out}: {error.strerror}\n")
+        say(f"scad2off: cannot write {called(out, 'standard output')}: {error.strerror}\n")
         return BAD_CALL
     return 0
