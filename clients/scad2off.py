@@ -4,7 +4,7 @@ from __future__ import annotations
 
 import os
 from dataclasses import replace
-from typing import Iterator, List, Optional, Sequence, Tuple
+from typing import Iterator, Sequence
 
 from batches import batches
 from ending import BAD_CALL, PART_FAULT, ended
@@ -73,7 +73,7 @@ def _explained(word: str) -> int:
     return _written("-", said.encode())
 
 
-def _parts(options: Options) -> List[Part]:
+def _parts(options: Options) -> list[Part]:
     """The parts of a call. Raises BadCall where a file can't be read, or none can be written where its text goes."""
     parts, refused = [], []
     sources = [_identity(it) for it in options.files]
@@ -93,7 +93,7 @@ def _parts(options: Options) -> List[Part]:
     return parts
 
 
-def _identity(path: str) -> Optional[Tuple[int, int]]:
+def _identity(path: str) -> tuple[int, int] | None:
     """What tells a file from others, whatever it is called; None where there is none."""
     try:
         found = os.stat(path)
@@ -102,7 +102,7 @@ def _identity(path: str) -> Optional[Tuple[int, int]]:
     return found.st_dev, found.st_ino
 
 
-def _refused_outs(options: Options) -> List[str]:
+def _refused_outs(options: Options) -> list[str]:
     """Why nothing can be written where the texts go; makes the folder that is asked for."""
     out = options.out or "-"
     if options.folder is not None:
@@ -115,14 +115,14 @@ def _refused_outs(options: Options) -> List[str]:
     return [] if why is None else [f"cannot write {options.folder or out}: {why}"]
 
 
-def _script_written(parts: List[Part], options: Options) -> int:
+def _script_written(parts: list[Part], options: Options) -> int:
     scripts = [bytes(it.script) for it in batches([it.lines() for it in parts], options.half)]
     if len(scripts) != 1:
         raise BadCall(f"these files make {len(scripts)} scripts, and --script prints one")
     return _written(options.out or "-", scripts[0])
 
 
-def _answered(parts: List[Part], half: bool, server: Sequence[str]) -> Iterator[Tuple[Part, Reply]]:
+def _answered(parts: list[Part], half: bool, server: Sequence[str]) -> Iterator[tuple[Part, Reply]]:
     """The parts, in order, each with what its export is answered; as few runs of the server as can be."""
     for batch in batches([it.lines() for it in parts], half):
         [answers] = run([batch.script], server)

@@ -6,7 +6,7 @@ import getopt
 import os
 import re
 from dataclasses import dataclass, field
-from typing import List, Optional, Sequence
+from typing import Sequence
 
 HELP = """usage: scad2off [-o OUT | -d DIR] [--half] [-D NAME=VALUE].. [--allow-empty] [--script] FILE.. | -
        scad2off --explain WORD
@@ -23,7 +23,8 @@ Prints the 4OFF text of the solid that an OpenSCAD source FILE describes (`-` is
   --               all that follows are FILEs
 
 The status is 0 where all went well, 1 where a part has a fault, 2 where the words are wrong or a file can't be read or
-written, 130 after Ctrl-C, and else that of the server. SCADSERVE in the environment names another server than ./scadserve.
+written, 6 where memory ran out for a part, 125 where the server gave no answer, 127 where it doesn't start, 130 after Ctrl-C,
+and else that of the server. SCADSERVE in the environment names another server than ./scadserve.
 """
 
 VALUES = {"-o": "out", "-d": "folder", "--explain": "explain"}
@@ -39,15 +40,15 @@ class BadCall(Exception):
 class Options:
     """What a call asks for."""
 
-    out: Optional[str] = None
-    folder: Optional[str] = None
+    out: str | None = None
+    folder: str | None = None
     half: bool = False
-    definitions: List[str] = field(default_factory=list)
+    definitions: list[str] = field(default_factory=list)
     allow_empty: bool = False
     script: bool = False
-    explain: Optional[str] = None
+    explain: str | None = None
     help: bool = False
-    files: List[str] = field(default_factory=list)
+    files: list[str] = field(default_factory=list)
 
 
 def options_of(words: Sequence[str]) -> Options:
@@ -87,7 +88,7 @@ def _test(options: Options) -> None:
         raise BadCall("`-` is read once, and has no name for -d")
 
 
-def outs_of(options: Options) -> List[str]:
+def outs_of(options: Options) -> list[str]:
     """The file that the text of each FILE goes to; `-` is standard output. Raises BadCall where two go to one."""
     if options.folder is None:
         return [options.out or "-"] * len(options.files)

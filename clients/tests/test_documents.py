@@ -12,7 +12,7 @@ import subprocess
 import sys
 import unittest
 from pathlib import Path
-from typing import Dict, List, NamedTuple
+from typing import NamedTuple
 
 from tests import calls
 from tests.calls import PROGRAM, needs_program
@@ -39,16 +39,16 @@ UNKNOWN = {"corners", "vertices", "NoMemory"}
 class Section(NamedTuple):
     """A word of docs/FAULTS.md: a source, or commands behind `$`, the answer, and a source that has none of it."""
 
-    source: List[str]
+    source: list[str]
     answer: str
-    cured: List[str]
+    cured: list[str]
 
 
-def lines(block: str) -> List[str]:
+def lines(block: str) -> list[str]:
     return [it[4:] for it in (block or "").splitlines()]
 
 
-def sections() -> Dict[str, Section]:
+def sections() -> dict[str, Section]:
     """The sections by word. Raises AssertionError at one of another form."""
     found = {}
     for text in re.split(r"^(?=## )", (TOP / "docs/FAULTS.md").read_text(encoding="utf-8"), flags=re.MULTILINE)[1:]:
@@ -58,14 +58,14 @@ def sections() -> Dict[str, Section]:
     return found
 
 
-def script_of(sources: List[List[str]]) -> str:
+def script_of(sources: list[list[str]]) -> str:
     """A script of clients that put and export a source each."""
     return "".join(
         f"c{number} put {at} {line}\n" for number, source in enumerate(sources) for at, line in enumerate(source, 1)
     ) + "".join(f"c{number} export\n" for number in range(len(sources)))
 
 
-def answers(sources: List[List[str]]) -> List[str]:
+def answers(sources: list[list[str]]) -> list[str]:
     """What the exports of up to 16 sources are answered, without the numbers."""
     said = subprocess.run([PROGRAM, "run"], input=script_of(sources).encode(), stdout=subprocess.PIPE, check=True)
     exports = re.findall(r"^\d+ ((?:solid|fault|complex|nomem).*)$", said.stdout.decode(), re.MULTILINE)
@@ -136,7 +136,7 @@ class Differences(unittest.TestCase):
         11: ((0, 0, 0), (2, 2, 2)),
     }
 
-    def rows(self) -> Dict[int, List[str]]:
+    def rows(self) -> dict[int, list[str]]:
         text = (TOP / "docs/OPENSCAD.md").read_text(encoding="utf-8")
         found = re.findall(r"^\| (\d+) \| [^|]* \| (`[^|]*`) \|", text, re.MULTILINE)
         return {int(number): re.findall(r"`([^`]+)`", cell) for number, cell in found}
@@ -178,7 +178,7 @@ class Places(unittest.TestCase):
         self.assertEqual((said.returncode, said.stdout.decode()), (0, ""))
 
 
-def headings(file: Path) -> List[str]:
+def headings(file: Path) -> list[str]:
     """The anchors of a document's headings: lower case, spaces as hyphens, all else but letters and digits left out."""
     found = re.findall(r"^#+ (.+)$", file.read_text(encoding="utf-8"), re.MULTILINE)
     return [re.sub(r"[^a-z0-9 -]", "", it.lower()).replace(" ", "-") for it in found]

@@ -16,7 +16,8 @@ from unittest import mock
 
 import off2stl
 from tests import tool_case
-from tests.solids import CUT_CUBE, EMPTY, TOP, box, gallery, off, split_box
+from tests.calls import TOP
+from tests.solids import CUT_CUBE, EMPTY, box, gallery, off, split_box
 
 BLOCK = off(box((0, 0, 0), (20, 12, 16)))
 
