@@ -54,7 +54,7 @@ class Options:
 def options_of(words: Sequence[str]) -> Options:
     """What these words ask for. Raises BadCall where they ask for nothing that can be done."""
     try:
-        pairs, files = getopt.gnu_getopt(words, "o:d:D:h", ["half", "allow-empty", "script", "explain=", "help"])
+        pairs, files = getopt.gnu_getopt(list(words), "o:d:D:h", ["half", "allow-empty", "script", "explain=", "help"])
     except getopt.GetoptError as error:
         raise BadCall(f"{error.msg} (--help says what there is)") from error
     options = Options(files=files)
@@ -92,7 +92,7 @@ def outs_of(options: Options) -> list[str]:
     """The file that the text of each FILE goes to; `-` is standard output. Raises BadCall where two go to one."""
     if options.folder is None:
         return [options.out or "-"] * len(options.files)
-    outs = {}
+    outs: dict[str, str] = {}
     for file in options.files:
         name = os.path.basename(file)
         out = os.path.join(options.folder, (name[:-5] if name.endswith(".scad") else name) + ".4off")

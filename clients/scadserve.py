@@ -23,11 +23,10 @@ from typing import Iterable, Sequence
 from replies import ANSWERED, SOURCE_LINES, Answers, Complex, Fault, Malformed, NoMemory, Ok, Refused, Reply
 from replies import Session, Solid, Text, printed, read
 
-__all__ = [
-    *("Script", "Client", "run", "passed_limit", "read", "printed", "Answers", "Reply"),
-    *("Ok", "Refused", "Text", "Solid", "Fault", "Complex", "NoMemory", "Limit", "Malformed"),
-    *("ServerFailed", "NotStarted", "BadWords", "BadScript", "ReadFault", "WriteFault", "OutOfMemory"),
-]
+# What a program that sends scripts needs, the types of replies too.
+__all__ = ["Script", "Client", "run", "passed_limit", "read", "printed", "Answers", "Reply", "Ok", "Refused", "Text", "Solid"]
+__all__ += ["Fault", "Complex", "NoMemory", "Limit", "Malformed", "ServerFailed", "NotStarted", "BadWords", "BadScript"]
+__all__ += ["ReadFault", "WriteFault", "OutOfMemory"]
 
 SCRIPT_BYTES = 1_048_576
 LINE_BYTES = 1_024  # (of a line of a script, without its end)

@@ -26,7 +26,9 @@ class Calls(unittest.TestCase):
         self.folder = os.path.join(folder.name, "here")
         os.mkdir(self.log)
         os.mkdir(self.folder)
-        self.environment = {**os.environ, "SCADSERVE": STAND_IN, "STAND_IN_LOG": self.log}
+        # (the stand-in runs by this very Python, and not by a script that looks for one)
+        path = os.path.dirname(sys.executable) + os.pathsep + os.environ["PATH"]
+        self.environment = {**os.environ, "SCADSERVE": STAND_IN, "STAND_IN_LOG": self.log, "PATH": path}
 
     def path(self, name):
         return os.path.join(self.folder, name)
