@@ -83,7 +83,8 @@ def read(file: str, out: str) -> fouroff.Boundary:
     try:
         boundary = fouroff.read(data)
     except fouroff.Malformed as fault:
-        raise BadSolid(f"{called(file)}:{fault.line}: {fault.reason}") from None
+        hint = ": scad2off makes a 4OFF text of a source" if file.endswith(".scad") else ""
+        raise BadSolid(f"{called(file)}:{fault.line}: {fault.reason}{hint}") from None
     if not boundary.faces:
         raise BadSolid(f"{called(file)}: the solid is empty, so nothing is written", PART_FAULT)
     return boundary

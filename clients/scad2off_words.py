@@ -29,6 +29,8 @@ and else that of the server. SCADSERVE in the environment names another server t
 
 VALUES = {"-o": "out", "-d": "folder", "--explain": "explain"}
 SWITCHES = {"-h": "help", "--help": "help", "--half": "half", "--allow-empty": "allow_empty", "--script": "script"}
+# What is made of a 4OFF text, by the ending of a file, and by which tool.
+TOOLS = {".stl": "off2stl", ".3mf": "off2stl", ".obj": "off2stl", ".svg": "off2svg"}
 DEFINITION = re.compile(r"\$?[A-Za-z_][A-Za-z0-9_]*=[^\n]*")
 
 
@@ -80,6 +82,9 @@ def _test(options: Options) -> None:
         raise BadCall("no FILE is named (--help says what there is)")
     if options.out is not None and options.folder is not None:
         raise BadCall("-o and -d can't both be given")
+    tool = TOOLS.get(os.path.splitext(options.out or "")[1].lower())
+    if tool:
+        raise BadCall(f"{options.out} would be a 4OFF text: {tool} makes such a file of one")
     if options.script and options.folder is not None:
         raise BadCall("--script prints one script, so -d can't be given with it")
     if len(files) > 1 and options.folder is None and not options.script:

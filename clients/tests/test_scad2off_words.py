@@ -80,6 +80,8 @@ class Words(Calls):
             (["-D", "w=1\nx=2", "a.scad"], "-D takes NAME=VALUE"),
             (["-o", "a.scad", "a.scad"], "cannot write a.scad: that is a source"),
             (["-d", ".", "b/x.scad", "x.4off"], "cannot write ./x.4off: that is a source"),
+            (["-o", "a.STL", "a.scad"], "a.STL would be a 4OFF text: off2stl makes such a file of one"),
+            (["-o", "a.svg", "a.scad"], "a.svg would be a 4OFF text: off2svg makes such a file of one"),
             (["-o", "b", "a.scad"], "cannot write b: Is a directory"),
             (["-o", "no/a.4off", "a.scad"], "cannot write no/a.4off: No such file or directory"),
             (["-d", "a.scad", "a.scad"], "cannot make the folder a.scad: File exists"),
