@@ -185,6 +185,7 @@ class _Output:
             raise Malformed("the last line of the output has no end")
 
     def take(self, count: int = 1) -> list[bytes]:
+        """The next lines. Raises Malformed where fewer are left."""
         taken = self._lines[self._at : self._at + count]
         if len(taken) < count:
             raise Malformed("the output ends too early")

@@ -65,11 +65,17 @@ def script_of(sources: list[list[str]]) -> str:
     ) + "".join(f"c{number} export\n" for number in range(len(sources)))
 
 
+def output(sources: list[list[str]]) -> str:
+    """What the program, started as ./scadserve does it, answers exports of up to 16 sources."""
+    words = ["sh", "-c", '. "$0/memory.sh" && exec "$@"', TOP, PROGRAM, "run"]
+    return subprocess.run(words, input=script_of(sources).encode(), stdout=subprocess.PIPE, check=True).stdout.decode()
+
+
 def answers(sources: list[list[str]]) -> list[str]:
     """What the exports of up to 16 sources are answered, without the numbers."""
-    said = subprocess.run([PROGRAM, "run"], input=script_of(sources).encode(), stdout=subprocess.PIPE, check=True)
-    exports = re.findall(r"^\d+ ((?:solid|fault|complex|nomem).*)$", said.stdout.decode(), re.MULTILINE)
-    assert len(exports) == len(sources), said.stdout[:200]
+    said = output(sources)
+    exports = re.findall(r"^\d+ ((?:solid|fault|complex|nomem).*)$", said, re.MULTILINE)
+    assert len(exports) == len(sources), said[:200]
     return exports
 
 
@@ -148,8 +154,7 @@ class Differences(unittest.TestCase):
     @needs_program
     def test_sources_are_answered_so(self) -> None:
         for number, source in self.rows().items():
-            said = subprocess.run([PROGRAM, "run"], input=script_of([source]).encode(), stdout=subprocess.PIPE, check=True)
-            vertices = re.findall(r"^(-?\d+) (-?\d+) (-?\d+) 1$", said.stdout.decode(), re.MULTILINE)
+            vertices = re.findall(r"^(-?\d+) (-?\d+) (-?\d+) 1$", output([source]), re.MULTILINE)
             axes = [[int(it) for it in axis] for axis in zip(*vertices)]
             box = (tuple(map(min, axes)), tuple(map(max, axes))) if axes else None
             self.assertEqual(box, self.BOXES[number], number)
