@@ -2,7 +2,7 @@
 
 from __future__ import annotations
 
-from typing import Iterator, List, NamedTuple, Sequence, Tuple
+from typing import Iterator, NamedTuple, Sequence
 
 from scadserve import Answers, NoMemory, Ok, Reply, Script
 
@@ -26,7 +26,7 @@ class Batch:
 
     def __init__(self, half: bool) -> None:
         self.script = Script(half)
-        self._exports: List[Export] = []
+        self._exports: list[Export] = []
 
     def __len__(self) -> int:
         return len(self._exports)
@@ -42,7 +42,7 @@ class Batch:
                 return True
         return False
 
-    def replies(self, answers: Answers) -> Iterator[Tuple[int, Reply]]:
+    def replies(self, answers: Answers) -> Iterator[tuple[int, Reply]]:
         """The number of each source, and what its export is answered: NoMemory too where an edit for it was not done, since
         what is exported then is another source."""
         for number, lines, name, edits, at in self._exports:

@@ -4,14 +4,14 @@ from __future__ import annotations
 
 import os
 import re
-from typing import Dict, Optional, Tuple
+from codecs import BOM_UTF8
 
 DOCUMENT = os.path.join(os.path.dirname(os.path.dirname(os.path.realpath(__file__))), "docs", "FAULTS.md")
 
 PAGE = "docs/OPENSCAD.md says what there is, and what to write instead"
 
 # Of each kind of fault what is wrong, in which {} stands for the token at its place, and its cure.
-FAULTS: Dict[str, Tuple[str, str]] = {
+FAULTS: dict[str, tuple[str, str]] = {
     "BadCharacter": ("{} can't stand here", "any byte may stand in comments; all else is plain ASCII, without a byte order mark"),
     "OpenComment": ("this comment is not closed", "close it by */"),
     "OpenText": ("this text is not closed on its line", 'close it by " on the same line'),
@@ -55,8 +55,18 @@ FAULTS: Dict[str, Tuple[str, str]] = {
     "LongList": ("a list is too long, or lists are too deep in one another", "docs/FAULTS.md has each list's limits"),
 }
 
+# What is wrong where the profile has a word in other forms alone, and the cures.
+OTHER_FORM = "this form of {} is left out of this profile of OpenSCAD"
+ROUND = "give r, and $fn = 4 for a square on its corner; docs/OPENSCAD.md has a prism with twelve corners"
+FORMS: dict[str, str] = {
+    **dict.fromkeys(["circle", "cylinder"], ROUND),
+    **dict.fromkeys(["for", "function", "linear_extrude", "mirror", "polygon", "rotate"], PAGE),
+}
+# The cure of a division that does not come out even.
+EVEN = "count in tenths, 70 / 2 for 7 / 2, or drop the rest: (w - w % 2) / 2"
+
 # Of the limits that are tested before a source is sent, and of what a session or a script is told.
-LIMITS: Dict[str, Tuple[str, str]] = {
+LIMITS: dict[str, tuple[str, str]] = {
     "TooLong": ("a line of a source has at most 1,016 bytes", "break the line, at any blank"),
     "TooManyLines": ("a source has at most 4,096 lines", "join lines, or make several parts of it"),
     "TooLarge": ("the source fills more than a script's 1 MiB", "make several parts of it"),
@@ -71,7 +81,7 @@ LIMITS: Dict[str, Tuple[str, str]] = {
 
 # Of solids that pass a limit, by its kind.
 COMPLEX_CURE = "make several parts of it, or fewer cuts that go across all of it"
-COMPLEX: Dict[str, Tuple[str, str]] = {
+COMPLEX: dict[str, tuple[str, str]] = {
     "solid": ("one of its solids grows past 50,000 in size, at node {}", COMPLEX_CURE),
     "sum": ("its solids grow past 500,000 in size together, at node {}", COMPLEX_CURE),
     "facets": ("it has more than 20,000 faces", COMPLEX_CURE),
@@ -80,7 +90,7 @@ COMPLEX: Dict[str, Tuple[str, str]] = {
 }
 
 # Of statuses with which the server fails.
-STATUSES: Dict[int, str] = {
+STATUSES: dict[int, str] = {
     2: ", since it does not know these words",
     3: ", since what it was sent is no script",
     4: ", since it could not read what it was sent",
@@ -104,16 +114,27 @@ TOKEN = re.compile(
 )
 
 
-def what_is_wrong(word: str, line: Optional[bytes], column: int) -> Tuple[str, str]:
+def what_is_wrong(word: str, line: bytes | None, column: int) -> tuple[str, str]:
     """What a fault of this kind says is wrong at a byte of a source's line, from 1, and its cure. No line: at the end."""
     said, cure = FAULTS.get(word, (word, PAGE))
     if line is None:
         return "the source ends in the middle of a statement" if word == "Expected" else said.format("the end"), cure
-    token = TOKEN.match(line, column - 1)
-    shown = printable(token[0] if len(token[0]) <= 40 else token[0][:40] + b"..") if token else "this"
+    shown = _token(line, column)
+    if word == "NotInProfile" and shown in FORMS:
+        return OTHER_FORM.format(shown), FORMS[shown]
     if word == "NotWhole" and not re.match(r"[0-9.]", shown):
-        shown = f"what {shown} gives"
+        return said.format(f"what {shown} gives"), EVEN
     return said.format(shown), cure
+
+
+def _token(line: bytes, column: int) -> str:
+    """What a message calls the token at a byte of a line, from 1."""
+    token = TOKEN.match(line, column - 1)
+    if token is None:
+        return "this"
+    if token[0] == BOM_UTF8:
+        return "a byte order mark"
+    return printable(token[0] if len(token[0]) <= 40 else token[0][:40] + b"..")
 
 
 def printable(text: bytes) -> str:
@@ -130,7 +151,7 @@ def excerpt(line: bytes, column: int) -> str:
     return f"    {before}{after}\n    {below}^\n"
 
 
-def explanation(word: str, document: str = DOCUMENT) -> Optional[str]:
+def explanation(word: str, document: str = DOCUMENT) -> str | None:
     """The section of a document that has this word as its heading; None where there is none. Raises OSError."""
     with open(document, encoding="utf-8") as it:
         sections = re.split(r"^(?=## )", it.read(), flags=re.MULTILINE)

@@ -6,7 +6,6 @@ import contextlib
 import errno
 import os
 import sys
-from typing import Optional
 
 
 def read_file(path: str, most: int = -1) -> bytes:
@@ -38,7 +37,12 @@ def write_file(path: str, data: bytes) -> None:
         raise
 
 
-def refusal_to_write(path: str) -> Optional[str]:
+def called(path: str, stream: str = "<stdin>") -> str:
+    """What a file is called in messages, in which `-` is this stream."""
+    return stream if path == "-" else path
+
+
+def refusal_to_write(path: str) -> str | None:
     """Why a file can't be written here, as far as that shows before it is tried; None where nothing speaks against it."""
     folder = os.path.dirname(os.path.realpath(path))
     if os.path.isdir(path):

@@ -149,13 +149,17 @@ def flatten(ring: Sequence[Corner], plane: Plane) -> list[Flat]:
     return [(p[right], p[up], p[3]) for p in ring]
 
 
-def turn(p: Flat, q: Flat, r: Flat) -> int:
-    """Above 0 where the way from p over q to r turns left, below 0 where it turns right, and else 0."""
+def determinant(p: Sequence[int], q: Sequence[int], r: Sequence[int]) -> int:
+    """The determinant of the first three numbers of each."""
     return (
         p[0] * (q[1] * r[2] - q[2] * r[1])
         - p[1] * (q[0] * r[2] - q[2] * r[0])
         + p[2] * (q[0] * r[1] - q[1] * r[0])
     )
+
+
+#: Of corners seen along an axis: above 0 where the way from p over q to r turns left, below 0 where it turns right, and else 0.
+turn = determinant
 
 
 def _is_convex(ring: list[Flat]) -> bool:

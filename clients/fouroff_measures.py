@@ -7,7 +7,7 @@ from fractions import Fraction
 from math import lcm, sqrt
 from typing import Mapping, NamedTuple, Sequence
 
-from fouroff import Boundary, Corner
+from fouroff import Boundary, determinant
 
 # A common denominator of more bits belongs to a volume whose exact digits nobody reads.
 _MOST_BITS = 4096
@@ -44,7 +44,7 @@ def volume(boundary: Boundary) -> Volume:
         p = boundary.corners[face[0]]
         for second, third in zip(face[1:], face[2:]):
             q, r = boundary.corners[second], boundary.corners[third]
-            parts[6 * p[3] * q[3] * r[3]] += _determinant(p, q, r)
+            parts[6 * p[3] * q[3] * r[3]] += determinant(p, q, r)
     common = 1
     for denominator in parts:
         common = lcm(common, denominator)
@@ -70,15 +70,6 @@ def direction(plane: Sequence[int]) -> tuple[float, float, float]:
     a, b, c = (number / greatest for number in plane[:3])
     length = sqrt(a * a + b * b + c * c)
     return a / length, b / length, c / length
-
-
-def _determinant(p: Corner, q: Corner, r: Corner) -> int:
-    """Six times the volume of the tetrahedron from the origin, times the three W."""
-    return (
-        p[0] * (q[1] * r[2] - q[2] * r[1])
-        - p[1] * (q[0] * r[2] - q[2] * r[0])
-        + p[2] * (q[0] * r[1] - q[1] * r[0])
-    )
 
 
 def shown(number: Fraction, exact: bool = True) -> str:

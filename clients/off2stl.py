@@ -20,7 +20,7 @@ from typing import Sequence
 
 import closing
 import off2tool
-from files import say
+from files import called, say
 from fouroff import Boundary
 from fouroff_measures import Volume, box, shown
 from off2formats import WRITERS, Mesh, mesh
@@ -41,7 +41,7 @@ def _convert(words: Sequence[str]) -> None:
     cuts = closing.triangles(boundary, rings)
     solid = mesh(off2tool.stem(asked.file), boundary, cuts, asked.unit, asked.format)
     volume = off2tool.check(asked.file, boundary, solid.triangles)
-    told = f"{off2tool.called(asked.file)}: {_summary(boundary, rings, solid, volume, asked.unit)}\n"
+    told = f"{called(asked.file)}: {_summary(boundary, rings, solid, volume, asked.unit)}\n"
     if asked.info:
         off2tool.write("-", told.encode("utf-8", "surrogateescape"))
     else:

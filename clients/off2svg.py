@@ -15,10 +15,12 @@ from typing import Callable, Sequence
 import closing
 import off2tool
 from closing import Ring
+from ending import PART_FAULT
+from files import called
 from fouroff import Boundary, Corner, Plane
 from fouroff_measures import direction
 from off2painter import Step, outline, painted, visible_patches
-from off2tool import UNUSABLE, BadSolid
+from off2tool import BadSolid
 
 MOST_FACES = 5000
 #: The view where none is asked for, in degrees.
@@ -84,7 +86,7 @@ def _draw(words: Sequence[str]) -> None:
     boundary = off2tool.read(asked.file, asked.out)
     if len(boundary.faces) > MOST_FACES:
         count = f"{len(boundary.faces)} faces are too many to draw, above {MOST_FACES}"
-        raise BadSolid(f"{off2tool.called(asked.file)}: {count}: {_VIEWERS}", UNUSABLE)
+        raise BadSolid(f"{called(asked.file)}: {count}: {_VIEWERS}", PART_FAULT)
     rings = closing.close(boundary)
     off2tool.check(asked.file, boundary, rings)
     text = drawing(boundary, rings, Camera(*asked.view), asked.width, off2tool.stem(asked.file))

@@ -9,16 +9,13 @@ from __future__ import annotations
 import argparse
 import os
 import re
-import signal
-import sys
 from typing import Callable, NoReturn, Sequence
 
 import closing
 import fouroff
 import fouroff_measures
-from files import read_file, refusal_to_write, say, write_file
-
-UNUSABLE, BAD_CALL, INTERRUPTED, PIPE_CLOSED = 1, 2, 130, 141
+from ending import BAD_CALL, PART_FAULT, ended
+from files import called, read_file, refusal_to_write, say, write_file
 
 
 class BadCall(Exception):
@@ -48,32 +45,19 @@ class Words(argparse.ArgumentParser):
 
 def run(name: str, tool: Callable[[Sequence[str]], None], words: Sequence[str]) -> int:
     """Runs the tool of this name on its words: the status, with the fault told where there is one."""
-    for number in (signal.SIGTERM, signal.SIGHUP):
-        if signal.getsignal(number) is not signal.SIG_IGN:
-            signal.signal(number, _end)
-    try:
-        tool(words)
-    except BadCall as bad:
-        say(f"{name}: {bad}\n")
-        return BAD_CALL
-    except BadSolid as bad:
-        say(f"{bad}\n")
-        return bad.status
-    except BrokenPipeError:
-        return PIPE_CLOSED
-    except KeyboardInterrupt:
-        return INTERRUPTED
-    return 0
 
+    def told() -> int:
+        try:
+            tool(words)
+        except BadCall as bad:
+            say(f"{name}: {bad}\n")
+            return BAD_CALL
+        except BadSolid as bad:
+            say(f"{bad}\n")
+            return bad.status
+        return 0
 
-def _end(number: int, _frame: object) -> NoReturn:
-    """Ends by a signal, so that no file is left half written."""
-    sys.exit(128 + number)
-
-
-def called(file: str) -> str:
-    """What a file is called in messages."""
-    return "<stdin>" if file == "-" else file
+    return ended(told)
 
 
 def stem(file: str) -> str:
@@ -90,7 +74,7 @@ def read(file: str, out: str) -> fouroff.Boundary:
     try:
         data = read_file(file)
     except (OSError, ValueError) as error:
-        raise BadCall(f"cannot open {called(file)}: {_why(error)}") from None
+        raise BadCall(f"cannot open {called(file, 'standard input')}: {_why(error)}") from None
     refusal = refusal_to_write(out)
     if os.path.isfile(file) and os.path.isfile(out) and os.path.samefile(file, out):
         refusal = "that is the 4OFF text itself"
@@ -99,9 +83,10 @@ def read(file: str, out: str) -> fouroff.Boundary:
     try:
         boundary = fouroff.read(data)
     except fouroff.Malformed as fault:
-        raise BadSolid(f"{called(file)}:{fault.line}: {fault.reason}") from None
+        hint = ": scad2off makes a 4OFF text of a source" if file.endswith(".scad") else ""
+        raise BadSolid(f"{called(file)}:{fault.line}: {fault.reason}{hint}") from None
     if not boundary.faces:
-        raise BadSolid(f"{called(file)}: the solid is empty, so nothing is written", UNUSABLE)
+        raise BadSolid(f"{called(file)}: the solid is empty, so nothing is written", PART_FAULT)
     return boundary
 
 
@@ -123,7 +108,7 @@ def write(out: str, data: bytes) -> None:
     except BrokenPipeError:
         raise
     except (OSError, ValueError) as error:
-        raise BadCall(f"cannot write {'standard output' if out == '-' else out}: {_why(error)}") from None
+        raise BadCall(f"cannot write {called(out, 'standard output')}: {_why(error)}") from None
 
 
 def _why(error: Exception) -> str:

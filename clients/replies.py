@@ -8,7 +8,7 @@ from __future__ import annotations
 
 import re
 from dataclasses import dataclass
-from typing import Dict, List, Optional, Tuple, Union
+from typing import Union
 
 SOURCE_LINES = 4_096
 ANSWERED = 16  # (a client's shows, and its exports)
@@ -58,7 +58,7 @@ class Refused:
 class Text:
     """The lines of a source, as they are shown."""
 
-    lines: Tuple[bytes, ...]
+    lines: tuple[bytes, ...]
 
     def __bytes__(self) -> bytes:
         return b"text %d\n" % len(self.lines) + b"".join(it + b"\n" for it in self.lines)
@@ -93,7 +93,7 @@ class Complex:
     """A limit that a solid passes: `solid` or `sum` at a node, or `facets`, `corners` or `vertices`, which name no node."""
 
     kind: str
-    node: Optional[int] = None
+    node: int | None = None
 
     def __bytes__(self) -> bytes:
         return b"complex %b" % self.kind.encode() + (b"\n" if self.node is None else b" %d\n" % self.node)
@@ -108,17 +108,17 @@ class NoMemory:
 
 
 Reply = Union[Ok, Refused, Text, Solid, Fault, Complex, NoMemory]
-Answers = Dict[str, List[Reply]]
+Answers = dict[str, list[Reply]]
 
 
 class Session:
     """The lines of a client's source and its counts, as the server keeps them."""
 
     def __init__(self) -> None:
-        self.lines: List[bytes] = []
+        self.lines: list[bytes] = []
         self.shows = self.exports = 0
 
-    def answer(self, command: bytes) -> Optional[Reply]:
+    def answer(self, command: bytes) -> Reply | None:
         """Does a command and gives its reply, as it is unless memory runs out. None stands for one that the source decides."""
         words = COMMAND.fullmatch(command)
         if words is None:
@@ -158,17 +158,17 @@ class Session:
         self.shows += 1
         return Text(tuple(self.lines))
 
-    def _export(self) -> Optional[Reply]:
+    def _export(self) -> Reply | None:
         if self.exports == ANSWERED:
             return Refused("TooManyExports")
         self.exports += 1
         return None
 
 
-def commands_of(script: bytes) -> Dict[bytes, List[bytes]]:
+def commands_of(script: bytes) -> dict[bytes, list[bytes]]:
     """The commands of each client of a script that is within its limits, by name, in the order of first appearance."""
     lines = script.split(b"\n")
-    clients: Dict[bytes, List[bytes]] = {}
+    clients: dict[bytes, list[bytes]] = {}
     for line in lines if lines[-1] else lines[:-1]:
         name, _, command = line[: len(line) - line.endswith(b"\r")].partition(b" ")
         clients.setdefault(name, []).append(command)
@@ -184,7 +184,8 @@ class _Output:
         if rest:
             raise Malformed("the last line of the output has no end")
 
-    def take(self, count: int = 1) -> List[bytes]:
+    def take(self, count: int = 1) -> list[bytes]:
+        """The next lines. Raises Malformed where fewer are left."""
         taken = self._lines[self._at : self._at + count]
         if len(taken) < count:
             raise Malformed("the output ends too early")
@@ -252,7 +253,7 @@ def _as_type(match: "re.Match[bytes]", left: _Output) -> Reply:
     return Complex(match["count"].decode()) if match["count"] else NoMemory()
 
 
-def _solid(lines: List[bytes]) -> Solid:
+def _solid(lines: list[bytes]) -> Solid:
     """The solid of a 4OFF text in its one spelling, in which vertices are numbered as the faces first have them."""
     header = HEADER.fullmatch(lines[1]) if len(lines) > 1 and lines[0] == b"4OFF" else None
     if header is None:

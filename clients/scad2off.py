@@ -3,27 +3,28 @@
 from __future__ import annotations
 
 import os
-import signal
-import sys
 from dataclasses import replace
-from typing import Iterator, List, NoReturn, Optional, Sequence, Tuple
+from typing import Iterator, Sequence
 
 from batches import batches
+from ending import BAD_CALL, PART_FAULT, ended
 from faults import STATUSES, explanation
-from files import read_file, refusal_to_write, say, write_file
+from files import called, read_file, refusal_to_write, say, write_file
 from scad2off_told import Part, limit_told, reply_told
 from scad2off_words import HELP, BadCall, Options, options_of, outs_of
 from scadserve import SCRIPT_BYTES, SERVER, Fault, Malformed, NoMemory, Reply, ServerFailed, Solid, passed_limit, run
 
-PART_FAULT, BAD_CALL, NO_MEMORY, NO_ANSWER, NOT_STARTED, INTERRUPTED, PIPE_CLOSED = 1, 2, 6, 125, 127, 130, 141
+NO_MEMORY, NO_ANSWER = 6, 125
 
 
 def main(words: Sequence[str]) -> int:
     """Does what the words of a call ask for, and gives its status. The environment's SCADSERVE names another server."""
     server = [os.environ["SCADSERVE"]] if os.environ.get("SCADSERVE") else SERVER
-    for it in (signal.SIGTERM, signal.SIGHUP):
-        if signal.getsignal(it) is not signal.SIG_IGN:
-            signal.signal(it, _end)
+    return ended(lambda: _told(words, server))
+
+
+def _told(words: Sequence[str], server: Sequence[str]) -> int:
+    """The status, with what is wrong with the whole call told."""
     try:
         return _do(options_of(words), server)
     except BadCall as bad:
@@ -35,15 +36,6 @@ def main(words: Sequence[str]) -> int:
     except Malformed as malformed:
         say(f"scad2off: the server's output is no answer: {malformed}\n")
         return NO_ANSWER
-    except BrokenPipeError:
-        return PIPE_CLOSED
-    except KeyboardInterrupt:
-        return INTERRUPTED
-
-
-def _end(number: int, _frame: object) -> NoReturn:
-    """Ends by a signal, so that the server is ended and no file is left half written."""
-    sys.exit(128 + number)
 
 
 def _do(options: Options, server: Sequence[str]) -> int:
@@ -81,7 +73,7 @@ def _explained(word: str) -> int:
     return _written("-", said.encode())
 
 
-def _parts(options: Options) -> List[Part]:
+def _parts(options: Options) -> list[Part]:
     """The parts of a call. Raises BadCall where a file can't be read, or none can be written where its text goes."""
     parts, refused = [], []
     sources = [_identity(it) for it in options.files]
@@ -90,19 +82,18 @@ def _parts(options: Options) -> List[Part]:
             # (a source that is larger than a script is past a limit)
             lines = read_file(file, SCRIPT_BYTES + 1).split(b"\n")
         except OSError as error:
-            refused.append(f"cannot open {'standard input' if file == '-' else file}: {error.strerror}")
+            refused.append(f"cannot open {called(file, 'standard input')}: {error.strerror}")
             continue
         if os.path.isfile(out) and _identity(out) in sources:
             refused.append(f"cannot write {out}: that is a source")
-        name = "<stdin>" if file == "-" else file
-        parts.append(Part(name, lines if lines[-1] else lines[:-1], options.definitions, out))
+        parts.append(Part(called(file), lines if lines[-1] else lines[:-1], options.definitions, out))
     refused = refused or _refused_outs(options)
     if refused:
         raise BadCall(*refused)
     return parts
 
 
-def _identity(path: str) -> Optional[Tuple[int, int]]:
+def _identity(path: str) -> tuple[int, int] | None:
     """What tells a file from others, whatever it is called; None where there is none."""
     try:
         found = os.stat(path)
@@ -111,7 +102,7 @@ def _identity(path: str) -> Optional[Tuple[int, int]]:
     return found.st_dev, found.st_ino
 
 
-def _refused_outs(options: Options) -> List[str]:
+def _refused_outs(options: Options) -> list[str]:
     """Why nothing can be written where the texts go; makes the folder that is asked for."""
     out = options.out or "-"
     if options.folder is not None:
@@ -124,14 +115,14 @@ def _refused_outs(options: Options) -> List[str]:
     return [] if why is None else [f"cannot write {options.folder or out}: {why}"]
 
 
-def _script_written(parts: List[Part], options: Options) -> int:
+def _script_written(parts: list[Part], options: Options) -> int:
     scripts = [bytes(it.script) for it in batches([it.lines() for it in parts], options.half)]
     if len(scripts) != 1:
         raise BadCall(f"these files make {len(scripts)} scripts, and --script prints one")
     return _written(options.out or "-", scripts[0])
 
 
-def _answered(parts: List[Part], half: bool, server: Sequence[str]) -> Iterator[Tuple[Part, Reply]]:
+def _answered(parts: list[Part], half: bool, server: Sequence[str]) -> Iterator[tuple[Part, Reply]]:
     """The parts, in order, each with what its export is answered; as few runs of the server as can be."""
     for batch in batches([it.lines() for it in parts], half):
         [answers] = run([batch.script], server)
@@ -169,6 +160,6 @@ def _written(out: str, data: bytes) -> int:
     except BrokenPipeError:
         raise
     except OSError as error:
-        say(f"scad2off: cannot write {'standard output' if out == '-' else out}: {error.strerror}\n")
+        say(f"scad2off: cannot write {called(out, 'standard output')}: {error.strerror}\n")
         return BAD_CALL
     return 0

@@ -3,7 +3,7 @@
 from __future__ import annotations
 
 from dataclasses import dataclass
-from typing import List, Sequence
+from typing import Sequence
 
 from faults import COMPLEX, EMPTY, LIMITS, NO_MEMORY, excerpt, what_is_wrong
 from scadserve import Complex, Fault, Reply, Solid
@@ -14,11 +14,11 @@ class Part:
     """A source file: its name as it is told, its lines, the NAME=VALUE behind them, and the file its text goes to."""
 
     name: str
-    own_lines: List[bytes]
+    own_lines: list[bytes]
     definitions: Sequence[str]
     out: str
 
-    def lines(self) -> List[bytes]:
+    def lines(self) -> list[bytes]:
         """The lines of the source that is exported."""
         return self.own_lines + [it.encode("utf-8", "surrogateescape") + b";" for it in self.definitions]
 

@@ -6,7 +6,7 @@ import getopt
 import os
 import re
 from dataclasses import dataclass, field
-from typing import List, Optional, Sequence
+from typing import Sequence
 
 HELP = """usage: scad2off [-o OUT | -d DIR] [--half] [-D NAME=VALUE].. [--allow-empty] [--script] FILE.. | -
        scad2off --explain WORD
@@ -23,11 +23,14 @@ Prints the 4OFF text of the solid that an OpenSCAD source FILE describes (`-` is
   --               all that follows are FILEs
 
 The status is 0 where all went well, 1 where a part has a fault, 2 where the words are wrong or a file can't be read or
-written, 130 after Ctrl-C, and else that of the server. SCADSERVE in the environment names another server than ./scadserve.
+written, 6 where memory ran out for a part, 125 where the server gave no answer, 127 where it doesn't start, 130 after Ctrl-C,
+and else that of the server. SCADSERVE in the environment names another server than ./scadserve.
 """
 
 VALUES = {"-o": "out", "-d": "folder", "--explain": "explain"}
 SWITCHES = {"-h": "help", "--help": "help", "--half": "half", "--allow-empty": "allow_empty", "--script": "script"}
+# What is made of a 4OFF text, by the ending of a file, and by which tool.
+TOOLS = {".stl": "off2stl", ".3mf": "off2stl", ".obj": "off2stl", ".svg": "off2svg"}
 DEFINITION = re.compile(r"\$?[A-Za-z_][A-Za-z0-9_]*=[^\n]*")
 
 
@@ -39,21 +42,21 @@ class BadCall(Exception):
 class Options:
     """What a call asks for."""
 
-    out: Optional[str] = None
-    folder: Optional[str] = None
+    out: str | None = None
+    folder: str | None = None
     half: bool = False
-    definitions: List[str] = field(default_factory=list)
+    definitions: list[str] = field(default_factory=list)
     allow_empty: bool = False
     script: bool = False
-    explain: Optional[str] = None
+    explain: str | None = None
     help: bool = False
-    files: List[str] = field(default_factory=list)
+    files: list[str] = field(default_factory=list)
 
 
 def options_of(words: Sequence[str]) -> Options:
     """What these words ask for. Raises BadCall where they ask for nothing that can be done."""
     try:
-        pairs, files = getopt.gnu_getopt(words, "o:d:D:h", ["half", "allow-empty", "script", "explain=", "help"])
+        pairs, files = getopt.gnu_getopt(list(words), "o:d:D:h", ["half", "allow-empty", "script", "explain=", "help"])
     except getopt.GetoptError as error:
         raise BadCall(f"{error.msg} (--help says what there is)") from error
     options = Options(files=files)
@@ -79,6 +82,9 @@ def _test(options: Options) -> None:
         raise BadCall("no FILE is named (--help says what there is)")
     if options.out is not None and options.folder is not None:
         raise BadCall("-o and -d can't both be given")
+    tool = TOOLS.get(os.path.splitext(options.out or "")[1].lower())
+    if tool:
+        raise BadCall(f"{options.out} would be a 4OFF text: {tool} makes such a file of one")
     if options.script and options.folder is not None:
         raise BadCall("--script prints one script, so -d can't be given with it")
     if len(files) > 1 and options.folder is None and not options.script:
@@ -87,11 +93,11 @@ def _test(options: Options) -> None:
         raise BadCall("`-` is read once, and has no name for -d")
 
 
-def outs_of(options: Options) -> List[str]:
+def outs_of(options: Options) -> list[str]:
     """The file that the text of each FILE goes to; `-` is standard output. Raises BadCall where two go to one."""
     if options.folder is None:
         return [options.out or "-"] * len(options.files)
-    outs = {}
+    outs: dict[str, str] = {}
     for file in options.files:
         name = os.path.basename(file)
         out = os.path.join(options.folder, (name[:-5] if name.endswith(".scad") else name) + ".4off")

@@ -18,16 +18,15 @@ import os
 import re
 import signal
 import subprocess
-from typing import Dict, Iterable, List, Optional, Sequence
+from typing import Iterable, Sequence
 
 from replies import ANSWERED, SOURCE_LINES, Answers, Complex, Fault, Malformed, NoMemory, Ok, Refused, Reply
 from replies import Session, Solid, Text, printed, read
 
-__all__ = [
-    *("Script", "Client", "run", "passed_limit", "read", "printed", "Answers", "Reply"),
-    *("Ok", "Refused", "Text", "Solid", "Fault", "Complex", "NoMemory", "Limit", "Malformed"),
-    *("ServerFailed", "NotStarted", "BadWords", "BadScript", "ReadFault", "WriteFault", "OutOfMemory"),
-]
+# What a program that sends scripts needs, the types of replies too.
+__all__ = ["Script", "Client", "run", "passed_limit", "read", "printed", "Answers", "Reply", "Ok", "Refused", "Text", "Solid"]
+__all__ += ["Fault", "Complex", "NoMemory", "Limit", "Malformed", "ServerFailed", "NotStarted", "BadWords", "BadScript"]
+__all__ += ["ReadFault", "WriteFault", "OutOfMemory"]
 
 SCRIPT_BYTES = 1_048_576
 LINE_BYTES = 1_024  # (of a line of a script, without its end)
@@ -121,7 +120,7 @@ class Client:
             return False
         return self._session.exports < ANSWERED
 
-    def _rewriting(self, lines: Sequence[bytes]) -> List[bytes]:
+    def _rewriting(self, lines: Sequence[bytes]) -> list[bytes]:
         """The commands that make these lines the whole source."""
         if len(lines) > SOURCE_LINES:
             raise Limit("TooManyLines")
@@ -156,8 +155,8 @@ class Script:
 
     def __init__(self, half: bool = False) -> None:
         self.half = half
-        self._clients: Dict[str, Client] = {}
-        self._lines: List[bytes] = []
+        self._clients: dict[str, Client] = {}
+        self._lines: list[bytes] = []
         self._length = 0
 
     def client(self, name: str) -> Client:
@@ -181,7 +180,7 @@ class Script:
         return b"".join(self._lines)
 
 
-def run(scripts: Iterable[Script], server: Sequence[str] = SERVER) -> List[Answers]:
+def run(scripts: Iterable[Script], server: Sequence[str] = SERVER) -> list[Answers]:
     """What each script is answered: the replies of each client, by name. The server is these words before its own.
 
     Raises ServerFailed, or one of its kinds, where the server does not start or ends with a status other than 0, and
@@ -190,7 +189,7 @@ def run(scripts: Iterable[Script], server: Sequence[str] = SERVER) -> List[Answe
     return [read(bytes(it), _output(it, server)) for it in scripts]
 
 
-def passed_limit(lines: Sequence[bytes]) -> Optional[Fault]:
+def passed_limit(lines: Sequence[bytes]) -> Fault | None:
     """The first limit that a source passes though nothing stands beside it: TooManyLines, TooLong or TooLarge at its place.
 
     A line is too long at its first byte past 1,016. The source is too large at the line with which a script passes its
@@ -212,7 +211,7 @@ def passed_limit(lines: Sequence[bytes]) -> Optional[Fault]:
     return None
 
 
-def _puts(name: bytes, lines: Sequence[bytes]) -> List[bytes]:
+def _puts(name: bytes, lines: Sequence[bytes]) -> list[bytes]:
     """Commands that put these lines into an empty source: in order or, where one is too long to be put behind its own
     number, from the last to the first, each as line 1."""
     in_order = [b"put %d %b" % it for it in enumerate(lines, 1)]

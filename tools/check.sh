@@ -1,6 +1,7 @@
 #!/bin/sh
-# Runs all tests of what stands round the proved program: each file test_*.py below clients/. They need Python 3 alone, and
-# no built program. The last line says how many passed, failed and were skipped.
+# Runs all tests of what stands round the proved program: each file test_*.py below clients/. They need Python 3.9 or later
+# alone. Tests of the program itself are skipped where it is not built and SCADSERVE names none. The last line says how many
+# passed, failed and were skipped.
 set -u
 top=$(dirname "$(dirname "$(readlink -f "$0")")")
 exec python3 -B - "$top/clients" <<'PYTHON'

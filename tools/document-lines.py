@@ -11,13 +11,12 @@ from __future__ import annotations
 import re
 import sys
 from pathlib import Path
-from typing import List, Optional, Tuple
 
 TOP = Path(__file__).resolve().parent.parent
 ROW = re.compile(r"^\| `(?P<name>\w+)` \| `(?P<file>crates/[\w/]+\.rt):(?P<line>\d+)` \|", re.MULTILINE)
 
 
-def line_of(name: str, file: str) -> Optional[int]:
+def line_of(name: str, file: str) -> int | None:
     """The line, from 1, on which the one function of this name begins; None where there is no such file or function."""
     try:
         lines = (TOP / file).read_text(encoding="utf-8").splitlines()
@@ -28,10 +27,10 @@ def line_of(name: str, file: str) -> Optional[int]:
     return found[0] if len(found) == 1 else None
 
 
-def set_right(text: str) -> Tuple[str, List[str], List[str]]:
+def set_right(text: str) -> tuple[str, list[str], list[str]]:
     """The text with the right lines, what was wrong in it, and what is not there at all."""
-    wrong: List[str] = []
-    missing: List[str] = []
+    wrong: list[str] = []
+    missing: list[str] = []
 
     def row(match: re.Match[str]) -> str:
         line = line_of(match["name"], match["file"])
@@ -45,7 +44,7 @@ def set_right(text: str) -> Tuple[str, List[str], List[str]]:
     return ROW.sub(row, text), wrong, missing
 
 
-def main(words: List[str]) -> int:
+def main(words: list[str]) -> int:
     if words not in ([], ["--write"]):
         print(__doc__, file=sys.stderr)
         return 2

@@ -8,7 +8,9 @@ import unittest
 
 TOP = os.path.dirname(os.path.dirname(os.path.dirname(os.path.realpath(__file__))))
 STAND_IN = os.path.join(TOP, "clients", "tests", "stand_in.py")
-
+# What `rt ci` has built, or another program that is to be tested.
+PROGRAM = os.environ.get("SCADSERVE") or os.path.join(TOP, "crates", "scadserve", "out", "scadserve")
+needs_program = unittest.skipUnless(os.access(PROGRAM, os.X_OK), "the program is not built")
 
 # (without the packages of the machine, which Python is slow to look for)
 SCAD2OFF = [sys.executable, "-S", os.path.join(TOP, "scad2off")]
@@ -24,7 +26,9 @@ class Calls(unittest.TestCase):
         self.folder = os.path.join(folder.name, "here")
         os.mkdir(self.log)
         os.mkdir(self.folder)
-        self.environment = {**os.environ, "SCADSERVE": STAND_IN, "STAND_IN_LOG": self.log}
+        # (the stand-in runs by this very Python, and not by a script that looks for one)
+        path = os.path.dirname(sys.executable) + os.pathsep + os.environ["PATH"]
+        self.environment = {**os.environ, "SCADSERVE": STAND_IN, "STAND_IN_LOG": self.log, "PATH": path}
 
     def path(self, name):
         return os.path.join(self.folder, name)

@@ -6,7 +6,7 @@ import re
 from fractions import Fraction
 from math import lcm
 
-TOP = os.path.dirname(os.path.dirname(os.path.dirname(os.path.realpath(__file__))))
+from tests.calls import TOP
 
 #: The empty solid.
 EMPTY = b"4OFF\n0 0 0\n"

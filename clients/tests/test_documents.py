@@ -7,14 +7,17 @@ built, each is run. A block below a cure is a source that is answered by a solid
 from __future__ import annotations
 
 import re
+import shlex
 import subprocess
 import sys
 import unittest
 from pathlib import Path
-from typing import Dict, List, NamedTuple
+from typing import NamedTuple
 
-TOP = Path(__file__).resolve().parents[2]
-PROGRAM = TOP / "crates/scadserve/out/scadserve"
+from tests import calls
+from tests.calls import PROGRAM, needs_program
+
+TOP = Path(calls.TOP)
 DOCUMENTS = [TOP / "README.md", *sorted((TOP / "docs").glob("*.md"))]
 
 SECTION = re.compile(
@@ -36,16 +39,16 @@ UNKNOWN = {"corners", "vertices", "NoMemory"}
 class Section(NamedTuple):
     """A word of docs/FAULTS.md: a source, or commands behind `$`, the answer, and a source that has none of it."""
 
-    source: List[str]
+    source: list[str]
     answer: str
-    cured: List[str]
+    cured: list[str]
 
 
-def lines(block: str) -> List[str]:
+def lines(block: str) -> list[str]:
     return [it[4:] for it in (block or "").splitlines()]
 
 
-def sections() -> Dict[str, Section]:
+def sections() -> dict[str, Section]:
     """The sections by word. Raises AssertionError at one of another form."""
     found = {}
     for text in re.split(r"^(?=## )", (TOP / "docs/FAULTS.md").read_text(encoding="utf-8"), flags=re.MULTILINE)[1:]:
@@ -55,18 +58,24 @@ def sections() -> Dict[str, Section]:
     return found
 
 
-def script_of(sources: List[List[str]]) -> str:
+def script_of(sources: list[list[str]]) -> str:
     """A script of clients that put and export a source each."""
     return "".join(
         f"c{number} put {at} {line}\n" for number, source in enumerate(sources) for at, line in enumerate(source, 1)
     ) + "".join(f"c{number} export\n" for number in range(len(sources)))
 
 
-def answers(sources: List[List[str]]) -> List[str]:
+def output(sources: list[list[str]]) -> str:
+    """What the program, started as ./scadserve does it, answers exports of up to 16 sources."""
+    words = ["sh", "-c", '. "$0/memory.sh" && exec "$@"', TOP, PROGRAM, "run"]
+    return subprocess.run(words, input=script_of(sources).encode(), stdout=subprocess.PIPE, check=True).stdout.decode()
+
+
+def answers(sources: list[list[str]]) -> list[str]:
     """What the exports of up to 16 sources are answered, without the numbers."""
-    said = subprocess.run([PROGRAM, "run"], input=script_of(sources).encode(), stdout=subprocess.PIPE, check=True)
-    exports = re.findall(r"^\d+ ((?:solid|fault|complex|nomem).*)$", said.stdout.decode(), re.MULTILINE)
-    assert len(exports) == len(sources), said.stdout[:200]
+    said = output(sources)
+    exports = re.findall(r"^\d+ ((?:solid|fault|complex|nomem).*)$", said, re.MULTILINE)
+    assert len(exports) == len(sources), said[:200]
     return exports
 
 
@@ -90,7 +99,7 @@ class Faults(unittest.TestCase):
     def test_only_these_words_have_no_source(self) -> None:
         self.assertEqual({word for word, it in sections().items() if not it.source}, UNKNOWN)
 
-    @unittest.skipUnless(PROGRAM.exists(), "the proved program isn't built")
+    @needs_program
     def test_sources_have_their_answers(self) -> None:
         found = [(word, it) for word, it in sections().items() if it.source and not it.source[0].startswith("$")]
         for at in range(0, len(found), 16):
@@ -98,18 +107,18 @@ class Faults(unittest.TestCase):
             for (word, it), answer in zip(found[at : at + 16], said):
                 self.assertEqual(answer, it.answer, word)
 
-    @unittest.skipUnless(PROGRAM.exists(), "the proved program isn't built")
+    @needs_program
     def test_cured_sources_are_solids(self) -> None:
         found = [(word, it.cured) for word, it in sections().items() if it.cured]
         for at in range(0, len(found), 16):
             for (word, _), answer in zip(found[at : at + 16], answers([it for _, it in found[at : at + 16]])):
                 self.assertTrue(answer.startswith("solid ") and answer != "solid 2", f"{word}: {answer}")
 
-    @unittest.skipUnless(PROGRAM.exists(), "the proved program isn't built")
+    @needs_program
     def test_commands_have_their_answers(self) -> None:
         for word, it in sections().items():
             if it.source and it.source[0].startswith("$"):
-                command = "\n".join(it.source)[2:]
+                command = "\n".join(it.source)[2:].replace("./scadserve", shlex.quote(PROGRAM))
                 said = subprocess.run(command, shell=True, cwd=TOP, stdout=subprocess.PIPE, stderr=subprocess.DEVNULL, check=False)
                 printed = [re.sub(r"^\d+ ", "", line) for line in said.stdout.decode().splitlines()]
                 self.assertIn(it.answer, printed, word)
@@ -133,7 +142,7 @@ class Differences(unittest.TestCase):
         11: ((0, 0, 0), (2, 2, 2)),
     }
 
-    def rows(self) -> Dict[int, List[str]]:
+    def rows(self) -> dict[int, list[str]]:
         text = (TOP / "docs/OPENSCAD.md").read_text(encoding="utf-8")
         found = re.findall(r"^\| (\d+) \| [^|]* \| (`[^|]*`) \|", text, re.MULTILINE)
         return {int(number): re.findall(r"`([^`]+)`", cell) for number, cell in found}
@@ -142,11 +151,10 @@ class Differences(unittest.TestCase):
         self.assertEqual(set(self.rows()), set(self.BOXES))
         self.assertEqual({len(it) for it in self.rows().values()}, {2})
 
-    @unittest.skipUnless(PROGRAM.exists(), "the proved program isn't built")
+    @needs_program
     def test_sources_are_answered_so(self) -> None:
         for number, source in self.rows().items():
-            said = subprocess.run([PROGRAM, "run"], input=script_of([source]).encode(), stdout=subprocess.PIPE, check=True)
-            vertices = re.findall(r"^(-?\d+) (-?\d+) (-?\d+) 1$", said.stdout.decode(), re.MULTILINE)
+            vertices = re.findall(r"^(-?\d+) (-?\d+) (-?\d+) 1$", output([source]), re.MULTILINE)
             axes = [[int(it) for it in axis] for axis in zip(*vertices)]
             box = (tuple(map(min, axes)), tuple(map(max, axes))) if axes else None
             self.assertEqual(box, self.BOXES[number], number)
@@ -175,7 +183,7 @@ class Places(unittest.TestCase):
         self.assertEqual((said.returncode, said.stdout.decode()), (0, ""))
 
 
-def headings(file: Path) -> List[str]:
+def headings(file: Path) -> list[str]:
     """The anchors of a document's headings: lower case, spaces as hyphens, all else but letters and digits left out."""
     found = re.findall(r"^#+ (.+)$", file.read_text(encoding="utf-8"), re.MULTILINE)
     return [re.sub(r"[^a-z0-9 -]", "", it.lower()).replace(" ", "-") for it in found]

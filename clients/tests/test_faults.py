@@ -52,7 +52,9 @@ class Lines(unittest.TestCase):
         ("Expected", b'a "b c" d', 3, '"b c" can\'t follow what stands before it'),
         ("Expected", b'"' + b"x" * 99, 1, '"' + "x" * 39 + ".. can't follow what stands before it"),
         ("Expected", None, 1, "the source ends in the middle of a statement"),
-        ("BadCharacter", b"\xef\xbb\xbfcube(1);", 1, "\\ufeff can't stand here"),
+        ("NotInProfile", b"cylinder(2, r = 3);", 1, "this form of cylinder is left out of this profile of OpenSCAD"),
+        ("BadCharacter", b"\xef\xbb\xbfcube(1);", 1, "a byte order mark can't stand here"),
+        ("BadCharacter", b"x = \xef\xbb\xbf\xc3\xa4;", 5, "\\ufeffä can't stand here"),
         ("BadCharacter", b"cube(\x00);", 6, "\\x00 can't stand here"),
         ("OutOfRange", b"  cube(9999);", 3, "a coordinate of cube is past its limit"),
         ("SomethingNew", b"cube(1);", 1, "SomethingNew"),
@@ -62,6 +64,20 @@ class Lines(unittest.TestCase):
         for word, line, column, said in self.CASES:
             with self.subTest(word=word, line=line):
                 self.assertEqual(faults.what_is_wrong(word, line, column)[0], said)
+
+    def test_forms_of_a_word_and_divisions_have_cures_of_their_own(self):
+        for word, line, column, part in (
+            ("NotInProfile", b"circle(3);", 1, "$fn = 4"),
+            ("NotInProfile", b"cylinder(h = 2, d = 3);", 1, "twelve corners"),
+            ("NotInProfile", b"sphere(3);", 1, "docs/OPENSCAD.md"),
+            ("NotInProfile", b"rotate(90, [0, 0, 1]) cube(1);", 1, "docs/OPENSCAD.md"),
+            ("NotWhole", b"cube(2.5);", 6, "off2stl --unit 1/10"),
+            ("NotWhole", b"w = 7 / 2;", 7, "(w - w % 2) / 2"),
+        ):
+            with self.subTest(line=line):
+                self.assertIn(part, faults.what_is_wrong(word, line, column)[1])
+        for cure in [*faults.FORMS.values(), faults.EVEN]:
+            self.assertLess(len(cure), 110)
 
 
 class Explanations(Calls):

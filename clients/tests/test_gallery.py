@@ -15,8 +15,7 @@ import gallery
 from fouroff import read
 from fouroff_measures import Volume, box, shown, volume
 from tests import solids
-
-PROGRAM = f"{solids.TOP}/crates/scadserve/out/scadserve"
+from tests.calls import PROGRAM, TOP, needs_program
 
 # Edges times edges times heights, as the sources have them; what overlaps is taken off once.
 ANGLE = 20 * 12 * 2 + 2 * 12 * 16 - 2 * 12 * 2 + 8 * 8 * 2 // 2
@@ -60,7 +59,7 @@ BY_HAND = {
 
 class Parts(unittest.TestCase):
     def test_the_parts_are_those_with_sources(self):
-        names = sorted(name[: -len(".scad")] for name in os.listdir(f"{solids.TOP}/gallery") if name.endswith(".scad"))
+        names = sorted(name[: -len(".scad")] for name in os.listdir(f"{TOP}/gallery") if name.endswith(".scad"))
         self.assertEqual(names, sorted(gallery.PARTS))
         self.assertEqual(names, sorted(BY_HAND))
         self.assertEqual(names, sorted(solids.gallery()))
@@ -81,7 +80,7 @@ class Parts(unittest.TestCase):
 
     def test_each_source_says_what_it_is(self):
         for name in gallery.PARTS:
-            with open(f"{solids.TOP}/gallery/{name}.scad", "rb") as source:
+            with open(f"{TOP}/gallery/{name}.scad", "rb") as source:
                 self.assertRegex(source.readline(), rb"\A// [A-Z].*[.:0-9]")
 
 
@@ -93,7 +92,7 @@ class Made(unittest.TestCase):
     def test_all_files_are_as_they_are_made(self):
         self.assertEqual(gallery.differences(self.files), [])
 
-    @unittest.skipUnless(os.access(PROGRAM, os.X_OK), "the program is not built")
+    @needs_program
     @mock.patch.dict(os.environ, {"SCADSERVE": PROGRAM})
     def test_the_program_makes_the_texts(self):
         self.assertEqual(gallery.run_texts(), gallery.kept_texts())
@@ -107,7 +106,7 @@ class Made(unittest.TestCase):
         self.assertEqual(gallery.differences(files), [place + " is not made"])
 
     def test_the_script(self):
-        done = subprocess.run([f"{solids.TOP}/tools/gallery.sh", "--kept", "--compare"], stdout=subprocess.PIPE, check=False)
+        done = subprocess.run([f"{TOP}/tools/gallery.sh", "--kept", "--compare"], stdout=subprocess.PIPE, check=False)
         self.assertEqual((done.returncode, done.stdout), (0, b"25 files compared, 0 differ\n"))
 
     def test_faults(self):
@@ -116,7 +115,7 @@ class Made(unittest.TestCase):
                 with contextlib.redirect_stderr(io.TextIOWrapper(io.BytesIO())) as error:
                     self.assertEqual(gallery.main(words), status)
                     self.assertEqual(error.buffer.getvalue().count(b"\n"), 1)
-            shutil.copytree(f"{solids.TOP}/gallery", f"{top}/gallery")
+            shutil.copytree(f"{TOP}/gallery", f"{top}/gallery")
             with open(f"{top}/gallery/star.4off", "wb") as file:
                 file.write(b"4OFF\n")
             with contextlib.redirect_stderr(io.TextIOWrapper(io.BytesIO())) as error:

@@ -16,7 +16,8 @@ from unittest import mock
 
 import off2stl
 from tests import tool_case
-from tests.solids import CUT_CUBE, EMPTY, TOP, box, gallery, off, split_box
+from tests.calls import TOP
+from tests.solids import CUT_CUBE, EMPTY, box, gallery, off, split_box
 
 BLOCK = off(box((0, 0, 0), (20, 12, 16)))
 
@@ -216,6 +217,10 @@ class Faults(Case):
             self.file("old.stl", b"as it was")
             self.assert_fault(2, ["-o", self.path("old.stl"), self.file("a.4off", data)], said)
             self.assertEqual(self.bytes_of("old.stl"), b"as it was")
+
+    def test_a_source_is_told_as_that(self):
+        said = "part.scad:1: the first line is not '4OFF': scad2off makes a 4OFF text of a source\n"
+        self.assert_fault(2, ["-o", self.path("a.stl"), self.file("part.scad", b"cube(2);\n")], said)
 
     def test_a_write_that_fails_leaves_the_old_file(self):
         file, old = self.file("a.4off", BLOCK), self.file("old.stl", b"as it was")

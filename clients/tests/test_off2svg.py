@@ -14,7 +14,8 @@ from fouroff import flatten, read, turn
 from off2painter import Patch, crossing, divide, outline, painted, side, visible_patches
 from off2svg import Camera
 from tests import tool_case
-from tests.solids import CUT_CUBE, EMPTY, TOP, box, comb, examples, gallery, off, split_box
+from tests.calls import TOP
+from tests.solids import CUT_CUBE, EMPTY, box, comb, examples, gallery, off, split_box
 
 def patches(data, view):
     """The patches of a solid in the order in which they are painted."""

@@ -5,9 +5,8 @@ import os
 import unittest
 
 from scadserve import BadScript, Fault, Ok, Script, Solid, Text, printed, read, run
-from tests.calls import TOP, Calls
+from tests.calls import PROGRAM, TOP, Calls, needs_program
 
-PROGRAM = os.environ.get("SCADSERVE") or os.path.join(TOP, "crates", "scadserve", "out", "scadserve")
 MIB = 1_048_576
 
 
@@ -21,7 +20,7 @@ class Raw:
         return self.script
 
 
-@unittest.skipUnless(os.access(PROGRAM, os.X_OK), "the program is not built")
+@needs_program
 class Program(Calls):
     def setUp(self):
         super().setUp()

@@ -80,6 +80,8 @@ class Words(Calls):
             (["-D", "w=1\nx=2", "a.scad"], "-D takes NAME=VALUE"),
             (["-o", "a.scad", "a.scad"], "cannot write a.scad: that is a source"),
             (["-d", ".", "b/x.scad", "x.4off"], "cannot write ./x.4off: that is a source"),
+            (["-o", "a.STL", "a.scad"], "a.STL would be a 4OFF text: off2stl makes such a file of one"),
+            (["-o", "a.svg", "a.scad"], "a.svg would be a 4OFF text: off2svg makes such a file of one"),
             (["-o", "b", "a.scad"], "cannot write b: Is a directory"),
             (["-o", "no/a.4off", "a.scad"], "cannot write no/a.4off: No such file or directory"),
             (["-d", "a.scad", "a.scad"], "cannot make the folder a.scad: File exists"),
@@ -135,18 +137,33 @@ class Statuses(Calls):
 
     def test_an_interrupt_ends_the_server_too_and_leaves_no_file(self):
         self.write("part.scad", "//= wait\n")
-        for number, status in ((signal.SIGINT, 130), (signal.SIGTERM, 143)):
+        for number, status in ((signal.SIGINT, 130), (signal.SIGTERM, 143), (signal.SIGHUP, 129)):
             with self.subTest(status=status):
-                began = len(self.runs())
-                tool = subprocess.Popen(
-                    [*SCAD2OFF, "part.scad", "-o", "part.4off"], cwd=self.folder, env=self.environment,
-                    stderr=subprocess.PIPE, preexec_fn=lambda: signal.signal(signal.SIGINT, signal.default_int_handler),
-                )
-                while len(self.runs()) == began:
-                    time.sleep(0.02)
-                tool.send_signal(number)
-                error = tool.communicate(timeout=100)[1]
-                self.assertEqual((tool.returncode, error, self.names()), (status, b"", ["part.scad"]))
+                self.assertEqual(self.ended_by(number, ignoring=()), status)
+
+    def test_a_hangup_that_is_ignored_ends_nothing(self):
+        self.write("part.scad", "//= wait\n")
+        self.assertEqual(self.ended_by(signal.SIGHUP, signal.SIGTERM, ignoring=(signal.SIGHUP,)), 143)
+
+    def ended_by(self, *numbers, ignoring):
+        """The status of a call that waits for the server and is sent these signals."""
+
+        def prepare():
+            for number in (signal.SIGINT, signal.SIGTERM, signal.SIGHUP):
+                signal.signal(number, signal.SIG_IGN if number in ignoring else signal.SIG_DFL)
+
+        began = len(self.runs())
+        tool = subprocess.Popen(
+            [*SCAD2OFF, "part.scad", "-o", "part.4off"],
+            cwd=self.folder, env=self.environment, stderr=subprocess.PIPE, preexec_fn=prepare,
+        )
+        while len(self.runs()) == began:
+            time.sleep(0.02)
+        for number in numbers:
+            tool.send_signal(number)
+        self.assertEqual(tool.communicate(timeout=100)[1], b"")
+        self.assertEqual(self.names(), ["part.scad"])
+        return tool.returncode
 
 
 if __name__ == "__main__":
