@@ -1,11 +1,14 @@
 //! The settings that words choose.
 
-ghost use Rattle.std.specs.Prelude.{◌≡◌, ◌≢◌, ℕ, List, map, string_bytes, IfSome, IfNone, IfOk, IsTrue, IfErr, OnErr, MatchResult};
+ghost use Rattle.std.specs.Prelude.{◌≡◌, ◌≢◌, ℕ, List, map, string_bytes, IfSome, IfNone, IfOk, IsErrOf};
 ghost use Rattle.run_words.specs.declared.settings.Settings.{Settings};
-ghost use Rattle.run_words.specs.Words.{chosen, AreInRange, AreRunOptions, AreDemoWords, Chooses, AreOutside};
+ghost use Rattle.run_words.specs.Words.{chosen, AreInRange, Chooses, AreOutside};
 
-use crate::given::{Given, gather};
-use text_place::read_decimal;
+use crate::command::program;
+use crate::given::{Given, given_in, number_in};
+use clap::error::ErrorKind;
+use clap::{ArgMatches, Error};
+use std::alloc::{AllocError, Global};
 
 /// What the program is to do.
 #[derive(Clone, Copy, PartialEq, Eq)]
@@ -33,6 +36,23 @@ pub enum Settings {
 pub enum WordsFault {
     /// The words are outside the grammar.
     BadWords,
+    /// Memory ran out.
+    NoMemory,
+}
+
+impl From<AllocError> for WordsFault {
+    fn from(_error: AllocError) -> WordsFault {
+        WordsFault::NoMemory
+    }
+}
+
+impl From<Error> for WordsFault {
+    fn from(error: Error) -> WordsFault {
+        match error.kind() {
+            ErrorKind::OutOfMemory => WordsFault::NoMemory,
+            _ => WordsFault::BadWords,
+        }
+    }
 }
 
 // The settings, where the numbers are in their ranges.
@@ -71,50 +91,49 @@ fn with_defaults(given: Given) -> Settings
     }
 }
 
-// The settings of the words behind `run`.
-fn run_settings(words: &[String]) -> Option<Settings>
-    ensures found { IfSome result (λ settings. AreRunOptions (map string_bytes words.now) settings × AreInRange settings) }
-    ensures only { IfSome result (λ settings. (other : Settings) → AreRunOptions (map string_bytes words.now) other → other ≡ settings) }
-    ensures none { IfNone result ((settings : Settings) → AreRunOptions (map string_bytes words.now) settings → AreInRange settings → ⊥) }
-{
-    let given = gather(words)?;
+// What clap makes of the words.
+fn parse<'a>(alloc: Global, words: &'a [String]) -> Result<ArgMatches<'a>, WordsFault> {
+    let matches = program(alloc)?.try_get_matches_from(words)?;
+    Ok(matches)
+}
+
+// The settings of what clap found behind `run`.
+fn run_settings(run: &ArgMatches<'_>) -> Option<Settings> {
+    let given = given_in(run)?;
     in_range(with_defaults(given))
 }
 
-// The settings of the words behind `demo`.
-fn demo_settings(words: &[String]) -> Option<Settings>
-    ensures found { IfSome result (λ settings. AreDemoWords (map string_bytes words.now) settings × AreInRange settings) }
-    ensures only { IfSome result (λ settings. (other : Settings) → AreDemoWords (map string_bytes words.now) other → other ≡ settings) }
-    ensures none { IfNone result ((settings : Settings) → AreDemoWords (map string_bytes words.now) settings → AreInRange settings → ⊥) }
-{
-    let (digits, rest) = words.split_first()?;
-    if !rest.is_empty() {
-        return None;
-    }
-    let parts = read_decimal(digits.as_bytes())?;
+// The settings of what clap found behind `demo`.
+fn demo_settings(demo: &ArgMatches<'_>) -> Option<Settings> {
+    let parts = number_in(demo, "parts")??;
     in_range(Settings::Demo(parts))
 }
 
-// The settings of all words.
-fn settings_of(words: &[String]) -> Option<Settings>
-    ensures found { IfSome result (λ settings. Chooses (map string_bytes words.now) settings) }
-    ensures only { IfSome result (λ settings. (other : Settings) → Chooses (map string_bytes words.now) other → other ≡ settings) }
-    ensures none { IfNone result (AreOutside (map string_bytes words.now)) }
-{
-    let (first, rest) = words.split_first()?;
-    match first.as_bytes() {
-        b"run" => run_settings(rest),
-        b"demo" => demo_settings(rest),
+// The settings of what clap found.
+fn settings_in(matches: &ArgMatches<'_>) -> Option<Settings> {
+    let (name, found) = matches.subcommand()?;
+    match name.as_bytes() {
+        b"run" => run_settings(found),
+        b"demo" => demo_settings(found),
         _ => None,
     }
 }
 
+// Whether one of the words is `--`, behind which clap would take any word for a value.
+fn has_separator(words: &[String]) -> bool {
+    words.iter().any(|word| word.as_str() == "--")
+}
+
 /// The settings that the words behind the program's name choose, and `BadWords` exactly where they are outside
-/// the grammar. Takes no memory.
-pub fn read_words(words: &[String]) -> Result<Settings, WordsFault>
+/// the grammar, unless memory runs out.
+pub fn read_words(alloc: Global, words: &[String]) -> Result<Settings, WordsFault>
     ensures found { IfOk result (λ settings. Chooses (map string_bytes words.now) settings) }
     ensures only { IfOk result (λ settings. (other : Settings) → Chooses (map string_bytes words.now) other → other ≡ settings) }
-    ensures fault { OnErr result (AreOutside (map string_bytes words.now)) }
+    ensures fault { IsErrOf result WordsFault.BadWords → AreOutside (map string_bytes words.now) }
 {
-    settings_of(words).ok_or(WordsFault::BadWords)
+    if has_separator(words) {
+        return Err(WordsFault::BadWords);
+    }
+    let matches = parse(alloc, words)?;
+    settings_in(&matches).ok_or(WordsFault::BadWords)
 }
