@@ -1,5 +1,10 @@
 //! The options of `run` that were given.
 
+ghost use Rattle.std.specs.Prelude.{ℕ, Option, IfSome, IfNone};
+ghost use Rattle.clap.specs.Words.{found_of, first_of, rows_of};
+ghost use Rattle.run_words.specs.declared.given.Given.{Given};
+ghost use Rattle.run_words.specs.Reading.{Says, SayGiven, HaveFlags};
+
 use clap::ArgMatches;
 use text_place::read_decimal;
 
@@ -14,15 +19,22 @@ pub struct Given {
 }
 
 /// The number that was given under this name, if one was, and `None` where its text is no numeral.
-pub fn number_in(matches: &ArgMatches<'_>, name: &str) -> Option<Option<u64>> {
-    let Some(text) = matches.get_str(name) else {
-        return Some(None);
-    };
-    Some(Some(read_decimal(text.as_bytes())?))
+pub fn number_in(matches: &ArgMatches<'_>, name: &str) -> Option<Option<u64>>
+    ensures found { IfSome result (λ number. Says (first_of name.now (rows_of (found_of matches.now))) number) }
+    ensures none { IfNone result ((number : Option ℕ) → Says (first_of name.now (rows_of (found_of matches.now))) number → ⊥) }
+{
+    match matches.get_str(name) {
+        None => Some(None),
+        Some(text) => Some(Some(read_decimal(text.as_bytes())?)),
+    }
 }
 
 /// The options that clap found behind `run`, unless the text of a number is no numeral.
-pub fn given_in(run: &ArgMatches<'_>) -> Option<Given> {
+pub fn given_in(run: &ArgMatches<'_>) -> Option<Given>
+    requires { HaveFlags (rows_of (found_of run.now)) }
+    ensures found { IfSome result (λ given. SayGiven (rows_of (found_of run.now)) given) }
+    ensures none { IfNone result ((given : Given) → SayGiven (rows_of (found_of run.now)) given → ⊥) }
+{
     Some(Given {
         workers: number_in(run, "workers")?,
         memo: number_in(run, "memo")?,

@@ -1,13 +1,16 @@
 //! The settings that words choose.
 
-ghost use Rattle.std.specs.Prelude.{◌≡◌, ◌≢◌, ℕ, List, map, string_bytes, IfSome, IfNone, IfOk, IsErrOf};
+ghost use Rattle.std.specs.Prelude.{◌≡◌, ◌≢◌, ℕ, List, map, codes, string_bytes, Some, IfSome, IfNone, IfOk, IsErrOf, IsTrue, IsFalse};
+ghost use Rattle.clap.specs.Words.{found_of, rows_of, subcommand_rows_of};
 ghost use Rattle.run_words.specs.declared.settings.Settings.{Settings};
+ghost use Rattle.run_words.specs.declared.settings.WordsFault.TheVariants.{NoMemory};
 ghost use Rattle.run_words.specs.Words.{chosen, AreInRange, Chooses, AreOutside};
+ghost use Rattle.run_words.specs.Reading.{HaveFlags, HasFlags, Make, HasNoSeparator};
 
 use crate::command::program;
 use crate::given::{Given, given_in, number_in};
 use clap::error::ErrorKind;
-use clap::{ArgMatches, Error};
+use clap::ArgMatches;
 use std::alloc::{AllocError, Global};
 
 /// What the program is to do.
@@ -41,17 +44,10 @@ pub enum WordsFault {
 }
 
 impl From<AllocError> for WordsFault {
+    ghost from_gives = { λ _ fault. fault ≡ NoMemory };
+
     fn from(_error: AllocError) -> WordsFault {
         WordsFault::NoMemory
-    }
-}
-
-impl From<Error> for WordsFault {
-    fn from(error: Error) -> WordsFault {
-        match error.kind() {
-            ErrorKind::OutOfMemory => WordsFault::NoMemory,
-            _ => WordsFault::BadWords,
-        }
     }
 }
 
@@ -91,26 +87,52 @@ fn with_defaults(given: Given) -> Settings
     }
 }
 
-// What clap makes of the words.
-fn parse<'a>(alloc: Global, words: &'a [String]) -> Result<ArgMatches<'a>, WordsFault> {
-    let matches = program(alloc)?.try_get_matches_from(words)?;
-    Ok(matches)
+// What clap makes of the words, among which no `--` is.
+fn parse<'a>(alloc: Global, words: &'a [String]) -> Result<ArgMatches<'a>, WordsFault>
+    requires { HasNoSeparator (map string_bytes words.now) }
+    ensures chosen { IfOk result (λ matches. (settings : Settings) → Chooses (map string_bytes words.now) settings
+        → Make (subcommand_rows_of matches) settings) }
+    ensures made { IfOk result (λ matches. (settings : Settings) → AreInRange settings → Make (subcommand_rows_of matches) settings
+        → Chooses (map string_bytes words.now) settings) }
+    ensures flags { IfOk result (λ matches. HasFlags (subcommand_rows_of matches)) }
+    ensures refused { IsErrOf result WordsFault.BadWords → AreOutside (map string_bytes words.now) }
+{
+    let command = program(alloc)?;
+    match command.try_get_matches_from(words) {
+        Ok(matches) => Ok(matches),
+        Err(error) if error.kind() == ErrorKind::OutOfMemory => Err(WordsFault::NoMemory),
+        Err(_) => Err(WordsFault::BadWords),
+    }
 }
 
 // The settings of what clap found behind `run`.
-fn run_settings(run: &ArgMatches<'_>) -> Option<Settings> {
+fn run_settings(run: &ArgMatches<'_>) -> Option<Settings>
+    requires { HaveFlags (rows_of (found_of run.now)) }
+    ensures found { IfSome result (λ settings. Make (Some (codes "run", rows_of (found_of run.now))) settings × AreInRange settings) }
+    ensures only { IfSome result (λ settings. (other : Settings) → Make (Some (codes "run", rows_of (found_of run.now))) other → other ≡ settings) }
+    ensures none { IfNone result ((settings : Settings) → Make (Some (codes "run", rows_of (found_of run.now))) settings → AreInRange settings → ⊥) }
+{
     let given = given_in(run)?;
     in_range(with_defaults(given))
 }
 
 // The settings of what clap found behind `demo`.
-fn demo_settings(demo: &ArgMatches<'_>) -> Option<Settings> {
+fn demo_settings(demo: &ArgMatches<'_>) -> Option<Settings>
+    ensures found { IfSome result (λ settings. Make (Some (codes "demo", rows_of (found_of demo.now))) settings × AreInRange settings) }
+    ensures only { IfSome result (λ settings. (other : Settings) → Make (Some (codes "demo", rows_of (found_of demo.now))) other → other ≡ settings) }
+    ensures none { IfNone result ((settings : Settings) → Make (Some (codes "demo", rows_of (found_of demo.now))) settings → AreInRange settings → ⊥) }
+{
     let parts = number_in(demo, "parts")??;
     in_range(Settings::Demo(parts))
 }
 
 // The settings of what clap found.
-fn settings_in(matches: &ArgMatches<'_>) -> Option<Settings> {
+fn settings_in(matches: &ArgMatches<'_>) -> Option<Settings>
+    requires { HasFlags (subcommand_rows_of matches.now) }
+    ensures found { IfSome result (λ settings. Make (subcommand_rows_of matches.now) settings × AreInRange settings) }
+    ensures only { IfSome result (λ settings. (other : Settings) → Make (subcommand_rows_of matches.now) other → other ≡ settings) }
+    ensures none { IfNone result ((settings : Settings) → Make (subcommand_rows_of matches.now) settings → AreInRange settings → ⊥) }
+{
     let (name, found) = matches.subcommand()?;
     match name.as_bytes() {
         b"run" => run_settings(found),
@@ -120,7 +142,10 @@ fn settings_in(matches: &ArgMatches<'_>) -> Option<Settings> {
 }
 
 // Whether one of the words is `--`, behind which clap would take any word for a value.
-fn has_separator(words: &[String]) -> bool {
+fn has_separator(words: &[String]) -> bool
+    ensures some { IsTrue result → AreOutside (map string_bytes words.now) }
+    ensures none { IsFalse result → HasNoSeparator (map string_bytes words.now) }
+{
     words.iter().any(|word| word.as_str() == "--")
 }
 

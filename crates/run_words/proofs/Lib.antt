@@ -1,0 +1,5 @@
+pub mod Rows
+pub mod Found
+pub mod Built
+pub mod Steps
+pub mod Options
