@@ -27,6 +27,21 @@ flag_rule name = record (flag_option name) {
   missing = codes "true" ∷ [];
 }
 
+abbrev pub workers_rule : Rule
+workers_rule = number_rule (codes "workers")
+
+abbrev pub memo_rule : Rule
+memo_rule = number_rule (codes "memo")
+
+abbrev pub share_rule : Rule
+share_rule = number_rule (codes "share")
+
+abbrev pub half_rule : Rule
+half_rule = flag_rule (codes "half")
+
+abbrev pub tally_rule : Rule
+tally_rule = flag_rule (codes "tally")
+
 abbrev pub parts_rule : Rule
 parts_rule = record parts_word { index = Some 1; parser = Some vp.String; range = Some (record { start_inclusive = 1; end_inclusive = 1 }) }
 
@@ -41,7 +56,7 @@ without_help name = record (new_shape name) {
 
 abbrev pub run_leaf : Shape
 run_leaf = record (without_help (codes "run")) {
-  rules = number_rule (codes "workers") ∷ number_rule (codes "memo") ∷ number_rule (codes "share") ∷ flag_rule (codes "half") ∷ flag_rule (codes "tally") ∷ [];
+  rules = workers_rule ∷ memo_rule ∷ share_rule ∷ half_rule ∷ tally_rule ∷ [];
 }
 
 abbrev pub demo_leaf : Shape

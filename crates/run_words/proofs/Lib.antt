@@ -3,3 +3,5 @@ pub mod Found
 pub mod Built
 pub mod Steps
 pub mod Options
+pub mod Gathered
+pub mod Whole

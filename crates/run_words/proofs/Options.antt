@@ -147,7 +147,7 @@ free_flag name rows false e h = h
 free_flag name rows true e h = cc e
 
 -- the option that a piece spells, with its number
-abbrev IsSpelled : Piece → RunOption → Type 0
+abbrev pub IsSpelled : Piece → RunOption → Type 0
 IsSpelled (Valued key text) (Number other n) = (key ≡ other) × IsNumeralOf text n
 IsSpelled HalfGiven Half = Unit {0}
 IsSpelled TallyGiven Tally = Unit {0}
@@ -162,7 +162,7 @@ new_key : (name text : Text) (n : ℕ) (rows : List Row) → has_row name rows �
     → KeyRow (rows ++ row CommandLine name (text ∷ []) ∷ []) name (Some n)
 new_key name text n rows free here numeral = (text, first_new name rows text free here, numeral)
 
-say_more : (p : Piece) (o : RunOption) (rows : List Row) (given : Given) → IsSpelled p o → has_row (name_of p) rows ≡ false → RowsSay rows given
+pub say_more : (p : Piece) (o : RunOption) (rows : List Row) (given : Given) → IsSpelled p o → has_row (name_of p) rows ≡ false → RowsSay rows given
     → RowsSay (rows ++ row_at p ∷ []) (with_option given o)
 say_more (Valued Workers text) (Number Workers n) rows given s free h = (
   new_key (codes "workers") text n rows free refl s.1,
@@ -213,7 +213,7 @@ say_more TallyGiven (Number key n) rows given s free h = absurd s
 say_more TallyGiven Half rows given s free h = absurd s
 
 -- where the rows have none of the name, the option is free, and the other way round
-is_free : (p : Piece) (o : RunOption) (rows : List Row) (given : Given) → IsSpelled p o → has_row (name_of p) rows ≡ false → RowsSay rows given → IsFree given o
+pub is_free : (p : Piece) (o : RunOption) (rows : List Row) (given : Given) → IsSpelled p o → has_row (name_of p) rows ≡ false → RowsSay rows given → IsFree given o
 is_free (Valued key text) (Number Workers n) rows given s free h = key_free (codes "workers") rows given.workers (subst (λ (k : Key). has_row (key_id k) rows ≡ false) s.0 free) h.0
 is_free (Valued key text) (Number Memo n) rows given s free h = key_free (codes "memo") rows given.memo (subst (λ (k : Key). has_row (key_id k) rows ≡ false) s.0 free) h.1
 is_free (Valued key text) (Number Share n) rows given s free h = key_free (codes "share") rows given.share (subst (λ (k : Key). has_row (key_id k) rows ≡ false) s.0 free) h.2
@@ -248,7 +248,7 @@ at_end : (all rows : List Row) (pending : Option (Text × List Text)) → Stands
 unfolding clap_on_literals
 at_end all rows pending stands = rw (stands.1, run_defaults (settled_rows run_leaf.rules pending rows)) refl
 
-numeral_plain : (text : Text) (n : ℕ) → IsNumeralOf text n → (long_of text ≡ None) × (short_of text ≡ None) × (bytes_eq text separator ≡ false)
+pub numeral_plain : (text : Text) (n : ℕ) → IsNumeralOf text n → (long_of text ≡ None) × (short_of text ≡ None) × (bytes_eq text separator ≡ false)
 numeral_plain [] n h = absurd (omega (arith, h.0.some))
 numeral_plain (d ∷ ds) n h = go (d == 45) refl
   where

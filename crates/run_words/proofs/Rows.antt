@@ -121,7 +121,7 @@ RowsSay rows given =
 
 -- ---- defaults
 -- the row that a default adds, unless there is one
-abbrev added : Text → Bool → List Row
+abbrev pub added : Text → Bool → List Row
 added name true = []
 added name false = row DefaultValue name (codes "false" ∷ []) ∷ []
 
@@ -201,6 +201,11 @@ one_number None (Some n) b h g = absurd h
 one_number (Some t) None b h g = absurd h
 one_number (Some t) (Some n) None h g = absurd g
 one_number (Some t) (Some n) (Some m) h g = ap Some (h.1 ∙ sym g.1)
+
+-- the number that is said of a text is the one that it writes
+pub number : (o : Option Text) (t : Text) (a : Option ℕ) → o ≡ Some t → Says o a → (n : ℕ) × IsNumeralOf t n
+number o t None e h = absurd (rw e at h)
+number o t (Some n) e h = (n, rw e at h)
 
 one_flag : (o : Option Text) (a b : Bool) → o ≡ Some (flag_text a) → o ≡ Some (flag_text b) → a ≡ b
 one_flag o true true h g = refl

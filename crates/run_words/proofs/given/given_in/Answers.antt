@@ -1,5 +1,5 @@
 use Rattle.std.proofs.Common.{codes}
-use Rattle.run_words.proofs.Options.{option_at, taken}
+use Rattle.run_words.proofs.Whole.{flags_found}
 use Rattle.run_words.proofs.Found.{flag_read}
 use Rattle.run_words.proofs.given.given_in.Goals as goal
 
