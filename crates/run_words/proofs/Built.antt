@@ -1,5 +1,5 @@
 -- The subcommands as clap builds them, and what clap makes of one more word.
-use Rattle.std.proofs.Common.{◌≡◌, ◌∙◌, ℕ, Bool, cond, true, false, ◌||◌, ◌&&◌, not, inl, inr, ◌⊎◌, refl, sym, ap, ap₂, subst, List, [], ◌∷◌, ◌++◌, Option, Some, None, codes, map, length}
+use Rattle.std.proofs.Common.{◌≡◌, ◌≢◌, ◌∙◌, ℕ, Bool, cond, true, false, ◌||◌, ◌&&◌, not, inl, inr, ◌⊎◌, refl, sym, ap, ap₂, subst, List, [], ◌∷◌, ◌++◌, Option, Some, None, codes, map, length}
 use Rattle.std.specs.List.{find, fold}
 use Rattle.std.specs.Option.{option_map_or, is_some}
 use Rattle.std.specs.Str.{chars}
@@ -165,3 +165,8 @@ word_is s subs waiting position word rows pending no_short sub sep fine =
         → IsWord s subs waiting position word h
     long (Some p) is e = inl (p, is, rw is at e)
     long None is e = inr (shorted (short_of word) refl is (rw is at e))
+
+-- no word is `--`
+abbrev pub HasNoSeparator : List Text → Type 0
+HasNoSeparator [] = Unit {0}
+HasNoSeparator (word ∷ words) = (word ≢ separator) × HasNoSeparator words

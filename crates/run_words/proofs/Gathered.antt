@@ -5,9 +5,8 @@ use Rattle.clap.specs.Walk.{Held, Row, Text, Walk, first_of, has_row}
 use Rattle.clap.specs.Faults.{turn_fault}
 use Rattle.run_words.specs.declared.given.Given.{Given}
 use Rattle.run_words.specs.Words.{Key, Workers, Memo, Share, RunOption, Number, Half, Tally, key_name, equals, IsNumeralOf, IsNext, AreOptions, with_option, Adds}
-use Rattle.run_words.specs.Reading.{HasNoSeparator}
 use Rattle.run_words.proofs.Rows.{FlagRow, RowsSay, first_more, first_new, flag_kept, flag_new}
-use Rattle.run_words.proofs.Built.{run_leaf, Leads, both_fine, ends, faults, next_word, then}
+use Rattle.run_words.proofs.Built.{HasNoSeparator, run_leaf, Leads, both_fine, ends, faults, next_word, then}
 use Rattle.run_words.proofs.Steps.{Piece, Valued, HalfGiven, TallyGiven, Stands, IsPlain, apart_of, doomed, idle_at, joined, joined_leads, key_id, name_leads, name_of, new_stands, row_at, value_leads, value_met, value_missing, value_stands, waits}
 use Rattle.run_words.proofs.Options.{IsOption, IsSpelled, final, is_free, option_at, say_more}
 

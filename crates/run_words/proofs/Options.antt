@@ -15,7 +15,7 @@ use Rattle.clap.proofs.CutLemmas.{Lacks}
 use Rattle.clap.proofs.LexerLemmas.{name_and_value-at, name_and_value-without}
 use Rattle.run_words.specs.declared.given.Given.{Given}
 use Rattle.run_words.specs.Words.{Key, Workers, Memo, Share, RunOption, Number, Half, Tally, key_name, equals, IsFlag, IsNumeralOf, IsNext, AreOptions, IsFree, with_option, Adds, no_options}
-use Rattle.run_words.specs.Reading.{HasNoSeparator, HaveFlags, Says, SayGiven}
+use Rattle.run_words.specs.Reading.{HaveFlags, Says, SayGiven}
 use Rattle.run_words.proofs.Rows.{KeyRow, FlagRow, RowsSay, full, first_more, first_new, flag_kept, flag_new, key_kept, no_flag, no_text, row}
 use Rattle.run_words.proofs.Built.{run_leaf, Leads, at_hand, both_fine, ends, faults, next_word, separator, test, then}
 use Rattle.run_words.proofs.Steps.{Piece, Valued, HalfGiven, TallyGiven, Stands, idle_at, idle_turn, joined, joined_leads, key_id, name_leads, name_of, new_stands, row_at, run_defaults, used_once, value_leads, value_met, value_missing, value_stands, waits, doomed, apart_of, plain_fine, plain_met}

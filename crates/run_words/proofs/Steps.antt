@@ -9,10 +9,9 @@ use Rattle.clap.specs.Faults.{default_fault, defaults_fault, given_default_fault
 use Rattle.clap.specs.declared.error.kind.ErrorKind.TheVariants.{InvalidValue}
 use Rattle.clap.specs.declared.parser.matches.ValueSource.TheVariants.{CommandLine}
 use Rattle.clap.proofs.OnLiterals.{clap_on_literals}
-use Rattle.run_words.specs.Reading.{HasNoSeparator}
 use Rattle.run_words.specs.Words.{Key, Workers, Memo, Share, key_name, equals}
 use Rattle.run_words.proofs.Rows.{row, full, new_use}
-use Rattle.run_words.proofs.Built.{number_rule, flag_rule, run_leaf, Leads, at_hand, both_fine, fine_then, one_step, next_word, test, then, word_is, separator, faults}
+use Rattle.run_words.proofs.Built.{HasNoSeparator, number_rule, flag_rule, run_leaf, Leads, at_hand, both_fine, fine_then, one_step, next_word, test, then, word_is, separator, faults}
 
 -- ---- an option as it is written, with the text of its value
 pub data Piece : Type 0 where

@@ -1,25 +1,29 @@
 -- All words: clap takes those of the grammar, and finds the settings that they choose.
-use Rattle.std.proofs.Common.{◌≡◌, ◌≢◌, ◌∙◌, ℕ, Bool, true, false, inl, inr, ◌⊎◌, refl, sym, ap, ap₂, subst, List, [], ◌∷◌, ◌++◌, Option, Some, None, codes}
+use Rattle.std.proofs.Common.{◌≡◌, ◌≢◌, ◌∙◌, ◌||◌, true≢false, ℕ, Bool, true, false, inl, inr, ◌⊎◌, refl, sym, ap, ap₂, subst, List, [], ◌∷◌, ◌++◌, Option, Some, None, codes}
 use Rattle.std.specs.List.{fold}
 use Rattle.std.specs.Option.{is_some}
 use Rattle.std.specs.Prelude.{bytes_eq}
+use Rattle.std.proofs.lemmas.Slice.Eq.{bytes_eq-Decides}
 use Rattle.clap.specs.Lexer.{long_of, short_of}
-use Rattle.clap.specs.Kinds.{Kinds, or_else}
+use Rattle.clap.specs.Kinds.{HasKind, Kinds, or_else}
 use Rattle.clap.specs.Walk.{Held, Row, Step, Text, Walk, idle, after_step, arg_by_long, arg_by_short, finished, first_of, nothing_held, plain_word, rows_after, settled, settled_rows, subcommand_met, walk, walk_from, walked, with_default, word_met, has_row}
-use Rattle.clap.specs.Simple.{App, built, entered, names_of, subcommand_of}
-use Rattle.clap.specs.Faults.{check_fault, defaults_fault, entered_fault, fault_of, level_fault, long_fault, settle_fault, step_fault, turn_fault, walk_fault, word_fault}
-use Rattle.clap.specs.declared.error.kind.ErrorKind.TheVariants.{MissingSubcommand, MissingRequiredArgument}
+use Rattle.clap.specs.Simple.{App, built, entered, names_of, subcommand_of, subcommand_rows_of, HasMatchesOf, is_simple}
+use Rattle.clap.specs.Faults.{check_fault, defaults_fault, entered_fault, fault_of, level_fault, long_fault, settle_fault, step_fault, turn_fault, walk_fault, word_fault, is_simple_and_free}
+use Rattle.clap.specs.declared.error.kind.ErrorKind.TheVariants.{OutOfMemory}
+use Rattle.clap.specs.Values.{kind_of}
+use Rattle.clap.specs.declared.error.Error.{Error}
+use Rattle.clap.specs.declared.parser.matches.ArgMatches.{ArgMatches}
 use Rattle.clap.proofs.OnLiterals.{clap_on_literals}
 use Rattle.clap.proofs.FaultLemmas.{stopped_fault}
 use Rattle.clap.proofs.WalkLemmas.{walk_stopped}
 use Rattle.run_words.specs.declared.given.Given.{Given}
 use Rattle.run_words.specs.declared.settings.Settings.{Settings}
 use Rattle.run_words.specs.declared.settings.Settings.TheVariants.{Demo}
-use Rattle.run_words.specs.Words.{Key, Workers, Memo, Share, IsNumeralOf, Adds, AreRunOptions, AreDemoWords, AreInRange, Chooses, chosen, no_options}
+use Rattle.run_words.specs.Words.{Key, Workers, Memo, Share, RunOption, Number, Half, Tally, key_name, equals, AreOptions, IsNumeralOf, Adds, AreRunOptions, AreDemoWords, AreInRange, Chooses, chosen, no_options}
 use Rattle.run_words.specs.Program.{program}
-use Rattle.run_words.specs.Reading.{HasNoSeparator, HaveFlags, HasFlags, Make, Says, SayGiven}
+use Rattle.run_words.specs.Reading.{has_separator, HaveFlags, HasFlags, Make, Says, SayGiven}
 use Rattle.run_words.proofs.Rows.{RowsSay, added, number, flag_default, full, no_default, one_says, whole, whole_first, whole_half, whole_says, whole_tally}
-use Rattle.run_words.proofs.Built.{run_leaf, demo_leaf, top, names, at_hand, both_fine, built_is, ends, faults, fine_then, next_word, one_step, separator, test, word_is, workers_rule, memo_rule, share_rule, half_rule, tally_rule}
+use Rattle.run_words.proofs.Built.{HasNoSeparator, run_leaf, demo_leaf, top, names, at_hand, both_fine, built_is, ends, faults, fine_then, next_word, one_step, separator, test, word_is, workers_rule, memo_rule, share_rule, half_rule, tally_rule}
 use Rattle.run_words.proofs.Steps.{apart_of, key_id, idle_at, new_stands, demo_defaults}
 use Rattle.run_words.proofs.Options.{final, numeral_plain, taken}
 use Rattle.run_words.proofs.Gathered.{AreNumerals, gathered}
@@ -219,6 +223,44 @@ none_wrong : fault_of program [] ≡ [] → ⊥
 unfolding clap_on_literals
 none_wrong e = full _ _ e
 
+-- ---- `--` is outside the grammar
+none_apart : (words : List Text) → has_separator words ≡ false → HasNoSeparator words
+none_apart [] e = tt
+none_apart (word ∷ words) e = go (bytes_eq word separator) refl e (none_apart words)
+  where
+    go : (b : Bool) → bytes_eq word separator ≡ b → (b || has_separator words) ≡ false → (has_separator words ≡ false → HasNoSeparator words) → HasNoSeparator (word ∷ words)
+    go true t f more = absurd (true≢false f)
+    go false t f more = (λ is. true≢false (sym ((bytes_eq-Decides word separator).1 is) ∙ t), more f)
+
+word_apart : (word : Text) (words : List Text) → bytes_eq word separator ≡ false → has_separator words ≡ false → has_separator (word ∷ words) ≡ false
+word_apart word words e f = rw e f
+
+key_apart : (key : Key) → bytes_eq (key_name key) separator ≡ false
+key_apart Workers = refl
+key_apart Memo = refl
+key_apart Share = refl
+
+value_apart : (key : Key) (text : Text) → bytes_eq (key_name key ++ equals ++ text) separator ≡ false
+value_apart Workers text = refl
+value_apart Memo text = refl
+value_apart Share text = refl
+
+options_apart : (options : List RunOption) (words : List Text) → AreOptions words options → has_separator words ≡ false
+options_apart [] words e = rw e refl
+options_apart (Number key n ∷ os) words (rest, (text, numeral, inl e), more) = rw e (word_apart (key_name key ++ equals ++ text) rest (value_apart key text) (options_apart os rest more))
+options_apart (Number key n ∷ os) words (rest, (text, numeral, inr e), more) =
+    rw e (word_apart (key_name key) (text ∷ rest) (key_apart key) (word_apart text rest (numeral_plain text n numeral).2 (options_apart os rest more)))
+options_apart (Half ∷ os) words (rest, (word, is, e), more) = rw (e, is) (options_apart os rest more)
+options_apart (Tally ∷ os) words (rest, (word, is, e), more) = rw (e, is) (options_apart os rest more)
+
+chosen_apart : (words : List Text) (settings : Settings) → Chooses words settings → has_separator words ≡ false
+chosen_apart [] settings h = absurd h
+chosen_apart (first ∷ rest) settings (range, inl (is, (options, given, are, adds, e))) = rw is (options_apart options rest are)
+chosen_apart (first ∷ rest) settings (range, inr (is, (text, n, one, numeral, e))) = rw (is, one) (word_apart text [] (numeral_plain text n numeral).2 refl)
+
+pub separator_outside : (words : List Text) → has_separator words ≡ true → (settings : Settings) → Chooses words settings → ⊥
+separator_outside words e settings h = true≢false (sym e ∙ chosen_apart words settings h)
+
 -- ---- what the call promises
 pub chosen_taken : (words : List Text) (settings : Settings) → Chooses words settings → (fault_of program words ≡ []) × Make (subcommand_of program words) settings
 chosen_taken [] settings h = absurd h
@@ -246,8 +288,8 @@ taken_are (first ∷ rest) none fine = elim (test (codes "run") first) [
   ]
 ]
 
-pub made_chosen : (words : List Text) → HasNoSeparator words → fault_of program words ≡ [] → (settings : Settings) → AreInRange settings → Make (subcommand_of program words) settings → Chooses words settings
-made_chosen words none fine settings range made = go (taken_are words none fine)
+pub made_chosen : (words : List Text) → has_separator words ≡ false → fault_of program words ≡ [] → (settings : Settings) → AreInRange settings → Make (subcommand_of program words) settings → Chooses words settings
+made_chosen words none fine settings range made = go (taken_are words (none_apart words none) fine)
   where
     go : Taken words → Chooses words settings
     go (a_run rest is f apart) = elim (subst (λ (o : Option (Text × List Row)). Make o settings) (ap (subcommand_of program) is ∙ run_rows_found rest) made) [
@@ -259,9 +301,31 @@ made_chosen words none fine settings range made = go (taken_are words none fine)
       | inr h ↦ rw is (range, inr (refl, demo_found rest settings apart f h.1 h.2 h.3))
     ]
 
-pub flags_found : (words : List Text) → HasNoSeparator words → fault_of program words ≡ [] → HasFlags (subcommand_of program words)
-flags_found words none fine = go (taken_are words none fine)
+pub flags_found : (words : List Text) → has_separator words ≡ false → fault_of program words ≡ [] → HasFlags (subcommand_of program words)
+flags_found words none fine = go (taken_are words (none_apart words none) fine)
   where
     go : Taken words → HasFlags (subcommand_of program words)
     go (a_run rest is f apart) = rw (is, run_rows_found rest) (λ e. run_flags rest apart f)
     go (a_demo rest is f apart) = rw (is, demo_rows_found rest) (λ e. cc e)
+
+-- ---- the call of clap
+program_simple : is_simple program ≡ true
+unfolding clap_on_literals
+program_simple = refl
+
+pub program_free : (a : App) → a ≡ program → is_simple_and_free a ≡ true
+unfolding clap_on_literals
+program_free a e = rw e refl
+
+pub fine_found : (a : App) (words : List Text) → a ≡ program → fault_of a words ≡ [] → fault_of program words ≡ []
+fine_found a words e fine = rw e at fine
+
+pub rows_found : (a : App) (words : List Text) (m : ArgMatches) → a ≡ program → HasMatchesOf a words m → subcommand_rows_of m ≡ subcommand_of program words
+rows_found a words m e h = (h (ap is_simple e ∙ program_simple)).1 ∙ ap (λ (x : App). subcommand_of x words) e
+
+-- an error of another kind than want of memory comes only where something is wrong with the words
+pub refused : (a : App) (words : List Text) (e : Error) → a ≡ program → HasKind (fault_of a words) e → (kind_of e ≢ OutOfMemory) → (settings : Settings) → Chooses words settings → ⊥
+refused a words e is kinds other settings h = elim kinds [
+  | inl memory ↦ other memory
+  | inr among ↦ rw (is, (chosen_taken words settings h).0) at among
+]

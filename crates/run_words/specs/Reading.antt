@@ -1,5 +1,6 @@
 -- What the settings are of what clap found.
-use Rattle.std.specs.Prelude.{◌≡◌, ◌≢◌, ℕ, Bool, true, false, List, [], ◌∷◌, codes, ◌⊎◌, Option, Some, None}
+use Rattle.std.specs.Prelude.{◌≡◌, ℕ, Bool, true, false, List, [], ◌∷◌, codes, ◌⊎◌, Option, Some, None, bytes_eq}
+use Rattle.std.specs.List.{list_any}
 use Rattle.clap.specs.Words.{Row, Text, first_of, one_of}
 use Rattle.run_words.specs.declared.given.Given.{Given}
 use Rattle.run_words.specs.declared.settings.Settings.{Settings}
@@ -45,7 +46,6 @@ abbrev pub HasFlags : Option (Text × List Row) → Type 0
 HasFlags None = Unit {0}
 HasFlags (Some found) = found.0 ≡ codes "run" → HaveFlags found.1
 
--- no word is `--`
-abbrev pub HasNoSeparator : List Text → Type 0
-HasNoSeparator [] = Unit {0}
-HasNoSeparator (word ∷ words) = (word ≢ codes "--") × HasNoSeparator words
+-- a word is `--`
+abbrev pub has_separator : List Text → Bool
+has_separator words = list_any (λ word. bytes_eq word (codes "--")) words

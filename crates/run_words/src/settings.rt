@@ -1,16 +1,17 @@
 //! The settings that words choose.
 
-ghost use Rattle.std.specs.Prelude.{◌≡◌, ◌≢◌, ℕ, List, map, codes, string_bytes, Some, IfSome, IfNone, IfOk, IsErrOf, IsTrue, IsFalse};
-ghost use Rattle.clap.specs.Words.{found_of, rows_of, subcommand_rows_of};
+ghost use Rattle.std.specs.Prelude.{◌≡◌, ◌≢◌, ℕ, List, map, codes, string_bytes, Some, IfSome, IfNone, IfOk, IsErrOf, false};
+ghost use Rattle.clap.specs.Words.{found_of, kind_of, rows_of, subcommand_rows_of};
+ghost use Rattle.clap.specs.declared.error.kind.ErrorKind.TheVariants.{OutOfMemory};
 ghost use Rattle.run_words.specs.declared.settings.Settings.{Settings};
 ghost use Rattle.run_words.specs.declared.settings.WordsFault.TheVariants.{NoMemory};
 ghost use Rattle.run_words.specs.Words.{chosen, AreInRange, Chooses, AreOutside};
-ghost use Rattle.run_words.specs.Reading.{HaveFlags, HasFlags, Make, HasNoSeparator};
+ghost use Rattle.run_words.specs.Reading.{HaveFlags, HasFlags, Make, has_separator as have_separator};
 
 use crate::command::program;
 use crate::given::{Given, given_in, number_in};
 use clap::error::ErrorKind;
-use clap::ArgMatches;
+use clap::{ArgMatches, Error};
 use std::alloc::{AllocError, Global};
 
 /// What the program is to do.
@@ -87,9 +88,19 @@ fn with_defaults(given: Given) -> Settings
     }
 }
 
+// Why clap makes nothing of the words.
+fn told(error: &Error) -> WordsFault
+    ensures { result ≡ WordsFault.BadWords → kind_of error.now ≢ OutOfMemory }
+{
+    match error.kind() {
+        ErrorKind::OutOfMemory => WordsFault::NoMemory,
+        _ => WordsFault::BadWords,
+    }
+}
+
 // What clap makes of the words, among which no `--` is.
 fn parse<'a>(alloc: Global, words: &'a [String]) -> Result<ArgMatches<'a>, WordsFault>
-    requires { HasNoSeparator (map string_bytes words.now) }
+    requires { have_separator (map string_bytes words.now) ≡ false }
     ensures chosen { IfOk result (λ matches. (settings : Settings) → Chooses (map string_bytes words.now) settings
         → Make (subcommand_rows_of matches) settings) }
     ensures made { IfOk result (λ matches. (settings : Settings) → AreInRange settings → Make (subcommand_rows_of matches) settings
@@ -100,8 +111,7 @@ fn parse<'a>(alloc: Global, words: &'a [String]) -> Result<ArgMatches<'a>, Words
     let command = program(alloc)?;
     match command.try_get_matches_from(words) {
         Ok(matches) => Ok(matches),
-        Err(error) if error.kind() == ErrorKind::OutOfMemory => Err(WordsFault::NoMemory),
-        Err(_) => Err(WordsFault::BadWords),
+        Err(error) => Err(told(&error)),
     }
 }
 
@@ -134,19 +144,25 @@ fn settings_in(matches: &ArgMatches<'_>) -> Option<Settings>
     ensures none { IfNone result ((settings : Settings) → Make (subcommand_rows_of matches.now) settings → AreInRange settings → ⊥) }
 {
     let (name, found) = matches.subcommand()?;
-    match name.as_bytes() {
-        b"run" => run_settings(found),
-        b"demo" => demo_settings(found),
-        _ => None,
+    if name == "run" {
+        run_settings(found)
+    } else if name == "demo" {
+        demo_settings(found)
+    } else {
+        None
     }
 }
 
 // Whether one of the words is `--`, behind which clap would take any word for a value.
 fn has_separator(words: &[String]) -> bool
-    ensures some { IsTrue result → AreOutside (map string_bytes words.now) }
-    ensures none { IsFalse result → HasNoSeparator (map string_bytes words.now) }
+    ensures { result ≡ have_separator (map string_bytes words.now) }
 {
-    words.iter().any(|word| word.as_str() == "--")
+    for word in words {
+        if word.as_str() == "--" {
+            return true;
+        }
+    }
+    false
 }
 
 /// The settings that the words behind the program's name choose, and `BadWords` exactly where they are outside

@@ -1,5 +1,4 @@
 use Rattle.std.proofs.Common.{codes}
-use Rattle.run_words.proofs.Whole.{flags_found}
 use Rattle.run_words.proofs.Found.{flag_read}
 use Rattle.run_words.proofs.given.given_in.Goals as goal
 
