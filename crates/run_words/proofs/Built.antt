@@ -1,15 +1,14 @@
 -- The subcommands as clap builds them, and what clap makes of one more word.
-use Rattle.std.proofs.Common.{◌≡◌, ◌≢◌, ◌∙◌, ℕ, Bool, cond, true, false, ◌||◌, ◌&&◌, not, inl, inr, ◌⊎◌, refl, sym, ap, ap₂, subst, List, [], ◌∷◌, ◌++◌, Option, Some, None, codes, map, length}
-use Rattle.std.specs.List.{find, fold}
-use Rattle.std.specs.Option.{option_map_or, is_some}
+use Rattle.std.proofs.Common.{◌≡◌, ◌≢◌, ◌∙◌, ℕ, Bool, true, false, inl, inr, ◌⊎◌, refl, ap, List, [], ◌∷◌, Option, Some, None, codes, length}
+use Rattle.std.specs.List.{fold}
 use Rattle.std.specs.Str.{chars}
 use Rattle.std.specs.Prelude.{slice_get, bytes_eq}
 use Rattle.std.proofs.lemmas.Slice.Eq.{bytes_eq-Decides}
 use Rattle.clap.specs.Lexer.{long_of, short_of}
 use Rattle.clap.specs.Kinds.{Kinds, or_else}
-use Rattle.clap.specs.Walk.{Held, Names, Row, Rule, Step, Text, Waiting, Walk, idle, value, arg_by_index, arg_by_long, arg_by_short, finished, nothing_held, plain_word, settled, subcommand_met, walk_from, walked, word_met, bundle_met, takes_values}
-use Rattle.clap.specs.Simple.{App, Shape, built, new_shape}
-use Rattle.clap.specs.Faults.{built_fault, check_fault, defaults_fault, fault_of, flag_word_fault, level_fault, long_fault, settle_fault, stray_fault, step_fault, turn_fault, walk_fault, word_fault, flags_fault}
+use Rattle.clap.specs.Walk.{Held, Names, Row, Rule, Text, Waiting, Walk, arg_by_long, arg_by_short, finished, nothing_held, plain_word, settled, subcommand_met, walk_from, walked, word_met}
+use Rattle.clap.specs.Simple.{Shape, built, new_shape}
+use Rattle.clap.specs.Faults.{check_fault, defaults_fault, flag_word_fault, level_fault, long_fault, settle_fault, turn_fault, walk_fault, word_fault, flags_fault}
 use Rattle.clap.specs.declared.builder.value_parser.ValueParser.TheVariants as vp
 use Rattle.clap.proofs.OnLiterals.{clap_on_literals}
 use Rattle.run_words.specs.Program.{number_option, flag_option, parts_word, program}

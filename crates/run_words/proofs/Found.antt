@@ -1,10 +1,10 @@
 -- From the getters of clap's matches to their rows.
-use Rattle.std.proofs.Common.{◌≡◌, ◌∙◌, ℕ, Bool, true, false, refl, sym, ap, subst, List, Option, bytes_eq, Some, None, Result, Err, IfNone, IfSome, inl, inr, ◌⊎◌, Global, IsSome, ◌↔◌, codes, option_map, box_value, Box}
+use Rattle.std.proofs.Common.{◌≡◌, ◌∙◌, ℕ, Bool, true, false, sym, ap, subst, List, Option, bytes_eq, Some, None, Result, Err, IfNone, IfSome, inl, inr, Global, codes, option_map, box_value, Box}
 use Rattle.std.specs.Borrow.{Bor}
 use Rattle.std.specs.Str.Parse.{digits_value}
 use Rattle.std.proofs.lemmas.Slice.Eq.{bytes_eq-Decides}
 use Rattle.text_place.specs.Decimals.{IsShortNumeral}
-use Rattle.clap.specs.Words.{Row, Text, found_of, first_of, one_of, rows_of, first_value, subcommand_rows_of, subcommand_rows}
+use Rattle.clap.specs.Words.{Row, Text, found_of, first_of, rows_of, first_value, subcommand_rows_of, subcommand_rows}
 use Rattle.clap.specs.Matches.{one_text, subcommand_name_of}
 use Rattle.clap.specs.declared.parser.matches.ArgMatches.TheViews.{out-ArgMatches, out-SubCommand}
 use Rattle.clap.specs.declared.parser.matches.SubCommand.{SubCommand}
@@ -13,7 +13,7 @@ use Rattle.clap.proofs.WalkLemmas.{first_value-rows, one_text-rows}
 use Rattle.run_words.specs.declared.given.Given.{Given}
 use Rattle.run_words.specs.declared.settings.Settings.{Settings}
 use Rattle.run_words.specs.Words.{AreInRange, chosen}
-use Rattle.run_words.specs.Reading.{Make, SayGiven, Says, SaysFlag, flag_text}
+use Rattle.run_words.specs.Reading.{Make, SayGiven, Says, SaysFlag}
 use Rattle.run_words.proofs.Rows.{one_says}
 
 pub if_none : {T : Type 0} (r : Option T) (P : Type 0) → P → IfNone r P

@@ -2,12 +2,11 @@
 use Rattle.std.proofs.Common.{◌≡◌, ◌∙◌, ℕ, Bool, true, false, inl, inr, ◌⊎◌, refl, sym, ap, subst, List, [], ◌∷◌, ◌++◌, Option, Some, None, codes, append-nil, append_assoc}
 use Rattle.std.specs.Prelude.{bytes_eq}
 use Rattle.clap.specs.Walk.{Held, Row, Text, Walk, first_of, has_row}
-use Rattle.clap.specs.Faults.{turn_fault}
 use Rattle.run_words.specs.declared.given.Given.{Given}
 use Rattle.run_words.specs.Words.{Key, Workers, Memo, Share, RunOption, Number, Half, Tally, key_name, equals, IsNumeralOf, IsNext, AreOptions, with_option, Adds}
 use Rattle.run_words.proofs.Rows.{FlagRow, RowsSay, first_more, first_new, flag_kept, flag_new}
 use Rattle.run_words.proofs.Built.{HasNoSeparator, run_leaf, Leads, both_fine, ends, faults, next_word, then}
-use Rattle.run_words.proofs.Steps.{Piece, Valued, HalfGiven, TallyGiven, Stands, IsPlain, apart_of, doomed, idle_at, joined, joined_leads, key_id, name_leads, name_of, new_stands, row_at, value_leads, value_met, value_missing, value_stands, waits}
+use Rattle.run_words.proofs.Steps.{Piece, Valued, HalfGiven, TallyGiven, Stands, apart_of, doomed, idle_at, joined, joined_leads, key_id, name_leads, name_of, new_stands, row_at, value_leads, value_met, value_missing, value_stands, waits}
 use Rattle.run_words.proofs.Options.{IsOption, IsSpelled, final, is_free, option_at, say_more}
 
 -- each value is a numeral
@@ -77,14 +76,14 @@ gathers_more p rows all words rest free written more = record {
   adds = more.adds ∙ append_assoc rows (row_at p ∷ []) more.tail;
   flags = λ h. more.flags (flags_more p rows free h);
   options = λ given h numerals.
-  let o = option_of p rows more.tail free (subst AreNumerals more.adds numerals) in
-  let left = more.options (with_option given o.0) (say_more p o.0 rows given o.1 free h) numerals in (
-    o.0 ∷ left.0,
-    left.1,
-    (rest, next_of p o.0 words rest o.1 written, left.2),
-    (is_free p o.0 rows given o.1 free h, left.3),
-    left.4,
-  );
+      let o = option_of p rows more.tail free (subst AreNumerals more.adds numerals) in
+      let left = more.options (with_option given o.0) (say_more p o.0 rows given o.1 free h) numerals in (
+        o.0 ∷ left.0,
+        left.1,
+        (rest, next_of p o.0 words rest o.1 written, left.2),
+        (is_free p o.0 rows given o.1 free h, left.3),
+        left.4,
+      );
 }
 
 -- ---- word by word
@@ -133,14 +132,14 @@ gathered [] seen rows pending none stands fine = subst (λ (xs : List Row). Gath
 gathered (word ∷ []) seen rows pending none stands fine = elim (first_option seen rows pending word [] none stands fine) [
   | inl h ↦ in_one_word h.0 seen rows pending word [] h.1 h.2 stands (gathered [] (seen ++ row_at h.0 ∷ []) (seen ++ row_at h.0 ∷ []) None none.1 (new_stands (seen ++ row_at h.0 ∷ []))) fine
   | inr h ↦
-    let named = subst (λ (w : Text). Leads run_leaf (idle_at rows pending) (w ∷ []) (waits h.0 seen) []) (sym h.1) (name_leads h.0 seen rows pending [] stands) in
-    absurd (value_missing h.0 seen (sym named.same_faults ∙ fine))
+      let named = subst (λ (w : Text). Leads run_leaf (idle_at rows pending) (w ∷ []) (waits h.0 seen) []) (sym h.1) (name_leads h.0 seen rows pending [] stands) in
+      absurd (value_missing h.0 seen (sym named.same_faults ∙ fine))
 ]
 gathered (word ∷ text ∷ words) seen rows pending none stands fine = elim (first_option seen rows pending word (text ∷ words) none stands fine) [
   | inl h ↦
-    in_one_word h.0 seen rows pending word (text ∷ words) h.1 h.2 stands
-    (gathered (text ∷ words) (seen ++ row_at h.0 ∷ []) (seen ++ row_at h.0 ∷ []) None none.1 (new_stands (seen ++ row_at h.0 ∷ []))) fine
+      in_one_word h.0 seen rows pending word (text ∷ words) h.1 h.2 stands
+      (gathered (text ∷ words) (seen ++ row_at h.0 ∷ []) (seen ++ row_at h.0 ∷ []) None none.1 (new_stands (seen ++ row_at h.0 ∷ []))) fine
   | inr h ↦
-    in_two_words h.0 seen rows pending word text words h.1 none.1 stands
-    (λ rows' pending' stands'. gathered words (seen ++ row_at (Valued h.0 text) ∷ []) rows' pending' none.1.1 stands') fine
+      in_two_words h.0 seen rows pending word text words h.1 none.1 stands
+      (λ rows' pending' stands'. gathered words (seen ++ row_at (Valued h.0 text) ∷ []) rows' pending' none.1.1 stands') fine
 ]

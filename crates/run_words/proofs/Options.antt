@@ -1,24 +1,20 @@
 -- The options of `run`: clap takes exactly those of the grammar, each at most once.
-use Rattle.std.proofs.Common.{◌≡◌, ◌≢◌, ◌==◌, zero, suc, ◌∙◌, ℕ, Bool, cond, true, false, ◌<◌, arith, inl, inr, ◌⊎◌, refl, sym, ap, ap₂, subst, List, [], ◌∷◌, ◌++◌, Option, Some, None, codes, append-nil, append_assoc, length}
+use Rattle.std.proofs.Common.{◌≡◌, ◌≢◌, ◌==◌, zero, suc, ◌∙◌, ℕ, Bool, cond, true, false, ◌<◌, arith, inl, inr, ◌⊎◌, refl, sym, ap, subst, List, [], ◌∷◌, ◌++◌, Option, Some, None, codes}
 use Rattle.std.specs.Prelude.{bytes_eq, option_and_then}
-use Rattle.std.specs.List.{before_first, after_first}
-use Rattle.std.specs.Str.Parse.{AllDigits}
 use Rattle.std.specs.Char.{digit_value}
 use Rattle.std.proofs.lemmas.Bool.Decides.{nat_tests}
-use Rattle.clap.specs.Lexer.{long_of, long_of_rest, short_of, strip_byte, name_and_value, has_byte}
-use Rattle.clap.specs.Kinds.{or_else}
-use Rattle.clap.specs.Walk.{Held, Row, Text, Walk, arg_by_long, finished, first_of, has_row, nothing_held, settled_rows, walk_from, walked}
+use Rattle.clap.specs.Lexer.{long_of, long_of_rest, short_of, strip_byte, name_and_value}
+use Rattle.clap.specs.Walk.{Held, Row, Text, Walk, arg_by_long, has_row, settled_rows}
 use Rattle.clap.specs.Faults.{long_fault, turn_fault}
 use Rattle.clap.specs.declared.parser.matches.ValueSource.TheVariants.{CommandLine}
 use Rattle.clap.proofs.OnLiterals.{clap_on_literals}
 use Rattle.clap.proofs.CutLemmas.{Lacks}
 use Rattle.clap.proofs.LexerLemmas.{name_and_value-at, name_and_value-without}
 use Rattle.run_words.specs.declared.given.Given.{Given}
-use Rattle.run_words.specs.Words.{Key, Workers, Memo, Share, RunOption, Number, Half, Tally, key_name, equals, IsFlag, IsNumeralOf, IsNext, AreOptions, IsFree, with_option, Adds, no_options}
-use Rattle.run_words.specs.Reading.{HaveFlags, Says, SayGiven}
-use Rattle.run_words.proofs.Rows.{KeyRow, FlagRow, RowsSay, full, first_more, first_new, flag_kept, flag_new, key_kept, no_flag, no_text, row}
-use Rattle.run_words.proofs.Built.{run_leaf, Leads, at_hand, both_fine, ends, faults, next_word, separator, test, then}
-use Rattle.run_words.proofs.Steps.{Piece, Valued, HalfGiven, TallyGiven, Stands, idle_at, idle_turn, joined, joined_leads, key_id, name_leads, name_of, new_stands, row_at, run_defaults, used_once, value_leads, value_met, value_missing, value_stands, waits, doomed, apart_of, plain_fine, plain_met}
+use Rattle.run_words.specs.Words.{Key, Workers, Memo, Share, RunOption, Number, Half, Tally, key_name, equals, IsNumeralOf, AreOptions, IsFree, with_option, Adds}
+use Rattle.run_words.proofs.Rows.{KeyRow, FlagRow, RowsSay, full, first_new, flag_kept, flag_new, key_kept, no_flag, no_text, row}
+use Rattle.run_words.proofs.Built.{run_leaf, Leads, at_hand, ends, faults, separator, test, then}
+use Rattle.run_words.proofs.Steps.{Piece, Valued, HalfGiven, TallyGiven, Stands, idle_at, idle_turn, joined, joined_leads, key_id, name_leads, name_of, new_stands, row_at, run_defaults, used_once, value_leads, value_stands, waits, plain_fine, plain_met}
 
 -- ---- how a long option is spelled
 abbrev spelled : Text → Option Text → Text
@@ -52,8 +48,8 @@ name_spelled : (text name : Text) (value : Option Text) → name_and_value text 
 name_spelled text name value e = elim (cut text) [
   | inl none ↦ let same : (text, None) ≡ (name, value) = sym (name_and_value-without text none) ∙ e in ap (λ (p : Text × Option Text). spelled p.0 p.1) same
   | inr some ↦
-    let same : (some.0, Some some.1) ≡ (name, value) = sym (name_and_value-at some.0 some.1 some.3) ∙ ap name_and_value (sym some.2) ∙ e in
-    some.2 ∙ ap (λ (p : Text × Option Text). spelled p.0 p.1) same
+      let same : (some.0, Some some.1) ≡ (name, value) = sym (name_and_value-at some.0 some.1 some.3) ∙ ap name_and_value (sym some.2) ∙ e in
+      some.2 ∙ ap (λ (p : Text × Option Text). spelled p.0 p.1) same
 ]
 
 long_spelled : (word name : Text) (value : Option Text) → long_of word ≡ Some (name, value) → word ≡ 45 ∷ 45 ∷ spelled name value

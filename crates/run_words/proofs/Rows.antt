@@ -1,9 +1,7 @@
 -- What the rows of clap's matches read, and what they say of the options of `run`.
-use Rattle.std.proofs.Common.{◌≡◌, ◌∙◌, ℕ, Bool, cond, true, false, ◌||◌, true≢false, inl, inr, ◌⊎◌, refl, sym, ap, ap₂, List, [], ◌∷◌, ◌++◌, Option, Some, None, codes, append-nil, append_assoc}
-use Rattle.std.specs.List.{find, fold, list_any}
-use Rattle.std.specs.Option.{option_map_or}
+use Rattle.std.proofs.Common.{◌≡◌, ◌∙◌, ℕ, Bool, cond, true, false, ◌||◌, true≢false, refl, sym, ap, ap₂, List, [], ◌∷◌, ◌++◌, Option, Some, None, codes, append-nil}
+use Rattle.std.specs.List.{find}
 use Rattle.std.specs.Prelude.{option_and_then, slice_get, bytes_eq}
-use Rattle.std.specs.Str.Parse.{digits_value}
 use Rattle.clap.specs.Walk.{Row, Rule, Text, at_row, default_rows, more_values, first_of, has_row, one_of, reading_by, row_text, with_default, with_values, without}
 use Rattle.clap.specs.declared.builder.value_parser.Reading.{Reading}
 use Rattle.clap.specs.declared.builder.value_parser.Reading.TheVariants.{AsWritten}

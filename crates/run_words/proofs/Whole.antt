@@ -1,14 +1,13 @@
 -- All words: clap takes those of the grammar, and finds the settings that they choose.
-use Rattle.std.proofs.Common.{◌≡◌, ◌≢◌, ◌∙◌, ◌||◌, true≢false, ℕ, Bool, true, false, inl, inr, ◌⊎◌, refl, sym, ap, ap₂, subst, List, [], ◌∷◌, ◌++◌, Option, Some, None, codes}
+use Rattle.std.proofs.Common.{◌≡◌, ◌≢◌, ◌∙◌, ◌||◌, true≢false, ℕ, Bool, true, false, inl, inr, refl, sym, ap, ap₂, subst, List, [], ◌∷◌, ◌++◌, Option, Some, None, codes}
 use Rattle.std.specs.List.{fold}
 use Rattle.std.specs.Option.{is_some}
 use Rattle.std.specs.Prelude.{bytes_eq}
 use Rattle.std.proofs.lemmas.Slice.Eq.{bytes_eq-Decides}
-use Rattle.clap.specs.Lexer.{long_of, short_of}
 use Rattle.clap.specs.Kinds.{HasKind, Kinds, or_else}
-use Rattle.clap.specs.Walk.{Held, Row, Step, Text, Walk, idle, after_step, arg_by_long, arg_by_short, finished, first_of, nothing_held, plain_word, rows_after, settled, settled_rows, subcommand_met, walk, walk_from, walked, with_default, word_met, has_row}
-use Rattle.clap.specs.Simple.{App, built, entered, names_of, subcommand_of, subcommand_rows_of, HasMatchesOf, is_simple}
-use Rattle.clap.specs.Faults.{check_fault, defaults_fault, entered_fault, fault_of, level_fault, long_fault, settle_fault, step_fault, turn_fault, walk_fault, word_fault, is_simple_and_free}
+use Rattle.clap.specs.Walk.{Held, Row, Step, Text, Walk, idle, after_step, arg_by_short, finished, first_of, nothing_held, plain_word, rows_after, settled, walk, walk_from, walked, with_default, word_met, has_row}
+use Rattle.clap.specs.Simple.{App, entered, subcommand_of, subcommand_rows_of, HasMatchesOf, is_simple}
+use Rattle.clap.specs.Faults.{check_fault, defaults_fault, entered_fault, fault_of, settle_fault, step_fault, turn_fault, walk_fault, is_simple_and_free}
 use Rattle.clap.specs.declared.error.kind.ErrorKind.TheVariants.{OutOfMemory}
 use Rattle.clap.specs.Values.{kind_of}
 use Rattle.clap.specs.declared.error.Error.{Error}
@@ -23,8 +22,8 @@ use Rattle.run_words.specs.Words.{Key, Workers, Memo, Share, RunOption, Number, 
 use Rattle.run_words.specs.Program.{program}
 use Rattle.run_words.specs.Reading.{has_separator, HaveFlags, HasFlags, Make, Says, SayGiven}
 use Rattle.run_words.proofs.Rows.{RowsSay, added, number, flag_default, full, no_default, one_says, whole, whole_first, whole_half, whole_says, whole_tally}
-use Rattle.run_words.proofs.Built.{HasNoSeparator, run_leaf, demo_leaf, top, names, at_hand, both_fine, built_is, ends, faults, fine_then, next_word, one_step, separator, test, word_is, workers_rule, memo_rule, share_rule, half_rule, tally_rule}
-use Rattle.run_words.proofs.Steps.{apart_of, key_id, idle_at, new_stands, demo_defaults}
+use Rattle.run_words.proofs.Built.{HasNoSeparator, run_leaf, demo_leaf, top, names, both_fine, ends, faults, fine_then, next_word, separator, test, word_is, workers_rule, memo_rule, share_rule, half_rule, tally_rule}
+use Rattle.run_words.proofs.Steps.{apart_of, idle_at, new_stands}
 use Rattle.run_words.proofs.Options.{final, numeral_plain, taken}
 use Rattle.run_words.proofs.Gathered.{AreNumerals, gathered}
 
@@ -280,10 +279,10 @@ taken_are : (words : List Text) → HasNoSeparator words → fault_of program wo
 taken_are [] none fine = absurd (none_wrong fine)
 taken_are (first ∷ rest) none fine = elim (test (codes "run") first) [
   | inl is ↦
-    a_run rest (ap (λ (w : Text). w ∷ rest) (sym is)) (sym (run_fault rest) ∙ subst (λ (w : Text). fault_of program (w ∷ rest) ≡ []) (sym is) fine) none.1
+      a_run rest (ap (λ (w : Text). w ∷ rest) (sym is)) (sym (run_fault rest) ∙ subst (λ (w : Text). fault_of program (w ∷ rest) ≡ []) (sym is) fine) none.1
   | inr run ↦ elim (test (codes "demo") first) [
     | inl is ↦
-      a_demo rest (ap (λ (w : Text). w ∷ rest) (sym is)) (sym (demo_fault rest) ∙ subst (λ (w : Text). fault_of program (w ∷ rest) ≡ []) (sym is) fine) none.1
+        a_demo rest (ap (λ (w : Text). w ∷ rest) (sym is)) (sym (demo_fault rest) ∙ subst (λ (w : Text). fault_of program (w ∷ rest) ≡ []) (sym is) fine) none.1
     | inr demo ↦ absurd (other_wrong first rest none.0 run demo fine)
   ]
 ]

@@ -1,4 +1,4 @@
-use Rattle.std.proofs.Common.{rules, ap, ap₂, ◌≡◌, ◌∙◌}
+use Rattle.std.proofs.Common.{rules, ap, ap₂, ◌∙◌}
 use Rattle.clap.specs.Words.{App, with_subcommand}
 use Rattle.run_words.proofs.command.program.Goals as goal
 

@@ -1,6 +1,5 @@
-use Rattle.std.proofs.Common.{rules, ap₂, codes, ◌≡◌, ◌∙◌}
-use Rattle.clap.specs.Words.{rule_of, with_rule}
-use Rattle.run_words.specs.Program.{number_option, flag_option}
+use Rattle.std.proofs.Common.{rules, ap₂, ◌∙◌}
+use Rattle.clap.specs.Words.{with_rule}
 use Rattle.run_words.proofs.command.run_command.Goals as goal
 
 pub returns-clause-told : goal.returns-clause-told

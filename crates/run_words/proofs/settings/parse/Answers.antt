@@ -1,4 +1,4 @@
-use Rattle.std.proofs.Common.{◌≡◌, sym, subst, map, string_bytes, List, Option}
+use Rattle.std.proofs.Common.{sym, subst, map, string_bytes, List, Option}
 use Rattle.clap.specs.Words.{Row, Text, app_of}
 use Rattle.run_words.specs.Reading.{HasFlags, Make}
 use Rattle.run_words.specs.declared.settings.WordsFault.TheVariants.{BadWords}

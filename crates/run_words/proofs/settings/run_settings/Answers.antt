@@ -1,4 +1,3 @@
-use Rattle.std.proofs.Common.{ap, sym, ◌∙◌}
 use Rattle.clap.specs.Words.{found_of, rows_of}
 use Rattle.run_words.proofs.Found.{none_made, one_made}
 use Rattle.run_words.proofs.settings.run_settings.Goals as goal

@@ -1,5 +1,5 @@
-use Rattle.std.proofs.Common.{◌≡◌, ◌∙◌, ℕ, refl, sym, subst, codes, List, Option, Some, None, IfSome, IfNone}
-use Rattle.clap.specs.Words.{Row, Text, found_of, rows_of, subcommand_rows_of}
+use Rattle.std.proofs.Common.{◌≡◌, ◌∙◌, refl, sym, subst, codes, List, Option, IfSome, IfNone}
+use Rattle.clap.specs.Words.{Row, Text}
 use Rattle.run_words.specs.declared.settings.Settings.{Settings}
 use Rattle.run_words.specs.Words.{AreInRange}
 use Rattle.run_words.specs.Reading.{HasFlags, Make}
