@@ -103,7 +103,10 @@ fn no_option_is_taken_twice(rt: HostRuntime) -> Result<(), Fail> {
             for form in 0..8u8 {
                 let mut words = run_words(rt.alloc(), order.as_bytes(), form)?;
                 push_option(rt.alloc(), &mut words, *again, form < 4)?;
-                assert!(rt; read_words(rt.alloc(), &words).is_err(), "at {order}, form {form}");
+                assert!(rt;
+                    read_words(rt.alloc(), &words).is_err(),
+                    "at {order}, form {form}"
+                );
             }
         }
     }
