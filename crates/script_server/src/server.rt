@@ -38,7 +38,7 @@ pub fn serve<S: Source, K: Sink, R: Threads + Wait + Sync>(
     ensures bad_words { result ≡ Status.BadWords → AreOutside (map string_bytes words.now)
         × Appends (K.held sink.old) (K.held sink.new) usage_line }
     ensures wrong_words { AreOutside (map string_bytes words.now) → (source.new ≡ source.old)
-        × ((result ≡ Status.BadWords) ⊎ (result ≡ Status.WriteFault) ⊎ ((result ≡ Status.NoMemory) × (sink.new ≡ sink.old))) }
+        × (((result ≡ Status.BadWords) ⊎ (result ≡ Status.WriteFault)) ⊎ ((result ≡ Status.NoMemory) × (sink.new ≡ sink.old))) }
     ensures usage_cut { AreOutside (map string_bytes words.now) → result ≡ Status.WriteFault
         → AppendsProperPrefix (K.held sink.old) (K.held sink.new) usage_line }
 
