@@ -2,13 +2,21 @@
 use Rattle.std.specs.Prelude.{◌≡◌, ℕ, ◌*◌, ◌≤◌, true, false, List, [], ◌∷◌, ◌++◌, codes, ◌⊎◌, Option, Some, None}
 use Rattle.std.specs.Str.Parse.{digits_value}
 use Rattle.text_place.specs.Decimals.{IsShortNumeral}
-use Rattle.run_words.specs.declared.option.Key.{Key}
-use Rattle.run_words.specs.declared.option.Key.TheVariants.{Workers, Memo, Share}
-use Rattle.run_words.specs.declared.option.RunOption.{RunOption}
-use Rattle.run_words.specs.declared.option.RunOption.TheVariants.{Number, Half, Tally}
 use Rattle.run_words.specs.declared.given.Given.{Given}
 use Rattle.run_words.specs.declared.settings.Settings.{Settings}
 use Rattle.run_words.specs.declared.settings.Settings.TheVariants.{Run, Demo}
+
+-- an option that has a number
+pub data Key : Type 0 where
+  Workers : Key
+  Memo : Key
+  Share : Key
+
+-- an option, with its number if it has one
+pub data RunOption : Type 0 where
+  Number : Key → ℕ → RunOption
+  Half : RunOption
+  Tally : RunOption
 
 abbrev pub equals : List ℕ
 equals = 61 ∷ []

@@ -1,11 +1,12 @@
 //! The options of `run` that were given.
 
-ghost use Rattle.std.specs.Prelude.{◌≡◌, ℕ, List, map, string_bytes, IfSome, IfNone};
+ghost use Rattle.std.specs.Prelude.{ℕ, Option, IfSome, IfNone};
+ghost use Rattle.clap.specs.Words.{found_of, first_of, rows_of};
 ghost use Rattle.run_words.specs.declared.given.Given.{Given};
-ghost use Rattle.run_words.specs.Words.{IsFree, with_option, no_options};
-ghost use Rattle.run_words.specs.Gathering.{Gathers};
+ghost use Rattle.run_words.specs.Reading.{Says, SayGiven, HaveFlags};
 
-use crate::option::{Key, RunOption, next_option};
+use clap::ArgMatches;
+use text_place::read_decimal;
 
 /// The options that were given.
 #[derive(Clone, Copy)]
@@ -17,54 +18,28 @@ pub struct Given {
     pub tally: bool,
 }
 
-// With one option more, unless it was given already.
-fn add(given: Given, option: RunOption) -> Option<Given>
-    ensures added { IfSome result (λ all. IsFree given option × (all ≡ with_option given option)) }
-    ensures again { IfNone result (IsFree given option → ⊥) }
+/// The number that was given under this name, if one was, and `None` where its text is no numeral.
+pub fn number_in(matches: &ArgMatches<'_>, name: &str) -> Option<Option<u64>>
+    ensures found { IfSome result (λ number. Says (first_of name.now (rows_of (found_of matches.now))) number) }
+    ensures none { IfNone result ((number : Option ℕ) → Says (first_of name.now (rows_of (found_of matches.now))) number → ⊥) }
 {
-    match option {
-        RunOption::Number(Key::Workers, number) if given.workers.is_none() => Some(Given {
-            workers: Some(number),
-            ..given
-        }),
-        RunOption::Number(Key::Memo, number) if given.memo.is_none() => Some(Given {
-            memo: Some(number),
-            ..given
-        }),
-        RunOption::Number(Key::Share, number) if given.share.is_none() => Some(Given {
-            share: Some(number),
-            ..given
-        }),
-        RunOption::Half if !given.half => Some(Given {
-            half: true,
-            ..given
-        }),
-        RunOption::Tally if !given.tally => Some(Given {
-            tally: true,
-            ..given
-        }),
-        _ => None,
+    match matches.get_str(name) {
+        None => Some(None),
+        Some(text) => Some(Some(read_decimal(text.as_bytes())?)),
     }
 }
 
-/// The options that the words behind `run` give. Takes no memory.
-pub fn gather(words: &[String]) -> Option<Given>
-    ensures found { IfSome result (λ given. Gathers no_options (map string_bytes words.now) given) }
-    ensures only { IfSome result (λ given. (all : Given) → Gathers no_options (map string_bytes words.now) all → all ≡ given) }
-    ensures none { IfNone result ((given : Given) → Gathers no_options (map string_bytes words.now) given → ⊥) }
+/// The options that clap found behind `run`, unless the text of a number is no numeral.
+pub fn given_in(run: &ArgMatches<'_>) -> Option<Given>
+    requires { HaveFlags (rows_of (found_of run.now)) }
+    ensures found { IfSome result (λ given. SayGiven (rows_of (found_of run.now)) given) }
+    ensures none { IfNone result ((given : Given) → SayGiven (rows_of (found_of run.now)) given → ⊥) }
 {
-    let mut given = Given {
-        workers: None,
-        memo: None,
-        share: None,
-        half: false,
-        tally: false,
-    };
-    let mut left = words;
-    while !left.is_empty() {
-        let (option, rest) = next_option(left)?;
-        given = add(given, option)?;
-        left = rest;
-    }
-    Some(given)
+    Some(Given {
+        workers: number_in(run, "workers")?,
+        memo: number_in(run, "memo")?,
+        share: number_in(run, "share")?,
+        half: run.get_flag("half"),
+        tally: run.get_flag("tally"),
+    })
 }

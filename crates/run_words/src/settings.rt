@@ -1,11 +1,18 @@
 //! The settings that words choose.
 
-ghost use Rattle.std.specs.Prelude.{◌≡◌, ◌≢◌, ℕ, List, map, string_bytes, IfSome, IfNone, IfOk, IsTrue, IfErr, OnErr, MatchResult};
+ghost use Rattle.std.specs.Prelude.{◌≡◌, ◌≢◌, ℕ, List, map, codes, string_bytes, Some, IfSome, IfNone, IfOk, IsErrOf, false};
+ghost use Rattle.clap.specs.Words.{found_of, kind_of, rows_of, subcommand_rows_of};
+ghost use Rattle.clap.specs.declared.error.kind.ErrorKind.TheVariants.{OutOfMemory};
 ghost use Rattle.run_words.specs.declared.settings.Settings.{Settings};
-ghost use Rattle.run_words.specs.Words.{chosen, AreInRange, AreRunOptions, AreDemoWords, Chooses, AreOutside};
+ghost use Rattle.run_words.specs.declared.settings.WordsFault.TheVariants.{NoMemory};
+ghost use Rattle.run_words.specs.Words.{chosen, AreInRange, Chooses, AreOutside};
+ghost use Rattle.run_words.specs.Reading.{HaveFlags, HasFlags, Make, has_separator as have_separator};
 
-use crate::given::{Given, gather};
-use text_place::read_decimal;
+use crate::command::program;
+use crate::given::{Given, given_in, number_in};
+use clap::error::ErrorKind;
+use clap::{ArgMatches, Error};
+use std::alloc::{AllocError, Global};
 
 /// What the program is to do.
 #[derive(Clone, Copy, PartialEq, Eq)]
@@ -33,6 +40,16 @@ pub enum Settings {
 pub enum WordsFault {
     /// The words are outside the grammar.
     BadWords,
+    /// Memory ran out.
+    NoMemory,
+}
+
+impl From<AllocError> for WordsFault {
+    ghost from_gives = { λ _ fault. fault ≡ NoMemory };
+
+    fn from(_error: AllocError) -> WordsFault {
+        WordsFault::NoMemory
+    }
 }
 
 // The settings, where the numbers are in their ranges.
@@ -71,50 +88,93 @@ fn with_defaults(given: Given) -> Settings
     }
 }
 
-// The settings of the words behind `run`.
-fn run_settings(words: &[String]) -> Option<Settings>
-    ensures found { IfSome result (λ settings. AreRunOptions (map string_bytes words.now) settings × AreInRange settings) }
-    ensures only { IfSome result (λ settings. (other : Settings) → AreRunOptions (map string_bytes words.now) other → other ≡ settings) }
-    ensures none { IfNone result ((settings : Settings) → AreRunOptions (map string_bytes words.now) settings → AreInRange settings → ⊥) }
+// Why clap makes nothing of the words.
+fn told(error: &Error) -> WordsFault
+    ensures { result ≡ WordsFault.BadWords → kind_of error.now ≢ OutOfMemory }
 {
-    let given = gather(words)?;
+    match error.kind() {
+        ErrorKind::OutOfMemory => WordsFault::NoMemory,
+        _ => WordsFault::BadWords,
+    }
+}
+
+// What clap makes of the words, among which no `--` is.
+fn parse<'a>(alloc: Global, words: &'a [String]) -> Result<ArgMatches<'a>, WordsFault>
+    requires { have_separator (map string_bytes words.now) ≡ false }
+    ensures chosen { IfOk result (λ matches. (settings : Settings) → Chooses (map string_bytes words.now) settings
+        → Make (subcommand_rows_of matches) settings) }
+    ensures made { IfOk result (λ matches. (settings : Settings) → AreInRange settings → Make (subcommand_rows_of matches) settings
+        → Chooses (map string_bytes words.now) settings) }
+    ensures flags { IfOk result (λ matches. HasFlags (subcommand_rows_of matches)) }
+    ensures refused { IsErrOf result WordsFault.BadWords → AreOutside (map string_bytes words.now) }
+{
+    let command = program(alloc)?;
+    match command.try_get_matches_from(words) {
+        Ok(matches) => Ok(matches),
+        Err(error) => Err(told(&error)),
+    }
+}
+
+// The settings of what clap found behind `run`.
+fn run_settings(run: &ArgMatches<'_>) -> Option<Settings>
+    requires { HaveFlags (rows_of (found_of run.now)) }
+    ensures found { IfSome result (λ settings. Make (Some (codes "run", rows_of (found_of run.now))) settings × AreInRange settings) }
+    ensures only { IfSome result (λ settings. (other : Settings) → Make (Some (codes "run", rows_of (found_of run.now))) other → other ≡ settings) }
+    ensures none { IfNone result ((settings : Settings) → Make (Some (codes "run", rows_of (found_of run.now))) settings → AreInRange settings → ⊥) }
+{
+    let given = given_in(run)?;
     in_range(with_defaults(given))
 }
 
-// The settings of the words behind `demo`.
-fn demo_settings(words: &[String]) -> Option<Settings>
-    ensures found { IfSome result (λ settings. AreDemoWords (map string_bytes words.now) settings × AreInRange settings) }
-    ensures only { IfSome result (λ settings. (other : Settings) → AreDemoWords (map string_bytes words.now) other → other ≡ settings) }
-    ensures none { IfNone result ((settings : Settings) → AreDemoWords (map string_bytes words.now) settings → AreInRange settings → ⊥) }
+// The settings of what clap found behind `demo`.
+fn demo_settings(demo: &ArgMatches<'_>) -> Option<Settings>
+    ensures found { IfSome result (λ settings. Make (Some (codes "demo", rows_of (found_of demo.now))) settings × AreInRange settings) }
+    ensures only { IfSome result (λ settings. (other : Settings) → Make (Some (codes "demo", rows_of (found_of demo.now))) other → other ≡ settings) }
+    ensures none { IfNone result ((settings : Settings) → Make (Some (codes "demo", rows_of (found_of demo.now))) settings → AreInRange settings → ⊥) }
 {
-    let (digits, rest) = words.split_first()?;
-    if !rest.is_empty() {
-        return None;
-    }
-    let parts = read_decimal(digits.as_bytes())?;
+    let parts = number_in(demo, "parts")??;
     in_range(Settings::Demo(parts))
 }
 
-// The settings of all words.
-fn settings_of(words: &[String]) -> Option<Settings>
-    ensures found { IfSome result (λ settings. Chooses (map string_bytes words.now) settings) }
-    ensures only { IfSome result (λ settings. (other : Settings) → Chooses (map string_bytes words.now) other → other ≡ settings) }
-    ensures none { IfNone result (AreOutside (map string_bytes words.now)) }
+// The settings of what clap found.
+fn settings_in(matches: &ArgMatches<'_>) -> Option<Settings>
+    requires { HasFlags (subcommand_rows_of matches.now) }
+    ensures found { IfSome result (λ settings. Make (subcommand_rows_of matches.now) settings × AreInRange settings) }
+    ensures only { IfSome result (λ settings. (other : Settings) → Make (subcommand_rows_of matches.now) other → other ≡ settings) }
+    ensures none { IfNone result ((settings : Settings) → Make (subcommand_rows_of matches.now) settings → AreInRange settings → ⊥) }
 {
-    let (first, rest) = words.split_first()?;
-    match first.as_bytes() {
-        b"run" => run_settings(rest),
-        b"demo" => demo_settings(rest),
-        _ => None,
+    let (name, found) = matches.subcommand()?;
+    if name == "run" {
+        run_settings(found)
+    } else if name == "demo" {
+        demo_settings(found)
+    } else {
+        None
     }
 }
 
+// Whether one of the words is `--`, behind which clap would take any word for a value.
+fn has_separator(words: &[String]) -> bool
+    ensures { result ≡ have_separator (map string_bytes words.now) }
+{
+    for word in words {
+        if word.as_str() == "--" {
+            return true;
+        }
+    }
+    false
+}
+
 /// The settings that the words behind the program's name choose, and `BadWords` exactly where they are outside
-/// the grammar. Takes no memory.
-pub fn read_words(words: &[String]) -> Result<Settings, WordsFault>
+/// the grammar, unless memory runs out.
+pub fn read_words(alloc: Global, words: &[String]) -> Result<Settings, WordsFault>
     ensures found { IfOk result (λ settings. Chooses (map string_bytes words.now) settings) }
     ensures only { IfOk result (λ settings. (other : Settings) → Chooses (map string_bytes words.now) other → other ≡ settings) }
-    ensures fault { OnErr result (AreOutside (map string_bytes words.now)) }
+    ensures fault { IsErrOf result WordsFault.BadWords → AreOutside (map string_bytes words.now) }
 {
-    settings_of(words).ok_or(WordsFault::BadWords)
+    if has_separator(words) {
+        return Err(WordsFault::BadWords);
+    }
+    let matches = parse(alloc, words)?;
+    settings_in(&matches).ok_or(WordsFault::BadWords)
 }

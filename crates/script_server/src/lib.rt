@@ -13,6 +13,7 @@ pub use meaning::{
     one_meaning, one_output, one_reply, own_replies, solids_pass_no_limit, some_meaning, some_reply,
 };
 pub use program::run_program;
+pub use run_words::{Settings, WordsFault, read_words};
 pub use running::{Finished, run_gated, run_script};
 pub use script_service::Status;
 pub use server::serve;

@@ -33,11 +33,12 @@ pub fn serve<S: Source, K: Sink, R: Threads + Wait + Sync>(
     ensures done { result ≡ Status.Done → (settings : Settings) × Chooses (map string_bytes words.now) settings
         × Serves (AnswersExport (unit_of settings)) (AreBooks (unit_of settings)) settings (S.left source.old) (S.left source.new) (K.held sink.old) (K.held sink.new) }
 
-    // Words that are outside the grammar, and they alone, are answered by the usage line, and then nothing is read.
+    // Words that are outside the grammar, and they alone, are answered by the usage line, unless memory runs out, and then
+    // nothing is read.
     ensures bad_words { result ≡ Status.BadWords → AreOutside (map string_bytes words.now)
         × Appends (K.held sink.old) (K.held sink.new) usage_line }
     ensures wrong_words { AreOutside (map string_bytes words.now) → (source.new ≡ source.old)
-        × ((result ≡ Status.BadWords) ⊎ (result ≡ Status.WriteFault)) }
+        × (((result ≡ Status.BadWords) ⊎ (result ≡ Status.WriteFault)) ⊎ ((result ≡ Status.NoMemory) × (sink.new ≡ sink.old))) }
     ensures usage_cut { AreOutside (map string_bytes words.now) → result ≡ Status.WriteFault
         → AppendsProperPrefix (K.held sink.old) (K.held sink.new) usage_line }
 

@@ -26,7 +26,7 @@ use crate::runner::{Ran, Runner};
 use crate::status::Status;
 use big_input::{demo_scripts_have_no_fault, make_script};
 use outside_io::{ReadEnd, Sink, Source, read_to_end, write_all};
-use run_words::{Settings, read_words};
+use run_words::{Settings, WordsFault, read_words};
 use script_output::{OutputEnd, write_output};
 use script_reader::{
     ClientScript, Script, ScriptFault, bytes_are_one_script, read_script, write_fault,
@@ -239,11 +239,12 @@ pub fn serve_with<W: Runner, R: Threads + Wait + Sync, S: Source, K: Sink>(
     ensures done { result ≡ Status.Done → (settings : Settings) × Chooses (map string_bytes words.now) settings
         × Serves (W.exports (unit_of settings)) (W.books (unit_of settings)) settings (S.left source.old) (S.left source.new) (K.held sink.old) (K.held sink.new) }
 
-    // Words that are outside the grammar, and they alone, are answered by the usage line, and then nothing is read.
+    // Words that are outside the grammar, and they alone, are answered by the usage line, unless memory runs out, and then
+    // nothing is read.
     ensures bad_words { result ≡ Status.BadWords → AreOutside (map string_bytes words.now)
         × Appends (K.held sink.old) (K.held sink.new) usage_line }
     ensures wrong_words { AreOutside (map string_bytes words.now) → (source.new ≡ source.old)
-        × ((result ≡ Status.BadWords) ⊎ (result ≡ Status.WriteFault)) }
+        × (((result ≡ Status.BadWords) ⊎ (result ≡ Status.WriteFault)) ⊎ ((result ≡ Status.NoMemory) × (sink.new ≡ sink.old))) }
     ensures usage_cut { AreOutside (map string_bytes words.now) → result ≡ Status.WriteFault
         → AppendsProperPrefix (K.held sink.old) (K.held sink.new) usage_line }
 
@@ -275,8 +276,9 @@ pub fn serve_with<W: Runner, R: Threads + Wait + Sync, S: Source, K: Sink>(
     ensures demo_script { (settings : Settings) → Chooses (map string_bytes words.now) settings → (IsRun settings → ⊥)
         → result ≢ Status.BadScript }
 {
-    match read_words(words) {
+    match read_words(alloc, words) {
         Ok(settings) => serve_chosen(rt, alloc, runner, settings, source, sink),
-        Err(_) => finish(sink, USAGE, Status::BadWords),
+        Err(WordsFault::BadWords) => finish(sink, USAGE, Status::BadWords),
+        Err(WordsFault::NoMemory) => Status::NoMemory,
     }
 }

@@ -1,4 +1,4 @@
-//! A runner whose exports are all answered by the text of one box, over counts and weights that are made up.
+//! A runner whose exports are all answered by the text of one box, over counts and weights that are made up or told of the settings.
 
 use outside_io::{MemorySink, MemorySource};
 use plane_predicate::Unit;
@@ -17,10 +17,11 @@ const BOX_TEXT: &[u8] =
     b"4OFF\n8 6 0\n0 0 0 1\n0 0 3 1\n0 2 3 1\n0 2 0 1\n1 0 0 1\n1 2 0 1\n1 2 3 1\n1 0 3 1\n\
 4 0 1 2 3\n4 4 5 6 7\n4 0 4 7 1\n4 3 2 6 5\n4 0 3 5 4\n4 1 7 6 2\n";
 
+// Made up, but for three that tell how the settings have the script run.
 const COUNTS: Tally = Tally {
-    probes: 11,
-    hits: 22,
-    misses: 33,
+    probes: 0,
+    hits: 0,
+    misses: 0,
     offered: 44,
     kept: 55,
     heavy: 66,
@@ -84,7 +85,12 @@ impl Runner for BoxRunner {
         let owned = Vec::from_slice(alloc, &WEIGHTS[..clients])?;
         Ok(Ran {
             replies,
-            tally: COUNTS,
+            tally: Tally {
+                probes: how.workers,
+                hits: how.memo,
+                misses: how.share,
+                ..COUNTS
+            },
             owned,
         })
     }
@@ -120,17 +126,21 @@ fn the_demonstration_tells_digests(rt: HostRuntime) -> Result<(), Fail> {
 }
 
 #[test]
-fn counts_and_weights_follow_the_replies(rt: HostRuntime) -> Result<(), Fail> {
-    // Words, and what stands behind the replies of two clients.
+fn settings_reach_the_run_and_counts_follow_the_replies(rt: HostRuntime) -> Result<(), Fail> {
+    // Words, and what stands behind the replies of two clients: the first three numbers are the settings.
     for (words, ending) in [
-        (["run", "--half", "--share=1000"], ""),
+        (["run", "--half", "--share=1000", "--workers=3"], ""),
         (
-            ["run", "--tally", "--share=0"],
-            "tally probes 11 hits 22 misses 33 offered 44 kept 55 heavy 66 dropped 77 evicted 88\n",
+            ["run", "--tally", "--share=0", "--workers=64"],
+            "tally probes 64 hits 500000 misses 0 offered 44 kept 55 heavy 66 dropped 77 evicted 88\n",
         ),
         (
-            ["run", "--tally", "--share=1000"],
-            "tally probes 11 hits 22 misses 33 offered 44 kept 55 heavy 66 dropped 77 evicted 88\nshare b 100\nshare a 90\n",
+            ["run", "--memo=31", "--tally", "--workers=1"],
+            "tally probes 1 hits 31 misses 0 offered 44 kept 55 heavy 66 dropped 77 evicted 88\n",
+        ),
+        (
+            ["run", "--tally", "--share=1000", "--half"],
+            "tally probes 4 hits 500000 misses 1000 offered 44 kept 55 heavy 66 dropped 77 evicted 88\nshare b 100\nshare a 90\n",
         ),
     ] {
         let (ended, held) = served(&rt, rt.alloc(), &words, b"b show\na show\nb jump\n")?;

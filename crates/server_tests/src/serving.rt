@@ -161,6 +161,8 @@ fn boxes_are_built_however_they_are_written(rt: HostRuntime) -> Result<(), Fail>
         "#cube([1,2,3]);",
         "cube([1,2,3]);;",
         "{cube([1,2,3]);}",
+        // Two children, and as many numbers as a range may have.
+        "module m() children([0:1:9007199254740991]); m() { cube([1,2,3]); if (false) cube(1); }",
     ] {
         let held = exported(&rt, rt.alloc(), &["run"], line)?;
         assert_eq!(rt; held.as_slice(), FIRST_BOX.as_bytes(), "at {line:?}");
@@ -377,6 +379,7 @@ c7 {counts} sha256 {two}\nc8 {counts} sha256 {three}\n"
 #[test]
 fn each_read_and_each_write_may_fail(rt: HostRuntime) -> Result<(), Fail> {
     let script = EDITS.as_bytes();
+    let mut is_done = false;
     for call in 1..1000u64 {
         let outside = Outside {
             read: call,
@@ -385,11 +388,14 @@ fn each_read_and_each_write_may_fail(rt: HostRuntime) -> Result<(), Fail> {
         };
         let (ended, held) = check(&rt, rt.alloc(), &["run"], script, outside)?;
         if ended == Status::Done {
-            assert!(rt; call > 7);
+            assert!(rt; call > 7 && held.as_slice() == EDITED.as_bytes());
+            is_done = true;
             break;
         }
         assert!(rt; ended == Status::ReadFault && held.is_empty(), "at {call}");
     }
+    assert!(rt; is_done);
+    is_done = false;
     for call in 1..1000u64 {
         let outside = Outside {
             write: call,
@@ -398,12 +404,14 @@ fn each_read_and_each_write_may_fail(rt: HostRuntime) -> Result<(), Fail> {
         };
         let (ended, held) = check(&rt, rt.alloc(), &["run"], script, outside)?;
         if ended == Status::Done {
-            assert!(rt; call > 7);
+            assert!(rt; call > 7 && held.as_slice() == EDITED.as_bytes());
+            is_done = true;
             break;
         }
         assert!(rt; ended == Status::WriteFault, "at {call}");
         assert!(rt; EDITED.as_bytes().starts_with(held.as_slice()), "at {call}");
     }
+    assert!(rt; is_done);
     let outside = Outside { room: 10, ..CALM };
     let (ended, held) = check(&rt, rt.alloc(), &["run"], script, outside)?;
     assert!(rt; ended == Status::WriteFault);
@@ -515,13 +523,17 @@ fn clients_commands_and_bytes_have_limits(rt: HostRuntime) -> Result<(), Fail> {
         assert!(rt; held.as_slice().ends_with(end.as_bytes()), "at {end}");
     }
     // A line of 1,024 bytes, and one of a byte more.
-    for (length, status) in [(1016u32, Status::Done), (1017, Status::BadScript)] {
+    for (length, status, told) in [
+        (1016u32, Status::Done, "== a\n1 ok 1\n"),
+        (1017, Status::BadScript, "script 1 TooLong\n"),
+    ] {
         let mut script = Vec::from_slice(alloc, b"a put 1 ")?;
         for _ in 0..length {
             script.push(b'x')?;
         }
-        let (ended, _) = check(&rt, alloc, &["run"], &script, CALM)?;
+        let (ended, held) = check(&rt, alloc, &["run"], &script, CALM)?;
         assert!(rt; ended == status, "at {length}");
+        assert_eq!(rt; held.as_slice(), told.as_bytes(), "at {length}");
     }
     Ok(())
 }

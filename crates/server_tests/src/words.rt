@@ -85,7 +85,7 @@ fn options_are_taken_in_every_order_and_form(rt: HostRuntime) -> Result<(), Fail
             letters.push(*letter)?;
             for form in 0..8u8 {
                 let words = run_words(rt.alloc(), &letters, form)?;
-                let settings = read_words(&words).ok();
+                let settings = read_words(rt.alloc(), &words).ok();
                 assert!(rt;
                     settings == Some(chosen(&letters)),
                     "at {order}, form {form}"
@@ -103,7 +103,10 @@ fn no_option_is_taken_twice(rt: HostRuntime) -> Result<(), Fail> {
             for form in 0..8u8 {
                 let mut words = run_words(rt.alloc(), order.as_bytes(), form)?;
                 push_option(rt.alloc(), &mut words, *again, form < 4)?;
-                assert!(rt; read_words(&words).is_err(), "at {order}, form {form}");
+                assert!(rt;
+                    read_words(rt.alloc(), &words).is_err(),
+                    "at {order}, form {form}"
+                );
             }
         }
     }
@@ -124,7 +127,7 @@ fn is_taken(alloc: Global, name: &str, value: &str, joined: bool) -> Result<bool
         words.push(word)?;
         words.push(String::from_str(alloc, value)?)?;
     }
-    Ok(read_words(&words).is_ok())
+    Ok(read_words(alloc, &words).is_ok())
 }
 
 #[test]
