@@ -1,11 +1,10 @@
 -- The common factor of four numbers, and points without one.
-use Rattle.std.proofs.Common.{◌≡◌, ℕ, ◌<◌, sym, subst, arith, ℤ, pos, ◌*ℤ◌, ◌<ℤ◌, unsigned_abs}
+use Rattle.std.proofs.Common.{◌≡◌, ℕ, subst, arith, ℤ, pos, ◌*ℤ◌, unsigned_abs}
 use Rattle.std.proofs.Math.Nat.{eq-one_of_dvd-one}
 use Rattle.std.proofs.lemmas.Nat.Gcd.{dvd_trans}
 use Rattle.std.specs.Int.{IsGcd}
 use Rattle.plane_predicate.specs.Space.{Coordinates, IsCommonFactor, IsPoint, IsPointTimes, IsReduced}
 use Rattle.plane_predicate.proofs.Divisions.{quotients_of, reduced_is_point, reduced_is_same, same_factor}
-use Rattle.plane_predicate.proofs.IntegerRing.{sums}
 use Rattle.off_text.proofs.Unique.{size_above}
 use Prim.Native.Nat.{◌∣◌}
 

@@ -8,8 +8,8 @@ use Rattle.plane_predicate.specs.declared.unit.Unit.{Unit as LengthUnit}
 use Rattle.plane_predicate.specs.Space.{Coordinates}
 use Rattle.plane_polygon.specs.Polygons.{Outline, IsPolygon}
 use Rattle.off_text.specs.Reading.{vertex_line, face_line, off_text}
-use Rattle.off_text.specs.Texts.{from_least, number_among, vertices_of, AreCornersOf, IsTextOf}
-use Rattle.off_text.specs.Numbering.{AddsLine, AreNumbered, HaveLines}
+use Rattle.off_text.specs.Texts.{vertices_of, AreCornersOf, IsTextOf}
+use Rattle.off_text.specs.Numbering.{AddsLine, HaveLines}
 use Rattle.off_text.proofs.Pieces.{text-written}
 use Rattle.off_text.proofs.Gathered.{AreGathered, gathered_next, gathered_end}
 
@@ -46,20 +46,19 @@ faces_counted unit [] (f ∷ found) h = absurd h
 faces_counted unit (s ∷ polygons) [] h = absurd h
 faces_counted unit (s ∷ polygons) (f ∷ found) h = ap suc (faces_counted unit polygons found h.1)
 
--- the text of vertices and lines
-pub lines_text : (unit : LengthUnit) (polygons : List Outline) (vertices : List Coordinates) (lines bytes : List ℕ) (h : HaveLines unit polygons vertices lines) →
+-- vertices and lines make the text
+pub lines_text : (unit : LengthUnit) (polygons : List Outline) (vertices : List Coordinates) (lines bytes : List ℕ) → HaveLines unit polygons vertices lines →
     bytes ≡ ((((codes "4OFF\n" ++ numeral (length vertices)) ++ 32 ∷ numeral (length polygons)) ++ codes " 0\n") ++ flat_map vertex_line vertices) ++ lines →
-    bytes ≡ off_text vertices h.faces
+    IsTextOf unit polygons bytes
 lines_text unit polygons vertices lines bytes h e =
+    let found = h.numbered.found in
     let count : length h.faces ≡ length polygons =
-    ap length h.numbered.faces_are ∙ length-map _ _ ∙ length-map _ _ ∙ faces_counted unit polygons h.numbered.found h.numbered.corners in
-    e
-    ∙ ap (λ (n : ℕ). ((((codes "4OFF\n" ++ numeral (length vertices)) ++ 32 ∷ numeral n) ++ codes " 0\n") ++ flat_map vertex_line vertices) ++ lines) (sym count)
-    ∙ text-written vertices h.faces lines h.lines_are
-
-pub is_text : (unit : LengthUnit) (polygons : List Outline) (vertices : List Coordinates) (faces : List (List ℕ)) (bytes : List ℕ) → AreNumbered unit polygons vertices faces → bytes ≡ off_text vertices faces → IsTextOf unit polygons bytes
-is_text unit polygons vertices faces bytes h e = record {
-  faces = h.found;
-  corners = h.corners;
-  spelled = e ∙ ap (λ (v : List Coordinates). off_text v faces) h.vertices_are ∙ ap (off_text (vertices_of h.found)) h.faces_are;
-}
+    ap length h.numbered.faces_are ∙ length-map _ _ ∙ length-map _ _ ∙ faces_counted unit polygons found h.numbered.corners in
+    record {
+      faces = found;
+      corners = h.numbered.corners;
+      spelled = e
+          ∙ ap (λ (n : ℕ). ((((codes "4OFF\n" ++ numeral (length vertices)) ++ 32 ∷ numeral n) ++ codes " 0\n") ++ flat_map vertex_line vertices) ++ lines) (sym count)
+          ∙ text-written vertices h.faces lines h.lines_are
+          ∙ ap (λ (v : List Coordinates). off_text v h.faces) h.numbered.vertices_are ∙ ap (off_text (vertices_of found)) h.numbered.faces_are;
+    }

@@ -1,5 +1,5 @@
 -- Texts that are written piece by piece.
-use Rattle.std.proofs.Common.{◌≡◌, ℕ, List, [], ◌∷◌, ◌++◌, length, drop, ◌≤◌, refl, sym, ap, ◌∙◌, append_assoc, append-nil, flat_map, map, codes}
+use Rattle.std.proofs.Common.{◌≡◌, ℕ, List, [], ◌∷◌, ◌++◌, length, drop, ◌≤◌, sym, ap, ◌∙◌, append_assoc, append-nil, flat_map, codes}
 use Rattle.std.proofs.lemmas.List.{drop_all}
 use Rattle.text_place.specs.Decimals.{numeral, signed_numeral}
 use Rattle.plane_predicate.specs.Space.{Coordinates}

@@ -24,13 +24,13 @@ pub fn put_corners(
     ensures corners { OnOk result (AreReducedFrom (corners_in_units unit polygon.now) corners.new.items) }
 {
     corners.clear();
-    // What a polygon keeps is known of one that is owned.
+    // What a polygon keeps is known here of one that is owned, and a copy costs less than its corners.
     let copy = polygon.copy(alloc)?;
     push_corners(corners, copy, unit)?;
     Ok(())
 }
 
-/// Adds the corners of a polygon where there are none.
+/// Adds the corners of a polygon to none.
 fn push_corners(corners: &mut Vec<Vertex>, polygon: Polygon, unit: Unit) -> Result<(), AllocError>
     requires { corners.old.items ≡ [] }
     ensures polygon { IsPolygon polygon }

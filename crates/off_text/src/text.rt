@@ -70,7 +70,8 @@ fn has_too_many_corners(facets: &[Facet]) -> bool
     false
 }
 
-// Appends the line of a facet, from its least corner on. The list of corners is there to be used again.
+// Appends the line of a facet, from its least corner on. `corners` is a list for its corners, which the
+// next facet uses again.
 fn push_facet(
     alloc: Global,
     numbering: &mut Numbering,

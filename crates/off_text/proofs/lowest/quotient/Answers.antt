@@ -1,4 +1,4 @@
-use Rattle.std.proofs.Common.{◌≡◌, ◌/◌, ◌*ℤ◌, ◌-ℤ◌, ◌∙◌, sym, ap, subst, ℕ, ℤ, pos, neg_ℤ, unsigned_abs, arith, rules, FitsSigned, to_z, of_z, to_z-of_z}
+use Rattle.std.proofs.Common.{◌≡◌, ◌/◌, ◌*ℤ◌, ◌-ℤ◌, ◌∙◌, sym, ap, ℕ, ℤ, pos, neg_ℤ, unsigned_abs, arith, rules, FitsSigned, to_z, of_z, to_z-of_z}
 use Rattle.std.proofs.lemmas.Int.{ints}
 use Rattle.plane_predicate.proofs.Divisions.{quotient, quotient_negative, quotient_below}
 use Rattle.plane_predicate.proofs.Opposites.{from_zero, size_of_negative}

@@ -1,4 +1,4 @@
-use Rattle.std.proofs.Common.{◌∙◌, ap, List, ℕ, ◌++◌, map}
+use Rattle.std.proofs.Common.{◌∙◌, ap, List, ◌++◌, map}
 use Rattle.plane_predicate.specs.Space.{Coordinates}
 use Rattle.off_text.specs.Reading.{face_line}
 use Rattle.off_text.specs.Texts.{number_among}
