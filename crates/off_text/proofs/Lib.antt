@@ -11,6 +11,8 @@ pub mod Rounded
 pub mod Cornered
 pub mod Halves
 pub mod Printed
+pub mod Factors
+pub mod Lines
 pub mod Drawn
 pub mod Covered
 pub mod Unique

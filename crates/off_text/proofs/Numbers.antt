@@ -1,6 +1,7 @@
 -- Vertices keep their numbers while more points are numbered.
-use Rattle.std.proofs.Common.{◌≡◌, ℕ, ◌+◌, ◌<◌, ◌≤◌, Bool, true, false, cond, not, ◌||◌, ◌&&◌, eqb, List, [], ◌∷◌, ◌++◌, map, length, refl, sym, ap, ap₂, ◌∙◌, subst, arith, append_assoc, add-one, drop, take, get_or, drop-cons}
-use Rattle.std.proofs.lemmas.List.{map-append}
+use Rattle.std.proofs.Common.{◌≡◌, ℕ, ◌+◌, ◌<◌, ◌≤◌, Bool, true, false, cond, not, ◌||◌, ◌&&◌, eqb, List, [], ◌∷◌, ◌++◌, map, flat_map, length, refl, sym, ap, ap₂, ◌∙◌, subst, arith, append_assoc, add-one, drop, take, get_or, drop-cons}
+use Rattle.std.proofs.lemmas.List.{map-append, length-append, length-map, take-append-drop}
+use Rattle.std.proofs.lemmas.Grind.{flat_map-append}
 use Rattle.std.specs.List.{list_any, position_or_len}
 use Rattle.std.specs.Ordering.{int_eq}
 use Rattle.std.proofs.lemmas.Bool.{false≢true, and_from, and_parts, or_left}
@@ -10,8 +11,10 @@ use Rattle.std.proofs.lemmas.List.Sums.{prefix_len-le-length}
 use Rattle.indexmap.specs.IndexSet.{insert_key}
 use Rattle.plane_predicate.specs.Space.{Coordinates}
 use Rattle.plane_predicate.proofs.Opposites.{same_point as equal_points}
+use Rattle.text_place.specs.Decimals.{numeral}
+use Rattle.off_text.specs.Reading.{face_line}
 use Rattle.off_text.specs.Texts.{same_point, number_among}
-use Rattle.off_text.specs.Numbering.{grown}
+use Rattle.off_text.specs.Numbering.{grown, number_word}
 
 -- the point is numbered
 abbrev pub Known : List Coordinates → Coordinates → Type 0
@@ -112,14 +115,14 @@ grown-append [] ys vertices = refl
 grown-append (x ∷ xs) ys vertices = grown-append xs ys (insert_key same_point vertices x)
 
 -- one more point of those that are still to be numbered
-pub numbered_step : (vertices rest : List Coordinates) (indices : List ℕ) (p : Coordinates) →
-    (indices ++ number_among vertices p ∷ []) ++ map (number_among (grown (insert_key same_point vertices p) rest)) rest
-    ≡ indices ++ map (number_among (grown vertices (p ∷ rest))) (p ∷ rest)
-numbered_step vertices rest indices p =
+words_step : (vertices rest : List Coordinates) (lines : List ℕ) (p : Coordinates) →
+    (lines ++ number_word (number_among vertices p)) ++ flat_map number_word (map (number_among (grown (insert_key same_point vertices p) rest)) rest)
+    ≡ lines ++ flat_map number_word (map (number_among (grown vertices (p ∷ rest))) (p ∷ rest))
+words_step vertices rest lines p =
     let own = inserted_itself p vertices in
     let kept = grown_keeps p rest (insert_key same_point vertices p) own.0 in
-    append_assoc indices (number_among vertices p ∷ []) (map (number_among (grown (insert_key same_point vertices p) rest)) rest)
-    ∙ ap (λ (n : ℕ). indices ++ n ∷ map (number_among (grown (insert_key same_point vertices p) rest)) rest) (sym (kept.1 ∙ own.1))
+    append_assoc lines (number_word (number_among vertices p)) (flat_map number_word (map (number_among (grown (insert_key same_point vertices p) rest)) rest))
+    ∙ ap (λ (n : ℕ). lines ++ (number_word n ++ flat_map number_word (map (number_among (grown (insert_key same_point vertices p) rest)) rest))) (sym (kept.1 ∙ own.1))
 
 module _ (vertices new corners : List Coordinates) (i : ℕ) (p : Coordinates) (h : i < length corners) (is : p ≡ get_or corners i p) (grows : new ≡ insert_key same_point vertices p) where
   next_left : drop i corners ≡ p ∷ drop (i + 1) corners
@@ -129,26 +132,45 @@ module _ (vertices new corners : List Coordinates) (i : ℕ) (p : Coordinates) (
   pub corner_grows : (whole : List Coordinates) → grown vertices (drop i corners) ≡ whole → grown new (drop (i + 1) corners) ≡ whole
   corner_grows whole e = ap (λ (v : List Coordinates). grown v (drop (i + 1) corners)) grows ∙ ap (grown vertices) (sym next_left) ∙ e
 
-  pub corner_numbers : (indices more whole : List ℕ) → more ≡ indices ++ number_among vertices p ∷ [] →
-      indices ++ map (number_among (grown vertices (drop i corners))) (drop i corners) ≡ whole →
-      more ++ map (number_among (grown new (drop (i + 1) corners))) (drop (i + 1) corners) ≡ whole
-  corner_numbers indices more whole m e =
-      ap₂ (λ (l : List ℕ) (v : List Coordinates). l ++ map (number_among (grown v (drop (i + 1) corners))) (drop (i + 1) corners)) m grows
-      ∙ numbered_step vertices (drop (i + 1) corners) indices p
-      ∙ ap (λ (l : List Coordinates). indices ++ map (number_among (grown vertices l)) l) (sym next_left)
+  -- and its number is written
+  pub corner_words : (lines more whole : List ℕ) → more ≡ lines ++ number_word (number_among vertices p) →
+      lines ++ flat_map number_word (map (number_among (grown vertices (drop i corners))) (drop i corners)) ≡ whole →
+      more ++ flat_map number_word (map (number_among (grown new (drop (i + 1) corners))) (drop (i + 1) corners)) ≡ whole
+  corner_words lines more whole m e =
+      ap₂ (λ (l : List ℕ) (v : List Coordinates). l ++ flat_map number_word (map (number_among (grown v (drop (i + 1) corners))) (drop (i + 1) corners))) m grows
+      ∙ words_step vertices (drop (i + 1) corners) lines p
+      ∙ ap (λ (l : List Coordinates). lines ++ flat_map number_word (map (number_among (grown vertices l)) l)) (sym next_left)
       ∙ e
 
 -- two parts of a face, numbered one after the other
 pub face_grows : (old new last back front : List Coordinates) → new ≡ grown old back → last ≡ grown new front → last ≡ grown old (back ++ front)
 face_grows old new last back front e f = f ∙ ap (λ (v : List Coordinates). grown v front) e ∙ sym (grown-append back front old)
 
-pub face_numbers : (old new last back front : List Coordinates) (first indices : List ℕ) → new ≡ grown old back → last ≡ grown new front →
-    first ≡ map (number_among new) back → indices ≡ first ++ map (number_among last) front → indices ≡ map (number_among last) (back ++ front)
-face_numbers old new last back front first indices e f h k =
+line_of : (before count back front : List ℕ) → (((before ++ count) ++ back) ++ front) ++ 10 ∷ [] ≡ before ++ ((count ++ (back ++ front)) ++ 10 ∷ [])
+line_of before count back front = simp append_assoc
+
+-- a face's line, whose numbers were written in two parts
+pub face_words : (old new last back front : List Coordinates) (count : ℕ) (before counted half whole line : List ℕ) →
+    new ≡ grown old back → last ≡ grown new front → count ≡ length (back ++ front) → counted ≡ before ++ numeral count →
+    half ≡ counted ++ flat_map number_word (map (number_among new) back) → whole ≡ half ++ flat_map number_word (map (number_among last) front) → line ≡ whole ++ 10 ∷ [] →
+    line ≡ before ++ face_line (map (number_among last) (back ++ front))
+face_words old new last back front count before counted half whole line e f n c h w l =
     let known : AllKnown new back = subst (λ (v : List Coordinates). AllKnown v back) (sym e) (grown_knows back old) in
     let kept : map (number_among last) back ≡ map (number_among new) back =
     ap (λ (v : List Coordinates). map (number_among v) back) f ∙ (all_kept front new back known).1 in
-    k ∙ ap (λ (l : List ℕ). l ++ map (number_among last) front) (h ∙ sym kept) ∙ sym (map-append (number_among last) back front)
+    let words : flat_map number_word (map (number_among last) (back ++ front)) ≡ flat_map number_word (map (number_among last) back) ++ flat_map number_word (map (number_among last) front) =
+    ap (flat_map number_word) (map-append (number_among last) back front) ∙ flat_map-append number_word (map (number_among last) back) (map (number_among last) front) in
+    let length_is : length (map (number_among last) (back ++ front)) ≡ count = length-map (back ++ front) (number_among last) ∙ sym n in
+    l ∙ ap (λ (t : List ℕ). t ++ 10 ∷ []) (w ∙ ap (λ (t : List ℕ). t ++ flat_map number_word (map (number_among last) front)) (h
+    ∙ ap₂ (λ (t : List ℕ) (ns : List ℕ). t ++ flat_map number_word ns) c (sym kept)))
+    ∙ line_of before (numeral count) (flat_map number_word (map (number_among last) back)) (flat_map number_word (map (number_among last) front))
+    ∙ ap₂ (λ (k : ℕ) (t : List ℕ). before ++ ((numeral k ++ t) ++ 10 ∷ [])) (sym length_is) (sym words)
+
+pub round_length : (corners : List Coordinates) (n : ℕ) (front back : List Coordinates) → front ≡ take n corners → back ≡ drop n corners → length corners ≡ length (back ++ front)
+round_length corners n front back f g =
+    ap length (sym (take-append-drop n corners)) ∙ length-append (take n corners) (drop n corners)
+    ∙ (let s : length (take n corners) + length (drop n corners) ≡ length (drop n corners) + length (take n corners) = omega arith in s)
+    ∙ sym (length-append (drop n corners) (take n corners)) ∙ ap₂ (λ (x y : List Coordinates). length (x ++ y)) (sym g) (sym f)
 
 -- a place within a list, or behind it
 pub place_at_most : (p : Coordinates → Bool) (corners : List Coordinates) → position_or_len p corners ≤ length corners

@@ -1,5 +1,5 @@
 -- Texts that are written piece by piece.
-use Rattle.std.proofs.Common.{◌≡◌, ℕ, List, [], ◌∷◌, ◌++◌, length, drop, ◌≤◌, refl, sym, ap, ◌∙◌, append_assoc, append-nil, flat_map, map, codes}
+use Rattle.std.proofs.Common.{◌≡◌, ℕ, List, [], ◌∷◌, ◌++◌, length, drop, ◌≤◌, sym, ap, ◌∙◌, append_assoc, append-nil, flat_map, codes}
 use Rattle.std.proofs.lemmas.List.{drop_all}
 use Rattle.text_place.specs.Decimals.{numeral, signed_numeral}
 use Rattle.plane_predicate.specs.Space.{Coordinates}
@@ -9,9 +9,6 @@ use Rattle.off_text.proofs.OneReading.{off_text-counts}
 -- what was written of a list, once none of it is left
 pub all_written : {A : Type 0} (f : A → List ℕ) (xs : List A) (i : ℕ) (out whole : List ℕ) → length xs ≤ i → out ++ flat_map f (drop i xs) ≡ whole → out ≡ whole
 all_written {A = A} f xs i out whole h e = sym (append-nil out) ∙ ap (λ (ys : List A). out ++ flat_map f ys) (sym (drop_all i xs h)) ∙ e
-
-pub face_line-written : (old out face : List ℕ) → out ≡ (old ++ numeral (length face)) ++ flat_map (λ i. 32 ∷ numeral i) face → out ++ 10 ∷ [] ≡ old ++ face_line face
-face_line-written old out face e = rw e (simp append_assoc)
 
 pub vertex_line-written : (out : List ℕ) (p : Coordinates) →
     (((((((out ++ signed_numeral p.x) ++ 32 ∷ []) ++ signed_numeral p.y) ++ 32 ∷ []) ++ signed_numeral p.z) ++ 32 ∷ []) ++ signed_numeral p.w) ++ 10 ∷ [] ≡ out ++ vertex_line p
@@ -26,7 +23,3 @@ text-written vertices faces lines e =
     counted (numeral (length vertices)) (numeral (length faces)) (flat_map vertex_line vertices) lines
     ∙ ap (λ (l : List ℕ). codes "4OFF\n" ++ (numeral (length vertices) ++ 32 ∷ (numeral (length faces) ++ 32 ∷ 48 ∷ 10 ∷ (flat_map vertex_line vertices ++ l)))) e
     ∙ sym (off_text-counts vertices faces)
-
-pub lines-map : {A : Type 0} (f : A → List ℕ) (xs : List A) → flat_map (λ x. face_line (f x)) xs ≡ flat_map face_line (map f xs)
-lines-map f [] = refl
-lines-map f (x ∷ xs) = ap (λ (ys : List ℕ). face_line (f x) ++ ys) (lines-map f xs)

@@ -1,11 +1,13 @@
 -- How vertices are numbered, one after another.
-use Rattle.std.specs.Prelude.{◌≡◌, ℕ, ◌^◌, ◌<◌, Bool, ℤ, pos, int_rem, unsigned_abs, List, [], ◌∷◌, map, All}
+use Rattle.std.specs.Prelude.{◌≡◌, ℕ, ◌^◌, ◌<◌, Bool, ℤ, pos, int_rem, unsigned_abs, List, [], ◌∷◌, ◌++◌, map, flat_map, All}
 use Rattle.std.specs.Ordering.{int_eq}
 use Rattle.indexmap.specs.IndexSet.{insert_key}
 use Rattle.plane_predicate.specs.declared.unit.Unit.{Unit as LengthUnit}
 use Rattle.plane_predicate.specs.Space.{Coordinates, IsPointTimes, IsReduced}
 use Rattle.plane_predicate.specs.InUnits.{in_units}
 use Rattle.plane_polygon.specs.Polygons.{Outline, AreReducedFrom, IsPolygon}
+use Rattle.text_place.specs.Decimals.{numeral}
+use Rattle.off_text.specs.Reading.{space, face_line}
 use Rattle.off_text.specs.Texts.{same_point, corners_in_units, from_least, number_among, AreCornersOf, vertices_of, faces_of}
 
 -- the numbers of a vertex of the program, which are written in decimal digits: each fits 128 bits with its sign changed
@@ -23,13 +25,6 @@ is_even x = int_eq (int_rem x (pos 2)) (pos 0)
 pub record IsVertexAt (unit : LengthUnit) (p v : Coordinates) : Type 0 where
   pub times : IsPointTimes (in_units unit p) v
   pub reduced : IsReduced p → IsReduced v
-
--- so are the vertices, one after another
-abbrev pub AreVerticesAt : LengthUnit → List Coordinates → List Coordinates → Type 0
-AreVerticesAt unit [] [] = Unit {0}
-AreVerticesAt unit (p ∷ corners) (v ∷ vertices) = IsVertexAt unit p v × AreVerticesAt unit corners vertices
-AreVerticesAt unit [] (v ∷ vertices) = ⊥
-AreVerticesAt unit (p ∷ corners) [] = ⊥
 
 -- the vertices once these points are numbered too
 abbrev pub grown : List Coordinates → List Coordinates → List Coordinates
@@ -51,3 +46,19 @@ pub record AreNumbered (unit : LengthUnit) (polygons : List Outline) (vertices :
   pub corners : AreCornersOf unit polygons found
   pub vertices_are : vertices ≡ vertices_of found
   pub faces_are : faces ≡ faces_of found
+
+-- a vertex's number as a face's line has it
+abbrev pub number_word : ℕ → List ℕ
+number_word i = space ++ numeral i
+
+-- a polygon's corners are numbered too, and its line goes last
+pub record AddsLine (unit : LengthUnit) (s : Outline) (old new : List Coordinates) (before lines : List ℕ) : Type 0 where
+  pub face : List ℕ
+  pub adds : AddsFace unit s old new face
+  pub line : lines ≡ before ++ face_line face
+
+-- the vertices of the text of these polygons, and the lines of its faces
+pub record HaveLines (unit : LengthUnit) (polygons : List Outline) (vertices : List Coordinates) (lines : List ℕ) : Type 0 where
+  pub faces : List (List ℕ)
+  pub numbered : AreNumbered unit polygons vertices faces
+  pub lines_are : lines ≡ flat_map face_line faces

@@ -1,7 +1,9 @@
 //! The 4OFF text of the faces of a solid (Geomview manual, "OFF Files").
 #![tactic(auto)]
 
+mod corners;
 mod laws;
+mod lowest;
 mod numbering;
 mod text;
 mod vertex;

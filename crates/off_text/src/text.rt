@@ -1,6 +1,6 @@
 //! The text of polygons, within its limits.
 
-ghost use Rattle.std.specs.Prelude.{◌≡◌, ◌<◌, ◌≤◌, ◌↔◌, map, ltb, IfOk, OnOk, IsErrOf};
+ghost use Rattle.std.specs.Prelude.{◌≡◌, ◌<◌, ◌≤◌, ◌↔◌, ltb, IfOk, OnOk, IsErrOf};
 ghost use Rattle.off_text.specs.Texts.{corner_count, most_corners, most_vertices, HasVertices, IsTextOf};
 ghost use Rattle.csg_tree.specs.Formulas.{Formula};
 ghost use Rattle.csg_tree.specs.ProperTrees.{IsProper};
@@ -8,15 +8,15 @@ ghost use Rattle.bsp_boolean.specs.Solids.{solid_of};
 ghost use Rattle.facet_cut.specs.Facets.{facets_of};
 ghost use Rattle.off_text.specs.Bounding.{IsBoundary};
 ghost use Rattle.off_text.specs.Prints.{Prints};
-ghost use Rattle.off_text.specs.Numbering.{AddsFace, AreNumbered};
+ghost use Rattle.off_text.specs.Numbering.{AddsLine, HaveLines};
 ghost use Rattle.off_text.specs.declared.text.OffStop.{OffStop};
 
-use crate::numbering::number_face;
-use crate::vertex::{Vertex, least_corner, vertices_at};
+use crate::corners::put_corners;
+use crate::numbering::push_face;
+use crate::vertex::{Vertex, least_corner};
 use crate::writing::written;
 use facet_cut::Facet;
 use indexmap::IndexSet;
-use plane_polygon::corners;
 use plane_predicate::Unit;
 use std::alloc::Global;
 use text_place::NoMemory;
@@ -48,11 +48,11 @@ impl From<NoMemory> for OffStop {
     }
 }
 
-// The vertices of faces, and the faces as numbers of vertices.
+// The vertices of faces, and the lines of the faces, in which vertices have their numbers.
 #[derive(Drop)]
 struct Numbering {
     vertices: IndexSet<Vertex>,
-    faces: Vec<Vec<usize>>,
+    lines: Vec<u8>,
 }
 
 // Whether faces have more corners together than a text may have.
@@ -70,30 +70,41 @@ fn has_too_many_corners(facets: &[Facet]) -> bool
     false
 }
 
-// The numbers of a facet's corners, from its least corner on.
-fn facet_numbers(
+// Appends the line of a facet, from its least corner on. `corners` is a list for its corners, which the
+// next facet uses again.
+fn push_facet(
     alloc: Global,
-    vertices: &mut IndexSet<Vertex>,
+    numbering: &mut Numbering,
+    corners: &mut Vec<Vertex>,
     facet: &Facet,
     unit: Unit,
-) -> Result<Vec<usize>, NoMemory>
-    ensures { IfOk result (λ v. AddsFace unit facet.now vertices.old.keys vertices.new.keys v.items) }
+) -> Result<(), NoMemory>
+    ensures { OnOk result (AddsLine unit facet.now numbering.old.vertices.keys numbering.new.vertices.keys numbering.old.lines.items numbering.new.lines.items) }
 {
-    let found = corners(alloc, &facet.polygon)?;
-    let printed = vertices_at(alloc, &found, unit)?;
-    number_face(alloc, vertices, &printed, least_corner(&printed))
+    put_corners(alloc, corners, &facet.polygon, unit)?;
+    let start = least_corner(corners);
+    push_face(
+        alloc,
+        &mut numbering.vertices,
+        &mut numbering.lines,
+        corners,
+        start,
+    )
 }
 
-// Numbers the corners of faces.
+// Numbers the corners of faces, and writes their lines.
 fn numbered(alloc: Global, facets: &[Facet], unit: Unit) -> Result<Numbering, NoMemory>
-    ensures { IfOk result (λ r. AreNumbered unit facets.now r.vertices.keys (map (λ face. face.items) r.faces.items)) }
+    ensures { IfOk result (λ r. HaveLines unit facets.now r.vertices.keys r.lines.items) }
 {
-    let mut vertices = IndexSet::new(alloc);
-    let mut faces = Vec::new(alloc);
+    let mut numbering = Numbering {
+        vertices: IndexSet::new(alloc),
+        lines: Vec::new(alloc),
+    };
+    let mut corners = Vec::new(alloc);
     for facet in facets {
-        faces.push(facet_numbers(alloc, &mut vertices, facet, unit)?)?;
+        push_facet(alloc, &mut numbering, &mut corners, facet, unit)?;
     }
-    Ok(Numbering { vertices, faces })
+    Ok(numbering)
 }
 
 /// The text of facets, which are in grid steps, with its corners in units. Each corner is reduced;
@@ -119,5 +130,10 @@ pub fn off_bytes(alloc: Global, facets: &[Facet], unit: Unit) -> Result<Vec<u8>,
     if numbered.vertices.len() > VERTICES {
         return Err(OffStop::TooManyVertices);
     }
-    Ok(written(alloc, numbered.vertices.as_slice(), &numbered.faces)?)
+    Ok(written(
+        alloc,
+        numbered.vertices.as_slice(),
+        facets.len(),
+        &numbered.lines,
+    )?)
 }

@@ -1,12 +1,11 @@
 //! Vertices, and their order.
 
-ghost use Rattle.std.specs.Prelude.{◌≡◌, ◌&&◌, ◌*ℤ◌, true, pos, IfOk};
+ghost use Rattle.std.specs.Prelude.{◌≡◌, ◌&&◌, ◌*ℤ◌, true, pos};
 ghost use Rattle.plane_predicate.specs.declared.unit.Unit.TheVariants.{Half};
-ghost use Rattle.off_text.specs.Numbering.{is_even, AreVerticesAt, IsVertexAt};
+ghost use Rattle.off_text.specs.Numbering.{is_even, IsVertexAt};
 ghost use Rattle.off_text.specs.Texts.{comes_before, place_of_least};
 
 use plane_predicate::{Point, Unit};
-use std::alloc::{AllocError, Global};
 use std::marker::Model;
 
 /// A corner in units, as a key of the table that numbers vertices.
@@ -92,17 +91,6 @@ fn halved(x: i128) -> i128
     ensures { x ≡ pos 2 *ℤ result }
 {
     x / 2
-}
-
-/// The vertices at corners.
-pub fn vertices_at(alloc: Global, corners: &[Point], unit: Unit) -> Result<Vec<Vertex>, AllocError>
-    ensures { IfOk result (λ v. AreVerticesAt unit corners.now v.items) }
-{
-    let mut vertices = Vec::new(alloc);
-    for corner in corners {
-        vertices.push(Vertex::of(corner, unit))?;
-    }
-    Ok(vertices)
 }
 
 /// Whether `p` comes before `q`: by x, then by y, z and w, as whole numbers.

@@ -1,15 +1,15 @@
 //! The lines of a 4OFF text.
 
-ghost use Rattle.std.specs.Prelude.{◌≡◌, ◌++◌, ◌∷◌, codes, map, OnOk, IfOk};
+ghost use Rattle.std.specs.Prelude.{◌≡◌, ◌++◌, ◌∷◌, codes, flat_map, length, OnOk, IfOk};
 ghost use Rattle.text_place.specs.Decimals.{numeral};
-ghost use Rattle.off_text.specs.Reading.{vertex_line, face_line, off_text};
+ghost use Rattle.off_text.specs.Reading.{vertex_line};
 
 use crate::vertex::Vertex;
 use std::alloc::Global;
 use text_place::{NoMemory, push_decimal};
 
 /// Appends the decimal digits of a count or an index.
-fn push_count(alloc: Global, out: &mut Vec<u8>, count: usize) -> Result<(), NoMemory>
+pub fn push_count(alloc: Global, out: &mut Vec<u8>, count: usize) -> Result<(), NoMemory>
     ensures { OnOk result (out.new.items ≡ out.old.items ++ numeral count) }
 {
     push_decimal(alloc, out, i128::from(count as u64))
@@ -30,19 +30,6 @@ fn push_vertex(alloc: Global, out: &mut Vec<u8>, vertex: &Vertex) -> Result<(), 
     Ok(())
 }
 
-/// Appends a face's line.
-fn push_face(alloc: Global, out: &mut Vec<u8>, face: &[usize]) -> Result<(), NoMemory>
-    ensures { OnOk result (out.new.items ≡ out.old.items ++ face_line face.now) }
-{
-    push_count(alloc, out, face.len())?;
-    for index in face {
-        out.push(b' ')?;
-        push_count(alloc, out, *index)?;
-    }
-    out.push(b'\n')?;
-    Ok(())
-}
-
 /// Appends the line of the counts, with a 0 for the edges.
 fn push_counts(
     alloc: Global,
@@ -59,21 +46,20 @@ fn push_counts(
     Ok(())
 }
 
-/// The text of these vertices and these faces, whose corners are indices of vertices.
+/// The text of these vertices and of this many faces, whose lines are given.
 pub fn written(
     alloc: Global,
     vertices: &[Vertex],
-    faces: &[Vec<usize>],
+    faces: usize,
+    lines: &[u8],
 ) -> Result<Vec<u8>, NoMemory>
-    ensures { IfOk result (λ text. text.items ≡ off_text vertices.now (map (λ face. face.items) faces.now)) }
+    ensures { IfOk result (λ text. text.items ≡ codes "4OFF\n" ++ numeral (length vertices.now) ++ 32 ∷ numeral faces ++ codes " 0\n" ++ flat_map vertex_line vertices.now ++ lines.now) }
 {
     let mut text = Vec::from_slice(alloc, b"4OFF\n")?;
-    push_counts(alloc, &mut text, vertices.len(), faces.len())?;
+    push_counts(alloc, &mut text, vertices.len(), faces)?;
     for vertex in vertices {
         push_vertex(alloc, &mut text, vertex)?;
     }
-    for face in faces {
-        push_face(alloc, &mut text, face)?;
-    }
+    text.extend_from_slice(lines)?;
     Ok(text)
 }

@@ -1,0 +1,93 @@
+//! The corners of polygons, in units and reduced.
+
+ghost use Rattle.std.specs.Prelude.{◌≡◌, ◌<◌, ◌<ℤ◌, pos, [], length, OnOk};
+ghost use Rattle.plane_predicate.specs.Space.{cramer, IsPointTimes, IsReduced};
+ghost use Rattle.plane_predicate.specs.InUnits.{in_units};
+ghost use Rattle.plane_polygon.specs.Polygons.{after, corner, AreReducedFrom, IsPolygon};
+ghost use Rattle.off_text.specs.Texts.{corners_in_units};
+
+use crate::lowest::lowest_terms;
+use crate::vertex::Vertex;
+use plane_polygon::Polygon;
+use plane_predicate::{Plane, Point, Unit, meet};
+use std::alloc::{AllocError, Global};
+use text_place::NoMemory;
+
+/// Puts the corners of a polygon, in units and reduced, in the place of those that were there.
+pub fn put_corners(
+    alloc: Global,
+    corners: &mut Vec<Vertex>,
+    polygon: &Polygon,
+    unit: Unit,
+) -> Result<(), NoMemory>
+    ensures polygon { OnOk result (IsPolygon polygon.now) }
+    ensures corners { OnOk result (AreReducedFrom (corners_in_units unit polygon.now) corners.new.items) }
+{
+    corners.clear();
+    // What a polygon keeps is known here of one that is owned, and a copy costs less than its corners.
+    let copy = polygon.copy(alloc)?;
+    push_corners(corners, copy, unit)?;
+    Ok(())
+}
+
+/// Adds the corners of a polygon to none.
+fn push_corners(corners: &mut Vec<Vertex>, polygon: Polygon, unit: Unit) -> Result<(), AllocError>
+    requires { corners.old.items ≡ [] }
+    ensures polygon { IsPolygon polygon }
+    ensures corners { OnOk result (AreReducedFrom (corners_in_units unit polygon) corners.new.items) }
+{
+    push_meetings(corners, polygon.plane(), polygon.edges(), unit)
+}
+
+/// The same, of a plane and edges that meet what a polygon keeps.
+fn push_meetings(
+    corners: &mut Vec<Vertex>,
+    plane: &Plane,
+    edges: &[Plane],
+    unit: Unit,
+) -> Result<(), AllocError>
+    requires none { corners.old.items ≡ [] }
+    requires polygon { IsPolygon (record { plane = plane.now; edges = edges.now }) }
+    ensures { OnOk result (AreReducedFrom (corners_in_units unit (record { plane = plane.now; edges = edges.now })) corners.new.items) }
+{
+    for i in 0..edges.len() {
+        corners.push(corner_at(plane, edges, i, unit))?;
+    }
+    Ok(())
+}
+
+/// Corner `i`, in units and reduced.
+fn corner_at(plane: &Plane, edges: &[Plane], i: usize, unit: Unit) -> Vertex
+    requires index { i < length edges.now }
+    requires polygon { IsPolygon (record { plane = plane.now; edges = edges.now }) }
+    ensures times { IsPointTimes (in_units unit (corner (record { plane = plane.now; edges = edges.now }) i)) result }
+    ensures reduced { IsReduced result }
+{
+    vertex_at(plane, &edges[i], &edges[index_after(i, edges.len())], unit)
+}
+
+/// The index after `i` round a list of `count` items.
+fn index_after(i: usize, count: usize) -> usize
+    requires { i < count }
+    ensures { result ≡ after count i }
+{
+    if i + 1 == count { 0 } else { i + 1 }
+}
+
+/// The vertex where three planes meet whose determinant is above 0.
+fn vertex_at(p: &Plane, q: &Plane, r: &Plane, unit: Unit) -> Vertex
+    requires { pos 0 <ℤ (cramer p.now q.now r.now).w }
+    ensures times { IsPointTimes (in_units unit (cramer p.now q.now r.now)) result }
+    ensures reduced { IsReduced result }
+{
+    Vertex::of(&lowest_terms(&meeting_of(p, q, r)), unit)
+}
+
+/// The meeting of three planes whose determinant is above 0.
+#[tactic(auto, using(plane_polygon::proofs::CornerSides::positive_meeting, plane_polygon::proofs::CornerSides::positive_apart))]
+fn meeting_of(p: &Plane, q: &Plane, r: &Plane) -> Point
+    requires { pos 0 <ℤ (cramer p.now q.now r.now).w }
+    ensures { result ≡ cramer p.now q.now r.now }
+{
+    meet(p, q, r).unwrap()
+}
