@@ -1,0 +1,89 @@
+-- Binary trees, and forests of them whose nodes stand in one list and are linked by number.
+use Rattle.std.specs.Prelude.{◌≡◌, ℕ, ◌<◌, ◌≤◌, Bool, false, List, [], ◌∷◌, ◌++◌, length, slice_get, slice_index_or, Some, fold}
+use Rattle.link_forest.specs.declared.link.Link.{Link}
+use Rattle.link_forest.specs.declared.link.Link.TheVariants.{End, To}
+use Rattle.link_forest.specs.declared.forest.Entry.{Entry}
+
+-- a binary tree: an end of one of two kinds, or a fork with a payload and two branches
+pub data Branch (A : Type 0) : Type 0 where
+  end : Bool → Branch A
+  fork : A → Branch A → Branch A → Branch A
+
+-- a forest: its nodes in order of number, and for how many more there is room
+pub record Stored (A : Type 0) : Type 0 where
+  pub nodes : List (Entry A)
+  pub spare : ℕ
+
+-- an end, or a node below this number
+abbrev pub IsLinkBelow : ℕ → Link → Type 0
+IsLinkBelow n (End side) = Unit {0}
+IsLinkBelow n (To id) = id < n
+
+module _ {A : Type 0} where
+  -- the node of a payload and two links
+  abbrev pub entry : A → Link → Link → Entry A
+  entry payload behind ahead = record { payload = payload; behind = behind; ahead = ahead }
+
+  -- the tree of a link, over the trees of the nodes by number; a number past them is no node, and an end
+  abbrev pub tree_in : List (Branch A) → Link → Branch A
+  tree_in trees (End side) = end side
+  tree_in trees (To id) = slice_index_or trees id (end false)
+
+  -- a node is the fork of its payload over the trees of its links
+  abbrev pub tree_over : List (Branch A) → Entry A → Branch A
+  tree_over trees node = fork node.payload (tree_in trees node.behind) (tree_in trees node.ahead)
+
+  -- the tree of each node: links stand before their node, so it lies over the trees of the nodes before it
+  abbrev pub trees_of : List (Entry A) → List (Branch A)
+  trees_of nodes = fold (λ trees node. trees ++ tree_over trees node ∷ []) [] nodes
+
+  -- the tree that begins at a link
+  unfoldable pub tree_at : List (Entry A) → Link → Branch A
+  tree_at nodes link = tree_in (trees_of nodes) link
+
+  -- a link of these nodes: an end, or one of them
+  abbrev pub IsLinkOf : List (Entry A) → Link → Type 0
+  IsLinkOf nodes link = IsLinkBelow (length nodes) link
+
+  -- the links of each node stand before it
+  pub record AreLinked (nodes : List (Entry A)) : Type 0 where
+    pub behind : (id : ℕ) (node : Entry A) → slice_get nodes id ≡ Some node → IsLinkBelow id node.behind
+    pub ahead : (id : ℕ) (node : Entry A) → slice_get nodes id ≡ Some node → IsLinkBelow id node.ahead
+
+  -- The second list has the nodes of the first, and maybe more behind them: so each link of the first is one of the
+  -- second, with the same tree.
+  pub record Extends (old new : List (Entry A)) : Type 0 where
+    pub more : List (Entry A)
+    pub nodes : new ≡ old ++ more
+    pub links : (link : Link) → IsLinkOf old link → IsLinkOf new link
+    pub trees : (link : Link) → IsLinkOf old link → tree_at new link ≡ tree_at old link
+
+  -- a node with this payload and these links was added behind the others, under this number
+  pub record Adds (old new : List (Entry A)) (payload : A) (behind ahead : Link) (id : ℕ) : Type 0 where
+    pub number : id ≡ length old
+    pub nodes : new ≡ old ++ entry payload behind ahead ∷ []
+    pub link : id < length new
+    pub tree : tree_at new (To id) ≡ fork payload (tree_at old behind) (tree_at old ahead)
+    pub extends : Extends old new
+    pub linked : AreLinked new
+
+  -- the node of this number: its payload, its links, which stand before it, and its tree over theirs
+  pub record IsNode (nodes : List (Entry A)) (id : ℕ) (payload : A) (behind ahead : Link) : Type 0 where
+    pub node : slice_get nodes id ≡ Some (entry payload behind ahead)
+    pub behind_before : IsLinkBelow id behind
+    pub ahead_before : IsLinkBelow id ahead
+    pub tree : tree_at nodes (To id) ≡ fork payload (tree_at nodes behind) (tree_at nodes ahead)
+
+-- a node is reached from the link to it, and from the link to a node with a link from which it is reached
+pub data IsReached {A : Type 0} (nodes : List (Entry A)) : Link → ℕ → Type 0 where
+  itself : (id : ℕ) → IsReached nodes (To id) id
+  by_behind : (from id : ℕ) (node : Entry A) → slice_get nodes from ≡ Some node → IsReached nodes node.behind id → IsReached nodes (To from) id
+  by_ahead : (from id : ℕ) (node : Entry A) → slice_get nodes from ≡ Some node → IsReached nodes node.ahead id → IsReached nodes (To from) id
+
+-- each node from this number on is reached from the link
+abbrev pub AreReachedFrom : {A : Type 0} → ℕ → List (Entry A) → Link → Type 0
+AreReachedFrom start nodes link = (id : ℕ) → start ≤ id → id < length nodes → IsReached nodes link id
+
+-- each node is reached from the link
+abbrev pub AreReached : {A : Type 0} → List (Entry A) → Link → Type 0
+AreReached nodes link = (id : ℕ) → id < length nodes → IsReached nodes link id
