@@ -1,18 +1,13 @@
 -- Longer lists of nodes: the trees of their links stay.
-use Rattle.std.proofs.Common.{◌≡◌, ℕ, suc, ◌+◌, ◌<◌, ◌≤◌, ◌⊎◌, inl, inr, Bool, false, List, [], ◌∷◌, ◌++◌, length, take, drop, get_or, Some, slice_get, fold, refl, sym, ap, ◌∙◌, subst, arith, append_assoc, append-nil, length-append}
+use Rattle.std.proofs.Common.{◌≡◌, ℕ, suc, ◌<◌, ◌≤◌, inl, inr, Bool, false, List, [], ◌∷◌, ◌++◌, length, take, drop, get_or, Some, slice_get, fold, refl, sym, ap, ◌∙◌, subst, arith, append_assoc, append-nil, length-append}
 use Rattle.std.proofs.lemmas.List.{get_or_append_left, get_or_push, take_at, take-append-drop}
 use Rattle.std.proofs.lemmas.Option.{slice_get_read}
 use Rattle.std.proofs.lemmas.List.Sums.{fold-append}
 use Rattle.link_forest.specs.declared.link.Link.{Link}
 use Rattle.link_forest.specs.declared.link.Link.TheVariants.{End, To}
 use Rattle.link_forest.specs.declared.forest.Entry.{Entry}
-use Rattle.link_forest.specs.Forests.{Branch, end, fork, IsLinkBelow, IsLinkOf, entry, tree_in, tree_over, trees_of, tree_at, AreLinked, Extends, Adds, IsNode}
-use Rattle.link_forest.proofs.Numbers.{stays, stood, behind_all, which, parts}
-
--- a link below a number is below a greater one
-pub below_more : (m n : ℕ) (link : Link) → m ≤ n → IsLinkBelow m link → IsLinkBelow n link
-below_more m n (End side) l h = tt
-below_more m n (To id) l h = omega arith
+use Rattle.link_forest.specs.Forests.{Branch, end, fork, least_nodes, IsLinkOf, entry, tree_over, trees_of, tree_at, AreLinked, Extends, Adds, IsNode}
+use Rattle.link_forest.proofs.Numbers.{stays, which, parts}
 
 module _ {A : Type 0} where
   -- the trees of the nodes so far, and that of one more
@@ -49,12 +44,12 @@ module _ {A : Type 0} where
   unfolding tree_at
   trees_kept nodes more (End side) h = refl
   trees_kept nodes more (To id) h =
-      let within : id < length (trees_of nodes) = rw trees_count h in
+      let within : id < length (trees_of nodes) = omega (arith, trees_count nodes) in
       ap (λ (trees : List (Branch A)). get_or trees id (end false)) (trees_longer nodes more) ∙ get_or_append_left (trees_of nodes) (grown (trees_of nodes) more).more (end false) id within
 
   -- and stay links
   pub links_kept : (nodes more : List (Entry A)) (link : Link) → IsLinkOf nodes link → IsLinkOf (nodes ++ more) link
-  links_kept nodes more link h = below_more (length nodes) (length (nodes ++ more)) link (omega (arith, length-append nodes more)) h
+  links_kept nodes more link h = omega (arith, length-append nodes more)
 
   pub extended : (nodes more : List (Entry A)) → Extends nodes (nodes ++ more)
   extended nodes more = record { more = more; nodes = refl; links = links_kept nodes more; trees = trees_kept nodes more }
@@ -88,9 +83,9 @@ module _ {A : Type 0} where
   -- a node over links of the list
   linked_more : (nodes : List (Entry A)) (node : Entry A) → AreLinked nodes → IsLinkOf nodes node.behind → IsLinkOf nodes node.ahead → AreLinked (nodes ++ node ∷ [])
   linked_more nodes node l b a = record {
-      behind = λ id other h. elim (which nodes node id other h) [ inl there ↦ l.behind id other there | inr last ↦ rw (last.0, ← last.1) b ];
-      ahead = λ id other h. elim (which nodes node id other h) [ inl there ↦ l.ahead id other there | inr last ↦ rw (last.0, ← last.1) a ];
-    }
+    behind = λ id other h. elim (which nodes node id other h) [ inl there ↦ l.behind id other there | inr last ↦ rw (last.0, ← last.1) b ];
+    ahead = λ id other h. elim (which nodes node id other h) [ inl there ↦ l.ahead id other there | inr last ↦ rw (last.0, ← last.1) a ];
+  }
 
   -- its tree lies over theirs
   tree_more : (nodes : List (Entry A)) (node : Entry A) → tree_at (nodes ++ node ∷ []) (To (length nodes)) ≡ fork node.payload (tree_at nodes node.behind) (tree_at nodes node.ahead)
@@ -100,24 +95,24 @@ module _ {A : Type 0} where
 
   pub added : (nodes : List (Entry A)) (payload : A) (behind ahead : Link) → AreLinked nodes → IsLinkOf nodes behind → IsLinkOf nodes ahead → Adds nodes (nodes ++ entry payload behind ahead ∷ []) payload behind ahead (length nodes)
   added nodes payload behind ahead l b a = record {
-      number = refl;
-      nodes = refl;
-      link = omega (arith, length-append nodes (entry payload behind ahead ∷ []));
-      tree = tree_more nodes (entry payload behind ahead);
-      extends = extended nodes (entry payload behind ahead ∷ []);
-      linked = linked_more nodes (entry payload behind ahead) l b a;
-    }
+    number = refl;
+    nodes = refl;
+    link = omega (arith, length-append nodes (entry payload behind ahead ∷ []));
+    tree = tree_more nodes (entry payload behind ahead);
+    extends = extended nodes (entry payload behind ahead ∷ []);
+    linked = linked_more nodes (entry payload behind ahead) l b a;
+  }
 
   -- the tree of a node in the midst of others
   tree_amid : (before after : List (Entry A)) (node : Entry A) → IsLinkOf before node.behind → IsLinkOf before node.ahead → tree_at (before ++ node ∷ after) (To (length before)) ≡ fork node.payload (tree_at (before ++ node ∷ after) node.behind) (tree_at (before ++ node ∷ after) node.ahead)
   tree_amid before after node b a =
-      let within : length before < length (before ++ node ∷ []) = omega (arith, length-append before (node ∷ [])) in
+      let within : IsLinkOf (before ++ node ∷ []) (To (length before)) = omega (arith, length-append before (node ∷ [])) in
       let whole : tree_at (before ++ node ∷ after) (To (length before)) ≡ tree_at (before ++ node ∷ []) (To (length before)) = rw (← append_assoc before (node ∷ []) after) (trees_kept (before ++ node ∷ []) after (To (length before)) within) in
       let low : tree_at (before ++ node ∷ after) node.behind ≡ tree_at before node.behind = trees_kept before (node ∷ after) node.behind b in
       let high : tree_at (before ++ node ∷ after) node.ahead ≡ tree_at before node.ahead = trees_kept before (node ∷ after) node.ahead a in
       cc (tree_more before node)
 
-  tree_there : (nodes before after : List (Entry A)) (id : ℕ) (node : Entry A) → nodes ≡ before ++ node ∷ after → length before ≡ id → IsLinkBelow id node.behind → IsLinkBelow id node.ahead → tree_at nodes (To id) ≡ fork node.payload (tree_at nodes node.behind) (tree_at nodes node.ahead)
+  tree_there : (nodes before after : List (Entry A)) (id : ℕ) (node : Entry A) → nodes ≡ before ++ node ∷ after → length before ≡ id → least_nodes node.behind ≤ id → least_nodes node.ahead ≤ id → tree_at nodes (To id) ≡ fork node.payload (tree_at nodes node.behind) (tree_at nodes node.ahead)
   tree_there nodes before after id node whole place b a =
       let low : IsLinkOf before node.behind = rw place b in
       let high : IsLinkOf before node.ahead = rw place a in

@@ -1,13 +1,12 @@
 -- Nodes that are reached from a link.
-use Rattle.std.proofs.Common.{◌≡◌, ℕ, suc, ◌+◌, ◌<◌, ◌≤◌, ◌⊎◌, ◌↔◌, inl, inr, Bool, List, [], ◌∷◌, ◌++◌, length, Some, slice_get, refl, sym, ap, ◌∙◌, subst, arith}
+use Rattle.std.proofs.Common.{◌≡◌, ℕ, ◌+◌, ◌<◌, ◌⊎◌, ◌↔◌, inl, inr, Bool, List, [], ◌++◌, length, Some, slice_get, refl, arith}
 use Rattle.std.proofs.lemmas.List.{length_push}
 use Rattle.std.proofs.lemmas.Bool.{cases_lt}
 use Rattle.link_forest.specs.declared.link.Link.{Link}
 use Rattle.link_forest.specs.declared.link.Link.TheVariants.{End, To}
 use Rattle.link_forest.specs.declared.forest.Entry.{Entry}
-use Rattle.link_forest.specs.Forests.{IsLinkOf, IsLinkBelow, entry, AreLinked, Extends, Adds, IsReached, itself, by_behind, by_ahead, AreReachedFrom}
+use Rattle.link_forest.specs.Forests.{IsLinkOf, entry, AreLinked, Extends, Adds, IsReached, itself, by_behind, by_ahead, AreReachedFrom}
 use Rattle.link_forest.proofs.Numbers.{stays, stood, behind_all}
-use Rattle.link_forest.proofs.Longer.{below_more}
 
 module _ {A : Type 0} where
   reached_longer : (nodes more : List (Entry A)) (link : Link) (id : ℕ) → IsReached nodes link id → IsReached (nodes ++ more) link id
@@ -21,11 +20,11 @@ module _ {A : Type 0} where
   reached_shorter : (nodes more : List (Entry A)) (link : Link) (id : ℕ) → AreLinked nodes → IsLinkOf nodes link → IsReached (nodes ++ more) link id → IsReached nodes link id
   reached_shorter nodes more _ _ l k (itself id) = itself id
   reached_shorter nodes more _ _ l k (by_behind from id node h r) =
-      let there : slice_get nodes from ≡ Some node = stood nodes more from node k h in
-      by_behind from id node there (reached_shorter nodes more node.behind id l (below_more from (length nodes) node.behind (omega arith) (l.behind from node there)) r)
+      let there : slice_get nodes from ≡ Some node = stood nodes more from node (omega arith) h in
+      by_behind from id node there (reached_shorter nodes more node.behind id l (omega (arith, l.behind from node there)) r)
   reached_shorter nodes more _ _ l k (by_ahead from id node h r) =
-      let there : slice_get nodes from ≡ Some node = stood nodes more from node k h in
-      by_ahead from id node there (reached_shorter nodes more node.ahead id l (below_more from (length nodes) node.ahead (omega arith) (l.ahead from node there)) r)
+      let there : slice_get nodes from ≡ Some node = stood nodes more from node (omega arith) h in
+      by_ahead from id node there (reached_shorter nodes more node.ahead id l (omega (arith, l.ahead from node there)) r)
 
   -- links of the shorter list reach the same nodes
   pub reached_same : (old new : List (Entry A)) (link : Link) (id : ℕ) → Extends old new → AreLinked old → IsLinkOf old link → IsReached old link id ↔ IsReached new link id
@@ -51,18 +50,20 @@ module _ {A : Type 0} where
   pub reached_by_node : (nodes : List (Entry A)) (from id : ℕ) (payload : A) (behind ahead : Link) → slice_get nodes from ≡ Some (entry payload behind ahead) → IsReached nodes (To from) id ↔ ((id ≡ from) ⊎ (IsReached nodes behind id ⊎ IsReached nodes ahead id))
   unfolding Beyond
   reached_by_node nodes from id payload behind ahead h =
-      let node = entry payload behind ahead in
-      (λ r. beyond nodes (To from) id r node h, elim [
-        inl same ↦ rw same (itself from)
-      | inr (inl r) ↦ by_behind from id node h r
-      | inr (inr r) ↦ by_ahead from id node h r
-      ])
+      let node = entry payload behind ahead in (
+        λ r. beyond nodes (To from) id r node h,
+        elim [
+          | inl same ↦ rw same (itself from)
+          | inr (inl r) ↦ by_behind from id node h r
+          | inr (inr r) ↦ by_ahead from id node h r
+        ],
+      )
 
   -- what a link reaches is a node
   pub reached_is_node : (nodes : List (Entry A)) (link : Link) (id : ℕ) → AreLinked nodes → IsLinkOf nodes link → IsReached nodes link id → id < length nodes
-  reached_is_node nodes _ _ l k (itself id) = k
-  reached_is_node nodes _ _ l k (by_behind from id node h r) = reached_is_node nodes node.behind id l (below_more from (length nodes) node.behind (omega arith) (l.behind from node h)) r
-  reached_is_node nodes _ _ l k (by_ahead from id node h r) = reached_is_node nodes node.ahead id l (below_more from (length nodes) node.ahead (omega arith) (l.ahead from node h)) r
+  reached_is_node nodes _ _ l k (itself id) = omega arith
+  reached_is_node nodes _ _ l k (by_behind from id node h r) = reached_is_node nodes node.behind id l (omega (arith, l.behind from node h)) r
+  reached_is_node nodes _ _ l k (by_ahead from id node h r) = reached_is_node nodes node.ahead id l (omega (arith, l.ahead from node h)) r
 
   -- nodes that were added for one link, nodes that were added for another behind them, and a node over both links
   pub reached_by_added : (start : ℕ) (first second new : List (Entry A)) (payload : A) (behind ahead : Link) (id : ℕ) → Extends first second → AreReachedFrom start first behind → AreReachedFrom (length first) second ahead → Adds second new payload behind ahead id → AreReachedFrom start new (To id)
@@ -71,9 +72,9 @@ module _ {A : Type 0} where
       let there : slice_get new id ≡ Some node = rw (d.nodes, d.number) (behind_all second [] node) in
       let more : length new ≡ length second + 1 = rw d.nodes (length_push second node) in
       elim (cases_lt other (length second)) [
-        inl low ↦ elim (cases_lt other (length first)) [
-          inl lower ↦ by_behind id other node there ((reached_grows second new behind other d.extends) ((reached_grows first second behind other e) (b other from lower)))
-        | inr higher ↦ by_ahead id other node there ((reached_grows second new ahead other d.extends) (a other higher low))
+        | inl low ↦ elim (cases_lt other (length first)) [
+          | inl lower ↦ by_behind id other node there ((reached_grows second new behind other d.extends) ((reached_grows first second behind other e) (b other from lower)))
+          | inr higher ↦ by_ahead id other node there ((reached_grows second new ahead other d.extends) (a other higher low))
         ]
-      | inr high ↦ let same : other ≡ id = omega (arith, d.number) in rw same (itself id)
+        | inr high ↦ let same : other ≡ id = omega (arith, d.number) in rw same (itself id)
       ]

@@ -1,5 +1,5 @@
 -- Binary trees, and forests of them whose nodes stand in one list and are linked by number.
-use Rattle.std.specs.Prelude.{◌≡◌, ℕ, ◌<◌, ◌≤◌, Bool, false, List, [], ◌∷◌, ◌++◌, length, slice_get, slice_index_or, Some, fold}
+use Rattle.std.specs.Prelude.{◌≡◌, ℕ, ◌+◌, ◌<◌, ◌≤◌, Bool, false, List, [], ◌∷◌, ◌++◌, length, slice_get, slice_index_or, Some, fold}
 use Rattle.link_forest.specs.declared.link.Link.{Link}
 use Rattle.link_forest.specs.declared.link.Link.TheVariants.{End, To}
 use Rattle.link_forest.specs.declared.forest.Entry.{Entry}
@@ -14,10 +14,10 @@ pub record Stored (A : Type 0) : Type 0 where
   pub nodes : List (Entry A)
   pub spare : ℕ
 
--- an end, or a node below this number
-abbrev pub IsLinkBelow : ℕ → Link → Type 0
-IsLinkBelow n (End side) = Unit {0}
-IsLinkBelow n (To id) = id < n
+-- how many nodes a forest has at least, if this is a link of it: none for an end, and those up to its node for another
+abbrev pub least_nodes : Link → ℕ
+least_nodes (End side) = 0
+least_nodes (To id) = id + 1
 
 module _ {A : Type 0} where
   -- the node of a payload and two links
@@ -43,12 +43,12 @@ module _ {A : Type 0} where
 
   -- a link of these nodes: an end, or one of them
   abbrev pub IsLinkOf : List (Entry A) → Link → Type 0
-  IsLinkOf nodes link = IsLinkBelow (length nodes) link
+  IsLinkOf nodes link = least_nodes link ≤ length nodes
 
   -- the links of each node stand before it
   pub record AreLinked (nodes : List (Entry A)) : Type 0 where
-    pub behind : (id : ℕ) (node : Entry A) → slice_get nodes id ≡ Some node → IsLinkBelow id node.behind
-    pub ahead : (id : ℕ) (node : Entry A) → slice_get nodes id ≡ Some node → IsLinkBelow id node.ahead
+    pub behind : (id : ℕ) (node : Entry A) → slice_get nodes id ≡ Some node → least_nodes node.behind ≤ id
+    pub ahead : (id : ℕ) (node : Entry A) → slice_get nodes id ≡ Some node → least_nodes node.ahead ≤ id
 
   -- The second list has the nodes of the first, and maybe more behind them: so each link of the first is one of the
   -- second, with the same tree.
@@ -62,7 +62,7 @@ module _ {A : Type 0} where
   pub record Adds (old new : List (Entry A)) (payload : A) (behind ahead : Link) (id : ℕ) : Type 0 where
     pub number : id ≡ length old
     pub nodes : new ≡ old ++ entry payload behind ahead ∷ []
-    pub link : id < length new
+    pub link : IsLinkOf new (To id)
     pub tree : tree_at new (To id) ≡ fork payload (tree_at old behind) (tree_at old ahead)
     pub extends : Extends old new
     pub linked : AreLinked new
@@ -70,8 +70,8 @@ module _ {A : Type 0} where
   -- the node of this number: its payload, its links, which stand before it, and its tree over theirs
   pub record IsNode (nodes : List (Entry A)) (id : ℕ) (payload : A) (behind ahead : Link) : Type 0 where
     pub node : slice_get nodes id ≡ Some (entry payload behind ahead)
-    pub behind_before : IsLinkBelow id behind
-    pub ahead_before : IsLinkBelow id ahead
+    pub behind_before : least_nodes behind ≤ id
+    pub ahead_before : least_nodes ahead ≤ id
     pub tree : tree_at nodes (To id) ≡ fork payload (tree_at nodes behind) (tree_at nodes ahead)
 
 -- a node is reached from the link to it, and from the link to a node with a link from which it is reached
@@ -86,4 +86,4 @@ AreReachedFrom start nodes link = (id : ℕ) → start ≤ id → id < length no
 
 -- each node is reached from the link
 abbrev pub AreReached : {A : Type 0} → List (Entry A) → Link → Type 0
-AreReached nodes link = (id : ℕ) → id < length nodes → IsReached nodes link id
+AreReached nodes link = AreReachedFrom 0 nodes link

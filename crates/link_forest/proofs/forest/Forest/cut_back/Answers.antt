@@ -1,5 +1,3 @@
-use Rattle.std.proofs.Common.{◌≡◌, sym, subst, take}
-use Rattle.link_forest.specs.Forests.{AreLinked, Extends}
 use Rattle.link_forest.proofs.Longer.{cut_extends, linked_before}
 use Rattle.link_forest.proofs.forest.Forest.cut_back.Goals as goal
 
