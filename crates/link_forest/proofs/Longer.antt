@@ -68,6 +68,10 @@ module _ {A : Type 0} where
   pub taken_back : (old new : List (Entry A)) → Extends old new → take (length old) new ≡ old
   taken_back old new e = ap (take (length old)) e.nodes ∙ take_at old e.more (length old) refl
 
+  -- a list that was made longer, cut back to the length that it had
+  pub cut_is : (n : ℕ) (old new cut : List (Entry A)) → cut ≡ take n new → Extends old new → length old ≡ n → cut ≡ old
+  cut_is n old new cut is e count = is ∙ rw (← count) (taken_back old new e)
+
   pub cut_extends : (n : ℕ) (nodes : List (Entry A)) → Extends (take n nodes) nodes
   cut_extends n nodes = extends_by (take n nodes) nodes (drop n nodes) (sym (take-append-drop n nodes))
 

@@ -34,6 +34,8 @@ impl<T> Model for Forest<T> {
 }
 
 impl<T: Drop> Forest<T> {
+    ghost use Rattle.std.specs.Prelude.{List};
+    ghost use Rattle.link_forest.specs.declared.forest.Entry.{Entry};
     ghost use Rattle.link_forest.specs.Forests.{Adds, AreLinked, Extends, IsLinkOf, IsNode};
 
     /// No nodes. Takes no memory.
@@ -122,6 +124,7 @@ impl<T: Drop> Forest<T> {
     pub fn cut_back(&mut self, len: usize)
         ensures nodes { self.new.nodes ≡ take len self.old.nodes }
         ensures kept { Extends self.new.nodes self.old.nodes }
+        ensures again { (nodes : List (Entry T)) → Extends nodes self.old.nodes → length nodes ≡ len → self.new.nodes ≡ nodes }
         ensures spare { self.new.spare ≡ self.old.spare + (length self.old.nodes - len) }
         ensures linked { AreLinked self.new.nodes }
     {

@@ -7,13 +7,13 @@ ghost use Rattle.link_forest.specs.declared.forest.Entry.{Entry};
 ghost use Rattle.link_forest.specs.Forests.{end, entry, tree_at, AreLinked, IsLinkOf, IsNode, Extends, Adds, IsReached, AreReachedFrom};
 
 /// An end has itself for a tree, and reaches no node.
-pub fn ends<T: Drop>()
+pub fn ends_have_no_nodes<T: Drop>()
     ensures tree { (nodes : List (Entry T)) (side : Bool) → tree_at nodes (End side) ≡ end side }
     ensures reach { (nodes : List (Entry T)) (side : Bool) (id : ℕ) → IsReached nodes (End side) id → ⊥ }
 {}
 
 /// A list with more nodes behind it: its links stay links, with the trees that they have.
-pub fn longer_forests<T: Drop>()
+pub fn longer_forests_keep_trees<T: Drop>()
     ensures append { (nodes more : List (Entry T)) → Extends nodes (nodes ++ more) }
     ensures same { (nodes : List (Entry T)) → Extends nodes nodes }
     ensures twice { (first second third : List (Entry T)) → Extends first second → Extends second third → Extends first third }
@@ -22,7 +22,7 @@ pub fn longer_forests<T: Drop>()
 {}
 
 /// A node behind the others, and the node of a number.
-pub fn nodes_of_forests<T: Drop>()
+pub fn nodes_are_over_their_links<T: Drop>()
     ensures none { AreLinked {A = T} [] }
     ensures added { (nodes : List (Entry T)) (payload : T) (behind ahead : Link) → AreLinked nodes → IsLinkOf nodes behind → IsLinkOf nodes ahead →
         Adds nodes (nodes ++ entry payload behind ahead ∷ []) payload behind ahead (length nodes) }
@@ -32,7 +32,7 @@ pub fn nodes_of_forests<T: Drop>()
 
 /// What is reached from a link: it stays as it is behind more nodes, a node reaches itself and what its links reach, and
 /// a node over two links reaches all nodes that were added for the one and then for the other.
-pub fn reached_nodes<T: Drop>()
+pub fn links_reach_nodes<T: Drop>()
     ensures kept { (old new : List (Entry T)) (link : Link) (id : ℕ) → Extends old new → AreLinked old → IsLinkOf old link →
         IsReached old link id ↔ IsReached new link id }
     ensures by_node { (nodes : List (Entry T)) (from id : ℕ) (payload : T) (behind ahead : Link) → slice_get nodes from ≡ Some (entry payload behind ahead) →

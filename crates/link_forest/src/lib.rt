@@ -6,5 +6,7 @@ mod laws;
 mod link;
 
 pub use forest::{Entry, Forest};
-pub use laws::{ends, longer_forests, nodes_of_forests, reached_nodes};
+pub use laws::{
+    ends_have_no_nodes, links_reach_nodes, longer_forests_keep_trees, nodes_are_over_their_links,
+};
 pub use link::{Link, NodeId};

@@ -1,5 +1,5 @@
 use Rattle.link_forest.proofs.Reaching.{reached_same, reached_by_node, reached_is_node, reached_by_added}
-use Rattle.link_forest.proofs.laws.reached_nodes.Goals as goal
+use Rattle.link_forest.proofs.laws.links_reach_nodes.Goals as goal
 
 pub returns-clause-kept : goal.returns-clause-kept
 returns-clause-kept g c = reached_same

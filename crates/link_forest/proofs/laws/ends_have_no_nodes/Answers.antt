@@ -1,6 +1,6 @@
 use Rattle.link_forest.proofs.Longer.{tree_of_end}
 use Rattle.link_forest.proofs.Reaching.{ends_reach_none}
-use Rattle.link_forest.proofs.laws.ends.Goals as goal
+use Rattle.link_forest.proofs.laws.ends_have_no_nodes.Goals as goal
 
 pub returns-clause-tree : goal.returns-clause-tree
 returns-clause-tree g c = tree_of_end

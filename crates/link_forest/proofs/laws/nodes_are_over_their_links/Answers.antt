@@ -1,5 +1,5 @@
 use Rattle.link_forest.proofs.Longer.{linked_none, added, is_node}
-use Rattle.link_forest.proofs.laws.nodes_of_forests.Goals as goal
+use Rattle.link_forest.proofs.laws.nodes_are_over_their_links.Goals as goal
 
 pub returns-clause-none : goal.returns-clause-none
 returns-clause-none g c = linked_none
