@@ -7,7 +7,7 @@ use std::process::Abort;
 
 // Whether the node of a number has this payload and these links.
 fn is_at(forest: &Forest<u8>, id: NodeId, payload: u8, behind: Link, ahead: Link) -> bool
-    requires { id < length forest.now.nodes }
+    requires { id.index < length forest.now.nodes }
 {
     let found = forest.at(id);
     *found.0 == payload && found.1 == behind && found.2 == ahead
@@ -23,7 +23,8 @@ fn reserved_nodes_are_there(rt: HostRuntime) {
     let first = forest.add_reserved(10_u8, inside, outside);
     let second = forest.add_reserved(20, Link::To(first), inside);
     assert_eq!(rt; forest.len(), 2);
-    assert_eq!(rt; (first.index(), second.index()), (0, 1));
+    assert_eq!(rt; first.index, 0);
+    assert_eq!(rt; second.index, 1);
     assert!(rt; is_at(&forest, first, 10, inside, outside));
     assert!(rt; is_at(&forest, second, 20, Link::To(first), inside));
 }
@@ -42,7 +43,8 @@ fn nodes_are_added_again_behind_a_cut(rt: HostRuntime) {
     assert!(rt; is_at(&forest, third, 30, Link::To(first), Link::To(second)));
     let spare = forest.spare();
     forest.cut_back(1);
-    assert_eq!(rt; (forest.len(), forest.spare()), (1, spare + 2));
+    assert_eq!(rt; forest.len(), 1);
+    assert_eq!(rt; forest.spare(), spare + 2);
     assert!(rt; is_at(&forest, first, 10, inside, outside));
     let other = forest.add_reserved(40, Link::To(first), outside);
     assert!(rt; other == second);

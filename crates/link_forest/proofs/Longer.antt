@@ -3,10 +3,11 @@ use Rattle.std.proofs.Common.{◌≡◌, ℕ, suc, ◌<◌, ◌≤◌, inl, inr,
 use Rattle.std.proofs.lemmas.List.{get_or_append_left, get_or_push, take_at, take-append-drop}
 use Rattle.std.proofs.lemmas.Option.{slice_get_read}
 use Rattle.std.proofs.lemmas.List.Sums.{fold-append}
+use Rattle.link_forest.specs.declared.link.NodeId.{NodeId}
 use Rattle.link_forest.specs.declared.link.Link.{Link}
 use Rattle.link_forest.specs.declared.link.Link.TheVariants.{End, To}
 use Rattle.link_forest.specs.declared.forest.Entry.{Entry}
-use Rattle.link_forest.specs.Forests.{Branch, end, fork, least_nodes, IsLinkOf, entry, tree_over, trees_of, tree_at, AreLinked, Extends, Adds, IsNode}
+use Rattle.link_forest.specs.Forests.{Branch, end, fork, least_nodes, node_id, IsLinkOf, entry, tree_over, trees_of, tree_at, AreLinked, Extends, Adds, IsNode}
 use Rattle.link_forest.proofs.Numbers.{stays, which, parts}
 
 module _ {A : Type 0} where
@@ -44,8 +45,8 @@ module _ {A : Type 0} where
   unfolding tree_at
   trees_kept nodes more (End side) h = refl
   trees_kept nodes more (To id) h =
-      let within : id < length (trees_of nodes) = omega (arith, trees_count nodes) in
-      ap (λ (trees : List (Branch A)). get_or trees id (end false)) (trees_longer nodes more) ∙ get_or_append_left (trees_of nodes) (grown (trees_of nodes) more).more (end false) id within
+      let within : id.index < length (trees_of nodes) = omega (arith, trees_count nodes) in
+      ap (λ (trees : List (Branch A)). get_or trees id.index (end false)) (trees_longer nodes more) ∙ get_or_append_left (trees_of nodes) (grown (trees_of nodes) more).more (end false) id.index within
 
   -- and stay links
   pub links_kept : (nodes more : List (Entry A)) (link : Link) → IsLinkOf nodes link → IsLinkOf (nodes ++ more) link
@@ -92,12 +93,12 @@ module _ {A : Type 0} where
   }
 
   -- its tree lies over theirs
-  tree_more : (nodes : List (Entry A)) (node : Entry A) → tree_at (nodes ++ node ∷ []) (To (length nodes)) ≡ fork node.payload (tree_at nodes node.behind) (tree_at nodes node.ahead)
+  tree_more : (nodes : List (Entry A)) (node : Entry A) → tree_at (nodes ++ node ∷ []) (To (node_id (length nodes))) ≡ fork node.payload (tree_at nodes node.behind) (tree_at nodes node.ahead)
   unfolding tree_at
   tree_more nodes node =
       ap (λ (trees : List (Branch A)). get_or trees (length nodes) (end false)) (fold-append with_node [] nodes (node ∷ [])) ∙ get_or_push (trees_of nodes) (tree_over (trees_of nodes) node) (end false) (length nodes) (trees_count nodes)
 
-  pub added : (nodes : List (Entry A)) (payload : A) (behind ahead : Link) → AreLinked nodes → IsLinkOf nodes behind → IsLinkOf nodes ahead → Adds nodes (nodes ++ entry payload behind ahead ∷ []) payload behind ahead (length nodes)
+  pub added : (nodes : List (Entry A)) (payload : A) (behind ahead : Link) → AreLinked nodes → IsLinkOf nodes behind → IsLinkOf nodes ahead → Adds nodes (nodes ++ entry payload behind ahead ∷ []) payload behind ahead (node_id (length nodes))
   added nodes payload behind ahead l b a = record {
     number = refl;
     nodes = refl;
@@ -108,35 +109,40 @@ module _ {A : Type 0} where
   }
 
   -- the tree of a node in the midst of others
-  tree_amid : (before after : List (Entry A)) (node : Entry A) → IsLinkOf before node.behind → IsLinkOf before node.ahead → tree_at (before ++ node ∷ after) (To (length before)) ≡ fork node.payload (tree_at (before ++ node ∷ after) node.behind) (tree_at (before ++ node ∷ after) node.ahead)
+  tree_amid : (before after : List (Entry A)) (node : Entry A) → IsLinkOf before node.behind → IsLinkOf before node.ahead → tree_at (before ++ node ∷ after) (To (node_id (length before))) ≡ fork node.payload (tree_at (before ++ node ∷ after) node.behind) (tree_at (before ++ node ∷ after) node.ahead)
   tree_amid before after node b a =
-      let within : IsLinkOf (before ++ node ∷ []) (To (length before)) = omega (arith, length-append before (node ∷ [])) in
-      let whole : tree_at (before ++ node ∷ after) (To (length before)) ≡ tree_at (before ++ node ∷ []) (To (length before)) = rw (← append_assoc before (node ∷ []) after) (trees_kept (before ++ node ∷ []) after (To (length before)) within) in
+      let within : IsLinkOf (before ++ node ∷ []) (To (node_id (length before))) = omega (arith, length-append before (node ∷ [])) in
+      let whole : tree_at (before ++ node ∷ after) (To (node_id (length before))) ≡ tree_at (before ++ node ∷ []) (To (node_id (length before))) = rw (← append_assoc before (node ∷ []) after) (trees_kept (before ++ node ∷ []) after (To (node_id (length before))) within) in
       let low : tree_at (before ++ node ∷ after) node.behind ≡ tree_at before node.behind = trees_kept before (node ∷ after) node.behind b in
       let high : tree_at (before ++ node ∷ after) node.ahead ≡ tree_at before node.ahead = trees_kept before (node ∷ after) node.ahead a in
       cc (tree_more before node)
 
-  tree_there : (nodes before after : List (Entry A)) (id : ℕ) (node : Entry A) → nodes ≡ before ++ node ∷ after → length before ≡ id → least_nodes node.behind ≤ id → least_nodes node.ahead ≤ id → tree_at nodes (To id) ≡ fork node.payload (tree_at nodes node.behind) (tree_at nodes node.ahead)
-  tree_there nodes before after id node whole place b a =
+  tree_there : (nodes before after : List (Entry A)) (index : ℕ) (node : Entry A) → nodes ≡ before ++ node ∷ after → length before ≡ index → least_nodes node.behind ≤ index → least_nodes node.ahead ≤ index → tree_at nodes (To (node_id index)) ≡ fork node.payload (tree_at nodes node.behind) (tree_at nodes node.ahead)
+  tree_there nodes before after index node whole place b a =
       let low : IsLinkOf before node.behind = rw place b in
       let high : IsLinkOf before node.ahead = rw place a in
       rw (whole, ← place) (tree_amid before after node low high)
 
-  pub is_node : (nodes : List (Entry A)) (id : ℕ) (payload : A) (behind ahead : Link) → AreLinked nodes → slice_get nodes id ≡ Some (entry payload behind ahead) → IsNode nodes id payload behind ahead
+  pub is_node : (nodes : List (Entry A)) (id : NodeId) (payload : A) (behind ahead : Link) → AreLinked nodes → slice_get nodes id.index ≡ Some (entry payload behind ahead) → IsNode nodes id payload behind ahead
   is_node nodes id payload behind ahead l h =
       let node = entry payload behind ahead in
-      let p = parts nodes id node h in
+      let p = parts nodes id.index node h in
       record {
         node = h;
-        behind_before = l.behind id node h;
-        ahead_before = l.ahead id node h;
-        tree = tree_there nodes p.before p.after id node p.whole p.place (l.behind id node h) (l.ahead id node h);
+        behind_before = l.behind id.index node h;
+        ahead_before = l.ahead id.index node h;
+        tree = tree_there nodes p.before p.after id.index node p.whole p.place (l.behind id.index node h) (l.ahead id.index node h);
       }
 
   -- what is read at a number is its node
-  pub node_read : (nodes : List (Entry A)) (id : ℕ) (node : Entry A) → AreLinked nodes → id < length nodes → node ≡ get_or nodes id node → IsNode nodes id node.payload node.behind node.ahead
-  node_read nodes id node l below read = is_node nodes id node.payload node.behind node.ahead l (slice_get_read nodes (length nodes) id node refl below read)
+  pub node_read : (nodes : List (Entry A)) (id : NodeId) (node : Entry A) → AreLinked nodes → id.index < length nodes → node ≡ get_or nodes id.index node → IsNode nodes id node.payload node.behind node.ahead
+  node_read nodes id node l below read = is_node nodes id node.payload node.behind node.ahead l (slice_get_read nodes (length nodes) id.index node refl below read)
+
+  -- a node by its number
+  with_number : (old new : List (Entry A)) (payload : A) (behind ahead : Link) (id : NodeId) → id.index ≡ length old → Adds old new payload behind ahead (node_id (length old)) → Adds old new payload behind ahead id
+  with_number old new payload behind ahead id number adds =
+      subst (λ (index : ℕ). Adds old new payload behind ahead (node_id index)) (sym number) adds
 
   -- what is pushed is added
-  pub node_pushed : (nodes new : List (Entry A)) (payload : A) (behind ahead : Link) (id : ℕ) → AreLinked nodes → IsLinkOf nodes behind → IsLinkOf nodes ahead → new ≡ nodes ++ entry payload behind ahead ∷ [] → id ≡ length nodes → Adds nodes new payload behind ahead id
-  node_pushed nodes new payload behind ahead id l b a pushed number = rw (pushed, number) (added nodes payload behind ahead l b a)
+  pub node_pushed : (nodes new : List (Entry A)) (payload : A) (behind ahead : Link) (id : NodeId) → AreLinked nodes → IsLinkOf nodes behind → IsLinkOf nodes ahead → new ≡ nodes ++ entry payload behind ahead ∷ [] → id.index ≡ length nodes → Adds nodes new payload behind ahead id
+  node_pushed nodes new payload behind ahead id l b a pushed number = rw pushed (with_number nodes (nodes ++ entry payload behind ahead ∷ []) payload behind ahead id number (added nodes payload behind ahead l b a))

@@ -1,5 +1,6 @@
 -- Binary trees, and forests of them whose nodes stand in one list and are linked by number.
 use Rattle.std.specs.Prelude.{◌≡◌, ℕ, ◌+◌, ◌<◌, ◌≤◌, Bool, false, List, [], ◌∷◌, ◌++◌, length, slice_get, slice_index_or, Some, fold}
+use Rattle.link_forest.specs.declared.link.NodeId.{NodeId}
 use Rattle.link_forest.specs.declared.link.Link.{Link}
 use Rattle.link_forest.specs.declared.link.Link.TheVariants.{End, To}
 use Rattle.link_forest.specs.declared.forest.Entry.{Entry}
@@ -17,7 +18,11 @@ pub record Stored (A : Type 0) : Type 0 where
 -- how many nodes a forest has at least, if this is a link of it: none for an end, and those up to its node for another
 abbrev pub least_nodes : Link → ℕ
 least_nodes (End side) = 0
-least_nodes (To id) = id + 1
+least_nodes (To id) = id.index + 1
+
+-- the node of this number
+abbrev pub node_id : ℕ → NodeId
+node_id index = record { index = index }
 
 module _ {A : Type 0} where
   -- the node of a payload and two links
@@ -27,7 +32,7 @@ module _ {A : Type 0} where
   -- the tree of a link, over the trees of the nodes by number; a number past them is no node, and an end
   abbrev pub tree_in : List (Branch A) → Link → Branch A
   tree_in trees (End side) = end side
-  tree_in trees (To id) = slice_index_or trees id (end false)
+  tree_in trees (To id) = slice_index_or trees id.index (end false)
 
   -- a node is the fork of its payload over the trees of its links
   abbrev pub tree_over : List (Branch A) → Entry A → Branch A
@@ -47,8 +52,8 @@ module _ {A : Type 0} where
 
   -- the links of each node stand before it
   pub record AreLinked (nodes : List (Entry A)) : Type 0 where
-    pub behind : (id : ℕ) (node : Entry A) → slice_get nodes id ≡ Some node → least_nodes node.behind ≤ id
-    pub ahead : (id : ℕ) (node : Entry A) → slice_get nodes id ≡ Some node → least_nodes node.ahead ≤ id
+    pub behind : (index : ℕ) (node : Entry A) → slice_get nodes index ≡ Some node → least_nodes node.behind ≤ index
+    pub ahead : (index : ℕ) (node : Entry A) → slice_get nodes index ≡ Some node → least_nodes node.ahead ≤ index
 
   -- The second list has the nodes of the first, and maybe more behind them: so each link of the first is one of the
   -- second, with the same tree.
@@ -59,8 +64,8 @@ module _ {A : Type 0} where
     pub trees : (link : Link) → IsLinkOf old link → tree_at new link ≡ tree_at old link
 
   -- a node with this payload and these links was added behind the others, under this number
-  pub record Adds (old new : List (Entry A)) (payload : A) (behind ahead : Link) (id : ℕ) : Type 0 where
-    pub number : id ≡ length old
+  pub record Adds (old new : List (Entry A)) (payload : A) (behind ahead : Link) (id : NodeId) : Type 0 where
+    pub number : id.index ≡ length old
     pub nodes : new ≡ old ++ entry payload behind ahead ∷ []
     pub link : IsLinkOf new (To id)
     pub tree : tree_at new (To id) ≡ fork payload (tree_at old behind) (tree_at old ahead)
@@ -68,21 +73,21 @@ module _ {A : Type 0} where
     pub linked : AreLinked new
 
   -- the node of this number: its payload, its links, which stand before it, and its tree over theirs
-  pub record IsNode (nodes : List (Entry A)) (id : ℕ) (payload : A) (behind ahead : Link) : Type 0 where
-    pub node : slice_get nodes id ≡ Some (entry payload behind ahead)
-    pub behind_before : least_nodes behind ≤ id
-    pub ahead_before : least_nodes ahead ≤ id
+  pub record IsNode (nodes : List (Entry A)) (id : NodeId) (payload : A) (behind ahead : Link) : Type 0 where
+    pub node : slice_get nodes id.index ≡ Some (entry payload behind ahead)
+    pub behind_before : least_nodes behind ≤ id.index
+    pub ahead_before : least_nodes ahead ≤ id.index
     pub tree : tree_at nodes (To id) ≡ fork payload (tree_at nodes behind) (tree_at nodes ahead)
 
 -- a node is reached from the link to it, and from the link to a node with a link from which it is reached
-pub data IsReached {A : Type 0} (nodes : List (Entry A)) : Link → ℕ → Type 0 where
-  itself : (id : ℕ) → IsReached nodes (To id) id
-  by_behind : (from id : ℕ) (node : Entry A) → slice_get nodes from ≡ Some node → IsReached nodes node.behind id → IsReached nodes (To from) id
-  by_ahead : (from id : ℕ) (node : Entry A) → slice_get nodes from ≡ Some node → IsReached nodes node.ahead id → IsReached nodes (To from) id
+pub data IsReached {A : Type 0} (nodes : List (Entry A)) : Link → NodeId → Type 0 where
+  itself : (id : NodeId) → IsReached nodes (To id) id
+  by_behind : (from id : NodeId) (node : Entry A) → slice_get nodes from.index ≡ Some node → IsReached nodes node.behind id → IsReached nodes (To from) id
+  by_ahead : (from id : NodeId) (node : Entry A) → slice_get nodes from.index ≡ Some node → IsReached nodes node.ahead id → IsReached nodes (To from) id
 
 -- each node from this number on is reached from the link
 abbrev pub AreReachedFrom : {A : Type 0} → ℕ → List (Entry A) → Link → Type 0
-AreReachedFrom start nodes link = (id : ℕ) → start ≤ id → id < length nodes → IsReached nodes link id
+AreReachedFrom start nodes link = (id : NodeId) → start ≤ id.index → id.index < length nodes → IsReached nodes link id
 
 -- each node is reached from the link
 abbrev pub AreReached : {A : Type 0} → List (Entry A) → Link → Type 0

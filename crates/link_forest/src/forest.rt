@@ -80,21 +80,21 @@ impl<T: Drop> Forest<T> {
         ensures adds { Adds self.old.nodes self.new.nodes payload behind ahead result }
         ensures spare { self.new.spare + 1 ≡ self.old.spare }
     {
-        let id = NodeId::new(self.entries.len());
+        let index = self.entries.len();
         self.entries.push_reserved(Entry {
             payload,
             behind,
             ahead,
         });
-        id
+        NodeId { index }
     }
 
     /// The payload and the links of a node. Takes no memory.
     pub fn at(&self, id: NodeId) -> (&T, Link, Link)
-        requires { id < length self.now.nodes }
+        requires { id.index < length self.now.nodes }
         ensures { IsNode self.now.nodes id result.0.now result.1 result.2 }
     {
-        let entry = &self.entries[id.index()];
+        let entry = &self.entries[id.index];
         (&entry.payload, entry.behind, entry.ahead)
     }
 
