@@ -10,6 +10,8 @@ mod cutting;
 #[cfg(test)]
 mod exports;
 #[cfg(test)]
+mod forests;
+#[cfg(test)]
 mod half_spaces;
 #[cfg(test)]
 mod half_units;
