@@ -1,0 +1,10 @@
+//! Hulls of points.
+#![tactic(auto)]
+
+ghost use Rattle.std.specs.Prelude.{◌≡◌, true};
+
+pub fn law() -> bool
+    ensures { result ≡ true }
+{
+    true
+}
