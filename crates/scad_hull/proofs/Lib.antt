@@ -6,3 +6,4 @@ pub mod Inner
 pub mod Members
 pub mod Tests
 pub mod Faces
+pub mod Solids
