@@ -1,10 +1,10 @@
 //! Hulls of points.
 #![tactic(auto)]
 
-ghost use Rattle.std.specs.Prelude.{◌≡◌, true};
+mod faces;
+mod hull;
+mod plane;
+mod points;
+mod triples;
 
-pub fn law() -> bool
-    ensures { result ≡ true }
-{
-    true
-}
+pub use hull::hull_shape;
