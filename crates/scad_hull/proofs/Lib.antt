@@ -5,5 +5,9 @@ pub mod Supports
 pub mod Inner
 pub mod Members
 pub mod Tests
-pub mod Faces
+pub mod Supporting
 pub mod Solids
+pub mod Found
+pub mod Orders
+mod Rows
+pub mod Loops

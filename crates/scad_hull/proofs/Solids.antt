@@ -14,7 +14,7 @@ use Rattle.shape_planes.specs.Shapes.{Mesh, corner, value_at, HasFreeSide, HasTr
 use Rattle.shape_planes.proofs.Moves.{cancelled}
 use Rattle.scad_hull.specs.Combinations.{IsInnerCombination}
 use Rattle.scad_hull.specs.Hulls.{faces_of, plane_of, AreOnOnePlane}
-use Rattle.scad_hull.proofs.Faces.{all_faces, crossed, has_face, not_nowhere, own, same_zeros, IsSupport, IsTriple}
+use Rattle.scad_hull.proofs.Supporting.{all_faces, crossed, has_face, not_nowhere, own, same_zeros, IsSupport, IsTriple}
 use Rattle.scad_hull.proofs.Inner.{behind_each, inner}
 use Rattle.scad_hull.proofs.Lines.{cyclic, plane, some_off, swapped, value_default, with_direction, zero_by}
 use Rattle.scad_hull.proofs.Members.{IsAmong, found_at, member}

@@ -1,10 +1,11 @@
 //! Triples of points, and the planes through them.
 
-ghost use Rattle.std.specs.Prelude.{◌≡◌, All, length};
+ghost use Rattle.std.specs.Prelude.{◌≡◌, pos, All, length};
 ghost use Rattle.std.specs.List.{list_any};
-ghost use Rattle.plane_predicate.specs.Space.{point_at};
+ghost use Rattle.std.specs.Ordering.{int_eq};
+ghost use Rattle.plane_predicate.specs.Space.{point_at, value};
 ghost use Rattle.shape_planes.specs.Sizes.{IsOnGrid};
-ghost use Rattle.scad_hull.specs.Hulls.{has_none_ahead, is_supporting, plane_of, shares_plane};
+ghost use Rattle.scad_hull.specs.Hulls.{has_direction as directed_of, has_none_ahead, is_supporting, plane_of, shares_plane};
 ghost use Rattle.scad_hull.specs.Steps.{AreNumbered, AreThree};
 
 use shape_planes::face_has_ahead;
@@ -17,8 +18,20 @@ pub fn supports(points: &[[i64; 3]], all: &[u32], triple: [u32; 3]) -> bool
     ensures { result ≡ is_supporting points.now triple }
 {
     let plane = through(points, triple);
-    has_direction(&plane)
-        && (has_free_side(points, all, &plane) || has_free_side(points, all, &opposite(&plane)))
+    if !is_directed(&plane) {
+        return false;
+    }
+    if has_free_side(points, all, &plane) {
+        return true;
+    }
+    has_free_side(points, all, &opposite(&plane))
+}
+
+/// Whether a direction is not 0.
+fn is_directed(plane: &FacePlane) -> bool
+    ensures { result ≡ directed_of plane.now }
+{
+    has_direction(plane)
 }
 
 /// Whether no point is strictly ahead of a plane.
@@ -63,7 +76,19 @@ fn is_on_plane(points: &[[i64; 3]], of: [u32; 3], triple: [u32; 3]) -> bool
 {
     let plane = through(points, of);
     let [i, j, k] = triple;
-    goes_through(&plane, points[i as usize])
-        && goes_through(&plane, points[j as usize])
-        && goes_through(&plane, points[k as usize])
+    if !holds(&plane, points[i as usize]) {
+        return false;
+    }
+    if !holds(&plane, points[j as usize]) {
+        return false;
+    }
+    holds(&plane, points[k as usize])
+}
+
+/// Whether a plane goes through a point.
+fn holds(plane: &FacePlane, at: [i64; 3]) -> bool
+    requires { IsOnGrid (point_at at) }
+    ensures { result ≡ int_eq (value plane.now (point_at at)) (pos 0) }
+{
+    goes_through(plane, at)
 }
