@@ -102,27 +102,27 @@ found_yes points t ts e = ap (first_of_planes points) (filter_cons_true (is_supp
 one_by_one : (points : List (List ℤ)) (faces ts : List (List ℕ)) → AllByRecursion (IsTriple (length points)) ts → with_triples points faces ts ≡ faces ++ fresh points faces (found points ts)
 one_by_one points faces [] h = sym (append-nil faces)
 one_by_one points faces (t ∷ ts) h = elim (cases_Bool (is_supporting points t)) [
-  | inr no ↦
-      ap (λ fs. with_triples points fs ts) (cond-false (is_supporting points t && not (listed points faces t)) (faces ++ t ∷ []) faces (and_left (is_supporting points t) (not (listed points faces t)) no))
+  | inr bad ↦
+      ap (λ fs. with_triples points fs ts) (cond-false (is_supporting points t && not (listed points faces t)) (faces ++ t ∷ []) faces (and_left (is_supporting points t) (not (listed points faces t)) bad))
       ∙ one_by_one points faces ts h.1
-      ∙ ap (λ us. faces ++ fresh points faces us) (sym (found_no points t ts no))
-  | inl yes ↦ elim (cases_Bool (listed points faces t)) [
+      ∙ ap (λ us. faces ++ fresh points faces us) (sym (found_no points t ts bad))
+  | inl good ↦ elim (cases_Bool (listed points faces t)) [
     | inl old ↦
         ap (λ fs. with_triples points fs ts) (cond-false (is_supporting points t && not (listed points faces t)) (faces ++ t ∷ []) faces (and_right (is_supporting points t) (not (listed points faces t)) (not_from_true (listed points faces t) old)))
         ∙ one_by_one points faces ts h.1
         ∙ ap (λ us. faces ++ us)
-        (sym (filter_after (λ u. not (listed points faces u)) (λ u. not (shares_plane points t u)) (found points ts) (all_not_shared points faces t (found points ts) (support_of points t yes h.0) (all_found points ts h.1) old))
+        (sym (filter_after (λ u. not (listed points faces u)) (λ u. not (shares_plane points t u)) (found points ts) (all_not_shared points faces t (found points ts) (support_of points t good h.0) (all_found points ts h.1) old))
         ∙ sym (filter_cons_false (λ u. not (listed points faces u)) t (filter (λ u. not (shares_plane points t u)) (found points ts)) (not_from_true (listed points faces t) old))
-        ∙ ap (fresh points faces) (sym (found_yes points t ts yes)))
+        ∙ ap (fresh points faces) (sym (found_yes points t ts good)))
     | inr new ↦
-        ap (λ fs. with_triples points fs ts) (cond-true (is_supporting points t && not (listed points faces t)) (faces ++ t ∷ []) faces (and_from (is_supporting points t) (not (listed points faces t)) yes (not_from_false (listed points faces t) new)))
+        ap (λ fs. with_triples points fs ts) (cond-true (is_supporting points t && not (listed points faces t)) (faces ++ t ∷ []) faces (and_from (is_supporting points t) (not (listed points faces t)) good (not_from_false (listed points faces t) new)))
         ∙ one_by_one points (faces ++ t ∷ []) ts h.1
         ∙ append_assoc faces (t ∷ []) (fresh points (faces ++ t ∷ []) (found points ts))
         ∙ ap (λ us. faces ++ (t ∷ us))
         (sym (filter_both (λ u. not (listed points faces u)) (λ u. not (shares_plane points t u)) (λ u. not (listed points (faces ++ t ∷ []) u)) (λ u. ap not (listed_push points faces t u) ∙ not_or (listed points faces u) (shares_plane points t u)) (found points ts)))
         ∙ ap (λ us. faces ++ us)
         (sym (filter_cons_true (λ u. not (listed points faces u)) t (filter (λ u. not (shares_plane points t u)) (found points ts)) (not_from_false (listed points faces t) new))
-        ∙ ap (fresh points faces) (sym (found_yes points t ts yes)))
+        ∙ ap (fresh points faces) (sym (found_yes points t ts good)))
   ]
 ]
 

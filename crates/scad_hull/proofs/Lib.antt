@@ -9,5 +9,6 @@ pub mod Supporting
 pub mod Solids
 pub mod Found
 pub mod Orders
+pub mod Ordered
 mod Rows
 pub mod Loops

@@ -1,21 +1,27 @@
 -- What the tests and loops of the code say, as the definitions say it.
-use Rattle.std.proofs.Common.{◌≡◌, ◌⊎◌, inl, inr, Bool, true, false, not, ◌&&◌, ◌||◌, ℕ, zero, suc, ◌+◌, ◌-◌, ◌<◌, ◌≤◌, ℤ, pos, ◌<ℤ◌, ◌≤ℤ◌, int_eq, List, [], ◌∷◌, ◌++◌, length, get_or, take, unsigned_abs, refl, sym, ap, ◌∙◌, subst, arith, All, Any, true≢false}
+use Rattle.std.proofs.Common.{◌≡◌, ◌⊎◌, inl, inr, Bool, true, false, not, ◌&&◌, ◌||◌, ℕ, zero, suc, ◌+◌, ◌-◌, ◌<◌, ◌≤◌, ℤ, pos, ◌<ℤ◌, ◌≤ℤ◌, int_eq, int_cmp, ◌↔◌, cond, fold, Ordering, Less, Equal, Greater, List, [], ◌∷◌, ◌++◌, length, get_or, take, unsigned_abs, refl, sym, ap, ◌∙◌, subst, arith, All, Any, true≢false}
 use Rattle.std.specs.Bool.{OnTrue, OnFalse}
 use Rattle.std.specs.List.{AllByRecursion, list_all, list_any, range_with_len}
-use Rattle.std.proofs.lemmas.Bool.{cases_Bool, and_from, and_parts, and_left, and_right, false_from_ne_true, or_left, or_right, or_from, or_parts}
+use Rattle.std.proofs.lemmas.Bool.{cases_Bool, cond-true, cond-false, and_from, and_parts, and_left, and_right, false_from_ne_true, or_left, or_right, or_from, or_parts}
 use Rattle.std.proofs.lemmas.Bool.Decides.{Decides-int_eq}
 use Rattle.std.proofs.lemmas.List.{get_or_default, take_all, take_more}
-use Rattle.std.proofs.lemmas.List.Elements.{All-from_recursion}
+use Rattle.std.proofs.lemmas.List.Elements.{All-from_recursion, recursion_from_All}
 use Rattle.plane_predicate.specs.Space.{Coefficients, Coordinates, point_at, value, opposite_of, through, AreCollinear}
 use Rattle.plane_predicate.proofs.IntegerRing.{sums}
-use Rattle.shape_planes.specs.Shapes.{corner, value_at, HasTriangle}
+use Rattle.shape_planes.specs.Shapes.{corner, value_at, HasTriangle, IsInRange, IsInside, MakesShape}
+use Rattle.shape_planes.specs.Sizes.{IsOnGrid}
+use Rattle.shape_planes.proofs.Bodies.{range_on_grid}
+use Rattle.std.specs.Cmp.Lexicographic.{slice_cmp}
 use Rattle.shape_planes.specs.Spanning.{HasNoDirection, IsTriangle}
 use Rattle.shape_planes.specs.declared.spanning.Triangle.{Triangle}
 use Rattle.shape_planes.proofs.OnePlane.{nowhere}
-use Rattle.scad_hull.specs.Hulls.{from, has_direction, has_none_ahead, is_supporting, plane_of, shares_plane, AreOnOnePlane}
-use Rattle.scad_hull.specs.Steps.{AreNumbered, AreThree}
+use Rattle.scad_hull.specs.Hulls.{different, faces_of, from, hull_of, put, has_direction, has_none_ahead, is_supporting, plane_of, shares_plane, AreOnOnePlane}
+use Rattle.scad_hull.specs.Combinations.{IsInnerCombination}
+use Rattle.scad_hull.specs.Refusals.{AreInRange}
+use Rattle.scad_hull.specs.Steps.{with_triple, AreNumbered, AreThree}
 use Rattle.scad_hull.proofs.Lines.{collinear_by, on_one_plane, plane, value_default, with_direction, zero_by}
 use Rattle.scad_hull.proofs.Members.{all_from, all_weaker, IsWithin}
+use Rattle.scad_hull.proofs.Solids.{inside_where_combined, makes_shape}
 use Rattle.scad_hull.proofs.Supporting.{crossed, not_nowhere, own, same_zeros}
 use Rattle.scad_hull.proofs.Tests.{has_none, none_ahead, Holds}
 
@@ -162,3 +168,76 @@ pub any_here : {X : Type 0} (test : X → Bool) (xs : List X) (i : ℕ) (d : X) 
 any_here test [] i d lt e = absurd (omega (arith, lt))
 any_here test (x ∷ xs) zero d lt e = or_left (test x) (list_any test xs) e
 any_here test (x ∷ xs) (suc i) d lt e = or_right (test x) (list_any test xs) (any_here test xs i d (omega (arith, lt)) e)
+
+-- what a test says
+pub on_false : {P Q : Type 0} (b : Bool) → (P → Q) → OnFalse b P → OnFalse b Q
+on_false true f h = h
+on_false false f h = f h
+
+-- ---- three numbers
+three_all : (test : ℕ → Bool) (t : List ℕ) → length t ≡ 3 → list_all test t ≡ (test (get_or t 0 0) && (test (get_or t 1 0) && (test (get_or t 2 0) && true)))
+three_all test [] e = absurd (omega (arith, e))
+three_all test (i ∷ []) e = absurd (omega (arith, e))
+three_all test (i ∷ j ∷ []) e = absurd (omega (arith, e))
+three_all test (i ∷ j ∷ k ∷ []) e = refl
+three_all test (i ∷ j ∷ k ∷ l ∷ more) e = absurd (omega (arith, e))
+
+last_true : (a : Bool) → (a && true) ≡ a
+last_true true = refl
+last_true false = refl
+
+abbrev on_at : List (List ℤ) → Coefficients → ℕ → Bool
+on_at points m i = int_eq (value_at points m i) (pos 0)
+
+shares_is : (points : List (List ℤ)) (s t : List ℕ) (m : Coefficients) → m ≡ plane_of points s → length t ≡ 3 → shares_plane points s t ≡ (on_at points m (get_or t 0 0) && (on_at points m (get_or t 1 0) && (on_at points m (get_or t 2 0) && true)))
+shares_is points s t m em three = three_all (on_at points (plane_of points s)) t three ∙ ap (λ n. on_at points n (get_or t 0 0) && (on_at points n (get_or t 1 0) && (on_at points n (get_or t 2 0) && true))) (sym em)
+
+pub not_first : (points : List (List ℤ)) (s t : List ℕ) (m : Coefficients) (a : Bool) → m ≡ plane_of points s → length t ≡ 3 → a ≡ on_at points m (get_or t 0 0) → a ≡ false → false ≡ shares_plane points s t
+not_first points s t m a em three ea e = sym (shares_is points s t m em three ∙ and_left (on_at points m (get_or t 0 0)) _ (sym ea ∙ e))
+
+pub not_second : (points : List (List ℤ)) (s t : List ℕ) (m : Coefficients) (a b : Bool) → m ≡ plane_of points s → length t ≡ 3 → a ≡ on_at points m (get_or t 0 0) → a ≡ true → b ≡ on_at points m (get_or t 1 0) → b ≡ false → false ≡ shares_plane points s t
+not_second points s t m a b em three ea e eb f = sym (shares_is points s t m em three ∙ and_true (on_at points m (get_or t 0 0)) _ (sym ea ∙ e) ∙ and_left (on_at points m (get_or t 1 0)) _ (sym eb ∙ f))
+
+pub by_third : (points : List (List ℤ)) (s t : List ℕ) (m : Coefficients) (a b c : Bool) → m ≡ plane_of points s → length t ≡ 3 → a ≡ on_at points m (get_or t 0 0) → a ≡ true → b ≡ on_at points m (get_or t 1 0) → b ≡ true → c ≡ on_at points m (get_or t 2 0) → c ≡ shares_plane points s t
+by_third points s t m a b c em three ea e eb f ec =
+    ec ∙ sym (shares_is points s t m em three ∙ and_true (on_at points m (get_or t 0 0)) _ (sym ea ∙ e) ∙ and_true (on_at points m (get_or t 1 0)) _ (sym eb ∙ f) ∙ last_true (on_at points m (get_or t 2 0)))
+
+-- ---- one more triple
+pub pushed : (points : List (List ℤ)) (faces : List (List ℕ)) (t : List ℕ) (b c : Bool) → b ≡ is_supporting points t → b ≡ true → c ≡ list_any (λ s. shares_plane points s t) faces → c ≡ false → faces ++ t ∷ [] ≡ with_triple points faces t
+pushed points faces t b c eb e ec f = sym (cond-true (is_supporting points t && not (list_any (λ s. shares_plane points s t) faces)) (faces ++ t ∷ []) faces (and_from (is_supporting points t) (not (list_any (λ s. shares_plane points s t) faces)) (sym eb ∙ e) (ap not (sym ec ∙ f))))
+
+pub kept_supported : (points : List (List ℤ)) (faces : List (List ℕ)) (t : List ℕ) (c : Bool) → c ≡ list_any (λ s. shares_plane points s t) faces → c ≡ true → faces ≡ with_triple points faces t
+kept_supported points faces t c ec f = sym (cond-false (is_supporting points t && not (list_any (λ s. shares_plane points s t) faces)) (faces ++ t ∷ []) faces (and_right (is_supporting points t) (not (list_any (λ s. shares_plane points s t) faces)) (ap not (sym ec ∙ f))))
+
+pub kept_other : (points : List (List ℤ)) (faces : List (List ℕ)) (t : List ℕ) (b : Bool) → b ≡ is_supporting points t → b ≡ false → faces ≡ with_triple points faces t
+kept_other points faces t b eb e = sym (cond-false (is_supporting points t && not (list_any (λ s. shares_plane points s t) faces)) (faces ++ t ∷ []) faces (and_left (is_supporting points t) (not (list_any (λ s. shares_plane points s t) faces)) (sym eb ∙ e)))
+
+-- ---- the different points of some given ones
+all_put_by : (P : List ℤ → Type 0) (o : Ordering) (p q : List ℤ) (points : List (List ℤ)) → P p → AllByRecursion P (q ∷ points) → AllByRecursion P (put p points) → AllByRecursion P (elim o [ Less ↦ q ∷ put p points | Equal ↦ q ∷ points | Greater ↦ p ∷ q ∷ points ])
+all_put_by P Less p q points h k m = (k.0, m)
+all_put_by P Equal p q points h k m = k
+all_put_by P Greater p q points h k m = (h, k)
+
+all_put : (P : List ℤ → Type 0) (p : List ℤ) (points : List (List ℤ)) → P p → AllByRecursion P points → AllByRecursion P (put p points)
+all_put P p [] h k = (h, tt)
+all_put P p (q ∷ points) h k = all_put_by P (slice_cmp int_cmp q p) p q points h k (all_put P p points h k.1)
+
+all_different : (P : List ℤ → Type 0) (points given : List (List ℤ)) → AllByRecursion P points → AllByRecursion P given → AllByRecursion P (fold (λ ps p. put p ps) points given)
+all_different P points [] h k = h
+all_different P points (p ∷ given) h k = all_different P (put p points) given (all_put P p points k.0 h) k.1
+
+pub range_different : (given : List (List ℤ)) → AreInRange given → AreInRange (different given)
+range_different given h = All-from_recursion (λ p. IsInRange (point_at p)) (different given) (all_different (λ p. IsInRange (point_at p)) [] given tt (recursion_from_All (λ p. IsInRange (point_at p)) given h))
+
+pub numbered_by : (given points : List (List ℤ)) (all : List ℕ) → points ≡ different given → AreInRange given → length (different given) ≤ 128 → all ≡ from 0 (length points) → AreNumbered points all
+numbered_by given points all e range few numbers = record {
+  grid = subst (λ ps. All (λ p. IsOnGrid (point_at p)) ps) (sym e) (range_on_grid (different given) (range_different given range));
+  few = subst (λ ps. length ps ≤ 128) (sym e) few;
+  numbers = numbers;
+}
+
+pub shape_by : (given points : List (List ℤ)) (faces : List (List ℕ)) → points ≡ different given → AreInRange given → (AreOnOnePlane points → ⊥) → faces ≡ faces_of points → MakesShape (record { points = points; faces = faces })
+shape_by given points faces e range solid ef = subst (λ fs. MakesShape (record { points = points; faces = fs })) (sym ef) (makes_shape points (subst AreInRange (sym e) (range_different given range)) solid)
+
+pub inside_by : (given points : List (List ℤ)) → points ≡ different given → (AreOnOnePlane points → ⊥) → (q : Coordinates) → pos 0 <ℤ q.w → IsInside (hull_of given) q ↔ IsInnerCombination (different given) q
+inside_by given points e solid q hw = inside_where_combined (different given) (subst (λ ps. AreOnOnePlane ps → ⊥) e solid) q hw

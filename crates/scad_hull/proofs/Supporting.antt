@@ -62,7 +62,7 @@ pub all_first : (points : List (List ℤ)) (P : List ℕ → Type 0) (ts : List 
 all_first points P [] h = tt
 all_first points P (s ∷ more) h = (h.0, all_filter P P (λ t. not (shares_plane points s t)) (λ t e p. p) (first_of_planes points more) (all_first points P more h.1))
 
-support_of : (points : List (List ℤ)) (t : List ℕ) → is_supporting points t ≡ true → IsTriple (length points) t → IsSupport points t
+pub support_of : (points : List (List ℤ)) (t : List ℕ) → is_supporting points t ≡ true → IsTriple (length points) t → IsSupport points t
 support_of points t e n = record { numbers = n; supports = supports points n.i n.j n.k (subst (λ u. is_supporting points u ≡ true) n.is e) }
 
 pub all_candidates : (points : List (List ℤ)) → AllByRecursion (IsSupport points) (filter (is_supporting points) (triples (length points)))
@@ -78,7 +78,7 @@ itself points t s =
     subst (λ u. shares_plane points u u ≡ true) (sym n.is) (shares points (triple n.i n.j n.k) n.i n.j n.k (own points n.i n.j n.k))
 
 -- triples with planes equal to one plane have equal planes
-through_both : (points : List (List ℤ)) (r s t : List ℕ) → IsSupport points s → IsSupport points t → shares_plane points r s ≡ true → shares_plane points s t ≡ true → shares_plane points r t ≡ true
+pub through_both : (points : List (List ℤ)) (r s t : List ℕ) → IsSupport points s → IsSupport points t → shares_plane points r s ≡ true → shares_plane points s t ≡ true → shares_plane points r t ≡ true
 through_both points r s t hs ht first second =
     let a = hs.numbers in
     let b = ht.numbers in
