@@ -99,7 +99,6 @@ pub record IsAhead (b : Coordinates) : Type 0 where
 abbrev pub axis : ℤ → ℤ → ℤ → ℤ → Coefficients
 axis a b c d = record { a = a; b = b; c = c; d = d }
 
-
 pub at_x : (k x y z w : ℤ) → k *ℤ x +ℤ pos 0 *ℤ y +ℤ pos 0 *ℤ z -ℤ pos 0 *ℤ w ≡ k *ℤ x
 at_x k x y z w = ring (k ∷ x ∷ y ∷ z ∷ w ∷ []) (minus (plus (plus (times (var 0) (var 1)) (times (num (pos 0)) (var 2))) (times (num (pos 0)) (var 3))) (times (num (pos 0)) (var 4))) (times (var 0) (var 1)) refl
 

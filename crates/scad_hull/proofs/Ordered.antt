@@ -87,8 +87,7 @@ fold_members : (r : List ℤ) (points given : List (List ℤ)) → IsAmong r (fo
 fold_members r points [] = (λ m. inl m, λ m. elim m [ inl n ↦ n | inr n ↦ absurd n ])
 fold_members r points (p ∷ given) =
     let more = fold_members r (put p points) given in
-    let here = put_members r p points in
-    (
+    let here = put_members r p points in (
       λ m. elim (more.0 m) [ inl n ↦ elim (here.0 n) [ inl s ↦ inr (inl s) | inr k ↦ inl k ] | inr n ↦ inr (inr n) ],
       λ m. more.1 (elim m [ inl n ↦ inl (here.1 (inr n)) | inr n ↦ elim n [ inl s ↦ inl (here.1 (inl s)) | inr k ↦ inr k ] ]),
     )
@@ -106,8 +105,7 @@ among r points c = among_at r points c.0 c.1 c.2
 
 pub members : (given : List (List ℤ)) (p : List ℤ) → Contains (different given) p ↔ Contains given p
 members given p =
-    let all = fold_members p [] given in
-    (
+    let all = fold_members p [] given in (
       λ c. elim (all.0 (among p (different given) c)) [ inl n ↦ absurd n | inr n ↦ contained p given n ],
       λ c. contained p (different given) (all.1 (inr (among p given c))),
     )

@@ -226,14 +226,14 @@ greatest_on points solid k directed on r hr greatest off =
             far_in = lt;
             behind = not_most (value_at points x s) (most_after (value_at points k s) (value_at points k r) (value_at points x s) (at_shifted points k (value_at points k r) s) (greatest s lt)) away;
           }) (λ a b c ha hb hc apart y bounds ea eb ec.
-              let h : Holds points y a b c = record { first = ea; second = eb; third = ec } in
-              let f = face_at points a b c ha hb hc apart y h bounds.most bounds.far bounds.behind in
-              let support : IsSupport points f.face = member (IsSupport points) f.face (faces_of points) (all_faces points) f.among in
-              let n = support.numbers in
-              let here : value y R ≡ pos 0 = both_most (value y R) (bounds.most r hr) bounds.at in
-              let there : value (plane_of points f.face) R ≡ pos 0 = same_zeros points a b c apart (plane_of points f.face) y f.holds h (λ all. not_zero_below (value_at points y bounds.far) bounds.behind (all (corner points bounds.far))) R here in
-              off (same_zeros points n.i n.j n.k support.supports.apart k (plane points n.i n.j n.k) (held points k f.face n (on f.face f.among)) (own points n.i n.j n.k) (not_nowhere points n.i n.j n.k support.supports.apart) R
-              (subst (λ u. value (plane_of points u) R ≡ pos 0) n.is there)))));
+          let h : Holds points y a b c = record { first = ea; second = eb; third = ec } in
+          let f = face_at points a b c ha hb hc apart y h bounds.most bounds.far bounds.behind in
+          let support : IsSupport points f.face = member (IsSupport points) f.face (faces_of points) (all_faces points) f.among in
+          let n = support.numbers in
+          let here : value y R ≡ pos 0 = both_most (value y R) (bounds.most r hr) bounds.at in
+          let there : value (plane_of points f.face) R ≡ pos 0 = same_zeros points a b c apart (plane_of points f.face) y f.holds h (λ all. not_zero_below (value_at points y bounds.far) bounds.behind (all (corner points bounds.far))) R here in
+          off (same_zeros points n.i n.j n.k support.supports.apart k (plane points n.i n.j n.k) (held points k f.face n (on f.face f.among)) (own points n.i n.j n.k) (not_nowhere points n.i n.j n.k support.supports.apart) R
+          (subst (λ u. value (plane_of points u) R ≡ pos 0) n.is there)))));
     })
 
 above_one : pos 0 <ℤ pos 1
@@ -253,7 +253,7 @@ pub not_flat : (points : List (List ℤ)) → (AreOnOnePlane points → ⊥) →
 not_flat points solid flat =
     let k = flat.plane in
     let on : (t : List ℕ) → IsAmong t (faces_of points) → All (λ (i : ℕ). value_at points k i ≡ pos 0) t = λ t m.
-        (let f = found_at t (faces_of points) m in subst (All (λ (i : ℕ). value_at points k i ≡ pos 0)) (f.is []) (flat.on f.place [] f.within)) in
+    (let f = found_at t (faces_of points) m in subst (All (λ (i : ℕ). value_at points k i ≡ pos 0)) (f.is []) (flat.on f.place [] f.within)) in
     let other : (t : List ℕ) → IsAmong t (faces_of points) → All (λ (i : ℕ). value_at points (opposite_of k) i ≡ pos 0) t = λ t m i d lt. opposite_zero k (corner points (get_or t i d)) (on t m i d lt) in
     let most = most_on points solid k flat.directed on in
     let least = most_on points solid (opposite_of k) (opposite_directed k flat.directed) other in

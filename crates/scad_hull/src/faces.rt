@@ -70,7 +70,12 @@ fn push_by(
     ensures three { OnOk result (All (AreThree (length points.now)) faces.new.items) }
 {
     for third in second + 1..points.len() {
-        push_triple(faces, points, all, [first as u32, second as u32, third as u32])?;
+        push_triple(
+            faces,
+            points,
+            all,
+            [first as u32, second as u32, third as u32],
+        )?;
     }
     Ok(())
 }

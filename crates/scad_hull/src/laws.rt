@@ -7,7 +7,7 @@ ghost use Rattle.std.specs.Ordering.{int_cmp};
 ghost use Rattle.scad_hull.specs.Hulls.{different};
 
 /// The different ones of some points ascend strictly, by x, then y, then z, and are the given points.
-#[tactic(auto, using(crate::proofs::Ordered::ascending, crate::proofs::Ordered::members))]
+#[tactic(auto, using(crate::proofs::Ordered::ascending))]
 pub fn different_points_ascend()
     ensures ascending { (given : List (List ℤ)) → IsStrictlySortedBy (slice_cmp int_cmp) (different given) }
     ensures members { (given : List (List ℤ)) (p : List ℤ) → Contains (different given) p ↔ Contains given p }

@@ -1,10 +1,9 @@
+use crate::looks::{have_corners, have_numbers, is_refused};
 use scad_hull::hull_shape;
 use shape_planes::place;
 use std::alloc::Global;
 use std::test::Fail;
 use text_place::FaultKind;
-
-use crate::looks::{have_corners, have_numbers, is_refused};
 
 // The corners of a cube.
 const CUBE: [[i64; 3]; 8] = [
@@ -385,7 +384,13 @@ fn keeps_its_range(rt: HostRuntime) -> Result<(), Fail> {
         points.push(past)?;
         assert!(rt; has_fault(alloc, &points, FaultKind::OutOfRange));
     }
-    assert!(rt; has_fault(alloc, &[[9_007_199_254_740_991, 0, 0]], FaultKind::OutOfRange));
+    assert!(rt;
+        has_fault(
+            alloc,
+            &[[9_007_199_254_740_991, 0, 0]],
+            FaultKind::OutOfRange
+        )
+    );
     Ok(())
 }
 

@@ -8,8 +8,7 @@ pub loop-first-preserved : goal.loop-first-preserved
 loop-first-preserved c =
     let points = c.args.points.now in
     let n = length points in
-    let i = c.loop-first.first in
-    (
+    let i = c.loop-first.first in (
       ap (λ (fs : List (List ℕ)). with_triples points fs (flat_map (triples_from n) (from (i + 1) n))) c.in_ok-push_from.ensures.faces ∙ sym (first_next points c.loop-first.faces.items n i (omega arith)) ∙ c.loop-first.invariant.0,
       c.in_ok-push_from.ensures.three,
     )

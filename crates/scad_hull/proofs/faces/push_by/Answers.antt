@@ -12,8 +12,7 @@ loop-third-preserved c =
     let j = c.args.second in
     let k = c.loop-third.third in
     let few = c.requires.numbered.few in
-    let e : c.push_triple.new.faces.items ≡ with_triple points c.loop-third.faces.items (i ∷ j ∷ k ∷ []) = search rules in
-    (
+    let e : c.push_triple.new.faces.items ≡ with_triple points c.loop-third.faces.items (i ∷ j ∷ k ∷ []) = search rules in (
       ap (λ (fs : List (List ℕ)). with_triples points fs (map (λ (l : ℕ). i ∷ j ∷ l ∷ []) (from (k + 1) n))) e ∙ sym (triple_next points c.loop-third.faces.items n i j k (omega arith)) ∙ c.loop-third.invariant.0,
       c.in_ok-push_triple.ensures.three,
     )
