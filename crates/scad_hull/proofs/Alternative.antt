@@ -1,12 +1,12 @@
 -- Farkas' alternative, after Bartl: a vector is a combination of others with weights of at least 0, or a plane keeps it apart.
-use Rattle.std.proofs.Common.{◌≡◌, ◌⊎◌, inl, inr, List, [], ◌∷◌, length, map, refl, sym, ap, ap₂, ◌∙◌, arith, ℤ, pos, negsuc, ◌+ℤ◌, ◌-ℤ◌, ◌*ℤ◌, ◌<ℤ◌, ◌≤ℤ◌, suc, ℕ, zero}
+use Rattle.std.proofs.Common.{◌≡◌, ◌⊎◌, inl, inr, List, [], ◌∷◌, length, map, refl, sym, ap, ap₂, ◌∙◌, arith, ℤ, pos, negsuc, ◌+ℤ◌, ◌-ℤ◌, ◌*ℤ◌, ◌<ℤ◌, ◌≤ℤ◌, suc}
 use Rattle.std.specs.List.{AllByRecursion}
 use Rattle.plane_predicate.specs.Space.{Coefficients, Coordinates, value}
 use Rattle.plane_predicate.proofs.IntegerRing.{sums, mul_comm_ℤ, zero_mul, one_mul}
 use Rattle.plane_predicate.proofs.Polynomials.{var, num, plus, times, minus, ring}
 use Rattle.plane_predicate.proofs.Signs.{signs, pos_pos, least_least, least_most}
 use Rattle.plane_predicate.proofs.Vectors.{form, place, of_plane, of_point, valueP}
-use Rattle.scad_hull.specs.Combinations.{total, weighted}
+use Rattle.scad_hull.specs.Combinations.{weighted}
 
 -- s m - t n
 abbrev pub plane_less : ℤ → Coefficients → ℤ → Coefficients → Coefficients

@@ -1,11 +1,11 @@
 -- Faces that are found one after another are the supporting triples, of equal planes the first alone.
-use Rattle.std.proofs.Common.{◌≡◌, ◌⊎◌, inl, inr, Bool, true, false, not, cond, ◌&&◌, ◌||◌, ℕ, suc, zero, ◌+◌, ◌-◌, ◌<◌, ◌≤◌, ℤ, List, [], ◌∷◌, ◌++◌, length, map, filter, flat_map, fold, refl, sym, ap, ◌∙◌, subst, arith, true≢false, append-nil, append_assoc}
+use Rattle.std.proofs.Common.{◌≡◌, inl, inr, Bool, true, false, not, ◌&&◌, ◌||◌, ℕ, suc, zero, ◌+◌, ◌-◌, ◌<◌, ◌≤◌, ℤ, List, [], ◌∷◌, ◌++◌, length, map, filter, flat_map, fold, refl, sym, ap, ◌∙◌, arith, true≢false, append-nil, append_assoc}
 use Rattle.std.specs.List.{AllByRecursion, list_any, range_with_len}
 use Rattle.std.proofs.lemmas.Bool.{cases_Bool, cond-true, cond-false, and_from, and_left, and_right, or_left, or_right, or_cases, not_from_true, not_from_false}
 use Rattle.scad_hull.specs.Hulls.{faces_of, first_of_planes, from, is_supporting, shares_plane, triples, triples_by, triples_from}
 use Rattle.scad_hull.specs.Steps.{with_triple, with_triples}
-use Rattle.scad_hull.proofs.Supporting.{all_candidates, all_first, all_triples, support_of, through_both, IsSupport, IsTriple}
-use Rattle.scad_hull.proofs.Members.{all_append, all_filter, member, IsAmong}
+use Rattle.scad_hull.proofs.Supporting.{all_first, all_triples, support_of, through_both, IsSupport, IsTriple}
+use Rattle.scad_hull.proofs.Members.{all_filter}
 
 -- ---- lists
 pub fold_append : {A B : Type 0} (f : B → A → B) (a : B) (xs ys : List A) → fold f a (xs ++ ys) ≡ fold f (fold f a xs) ys

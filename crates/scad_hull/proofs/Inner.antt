@@ -1,18 +1,17 @@
 -- Inner combinations lie behind each plane that bounds the points, and what lies behind all supports is one.
-use Rattle.std.proofs.Common.{◌≡◌, ◌⊎◌, inl, inr, [], ◌∷◌, List, get_or, length, map, ◌<◌, refl, sym, ap, ap₂, ◌∙◌, arith, ℤ, pos, negsuc, ◌+ℤ◌, ◌-ℤ◌, ◌*ℤ◌, neg_ℤ, ◌<ℤ◌, ◌≤ℤ◌, ℕ, zero, suc, All}
+use Rattle.std.proofs.Common.{◌≡◌, inl, inr, [], ◌∷◌, List, get_or, length, map, ◌<◌, refl, sym, ap, ap₂, ◌∙◌, arith, ℤ, pos, negsuc, ◌+ℤ◌, ◌-ℤ◌, ◌*ℤ◌, neg_ℤ, ◌<ℤ◌, ◌≤ℤ◌, ℕ, zero, suc, All}
 use Rattle.std.specs.List.{AllByRecursion}
-use Rattle.std.proofs.lemmas.List.Elements.{All-from_recursion, All-head, All-tail, recursion_from_All}
+use Rattle.std.proofs.lemmas.List.Elements.{All-from_recursion, recursion_from_All}
 use Rattle.plane_predicate.specs.Space.{Coefficients, Coordinates, point_at, value, negative}
-use Rattle.plane_predicate.proofs.IntegerRing.{sums, mul_comm_ℤ, zero_mul, mul_neg_right}
+use Rattle.plane_predicate.proofs.IntegerRing.{sums, mul_neg_right}
 use Rattle.plane_predicate.proofs.Polynomials.{var, num, plus, times, minus, ring}
-use Rattle.plane_predicate.proofs.Signs.{signs, pos_pos, pos_neg, least_most, neg_cancel}
+use Rattle.plane_predicate.proofs.Signs.{signs, pos_neg, least_most, neg_cancel}
 use Rattle.plane_predicate.proofs.Vectors.{form, place, of_plane, of_point, valueP}
-use Rattle.shape_planes.specs.Shapes.{corner, value_at}
+use Rattle.shape_planes.specs.Shapes.{value_at}
 use Rattle.scad_hull.specs.Combinations.{total, weighted, IsInnerCombination}
 use Rattle.scad_hull.specs.Hulls.{AreOnOnePlane}
 use Rattle.scad_hull.proofs.Alternative.{alternative, AreLeast, IsApart, IsCombination, axis, at_x, at_y, at_z, at_w, weighted_most}
 use Rattle.scad_hull.proofs.Supports.{HasNoSupport, some_support}
-use Rattle.scad_hull.proofs.Turns.{Bounds}
 
 -- the value of a plane at each point
 abbrev pub values : Coefficients → List (List ℤ) → List ℤ

@@ -1,8 +1,8 @@
 -- Points on one line, and the planes through three points.
-use Rattle.std.proofs.Common.{◌≡◌, ◌⊎◌, inl, inr, [], ◌∷◌, List, get_or, length, ◌<◌, ◌+◌, refl, sym, ap, ◌∙◌, subst, arith, ℤ, pos, negsuc, ◌+ℤ◌, ◌-ℤ◌, ◌*ℤ◌, ◌<ℤ◌, ◌≤ℤ◌, ℕ, zero, suc, unsigned_abs}
+use Rattle.std.proofs.Common.{◌≡◌, ◌⊎◌, inl, inr, [], ◌∷◌, List, get_or, length, ◌<◌, ◌+◌, refl, sym, ◌∙◌, subst, arith, ℤ, pos, negsuc, ◌+ℤ◌, ◌-ℤ◌, ◌*ℤ◌, ℕ, zero, suc, unsigned_abs}
 use Rattle.std.proofs.lemmas.List.{get_or_default}
 use Rattle.plane_predicate.specs.Space.{Coefficients, Coordinates, point_at, value, through, minor, AreCollinear}
-use Rattle.plane_predicate.proofs.IntegerRing.{sums, mul_comm_ℤ, zero_mul}
+use Rattle.plane_predicate.proofs.IntegerRing.{sums}
 use Rattle.plane_predicate.proofs.Polynomials.{var, num, plus, times, minus, ring}
 use Rattle.plane_predicate.proofs.Vectors.{minorP, valueP}
 use Rattle.shape_planes.specs.Shapes.{corner, value_at}

@@ -1,12 +1,12 @@
 -- What the tests and loops of the code say, as the definitions say it.
-use Rattle.std.proofs.Common.{◌≡◌, ◌⊎◌, inl, inr, Bool, true, false, not, ◌&&◌, ◌||◌, ℕ, zero, suc, ◌+◌, ◌-◌, ◌<◌, ◌≤◌, ℤ, pos, ◌<ℤ◌, ◌≤ℤ◌, int_eq, int_cmp, ◌↔◌, cond, fold, Ordering, Less, Equal, Greater, List, [], ◌∷◌, ◌++◌, length, get_or, take, unsigned_abs, refl, sym, ap, ◌∙◌, subst, arith, All, Any, true≢false}
+use Rattle.std.proofs.Common.{◌≡◌, Bool, true, false, not, ◌&&◌, ◌||◌, ℕ, zero, suc, ◌+◌, ◌-◌, ◌<◌, ◌≤◌, ℤ, pos, ◌<ℤ◌, ◌≤ℤ◌, int_eq, int_cmp, ◌↔◌, fold, Ordering, Less, Equal, Greater, List, [], ◌∷◌, ◌++◌, length, get_or, take, unsigned_abs, refl, sym, ap, ◌∙◌, subst, arith, All, Any, true≢false}
 use Rattle.std.specs.Bool.{OnTrue, OnFalse}
 use Rattle.std.specs.List.{AllByRecursion, list_all, list_any, range_with_len}
-use Rattle.std.proofs.lemmas.Bool.{cases_Bool, cond-true, cond-false, and_from, and_parts, and_left, and_right, false_from_ne_true, or_left, or_right, or_from, or_parts}
+use Rattle.std.proofs.lemmas.Bool.{cond-true, cond-false, and_from, and_parts, and_left, and_right, false_from_ne_true, or_left, or_right, or_from, or_parts}
 use Rattle.std.proofs.lemmas.Bool.Decides.{Decides-int_eq}
 use Rattle.std.proofs.lemmas.List.{get_or_default, take_all, take_more}
 use Rattle.std.proofs.lemmas.List.Elements.{All-from_recursion, recursion_from_All}
-use Rattle.plane_predicate.specs.Space.{Coefficients, Coordinates, point_at, value, opposite_of, through, AreCollinear}
+use Rattle.plane_predicate.specs.Space.{Coefficients, Coordinates, point_at, value, opposite_of, AreCollinear}
 use Rattle.plane_predicate.proofs.IntegerRing.{sums}
 use Rattle.shape_planes.specs.Shapes.{corner, value_at, HasTriangle, IsInRange, IsInside, MakesShape}
 use Rattle.shape_planes.specs.Sizes.{IsOnGrid}
@@ -18,11 +18,11 @@ use Rattle.shape_planes.proofs.OnePlane.{nowhere}
 use Rattle.scad_hull.specs.Hulls.{different, faces_of, from, hull_of, put, has_direction, has_none_ahead, is_supporting, plane_of, shares_plane, AreOnOnePlane}
 use Rattle.scad_hull.specs.Combinations.{IsInnerCombination}
 use Rattle.scad_hull.specs.Refusals.{AreInRange}
-use Rattle.scad_hull.specs.Steps.{with_triple, AreNumbered, AreThree}
-use Rattle.scad_hull.proofs.Lines.{collinear_by, on_one_plane, plane, value_default, with_direction, zero_by}
+use Rattle.scad_hull.specs.Steps.{with_triple, AreNumbered}
+use Rattle.scad_hull.proofs.Lines.{collinear_by, on_one_plane, plane, with_direction}
 use Rattle.scad_hull.proofs.Members.{all_from, all_weaker, IsWithin}
 use Rattle.scad_hull.proofs.Solids.{inside_where_combined, makes_shape}
-use Rattle.scad_hull.proofs.Supporting.{crossed, not_nowhere, own, same_zeros}
+use Rattle.scad_hull.proofs.Supporting.{own, same_zeros}
 use Rattle.scad_hull.proofs.Tests.{has_none, none_ahead, Holds}
 
 -- ---- all numbers of the points

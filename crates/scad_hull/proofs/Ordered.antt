@@ -1,5 +1,5 @@
 -- The different points ascend strictly, and are the given ones.
-use Rattle.std.proofs.Common.{◌≡◌, ◌⊎◌, ◌↔◌, inl, inr, ℕ, zero, suc, ◌<◌, ◌+◌, ℤ, int_cmp, List, [], ◌∷◌, length, get_or, fold, Contains, refl, sym, ap, ap₂, ◌∙◌, subst, arith, Less, Equal, Greater, Ordering, is_eq}
+use Rattle.std.proofs.Common.{◌≡◌, ◌⊎◌, ◌↔◌, inl, inr, ℕ, zero, suc, ◌<◌, ℤ, int_cmp, List, [], ◌∷◌, length, get_or, fold, Contains, refl, sym, ap, ap₂, ◌∙◌, arith, Less, Equal, Greater, Ordering, is_eq}
 use Rattle.std.specs.Cmp.{IsTotalOrder, int_cmp_total}
 use Rattle.std.specs.Cmp.Lexicographic.{lists_total, slice_cmp}
 use Rattle.std.specs.List.{AllByRecursion}

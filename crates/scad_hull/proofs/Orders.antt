@@ -1,7 +1,7 @@
 -- Points put into their places.
-use Rattle.std.proofs.Common.{◌≡◌, ℕ, zero, suc, ◌+◌, ◌<◌, ◌≤◌, ℤ, int_cmp, List, [], ◌∷◌, ◌++◌, length, get_or, take, drop, fold, insert, refl, sym, ap, ◌∙◌, subst, arith, append_assoc, Less, Equal, Greater, Ordering, take-append-drop}
+use Rattle.std.proofs.Common.{◌≡◌, ℕ, suc, ◌+◌, ◌<◌, ◌≤◌, ℤ, int_cmp, List, [], ◌∷◌, ◌++◌, length, get_or, take, drop, fold, insert, refl, sym, ap, ◌∙◌, subst, arith, append_assoc, Less, Equal, Greater, Ordering, take-append-drop}
 use Rattle.std.specs.Cmp.Lexicographic.{slice_cmp}
-use Rattle.std.proofs.lemmas.List.{drop_all, drop_more, take_all, take_more}
+use Rattle.std.proofs.lemmas.List.{drop_all, drop_more, take_more}
 use Rattle.scad_hull.specs.Hulls.{different, put}
 use Rattle.scad_hull.proofs.Found.{fold_append}
 

@@ -1,11 +1,9 @@
 -- Hulls that are written out.
-use Rattle.std.proofs.Common.{◌≡◌, ℕ, List, [], ◌∷◌, ℤ, pos, negsuc, ◌<ℤ◌, refl, arith, All}
+use Rattle.std.proofs.Common.{◌≡◌, ℕ, List, [], ◌∷◌, ℤ, pos, negsuc, ◌<ℤ◌, refl, arith}
 use Rattle.std.proofs.lemmas.List.Elements.{All-from_recursion}
-use Rattle.plane_predicate.specs.Space.{Coordinates}
 use Rattle.plane_predicate.proofs.IntegerRing.{sums}
-use Rattle.shape_planes.specs.Shapes.{Mesh}
 use Rattle.scad_hull.specs.Combinations.{IsInnerCombination}
-use Rattle.scad_hull.specs.Hulls.{different, faces_of, hull_of}
+use Rattle.scad_hull.specs.Hulls.{different, faces_of}
 
 abbrev at : ℕ → ℕ → ℕ → List ℤ
 at x y z = pos x ∷ pos y ∷ pos z ∷ []

@@ -1,24 +1,23 @@
 -- The solid behind the faces of a hull.
-use Rattle.std.proofs.Common.{◌≡◌, ◌⊎◌, ◌↔◌, inl, inr, List, [], ◌∷◌, length, get_or, refl, sym, ap, ◌∙◌, subst, arith, ℤ, pos, ◌+ℤ◌, ◌-ℤ◌, ◌*ℤ◌, ◌<ℤ◌, ◌≤ℤ◌, ℕ, zero, suc, ◌+◌, ◌<◌, All, unsigned_abs}
-use Rattle.std.specs.List.{AllByRecursion}
+use Rattle.std.proofs.Common.{◌≡◌, ◌↔◌, inl, inr, List, [], ◌∷◌, length, get_or, refl, sym, ap, ◌∙◌, subst, arith, ℤ, pos, ◌+ℤ◌, ◌-ℤ◌, ◌*ℤ◌, ◌<ℤ◌, ◌≤ℤ◌, ℕ, ◌+◌, ◌<◌, All, unsigned_abs}
 use Rattle.std.proofs.lemmas.Bool.{cases_order}
 use Rattle.std.proofs.lemmas.List.{get_or_default}
 use Rattle.std.proofs.lemmas.List.Elements.{All-from_recursion}
-use Rattle.plane_predicate.specs.Space.{Coefficients, Coordinates, point_at, value, minor, through, opposite_of, AreCollinear}
+use Rattle.plane_predicate.specs.Space.{Coefficients, Coordinates, point_at, value, minor, opposite_of, AreCollinear}
 use Rattle.plane_predicate.proofs.IntegerRing.{sums, mul_comm_ℤ, zero_mul}
 use Rattle.plane_predicate.proofs.Opposites.{size_of_negative}
 use Rattle.plane_predicate.proofs.Polynomials.{var, num, plus, times, minus, ring}
 use Rattle.plane_predicate.proofs.Signs.{signs, pos_neg, neg_neg, most_most, most_least, neg_pos}
-use Rattle.plane_predicate.proofs.Vectors.{minorP, valueP, value-opposite}
+use Rattle.plane_predicate.proofs.Vectors.{minorP, value-opposite}
 use Rattle.shape_planes.specs.Shapes.{Mesh, corner, value_at, HasFreeSide, HasTriangle, IsBehindFace, IsFacePlane, IsInRange, IsInside, IsOnOnePlane, MakesShape}
 use Rattle.shape_planes.proofs.Moves.{cancelled}
 use Rattle.scad_hull.specs.Combinations.{IsInnerCombination}
 use Rattle.scad_hull.specs.Hulls.{faces_of, plane_of, AreOnOnePlane}
 use Rattle.scad_hull.proofs.Supporting.{all_faces, crossed, has_face, not_nowhere, own, same_zeros, IsSupport, IsTriple}
 use Rattle.scad_hull.proofs.Inner.{behind_each, inner}
-use Rattle.scad_hull.proofs.Lines.{cyclic, plane, some_off, swapped, value_default, with_direction, zero_by}
+use Rattle.scad_hull.proofs.Lines.{cyclic, plane, swapped, value_default, with_direction, zero_by}
 use Rattle.scad_hull.proofs.Members.{IsAmong, found_at, member}
-use Rattle.scad_hull.proofs.Supports.{HasNoSupport, some_support}
+use Rattle.scad_hull.proofs.Supports.{some_support}
 use Rattle.scad_hull.proofs.Tests.{Holds, is_support, shared, Supports, triple}
 use Rattle.scad_hull.proofs.Turns.{both_signs, nearest, Bounds}
 

@@ -1,10 +1,10 @@
 -- The faces of a hull: each is a supporting triple, and each supporting triple has its plane among them.
-use Rattle.std.proofs.Common.{◌≡◌, ◌⊎◌, inl, inr, Bool, true, false, not, List, [], ◌∷◌, length, get_or, filter, refl, sym, ap, ◌∙◌, subst, arith, ℤ, pos, ◌*ℤ◌, ◌<ℤ◌, ℕ, ◌+◌, ◌<◌, ◌≤◌}
+use Rattle.std.proofs.Common.{◌≡◌, inl, inr, true, not, List, [], ◌∷◌, length, filter, refl, sym, ap, ◌∙◌, subst, arith, ℤ, pos, ◌*ℤ◌, ℕ, ◌+◌, ◌<◌}
 use Rattle.std.specs.List.{AllByRecursion}
 use Rattle.std.proofs.lemmas.Bool.{cases_Bool, not_from_false}
 use Rattle.plane_predicate.specs.Space.{Coefficients, Coordinates, value, AreCollinear}
 use Rattle.plane_predicate.proofs.IntegerRing.{mul_comm_ℤ, zero_mul}
-use Rattle.shape_planes.specs.Shapes.{corner, value_at}
+use Rattle.shape_planes.specs.Shapes.{corner}
 use Rattle.shape_planes.proofs.Moves.{cancelled}
 use Rattle.shape_planes.proofs.OnePlane.{nowhere, two_planes}
 use Rattle.scad_hull.specs.Hulls.{faces_of, first_of_planes, from, is_supporting, plane_of, shares_plane, triples, triples_by, triples_from}

@@ -1,5 +1,5 @@
 -- From a plane that no point is ahead of to one that holds three of the points, which aren't on one line.
-use Rattle.std.proofs.Common.{◌≡◌, inl, inr, List, length, ◌<◌, ℕ, ℤ, pos, ◌<ℤ◌, arith}
+use Rattle.std.proofs.Common.{◌≡◌, inl, inr, List, length, ◌<◌, ℕ, ℤ, pos}
 use Rattle.plane_predicate.specs.Space.{Coefficients, Coordinates, AreCollinear}
 use Rattle.plane_predicate.proofs.Signs.{signs}
 use Rattle.shape_planes.specs.Shapes.{corner, value_at}

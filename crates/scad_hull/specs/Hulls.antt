@@ -1,6 +1,6 @@
 -- Hulls of points: the points of a hull, and its faces.
-use Rattle.std.specs.Prelude.{◌≡◌, ℕ, ◌+◌, ◌-◌, ◌<◌, Bool, not, ◌&&◌, ◌||◌, ℤ, pos, ◌≤ℤ◌, int_le, List, [], ◌∷◌, get_or, length, map, filter, flat_map, fold, All, unsigned_abs}
-use Rattle.std.specs.List.{list_all, list_any, range_with_len}
+use Rattle.std.specs.Prelude.{◌≡◌, ℕ, ◌+◌, ◌-◌, ◌<◌, Bool, not, ◌&&◌, ◌||◌, ℤ, pos, int_le, List, [], ◌∷◌, get_or, length, map, filter, flat_map, fold, All, unsigned_abs}
+use Rattle.std.specs.List.{list_all, range_with_len}
 use Rattle.std.specs.Ordering.{int_eq, int_cmp}
 use Rattle.std.specs.Cmp.Lexicographic.{slice_cmp}
 use Rattle.std.specs.declared.cmp.Ordering.TheVariants.{Less, Equal, Greater}

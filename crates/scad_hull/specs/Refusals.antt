@@ -1,5 +1,5 @@
 -- When points have no hull.
-use Rattle.std.specs.Prelude.{ℕ, ◌<◌, ◌≤◌, ℤ, List, length, All, ⊤}
+use Rattle.std.specs.Prelude.{◌<◌, ◌≤◌, ℤ, List, length, All, ⊤}
 use Rattle.text_place.specs.declared.fault.FaultKind.TheVariants.{LongList, FewPoints, OutOfRange}
 use Rattle.plane_predicate.specs.Space.{point_at}
 use Rattle.shape_planes.specs.Shapes.{IsInRange}

@@ -1,5 +1,5 @@
 -- Faces that are found one after another.
-use Rattle.std.specs.Prelude.{◌≡◌, ℕ, ◌+◌, ◌<◌, ◌≤◌, Bool, not, cond, ◌&&◌, ℤ, List, [], ◌∷◌, ◌++◌, length, fold, All}
+use Rattle.std.specs.Prelude.{◌≡◌, ℕ, ◌<◌, ◌≤◌, not, cond, ◌&&◌, ℤ, List, [], ◌∷◌, ◌++◌, length, fold, All}
 use Rattle.std.specs.List.{list_any}
 use Rattle.plane_predicate.specs.Space.{point_at}
 use Rattle.shape_planes.specs.Sizes.{IsOnGrid}

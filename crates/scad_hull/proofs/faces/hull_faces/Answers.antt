@@ -1,4 +1,4 @@
-use Rattle.std.proofs.Common.{◌≡◌, ◌∙◌, ◌+◌, [], ap, sym, List, ℕ, flat_map, length, arith}
+use Rattle.std.proofs.Common.{◌∙◌, ◌+◌, ap, sym, List, ℕ, flat_map, length, arith}
 use Rattle.scad_hull.specs.Hulls.{from, triples_from}
 use Rattle.scad_hull.specs.Steps.{with_triples}
 use Rattle.scad_hull.proofs.Found.{all_faces_are, first_next, from_done}

@@ -1,4 +1,4 @@
-use Rattle.std.proofs.Common.{◌≡◌, ◌∙◌, ◌+◌, ap, sym, List, ℕ, flat_map, length, arith}
+use Rattle.std.proofs.Common.{◌∙◌, ◌+◌, ap, sym, List, ℕ, flat_map, length, arith}
 use Rattle.scad_hull.specs.Hulls.{from, triples_by}
 use Rattle.scad_hull.specs.Steps.{with_triples}
 use Rattle.scad_hull.proofs.Found.{pair_next}

@@ -1,4 +1,4 @@
-use Rattle.std.proofs.Common.{◌≡◌, ◌∙◌, ◌∷◌, ◌++◌, [], ap, sym, subst, List, ℕ, All, length}
+use Rattle.std.proofs.Common.{◌∙◌, ap, sym, subst, All, length}
 use Rattle.std.specs.List.{list_any}
 use Rattle.std.proofs.lemmas.List.Elements.{All-push}
 use Rattle.scad_hull.specs.Hulls.{shares_plane}
