@@ -5,8 +5,9 @@ use Rattle.plane_predicate.specs.declared.unit.Unit.{Unit as LengthUnit}
 use Rattle.plane_predicate.specs.Space.{point_at}
 use Rattle.plane_predicate.specs.Units.{steps_of}
 use Rattle.plane_predicate.proofs.Sizes.{size_product}
-use Rattle.polyhedra.specs.Checks.{grid_steps, in_grid_steps, IsInRange}
-use Rattle.polyhedra.specs.Sizes.{IsOnGrid}
+use Rattle.polyhedra.specs.Checks.{grid_steps, in_grid_steps}
+use Rattle.shape_planes.specs.Shapes.{IsInRange}
+use Rattle.shape_planes.specs.Sizes.{IsOnGrid}
 use Rattle.polyhedra.proofs.Steps.{steps_size}
 
 step_size : (unit : LengthUnit) (x : ℤ) → unsigned_abs x ≤ 65535 → unsigned_abs (steps_of unit *ℤ x) ≤ 131070

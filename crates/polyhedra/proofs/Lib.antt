@@ -1,5 +1,4 @@
 pub mod Steps
-pub mod Triangles
 pub mod Searches
 pub mod Planes
 pub mod Rounds

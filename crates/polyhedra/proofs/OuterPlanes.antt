@@ -7,11 +7,11 @@ use Rattle.plane_predicate.proofs.Opposites.{size_of_negative}
 use Rattle.plane_predicate.proofs.Polynomials.{var, num, plus, times, minus, ring}
 use Rattle.plane_predicate.proofs.Signs.{signs, neg_pos, most_most}
 use Rattle.plane_predicate.proofs.Vectors.{value-opposite}
-use Rattle.shape_planes.specs.Shapes.{Mesh, corner, value_at, IsFacePlane}
+use Rattle.shape_planes.specs.Shapes.{Mesh, corner, value_at, IsFacePlane, IsOnOnePlane}
 use Rattle.shape_planes.proofs.FacePlanes.{found}
 use Rattle.polyhedra.specs.declared.ways.Way.{Way}
 use Rattle.polyhedra.specs.Bounding.{Bounds, IsBounded}
-use Rattle.polyhedra.specs.Checks.{HasOuterPlane, IsFlat, IsOnOnePlane}
+use Rattle.polyhedra.specs.Checks.{HasOuterPlane, IsFlat}
 use Rattle.polyhedra.specs.Spanning.{SpansFace}
 use Rattle.polyhedra.specs.Ways.{ways_of, IsClockwise}
 use Rattle.polyhedra.proofs.Planes.{flat_on, is_zero_or_not, proportion, spanned_directed, spanned_holds}

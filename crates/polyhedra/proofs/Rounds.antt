@@ -6,7 +6,7 @@ use Rattle.std.proofs.lemmas.List.Concat.{flat_map-append}
 use Rattle.std.proofs.lemmas.List.Elements.{All-append, All-cons, All-nil}
 use Rattle.plane_predicate.specs.Space.{point_at}
 use Rattle.polyhedra.specs.declared.ways.Way.{Way}
-use Rattle.polyhedra.specs.Sizes.{IsOnGrid}
+use Rattle.shape_planes.specs.Sizes.{IsOnGrid}
 use Rattle.polyhedra.specs.Ways.{after, up_to, way_at, ways_of, IsWayOnGrid}
 
 flat_next : {A : Type 0} (f : ℕ → List A) (n : ℕ) → flat_map f (up_to (suc n)) ≡ flat_map f (up_to n) ++ f n

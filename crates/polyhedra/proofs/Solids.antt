@@ -12,7 +12,7 @@ use Rattle.plane_predicate.specs.declared.unit.Unit.{Unit as LengthUnit}
 use Rattle.polyhedra.specs.Polyhedra.{mesh_of, IsPolyhedron}
 use Rattle.polyhedra.proofs.Grids.{are_on_grid}
 use Rattle.polyhedra.specs.Checks.{grid_steps, AreThere, IsConvex, IsFlat}
-use Rattle.polyhedra.specs.Sizes.{IsOnGrid}
+use Rattle.shape_planes.specs.Sizes.{IsOnGrid}
 use Rattle.polyhedra.specs.Spanning.{SpansFace}
 use Rattle.polyhedra.proofs.Planes.{no_size, proportion, spanned, spanned_directed, spanned_holds}
 

@@ -1,10 +1,10 @@
 -- What is asked of the points and faces of a polyhedron.
 use Rattle.std.specs.Prelude.{◌≡◌, ℕ, ◌+◌, ◌<◌, ◌≤◌, ℤ, pos, unsigned_abs, List, length, map, All}
 use Rattle.plane_predicate.specs.declared.unit.Unit.{Unit as LengthUnit}
-use Rattle.plane_predicate.specs.Space.{Coefficients, Coordinates, point_at}
+use Rattle.plane_predicate.specs.Space.{Coefficients, point_at}
 use Rattle.plane_predicate.specs.InUnits.{in_steps}
 use Rattle.int_transform.specs.Maps.{coordinates}
-use Rattle.shape_planes.specs.Shapes.{Mesh, value_at, HasTriangle, IsFacePlane}
+use Rattle.shape_planes.specs.Shapes.{Mesh, value_at, HasTriangle, IsFacePlane, IsOnOnePlane}
 use Rattle.polyhedra.specs.Ways.{all_ways, AreMetBothWays, IsClockwise}
 
 -- at most 128 points, and at most 64 faces of at most 64 corners each
@@ -21,12 +21,6 @@ pub record HasEnoughCorners (faces : List (List ℕ)) : Type 0 where
 -- each corner of a face is the number of one of so many points, from 0
 abbrev pub AreThere : ℕ → List (List ℕ) → Type 0
 AreThere points faces = All (λ f. All (λ i. i < points) f) faces
-
--- coordinates at most 65,535 in size
-pub record IsInRange (p : Coordinates) : Type 0 where
-  pub x_size : unsigned_abs p.x ≤ 65535
-  pub y_size : unsigned_abs p.y ≤ 65535
-  pub z_size : unsigned_abs p.z ≤ 65535
 
 -- a point that is written in units, in grid steps
 abbrev pub grid_steps : LengthUnit → List ℤ → List ℤ
@@ -51,12 +45,6 @@ pub record HasOuterPlane (mesh : Mesh) (face : List ℕ) : Type 0 where
   pub plane : Coefficients
   pub is : IsFacePlane mesh face plane
   pub clockwise : IsClockwise mesh.points face plane
-
--- all points of the faces are on one plane
-pub record IsOnOnePlane (mesh : Mesh) : Type 0 where
-  pub plane : Coefficients
-  pub directed : 0 < unsigned_abs plane.a + unsigned_abs plane.b + unsigned_abs plane.c
-  pub on : All (λ f. All (λ i. value_at mesh.points plane i ≡ pos 0) f) mesh.faces
 
 -- each face is convex, with no point of a face ahead of it, and not all points of the faces are on one plane
 pub record IsConvex (mesh : Mesh) : Type 0 where

@@ -1,4 +1,3 @@
-pub mod Sizes
 pub mod Ways
 pub mod Checks
 pub mod Spanning

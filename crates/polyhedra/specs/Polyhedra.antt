@@ -6,8 +6,8 @@ use Rattle.plane_predicate.specs.declared.unit.Unit.{Unit as LengthUnit}
 use Rattle.plane_predicate.specs.Space.{point_at}
 use Rattle.shape_planes.specs.declared.stop.ShapeStop.{ShapeStop}
 use Rattle.shape_planes.specs.declared.stop.ShapeStop.TheVariants.{Kind, NoMemory}
-use Rattle.shape_planes.specs.Shapes.{Mesh}
-use Rattle.polyhedra.specs.Checks.{in_grid_steps, AreThere, HasEnoughCorners, IsClosed, IsConvex, IsFlat, IsInRange, IsWithinLimits}
+use Rattle.shape_planes.specs.Shapes.{Mesh, IsInRange}
+use Rattle.polyhedra.specs.Checks.{in_grid_steps, AreThere, HasEnoughCorners, IsClosed, IsConvex, IsFlat, IsWithinLimits}
 
 -- the points in grid steps, and the faces as they are listed
 abbrev pub mesh_of : LengthUnit → List (List ℤ) → List (List ℕ) → Mesh

@@ -5,7 +5,7 @@ use Rattle.std.specs.Ordering.{int_eq}
 use Rattle.std.specs.Cmp.Lexicographic.{pointwise}
 use Rattle.plane_predicate.specs.Space.{Coefficients, point_at, inner, through}
 use Rattle.shape_planes.specs.Shapes.{corner}
-use Rattle.polyhedra.specs.Sizes.{IsOnGrid}
+use Rattle.shape_planes.specs.Sizes.{IsOnGrid}
 use Rattle.polyhedra.specs.declared.ways.Way.{Way}
 
 -- the way back

@@ -5,14 +5,16 @@ ghost use Rattle.std.specs.Bool.{OnTrue, OnFalse};
 ghost use Rattle.plane_predicate.specs.Space.{point_at, opposite_of};
 ghost use Rattle.shape_planes.specs.Shapes.{value_at};
 ghost use Rattle.polyhedra.specs.Bounding.{Bounds, IsBounded};
-ghost use Rattle.polyhedra.specs.Checks.{AreThere, HasOuterPlane, IsFlat, IsOnOnePlane};
-ghost use Rattle.polyhedra.specs.Sizes.{IsOnGrid};
+ghost use Rattle.shape_planes.specs.Shapes.{IsOnOnePlane};
+ghost use Rattle.shape_planes.specs.Sizes.{IsOnGrid};
+ghost use Rattle.polyhedra.specs.Checks.{AreThere, HasOuterPlane, IsFlat};
 ghost use Rattle.polyhedra.specs.Spanning.{SpansFace};
 ghost use Rattle.polyhedra.specs.Ways.{HasNoneLeft, IsWayOnGrid, ways_of};
 
-use crate::facing::{FacePlane, is_ahead, opposite, turns_left};
+use crate::facing::turns_left;
 use crate::ways::Way;
-use shape_planes::Corners;
+use shape_planes::facing::{FacePlane, opposite};
+use shape_planes::{Corners, has_ahead};
 
 /// Whether a face is convex with no point of a face ahead of it and some behind, by the plane that
 /// three of its corners span.
@@ -66,36 +68,6 @@ fn bounds(
         return false;
     }
     is_clockwise(points, face, ways, plane)
-}
-
-/// Whether some point of a face is strictly ahead of a plane.
-fn has_ahead(points: &[[i64; 3]], faces: &[Corners], plane: &FacePlane) -> bool
-    requires grid { All (λ p. IsOnGrid (point_at p)) points.now }
-    requires there { AreThere (length points.now) faces.now }
-    ensures some { OnTrue result (Any (λ f. Any (λ i. pos 0 <ℤ value_at points.now plane.now i) f) faces.now) }
-    ensures none { OnFalse result (All (λ f. All (λ i. value_at points.now plane.now i ≤ℤ pos 0) f) faces.now) }
-{
-    for face in faces {
-        if face_has_ahead(points, face.items(), plane) {
-            return true;
-        }
-    }
-    false
-}
-
-/// Whether some point of one face is strictly ahead of a plane.
-fn face_has_ahead(points: &[[i64; 3]], face: &[u32], plane: &FacePlane) -> bool
-    requires grid { All (λ p. IsOnGrid (point_at p)) points.now }
-    requires there { All (λ i. i < length points.now) face.now }
-    ensures some { OnTrue result (Any (λ i. pos 0 <ℤ value_at points.now plane.now i) face.now) }
-    ensures none { OnFalse result (All (λ i. value_at points.now plane.now i ≤ℤ pos 0) face.now) }
-{
-    for i in face {
-        if is_ahead(plane, points[*i as usize]) {
-            return true;
-        }
-    }
-    false
 }
 
 /// Whether no corner of a face is strictly to the left of some ways as seen from ahead of a plane.

@@ -3,8 +3,9 @@
 ghost use Rattle.std.specs.Prelude.{◌<◌, All, IfOk, length};
 ghost use Rattle.std.specs.Bool.{OnTrue, OnFalse};
 ghost use Rattle.plane_predicate.specs.Space.{point_at};
-ghost use Rattle.polyhedra.specs.Checks.{AreThere, HasOuterPlane, IsConvex, IsFlat, IsOnOnePlane};
-ghost use Rattle.polyhedra.specs.Sizes.{IsOnGrid};
+ghost use Rattle.shape_planes.specs.Shapes.{IsOnOnePlane};
+ghost use Rattle.shape_planes.specs.Sizes.{IsOnGrid};
+ghost use Rattle.polyhedra.specs.Checks.{AreThere, HasOuterPlane, IsConvex, IsFlat};
 ghost use Rattle.polyhedra.specs.Bounding.{IsBounded};
 
 use crate::bounding::is_bounded_by;

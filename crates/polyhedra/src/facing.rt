@@ -1,81 +1,11 @@
-//! Planes through points of a polyhedron, with numbers as wide as these need.
+//! The turns of ways as seen from ahead of a plane.
 
-ghost use Rattle.std.specs.Prelude.{◌≡◌, ◌≤◌, ◌*◌, ◌-ℤ◌, ◌*ℤ◌, ◌+ℤ◌, ◌<ℤ◌, ◌≤ℤ◌, pos, unsigned_abs};
+ghost use Rattle.std.specs.Prelude.{◌≡◌, ◌≤◌, ◌*◌, ◌*ℤ◌, ◌+ℤ◌, ◌<ℤ◌, ◌≤ℤ◌, pos, unsigned_abs};
 ghost use Rattle.std.specs.Bool.{OnTrue, OnFalse};
-ghost use Rattle.plane_predicate.specs.Space.{point_at, inner, minor, opposite_of, through, value};
-ghost use Rattle.polyhedra.specs.Sizes.{IsOnGrid};
+ghost use Rattle.plane_predicate.specs.Space.{point_at, inner, through};
+ghost use Rattle.shape_planes.specs.Sizes.{IsOnGrid};
 
-use std::marker::Model;
-
-/// The points with `a x + b y + c z = d`, where a point is behind the plane if the left side is
-/// smaller, and ahead of it if the left side is greater. Its numbers may have a common factor, and
-/// its direction may be 0.
-///
-/// It keeps the sizes of planes through points of a polyhedron in grid steps.
-#[derive(Clone, Copy)]
-pub struct FacePlane {
-    pub a: i64,
-    pub b: i64,
-    pub c: i64,
-    pub d: i64,
-}
-
-impl Model for FacePlane {
-    ghost use Rattle.plane_predicate.specs.Space.{Coefficients};
-    ghost use Rattle.polyhedra.specs.Sizes.{HasFaceSizes};
-
-    ghost Value = { Coefficients };
-
-    ghost view = { λ p. record { a = p.a; b = p.b; c = p.c; d = p.d } };
-
-    ghost inverse = { λ v. record { a = v.a; b = v.b; c = v.c; d = v.d } };
-
-    ghost invariant = { λ p. HasFaceSizes (record { a = p.a; b = p.b; c = p.c; d = p.d }) };
-}
-
-/// The plane through three points, with the direction of `(q - p) x (r - p)`.
-pub fn plane_through(p: [i64; 3], q: [i64; 3], r: [i64; 3]) -> FacePlane
-    requires p_grid { IsOnGrid (point_at p) }
-    requires q_grid { IsOnGrid (point_at q) }
-    requires r_grid { IsOnGrid (point_at r) }
-    ensures { result ≡ through (point_at p) (point_at q) (point_at r) }
-{
-    let a = minor_between(p[1], p[2], q[1], q[2], r[1], r[2]);
-    let b = minor_between(p[2], p[0], q[2], q[0], r[2], r[0]);
-    let c = minor_between(p[0], p[1], q[0], q[1], r[0], r[1]);
-    let d = offset(a, b, c, p[0], p[1], p[2]);
-    FacePlane { a, b, c, d }
-}
-
-/// The same points, seen from the other side.
-pub fn opposite(m: &FacePlane) -> FacePlane
-    ensures { result ≡ opposite_of m.now }
-{
-    FacePlane {
-        a: -m.a,
-        b: -m.b,
-        c: -m.c,
-        d: -m.d,
-    }
-}
-
-/// Whether a point is strictly ahead of a plane.
-pub fn is_ahead(m: &FacePlane, at: [i64; 3]) -> bool
-    requires { IsOnGrid (point_at at) }
-    ensures some { OnTrue result (pos 0 <ℤ value m.now (point_at at)) }
-    ensures none { OnFalse result (value m.now (point_at at) ≤ℤ pos 0) }
-{
-    value_at(m, at) > 0
-}
-
-/// Whether a plane goes through a point.
-pub fn goes_through(m: &FacePlane, at: [i64; 3]) -> bool
-    requires { IsOnGrid (point_at at) }
-    ensures on { OnTrue result (value m.now (point_at at) ≡ pos 0) }
-    ensures off { OnFalse result (value m.now (point_at at) ≡ pos 0 → ⊥) }
-{
-    value_at(m, at) == 0
-}
+use shape_planes::facing::{FacePlane, plane_through};
 
 /// Whether the way from `p` by `q` to `r` turns left as seen from ahead of a plane.
 pub fn turns_left(m: &FacePlane, p: [i64; 3], q: [i64; 3], r: [i64; 3]) -> bool
@@ -88,14 +18,6 @@ pub fn turns_left(m: &FacePlane, p: [i64; 3], q: [i64; 3], r: [i64; 3]) -> bool
     turn_at(m, p, q, r) > 0
 }
 
-/// The value of a plane at a point: above 0 where the point is ahead.
-fn value_at(m: &FacePlane, at: [i64; 3]) -> i64
-    requires { IsOnGrid (point_at at) }
-    ensures { result ≡ value m.now (point_at at) }
-{
-    offset(m.a, m.b, m.c, at[0], at[1], at[2]) - m.d
-}
-
 /// How the way from `p` by `q` to `r` turns as seen from ahead of a plane: above 0 where it turns
 /// left.
 fn turn_at(m: &FacePlane, p: [i64; 3], q: [i64; 3], r: [i64; 3]) -> i128
@@ -106,46 +28,6 @@ fn turn_at(m: &FacePlane, p: [i64; 3], q: [i64; 3], r: [i64; 3]) -> i128
 {
     let n = plane_through(p, q, r);
     directions_dot(m.a, m.b, m.c, n.a, n.b, n.c)
-}
-
-/// One part of the cross product `(q - p) x (r - p)`, from two coordinates of each point.
-fn minor_between(py: i64, pz: i64, qy: i64, qz: i64, ry: i64, rz: i64) -> i64
-    requires py_size { unsigned_abs py ≤ 131070 }
-    requires pz_size { unsigned_abs pz ≤ 131070 }
-    requires qy_size { unsigned_abs qy ≤ 131070 }
-    requires qz_size { unsigned_abs qz ≤ 131070 }
-    requires ry_size { unsigned_abs ry ≤ 131070 }
-    requires rz_size { unsigned_abs rz ≤ 131070 }
-    ensures value { result ≡ minor (qy -ℤ py) (qz -ℤ pz) (ry -ℤ py) (rz -ℤ pz) }
-    ensures size { unsigned_abs result ≤ 137434759200 }
-{
-    small_minor(qy - py, qz - pz, ry - py, rz - pz)
-}
-
-/// `a d - b c` of differences of coordinates.
-fn small_minor(a: i64, b: i64, c: i64, d: i64) -> i64
-    requires a_size { unsigned_abs a ≤ 262140 }
-    requires b_size { unsigned_abs b ≤ 262140 }
-    requires c_size { unsigned_abs c ≤ 262140 }
-    requires d_size { unsigned_abs d ≤ 262140 }
-    ensures value { result ≡ minor a b c d }
-    ensures size { unsigned_abs result ≤ 137434759200 }
-{
-    a * d - b * c
-}
-
-/// `a x + b y + c z` of a direction and a point.
-fn offset(a: i64, b: i64, c: i64, x: i64, y: i64, z: i64) -> i64
-    requires a_size { unsigned_abs a ≤ 137434759200 }
-    requires b_size { unsigned_abs b ≤ 137434759200 }
-    requires c_size { unsigned_abs c ≤ 137434759200 }
-    requires x_size { unsigned_abs x ≤ 131070 }
-    requires y_size { unsigned_abs y ≤ 131070 }
-    requires z_size { unsigned_abs z ≤ 131070 }
-    ensures value { result ≡ a *ℤ x +ℤ b *ℤ y +ℤ c *ℤ z }
-    ensures size { unsigned_abs result ≤ 54040721665032000 }
-{
-    a * x + b * y + c * z
 }
 
 /// `a x + b y + c z` of two directions.

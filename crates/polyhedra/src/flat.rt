@@ -4,12 +4,12 @@ ghost use Rattle.std.specs.Prelude.{◌≡◌, ◌<◌, pos, All, Any, length};
 ghost use Rattle.std.specs.Bool.{OnTrue, OnFalse};
 ghost use Rattle.plane_predicate.specs.Space.{point_at};
 ghost use Rattle.shape_planes.specs.Shapes.{value_at};
+ghost use Rattle.shape_planes.specs.Sizes.{IsOnGrid};
 ghost use Rattle.polyhedra.specs.Checks.{AreThere, IsFlat};
-ghost use Rattle.polyhedra.specs.Sizes.{IsOnGrid};
 
-use crate::facing::{FacePlane, goes_through};
 use crate::spanning::spanned;
 use shape_planes::Corners;
+use shape_planes::facing::{FacePlane, goes_through};
 
 /// Whether each face has three corners that are not on one line, and all its corners on one plane.
 pub fn are_flat(points: &[[i64; 3]], faces: &[Corners]) -> bool

@@ -3,17 +3,17 @@
 ghost use Rattle.std.specs.Prelude.{◌≡◌, ◌<◌, All, IfOk, IfErr, OnOk, length};
 ghost use Rattle.plane_predicate.specs.Space.{point_at};
 ghost use Rattle.shape_planes.specs.Shapes.{HasBodyBehind};
+ghost use Rattle.shape_planes.specs.Sizes.{IsOnGrid};
 ghost use Rattle.polyhedra.specs.Checks.{in_grid_steps, AreThere};
 ghost use Rattle.polyhedra.specs.Polyhedra.{mesh_of, AnswersFirstFault, IsFirstFault, IsPolyhedron, IsSurface, IsSurfaceFault, IsWritten, IsWrittenFault};
-ghost use Rattle.polyhedra.specs.Sizes.{IsOnGrid};
 
 use crate::closed::are_closed;
 use crate::convex::are_convex;
 use crate::counts::{are_there, has_enough_corners, is_within_limits};
 use crate::flat::are_flat;
-use crate::ranges::{are_in_range, copied, points_in_grid_steps};
+use crate::ranges::{copied, points_in_grid_steps};
 use plane_predicate::Unit;
-use shape_planes::{Corners, Shape, ShapeStop};
+use shape_planes::{Corners, Shape, ShapeStop, are_in_range};
 use std::alloc::Global;
 use text_place::FaultKind;
 

@@ -1,34 +1,13 @@
-//! The coordinates of points, as they are written and in grid steps.
+//! Points in grid steps.
 
 ghost use Rattle.std.specs.Prelude.{◌≡◌, All, IfOk, map};
-ghost use Rattle.std.specs.Bool.{OnTrue, OnFalse};
 ghost use Rattle.plane_predicate.specs.Space.{point_at};
-ghost use Rattle.polyhedra.specs.Checks.{grid_steps, in_grid_steps, IsInRange};
+ghost use Rattle.shape_planes.specs.Shapes.{IsInRange};
+ghost use Rattle.polyhedra.specs.Checks.{grid_steps, in_grid_steps};
 
 use plane_predicate::Unit;
 use shape_planes::Corners;
 use std::alloc::{AllocError, Global};
-
-/// Whether all coordinates are at most 65,535 in size.
-pub fn are_in_range(points: &[[i64; 3]]) -> bool
-    ensures all { OnTrue result (All (λ p. IsInRange (point_at p)) points.now) }
-    ensures past { OnFalse result (All (λ p. IsInRange (point_at p)) points.now → ⊥) }
-{
-    for point in points {
-        if !is_in_range(*point) {
-            return false;
-        }
-    }
-    true
-}
-
-/// Whether the coordinates of a point are at most 65,535 in size.
-fn is_in_range(at: [i64; 3]) -> bool
-    ensures all { OnTrue result (IsInRange (point_at at)) }
-    ensures past { OnFalse result (IsInRange (point_at at) → ⊥) }
-{
-    at[0].unsigned_abs() <= 65535 && at[1].unsigned_abs() <= 65535 && at[2].unsigned_abs() <= 65535
-}
 
 /// The points in grid steps.
 pub fn points_in_grid_steps(

@@ -6,13 +6,13 @@ use Rattle.text_place.specs.declared.fault.FaultKind.{FaultKind}
 use Rattle.text_place.specs.declared.fault.FaultKind.TheVariants.{BadSize, NotOnGrid, TooLarge, OutOfRange, LongList, FewPoints, NotConvex}
 use Rattle.plane_predicate.specs.declared.unit.Unit.{Unit as LengthUnit}
 use Rattle.plane_predicate.specs.Space.{Coefficients, Coordinates, point_at, opposite_of, inner, through, AreCollinear}
-use Rattle.shape_planes.specs.Shapes.{Mesh, corner, value_at, HasTriangle}
+use Rattle.shape_planes.specs.Shapes.{Mesh, corner, value_at, HasTriangle, IsInRange as IsPointInRange, IsOnOnePlane}
 use Rattle.primitives.specs.Sizes.{AreSizes, IsSizeFault, IsLong, IsEven, IsSafe, AreOnGrid, grid_steps}
 use Rattle.primitives.specs.Polygons.{polygon_of, IsPolygon, IsPolygonFault, IsInRange, IsConvex, GoesLeft, GoesRight, HasCorner, turn, point, after, x_of, y_of}
 use Rattle.round_four.specs.Circles.{IsCircleSize, IsCircleFault}
 use Rattle.round_four.specs.Cylinders.{AreCylinderSizes, IsCylinderFault, HasBody, AreNear, IsOnGrid as IsCentredOnGrid, IsInRange as IsCylinderInRange}
 use Rattle.polyhedra.specs.declared.ways.Way.{Way}
-use Rattle.polyhedra.specs.Checks.{IsWithinLimits, HasEnoughCorners, AreThere, IsInRange as IsPointInRange, IsFlat, IsClosed, HasOuterPlane, IsOnOnePlane, IsConvex as IsConvexMesh}
+use Rattle.polyhedra.specs.Checks.{IsWithinLimits, HasEnoughCorners, AreThere, IsFlat, IsClosed, HasOuterPlane, IsConvex as IsConvexMesh}
 use Rattle.polyhedra.specs.Ways.{nowhere, turned, all_ways, ways_of, IsMetOnce, HasNoneLeft}
 use Rattle.polyhedra.specs.Spanning.{SpansFace}
 use Rattle.polyhedra.specs.Bounding.{Bounds, IsBounded}

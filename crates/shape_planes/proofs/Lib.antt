@@ -4,7 +4,7 @@ pub mod Lists
 pub mod Moves
 pub mod OnePlane
 pub mod Placed
-pub mod Sides
+pub mod Bodies
 pub mod Stops
 pub mod Transforms
 pub mod Triangles

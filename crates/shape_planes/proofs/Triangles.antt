@@ -1,11 +1,12 @@
 -- Corners of a face that are all on one line with the first of them.
-use Rattle.std.proofs.Common.{◌≡◌, ℕ, List, [], ◌∷◌, get_or, refl, arith, ℤ, pos, ◌-ℤ◌, All, Option, Some, None}
+use Rattle.std.proofs.Common.{◌≡◌, ℕ, List, [], ◌∷◌, get_or, refl, subst, sym, arith, ℤ, pos, ◌-ℤ◌, All, Option, Some, None}
 use Rattle.std.specs.Option.{IsSome, IsNone}
-use Rattle.plane_predicate.specs.Space.{Coordinates, minor, AreCollinear}
+use Rattle.plane_predicate.specs.Space.{Coefficients, Coordinates, minor, through, AreCollinear}
 use Rattle.plane_predicate.proofs.IntegerRing.{sums}
 use Rattle.plane_predicate.proofs.Polynomials.{var, minus, ring}
 use Rattle.plane_predicate.proofs.Vectors.{minorP}
 use Rattle.shape_planes.specs.Shapes.{corner, HasTriangle}
+use Rattle.shape_planes.specs.Spanning.{HasNoDirection}
 
 -- one part of a cross product, from any fourth point
 part_from : (x y p q s t u v : ℤ) → minor (s -ℤ p) (t -ℤ q) (u -ℤ p) (v -ℤ q) ≡ minor (s -ℤ x) (t -ℤ y) (u -ℤ x) (v -ℤ y) -ℤ minor (s -ℤ x) (t -ℤ y) (p -ℤ x) (q -ℤ y) -ℤ minor (p -ℤ x) (q -ℤ y) (u -ℤ x) (v -ℤ y)
@@ -36,3 +37,11 @@ no_lines points face first t h =
 pub some_found : {A : Type 0} (o : Option A) → (IsNone o → ⊥) → IsSome o
 some_found None h = absurd (h refl)
 some_found (Some x) h = refl
+
+pub collinear_by : (m : Coefficients) (p q r : Coordinates) → m ≡ through p q r → HasNoDirection m → AreCollinear p q r
+collinear_by m p q r e h =
+    let n : HasNoDirection (through p q r) = subst HasNoDirection e h in
+    record { a = n.a; b = n.b; c = n.c }
+
+pub apart_by : (m : Coefficients) (p q r : Coordinates) → m ≡ through p q r → (HasNoDirection m → ⊥) → AreCollinear p q r → ⊥
+apart_by m p q r e h l = h (subst HasNoDirection (sym e) (record { a = l.a; b = l.b; c = l.c }))

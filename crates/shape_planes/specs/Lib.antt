@@ -1,4 +1,5 @@
 pub mod Shapes
 pub mod Placing
 pub mod Stops
+pub mod Sizes
 pub mod Spanning

@@ -1,5 +1,5 @@
 -- Shapes as points and faces, and the planes of their faces.
-use Rattle.std.specs.Prelude.{◌≡◌, ℕ, ◌+◌, ◌<◌, ℤ, pos, ◌<ℤ◌, ◌≤ℤ◌, unsigned_abs, List, [], get_or, length, All}
+use Rattle.std.specs.Prelude.{◌≡◌, ℕ, ◌+◌, ◌<◌, ◌≤◌, ℤ, pos, ◌<ℤ◌, ◌≤ℤ◌, unsigned_abs, List, [], get_or, length, All}
 use Rattle.plane_predicate.specs.Space.{Coefficients, Coordinates, point_at, value, AreCollinear}
 use Rattle.int_transform.specs.Maps.{HasSafeCoordinates}
 
@@ -63,3 +63,32 @@ pub record IsShape (mesh : Mesh) : Type 0 where
   pub some : 0 < length mesh.faces
   pub faces : All (IsFace mesh) mesh.faces
   pub safe : All (λ p. HasSafeCoordinates (point_at p)) mesh.points
+
+-- coordinates at most 65,535 in size
+pub record IsInRange (p : Coordinates) : Type 0 where
+  pub x_size : unsigned_abs p.x ≤ 65535
+  pub y_size : unsigned_abs p.y ≤ 65535
+  pub z_size : unsigned_abs p.z ≤ 65535
+
+-- all points of the faces are on one plane
+pub record IsOnOnePlane (mesh : Mesh) : Type 0 where
+  pub plane : Coefficients
+  pub directed : 0 < unsigned_abs plane.a + unsigned_abs plane.b + unsigned_abs plane.c
+  pub on : All (λ f. All (λ i. value_at mesh.points plane i ≡ pos 0) f) mesh.faces
+
+-- a plane through a face, on whose one side no point lies strictly
+pub record HasFreeSide (points : List (List ℤ)) (face : List ℕ) : Type 0 where
+  pub plane : Coefficients
+  pub directed : 0 < unsigned_abs plane.a + unsigned_abs plane.b + unsigned_abs plane.c
+  pub on : All (λ i. value_at points plane i ≡ pos 0) face
+  pub none_ahead : All (λ p. value plane (point_at p) ≤ℤ pos 0) points
+
+-- points and faces that make a shape: coordinates at most 65,535 in size, at least one face, corners that are there and
+-- not on one line, a plane of each face with no point on its one side, and not all points of the faces on one plane
+pub record MakesShape (mesh : Mesh) : Type 0 where
+  pub range : All (λ p. IsInRange (point_at p)) mesh.points
+  pub some : 0 < length mesh.faces
+  pub there : All (λ f. All (λ i. i < length mesh.points) f) mesh.faces
+  pub triangles : All (HasTriangle mesh.points) mesh.faces
+  pub sides : All (HasFreeSide mesh.points) mesh.faces
+  pub solid : IsOnOnePlane mesh → ⊥

@@ -1,6 +1,7 @@
--- Planes through three corners of a face.
-use Rattle.std.specs.Prelude.{ℕ, ◌<◌, ℤ, List, get_or, length}
+-- Corners of a face that are not on one line, and planes through them.
+use Rattle.std.specs.Prelude.{◌≡◌, ℕ, ◌<◌, ℤ, pos, List, get_or, length}
 use Rattle.plane_predicate.specs.Space.{Coefficients, through, AreCollinear, IsPlaneTimes}
+use Rattle.shape_planes.specs.declared.spanning.Triangle.{Triangle}
 use Rattle.shape_planes.specs.Shapes.{corner}
 
 -- the plane goes through three corners of the face, which are not on one line
@@ -14,18 +15,20 @@ pub record SpansFace (points : List (List ℤ)) (face : List ℕ) (m : Coefficie
   pub times : IsPlaneTimes (through (corner points (get_or face first 0)) (corner points (get_or face second 0)) (corner points (get_or face third 0))) m
   pub apart : AreCollinear (corner points (get_or face first 0)) (corner points (get_or face second 0)) (corner points (get_or face third 0)) → ⊥
 
--- the plane goes through this corner and two more of the face, which are not on one line
-pub record SpansFrom (points : List (List ℤ)) (face : List ℕ) (first : ℕ) (m : Coefficients) : Type 0 where
-  pub second : ℕ
-  pub third : ℕ
-  pub second_in : second < length face
-  pub third_in : third < length face
-  pub times : IsPlaneTimes (through (corner points first) (corner points (get_or face second 0)) (corner points (get_or face third 0))) m
-  pub apart : AreCollinear (corner points first) (corner points (get_or face second 0)) (corner points (get_or face third 0)) → ⊥
+-- three corners of the face that are not on one line, by their places in the face
+pub record IsTriangle (points : List (List ℤ)) (face : List ℕ) (t : Triangle) : Type 0 where
+  pub first_in : t.first < length face
+  pub second_in : t.second < length face
+  pub third_in : t.third < length face
+  pub apart : AreCollinear (corner points (get_or face t.first 0)) (corner points (get_or face t.second 0)) (corner points (get_or face t.third 0)) → ⊥
 
--- the plane goes through these two corners and one more of the face, which are not on one line
-pub record SpansBy (points : List (List ℤ)) (face : List ℕ) (first second : ℕ) (m : Coefficients) : Type 0 where
-  pub third : ℕ
-  pub third_in : third < length face
-  pub times : IsPlaneTimes (through (corner points first) (corner points second) (corner points (get_or face third 0))) m
-  pub apart : AreCollinear (corner points first) (corner points second) (corner points (get_or face third 0)) → ⊥
+-- a corner of the face that is not on one line with the first corner and a second one, by their places in the face
+pub record IsThird (points : List (List ℤ)) (face : List ℕ) (second third : ℕ) : Type 0 where
+  pub within : third < length face
+  pub apart : AreCollinear (corner points (get_or face 0 0)) (corner points (get_or face second 0)) (corner points (get_or face third 0)) → ⊥
+
+-- the direction of a plane is 0
+pub record HasNoDirection (m : Coefficients) : Type 0 where
+  pub a : m.a ≡ pos 0
+  pub b : m.b ≡ pos 0
+  pub c : m.c ≡ pos 0

@@ -1,7 +1,8 @@
-ghost use Rattle.std.specs.Prelude.{◌≡◌};
-ghost use Rattle.shape_planes.specs.Shapes.{IsShape};
+ghost use Rattle.std.specs.Prelude.{◌≡◌, IfOk};
+ghost use Rattle.shape_planes.specs.Shapes.{IsShape, MakesShape};
 
 use crate::corners::Corners;
+use std::alloc::{AllocError, Global};
 use std::marker::Model;
 
 /// A shape: points in grid steps, and faces as lists of numbers of points. Its solid is the set of
@@ -33,6 +34,22 @@ impl Shape {
         ensures { result ≡ record { points = points.items; faces = faces.items } }
     {
         Shape { points, faces }
+    }
+
+    /// The shape of these points, in grid steps, and of faces with three corners each.
+    pub fn of_faces(
+        alloc: Global,
+        points: &[[i64; 3]],
+        faces: &[[u32; 3]],
+    ) -> Result<Self, AllocError>
+        requires { MakesShape (record { points = points.now; faces = faces.now }) }
+        ensures { IfOk result (λ s. s ≡ record { points = points.now; faces = faces.now }) }
+    {
+        let mut corners = Vec::new(alloc);
+        for face in faces {
+            corners.push(Corners::of(face.to_vec(alloc)?))?;
+        }
+        Ok(Shape::of(Vec::from_slice(alloc, points)?, corners))
     }
 
     /// Its points in grid steps. Takes no memory.

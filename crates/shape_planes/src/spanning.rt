@@ -1,53 +1,69 @@
-//! The plane through three corners of a face that are not on one line.
+//! Three corners of a face that are not on one line, and the plane through them.
 
-ghost use Rattle.std.specs.Prelude.{◌<◌, All, IfSome, IsNone, length};
+ghost use Rattle.std.specs.Prelude.{◌<◌, All, IfSome, IsNone, get_or, length};
 ghost use Rattle.plane_predicate.specs.Space.{point_at, AreCollinear, IsInReach};
 ghost use Rattle.shape_planes.specs.Shapes.{corner, HasTriangle};
-ghost use Rattle.shape_planes.specs.Spanning.{SpansBy, SpansFace, SpansFrom};
+ghost use Rattle.shape_planes.specs.Sizes.{IsOnGrid};
+ghost use Rattle.shape_planes.specs.Spanning.{IsThird, IsTriangle, SpansFace};
 
-use plane_predicate::{Plane, plane_through};
+use crate::facing::{has_direction, plane_through};
+use plane_predicate::Plane;
+
+/// Three corners of a face, by their places in it.
+#[derive(Clone, Copy)]
+pub struct Triangle {
+    pub first: usize,
+    pub second: usize,
+    pub third: usize,
+}
+
+/// Three corners of a face that are not on one line. `None` where all corners are on one line.
+pub fn find_triangle(points: &[[i64; 3]], face: &[u32]) -> Option<Triangle>
+    requires grid { All (λ p. IsOnGrid (point_at p)) points.now }
+    requires there { All (λ i. i < length points.now) face.now }
+    ensures some { IfSome result (IsTriangle points.now face.now) }
+    ensures none { IsNone result → HasTriangle points.now face.now → ⊥ }
+{
+    for second in 0..face.len() {
+        if let Some(third) = third_corner(points, face, second) {
+            return Some(Triangle {
+                first: 0,
+                second,
+                third,
+            });
+        }
+    }
+    None
+}
+
+/// A corner of a face that is not on one line with the first corner and a second one. `None` where
+/// all corners are on one line with them.
+fn third_corner(points: &[[i64; 3]], face: &[u32], second: usize) -> Option<usize>
+    requires grid { All (λ p. IsOnGrid (point_at p)) points.now }
+    requires there { All (λ i. i < length points.now) face.now }
+    requires second_in { second < length face.now }
+    ensures some { IfSome result (IsThird points.now face.now second) }
+    ensures none { IsNone result → All (λ k. AreCollinear (corner points.now (get_or face.now 0 0)) (corner points.now (get_or face.now second 0)) (corner points.now k)) face.now }
+{
+    let (from, by) = (points[face[0] as usize], points[face[second] as usize]);
+    for third in 0..face.len() {
+        if has_direction(&plane_through(from, by, points[face[third] as usize])) {
+            return Some(third);
+        }
+    }
+    None
+}
 
 /// The plane through three corners of a face that has three that are not on one line.
 pub fn spanned(points: &[[i64; 3]], face: &[u32]) -> Plane
     requires reach { All (λ p. IsInReach (point_at p)) points.now }
     requires there { All (λ i. i < length points.now) face.now }
-    requires triangle { HasTriangle points.now face.now }
+    requires has { HasTriangle points.now face.now }
     ensures { SpansFace points.now face.now result }
 {
-    spanned_from(points, face, face[0] as usize).unwrap()
-}
-
-/// The plane through one corner and two more of the face. `None` where all are on one line with it.
-fn spanned_from(points: &[[i64; 3]], face: &[u32], first: usize) -> Option<Plane>
-    requires reach { All (λ p. IsInReach (point_at p)) points.now }
-    requires there { All (λ i. i < length points.now) face.now }
-    requires first_there { first < length points.now }
-    ensures some { IfSome result (SpansFrom points.now face.now first) }
-    ensures none { IsNone result → All (λ j. All (λ k. AreCollinear (corner points.now first) (corner points.now j) (corner points.now k)) face.now) face.now }
-{
-    for second in face {
-        if let Some(plane) = spanned_by(points, face, first, *second as usize) {
-            return Some(plane);
-        }
-    }
-    None
-}
-
-/// The plane through two corners and one more of the face. `None` where all are on one line with
-/// them.
-fn spanned_by(points: &[[i64; 3]], face: &[u32], first: usize, second: usize) -> Option<Plane>
-    requires reach { All (λ p. IsInReach (point_at p)) points.now }
-    requires there { All (λ i. i < length points.now) face.now }
-    requires first_there { first < length points.now }
-    requires second_there { second < length points.now }
-    ensures some { IfSome result (SpansBy points.now face.now first second) }
-    ensures none { IsNone result → All (λ k. AreCollinear (corner points.now first) (corner points.now second) (corner points.now k)) face.now }
-{
-    for third in face {
-        let (p, q, r) = (points[first], points[second], points[*third as usize]);
-        if let Some(plane) = plane_through(p, q, r) {
-            return Some(plane);
-        }
-    }
-    None
+    let at = find_triangle(points, face).unwrap();
+    let p = points[face[at.first] as usize];
+    let q = points[face[at.second] as usize];
+    let r = points[face[at.third] as usize];
+    plane_predicate::plane_through(p, q, r).unwrap()
 }

@@ -10,6 +10,8 @@ mod extrusions;
 #[cfg(test)]
 mod flats;
 #[cfg(test)]
+mod hulls;
+#[cfg(test)]
 mod looks;
 #[cfg(test)]
 mod module_calls;

@@ -3,7 +3,7 @@ use Rattle.std.proofs.lemmas.Result.{err_from_is_err_and}
 use Rattle.plane_predicate.specs.Space.{point_at}
 use Rattle.polyhedra.specs.Checks.{in_grid_steps}
 use Rattle.polyhedra.specs.Polyhedra.{IsSurfaceFault}
-use Rattle.polyhedra.specs.Sizes.{IsOnGrid}
+use Rattle.shape_planes.specs.Sizes.{IsOnGrid}
 use Rattle.polyhedra.proofs.Grids.{are_on_grid}
 use Rattle.polyhedra.proofs.FirstFaults.{surface_fault}
 use Rattle.polyhedra.proofs.polyhedron.checked_points.Goals as goal

@@ -1,0 +1,73 @@
+-- Hulls of points: the points of a hull, and its faces.
+use Rattle.std.specs.Prelude.{◌≡◌, ℕ, ◌+◌, ◌-◌, ◌<◌, Bool, not, ◌&&◌, ◌||◌, ℤ, pos, int_le, List, [], ◌∷◌, get_or, length, map, filter, flat_map, fold, All, unsigned_abs}
+use Rattle.std.specs.List.{list_all, range_with_len}
+use Rattle.std.specs.Ordering.{int_eq, int_cmp}
+use Rattle.std.specs.Cmp.Lexicographic.{slice_cmp}
+use Rattle.std.specs.declared.cmp.Ordering.TheVariants.{Less, Equal, Greater}
+use Rattle.plane_predicate.specs.Space.{Coefficients, point_at, value, through, opposite_of}
+use Rattle.shape_planes.specs.Shapes.{Mesh, corner, value_at}
+
+-- a point put into its place among ascending points, by x, then y, then z, unless it is among them
+abbrev pub put : List ℤ → List (List ℤ) → List (List ℤ)
+put p [] = p ∷ []
+put p (q ∷ points) = elim (slice_cmp int_cmp q p) [ Less ↦ q ∷ put p points | Equal ↦ q ∷ points | Greater ↦ p ∷ q ∷ points ]
+
+-- the different points, in ascending order
+abbrev pub different : List (List ℤ) → List (List ℤ)
+different given = fold (λ points p. put p points) [] given
+
+-- the plane through three points, by their numbers
+abbrev pub plane_of : List (List ℤ) → List ℕ → Coefficients
+plane_of points triple = through (corner points (get_or triple 0 0)) (corner points (get_or triple 1 0)) (corner points (get_or triple 2 0))
+
+-- no point is strictly ahead of the plane
+abbrev pub has_none_ahead : List (List ℤ) → Coefficients → Bool
+has_none_ahead points m = list_all (λ p. int_le (value m (point_at p)) (pos 0)) points
+
+-- the plane's direction is not 0: the three points that it was made through are not on one line
+abbrev pub has_direction : Coefficients → Bool
+has_direction m = not (int_eq m.a (pos 0) && (int_eq m.b (pos 0) && int_eq m.c (pos 0)))
+
+-- three points that are not on one line, on whose plane's one side no point lies strictly
+abbrev pub is_supporting : List (List ℤ) → List ℕ → Bool
+is_supporting points triple =
+    let m = plane_of points triple in
+    has_direction m && (has_none_ahead points m || has_none_ahead points (opposite_of m))
+
+-- the plane of the first triple goes through the points of the second: where neither's points are on one line, the two
+-- planes are equal
+abbrev pub shares_plane : List (List ℤ) → List ℕ → List ℕ → Bool
+shares_plane points s t = list_all (λ i. int_eq (value_at points (plane_of points s) i) (pos 0)) t
+
+-- the numbers from a on, below n
+abbrev pub from : ℕ → ℕ → List ℕ
+from a n = range_with_len a (n - a)
+
+-- the triples of ascending numbers below n that begin with two numbers, or with one; and all of them, in ascending order
+abbrev pub triples_by : ℕ → ℕ → ℕ → List (List ℕ)
+triples_by n i j = map (λ k. i ∷ j ∷ k ∷ []) (from (j + 1) n)
+
+abbrev pub triples_from : ℕ → ℕ → List (List ℕ)
+triples_from n i = flat_map (triples_by n i) (from (i + 1) n)
+
+abbrev pub triples : ℕ → List (List ℕ)
+triples n = flat_map (triples_from n) (from 0 n)
+
+-- of triples with equal planes the first alone
+abbrev pub first_of_planes : List (List ℤ) → List (List ℕ) → List (List ℕ)
+first_of_planes points [] = []
+first_of_planes points (s ∷ more) = s ∷ filter (λ t. not (shares_plane points s t)) (first_of_planes points more)
+
+-- the faces of the hull of some points: the supporting triples in ascending order, of equal planes the first alone
+abbrev pub faces_of : List (List ℤ) → List (List ℕ)
+faces_of points = first_of_planes points (filter (is_supporting points) (triples (length points)))
+
+-- the hull of the given points
+abbrev pub hull_of : List (List ℤ) → Mesh
+hull_of given = record { points = different given; faces = faces_of (different given) }
+
+-- all points are on one plane
+pub record AreOnOnePlane (points : List (List ℤ)) : Type 0 where
+  pub plane : Coefficients
+  pub directed : 0 < unsigned_abs plane.a + unsigned_abs plane.b + unsigned_abs plane.c
+  pub on : All (λ p. value plane (point_at p) ≡ pos 0) points

@@ -1,0 +1,4 @@
+pub mod Combinations
+pub mod Hulls
+pub mod Steps
+pub mod Refusals

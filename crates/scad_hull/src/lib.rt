@@ -1,0 +1,12 @@
+//! Hulls of points.
+#![tactic(auto)]
+
+mod faces;
+mod hull;
+mod laws;
+mod plane;
+mod points;
+mod triples;
+
+pub use hull::hull_shape;
+pub use laws::different_points_ascend;

@@ -1,0 +1,94 @@
+//! Triples of points, and the planes through them.
+
+ghost use Rattle.std.specs.Prelude.{◌≡◌, pos, All, length};
+ghost use Rattle.std.specs.List.{list_any};
+ghost use Rattle.std.specs.Ordering.{int_eq};
+ghost use Rattle.plane_predicate.specs.Space.{point_at, value};
+ghost use Rattle.shape_planes.specs.Sizes.{IsOnGrid};
+ghost use Rattle.scad_hull.specs.Hulls.{has_direction as directed_of, has_none_ahead, is_supporting, plane_of, shares_plane};
+ghost use Rattle.scad_hull.specs.Steps.{AreNumbered, AreThree};
+
+use shape_planes::face_has_ahead;
+use shape_planes::facing::{FacePlane, goes_through, has_direction, opposite, plane_through};
+
+/// Whether three points are not on one line, and no point lies strictly on one side of their plane.
+pub fn supports(points: &[[i64; 3]], all: &[u32], triple: [u32; 3]) -> bool
+    requires numbered { AreNumbered points.now all.now }
+    requires three { AreThree (length points.now) triple }
+    ensures { result ≡ is_supporting points.now triple }
+{
+    let plane = through(points, triple);
+    if !is_directed(&plane) {
+        return false;
+    }
+    if has_free_side(points, all, &plane) {
+        return true;
+    }
+    has_free_side(points, all, &opposite(&plane))
+}
+
+/// Whether a direction is not 0.
+fn is_directed(plane: &FacePlane) -> bool
+    ensures { result ≡ directed_of plane.now }
+{
+    has_direction(plane)
+}
+
+/// Whether no point is strictly ahead of a plane.
+fn has_free_side(points: &[[i64; 3]], all: &[u32], plane: &FacePlane) -> bool
+    requires { AreNumbered points.now all.now }
+    ensures { result ≡ has_none_ahead points.now plane.now }
+{
+    !face_has_ahead(points, all, plane)
+}
+
+/// The plane through three points.
+fn through(points: &[[i64; 3]], triple: [u32; 3]) -> FacePlane
+    requires grid { All (λ p. IsOnGrid (point_at p)) points.now }
+    requires three { AreThree (length points.now) triple }
+    ensures { result ≡ plane_of points.now triple }
+{
+    let [i, j, k] = triple;
+    plane_through(points[i as usize], points[j as usize], points[k as usize])
+}
+
+/// Whether the plane of a triple is that of one of some faces.
+pub fn is_listed(points: &[[i64; 3]], faces: &[[u32; 3]], triple: [u32; 3]) -> bool
+    requires grid { All (λ p. IsOnGrid (point_at p)) points.now }
+    requires faces_three { All (AreThree (length points.now)) faces.now }
+    requires three { AreThree (length points.now) triple }
+    ensures { result ≡ list_any (λ s. shares_plane points.now s triple) faces.now }
+{
+    for face in faces {
+        if is_on_plane(points, *face, triple) {
+            return true;
+        }
+    }
+    false
+}
+
+/// Whether the plane of one triple goes through the points of another.
+fn is_on_plane(points: &[[i64; 3]], of: [u32; 3], triple: [u32; 3]) -> bool
+    requires grid { All (λ p. IsOnGrid (point_at p)) points.now }
+    requires of_three { AreThree (length points.now) of }
+    requires three { AreThree (length points.now) triple }
+    ensures { result ≡ shares_plane points.now of triple }
+{
+    let plane = through(points, of);
+    let [i, j, k] = triple;
+    if !holds(&plane, points[i as usize]) {
+        return false;
+    }
+    if !holds(&plane, points[j as usize]) {
+        return false;
+    }
+    holds(&plane, points[k as usize])
+}
+
+/// Whether a plane goes through a point.
+fn holds(plane: &FacePlane, at: [i64; 3]) -> bool
+    requires { IsOnGrid (point_at at) }
+    ensures { result ≡ int_eq (value plane.now (point_at at)) (pos 0) }
+{
+    goes_through(plane, at)
+}
