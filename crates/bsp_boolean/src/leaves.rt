@@ -1,81 +1,87 @@
 //! The solids of leaves.
 
-ghost use Rattle.std.specs.Prelude.{◌≡◌, ◌-◌, ◌^◌, ◌<◌, IfOk, IsOkAnd, All, length};
+ghost use Rattle.std.specs.Prelude.{◌≡◌, ◌<◌, ◌++◌, length, map, All, IfOk};
 ghost use Rattle.plane_predicate.specs.Space.{ComesInReach};
+ghost use Rattle.plane_polygon.specs.Boxes.{box_outline};
 ghost use Rattle.csg_tree.specs.Formulas.{leaf};
-ghost use Rattle.bsp_tree.specs.Trees.{half_space, Tree};
-ghost use Rattle.bsp_tree.specs.Cells.{IsOfWorld};
+ghost use Rattle.link_forest.specs.Forests.{IsLinkOf};
+ghost use Rattle.plane_table.specs.Faces.{outline_of, IsFaceOver};
 ghost use Rattle.bsp_tree.specs.Shapes.{tree_of};
-ghost use Rattle.bsp_boolean.specs.MadeSolids.{IsMade};
+ghost use Rattle.bsp_tree.specs.Trees.{half_space, inside, outside, node};
+ghost use Rattle.bsp_tree.specs.Growths.{tree_on, HasTree};
+ghost use Rattle.bsp_boolean.specs.Merges.{combined};
 ghost use Rattle.bsp_boolean.specs.Solids.{convex, IsBuilt, IsSolidOf};
+ghost use Rattle.bsp_boolean.specs.Leaves.{AreHalfFaces};
 
 use crate::building::BuildStop;
-use crate::combining::combine;
-use crate::sizes::{Made, moved, node_size};
-use bsp_partition::make_node;
-use bsp_tree::{Solid, half};
-use plane_polygon::box_polygon;
+use bsp_partition::{add_parts, make_node};
+use bsp_tree::{Face, Growing, Link, Nodes, Solid, add_branch, finish};
 use plane_predicate::Plane;
+use plane_table::{PlaneTable, half_face, join, numbers_of, renumber};
 use std::alloc::Global;
 use text_place::NoMemory;
 
 /// The solid of a leaf: the points behind all of its planes, of which there is at least one, in the
 /// world box. Each plane has a point with coordinates at most 4095 in size. `TooBig` comes exactly
-/// where the solid's size is above `most`, as soon as that is known.
+/// where the solid's size is above `most`.
 pub fn leaf_solid(alloc: Global, planes: &[Plane], most: u64) -> Result<Solid, BuildStop>
     requires some { 0 < length planes.now }
     requires reach { All ComesInReach planes.now }
     ensures built { IsBuilt (convex planes.now) most result }
     ensures solid { IfOk result (λ s. IsSolidOf (leaf planes.now) (tree_of s)) }
 {
-    Ok(leaf_within(alloc, planes, most)?.solid)
+    let own = half_faces(alloc, planes)?;
+    let table = PlaneTable::of(alloc, own.planes)?;
+    let mut nodes = Nodes::new(alloc, &table);
+    let root = convex_tree(alloc, &mut nodes, &own.faces)?;
+    let mut growing = Growing::new(alloc, &table, most);
+    let root = add_branch(alloc, &mut growing, &nodes, root, false)?;
+    Ok(finish(alloc, growing, root)?)
 }
 
-/// The solid of a leaf with its size.
-fn leaf_within(alloc: Global, planes: &[Plane], most: u64) -> Result<Made, BuildStop>
-    requires some { 0 < length planes.now }
-    requires reach { All ComesInReach planes.now }
-    ensures made { IsMade (convex planes.now) most result }
-    ensures solid { IfOk result (λ made. IsSolidOf (leaf planes.now) (tree_of made.solid)) }
-{
-    match planes {
-        [] => moved(Solid::In, most),
-        [only] => half_within(alloc, only, most),
-        [first, others @ ..] => {
-            // The whole may be smaller than this part of it, so the part has no limit.
-            let others = part_of(leaf_within(alloc, others, u64::MAX))?;
-            let half = half(alloc, first)?;
-            combine(alloc, false, &half, others, most)
-        }
-    }
+/// Faces over one list of planes, of which no two are equal or opposite.
+#[derive(Drop)]
+struct OwnFaces {
+    planes: Vec<Plane>,
+    faces: Vec<Face>,
 }
 
-/// A part that was made within the limit of all numbers. One above that limit is larger than any
-/// memory: each node and each edge takes more than one byte.
-fn part_of(made: Result<Made, BuildStop>) -> Result<Solid, NoMemory>
-    requires { (wanted : Tree) × IsMade wanted (2 ^ 64 - 1) made }
-    ensures { IfOk result (λ s. IsOkAnd made (λ m. m.solid ≡ s)) }
+/// The faces that planes have in the world box.
+fn half_faces(alloc: Global, planes: &[Plane]) -> Result<OwnFaces, NoMemory>
+    requires { All ComesInReach planes.now }
+    ensures { IfOk result (AreHalfFaces planes.now) }
 {
-    match made {
-        Ok(made) => Ok(made.solid),
-        Err(BuildStop::TooBig | BuildStop::NoMemory) => Err(NoMemory),
+    let mut all = Vec::new(alloc);
+    let mut faces = Vec::new(alloc);
+    for plane in planes {
+        let own = half_face(alloc, plane)?;
+        let found = numbers_of(alloc, all, &own.planes)?;
+        all = found.planes;
+        faces.push(renumber(alloc, &own.face, &found.numbers)?)?;
     }
+    ordered(alloc, all, faces)
 }
 
-/// The points behind a plane, in the world box, with the size.
-#[tactic(auto, using(bsp_tree::proofs::Worlds::half_of_world))]
-fn half_within(alloc: Global, plane: &Plane, most: u64) -> Result<Made, BuildStop>
-    requires { ComesInReach plane.now }
-    ensures made { IsMade (half_space plane.now) most result }
-    ensures world { IfOk result (λ made. IsOfWorld (tree_of made.solid)) }
-{
-    // Reading a number shows the proof what each plane keeps.
-    let _ = &plane.a;
-    let polygon = box_polygon(alloc, plane)?;
-    let size = node_size(&polygon);
-    if size > most {
-        return Err(BuildStop::TooBig);
+/// The same faces over the list in ascending order.
+fn ordered(alloc: Global, planes: Vec<Plane>, faces: Vec<Face>) -> Result<OwnFaces, NoMemory> {
+    let joined = join(alloc, &planes, &[])?;
+    let mut found = Vec::new(alloc);
+    for face in &faces {
+        found.push(renumber(alloc, face, &joined.left)?)?;
     }
-    let solid = make_node(alloc, polygon, Solid::In, Solid::Out)?;
-    Ok(Made { solid, size })
+    Ok(OwnFaces {
+        planes: joined.planes,
+        faces: found,
+    })
+}
+
+/// The tree of the points behind all planes of some faces: from the last face on, each divides what
+/// lies behind the others.
+fn convex_tree(alloc: Global, nodes: &mut Nodes<'_>, faces: &[Face]) -> Result<Link, NoMemory> {
+    let mut root = Link::End(true);
+    for face in faces.iter().rev() {
+        let (low, _) = add_parts(alloc, nodes, root, face)?;
+        root = make_node(nodes, face.copy(alloc)?, low, Link::End(false))?;
+    }
+    Ok(root)
 }

@@ -2,7 +2,7 @@ use Rattle.std.proofs.Common.{◌≡◌, ℕ, ◌-◌, false, List, length, take
 use Rattle.std.proofs.lemmas.List.{take_rest}
 use Rattle.plane_predicate.specs.Space.{Coefficients}
 use Rattle.csg_tree.specs.Formulas.{leaf}
-use Rattle.bsp_tree.specs.declared.Solid.{Solid}
+use Rattle.bsp_tree.specs.Shapes.{SolidParts}
 use Rattle.bsp_tree.specs.Trees.{Tree, half_space}
 use Rattle.bsp_tree.specs.Cells.{IsOfWorld}
 use Rattle.bsp_tree.specs.Shapes.{tree_of}
@@ -15,10 +15,10 @@ use Rattle.bsp_boolean.proofs.Solids.{convex_more, more_is_solid, one_is_solid}
 use Rattle.bsp_boolean.proofs.leaves.+leaf_within.Goals as goal
 
 -- what a made part is
-part_is : (r : Result Made BuildStop) (wanted : Tree) (most : ℕ) (P : Tree → Type 0) (s : Solid) →
+part_is : (r : Result Made BuildStop) (wanted : Tree) (most : ℕ) (P : Tree → Type 0) (s : SolidParts) →
     IsMade wanted most r → IfOk r (λ made. P (tree_of made.solid)) → IsOkAnd r (λ made. made.solid ≡ s) →
     (tree_of s ≡ wanted) × P (tree_of s)
-part_is (Ok made) wanted most P s h k e = (ap tree_of (sym e) ∙ h.0, subst (λ (u : Solid). P (tree_of u)) e k)
+part_is (Ok made) wanted most P s h k e = (ap tree_of (sym e) ∙ h.0, subst (λ (u : SolidParts). P (tree_of u)) e k)
 part_is (Err stop) wanted most P s h k e = absurd e
 
 -- what holds of the wanted solid holds of the made one

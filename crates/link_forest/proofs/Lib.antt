@@ -1,0 +1,4 @@
+pub mod Numbers
+pub mod Longer
+pub mod Reaching
+mod Rows
