@@ -2,7 +2,9 @@
 #![tactic(auto)]
 
 ghost use Rattle.std.specs.Prelude.{◌≡◌, IfOk};
+ghost use Rattle.link_forest.specs.Forests.{IsLinkOf};
 ghost use Rattle.bsp_tree.specs.Shapes.{tree_of};
+ghost use Rattle.bsp_tree.specs.Growths.{tree_on};
 ghost use Rattle.bsp_partition.specs.Partitions.{divide, AreOfHalves, HaveNoNewPlane, KeepWalks};
 
 mod part;

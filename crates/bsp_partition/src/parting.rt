@@ -8,9 +8,9 @@ ghost use Rattle.plane_polygon.specs.Parts.{class_of, part_ahead, part_behind};
 ghost use Rattle.plane_table.specs.Tables.{named};
 ghost use Rattle.plane_table.specs.Faces.{outline_of, AreSidesOf, IsFaceOver};
 ghost use Rattle.bsp_tree.specs.Trees.{make};
-ghost use Rattle.bsp_tree.specs.Growths.{tree_on, HasTree};
+ghost use Rattle.bsp_tree.specs.Growths.{tree_on};
 ghost use Rattle.bsp_partition.specs.Partitions.{across_row, ahead_row, behind_row, divide};
-ghost use Rattle.bsp_partition.specs.Parts.{row_parts, HasMade, HasParts, HasSideParts};
+ghost use Rattle.bsp_partition.specs.Parts.{row_parts, trees_on, AreLinksOf, HasMade, HasParts, HasSideParts};
 
 use crate::part::Part;
 use bsp_tree::{Face, Link, NodeId, Nodes, is_same_leaf};
@@ -245,5 +245,7 @@ pub fn make_node(
     if is_same_leaf(behind, ahead) {
         return Ok(behind);
     }
+    // That links stand before their nodes shows the proof that nodes are no leaves.
+    let _ = nodes.len();
     Ok(Link::To(nodes.add(face, behind, ahead)?))
 }

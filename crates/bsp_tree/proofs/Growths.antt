@@ -8,7 +8,7 @@ use Rattle.link_forest.specs.declared.link.Link.{Link}
 use Rattle.link_forest.specs.declared.link.NodeId.{NodeId}
 use Rattle.link_forest.specs.declared.link.Link.TheVariants.{End, To}
 use Rattle.link_forest.specs.declared.forest.Entry.{Entry}
-use Rattle.link_forest.specs.Forests.{Adds, AreLinked}
+use Rattle.link_forest.specs.Forests.{Adds, AreLinked, IsLinkOf}
 use Rattle.link_forest.proofs.Longer.{is_node}
 use Rattle.link_forest.proofs.Reaching.{ends_reach_none, reached_by_added}
 use Rattle.plane_table.specs.declared.faces.Face.{Face}
@@ -166,12 +166,19 @@ leaf_is_end sheet (End other) side l h = ap End (leaf_side other side (leaf_tree
 leaf_is_end sheet (To id) side l h = absurd (no_leaf sheet.planes sheet.nodes id side l (omega (arith, h.there)) h.same)
 
 -- two trees that are no leaves of one kind are put together in a node
+pub other_make : (sheet : Sheet) (behind ahead : Link) (s : Outline) → AreLinked sheet.nodes → IsLinkOf sheet.nodes behind → IsLinkOf sheet.nodes ahead →
+    same_leaf behind ahead ≡ false → node s (tree_on sheet behind) (tree_on sheet ahead) ≡ make s (tree_on sheet behind) (tree_on sheet ahead)
+other_make sheet behind ahead s l kb ka e = elim (make_node s (tree_on sheet behind) (tree_on sheet ahead)) [
+    inl h ↦ sym h
+  | inr h ↦
+      let eb = leaf_is_end sheet behind h.0 l (record { there = kb; same = h.1 }) in
+      let ea = leaf_is_end sheet ahead h.0 l (record { there = ka; same = h.2 }) in
+      absurd (false≢true (sym e ∙ ap₂ same_leaf eb ea ∙ same_itself h.0))
+  ]
+
 pub other_grows : (start middle old : Growth) (behind ahead : Link) (s : Outline) (b a : Tree) → AreLinked old.sheet.nodes →
     same_leaf behind ahead ≡ false → HasGrown start middle behind b → HasGrown middle old ahead a → node s b a ≡ make s b a
-other_grows start middle old behind ahead s b a l e hb ha = elim (make_node s b a) [
-  | inl h ↦ sym h
-  | inr h ↦
-      let eb = leaf_is_end old.sheet behind h.0 l (subst (HasTree old.sheet behind) h.1 (still middle.sheet old.sheet behind b ha.longer hb.stands)) in
-      let ea = leaf_is_end old.sheet ahead h.0 l (subst (HasTree old.sheet ahead) h.2 ha.stands) in
-      absurd (false≢true (sym e ∙ ap₂ same_leaf eb ea ∙ same_itself h.0))
-]
+other_grows start middle old behind ahead s b a l e hb ha =
+    let there = still middle.sheet old.sheet behind b ha.longer hb.stands in
+    sym (ap₂ (node s) there.same ha.stands.same) ∙ other_make old.sheet behind ahead s l there.there ha.stands.there e
+    ∙ ap₂ (make s) there.same ha.stands.same
