@@ -76,11 +76,12 @@ adds_more first others most old middle new (Err TooMany) e h =
 adds_more first others most old middle new (Err NoMemory) e h = tt
 
 -- where the first ones were too many, so are all
-pub too_many : (first others : List Outline) (most : ℕ) (old : List Outline) → most < length (old ++ first) →
+too_many : (first others : List Outline) (most : ℕ) (old : List Outline) → most < length (old ++ first) →
     most < length (old ++ (first ++ others))
 too_many first others most old h =
     omega (arith, length-append old first, length-append old (first ++ others), length-append first others)
 
+-- where it stopped at the first ones, it stopped
 pub adds_stopped : {A B : Type 0} (first others : List Outline) (most : ℕ) (old new : List Outline) (stop : CutStop)
     (given : Result A CutStop) (result : Result B CutStop) → given ≡ Err stop → result ≡ Err stop →
     Adds first most old new given → Adds (first ++ others) most old new result
