@@ -1,5 +1,5 @@
 -- Merges of trees with their leaves exchanged.
-use Rattle.std.proofs.Common.{◌≡◌, ◌<◌, length, Bool, true, false, if◌then◌else◌, not, refl, sym, ap, ap₂, ◌∙◌}
+use Rattle.std.proofs.Common.{◌≡◌, ◌<◌, ◌≤◌, arith, length, Bool, true, false, if◌then◌else◌, not, refl, sym, ap, ap₂, ◌∙◌}
 use Rattle.std.proofs.lemmas.Bool.{false≢true, true≢false}
 use Rattle.plane_predicate.specs.Space.{Coefficients, opposite_of, is_same}
 use Rattle.plane_polygon.specs.Polygons.{Outline}
@@ -8,7 +8,7 @@ use Rattle.plane_polygon.specs.declared.classes.Class.TheVariants.{Behind, Ahead
 use Rattle.plane_polygon.specs.Parts.{class_of, part_ahead, part_behind}
 use Rattle.csg_tree.specs.declared.op.Op.{Op}
 use Rattle.csg_tree.specs.declared.op.Op.TheVariants.{Union, Intersection, Difference}
-use Rattle.bsp_tree.specs.Trees.{Tree, inside, outside, node, make, complement}
+use Rattle.bsp_tree.specs.Trees.{Tree, inside, outside, node, make, complement, size}
 use Rattle.link_forest.specs.declared.link.Link.{Link}
 use Rattle.link_forest.specs.declared.link.Link.TheVariants.{End, To}
 use Rattle.link_forest.specs.declared.link.NodeId.{NodeId}
@@ -16,7 +16,7 @@ use Rattle.link_forest.specs.Forests.{AreLinked, IsNode}
 use Rattle.plane_table.specs.declared.faces.Face.{Face}
 use Rattle.plane_table.specs.Faces.{outline_of}
 use Rattle.bsp_tree.proofs.Sheets.{node_shown}
-use Rattle.bsp_tree.proofs.Growths.{is_fork}
+use Rattle.bsp_tree.proofs.Growths.{is_fork, make_size}
 use Rattle.bsp_tree.specs.Links.{alike, turned}
 use Rattle.bsp_tree.specs.Shapes.{leaf_of}
 use Rattle.bsp_tree.specs.Growths.{Sheet, tree_on, exchanged}
@@ -172,3 +172,7 @@ node_merged d turn left right first second face behind ahead n l below =
     ap (λ (t : Tree). combined d t (exchanged turn (tree_on right (To second)))) (node_shown left.planes left.nodes first face behind ahead n.tree)
     ∙ nodes_combined d turn (outline_of left.planes face) fork.outline (tree_on left behind) (tree_on left ahead) fork.behind fork.ahead
     (tree_on right (To second)) fork.same
+
+-- a part behind is no larger than the node
+pub below_left : (s : Outline) (b a : Tree) → size b ≤ size (make s b a)
+below_left s b a = omega (arith, make_size s b a)
