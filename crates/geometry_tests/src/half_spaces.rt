@@ -1,5 +1,7 @@
 use crate::laying::{high, plane_at, point};
-use bsp_tree::{Solid, exchange, half, holds, new_node};
+use crate::nodes::node_of;
+use bsp_tree::{Solid, exchange, half, holds};
+use plane_polygon::box_polygon;
 use std::alloc::Global;
 use std::process::Abort;
 
@@ -10,12 +12,11 @@ fn below_one(rt: &impl Abort, alloc: Global) -> Solid {
 
 // As many nodes ahead of one another, with In at the end.
 fn chain(rt: &impl Abort, alloc: Global, nodes: usize) -> Solid {
-    let mut solid = Solid::In;
+    let polygon = box_polygon(alloc, &plane_at(rt, high(0, 1))).expect(rt, "memory");
+    let outside = Solid::leaf(alloc, false);
+    let mut solid = Solid::leaf(alloc, true);
     for _ in 0..nodes {
-        if let Solid::Node(inner) = below_one(rt, alloc) {
-            let polygon = inner.polygon.copy(alloc).expect(rt, "memory");
-            solid = new_node(alloc, polygon, Solid::Out, solid).expect(rt, "memory");
-        }
+        solid = node_of(rt, alloc, &polygon, &outside, &solid);
     }
     solid
 }
@@ -46,7 +47,7 @@ fn leaves_are_solids(rt: HostRuntime) {
     let alloc = rt.alloc();
     let at = point(0, 0, 0, 0);
     for inside in [true, false] {
-        let leaf = if inside { Solid::In } else { Solid::Out };
+        let leaf = Solid::leaf(alloc, inside);
         let copied = leaf.copy(alloc).expect(&rt, "memory");
         let exchanged = exchange(alloc, &leaf).expect(&rt, "memory");
         assert_eq!(rt; leaf.count() + copied.count() + exchanged.count(), 0);

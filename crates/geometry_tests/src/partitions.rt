@@ -1,7 +1,8 @@
 use crate::cutting::parts;
 use crate::laying::{high, low, plane_at, point, through};
-use bsp_partition::{partition, split};
-use bsp_tree::{Solid, half, holds, new_node};
+use crate::nodes::node_of;
+use bsp_partition::partition;
+use bsp_tree::{Solid, half, holds};
 use plane_polygon::{Class, Polygon, box_polygon, sort_by};
 use std::alloc::Global;
 use std::process::Abort;
@@ -69,8 +70,9 @@ fn polygons_that_only_touch_leave_the_sides_whole(rt: HostRuntime) {
     let (by, _ahead) = parts(&rt, alloc, &flat(&rt, alloc), &edge);
     assert!(rt; sort_by(&polygon, by.plane()) == Class::Behind);
     assert!(rt; sort_by(&by, polygon.plane()) == Class::Behind);
-    let solid = new_node(alloc, polygon, Solid::In, Solid::Out).expect(&rt, "memory");
-    let (behind, ahead) = split(alloc, solid, &by).expect(&rt, "memory");
+    let (inside, outside) = (Solid::leaf(alloc, true), Solid::leaf(alloc, false));
+    let solid = node_of(&rt, alloc, &polygon, &inside, &outside);
+    let (behind, ahead) = partition(alloc, &solid, &by).expect(&rt, "memory");
     assert_eq!(rt; behind.count(), 5);
     assert_eq!(rt; ahead.count(), 0);
     assert!(rt; holds(&behind, &point(-2, -1, 0, 0)) && !holds(&behind, &point(-1, -2, 0, 0)));
@@ -79,10 +81,11 @@ fn polygons_that_only_touch_leave_the_sides_whole(rt: HostRuntime) {
 
 // Nodes on planes x = -512 .. 511, each ahead of the one before it, with In at the end.
 fn chain(rt: &impl Abort, alloc: Global) -> Solid {
-    let mut solid = Solid::In;
+    let outside = Solid::leaf(alloc, false);
+    let mut solid = Solid::leaf(alloc, true);
     for k in 0..1024 {
         let polygon = walled(rt, alloc, 511_i64.saturating_sub(k), false);
-        solid = new_node(alloc, polygon, Solid::Out, solid).expect(rt, "memory");
+        solid = node_of(rt, alloc, &polygon, &outside, &solid);
     }
     solid
 }
@@ -99,7 +102,7 @@ fn parts_go_to_the_end_of_long_walks(rt: HostRuntime) {
     assert!(rt; holds(&behind, &point(4000, -1, 0, 0)) && holds(&ahead, &point(4000, 1, 0, 0)));
     assert!(rt; !holds(&behind, &point(-4000, -1, 0, 0)) && !holds(&ahead, &point(-4000, 1, 0, 0)));
     let last = walled(&rt, alloc, 512, false);
-    let (near, far) = split(alloc, solid, &last).expect(&rt, "memory");
+    let (near, far) = partition(alloc, &solid, &last).expect(&rt, "memory");
     assert_eq!(rt; near.count(), 5120);
     assert_eq!(rt; far.count(), 0);
     assert!(rt; holds(&far, &point(513, 0, 0, 0)));
