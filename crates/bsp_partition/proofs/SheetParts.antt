@@ -160,3 +160,11 @@ across_parted old middle new links low high made s t h m =
     let eh = ap₂ (λ (x y : Tree). (x, y)) h.high_behind.same h.high_ahead.same in
     subst (HasParts old new made) (ap₂ (across_row s t) el eh)
     (record { longer = longer_twice old middle new h.longer m.longer; low = m.low; high = m.high })
+
+-- two leaves are both their parts
+pub end_sides : (sheet : Sheet) (first second : Bool) (s t : Outline) →
+    HasSideParts sheet sheet ((End first, End first), (End second, End second)) (divide (tree_on sheet (End first)) s) (divide (tree_on sheet (End second)) t)
+end_sides sheet first second s t =
+    let low = end_parts sheet first s in
+    let high = end_parts sheet second t in
+    record { longer = longer_itself sheet; low_behind = low.low; low_ahead = low.high; high_behind = high.low; high_ahead = high.high }

@@ -10,10 +10,10 @@ ghost use Rattle.bsp_partition.specs.Partitions.{divide, AreOfHalves, HaveNoNewP
 mod part;
 mod parting;
 
-use bsp_tree::{Growing, Link, Nodes, Solid, add_branch, finish, nodes_over};
+use bsp_tree::{Growing, Link, Nodes, Solid, add_branch, finish, solid_over};
 pub use parting::{add_parts, make_node};
 use plane_polygon::Polygon;
-use plane_table::{PlaneTable, face_of, join, renumber};
+use plane_table::{PlaneTable, face_of, faces_are_found, join, renumber};
 use std::alloc::Global;
 use text_place::NoMemory;
 
@@ -32,12 +32,13 @@ pub fn partition(alloc: Global, solid: &Solid, by: &Polygon) -> Result<(Solid, S
 fn parts_of(alloc: Global, solid: &Solid, by: &Polygon) -> Result<(Solid, Solid), NoMemory>
     ensures { IfOk result (λ r. (tree_of r.0, tree_of r.1) ≡ divide (tree_of solid.now) by.now) }
 {
+    faces_are_found();
     let own = face_of(alloc, by)?;
-    let (planes, forest, root) = solid.parts();
+    let (planes, _, root) = solid.parts();
     let joined = join(alloc, planes, &own.planes)?;
     let table = PlaneTable::of(alloc, joined.planes)?;
     let by = renumber(alloc, &own.face, &joined.right)?;
-    let mut nodes = nodes_over(alloc, &table, planes, forest, &joined.left)?;
+    let mut nodes = solid_over(alloc, &table, solid, &joined.left)?;
     let (low, high) = add_parts(alloc, &mut nodes, root, &by)?;
     Ok((
         solid_at(alloc, &nodes, low)?,

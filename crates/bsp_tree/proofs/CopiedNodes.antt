@@ -11,8 +11,8 @@ use Rattle.link_forest.specs.Forests.{entry, fork, least_nodes, Adds, IsNode}
 use Rattle.plane_table.specs.declared.faces.Face.{Face}
 use Rattle.plane_table.specs.Faces.{outline_of, IsFaceOver}
 use Rattle.plane_table.specs.Joins.{AreNumbersOf, AreNumbersOfUsed, IsFound, IsMarked}
-use Rattle.bsp_tree.specs.Shapes.{shown, tree_over, AreFacesOver}
-use Rattle.bsp_tree.specs.Growths.{Sheet, tree_on}
+use Rattle.bsp_tree.specs.Shapes.{shown, tree_of, tree_over, AreFacesOver, IsWhole, SolidParts}
+use Rattle.bsp_tree.specs.Growths.{Sheet, tree_on, HasTree}
 use Rattle.bsp_tree.specs.Copies.{AreCopied, AreFoundOver, AreUsed}
 use Rattle.bsp_tree.proofs.Wholes.{leaf_tree, same_id, node_same}
 
@@ -95,3 +95,12 @@ marked_at nodes used id face behind ahead at other same n there m =
     let both : Some (entry face behind ahead) ≡ Some other = sym n.node ∙ ap (slice_get nodes) (sym same) ∙ there in
     let one : entry face behind ahead ≡ other = cc in
     rw (← one) m
+
+-- the tree of a solid whose nodes were all copied
+pub copied_stands : (solid : SolidParts) (sheet : Sheet) → IsWhole solid → AreCopied solid.planes solid.nodes (length solid.nodes) sheet →
+    HasTree sheet solid.root (tree_of solid)
+unfolding tree_of
+copied_stands solid sheet h k = record {
+  there = omega (arith, h.root, k.count_is);
+  same = k.trees solid.root h.root;
+}

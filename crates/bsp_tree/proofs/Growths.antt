@@ -169,12 +169,12 @@ leaf_is_end sheet (To id) side l h = absurd (no_leaf sheet.planes sheet.nodes id
 pub other_make : (sheet : Sheet) (behind ahead : Link) (s : Outline) → AreLinked sheet.nodes → IsLinkOf sheet.nodes behind → IsLinkOf sheet.nodes ahead →
     same_leaf behind ahead ≡ false → node s (tree_on sheet behind) (tree_on sheet ahead) ≡ make s (tree_on sheet behind) (tree_on sheet ahead)
 other_make sheet behind ahead s l kb ka e = elim (make_node s (tree_on sheet behind) (tree_on sheet ahead)) [
-    inl h ↦ sym h
+  | inl h ↦ sym h
   | inr h ↦
       let eb = leaf_is_end sheet behind h.0 l (record { there = kb; same = h.1 }) in
       let ea = leaf_is_end sheet ahead h.0 l (record { there = ka; same = h.2 }) in
       absurd (false≢true (sym e ∙ ap₂ same_leaf eb ea ∙ same_itself h.0))
-  ]
+]
 
 pub other_grows : (start middle old : Growth) (behind ahead : Link) (s : Outline) (b a : Tree) → AreLinked old.sheet.nodes →
     same_leaf behind ahead ≡ false → HasGrown start middle behind b → HasGrown middle old ahead a → node s b a ≡ make s b a

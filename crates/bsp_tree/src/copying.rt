@@ -2,13 +2,15 @@
 
 ghost use Rattle.std.specs.Prelude.{◌≡◌, IfOk, length};
 ghost use Rattle.link_forest.specs.Forests.{IsLinkOf};
-ghost use Rattle.bsp_tree.specs.Shapes.{AreFacesOver};
-ghost use Rattle.bsp_tree.specs.Growths.{exchanged, tree_on, GrowsBy};
+ghost use Rattle.plane_table.specs.Joins.{AreNumbersOf};
+ghost use Rattle.bsp_tree.specs.Shapes.{tree_of, AreFacesOver};
+ghost use Rattle.bsp_tree.specs.Growths.{exchanged, tree_on, GrowsBy, HasTree};
 ghost use Rattle.bsp_tree.specs.Copies.{AreCopied, AreFoundOver};
 
 use crate::growing::{GrowStop, Growing};
 use crate::links::turned;
 use crate::nodes::Nodes;
+use crate::solid::Solid;
 use link_forest::{Forest, Link, NodeId};
 use plane_predicate::Plane;
 use plane_table::{Face, PlaneTable, renumber};
@@ -59,4 +61,20 @@ pub fn nodes_over<'t>(
         nodes.add(renumber(alloc, face, numbers)?, behind, ahead)?;
     }
     Ok(nodes)
+}
+
+/// The nodes of a solid over a table, in which its planes have these numbers. Its tree begins at the
+/// solid's own root.
+pub fn solid_over<'t>(
+    alloc: Global,
+    table: &'t PlaneTable,
+    solid: &Solid,
+    numbers: &[u32],
+) -> Result<Nodes<'t>, NoMemory>
+    requires { AreNumbersOf table.now numbers.now solid.now.planes }
+    ensures planes { IfOk result (λ n. n.planes ≡ table.now) }
+    ensures stands { IfOk result (λ n. HasTree n solid.now.root (tree_of solid.now)) }
+{
+    let (planes, forest, _) = solid.parts();
+    nodes_over(alloc, table, planes, forest, numbers)
 }

@@ -6,7 +6,7 @@ ghost use Rattle.bsp_tree.specs.Trees.{complement, walk};
 ghost use Rattle.bsp_tree.specs.Cells.{HasPlanesOf, IsOfCell};
 ghost use Rattle.bsp_tree.specs.Shapes.{tree_of};
 
-use crate::copying::{add_branch, nodes_over};
+use crate::copying::{add_branch, solid_over};
 use crate::finishing::finish;
 use crate::growing::Growing;
 use crate::solid::Solid;
@@ -28,10 +28,10 @@ pub fn exchange(alloc: Global, solid: &Solid) -> Result<Solid, NoMemory>
 fn exchanged(alloc: Global, solid: &Solid) -> Result<Solid, NoMemory>
     ensures { IfOk result (λ s. tree_of s ≡ complement (tree_of solid.now)) }
 {
-    let (planes, forest, root) = solid.parts();
+    let (planes, _, root) = solid.parts();
     let joined = join(alloc, planes, &[])?;
     let table = PlaneTable::of(alloc, joined.planes)?;
-    let nodes = nodes_over(alloc, &table, planes, forest, &joined.left)?;
+    let nodes = solid_over(alloc, &table, solid, &joined.left)?;
     let mut growing = Growing::new(alloc, &table, u64::MAX);
     let Ok(root) = add_branch(alloc, &mut growing, &nodes, root, true) else {
         return Err(NoMemory);

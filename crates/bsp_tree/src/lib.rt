@@ -12,7 +12,7 @@ mod nodes;
 mod solid;
 mod walking;
 
-pub use copying::{add_branch, nodes_over};
+pub use copying::{add_branch, solid_over};
 pub use exchanging::exchange;
 pub use finishing::finish;
 pub use growing::{GrowStop, Growing};

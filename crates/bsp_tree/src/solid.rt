@@ -91,7 +91,7 @@ impl Solid {
     /// The table, the forest of faces over it, and the link at which the solid's tree begins. An end
     /// of a link is a leaf, which is inside the solid where it is true. Takes no memory.
     pub fn parts(&self) -> (&[Plane], &Forest<Face>, Link)
-        ensures parts { (result.0.now ≡ self.now.planes) × (result.1.now.nodes ≡ self.now.nodes) × (result.2 ≡ self.now.root) }
+        ensures parts { self.now ≡ record { planes = result.0.now; nodes = result.1.now.nodes; root = result.2 } }
         ensures tree { tree_of self.now ≡ tree_over result.0.now result.1.now.nodes result.2 }
         ensures whole { IsWhole (record { planes = result.0.now; nodes = result.1.now.nodes; root = result.2 }) }
     {
