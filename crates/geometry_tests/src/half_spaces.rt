@@ -1,24 +1,12 @@
 use crate::laying::{high, plane_at, point};
-use crate::nodes::node_of;
+use crate::nodes::chain_on;
 use bsp_tree::{Solid, exchange, half, holds};
-use plane_polygon::box_polygon;
 use std::alloc::Global;
 use std::process::Abort;
 
 // The half space of the points whose x is below 1.
 fn below_one(rt: &impl Abort, alloc: Global) -> Solid {
     half(alloc, &plane_at(rt, high(0, 1))).expect(rt, "memory")
-}
-
-// As many nodes ahead of one another, with In at the end.
-fn chain(rt: &impl Abort, alloc: Global, nodes: usize) -> Solid {
-    let polygon = box_polygon(alloc, &plane_at(rt, high(0, 1))).expect(rt, "memory");
-    let outside = Solid::leaf(alloc, false);
-    let mut solid = Solid::leaf(alloc, true);
-    for _ in 0..nodes {
-        solid = node_of(rt, alloc, &polygon, &outside, &solid);
-    }
-    solid
 }
 
 #[test]
@@ -60,7 +48,7 @@ fn leaves_are_solids(rt: HostRuntime) {
 #[test]
 fn calls_go_to_the_end_of_long_walks(rt: HostRuntime) {
     let alloc = rt.alloc();
-    let solid = chain(&rt, alloc, 1024);
+    let solid = chain_on(&rt, alloc, &plane_at(&rt, high(0, 1)), 1024);
     assert_eq!(rt; solid.count(), 5120);
     let copied = solid.copy(alloc).expect(&rt, "memory");
     let exchanged = exchange(alloc, &solid).expect(&rt, "memory");

@@ -1,12 +1,16 @@
 //! Solids put together node by node.
 
-use bsp_tree::{Growing, Nodes, Solid, add_branch, finish, nodes_over};
+ghost use Rattle.plane_predicate.specs.Space.{ComesInReach};
+
+use bsp_tree::{Growing, Link, Solid, add_branch, finish, solid_over};
 use plane_polygon::Polygon;
-use plane_table::{PlaneTable, face_of, join, renumber};
+use plane_predicate::Plane;
+use plane_table::{PlaneTable, face_of, faces_are_found, half_face, numbers_of, renumber};
 use std::alloc::Global;
 use std::process::Abort;
 
 // A node on a polygon over two solids.
+#[tactic(auto, using(plane_table::proofs::Joins::numbers_on))]
 pub fn node_of(
     rt: &impl Abort,
     alloc: Global,
@@ -14,35 +18,35 @@ pub fn node_of(
     behind: &Solid,
     ahead: &Solid,
 ) -> Solid {
-    let (behind_planes, behind_forest, behind_root) = behind.parts();
-    let (ahead_planes, ahead_forest, ahead_root) = ahead.parts();
-    let sides = join(alloc, behind_planes, ahead_planes).expect(rt, "memory");
-    let table = PlaneTable::of(alloc, sides.planes).expect(rt, "memory");
-    let behind = nodes_over(alloc, &table, behind_planes, behind_forest, &sides.left);
-    let behind = behind.expect(rt, "memory");
-    let ahead = nodes_over(alloc, &table, ahead_planes, ahead_forest, &sides.right);
-    let ahead = ahead.expect(rt, "memory");
+    faces_are_found();
     let own = face_of(alloc, polygon).expect(rt, "memory");
-    let joined = join(alloc, table.planes(), &own.planes).expect(rt, "memory");
-    let whole = PlaneTable::of(alloc, joined.planes).expect(rt, "memory");
-    let behind = moved(rt, alloc, &whole, &behind, &joined.left);
-    let ahead = moved(rt, alloc, &whole, &ahead, &joined.left);
-    let face = renumber(alloc, &own.face, &joined.right).expect(rt, "memory");
-    let mut growing = Growing::new(alloc, &whole, u64::MAX);
+    let (planes, _, behind_root) = behind.parts();
+    let of_behind = numbers_of(alloc, Vec::new(alloc), planes).expect(rt, "memory");
+    let (planes, _, ahead_root) = ahead.parts();
+    let of_ahead = numbers_of(alloc, of_behind.planes, planes).expect(rt, "memory");
+    let of_own = numbers_of(alloc, of_ahead.planes, &own.planes).expect(rt, "memory");
+    let table = PlaneTable::of(alloc, of_own.planes).expect(rt, "memory");
+    let behind = solid_over(alloc, &table, behind, &of_behind.numbers).expect(rt, "memory");
+    let ahead = solid_over(alloc, &table, ahead, &of_ahead.numbers).expect(rt, "memory");
+    let face = renumber(alloc, &own.face, &of_own.numbers).expect(rt, "memory");
+    let mut growing = Growing::new(alloc, &table, u64::MAX);
     let first = add_branch(alloc, &mut growing, &behind, behind_root, false).expect(rt, "memory");
     let second = add_branch(alloc, &mut growing, &ahead, ahead_root, false).expect(rt, "memory");
     let root = growing.add(face, first, second).expect(rt, "memory");
     finish(alloc, growing, root).expect(rt, "memory")
 }
 
-// Nodes over another table, in which the planes of their own have these numbers.
-fn moved<'t>(
-    rt: &impl Abort,
-    alloc: Global,
-    table: &'t PlaneTable,
-    nodes: &Nodes<'_>,
-    numbers: &[u32],
-) -> Nodes<'t> {
-    let planes = nodes.table().planes();
-    nodes_over(alloc, table, planes, nodes.forest(), numbers).expect(rt, "memory")
+// As many nodes on one plane, each ahead of the one before it, with In at the end.
+pub fn chain_on(rt: &impl Abort, alloc: Global, plane: &Plane, nodes: usize) -> Solid
+    requires { ComesInReach plane.now }
+{
+    let own = half_face(alloc, plane).expect(rt, "memory");
+    let table = PlaneTable::of(alloc, own.planes).expect(rt, "memory");
+    let mut growing = Growing::new(alloc, &table, u64::MAX);
+    let mut root = Link::End(true);
+    for _ in 0..nodes {
+        let face = own.face.copy(alloc).expect(rt, "memory");
+        root = growing.add(face, Link::End(false), root).expect(rt, "memory");
+    }
+    finish(alloc, growing, root).expect(rt, "memory")
 }
