@@ -7,6 +7,8 @@ use Rattle.bsp_tree.specs.Shapes.{SolidParts}
 use Rattle.bsp_tree.specs.Trees.{Tree, inside, outside, walk, size, half_space}
 use Rattle.bsp_tree.specs.Cells.{IsOfWorld, IsPlaneOf}
 use Rattle.bsp_tree.specs.Shapes.{tree_of}
+use Rattle.bsp_tree.specs.declared.growing.GrowStop.{GrowStop}
+use Rattle.bsp_tree.specs.declared.growing.GrowStop.TheVariants as growing
 use Rattle.bsp_boolean.specs.declared.building.BuildStop.{BuildStop}
 use Rattle.bsp_boolean.specs.declared.building.BuildStop.TheVariants.{TooBig, NoMemory}
 use Rattle.bsp_boolean.specs.Merges.{combined, merged}
@@ -38,3 +40,8 @@ pub record IsSolidOf (f : Formula) (t : Tree) : Type 0 where
   pub walks : (p : Coordinates) → IsInWorld p →
       ((m : Coefficients) → formulas.IsPlaneOf m f → value m p ≡ pos 0 → ⊥) →
       walk t p ≡ holds f (sides_of p)
+
+-- what stops a solid from growing stops it from being built
+abbrev pub stop_of : GrowStop → BuildStop
+stop_of growing.TooBig = TooBig
+stop_of growing.NoMemory = NoMemory

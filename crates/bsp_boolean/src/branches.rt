@@ -25,6 +25,7 @@ pub struct Merge<'a> {
 impl<'a> Merge<'a> {
     /// Adds the merge of the trees at two links to what grows. The scratch list has the right tree, and
     /// is afterwards as it was before.
+    #[cycle(branches)]
     pub fn branch(
         &self,
         alloc: Global,
@@ -57,6 +58,7 @@ impl<'a> Merge<'a> {
     }
 
     /// The same for two nodes: the left one's face divides the right tree.
+    #[cycle(branches)]
     fn node(
         &self,
         alloc: Global,

@@ -9,7 +9,7 @@ ghost use Rattle.bsp_boolean.specs.Solids.{IsBuilt};
 
 use crate::branches::Merge;
 use crate::building::BuildStop;
-use bsp_tree::{Growing, Solid, finish, nodes_over};
+use bsp_tree::{Growing, Solid, finish, solid_over};
 use csg_tree::Op;
 use plane_table::{PlaneTable, join};
 use std::alloc::Global;
@@ -43,7 +43,7 @@ pub fn merge_within(
 
 /// What was built within the limit of all numbers. A solid above that limit is larger than any
 /// memory: each node and each edge takes more than one byte.
-fn in_all_memory(built: Result<Solid, BuildStop>) -> Result<Solid, NoMemory>
+pub fn in_all_memory(built: Result<Solid, BuildStop>) -> Result<Solid, NoMemory>
     requires { (wanted : Tree) × IsBuilt wanted (2 ^ 64 - 1) built }
     ensures { IfOk result (λ s. built ≡ Ok s) }
 {
@@ -55,7 +55,7 @@ fn in_all_memory(built: Result<Solid, BuildStop>) -> Result<Solid, NoMemory>
 
 /// The merge, by the definition: both solids stand over one table, the left one is gone through, and
 /// the right one is divided by its faces.
-fn merged_within(
+pub fn merged_within(
     alloc: Global,
     op: Op,
     left: &Solid,
@@ -64,12 +64,12 @@ fn merged_within(
 ) -> Result<Solid, BuildStop>
     ensures { IsBuilt (merged op (tree_of left.now) (tree_of right.now)) most result }
 {
-    let (left_planes, left_forest, left_root) = left.parts();
-    let (right_planes, right_forest, right_root) = right.parts();
+    let (left_planes, _, left_root) = left.parts();
+    let (right_planes, _, right_root) = right.parts();
     let joined = join(alloc, left_planes, right_planes)?;
     let table = PlaneTable::of(alloc, joined.planes)?;
-    let left_nodes = nodes_over(alloc, &table, left_planes, left_forest, &joined.left)?;
-    let mut right_nodes = nodes_over(alloc, &table, right_planes, right_forest, &joined.right)?;
+    let left_nodes = solid_over(alloc, &table, left, &joined.left)?;
+    let mut right_nodes = solid_over(alloc, &table, right, &joined.right)?;
     let mut growing = Growing::new(alloc, &table, most);
     let merge = Merge {
         left: &left_nodes,
