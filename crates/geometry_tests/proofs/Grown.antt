@@ -1,5 +1,5 @@
 -- A solid that has grown from nothing.
-use Rattle.std.proofs.Common.{ℕ, ◌+◌, [], List, ap, arith}
+use Rattle.std.proofs.Common.{ℕ, [], List, ap, arith}
 use Rattle.plane_predicate.specs.Space.{Coefficients}
 use Rattle.link_forest.specs.declared.link.Link.{Link}
 use Rattle.bsp_tree.specs.Trees.{Tree, size}
