@@ -46,7 +46,9 @@ pub fn chain_on(rt: &impl Abort, alloc: Global, plane: &Plane, nodes: usize) -> 
     let mut root = Link::End(true);
     for _ in 0..nodes {
         let face = own.face.copy(alloc).expect(rt, "memory");
-        root = growing.add(face, Link::End(false), root).expect(rt, "memory");
+        root = growing
+            .add(face, Link::End(false), root)
+            .expect(rt, "memory");
     }
     finish(alloc, growing, root).expect(rt, "memory")
 }
