@@ -8,7 +8,7 @@ ghost use Rattle.bsp_boolean.specs.Merges.{combined};
 ghost use Rattle.bsp_boolean.specs.Branches.{AreOverOne};
 
 use bsp_partition::add_parts;
-use bsp_tree::{GrowStop, Growing, Link, NodeId, Nodes, add_branch};
+use bsp_tree::{GrowStop, Growing, Link, NodeId, Nodes, add_branch, alike, turned};
 use std::alloc::Global;
 
 /// How a left tree is merged with a right one.
@@ -42,13 +42,13 @@ impl<'a> Merge<'a> {
     {
         match (left, right) {
             (Link::End(is_inside), _) => {
-                if is_inside == self.in_decides {
+                if alike(is_inside, self.in_decides) {
                     return Ok(left);
                 }
                 add_branch(alloc, growing, scratch, right, self.is_exchanged)
             }
             (Link::To(_), Link::End(is_inside)) => {
-                if (is_inside != self.is_exchanged) == self.in_decides {
+                if alike(turned(is_inside, self.is_exchanged), self.in_decides) {
                     return Ok(Link::End(self.in_decides));
                 }
                 add_branch(alloc, growing, self.left, left, false)

@@ -44,8 +44,10 @@ fn half_within(alloc: Global, plane: &Plane, most: u64) -> Result<Solid, BuildSt
     ensures world { IfOk result (λ s. IsOfWorld (tree_of s)) }
 {
     let solid = half(alloc, plane)?;
-    if solid.count() > most {
-        return Err(BuildStop::TooBig);
+    match solid.count() {
+        // A solid of this size is larger than any memory.
+        u64::MAX => Err(BuildStop::NoMemory),
+        size if size > most => Err(BuildStop::TooBig),
+        _ => Ok(solid),
     }
-    Ok(solid)
 }

@@ -152,13 +152,29 @@ item [] i h = absurd (omega arith)
 item (x ∷ xs) zero h = (x, refl)
 item (x ∷ xs) (suc i) h = item xs i (omega arith)
 
+-- at a node's link a node stands
+pub record Fork (t : Tree) : Type 0 where
+  pub outline : Outline
+  pub behind : Tree
+  pub ahead : Tree
+  pub same : t ≡ node outline behind ahead
+
+pub is_fork : (planes : List Coefficients) (nodes : List (Entry Face)) (id : NodeId) → AreLinked nodes → id.index < length nodes →
+    Fork (tree_over planes nodes (To id))
+is_fork planes nodes id l below =
+    let there = item nodes id.index below in
+    let n = is_node nodes id there.0.payload there.0.behind there.0.ahead l there.1 in
+    record {
+      outline = outline_of planes there.0.payload;
+      behind = tree_over planes nodes there.0.behind;
+      ahead = tree_over planes nodes there.0.ahead;
+      same = ap (shown planes) n.tree;
+    }
+
 no_leaf : (planes : List Coefficients) (nodes : List (Entry Face)) (id : NodeId) (side : Bool) → AreLinked nodes → id.index < length nodes →
     tree_over planes nodes (To id) ≡ leaf_of side → ⊥
 no_leaf planes nodes id side l below e =
-    let there = item nodes id.index below in
-    let n = is_node nodes id there.0.payload there.0.behind there.0.ahead l there.1 in
-    not_leaf (outline_of planes there.0.payload) (tree_over planes nodes there.0.behind) (tree_over planes nodes there.0.ahead) side
-    (sym (ap (shown planes) n.tree) ∙ e)
+    let fork = is_fork planes nodes id l below in not_leaf fork.outline fork.behind fork.ahead side (sym fork.same ∙ e)
 
 -- a link at which a leaf stands is that end
 pub leaf_is_end : (sheet : Sheet) (link : Link) (side : Bool) → AreLinked sheet.nodes → HasTree sheet link (leaf_of side) → link ≡ End side

@@ -31,7 +31,7 @@ pub fn add_branch(
     ensures { GrowsBy growing.old growing.new (exchanged is_exchanged (tree_on from.now at)) result }
 {
     match at {
-        Link::End(is_inside) => Ok(turned(is_inside, is_exchanged)),
+        Link::End(is_inside) => Ok(Link::End(turned(is_inside, is_exchanged))),
         Link::To(id) => {
             let (face, behind, ahead) = from.node(id);
             let behind = add_branch(alloc, growing, from, behind, is_exchanged)?;

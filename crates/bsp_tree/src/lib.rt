@@ -19,7 +19,7 @@ pub use growing::{GrowStop, Growing};
 pub use half_spaces::half;
 pub use laws::{parts_are_of_halves, world_box_is_a_cell};
 pub use link_forest::{Forest, Link, NodeId};
-pub use links::is_same_leaf;
+pub use links::{alike, is_same_leaf, turned};
 pub use nodes::Nodes;
 pub use plane_table::{Edges, Face};
 pub use solid::Solid;

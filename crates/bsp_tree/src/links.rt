@@ -1,7 +1,6 @@
 //! Leaves as ends of links.
 
 ghost use Rattle.std.specs.Prelude.{◌≡◌};
-ghost use Rattle.link_forest.specs.declared.link.Link.TheVariants.{End};
 ghost use Rattle.bsp_tree.specs.Links.{alike, is_leaf, same_leaf, turned};
 
 use link_forest::Link;
@@ -27,15 +26,15 @@ fn is_leaf(link: Link, is_inside: bool) -> bool
 }
 
 /// Whether both are so, or neither.
-fn alike(one: bool, other: bool) -> bool
+pub fn alike(one: bool, other: bool) -> bool
     ensures { result ≡ alike one other }
 {
     if one { other } else { !other }
 }
 
-/// The other end, where ends are exchanged.
-pub fn turned(is_inside: bool, is_exchanged: bool) -> Link
-    ensures { result ≡ End (turned is_inside is_exchanged) }
+/// Whether a leaf is inside, where leaves are exchanged.
+pub fn turned(is_inside: bool, is_exchanged: bool) -> bool
+    ensures { result ≡ turned is_inside is_exchanged }
 {
-    Link::End(if is_exchanged { !is_inside } else { is_inside })
+    if is_exchanged { !is_inside } else { is_inside }
 }
