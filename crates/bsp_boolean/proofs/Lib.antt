@@ -1,4 +1,4 @@
-pub mod TooBig
+pub mod Exchanges
 pub mod Combined
 pub mod Merged
 pub mod Solids

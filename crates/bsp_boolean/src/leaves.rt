@@ -1,23 +1,19 @@
 //! The solids of leaves.
 
-ghost use Rattle.std.specs.Prelude.{◌≡◌, ◌-◌, ◌^◌, ◌<◌, IfOk, IsOkAnd, All, length};
+ghost use Rattle.std.specs.Prelude.{◌<◌, length, All, IfOk};
 ghost use Rattle.plane_predicate.specs.Space.{ComesInReach};
 ghost use Rattle.csg_tree.specs.Formulas.{leaf};
-ghost use Rattle.bsp_tree.specs.Trees.{half_space, Tree};
+ghost use Rattle.bsp_tree.specs.Trees.{half_space};
 ghost use Rattle.bsp_tree.specs.Cells.{IsOfWorld};
 ghost use Rattle.bsp_tree.specs.Shapes.{tree_of};
-ghost use Rattle.bsp_boolean.specs.MadeSolids.{IsMade};
 ghost use Rattle.bsp_boolean.specs.Solids.{convex, IsBuilt, IsSolidOf};
 
 use crate::building::BuildStop;
-use crate::combining::combine;
-use crate::sizes::{Made, moved, node_size};
-use bsp_partition::make_node;
+use crate::merging::{in_all_memory, merged_within};
 use bsp_tree::{Solid, half};
-use plane_polygon::box_polygon;
+use csg_tree::Op;
 use plane_predicate::Plane;
 use std::alloc::Global;
-use text_place::NoMemory;
 
 /// The solid of a leaf: the points behind all of its planes, of which there is at least one, in the
 /// world box. Each plane has a point with coordinates at most 4095 in size. `TooBig` comes exactly
@@ -28,54 +24,30 @@ pub fn leaf_solid(alloc: Global, planes: &[Plane], most: u64) -> Result<Solid, B
     ensures built { IsBuilt (convex planes.now) most result }
     ensures solid { IfOk result (λ s. IsSolidOf (leaf planes.now) (tree_of s)) }
 {
-    Ok(leaf_within(alloc, planes, most)?.solid)
-}
-
-/// The solid of a leaf with its size.
-fn leaf_within(alloc: Global, planes: &[Plane], most: u64) -> Result<Made, BuildStop>
-    requires some { 0 < length planes.now }
-    requires reach { All ComesInReach planes.now }
-    ensures made { IsMade (convex planes.now) most result }
-    ensures solid { IfOk result (λ made. IsSolidOf (leaf planes.now) (tree_of made.solid)) }
-{
     match planes {
-        [] => moved(Solid::In, most),
+        [] => Ok(Solid::leaf(alloc, true)),
         [only] => half_within(alloc, only, most),
         [first, others @ ..] => {
             // The whole may be smaller than this part of it, so the part has no limit.
-            let others = part_of(leaf_within(alloc, others, u64::MAX))?;
+            let others = in_all_memory(leaf_solid(alloc, others, u64::MAX))?;
             let half = half(alloc, first)?;
-            combine(alloc, false, &half, others, most)
+            merged_within(alloc, Op::Intersection, &half, &others, most)
         }
     }
 }
 
-/// A part that was made within the limit of all numbers. One above that limit is larger than any
-/// memory: each node and each edge takes more than one byte.
-fn part_of(made: Result<Made, BuildStop>) -> Result<Solid, NoMemory>
-    requires { (wanted : Tree) × IsMade wanted (2 ^ 64 - 1) made }
-    ensures { IfOk result (λ s. IsOkAnd made (λ m. m.solid ≡ s)) }
-{
-    match made {
-        Ok(made) => Ok(made.solid),
-        Err(BuildStop::TooBig | BuildStop::NoMemory) => Err(NoMemory),
-    }
-}
-
-/// The points behind a plane, in the world box, with the size.
+/// The points behind a plane, in the world box, where their size is within the limit.
 #[tactic(auto, using(bsp_tree::proofs::Worlds::half_of_world))]
-fn half_within(alloc: Global, plane: &Plane, most: u64) -> Result<Made, BuildStop>
+fn half_within(alloc: Global, plane: &Plane, most: u64) -> Result<Solid, BuildStop>
     requires { ComesInReach plane.now }
-    ensures made { IsMade (half_space plane.now) most result }
-    ensures world { IfOk result (λ made. IsOfWorld (tree_of made.solid)) }
+    ensures built { IsBuilt (half_space plane.now) most result }
+    ensures world { IfOk result (λ s. IsOfWorld (tree_of s)) }
 {
-    // Reading a number shows the proof what each plane keeps.
-    let _ = &plane.a;
-    let polygon = box_polygon(alloc, plane)?;
-    let size = node_size(&polygon);
-    if size > most {
-        return Err(BuildStop::TooBig);
+    let solid = half(alloc, plane)?;
+    match solid.count() {
+        // A solid of this size is larger than any memory.
+        u64::MAX => Err(BuildStop::NoMemory),
+        size if size > most => Err(BuildStop::TooBig),
+        _ => Ok(solid),
     }
-    let solid = make_node(alloc, polygon, Solid::In, Solid::Out)?;
-    Ok(Made { solid, size })
 }

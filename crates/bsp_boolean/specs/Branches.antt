@@ -1,0 +1,23 @@
+-- The merge of two trees over one table.
+use Rattle.std.specs.Prelude.{◌≡◌, Bool, true, false}
+use Rattle.plane_predicate.specs.Space.{Coefficients}
+use Rattle.csg_tree.specs.declared.op.Op.{Op}
+use Rattle.csg_tree.specs.declared.op.Op.TheVariants.{Union, Intersection, Difference}
+use Rattle.bsp_tree.specs.Growths.{Sheet, Growth}
+
+-- whether the leaf inside decides, and else the leaf outside
+abbrev pub decides : Op → Bool
+decides Union = true
+decides Intersection = false
+decides Difference = false
+
+-- whether the right tree's inside and outside are exchanged
+abbrev pub exchanges : Op → Bool
+exchanges Union = false
+exchanges Intersection = false
+exchanges Difference = true
+
+-- the left tree, the right one and what grows stand over one table
+pub record AreOverOne (left right : Sheet) (growth : Growth) : Type 0 where
+  pub right_planes : right.planes ≡ left.planes
+  pub growing_planes : growth.sheet.planes ≡ left.planes
