@@ -1,19 +1,21 @@
 //! The solids of leaves.
 
-ghost use Rattle.std.specs.Prelude.{◌<◌, length, All, IfOk};
+ghost use Rattle.std.specs.Prelude.{◌≡◌, ◌<◌, length, map, All, IfOk};
 ghost use Rattle.plane_predicate.specs.Space.{ComesInReach};
 ghost use Rattle.csg_tree.specs.Formulas.{leaf};
-ghost use Rattle.bsp_tree.specs.Trees.{half_space};
-ghost use Rattle.bsp_tree.specs.Cells.{IsOfWorld};
+ghost use Rattle.plane_table.specs.Faces.{outline_of, IsFaceOver};
 ghost use Rattle.bsp_tree.specs.Shapes.{tree_of};
+ghost use Rattle.bsp_partition.specs.Parts.{HasMade};
+ghost use Rattle.bsp_boolean.specs.Branches.{behind_all};
 ghost use Rattle.bsp_boolean.specs.Solids.{convex, IsBuilt, IsSolidOf};
 
 use crate::building::BuildStop;
-use crate::merging::{in_all_memory, merged_within};
-use bsp_tree::{Solid, half};
-use csg_tree::Op;
+use bsp_partition::{add_parts, make_node};
+use bsp_tree::{Face, Growing, Link, Nodes, Solid, add_branch, finish};
 use plane_predicate::Plane;
+use plane_table::{HalfFaces, PlaneTable, half_faces};
 use std::alloc::Global;
+use text_place::NoMemory;
 
 /// The solid of a leaf: the points behind all of its planes, of which there is at least one, in the
 /// world box. Each plane has a point with coordinates at most 4095 in size. `TooBig` comes exactly
@@ -24,30 +26,27 @@ pub fn leaf_solid(alloc: Global, planes: &[Plane], most: u64) -> Result<Solid, B
     ensures built { IsBuilt (convex planes.now) most result }
     ensures solid { IfOk result (λ s. IsSolidOf (leaf planes.now) (tree_of s)) }
 {
-    match planes {
-        [] => Ok(Solid::leaf(alloc, true)),
-        [only] => half_within(alloc, only, most),
-        [first, others @ ..] => {
-            // The whole may be smaller than this part of it, so the part has no limit.
-            let others = in_all_memory(leaf_solid(alloc, others, u64::MAX))?;
-            let half = half(alloc, first)?;
-            merged_within(alloc, Op::Intersection, &half, &others, most)
-        }
-    }
+    let HalfFaces { planes, faces } = half_faces(alloc, planes)?;
+    let table = PlaneTable::of(alloc, planes)?;
+    let mut nodes = Nodes::new(alloc, &table);
+    let whole = add_behind_all(alloc, &mut nodes, &faces)?;
+    let mut growing = Growing::new(alloc, &table, most);
+    let root = add_branch(alloc, &mut growing, &nodes, whole, false)?;
+    Ok(finish(alloc, growing, root)?)
 }
 
-/// The points behind a plane, in the world box, where their size is within the limit.
-#[tactic(auto, using(bsp_tree::proofs::Worlds::half_of_world))]
-fn half_within(alloc: Global, plane: &Plane, most: u64) -> Result<Solid, BuildStop>
-    requires { ComesInReach plane.now }
-    ensures built { IsBuilt (half_space plane.now) most result }
-    ensures world { IfOk result (λ s. IsOfWorld (tree_of s)) }
+/// Adds the tree of the points behind the planes of all of some faces, in the world box. The whole may
+/// be smaller than a part of it, so the parts have no limit.
+fn add_behind_all(alloc: Global, nodes: &mut Nodes<'_>, faces: &[Face]) -> Result<Link, NoMemory>
+    requires { All (IsFaceOver nodes.old.planes) faces.now }
+    ensures { IfOk result (λ l. HasMade nodes.old nodes.new l (behind_all (map (outline_of nodes.old.planes) faces.now))) }
 {
-    let solid = half(alloc, plane)?;
-    match solid.count() {
-        // A solid of this size is larger than any memory.
-        u64::MAX => Err(BuildStop::NoMemory),
-        size if size > most => Err(BuildStop::TooBig),
-        _ => Ok(solid),
+    match faces {
+        [] => Ok(Link::End(true)),
+        [first, others @ ..] => {
+            let rest = add_behind_all(alloc, nodes, others)?;
+            let (behind, _) = add_parts(alloc, nodes, rest, first)?;
+            make_node(nodes, first.copy(alloc)?, behind, Link::End(false))
+        }
     }
 }

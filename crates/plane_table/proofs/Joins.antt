@@ -3,8 +3,8 @@ use Rattle.std.proofs.Common.{◌≡◌, ◌≢◌, ℕ, ◌+◌, ◌*◌, ◌/�
 use Rattle.std.specs.Result.{IfOk}
 use Rattle.std.specs.List.{All}
 use Rattle.std.proofs.lemmas.Bool.{cases_lt, cases_eq}
-use Rattle.std.proofs.lemmas.List.{get_or_append_left, get_or_push, length_push, length-map, get_or_read, same_lists, get_or_default, get_or-set_same, get_or-set_other}
-use Rattle.std.proofs.lemmas.List.Elements.{All-head, All-tail, All-cons, All-nil}
+use Rattle.std.proofs.lemmas.List.{get_or_append_left, get_or_push, length_push, length-map, get_or_read, same_lists, get_or_default, get_or-set_same, get_or-set_other, map_push}
+use Rattle.std.proofs.lemmas.List.Elements.{All-append, All-head, All-tail, All-cons, All-nil}
 use Rattle.plane_predicate.specs.Space.{Coefficients, opposite_of}
 use Rattle.plane_polygon.specs.Polygons.{nowhere, Outline, IsPolygon}
 use Rattle.plane_table.specs.declared.faces.Face.{Face}
@@ -152,6 +152,41 @@ own_face s first planes n numbers es m ms i e f k a g h p = record {
   edges = subst (All (IsNumberIn planes)) (sym h) (numbers_in planes numbers ms a);
   polygon = subst IsPolygon (sym (own_outline s first planes n numbers es m ms i e f k a g h)) p;
 }
+
+-- ---- faces over a list that grew
+pub numbers_kept : (old new : List Coefficients) (numbers : List ℕ) → KeepsNumbers old new → All (IsNumberIn old) numbers →
+    All (IsNumberIn new) numbers × (map (named new) numbers ≡ map (named old) numbers)
+numbers_kept old new [] k h = (All-nil (IsNumberIn new), refl)
+numbers_kept old new (n ∷ numbers) k h =
+    let first = All-head (IsNumberIn old) n numbers h in
+    let rest = numbers_kept old new numbers k (All-tail (IsNumberIn old) n numbers h) in
+    (All-cons (IsNumberIn new) n numbers (k.in_range n first) rest.0, ap₂ (λ (m : Coefficients) (ms : List Coefficients). m ∷ ms) (k.same n first) rest.1)
+
+pub face_kept : (old new : List Coefficients) (face : Face) → KeepsNumbers old new → IsFaceOver old face →
+    IsFaceOver new face × (outline_of new face ≡ outline_of old face)
+face_kept old new face k h =
+    let edges = numbers_kept old new face.edges k h.edges in
+    let same = same_outline (named new face.plane) (named old face.plane) (map (named new) face.edges) (map (named old) face.edges) (k.same face.plane h.plane) edges.1 in
+    (record { plane = k.in_range face.plane h.plane; edges = edges.0; polygon = subst IsPolygon (sym same) h.polygon }, same)
+
+pub faces_kept : (old new : List Coefficients) (faces : List Face) → KeepsNumbers old new → All (IsFaceOver old) faces →
+    All (IsFaceOver new) faces × (map (outline_of new) faces ≡ map (outline_of old) faces)
+faces_kept old new [] k h = (All-nil (IsFaceOver new), refl)
+faces_kept old new (face ∷ faces) k h =
+    let first = face_kept old new face k (All-head (IsFaceOver old) face faces h) in
+    let rest = faces_kept old new faces k (All-tail (IsFaceOver old) face faces h) in
+    (All-cons (IsFaceOver new) face faces first.0 rest.0, ap₂ (λ (s : Outline) (ss : List Outline). s ∷ ss) first.1 rest.1)
+
+-- one face more over the list to which its planes were added
+pub faces_more : (old new : List Coefficients) (faces more : List Face) (face : Face) (s : Outline) (outlines : List Outline) → KeepsNumbers old new → more ≡ faces ++ face ∷ [] →
+    All (IsFaceOver old) faces → map (outline_of old) faces ≡ outlines → IsFaceOver new face → outline_of new face ≡ s →
+    All (IsFaceOver new) more × (map (outline_of new) more ≡ outlines ++ s ∷ [])
+faces_more old new faces more face s outlines k e h o f p =
+    let kept = faces_kept old new faces k h in
+    rw e (
+      All-append (IsFaceOver new) faces (face ∷ []) kept.0 (All-cons (IsFaceOver new) face [] f (All-nil (IsFaceOver new))),
+      map_push (outline_of new) faces face ∙ ap₂ (λ (ss : List Outline) (t : Outline). ss ++ t ∷ []) (kept.1 ∙ o) p,
+    )
 
 -- ---- two clauses on a result
 pub both_ok : {X Y : Type 0} (r : Result X Y) (P Q R : X → Type 0) → ((x : X) → P x → Q x → R x) → IfOk r P → IfOk r Q → IfOk r R

@@ -1,9 +1,11 @@
 -- Planes of one list found in another.
-use Rattle.std.specs.Prelude.{◌≡◌, ℕ, ◌/◌, ◌<◌, ◌≤◌, Bool, true, false, List, [], ◌∷◌, ◌++◌, ◌*◌, length, get_or, if◌then◌else◌, ◌==◌, ◌%◌, All}
-use Rattle.plane_predicate.specs.Space.{Coefficients}
+use Rattle.std.specs.Prelude.{◌≡◌, ℕ, ◌/◌, ◌<◌, ◌≤◌, Bool, true, false, List, [], ◌∷◌, ◌++◌, ◌*◌, length, get_or, map, if◌then◌else◌, ◌==◌, ◌%◌, All}
+use Rattle.plane_predicate.specs.Space.{Coefficients, IsPlane}
 use Rattle.plane_polygon.specs.Polygons.{nowhere, Outline}
+use Rattle.plane_polygon.specs.Boxes.{box_outline}
 use Rattle.plane_table.specs.declared.faces.Face.{Face}
 use Rattle.plane_table.specs.declared.numbering.OwnFace.{OwnFace}
+use Rattle.plane_table.specs.declared.numbering.HalfFaces.{HalfFaces}
 use Rattle.plane_table.specs.Tables.{named, opposite_number, HasNoTwoAlike, IsNumberIn}
 use Rattle.plane_table.specs.Faces.{outline_of, IsFaceOver}
 
@@ -64,3 +66,10 @@ pub record IsFaceOf (s : Outline) (own : OwnFace) : Type 0 where
   pub apart : HasNoTwoAlike own.planes.items
   pub face : IsFaceOver own.planes.items own.face
   pub outline : outline_of own.planes.items own.face ≡ s
+
+-- the faces that planes have in the world box, in order, with the list of all planes that they name
+pub record AreHalfFacesOf (from : List Coefficients) (found : HalfFaces) : Type 0 where
+  pub planes : All IsPlane from
+  pub apart : HasNoTwoAlike found.planes.items
+  pub faces : All (IsFaceOver found.planes.items) found.faces.items
+  pub outlines : map (outline_of found.planes.items) found.faces.items ≡ map box_outline from

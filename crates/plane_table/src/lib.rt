@@ -17,7 +17,7 @@ pub use edges::Edges;
 pub use faces::{Face, polygon_of};
 pub use joining::{Joined, join};
 pub use laws::faces_are_found;
-pub use numbering::{Numbered, OwnFace, face_of, half_face, numbers_of};
+pub use numbering::{HalfFaces, Numbered, OwnFace, face_of, half_face, half_faces, numbers_of};
 pub use renumbering::{keep_used, mark_used, renumber};
 pub use sorting::{CornerSide, CornerSides, class_of, sides};
 pub use table::{PlaneTable, opposite_number};

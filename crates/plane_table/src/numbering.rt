@@ -1,11 +1,11 @@
 //! The numbers of planes over lists of planes that grow.
 
-ghost use Rattle.std.specs.Prelude.{◌≡◌, ◌<◌, ◌*◌, ◌/◌, ◌^◌, ◌++◌, [], ◌∷◌, ℕ, length, get_or, IfOk, IfSome, IfNone};
+ghost use Rattle.std.specs.Prelude.{◌≡◌, ◌<◌, ◌*◌, ◌/◌, ◌^◌, ◌++◌, [], ◌∷◌, ℕ, length, get_or, All, IfOk, IfSome, IfNone};
 ghost use Rattle.plane_predicate.specs.Space.{ComesInReach};
 ghost use Rattle.plane_polygon.specs.Boxes.{box_outline};
 ghost use Rattle.plane_polygon.specs.Polygons.{nowhere};
 ghost use Rattle.plane_table.specs.Tables.{named, turned_by_number, AreApart, HasNoTwoAlike, IsNumberIn};
-ghost use Rattle.plane_table.specs.Joins.{AreNumbersOf, IsFaceOf, IsNumbered, KeepsNumbers};
+ghost use Rattle.plane_table.specs.Joins.{AreHalfFacesOf, AreNumbersOf, IsFaceOf, IsNumbered, KeepsNumbers};
 
 use crate::ordering::in_order;
 use crate::{Edges, Face};
@@ -43,10 +43,48 @@ pub fn face_of(alloc: Global, polygon: &Polygon) -> Result<OwnFace, NoMemory>
     own_face(alloc, in_order(alloc, found.planes)?, polygon)
 }
 
+/// Faces over one list of planes, no two of which are equal or opposite.
+#[derive(Drop)]
+pub struct HalfFaces {
+    /// The planes that the faces' numbers name.
+    pub planes: Vec<Plane>,
+    /// The faces.
+    pub faces: Vec<Face>,
+}
+
+/// The faces that planes have in the world box, in order. Each plane has a point with coordinates at
+/// most 4095 in size.
+pub fn half_faces(alloc: Global, from: &[Plane]) -> Result<HalfFaces, NoMemory>
+    requires { All ComesInReach from.now }
+    ensures { IfOk result (AreHalfFacesOf from.now) }
+{
+    let found = half_faces_over(alloc, Vec::new(alloc), from)?;
+    half_faces_over(alloc, in_order(alloc, found.planes)?, from)
+}
+
+/// The same over a list to which the planes that it lacks are added.
+fn half_faces_over(alloc: Global, known: Vec<Plane>, from: &[Plane]) -> Result<HalfFaces, NoMemory>
+    requires apart { HasNoTwoAlike known.items }
+    requires reach { All ComesInReach from.now }
+    ensures { IfOk result (AreHalfFacesOf from.now) }
+{
+    let mut planes = known;
+    let mut faces = Vec::new(alloc);
+    for plane in from {
+        // Reading a number shows the proof what each plane keeps.
+        let _ = &plane.a;
+        let own = own_face(alloc, planes, &box_polygon(alloc, plane)?)?;
+        planes = own.planes;
+        faces.push(own.face)?;
+    }
+    Ok(HalfFaces { planes, faces })
+}
+
 /// A polygon as a face over a list to which the planes that it lacks are added.
 fn own_face(alloc: Global, known: Vec<Plane>, polygon: &Polygon) -> Result<OwnFace, NoMemory>
     requires { HasNoTwoAlike known.items }
-    ensures { IfOk result (λ r. IsFaceOf polygon.now r) }
+    ensures face { IfOk result (λ r. IsFaceOf polygon.now r) }
+    ensures keeps { IfOk result (λ r. KeepsNumbers known.items r.planes.items) }
 {
     polygons_keep_their_form(polygon);
     let mut planes = known;

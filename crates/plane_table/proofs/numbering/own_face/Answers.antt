@@ -2,8 +2,8 @@ use Rattle.std.proofs.Common.{◌∙◌}
 use Rattle.plane_table.proofs.Joins.{own_outline, own_face}
 use Rattle.plane_table.proofs.numbering.own_face.Goals as goal
 
-pub returns : goal.returns
-returns c =
+pub returns-clause-face : goal.returns-clause-face
+returns-clause-face c =
     let found = c.in_ok-plane.ensures in
     let first = c.number_of.new.planes.items in
     let planes = c.in_ok-found.found.planes.items in
