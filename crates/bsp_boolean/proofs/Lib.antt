@@ -2,5 +2,6 @@ pub mod Exchanges
 pub mod Combined
 pub mod Merged
 pub mod Solids
+pub mod Leaves
 mod Examples
 pub mod TreeSolids

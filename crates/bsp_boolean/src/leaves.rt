@@ -28,15 +28,28 @@ pub fn leaf_solid(alloc: Global, planes: &[Plane], most: u64) -> Result<Solid, B
 {
     let HalfFaces { planes, faces } = half_faces(alloc, planes)?;
     let table = PlaneTable::of(alloc, planes)?;
-    let mut nodes = Nodes::new(alloc, &table);
-    let whole = add_behind_all(alloc, &mut nodes, &faces)?;
-    let mut growing = Growing::new(alloc, &table, most);
+    behind_all(alloc, &table, &faces, most)
+}
+
+/// The points behind the planes of all of some faces, in the world box, where their size is within the
+/// limit.
+fn behind_all(
+    alloc: Global,
+    table: &PlaneTable,
+    faces: &[Face],
+    most: u64,
+) -> Result<Solid, BuildStop>
+    requires { All (IsFaceOver table.now) faces.now }
+    ensures { IsBuilt (behind_all (map (outline_of table.now) faces.now)) most result }
+{
+    let mut nodes = Nodes::new(alloc, table);
+    let whole = add_behind_all(alloc, &mut nodes, faces)?;
+    let mut growing = Growing::new(alloc, table, most);
     let root = add_branch(alloc, &mut growing, &nodes, whole, false)?;
     Ok(finish(alloc, growing, root)?)
 }
 
-/// Adds the tree of the points behind the planes of all of some faces, in the world box. The whole may
-/// be smaller than a part of it, so the parts have no limit.
+/// Adds their tree to nodes. The whole may be smaller than a part of it, so the parts have no limit.
 fn add_behind_all(alloc: Global, nodes: &mut Nodes<'_>, faces: &[Face]) -> Result<Link, NoMemory>
     requires { All (IsFaceOver nodes.old.planes) faces.now }
     ensures { IfOk result (λ l. HasMade nodes.old nodes.new l (behind_all (map (outline_of nodes.old.planes) faces.now))) }
