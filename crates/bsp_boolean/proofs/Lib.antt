@@ -2,6 +2,6 @@ pub mod Exchanges
 pub mod Combined
 pub mod Merged
 pub mod Solids
-pub mod Leaves
+pub mod Convex
 mod Examples
 pub mod TreeSolids

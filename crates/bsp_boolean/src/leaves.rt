@@ -19,7 +19,7 @@ use text_place::NoMemory;
 
 /// The solid of a leaf: the points behind all of its planes, of which there is at least one, in the
 /// world box. Each plane has a point with coordinates at most 4095 in size. `TooBig` comes exactly
-/// where the solid's size is above `most`, as soon as that is known.
+/// where the solid's size is above `most`.
 pub fn leaf_solid(alloc: Global, planes: &[Plane], most: u64) -> Result<Solid, BuildStop>
     requires some { 0 < length planes.now }
     requires reach { All ComesInReach planes.now }

@@ -43,7 +43,7 @@ pub fn merge_within(
 
 /// What was built within the limit of all numbers. A solid above that limit is larger than any
 /// memory: each node and each edge takes more than one byte.
-pub fn in_all_memory(built: Result<Solid, BuildStop>) -> Result<Solid, NoMemory>
+fn in_all_memory(built: Result<Solid, BuildStop>) -> Result<Solid, NoMemory>
     requires { (wanted : Tree) × IsBuilt wanted (2 ^ 64 - 1) built }
     ensures { IfOk result (λ s. built ≡ Ok s) }
 {
@@ -55,7 +55,7 @@ pub fn in_all_memory(built: Result<Solid, BuildStop>) -> Result<Solid, NoMemory>
 
 /// The merge, by the definition: both solids stand over one table, the left one is gone through, and
 /// the right one is divided by its faces.
-pub fn merged_within(
+fn merged_within(
     alloc: Global,
     op: Op,
     left: &Solid,

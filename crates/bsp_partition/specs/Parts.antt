@@ -6,6 +6,8 @@ use Rattle.plane_polygon.specs.Polygons.{Outline}
 use Rattle.plane_polygon.specs.Parts.{class_of, part_ahead, part_behind}
 use Rattle.bsp_tree.specs.Trees.{Tree}
 use Rattle.bsp_tree.specs.Growths.{Sheet, tree_on, HasTree, IsLonger}
+use Rattle.plane_table.specs.Faces.{IsFaceOver}
+use Rattle.bsp_partition.specs.declared.fork.Fork.{Fork}
 use Rattle.bsp_partition.specs.Partitions.{divide, rows}
 
 -- the parts of a node with the polygon t and the solids b and a, on another plane than s
@@ -43,3 +45,9 @@ pub record AreLinksOf (sheet : Sheet) (links : (Link × Link) × (Link × Link))
 -- the trees at two links
 abbrev pub trees_on : Sheet → Link × Link → Tree × Tree
 trees_on sheet links = (tree_on sheet links.0, tree_on sheet links.1)
+
+-- a node by itself has a face over the sheet's planes, and links of the sheet
+pub record IsForkOn (sheet : Sheet) (node : Fork) : Type 0 where
+  pub own : IsFaceOver sheet.planes node.face
+  pub behind : IsLinkOf sheet.nodes node.behind
+  pub ahead : IsLinkOf sheet.nodes node.ahead

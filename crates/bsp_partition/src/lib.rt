@@ -2,15 +2,14 @@
 #![tactic(auto)]
 
 ghost use Rattle.std.specs.Prelude.{◌≡◌, IfOk};
-ghost use Rattle.link_forest.specs.Forests.{IsLinkOf};
 ghost use Rattle.bsp_tree.specs.Shapes.{tree_of};
-ghost use Rattle.bsp_tree.specs.Growths.{tree_on};
 ghost use Rattle.bsp_partition.specs.Partitions.{divide, AreOfHalves, HaveNoNewPlane, KeepWalks};
 
+mod fork;
 mod part;
 mod parting;
 
-use bsp_tree::{Growing, Link, Nodes, Solid, add_branch, finish, solid_over};
+use bsp_tree::{Solid, solid_at, solid_over};
 pub use parting::{add_parts, make_node};
 use plane_polygon::Polygon;
 use plane_table::{PlaneTable, face_of, faces_are_found, join, renumber};
@@ -28,7 +27,7 @@ pub fn partition(alloc: Global, solid: &Solid, by: &Polygon) -> Result<(Solid, S
     parts_of(alloc, solid, by)
 }
 
-/// The parts, by the definition: both solids stand among nodes over one table.
+/// The parts, by the definition: the solid and the polygon stand over one table.
 fn parts_of(alloc: Global, solid: &Solid, by: &Polygon) -> Result<(Solid, Solid), NoMemory>
     ensures { IfOk result (λ r. (tree_of r.0, tree_of r.1) ≡ divide (tree_of solid.now) by.now) }
 {
@@ -41,20 +40,7 @@ fn parts_of(alloc: Global, solid: &Solid, by: &Polygon) -> Result<(Solid, Solid)
     let mut nodes = solid_over(alloc, &table, solid, &joined.left)?;
     let (low, high) = add_parts(alloc, &mut nodes, root, &by)?;
     Ok((
-        solid_at(alloc, &nodes, low)?,
-        solid_at(alloc, &nodes, high)?,
+        solid_at(alloc, &nodes, low, false)?,
+        solid_at(alloc, &nodes, high, false)?,
     ))
-}
-
-/// The solid whose tree begins at a link.
-fn solid_at(alloc: Global, nodes: &Nodes<'_>, at: Link) -> Result<Solid, NoMemory>
-    requires { IsLinkOf nodes.now.nodes at }
-    ensures { IfOk result (λ s. tree_of s ≡ tree_on nodes.now at) }
-{
-    let table = nodes.table();
-    let mut growing = Growing::new(alloc, table, u64::MAX);
-    let Ok(root) = add_branch(alloc, &mut growing, nodes, at, false) else {
-        return Err(NoMemory);
-    };
-    finish(alloc, growing, root)
 }

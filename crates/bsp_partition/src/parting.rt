@@ -10,8 +10,9 @@ ghost use Rattle.plane_table.specs.Faces.{outline_of, AreSidesOf, IsFaceOver};
 ghost use Rattle.bsp_tree.specs.Trees.{make};
 ghost use Rattle.bsp_tree.specs.Growths.{tree_on};
 ghost use Rattle.bsp_partition.specs.Partitions.{across_row, ahead_row, behind_row, divide};
-ghost use Rattle.bsp_partition.specs.Parts.{row_parts, trees_on, AreLinksOf, HasMade, HasParts, HasSideParts};
+ghost use Rattle.bsp_partition.specs.Parts.{row_parts, trees_on, AreLinksOf, HasMade, HasParts, HasSideParts, IsForkOn};
 
+use crate::fork::Fork;
 use crate::part::Part;
 use bsp_tree::{Face, Link, NodeId, Nodes, is_same_leaf};
 use plane_polygon::Class;
@@ -59,7 +60,12 @@ fn node_parts(
         return Ok((ahead, behind));
     }
     let face = face.copy(alloc)?;
-    other_parts(alloc, nodes, face, behind, ahead, by)
+    let node = Fork {
+        face,
+        behind,
+        ahead,
+    };
+    other_parts(alloc, nodes, node, by)
 }
 
 /// The parts of a node on another plane, by how its face and the other one lie against each other's
@@ -68,89 +74,50 @@ fn node_parts(
 fn other_parts(
     alloc: Global,
     nodes: &mut Nodes<'_>,
-    face: Face,
-    behind: Link,
-    ahead: Link,
+    node: Fork,
     by: &Face,
 ) -> Result<(Link, Link), NoMemory>
-    requires own { IsFaceOver nodes.old.planes face }
-    requires behind { IsLinkOf nodes.old.nodes behind }
-    requires ahead { IsLinkOf nodes.old.nodes ahead }
+    requires node { IsForkOn nodes.old node }
     requires face { IsFaceOver nodes.old.planes by.now }
-    ensures { IfOk result (λ r. HasParts nodes.old nodes.new r (row_parts (outline_of nodes.old.planes by.now) (outline_of nodes.old.planes face) (tree_on nodes.old behind) (tree_on nodes.old ahead))) }
+    ensures { IfOk result (λ r. HasParts nodes.old nodes.new r (row_parts (outline_of nodes.old.planes by.now) (outline_of nodes.old.planes node.face) (tree_on nodes.old node.behind) (tree_on nodes.old node.ahead))) }
 {
     let table = nodes.table();
-    let of_by = sides(alloc, table, by, face.plane)?;
-    let of_own = sides(alloc, table, &face, by.plane)?;
+    let of_by = sides(alloc, table, by, node.face.plane)?;
+    let of_own = sides(alloc, table, &node.face, by.plane)?;
     match (of_by.class, of_own.class) {
         (Class::Across, Class::Across) => {
-            let parts = side_parts(alloc, nodes, &face, behind, ahead, by, &of_by)?;
-            made_across(alloc, nodes, &face, by, &of_own, parts)
+            let parts = side_parts(alloc, nodes, &node, by, &of_by)?;
+            made_across(alloc, nodes, &node.face, by, &of_own, parts)
         }
-        (Class::Behind, Class::Behind) => behind_parts(
-            alloc,
-            nodes,
-            face,
-            behind,
-            ahead,
-            by,
-            Part::Low,
-        ),
-        (Class::Behind, Class::Ahead) => behind_parts(
-            alloc,
-            nodes,
-            face,
-            behind,
-            ahead,
-            by,
-            Part::High,
-        ),
-        (Class::Ahead, Class::Behind) => ahead_parts(
-            alloc,
-            nodes,
-            face,
-            behind,
-            ahead,
-            by,
-            Part::Low,
-        ),
-        (Class::Ahead, Class::Ahead) => ahead_parts(
-            alloc,
-            nodes,
-            face,
-            behind,
-            ahead,
-            by,
-            Part::High,
-        ),
-        _ => Ok((behind, ahead)),
+        (Class::Behind, Class::Behind) => behind_parts(alloc, nodes, node, by, Part::Low),
+        (Class::Behind, Class::Ahead) => behind_parts(alloc, nodes, node, by, Part::High),
+        (Class::Ahead, Class::Behind) => ahead_parts(alloc, nodes, node, by, Part::Low),
+        (Class::Ahead, Class::Ahead) => ahead_parts(alloc, nodes, node, by, Part::High),
+        _ => Ok((node.behind, node.ahead)),
     }
 }
 
-/// The parts of what lies behind and ahead of a face's plane, by the parts of another face that is
+/// The parts of what lies behind and ahead of a node's plane, by the parts of another face that is
 /// across that plane. A leaf is both its parts.
 #[cycle(parts)]
 fn side_parts(
     alloc: Global,
     nodes: &mut Nodes<'_>,
-    face: &Face,
-    behind: Link,
-    ahead: Link,
+    node: &Fork,
     by: &Face,
     of_by: &CornerSides,
 ) -> Result<((Link, Link), (Link, Link)), NoMemory>
-    requires own { IsFaceOver nodes.old.planes face.now }
-    requires behind { IsLinkOf nodes.old.nodes behind }
-    requires ahead { IsLinkOf nodes.old.nodes ahead }
+    requires node { IsForkOn nodes.old node.now }
     requires face { IsFaceOver nodes.old.planes by.now }
-    requires sides { AreSidesOf (outline_of nodes.old.planes by.now) (named nodes.old.planes face.now.plane) of_by.now }
+    requires sides { AreSidesOf (outline_of nodes.old.planes by.now) (named nodes.old.planes node.now.face.plane) of_by.now }
     requires across { of_by.now.class ≡ Across }
-    ensures { IfOk result (λ r. HasSideParts nodes.old nodes.new r (divide (tree_on nodes.old behind) (part_behind (outline_of nodes.old.planes by.now) (named nodes.old.planes face.now.plane))) (divide (tree_on nodes.old ahead) (part_ahead (outline_of nodes.old.planes by.now) (named nodes.old.planes face.now.plane)))) }
+    ensures { IfOk result (λ r. HasSideParts nodes.old nodes.new r (divide (tree_on nodes.old node.now.behind) (part_behind (outline_of nodes.old.planes by.now) (named nodes.old.planes node.now.face.plane))) (divide (tree_on nodes.old node.now.ahead) (part_ahead (outline_of nodes.old.planes by.now) (named nodes.old.planes node.now.face.plane)))) }
 {
+    let (behind, ahead) = (node.behind, node.ahead);
     if let (Link::End(_), Link::End(_)) = (behind, ahead) {
         return Ok(((behind, behind), (ahead, ahead)));
     }
-    let (by_low, by_high) = cut(alloc, nodes.table(), by, face.plane, of_by)?;
+    let (by_low, by_high) = cut(alloc, nodes.table(), by, node.face.plane, of_by)?;
     let low = add_parts(alloc, nodes, behind, &by_low)?;
     let high = add_parts(alloc, nodes, ahead, &by_high)?;
     Ok((low, high))
@@ -187,22 +154,18 @@ fn made_across(
 fn behind_parts(
     alloc: Global,
     nodes: &mut Nodes<'_>,
-    face: Face,
-    behind: Link,
-    ahead: Link,
+    node: Fork,
     by: &Face,
     part: Part,
 ) -> Result<(Link, Link), NoMemory>
-    requires own { IsFaceOver nodes.old.planes face }
-    requires behind { IsLinkOf nodes.old.nodes behind }
-    requires ahead { IsLinkOf nodes.old.nodes ahead }
+    requires node { IsForkOn nodes.old node }
     requires face { IsFaceOver nodes.old.planes by.now }
-    ensures { IfOk result (λ r. HasParts nodes.old nodes.new r (behind_row part (outline_of nodes.old.planes face) (divide (tree_on nodes.old behind) (outline_of nodes.old.planes by.now)) (tree_on nodes.old ahead))) }
+    ensures { IfOk result (λ r. HasParts nodes.old nodes.new r (behind_row part (outline_of nodes.old.planes node.face) (divide (tree_on nodes.old node.behind) (outline_of nodes.old.planes by.now)) (tree_on nodes.old node.ahead))) }
 {
-    let (low, high) = add_parts(alloc, nodes, behind, by)?;
+    let (low, high) = add_parts(alloc, nodes, node.behind, by)?;
     match part {
-        Part::Low => Ok((make_node(nodes, face, low, ahead)?, high)),
-        Part::High => Ok((low, make_node(nodes, face, high, ahead)?)),
+        Part::Low => Ok((make_node(nodes, node.face, low, node.ahead)?, high)),
+        Part::High => Ok((low, make_node(nodes, node.face, high, node.ahead)?)),
     }
 }
 
@@ -211,22 +174,18 @@ fn behind_parts(
 fn ahead_parts(
     alloc: Global,
     nodes: &mut Nodes<'_>,
-    face: Face,
-    behind: Link,
-    ahead: Link,
+    node: Fork,
     by: &Face,
     part: Part,
 ) -> Result<(Link, Link), NoMemory>
-    requires own { IsFaceOver nodes.old.planes face }
-    requires behind { IsLinkOf nodes.old.nodes behind }
-    requires ahead { IsLinkOf nodes.old.nodes ahead }
+    requires node { IsForkOn nodes.old node }
     requires face { IsFaceOver nodes.old.planes by.now }
-    ensures { IfOk result (λ r. HasParts nodes.old nodes.new r (ahead_row part (outline_of nodes.old.planes face) (tree_on nodes.old behind) (divide (tree_on nodes.old ahead) (outline_of nodes.old.planes by.now)))) }
+    ensures { IfOk result (λ r. HasParts nodes.old nodes.new r (ahead_row part (outline_of nodes.old.planes node.face) (tree_on nodes.old node.behind) (divide (tree_on nodes.old node.ahead) (outline_of nodes.old.planes by.now)))) }
 {
-    let (low, high) = add_parts(alloc, nodes, ahead, by)?;
+    let (low, high) = add_parts(alloc, nodes, node.ahead, by)?;
     match part {
-        Part::Low => Ok((make_node(nodes, face, behind, low)?, high)),
-        Part::High => Ok((low, make_node(nodes, face, behind, high)?)),
+        Part::Low => Ok((make_node(nodes, node.face, node.behind, low)?, high)),
+        Part::High => Ok((low, make_node(nodes, node.face, node.behind, high)?)),
     }
 }
 

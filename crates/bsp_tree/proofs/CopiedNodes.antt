@@ -1,23 +1,30 @@
 -- Nodes that are copied onto another table.
-use Rattle.std.proofs.Common.{◌≡◌, ℕ, ◌+◌, ◌*◌, ◌/◌, ◌<◌, ◌≤◌, inl, inr, Bool, true, false, Some, List, [], ◌∷◌, length, get_or, slice_get, All, refl, sym, ap, ap₂, ◌∙◌, arith}
+use Rattle.std.proofs.Common.{◌≡◌, ℕ, ◌+◌, ◌/◌, ◌≤◌, inl, inr, Bool, true, false, Some, List, [], ◌∷◌, length, get_or, slice_get, sym, ap, ap₂, subst, ◌∙◌, ◌++◌, arith}
 use Rattle.std.proofs.lemmas.Bool.{cases_lt}
 use Rattle.std.proofs.lemmas.List.{length_push}
+use Rattle.std.proofs.lemmas.Option.{slice_get_within}
 use Rattle.plane_predicate.specs.Space.{Coefficients}
 use Rattle.link_forest.specs.declared.link.Link.{Link}
 use Rattle.link_forest.specs.declared.link.Link.TheVariants.{End, To}
 use Rattle.link_forest.specs.declared.link.NodeId.{NodeId}
 use Rattle.link_forest.specs.declared.forest.Entry.{Entry}
-use Rattle.link_forest.specs.Forests.{entry, fork, least_nodes, Adds, IsNode}
+use Rattle.link_forest.specs.Forests.{entry, least_nodes, Adds, IsNode, IsReached, itself, by_behind, by_ahead}
+use Rattle.link_forest.proofs.Numbers.{stays, behind_all}
 use Rattle.plane_table.specs.declared.faces.Face.{Face}
-use Rattle.plane_table.specs.Faces.{outline_of, IsFaceOver}
-use Rattle.plane_table.specs.Joins.{AreNumbersOf, AreNumbersOfUsed, IsFound, IsMarked}
+use Rattle.plane_table.specs.Faces.{outline_of}
+use Rattle.plane_table.specs.Joins.{AreNumbersOf, AreNumbersOfUsed, IsMarked}
 use Rattle.bsp_tree.specs.Shapes.{shown, tree_of, tree_over, AreFacesOver, IsWhole, SolidParts}
-use Rattle.bsp_tree.specs.Growths.{Sheet, tree_on, HasTree}
+use Rattle.bsp_tree.specs.Trees.{size}
+use Rattle.bsp_tree.specs.Growths.{Sheet, tree_on, HasTree, HasGrownWhole}
 use Rattle.bsp_tree.specs.Copies.{AreCopied, AreFoundOver, AreUsed}
 use Rattle.bsp_tree.proofs.Wholes.{leaf_tree, same_id, node_same}
 
 pub none_copied : (planes : List Coefficients) (nodes : List (Entry Face)) (sheet : Sheet) → sheet.nodes ≡ [] → AreCopied planes nodes 0 sheet
-none_copied planes nodes sheet none = record { count_is = ap length none; trees = ends planes nodes sheet }
+none_copied planes nodes sheet none = record {
+  count_is = ap length none;
+  links = λ index node below there. absurd (omega arith);
+  trees = ends planes nodes sheet;
+}
   where
     ends : (planes : List Coefficients) (nodes : List (Entry Face)) (sheet : Sheet) (link : Link) → least_nodes link ≤ 0 → tree_on sheet link ≡ tree_over planes nodes link
     ends planes nodes sheet (End side) h = leaf_tree sheet.planes sheet.nodes side ∙ sym (leaf_tree planes nodes side)
@@ -32,11 +39,31 @@ added_tree planes nodes old new face copy behind ahead at id h n d p same =
     ∙ node_same same (h.trees behind n.behind_before) (h.trees ahead n.ahead_before)
     ∙ sym (ap (shown planes) n.tree)
 
+-- the node of a number
+same_node : (nodes : List (Entry Face)) (at index : ℕ) (face : Face) (behind ahead : Link) (node : Entry Face) → at ≡ index →
+    slice_get nodes at ≡ Some (entry face behind ahead) → slice_get nodes index ≡ Some node → entry face behind ahead ≡ node
+same_node nodes at index face behind ahead node same first second =
+    let both : Some (entry face behind ahead) ≡ Some node = sym first ∙ ap (slice_get nodes) same ∙ second in cc
+
 pub copied_more : (planes : List Coefficients) (nodes : List (Entry Face)) (old new : Sheet) (face copy : Face) (behind ahead : Link) (at id : NodeId) →
     AreCopied planes nodes at.index old → IsNode nodes at face behind ahead → Adds old.nodes new.nodes copy behind ahead id →
     new.planes ≡ old.planes → outline_of old.planes copy ≡ outline_of planes face → AreCopied planes nodes (at.index + 1) new
 copied_more planes nodes old new face copy behind ahead at id h n d p same = record {
   count_is = rw d.nodes (length_push old.nodes (entry copy behind ahead)) ∙ ap (λ (k : ℕ). k + 1) h.count_is;
+  links = λ index node below there. rw d.nodes (elim (cases_lt index at.index) [
+    | inl low ↦
+        let k = h.links index node low there in
+        record { own = k.own; there = stays old.nodes (entry copy behind ahead ∷ []) index k.own k.there; behind = k.behind; ahead = k.ahead }
+    | inr high ↦
+        let last : length old.nodes ≡ index = omega (arith, h.count_is) in
+        let same : entry face behind ahead ≡ node = same_node nodes at.index index face behind ahead node (omega arith) n.node there in
+        record {
+          own = entry copy behind ahead;
+          there = subst (λ (k : ℕ). slice_get (old.nodes ++ entry copy behind ahead ∷ []) k ≡ Some (entry copy behind ahead)) last (behind_all old.nodes [] (entry copy behind ahead));
+          behind = ap (λ (e : Entry Face). e.behind) same;
+          ahead = ap (λ (e : Entry Face). e.ahead) same;
+        }
+  ]);
   trees = trees;
 }
   where
@@ -103,4 +130,24 @@ unfolding tree_of
 copied_stands solid sheet h k = record {
   there = omega (arith, h.root, k.count_is);
   same = k.trees solid.root h.root;
+}
+
+-- what is reached from a link is reached in the copy
+reached_copied : (planes : List Coefficients) (nodes : List (Entry Face)) (sheet : Sheet) (link : Link) (id : NodeId) →
+    AreCopied planes nodes (length nodes) sheet → IsReached nodes link id → IsReached sheet.nodes link id
+reached_copied planes nodes sheet _ _ h (itself id) = itself id
+reached_copied planes nodes sheet _ _ h (by_behind from id node there r) =
+    let k = h.links from.index node (slice_get_within nodes from.index node there) there in
+    by_behind from id k.own k.there (subst (λ (l : Link). IsReached sheet.nodes l id) (sym k.behind) (reached_copied planes nodes sheet node.behind id h r))
+reached_copied planes nodes sheet _ _ h (by_ahead from id node there r) =
+    let k = h.links from.index node (slice_get_within nodes from.index node there) there in
+    by_ahead from id k.own k.there (subst (λ (l : Link). IsReached sheet.nodes l id) (sym k.ahead) (reached_copied planes nodes sheet node.ahead id h r))
+
+-- the copy of a whole solid is one
+pub copied_whole : (sheet copy : Sheet) (root : Link) (kept : ℕ) → HasGrownWhole sheet root kept →
+    AreCopied sheet.planes sheet.nodes (length sheet.nodes) copy → HasGrownWhole copy root kept
+copied_whole sheet copy root kept h k = record {
+  there = omega (arith, h.there, k.count_is);
+  reached = λ id from below. reached_copied sheet.planes sheet.nodes copy root id k (h.reached id from (omega (arith, below, k.count_is)));
+  size_is = h.size_is ∙ ap size (sym (k.trees root h.there));
 }

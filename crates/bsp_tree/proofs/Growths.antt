@@ -1,9 +1,9 @@
 -- Solids that grow: leaves, nodes, and what stops them.
 use Rattle.std.proofs.lemmas.Bool.{cases_lt, false≢true}
-use Rattle.std.proofs.Common.{◌≡◌, ◌⊎◌, inl, inr, ℕ, ◌+◌, ◌<◌, ◌≤◌, Bool, true, false, List, [], ◌∷◌, length, slice_get, Some, zero, suc, Ok, Err, refl, sym, ap, ap₂, ◌∙◌, subst, arith}
+use Rattle.std.proofs.Common.{◌≡◌, ◌⊎◌, inl, inr, ℕ, ◌+◌, ◌<◌, ◌≤◌, Bool, true, false, List, [], ◌∷◌, length, slice_get, Some, zero, suc, Err, refl, sym, ap, ap₂, ◌∙◌, subst, arith}
 use Rattle.std.proofs.lemmas.List.{length-map}
 use Rattle.plane_predicate.specs.Space.{Coefficients}
-use Rattle.plane_polygon.specs.Polygons.{Outline, sides}
+use Rattle.plane_polygon.specs.Polygons.{Outline}
 use Rattle.link_forest.specs.declared.link.Link.{Link}
 use Rattle.link_forest.specs.declared.link.NodeId.{NodeId}
 use Rattle.link_forest.specs.declared.link.Link.TheVariants.{End, To}
@@ -17,7 +17,7 @@ use Rattle.plane_table.specs.Faces.{outline_of, face_size}
 use Rattle.bsp_tree.specs.Trees.{Tree, inside, outside, node, make, size}
 use Rattle.bsp_tree.specs.Links.{same_leaf}
 use Rattle.bsp_tree.specs.Shapes.{leaf_of, shown, tree_over}
-use Rattle.bsp_tree.specs.Growths.{Sheet, Growth, tree_on, HasTree, IsLonger, HasGrown, GrowsBy}
+use Rattle.bsp_tree.specs.Growths.{Sheet, Growth, tree_on, HasTree, HasGrown, GrowsBy}
 use Rattle.bsp_tree.specs.declared.growing.GrowStop.{GrowStop}
 use Rattle.bsp_tree.specs.declared.growing.GrowStop.TheVariants.{TooBig, NoMemory}
 use Rattle.bsp_tree.proofs.Sheets.{longer_itself, longer_twice, still, stood_on, leaf_stands, adds_longer, adds_tree}

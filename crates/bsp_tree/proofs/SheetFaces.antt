@@ -1,5 +1,5 @@
 -- The faces of nodes that are added, and of those that are kept.
-use Rattle.std.proofs.Common.{◌≡◌, ℕ, inl, inr, Some, List, Result, Ok, Err, IfOk, slice_get, ◌++◌, ◌∷◌, [], subst, sym, ap, ◌∙◌}
+use Rattle.std.proofs.Common.{◌≡◌, inl, inr, List, Result, Ok, Err, IfOk}
 use Rattle.std.specs.Prelude.{OnErr}
 use Rattle.plane_predicate.specs.Space.{Coefficients}
 use Rattle.text_place.specs.declared.memory.NoMemory.{NoMemory}

@@ -1,5 +1,5 @@
 -- Nodes that are added to a sheet: the trees that stand there stay.
-use Rattle.std.proofs.Common.{◌≡◌, ℕ, Bool, List, refl, ap, ap₂, ◌∙◌, arith}
+use Rattle.std.proofs.Common.{◌≡◌, Bool, List, refl, ap, ap₂, ◌∙◌, arith}
 use Rattle.plane_predicate.specs.Space.{Coefficients}
 use Rattle.link_forest.specs.declared.link.Link.{Link}
 use Rattle.link_forest.specs.declared.link.NodeId.{NodeId}

@@ -1,5 +1,5 @@
 -- What a solid keeps: where it is a leaf, where it has grown, and where its parts are given.
-use Rattle.std.proofs.Common.{◌≡◌, ℕ, ◌+◌, ◌-◌, ◌^◌, ◌<◌, ◌++◌, ◌∷◌, [], Bool, true, false, Some, List, length, take, slice_get, get_or, min, refl, sym, ap, ap₂, ◌∙◌, arith, suc, add-one}
+use Rattle.std.proofs.Common.{◌≡◌, ℕ, ◌+◌, ◌-◌, ◌^◌, ◌<◌, ◌++◌, ◌∷◌, [], Bool, true, false, Some, List, length, take, slice_get, get_or, min, refl, sym, ap, ap₂, ◌∙◌, arith, add-one}
 use Rattle.std.proofs.lemmas.List.{length_push}
 use Rattle.std.proofs.Math.Seq.{take-suc}
 use Rattle.std.proofs.lemmas.Option.{slice_get_within, slice_get-get_or}

@@ -1,5 +1,5 @@
 -- Nodes that stand over another table.
-use Rattle.std.specs.Prelude.{◌≡◌, ℕ, ◌≤◌, Bool, Some, List, length, slice_get}
+use Rattle.std.specs.Prelude.{◌≡◌, ℕ, ◌≤◌, ◌<◌, Bool, Some, List, length, slice_get}
 use Rattle.plane_predicate.specs.Space.{Coefficients}
 use Rattle.link_forest.specs.declared.link.Link.{Link}
 use Rattle.link_forest.specs.declared.forest.Entry.{Entry}
@@ -9,9 +9,17 @@ use Rattle.plane_table.specs.Joins.{IsFound, IsMarked}
 use Rattle.bsp_tree.specs.Shapes.{tree_over}
 use Rattle.bsp_tree.specs.Growths.{Sheet, tree_on}
 
--- the first nodes of a forest over some planes stand on the sheet, under the same numbers and with the same trees
+-- the node of a number has the links of this node
+pub record HasLinksOf (nodes : List (Entry Face)) (index : ℕ) (node : Entry Face) : Type 0 where
+  pub own : Entry Face
+  pub there : slice_get nodes index ≡ Some own
+  pub behind : own.behind ≡ node.behind
+  pub ahead : own.ahead ≡ node.ahead
+
+-- the first nodes of a forest over some planes stand on the sheet, under the same numbers, with the same links and trees
 pub record AreCopied (planes : List Coefficients) (nodes : List (Entry Face)) (count : ℕ) (sheet : Sheet) : Type 0 where
   pub count_is : length sheet.nodes ≡ count
+  pub links : (index : ℕ) (node : Entry Face) → index < count → slice_get nodes index ≡ Some node → HasLinksOf sheet.nodes index node
   pub trees : (link : Link) → least_nodes link ≤ count → tree_on sheet link ≡ tree_over planes nodes link
 
 -- each plane that a node's face names is marked as used

@@ -40,7 +40,7 @@ pub record Growth : Type 0 where
   pub size : ℕ
   pub most : ℕ
 
--- the nodes of a tree were added, and no others: the tree stands at the link, from which each of them is reached
+-- nodes were added, and a tree stands at the link, from which each of them is reached
 pub record HasGrown (old new : Growth) (link : Link) (tree : Tree) : Type 0 where
   pub longer : IsLonger old.sheet new.sheet
   pub stands : HasTree new.sheet link tree

@@ -3,7 +3,7 @@ use Rattle.std.specs.Prelude.{◌≡◌, ℕ, Bool, true, false, Some, List, sli
 use Rattle.plane_predicate.specs.Space.{Coefficients}
 use Rattle.link_forest.specs.declared.link.Link.{Link}
 use Rattle.link_forest.specs.declared.forest.Entry.{Entry}
-use Rattle.link_forest.specs.Forests.{Branch, end, fork, tree_at, IsLinkOf, AreReached, AreLinked}
+use Rattle.link_forest.specs.Forests.{Branch, end, fork, tree_at, IsLinkOf, AreReached}
 use Rattle.plane_table.specs.declared.faces.Face.{Face}
 use Rattle.plane_table.specs.Tables.{HasNoTwoAlike}
 use Rattle.plane_table.specs.Faces.{outline_of, IsFaceOver}

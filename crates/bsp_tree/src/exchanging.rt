@@ -6,9 +6,8 @@ ghost use Rattle.bsp_tree.specs.Trees.{complement, walk};
 ghost use Rattle.bsp_tree.specs.Cells.{HasPlanesOf, IsOfCell};
 ghost use Rattle.bsp_tree.specs.Shapes.{tree_of};
 
-use crate::copying::{add_branch, solid_over};
-use crate::finishing::finish;
-use crate::growing::Growing;
+use crate::copying::solid_over;
+use crate::finishing::solid_at;
 use crate::solid::Solid;
 use plane_table::{PlaneTable, join};
 use std::alloc::Global;
@@ -32,9 +31,5 @@ fn exchanged(alloc: Global, solid: &Solid) -> Result<Solid, NoMemory>
     let joined = join(alloc, planes, &[])?;
     let table = PlaneTable::of(alloc, joined.planes)?;
     let nodes = solid_over(alloc, &table, solid, &joined.left)?;
-    let mut growing = Growing::new(alloc, &table, u64::MAX);
-    let Ok(root) = add_branch(alloc, &mut growing, &nodes, root, true) else {
-        return Err(NoMemory);
-    };
-    finish(alloc, growing, root)
+    solid_at(alloc, &nodes, root, true)
 }

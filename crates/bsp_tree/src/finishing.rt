@@ -3,7 +3,7 @@
 ghost use Rattle.std.specs.Prelude.{◌≡◌, length, IfOk};
 ghost use Rattle.link_forest.specs.Forests.{IsLinkOf};
 ghost use Rattle.bsp_tree.specs.Shapes.{tree_of};
-ghost use Rattle.bsp_tree.specs.Growths.{tree_on, HasGrownWhole};
+ghost use Rattle.bsp_tree.specs.Growths.{exchanged, tree_on, HasGrownWhole};
 ghost use Rattle.bsp_tree.specs.Copies.{AreUsed};
 
 use crate::copying::{add_branch, nodes_over};
@@ -16,8 +16,26 @@ use plane_table::{PlaneTable, keep_used, mark_used};
 use std::alloc::Global;
 use text_place::NoMemory;
 
-/// The solid that has grown, whose tree begins at a link. Of its table it has all planes, or where a
-/// third of them is not used, those that are.
+/// The tree at a link of nodes, or its complement, as a solid.
+pub fn solid_at(
+    alloc: Global,
+    nodes: &Nodes<'_>,
+    at: Link,
+    is_exchanged: bool,
+) -> Result<Solid, NoMemory>
+    requires { IsLinkOf nodes.now.nodes at }
+    ensures { IfOk result (λ s. tree_of s ≡ exchanged is_exchanged (tree_on nodes.now at)) }
+{
+    let mut growing = Growing::new(alloc, nodes.table(), u64::MAX);
+    // A solid above that limit is larger than any memory: each node and each edge takes more than one byte.
+    let Ok(root) = add_branch(alloc, &mut growing, nodes, at, is_exchanged) else {
+        return Err(NoMemory);
+    };
+    finish(alloc, growing, root)
+}
+
+/// The solid that has grown, whose tree begins at a link. Of its table it has all planes, or where more
+/// than a third of them is not used, those that are.
 pub fn finish(alloc: Global, growing: Growing<'_>, root: Link) -> Result<Solid, NoMemory>
     requires { HasGrownWhole growing.sheet root growing.size }
     ensures { IfOk result (λ s. tree_of s ≡ tree_on growing.entry.sheet root) }
@@ -25,7 +43,7 @@ pub fn finish(alloc: Global, growing: Growing<'_>, root: Link) -> Result<Solid, 
     let (nodes, size) = growing.into_parts();
     let used = used_planes(alloc, &nodes)?;
     if has_many_unused(&used) {
-        return trimmed(alloc, &nodes, root, &used);
+        return trimmed(alloc, &nodes, root, size, &used);
     }
     whole(alloc, nodes, root, size)
 }
@@ -41,29 +59,25 @@ fn whole(alloc: Global, nodes: Nodes<'_>, root: Link, size: u64) -> Result<Solid
 }
 
 /// The solid with those planes that are used.
-fn trimmed(alloc: Global, nodes: &Nodes<'_>, root: Link, used: &[bool]) -> Result<Solid, NoMemory>
-    requires link { IsLinkOf nodes.now.nodes root }
+fn trimmed(
+    alloc: Global,
+    nodes: &Nodes<'_>,
+    root: Link,
+    size: u64,
+    used: &[bool],
+) -> Result<Solid, NoMemory>
+    requires grown { HasGrownWhole nodes.now root size }
     requires used { AreUsed nodes.now used.now }
     ensures { IfOk result (λ s. tree_of s ≡ tree_on nodes.now root) }
 {
-    let kept = keep_used(alloc, nodes.table().planes(), used)?;
+    let planes = nodes.table().planes();
+    let kept = keep_used(alloc, planes, used)?;
     let table = PlaneTable::of(alloc, kept.planes)?;
-    let over = nodes_over(
-        alloc,
-        &table,
-        nodes.table().planes(),
-        nodes.forest(),
-        &kept.numbers,
-    )?;
-    let mut growing = Growing::new(alloc, &table, u64::MAX);
-    let Ok(root) = add_branch(alloc, &mut growing, &over, root, false) else {
-        return Err(NoMemory);
-    };
-    let (nodes, size) = growing.into_parts();
-    whole(alloc, nodes, root, size)
+    let over = nodes_over(alloc, &table, planes, nodes.forest(), &kept.numbers)?;
+    whole(alloc, over, root, size)
 }
 
-/// Whether at least a third of the planes is not used.
+/// Whether more than a third of the planes is not used.
 fn has_many_unused(used: &[bool]) -> bool {
     let unused = used.iter().filter(|is_used| !**is_used).count();
     unused > used.len() / 3

@@ -14,7 +14,7 @@ mod walking;
 
 pub use copying::{add_branch, solid_over};
 pub use exchanging::exchange;
-pub use finishing::finish;
+pub use finishing::{finish, solid_at};
 pub use growing::{GrowStop, Growing};
 pub use half_spaces::half;
 pub use laws::{parts_are_of_halves, world_box_is_a_cell};

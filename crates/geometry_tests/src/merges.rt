@@ -113,16 +113,19 @@ fn leaves_decide(rt: HostRuntime) {
     }
 }
 
-// A node for each plane of a cube, and none where all is outside.
+// A node for each plane of a cube, and none where all is outside. The planes that its faces name are its own
+// six and those of the world box; where no face names any, none is kept.
 #[test]
 fn solids_have_no_more_nodes_than_their_trees(rt: HostRuntime) {
     let alloc = rt.alloc();
     let cube = cuboid(&rt, alloc, [0, 0, 0], [1, 1, 1]);
-    let (_planes, forest, root) = cube.parts();
+    let (planes, forest, root) = cube.parts();
+    assert_eq!(rt; planes.len(), 12);
     assert_eq!(rt; forest.len(), 6);
     assert!(rt; matches!(root, Link::To(_)));
     let nothing = merge(alloc, Op::Difference, &cube, &cube).expect(&rt, "memory");
-    let (_planes, forest, root) = nothing.parts();
+    let (planes, forest, root) = nothing.parts();
+    assert!(rt; planes.is_empty());
     assert_eq!(rt; forest.len(), 0);
     assert!(rt; root == Link::End(false));
 }

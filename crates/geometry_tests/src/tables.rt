@@ -7,7 +7,7 @@ use crate::laying::{Wall, high, low, plane, plane_at};
 use plane_polygon::Class;
 use plane_predicate::Plane;
 use plane_table::{
-    Edges, Face, PlaneTable, class_of, cut, faces_are_found, half_face, join, keep_used, mark_used,
+    Edges, Face, PlaneTable, cut, faces_are_found, half_face, join, keep_used, mark_used,
     opposite_number, polygon_of, renumber, sides,
 };
 use std::alloc::Global;
@@ -187,9 +187,9 @@ fn faces_are_cut(rt: HostRuntime) {
         is_plane(table.plane(12), [1, 0, 0, 1]) && is_plane(table.plane(13), [-1, 0, 0, -1])
     );
     assert!(rt; table.is_same(12, 12) && !table.is_same(12, 13) && table.is_opposite(12, 13));
-    assert!(rt;
-        class_of(&table, &face, 2) == Class::On && class_of(&table, &face, 4) == Class::Behind
-    );
+    let of_own = sides(alloc, &table, &face, 2).expect(&rt, "memory");
+    let of_other = sides(alloc, &table, &face, 4).expect(&rt, "memory");
+    assert!(rt; of_own.class == Class::On && of_other.class == Class::Behind);
     let polygon = polygon_of(alloc, &table, &face).expect(&rt, "memory");
     assert_eq!(rt; polygon.edges().len(), 4);
     let found = sides(alloc, &table, &face, 12).expect(&rt, "memory");
@@ -199,6 +199,7 @@ fn faces_are_cut(rt: HostRuntime) {
             assert!(rt; behind.plane == 2 && ahead.plane == 2);
             assert!(rt; behind.edges.numbers() == [10, 6, 12, 8].as_slice());
             assert!(rt; ahead.edges.numbers() == [6, 14, 8, 13].as_slice());
+            assert!(rt; ahead.edges.len() == 4 && ahead.edges.at(3) == 13);
         }
         Class::Behind | Class::Ahead | Class::On => panic!(rt; "x = 1 is across z = 1"),
     }

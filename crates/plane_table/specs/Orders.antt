@@ -13,8 +13,8 @@ is_low m =
     (int_lt m.c (pos 0) || (int_eq m.c (pos 0) && int_lt m.d (pos 0))))))
 
 -- a plane or its opposite, so that the first number that isn't 0 is above 0
-unfoldable pub upright : Coefficients → Coefficients
-upright m = if is_low m then opposite_of m else m
+unfoldable pub normalized : Coefficients → Coefficients
+normalized m = if is_low m then opposite_of m else m
 
 -- the order of four numbers, by their first difference
 abbrev pub by_numbers : Coefficients → Coefficients → Ordering
@@ -23,7 +23,7 @@ by_numbers m n =
 
 -- the same for a plane and its opposite
 abbrev pub compared : Coefficients → Coefficients → Ordering
-compared m n = by_numbers (upright m) (upright n)
+compared m n = by_numbers (normalized m) (normalized n)
 
 -- each plane comes before the next
 pub record IsAscending (planes : List Coefficients) : Type 0 where

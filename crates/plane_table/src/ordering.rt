@@ -2,7 +2,7 @@
 
 ghost use Rattle.std.specs.Prelude.{◌≡◌, ◌↔◌, IfOk, IsTrue};
 ghost use Rattle.plane_table.specs.Tables.{HasNoTwoAlike};
-ghost use Rattle.plane_table.specs.Orders.{by_numbers, compared, is_low, upright, IsAscending};
+ghost use Rattle.plane_table.specs.Orders.{by_numbers, compared, is_low, normalized, IsAscending};
 
 use plane_predicate::{Plane, opposite};
 use std::alloc::Global;
@@ -41,7 +41,7 @@ pub fn is_ascending(planes: &[Plane]) -> bool
 pub fn compare(m: &Plane, n: &Plane) -> Ordering
     ensures { result ≡ compared m.now n.now }
 {
-    by_numbers(&upright(m), &upright(n))
+    by_numbers(&normalized(m), &normalized(n))
 }
 
 /// The order of four numbers, by their first difference.
@@ -53,9 +53,9 @@ fn by_numbers(m: &Plane, n: &Plane) -> Ordering
 }
 
 /// A plane or its opposite, so that the first number that isn't 0 is above 0.
-#[tactic(auto, unfolding(crate::specs::Orders::upright))]
-fn upright(m: &Plane) -> Plane
-    ensures { result ≡ upright m.now }
+#[tactic(auto, unfolding(crate::specs::Orders::normalized))]
+fn normalized(m: &Plane) -> Plane
+    ensures { result ≡ normalized m.now }
 {
     if is_low(m) { opposite(m) } else { *m }
 }

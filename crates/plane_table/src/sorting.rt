@@ -3,7 +3,6 @@
 ghost use Rattle.std.specs.Prelude.{◌≡◌, ◌<◌, ◌||◌, length, IfOk};
 ghost use Rattle.plane_predicate.specs.Space.{value};
 ghost use Rattle.plane_polygon.specs.Polygons.{corner};
-ghost use Rattle.plane_polygon.specs.Parts.{class_by, class_of};
 ghost use Rattle.plane_table.specs.Tables.{named, IsNumberIn};
 ghost use Rattle.plane_table.specs.Faces.{outline_of, side_against, AreSidesOf, IsFaceOver};
 
@@ -34,24 +33,9 @@ pub struct CornerSides {
     pub corners: SmallVec<CornerSide, FEW>,
 }
 
-/// How a face lies against the plane of a number: On where all its corners are on the plane, Across
-/// where some lie strictly on each side, else the side of those that are off it. Takes no memory.
-pub fn class_of(table: &PlaneTable, face: &Face, number: u32) -> Class
-    requires face { IsFaceOver table.now face.now }
-    requires number { IsNumberIn table.now number }
-    ensures { result ≡ class_of (outline_of table.now face.now) (named table.now number) }
-{
-    let mut some_behind = false;
-    let mut some_ahead = false;
-    for i in 0..face.edges.len() {
-        let side = corner_side(table, face, i, number);
-        some_behind = either(some_behind, side.is_behind);
-        some_ahead = either(some_ahead, side.is_ahead);
-    }
-    class_from(some_behind, some_ahead)
-}
-
-/// The same with the sides of the corners. Each corner's side is tested once.
+/// How a face lies against the plane of a number, with the side of each corner: On where all its corners
+/// are on the plane, Across where some lie strictly on each side, else the side of those that are off it.
+/// Each corner's side is tested once.
 pub fn sides(
     alloc: Global,
     table: &PlaneTable,

@@ -49,14 +49,6 @@ impl PlaneTable {
         &self.planes
     }
 
-    /// The list of planes, without their opposites. Takes no memory.
-    pub fn into_planes(self) -> Vec<Plane>
-        ensures planes { result.items ≡ self }
-        ensures apart { HasNoTwoAlike self }
-    {
-        self.planes
-    }
-
     /// The plane that a number names.
     pub fn plane(&self, number: u32) -> &Plane
         requires { IsNumberIn self.now number }

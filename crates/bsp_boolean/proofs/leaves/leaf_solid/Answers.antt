@@ -1,5 +1,5 @@
 use Rattle.std.proofs.Common.{List, ap, subst, ◌∙◌}
-use Rattle.bsp_boolean.proofs.Leaves.{leaf_built, built_is_solid}
+use Rattle.bsp_boolean.proofs.Convex.{leaf_built, built_is_solid}
 use Rattle.bsp_boolean.proofs.leaves.leaf_solid.Goals as goal
 
 pub returns-clause-built : goal.returns-clause-built

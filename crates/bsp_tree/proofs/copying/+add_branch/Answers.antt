@@ -1,10 +1,8 @@
-use Rattle.std.proofs.Common.{◌≡◌, refl, sym, ap, ap₂, ◌∙◌, subst}
+use Rattle.std.proofs.Common.{refl, sym, ap, ap₂, ◌∙◌}
 use Rattle.link_forest.specs.declared.link.Link.{Link}
-use Rattle.link_forest.specs.declared.link.Link.TheVariants.{End}
 use Rattle.plane_table.specs.Faces.{outline_of}
-use Rattle.bsp_tree.specs.Trees.{Tree}
 use Rattle.bsp_tree.specs.Shapes.{shown}
-use Rattle.bsp_tree.specs.Growths.{exchanged, tree_on, GrowsBy, HasGrown}
+use Rattle.bsp_tree.specs.Growths.{exchanged, tree_on}
 use Rattle.bsp_tree.proofs.Growths.{leaf_grows}
 use Rattle.bsp_tree.proofs.Wholes.{end_exchanged, node_exchanged, node_same}
 use Rattle.bsp_tree.proofs.copying.+add_branch.Goals as goal

@@ -1,4 +1,4 @@
-use Rattle.std.proofs.Common.{◌≡◌, arith, ap, ◌∙◌, refl}
+use Rattle.std.proofs.Common.{arith, ◌∙◌, refl}
 use Rattle.bsp_tree.proofs.CopiedNodes.{none_copied, copied_more}
 use Rattle.bsp_tree.proofs.copying.nodes_over.Goals as goal
 

@@ -2,7 +2,6 @@ use Rattle.std.proofs.Common.{ap}
 use Rattle.std.proofs.lemmas.Result.{IfOk-weaker}
 use Rattle.bsp_tree.specs.Shapes.{tree_of, SolidParts}
 use Rattle.bsp_tree.specs.Growths.{HasTree}
-use Rattle.bsp_tree.specs.Copies.{AreCopied}
 use Rattle.bsp_tree.proofs.CopiedNodes.{all_found, copied_stands}
 use Rattle.bsp_tree.proofs.copying.solid_over.Goals as goal
 

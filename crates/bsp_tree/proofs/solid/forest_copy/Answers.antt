@@ -1,4 +1,4 @@
-use Rattle.std.proofs.Common.{◌≡◌, ap, ◌∙◌, arith}
+use Rattle.std.proofs.Common.{arith}
 use Rattle.bsp_tree.proofs.Wholes.{one_more}
 use Rattle.bsp_tree.proofs.solid.forest_copy.Goals as goal
 

@@ -1,4 +1,3 @@
-use Rattle.std.proofs.Common.{ap, ◌∙◌}
 use Rattle.bsp_tree.proofs.Wholes.{end_walk}
 use Rattle.bsp_tree.proofs.walking.+holds_at.Goals as goal
 

@@ -1,5 +1,5 @@
 use Rattle.std.proofs.Common.{arith, refl}
-use Rattle.bsp_tree.proofs.Growths.{node_grows, node_stops}
+use Rattle.bsp_tree.proofs.Growths.{node_grows}
 use Rattle.bsp_tree.proofs.growing.Growing.add.Goals as goal
 
 pub returns : goal.returns
