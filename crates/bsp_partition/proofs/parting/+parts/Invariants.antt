@@ -12,7 +12,7 @@ abbrev pub decreases-other_parts : goal.decreases-other_parts
 decreases-other_parts l = 4 * max (least_nodes l.node.behind) (least_nodes l.node.ahead) + 2
 
 abbrev pub decreases-side_parts : goal.decreases-side_parts
-decreases-side_parts l = 4 * max (least_nodes l.node.behind) (least_nodes l.node.ahead) + 1
+decreases-side_parts l = 4 * max (least_nodes l.node.now.behind) (least_nodes l.node.now.ahead) + 1
 
 abbrev pub decreases-behind_parts : goal.decreases-behind_parts
 decreases-behind_parts l = 4 * least_nodes l.node.behind + 1
