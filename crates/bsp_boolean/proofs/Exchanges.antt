@@ -1,7 +1,7 @@
 -- Merges of trees with their leaves exchanged.
 use Rattle.std.proofs.Common.{◌≡◌, ◌<◌, ◌≤◌, arith, length, Bool, true, false, if◌then◌else◌, not, refl, sym, ap, ap₂, ◌∙◌}
 use Rattle.std.proofs.lemmas.Bool.{false≢true, true≢false}
-use Rattle.plane_predicate.specs.Space.{Coefficients, opposite_of, is_same}
+use Rattle.plane_predicate.specs.Space.{opposite_of, is_same}
 use Rattle.plane_polygon.specs.Polygons.{Outline}
 use Rattle.plane_polygon.specs.declared.classes.Class.{Class}
 use Rattle.plane_polygon.specs.declared.classes.Class.TheVariants.{Behind, Ahead, On, Across}

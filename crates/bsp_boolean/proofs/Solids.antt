@@ -1,5 +1,5 @@
 -- The solids of trees: they are of the world box, and hold where their trees do.
-use Rattle.std.proofs.Common.{◌≡◌, inl, inr, Bool, true, false, ◌&&◌, if◌then◌else◌, List, [], ◌∷◌, refl, sym, ap, ap₂, ◌∙◌, All, suc, ◌<◌, length, get_or, drop, subst, arith}
+use Rattle.std.proofs.Common.{◌≡◌, inl, inr, Bool, true, false, ◌&&◌, if◌then◌else◌, List, [], ◌∷◌, refl, sym, ap, ap₂, ◌∙◌, All, suc, arith}
 use Rattle.std.specs.Prelude.{Contains}
 use Rattle.plane_predicate.specs.Space.{Coefficients, Coordinates}
 use Rattle.csg_tree.specs.Formulas.{Formula, nothing, leaf, joined, operated, sides_of}
@@ -9,7 +9,6 @@ use Rattle.plane_polygon.specs.Parts.{is_behind}
 use Rattle.bsp_tree.specs.Trees.{walk, half_space}
 use Rattle.bsp_tree.specs.Cells.{world_box, IsOfWorld, IsPlaneOf}
 use Rattle.bsp_tree.proofs.Worlds.{open_world, half_of_world, box_plane}
-use Rattle.bsp_boolean.specs.Merges.{combined}
 use Rattle.bsp_boolean.specs.Solids.{convex, solid_of, IsSolidOf}
 use Rattle.bsp_boolean.proofs.Combined.{combined_walks, combined_cells, combined_planes}
 use Rattle.bsp_boolean.proofs.Merged.{merge_is}

@@ -1,6 +1,5 @@
 -- The merge of two trees over one table, and the tree of a leaf.
 use Rattle.std.specs.Prelude.{◌≡◌, Bool, true, false, List, [], ◌∷◌}
-use Rattle.plane_predicate.specs.Space.{Coefficients}
 use Rattle.csg_tree.specs.declared.op.Op.{Op}
 use Rattle.csg_tree.specs.declared.op.Op.TheVariants.{Union, Intersection, Difference}
 use Rattle.plane_polygon.specs.Polygons.{Outline}

@@ -1,7 +1,7 @@
-use Rattle.std.proofs.Common.{◌≡◌, ◌+◌, ◌-◌, ◌++◌, ◌∷◌, [], if◌then◌else◌, subst, ap, ◌∙◌, sym, ◌≤◌, arith}
+use Rattle.std.proofs.Common.{◌≡◌, ◌+◌, ◌++◌, ◌∷◌, [], if◌then◌else◌, subst, ap, ◌∙◌, sym, ◌≤◌, arith}
 use Rattle.bsp_tree.specs.Trees.{size}
 use Rattle.bsp_tree.specs.Shapes.{tree_of}
-use Rattle.bsp_boolean.specs.TreeSolids.{most_of_one, most_of_all}
+use Rattle.bsp_boolean.specs.TreeSolids.{most_of_one}
 use Rattle.bsp_boolean.proofs.TreeSolids.{made_solid, too_much, grown_by}
 use Rattle.bsp_boolean.proofs.tree_solids.grow.Goals as goal
 
