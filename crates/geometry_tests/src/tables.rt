@@ -164,34 +164,57 @@ fn lists_are_joined(rt: HostRuntime) {
     }
 }
 
-// The plane x = 1 across the face of z = 1: the part behind it, and the part ahead.
-#[test]
-fn faces_are_cut(rt: HostRuntime) {
-    let alloc = rt.alloc();
-    let top = half_face(alloc, &plane_at(&rt, high(2, 1))).expect(&rt, "memory");
-    let wall = half_face(alloc, &plane_at(&rt, high(0, 1))).expect(&rt, "memory");
-    let joined = join(alloc, &top.planes, &wall.planes).expect(&rt, "memory");
+// The planes of the faces of z = 1 and x = 1 in one table, and the first of these faces over it.
+fn top_face(rt: &impl Abort, alloc: Global) -> (PlaneTable, Face)
+    ensures { IsFaceOver result.0 result.1 }
+{
+    let top = half_face(alloc, &plane_at(rt, high(2, 1))).expect(rt, "memory");
+    let wall = half_face(alloc, &plane_at(rt, high(0, 1))).expect(rt, "memory");
+    let joined = join(alloc, &top.planes, &wall.planes).expect(rt, "memory");
     let face = moved(
-        &rt,
+        rt,
         alloc,
         &top.face,
         &top.planes,
         &joined.planes,
         &joined.left,
     );
+    let table = PlaneTable::of(alloc, joined.planes).expect(rt, "memory");
+    (table, face)
+}
+
+#[test]
+fn faces_have_the_numbers_of_a_table(rt: HostRuntime) {
+    let alloc = rt.alloc();
+    let (table, face) = top_face(&rt, alloc);
     assert_eq!(rt; face.plane, 2);
     assert!(rt; face.edges.numbers() == [10, 6, 14, 8].as_slice());
-    let table = PlaneTable::of(alloc, joined.planes).expect(&rt, "memory");
     assert!(rt; table.planes().len() == 8);
     assert!(rt;
         is_plane(table.plane(12), [1, 0, 0, 1]) && is_plane(table.plane(13), [-1, 0, 0, -1])
     );
     assert!(rt; table.is_same(12, 12) && !table.is_same(12, 13) && table.is_opposite(12, 13));
+    let polygon = polygon_of(alloc, &table, &face).expect(&rt, "memory");
+    assert_eq!(rt; polygon.edges().len(), 4);
+}
+
+// The face of z = 1 lies on its own plane, and behind that of y = 4096.
+#[test]
+fn faces_lie_against_planes(rt: HostRuntime) {
+    let alloc = rt.alloc();
+    let (table, face) = top_face(&rt, alloc);
+    assert!(rt; table.planes().len() == 8);
     let of_own = sides(alloc, &table, &face, 2).expect(&rt, "memory");
     let of_other = sides(alloc, &table, &face, 4).expect(&rt, "memory");
     assert!(rt; of_own.class == Class::On && of_other.class == Class::Behind);
-    let polygon = polygon_of(alloc, &table, &face).expect(&rt, "memory");
-    assert_eq!(rt; polygon.edges().len(), 4);
+}
+
+// The plane x = 1 across the face of z = 1: the part behind it, and the part ahead.
+#[test]
+fn faces_are_cut(rt: HostRuntime) {
+    let alloc = rt.alloc();
+    let (table, face) = top_face(&rt, alloc);
+    assert!(rt; table.planes().len() == 8);
     let found = sides(alloc, &table, &face, 12).expect(&rt, "memory");
     match found.class {
         Class::Across => {
