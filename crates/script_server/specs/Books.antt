@@ -5,7 +5,7 @@ use Rattle.plane_predicate.specs.declared.unit.Unit.{Unit as LengthUnit}
 use Rattle.csg_tree.specs.Formulas.{Formula}
 use Rattle.csg_tree.specs.Numberings.{is_same_tree, nodes_of}
 use Rattle.csg_tree.specs.TreeKeys.{name_of}
-use Rattle.bsp_tree.specs.declared.Solid.{Solid}
+use Rattle.bsp_tree.specs.Shapes.{SolidParts}
 use Rattle.bsp_tree.specs.Trees.{size}
 use Rattle.bsp_tree.specs.Shapes.{tree_of}
 use Rattle.bsp_boolean.specs.Solids.{solid_of}
@@ -21,7 +21,7 @@ use Rattle.script_server.specs.Meaning.Sources.{Means, HasFault}
 
 -- A memo of solids by trees: each entry holds the solid of its tree with its size as its weight, and the journal is one that
 -- the sequential memo keeps, and replays to the entries.
-abbrev pub IsSolidMemo : (Formula → List ℕ) → Core Formula Solid → Type 0
+abbrev pub IsSolidMemo : (Formula → List ℕ) → Core Formula SolidParts → Type 0
 IsSolidMemo names core = IsSound is_same_tree names (λ tree solid. tree_of solid ≡ solid_of tree) (λ solid. size (tree_of solid)) core
 
 -- what the entries of the first so many callers weigh
