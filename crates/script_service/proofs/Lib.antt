@@ -1,2 +1,3 @@
 pub mod Lines
-pub mod Ended
+pub mod Read
+pub mod Written
