@@ -8,7 +8,7 @@ ghost use Rattle.subtree_memo.specs.Tallies.{tally_of};
 ghost use Rattle.script_reader.specs.Limits.{AreWithin};
 ghost use Rattle.reply_text.specs.Answers.{AllFit};
 ghost use Rattle.script_server.specs.Meaning.Exports.{AnswersExport};
-ghost use Rattle.script_server.specs.Books.{AddsUp, IsSolidMemo, IsRunOf, weights_of};
+ghost use Rattle.script_server.specs.Books.{AddsUp, IsSolidMemo, weights_of};
 ghost use Rattle.script_server.specs.Clients.{ExportsFor};
 
 use crate::exporter::{Client, ClientExporter, export_source};
@@ -190,7 +190,15 @@ pub fn run_named<N: Namer<TreeKey> + Send + Sync, G: Gate + Sync, R: Threads + W
 ) -> Result<Ran<N>, NoMemory>
     requires within { AreWithin script.now.clients }
     requires workers { (1 ≤ workers) × (workers ≤ 64) }
-    ensures { IfOk result (λ ran. IsRunOf unit script.now.clients memo share N.name_of ran.replies.items ran.tally ran.core) }
+    // Each client's replies are those that its own commands define, whatever the others do at the same time.
+    ensures fits { IfOk result (λ f. AllFit (AnswersExport unit) script.now.clients f.replies.items) }
+    ensures few { IfOk result (λ f. All (λ rs. length rs ≤ 8192) f.replies.items) }
+    // The tally is that of the memo's journal, which is one of the sequential memo of the budget and share.
+    ensures tally { IfOk result (λ f. f.tally ≡ tally_of f.core.journal f.tally.dropped) }
+    // Where no export lacked its solid, it adds up to the joins of all exports.
+    ensures sums { IfOk result (λ f. AddsUp unit script.now.clients f.replies.items f.tally) }
+    ensures sound { IfOk result (λ f. IsSolidMemo N.name_of f.core) }
+    ensures limits { IfOk result (λ f. (f.core.budget ≡ memo) × (f.core.share ≡ share)) }
 {
     // A memo has at least one caller.
     let callers = script.clients.items().len().max(1) as u32;
@@ -214,7 +222,12 @@ pub fn run_gated<G: Gate + Sync, R: Threads + Wait + Sync>(
 ) -> Result<Ran<ShaNamer>, NoMemory>
     requires within { AreWithin script.now.clients }
     requires workers { (1 ≤ workers) × (workers ≤ 64) }
-    ensures { IfOk result (λ ran. IsRunOf unit script.now.clients memo share name_of ran.replies.items ran.tally ran.core) }
+    ensures fits { IfOk result (λ f. AllFit (AnswersExport unit) script.now.clients f.replies.items) }
+    ensures few { IfOk result (λ f. All (λ rs. length rs ≤ 8192) f.replies.items) }
+    ensures tally { IfOk result (λ f. f.tally ≡ tally_of f.core.journal f.tally.dropped) }
+    ensures sums { IfOk result (λ f. AddsUp unit script.now.clients f.replies.items f.tally) }
+    ensures sound { IfOk result (λ f. IsSolidMemo name_of f.core) }
+    ensures limits { IfOk result (λ f. (f.core.budget ≡ memo) × (f.core.share ≡ share)) }
 {
     run_named(
         rt, alloc, script, workers, memo, share, unit, gate, ShaNamer,
@@ -233,7 +246,12 @@ pub fn run_script<R: Threads + Wait + Sync>(
 ) -> Result<Ran<ShaNamer>, NoMemory>
     requires within { AreWithin script.now.clients }
     requires workers { (1 ≤ workers) × (workers ≤ 64) }
-    ensures { IfOk result (λ ran. IsRunOf unit script.now.clients memo share name_of ran.replies.items ran.tally ran.core) }
+    ensures fits { IfOk result (λ f. AllFit (AnswersExport unit) script.now.clients f.replies.items) }
+    ensures few { IfOk result (λ f. All (λ rs. length rs ≤ 8192) f.replies.items) }
+    ensures tally { IfOk result (λ f. f.tally ≡ tally_of f.core.journal f.tally.dropped) }
+    ensures sums { IfOk result (λ f. AddsUp unit script.now.clients f.replies.items f.tally) }
+    ensures sound { IfOk result (λ f. IsSolidMemo name_of f.core) }
+    ensures limits { IfOk result (λ f. (f.core.budget ≡ memo) × (f.core.share ≡ share)) }
 {
     run_gated(rt, alloc, script, workers, memo, share, unit, &OpenGate)
 }
