@@ -1,6 +1,6 @@
 use Rattle.std.proofs.Common.{◌∙◌, arith}
 use Rattle.script_server.proofs.Books.{one_weight_more}
-use Rattle.script_server.proofs.runner.weights.Goals as goal
+use Rattle.script_server.proofs.running.weights.Goals as goal
 
 pub loop-caller-preserved : goal.loop-caller-preserved
 loop-caller-preserved c =

@@ -1,4 +1,4 @@
-use Rattle.script_server.proofs.running.run_gated.Given as goal
+use Rattle.script_server.proofs.running.run_named.Given as goal
 
 -- the ledgers are named by the blanks that are handed on, and keep to the new memo's limits
 abbrev pub ghosts-run_over-H-Ledger : goal.ghosts-run_over-H-Ledger
