@@ -53,7 +53,7 @@ AreBooks unit clients replies budget share tally weights =
     × AddsUp unit clients replies tally
 
 -- What came of a run of clients over a memo of this budget and share, whose names are these.
-pub record IsRunOf (unit : LengthUnit) (clients : List ClientScript) (budget share : ℕ) (names : Formula → List ℕ) (replies : List (List Reply)) (tally : Tally) (core : Core Formula Solid) : Type 0 where
+pub record IsRunOf (unit : LengthUnit) (clients : List ClientScript) (budget share : ℕ) (names : Formula → List ℕ) (replies : List (List Reply)) (tally : Tally) (core : Core Formula SolidParts) : Type 0 where
   -- each client's replies are those that its own commands define, whatever the others do at the same time
   pub fits : AllFit (AnswersExport unit) clients replies
   pub few : All (λ rs. length rs ≤ 8192) replies
