@@ -66,10 +66,10 @@ fn lists_keep_their_numbers(rt: HostRuntime) {
 #[test]
 fn half_spaces_have_a_face_over_their_planes(rt: HostRuntime) {
     let alloc = rt.alloc();
-    let rows: [(Wall, [[i64; 4]; 5], u32, [u32; 4]); 3] = [
+    let rows: [(Wall, &[[i64; 4]], u32, &[u32]); 3] = [
         (
             high(2, 1),
-            [
+            &[
                 [0, 0, 1, 1],
                 [0, -1, 0, 4096],
                 [0, 1, 0, 4096],
@@ -77,11 +77,11 @@ fn half_spaces_have_a_face_over_their_planes(rt: HostRuntime) {
                 [1, 0, 0, 4096],
             ],
             0,
-            [6, 2, 8, 4],
+            &[6, 2, 8, 4],
         ),
         (
             low(2, 1),
-            [
+            &[
                 [0, 0, -1, -1],
                 [0, -1, 0, 4096],
                 [0, 1, 0, 4096],
@@ -89,11 +89,11 @@ fn half_spaces_have_a_face_over_their_planes(rt: HostRuntime) {
                 [1, 0, 0, 4096],
             ],
             0,
-            [6, 4, 8, 2],
+            &[6, 4, 8, 2],
         ),
         (
             high(0, 1),
-            [
+            &[
                 [0, 0, -1, 4096],
                 [0, 0, 1, 4096],
                 [0, -1, 0, 4096],
@@ -101,14 +101,14 @@ fn half_spaces_have_a_face_over_their_planes(rt: HostRuntime) {
                 [1, 0, 0, 1],
             ],
             8,
-            [4, 0, 6, 2],
+            &[4, 0, 6, 2],
         ),
     ];
     for (wall, planes, number, edges) in rows {
         let found = half_face(alloc, &plane_at(&rt, wall)).expect(&rt, "memory");
-        assert!(rt; are_planes(&found.planes, &planes));
+        assert!(rt; are_planes(&found.planes, planes));
         assert_eq!(rt; found.face.plane, number);
-        assert!(rt; found.face.edges.numbers() == edges.as_slice());
+        assert!(rt; found.face.edges.numbers() == edges);
         assert_eq!(rt; found.face.size(), 5);
     }
 }
