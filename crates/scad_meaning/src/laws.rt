@@ -10,7 +10,8 @@ ghost use Rattle.scad_scope.specs.Blocks.{assigned_in, assignments_of};
 ghost use Rattle.scad_meaning.specs.Bodies.{StandsForAll, HaveOwnNames, is_named_in};
 ghost use Rattle.plane_predicate.specs.declared.unit.Unit.{Unit as LengthUnit};
 ghost use Rattle.scad_modules.specs.Effects.{SolidCall, FlatCall};
-ghost use Rattle.scad_meaning.specs.Verdicts.{Verdict, Judge, IsRight, IsSolidVerdict, IsFlatVerdict, IsHeightVerdict};
+ghost use Rattle.scad_design.specs.Designs.{Design};
+ghost use Rattle.scad_meaning.specs.Verdicts.{Verdict, Judge, IsRight, IsSolidVerdict, IsFlatVerdict, IsHeightVerdict, IsHullVerdict};
 ghost use Rattle.scad_meaning.specs.Sources.{Meaning, a_fault, IsMeaning};
 
 use scad_design::{one_placing, some_placing};
@@ -24,8 +25,8 @@ pub fn last_assignments_count()
     ensures all { (statements : StatementTerms) → AllByRecursion (λ a. is_named_in (assignments_of statements) a ≡ true) (assigned_in statements) }
 {}
 
-/// What is wrong with a shape, or with the height of an extrusion, is one thing: some judge is always right, and no two
-/// verdicts are.
+/// What is wrong with a shape, with the height of an extrusion or with a hull is one thing: some judge is always right, and
+/// no two verdicts are.
 pub fn shapes_have_one_verdict()
     ensures some { (judge : Judge) × IsRight judge }
     ensures solids { (unit : LengthUnit) (call : SolidCall) (v w : Verdict) →
@@ -34,6 +35,7 @@ pub fn shapes_have_one_verdict()
         IsFlatVerdict unit call v → IsFlatVerdict unit call w → v ≡ w }
     ensures heights { (unit : LengthUnit) (center : Bool) (height : ℤ) (v w : Verdict) →
         IsHeightVerdict unit center height v → IsHeightVerdict unit center height w → v ≡ w }
+    ensures hulls { (design : Design) (v w : Verdict) → IsHullVerdict design v → IsHullVerdict design w → v ≡ w }
 {}
 
 /// A program has one meaning at most in each unit: one tree, or one first fault.
