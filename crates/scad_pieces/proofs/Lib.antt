@@ -1,4 +1,5 @@
 mod Crossing
+mod Hulls
 mod Made
 pub mod NumberedItems
 mod Numbering
