@@ -1,5 +1,5 @@
 mod Crossing
-mod Hulls
+mod DesignHulls
 mod Made
 pub mod NumberedItems
 mod Numbering
