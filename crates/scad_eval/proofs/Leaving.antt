@@ -11,7 +11,7 @@ use Rattle.scad_meaning.specs.declared.extrusion.Extrusion.{Extrusion}
 use Rattle.text_place.specs.declared.fault.Place.{Place}
 use Rattle.shape_planes.specs.Shapes.{Mesh}
 use Rattle.scad_meaning.specs.Verdicts.{Verdict}
-use Rattle.scad_func.specs.Meaning.{Outcome, Gives, Faults, then_with}
+use Rattle.scad_func.specs.Meaning.{Outcome, Gives, then_with}
 use Rattle.scad_meaning.specs.Hulls.{is_nothing, hull_mesh}
 use Rattle.scad_meaning.specs.Meaning.{Made, checked, leaf_made, hulled, hull_made}
 use Rattle.scad_eval.specs.Seen.{IsStopAt}
@@ -34,25 +34,15 @@ height_stops unit through at (shapes.Kind kind) result known fault is =
     differ kind e = cc
 height_stops unit through at shapes.NoMemory result known fault is = is
 
--- nothing has no hull
+-- a hull with nothing wrong is a leaf, where there is something
 abbrev hull_or_not : Verdict → Place → Made → ℕ → Bool → Outcome Made
 hull_or_not v at m turns nothing =
     if nothing then Gives turns m
     else checked v at (then_with (leaf_made at (hull_mesh m.design) turns m.leaves) (λ turns leaf. Gives turns (hulled m leaf)))
 
-pub no_hull : (v : Verdict) (at : Place) (m : Made) (turns : ℕ) (b : Bool) → b ≡ is_nothing m.design → b ≡ true → hull_made v at m turns ≡ Gives turns m
-no_hull v at m turns b is e = ap (hull_or_not v at m turns) (sym is ∙ e)
-
--- a hull with nothing wrong is a leaf, and one with something wrong a fault
 pub hull_checked : (v : Verdict) (at : Place) (m : Made) (shape : Mesh) (turns : ℕ) (b : Bool) → b ≡ is_nothing m.design → b ≡ false → v ≡ None → shape ≡ hull_mesh m.design
     → hull_made v at m turns ≡ then_with (leaf_made at shape turns m.leaves) (λ turns leaf. Gives turns (hulled m leaf))
 hull_checked v at m shape turns b is e none same =
     ap (hull_or_not v at m turns) (sym is ∙ e)
     ∙ ap (λ (x : Verdict). checked x at (then_with (leaf_made at (hull_mesh m.design) turns m.leaves) (λ turns leaf. Gives turns (hulled m leaf)))) none
     ∙ ap (λ (mesh : Mesh). then_with (leaf_made at mesh turns m.leaves) (λ turns leaf. Gives turns (hulled m leaf))) (sym same)
-
-pub hull_faulty : (v : Verdict) (at : Place) (m : Made) (kind : FaultKind) (turns : ℕ) (b : Bool) → b ≡ is_nothing m.design → b ≡ false → v ≡ Some kind
-    → hull_made v at m turns ≡ Faults kind at
-hull_faulty v at m kind turns b is e some =
-    ap (hull_or_not v at m turns) (sym is ∙ e)
-    ∙ ap (λ (x : Verdict). checked x at (then_with (leaf_made at (hull_mesh m.design) turns m.leaves) (λ turns leaf. Gives turns (hulled m leaf)))) some

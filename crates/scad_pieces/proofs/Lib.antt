@@ -1,5 +1,4 @@
 mod Crossing
-mod DesignHulls
 mod Made
 pub mod NumberedItems
 mod Numbering
