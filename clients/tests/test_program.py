@@ -1,7 +1,10 @@
 """The client module and scad2off with the program that `rt ci` has built; skipped where it is not built."""
 
 import glob
+import hashlib
 import os
+import re
+import subprocess
 import unittest
 
 from scadserve import BadScript, Fault, Ok, Script, Solid, Text, printed, read, run
@@ -161,6 +164,55 @@ class Program(Calls):
             with self.subTest(source=source):
                 error = self.call(self.write("part.scad", source), "-D", "w=8")[2]
                 self.assertTrue(error.decode().startswith(f"part.scad:{said}"), error)
+
+    def demonstration(self, parts):
+        """The script of `demo`, as docs/SPECIFICATION.md writes it."""
+        lines = []
+        for client in range(1, 9):
+            part = f"translate([7*i, 0, 0]) difference() {{ cube(4); translate([1, 1, 0]) cube([2, 2, {1 + client % 3}]); }}"
+            lines += [f"c{client} put 1 module part(i) {{ {part} }}", f"c{client} put 2 for (i = [1 : {parts}]) part(i);"]
+            lines += [f"c{client} export"]
+        return "".join(f"{it}\n" for it in lines).encode()
+
+    def test_the_demonstration_tells_the_digests_of_the_texts_that_a_run_answers(self):
+        for parts in (1, 10):
+            told = []
+            for name, replies in self.answers(Raw(self.demonstration(parts))).items():
+                text = replies[-1].text
+                counts = re.match(rb"4OFF\n(\d+) (\d+) 0\n", text)
+                digest = hashlib.sha256(text).hexdigest()
+                told.append(f"{name} facets {int(counts[2])} vertices {int(counts[1])} sha256 {digest}\n")
+            status, out, _ = self.call("demo", str(parts), tool=PROGRAM)
+            self.assertEqual((status, out.decode()), (0, "".join(told)), parts)
+
+    def test_an_output_that_is_closed_is_a_fault_of_the_output(self):
+        script = b"a put 1 for (i = [1 : 170]) translate([2*i, 2*i, 2*i]) cube(1);\n" + b"a export\n" * 16
+        pipes = {"stdin": subprocess.PIPE, "stdout": subprocess.PIPE, "bufsize": 0}
+        with subprocess.Popen([PROGRAM, "run"], **pipes) as server:
+            server.stdin.write(script)
+            server.stdin.close()
+            self.assertEqual(server.stdout.read(10), b"== a\n1 ok ")
+            server.stdout.close()
+            self.assertEqual(server.wait(100), 5)
+
+    @unittest.skipUnless(os.path.isdir("/proc/self/task"), "needs /proc")
+    def test_each_client_has_as_many_builders_as_the_words_say(self):
+        line = "for (x = [0 : 24], y = [0 : 24]) translate([2 * x + 3 * y, 2 * y, x]) cube(3);"
+        script = f"a put 1 {line}\na export\n".encode()
+        most = {}
+        for workers in (1, 4):
+            words = [PROGRAM, "run", "--workers", str(workers)]
+            with subprocess.Popen(words, stdin=subprocess.PIPE, stdout=subprocess.DEVNULL) as server:
+                server.stdin.write(script)
+                server.stdin.close()
+                most[workers] = 0
+                while server.poll() is None:
+                    try:
+                        most[workers] = max(most[workers], len(os.listdir(f"/proc/{server.pid}/task")))
+                    except OSError:
+                        pass
+            self.assertEqual(server.returncode, 0)
+        self.assertGreater(most[4], most[1])
 
     def test_a_solid_past_a_limit_is_told(self):
         bars = "module bars(v, s) for (i = [0 : 14]) translate(2 * i * v) cube(s);\nintersection() {\n"

@@ -1,5 +1,5 @@
 -- The solids of trees: they are of the world box, and hold where their trees do.
-use Rattle.std.proofs.Common.{◌≡◌, inl, inr, Bool, true, false, ◌&&◌, if◌then◌else◌, List, [], ◌∷◌, refl, sym, ap, ap₂, ◌∙◌, All, suc, ◌<◌, length, get_or, drop, subst, arith}
+use Rattle.std.proofs.Common.{◌≡◌, inl, inr, Bool, true, false, ◌&&◌, if◌then◌else◌, List, [], ◌∷◌, refl, sym, ap, ap₂, ◌∙◌, All, suc, arith}
 use Rattle.std.specs.Prelude.{Contains}
 use Rattle.plane_predicate.specs.Space.{Coefficients, Coordinates}
 use Rattle.csg_tree.specs.Formulas.{Formula, nothing, leaf, joined, operated, sides_of}
@@ -9,7 +9,6 @@ use Rattle.plane_polygon.specs.Parts.{is_behind}
 use Rattle.bsp_tree.specs.Trees.{walk, half_space}
 use Rattle.bsp_tree.specs.Cells.{world_box, IsOfWorld, IsPlaneOf}
 use Rattle.bsp_tree.proofs.Worlds.{open_world, half_of_world, box_plane}
-use Rattle.bsp_boolean.specs.Merges.{combined}
 use Rattle.bsp_boolean.specs.Solids.{convex, solid_of, IsSolidOf}
 use Rattle.bsp_boolean.proofs.Combined.{combined_walks, combined_cells, combined_planes}
 use Rattle.bsp_boolean.proofs.Merged.{merge_is}
@@ -63,7 +62,7 @@ one_plane_more m n planes hm h = let rest = n ∷ planes in record {
 }
 
 -- the solid of a leaf
-leaf_is_solid : (planes : List Coefficients) → All IsLeafPlane planes →
+pub leaf_is_solid : (planes : List Coefficients) → All IsLeafPlane planes →
     IsSolidOf (leaf planes) (convex planes)
 leaf_is_solid [] h = record { world = tt; planes = λ m k. absurd k; walks = λ p hw off. refl }
 leaf_is_solid (m ∷ []) h = let i = h 0 m (omega arith) in half_is_solid m (half_of_world m i.plane i.reach)
@@ -87,28 +86,3 @@ tree_is_solid (joined op left right) h =
           (λ m i. off m (inl (l.planes m i))) (λ m j. off m (inr (r.planes m j)))
           ∙ ap₂ (operated op) (l.walks p hw (λ m i. off m (inl i))) (r.walks p hw (λ m j. off m (inr j)));
     }
-
--- the solid of more than one plane, and of one
-pub convex_more : (planes : List Coefficients) (m : Coefficients) → 1 < length planes →
-    m ≡ get_or planes 0 m →
-    convex planes ≡ combined false (half_space m) (convex (drop 1 planes))
-convex_more [] m many e = absurd (omega arith)
-convex_more (n ∷ []) m many e = absurd (omega arith)
-convex_more (n ∷ o ∷ planes) m many e =
-    ap (λ (k : Coefficients). combined false (half_space k) (convex (o ∷ planes))) (sym e)
-
-pub more_is_solid : (planes : List Coefficients) (m : Coefficients) → 1 < length planes →
-    m ≡ get_or planes 0 m → IsOfWorld (half_space m) →
-    IsSolidOf (leaf (drop 1 planes)) (convex (drop 1 planes)) → IsSolidOf (leaf planes) (convex planes)
-more_is_solid [] m many e hm h = absurd (omega arith)
-more_is_solid (n ∷ []) m many e hm h = absurd (omega arith)
-more_is_solid (n ∷ o ∷ planes) m many e hm h =
-    one_plane_more n o planes (subst (λ (k : Coefficients). IsOfWorld (half_space k)) e hm) h
-
-pub one_is_solid : (planes : List Coefficients) (m : Coefficients) → length planes ≡ 1 →
-    m ≡ get_or planes 0 m → IsOfWorld (half_space m) →
-    IsSolidOf (leaf planes) (half_space m)
-one_is_solid [] m one e hm = absurd (omega arith)
-one_is_solid (n ∷ []) m one e hm =
-    subst (λ (k : Coefficients). IsSolidOf (leaf (k ∷ [])) (half_space m)) e (half_is_solid m hm)
-one_is_solid (n ∷ o ∷ planes) m one e hm = absurd (omega arith)

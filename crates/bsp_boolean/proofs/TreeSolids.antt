@@ -12,7 +12,7 @@ use Rattle.csg_tree.specs.Formulas.{Formula, nothing, leaf, joined}
 use Rattle.csg_tree.specs.ProperTrees.{IsProper, IsLeafPlane}
 use Rattle.csg_tree.specs.Numberings.{tree_numbered, IsNumberIn}
 use Rattle.csg_tree.specs.Nodes.{IsNodeOf}
-use Rattle.bsp_tree.specs.declared.Solid.{Solid}
+use Rattle.bsp_tree.specs.Shapes.{SolidParts}
 use Rattle.bsp_tree.specs.Trees.{outside, size}
 use Rattle.bsp_tree.specs.Shapes.{tree_of}
 use Rattle.bsp_boolean.specs.Merges.{merged}
@@ -47,7 +47,7 @@ one_solid_more trees n h =
     ap (map solid_of) (first_more trees n h)
     ∙ map-append solid_of (take (n - 1) trees) (tree_numbered trees n ∷ [])
 
-pub solids_more : (trees : List Formula) (n : ℕ) (solids : List Solid) (solid : Solid) → IsNumberIn trees n →
+pub solids_more : (trees : List Formula) (n : ℕ) (solids : List SolidParts) (solid : SolidParts) → IsNumberIn trees n →
     map tree_of solids ≡ map solid_of (take (n - 1) trees) → tree_of solid ≡ solid_of (tree_numbered trees n) →
     map tree_of (solids ++ solid ∷ []) ≡ map solid_of (take n trees)
 solids_more trees n solids solid h before now =
@@ -59,7 +59,7 @@ solids_more trees n solids solid h before now =
 origin : Coefficients
 origin = record { a = pos 0; b = pos 0; c = pos 0; d = pos 0 }
 
-so_many : (trees : List Formula) (n : ℕ) (solids : List Solid) → IsNumberIn trees n →
+so_many : (trees : List Formula) (n : ℕ) (solids : List SolidParts) → IsNumberIn trees n →
     map tree_of solids ≡ map solid_of (take (n - 1) trees) → length solids ≡ n - 1
 so_many trees n solids h before =
     sym (length-map solids tree_of) ∙ ap length before ∙ length-map (take (n - 1) trees) solid_of
@@ -69,7 +69,7 @@ reach : (planes : List Coefficients) → All IsLeafPlane planes → All ComesInR
 reach planes all =
     All-from_get_or ComesInReach planes origin (λ i h. (All-get_or IsLeafPlane planes i origin h all).reach)
 
-pub over_solids : (trees : List Formula) (n : ℕ) (solids : List Solid) (node : CsgNode) → IsNumberIn trees n →
+pub over_solids : (trees : List Formula) (n : ℕ) (solids : List SolidParts) (node : CsgNode) → IsNumberIn trees n →
     map tree_of solids ≡ map solid_of (take (n - 1) trees) → IsNodeOf trees n node → IsProper (tree_numbered trees n) →
     IsOverSolids solids node
 over_solids trees n solids (Leaf planes) h before is proper =
@@ -85,13 +85,13 @@ solid_numbered trees n m low high =
     get_or-map solid_of (take n trees) (m - 1) nothing
     ∙ ap solid_of (get_or-take n trees (m - 1) nothing (omega arith))
 
-numbered_before : (trees : List Formula) (n m : ℕ) (solids : List Solid) → map tree_of solids ≡ map solid_of (take (n - 1) trees) →
+numbered_before : (trees : List Formula) (n m : ℕ) (solids : List SolidParts) → map tree_of solids ≡ map solid_of (take (n - 1) trees) →
     1 ≤ m → m < n → get_or (map tree_of solids) (m - 1) outside ≡ solid_of (tree_numbered trees m)
 numbered_before trees n m solids before low high =
     ap (λ x. get_or x (m - 1) outside) before
     ∙ solid_numbered trees (n - 1) m low (omega arith)
 
-pub same_solid : (trees : List Formula) (n : ℕ) (solids : List Solid) (node : CsgNode) →
+pub same_solid : (trees : List Formula) (n : ℕ) (solids : List SolidParts) (node : CsgNode) →
     map tree_of solids ≡ map solid_of (take (n - 1) trees) → IsNodeOf trees n node →
     solid_over (map tree_of solids) node ≡ solid_of (tree_numbered trees n)
 same_solid trees n solids (Leaf planes) before is = sym (ap solid_of is)
@@ -104,13 +104,13 @@ pub same_merges : (trees : List Formula) (n : ℕ) (node : CsgNode) → IsNodeOf
 same_merges trees n (Leaf planes) is = sym (ap is_join is)
 same_merges trees n (Join op left right) is = sym (ap is_join is.4)
 
-pub made_solid : (trees : List Formula) (n : ℕ) (solids lent : List Solid) (node : CsgNode) (solid : Solid) →
+pub made_solid : (trees : List Formula) (n : ℕ) (solids lent : List SolidParts) (node : CsgNode) (solid : SolidParts) →
     map tree_of solids ≡ map solid_of (take (n - 1) trees) → lent ≡ solids → IsNodeOf trees n node →
     tree_of solid ≡ solid_over (map tree_of lent) node → tree_of solid ≡ solid_of (tree_numbered trees n)
 made_solid trees n solids lent node solid before same is made =
     made ∙ ap (λ x. solid_over (map tree_of x) node) same ∙ same_solid trees n solids node before is
 
-pub too_much : (trees : List Formula) (n sum : ℕ) (solid : Solid) → IsNumberIn trees n → sum ≡ total_size (take (n - 1) trees) →
+pub too_much : (trees : List Formula) (n sum : ℕ) (solid : SolidParts) → IsNumberIn trees n → sum ≡ total_size (take (n - 1) trees) →
     AreWithin (take (n - 1) trees) → tree_of solid ≡ solid_of (tree_numbered trees n) → most_of_all - sum < size (tree_of solid) →
     most_of_all < total_size (take n trees)
 too_much trees n sum solid h is within same past =
@@ -119,7 +119,7 @@ too_much trees n sum solid h is within same past =
     let before = within.together in
     omega arith
 
-pub grown_by : (trees : List Formula) (n : ℕ) (growth new : Growth) (solid : Solid) → IsNumberIn trees n →
+pub grown_by : (trees : List Formula) (n : ℕ) (growth new : Growth) (solid : SolidParts) → IsNumberIn trees n →
     IsGrown trees (n - 1) growth → new.solids.items ≡ growth.solids.items ++ solid ∷ [] → new.sum ≡ growth.sum + size (tree_of solid) →
     tree_of solid ≡ solid_of (tree_numbered trees n) → size (tree_of solid) ≤ most_of_one → size (tree_of solid) ≤ most_of_all - growth.sum →
     IsGrown trees n new
@@ -154,7 +154,7 @@ few_joins trees n =
     let each = sum_by-le is_join 1 trees (λ k d lt. one_at_most (get_or trees k d)) in
     omega arith
 
-pub last_solid : (trees : List Formula) (n : ℕ) (rest : List Solid) (solid : Solid) →
+pub last_solid : (trees : List Formula) (n : ℕ) (rest : List SolidParts) (solid : SolidParts) →
     map tree_of (rest ++ solid ∷ []) ≡ map solid_of (take n trees) → n ≤ length trees →
     tree_of solid ≡ solid_of (tree_numbered trees n)
 last_solid trees n rest solid before there =

@@ -1,4 +1,4 @@
 pub mod Merges
-pub mod MadeSolids
+pub mod Branches
 pub mod Solids
 pub mod TreeSolids

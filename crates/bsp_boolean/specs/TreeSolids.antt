@@ -5,7 +5,7 @@ use Rattle.csg_tree.specs.declared.node.CsgNode.{CsgNode}
 use Rattle.csg_tree.specs.declared.node.CsgNode.TheVariants.{Leaf, Join}
 use Rattle.csg_tree.specs.Formulas.{Formula, nothing, leaf, joined}
 use Rattle.csg_tree.specs.Numberings.{tree_numbered, IsNumberIn}
-use Rattle.bsp_tree.specs.declared.Solid.{Solid}
+use Rattle.bsp_tree.specs.Shapes.{SolidParts}
 use Rattle.bsp_tree.specs.Trees.{Tree, outside, size}
 use Rattle.bsp_tree.specs.Shapes.{tree_of}
 use Rattle.bsp_boolean.specs.Merges.{merged}
@@ -65,7 +65,7 @@ solid_over solids (Leaf planes) = convex planes.now
 solid_over solids (Join op left right) = merged op (get_or solids (left - 1) outside) (get_or solids (right - 1) outside)
 
 -- a node over solids: a leaf has planes that come in reach, and the two numbers of a join are those of solids
-abbrev pub IsOverSolids : List Solid → CsgNode → Type 0
+abbrev pub IsOverSolids : List SolidParts → CsgNode → Type 0
 IsOverSolids solids (Leaf planes) = (0 < length planes.now) × All ComesInReach planes.now
 IsOverSolids solids (Join op left right) = (1 ≤ left) × (left ≤ length solids) × (1 ≤ right) × (right ≤ length solids)
 

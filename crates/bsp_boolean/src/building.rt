@@ -6,7 +6,7 @@ ghost use Rattle.bsp_boolean.specs.Merges.{merged, IsOperationOn};
 ghost use Rattle.bsp_boolean.specs.Solids.{IsBuilt};
 
 use crate::merging::merge_within;
-use bsp_tree::Solid;
+use bsp_tree::{GrowStop, Solid};
 use csg_tree::Op;
 use std::alloc::Global;
 use std::marker::Model;
@@ -28,6 +28,19 @@ impl From<NoMemory> for BuildStop {
 
     fn from(_refused: NoMemory) -> BuildStop {
         BuildStop::NoMemory
+    }
+}
+
+impl From<GrowStop> for BuildStop {
+    ghost use Rattle.bsp_boolean.specs.Solids.{stop_of};
+
+    ghost from_gives = { λ given stop. stop ≡ stop_of given };
+
+    fn from(given: GrowStop) -> BuildStop {
+        match given {
+            GrowStop::TooBig => BuildStop::TooBig,
+            GrowStop::NoMemory => BuildStop::NoMemory,
+        }
     }
 }
 

@@ -1,12 +1,11 @@
 //! Booleans of solids, by merging their BSP trees (Bernstein and Fussell).
 #![tactic(auto)]
 
+mod branches;
 mod building;
-mod combining;
 mod laws;
 mod leaves;
 mod merging;
-mod sizes;
 mod tree_solids;
 
 pub use building::{BuildStop, Builder, PlainBuilder};

@@ -1,17 +1,17 @@
 //! Merges of solids.
 
-ghost use Rattle.std.specs.Prelude.{◌≡◌, ◌-◌, ◌^◌, false, IfOk};
-ghost use Rattle.bsp_tree.specs.Trees.{complement, Tree};
+ghost use Rattle.std.specs.Prelude.{◌≡◌, ◌-◌, ◌^◌, IfOk};
+ghost use Rattle.bsp_tree.specs.Trees.{Tree};
 ghost use Rattle.bsp_tree.specs.Shapes.{tree_of};
-ghost use Rattle.bsp_boolean.specs.Merges.{combined, merged, IsOperationOn};
-ghost use Rattle.bsp_boolean.specs.MadeSolids.{IsMade};
+ghost use Rattle.bsp_boolean.specs.Merges.{merged, IsOperationOn};
+ghost use Rattle.bsp_boolean.specs.Branches.{decides, exchanges};
 ghost use Rattle.bsp_boolean.specs.Solids.{IsBuilt};
 
+use crate::branches::Merge;
 use crate::building::BuildStop;
-use crate::combining::combine;
-use crate::sizes::{Made, copied, moved, size_within};
-use bsp_tree::{Solid, exchange};
+use bsp_tree::{Growing, Solid, finish, solid_over};
 use csg_tree::Op;
+use plane_table::{PlaneTable, join};
 use std::alloc::Global;
 use text_place::NoMemory;
 
@@ -26,7 +26,7 @@ pub fn merge(alloc: Global, op: Op, left: &Solid, right: &Solid) -> Result<Solid
 
 /// The same solid, where its size is at most `most`. `TooBig` comes exactly where it is above, as
 /// soon as that is known: no more than `most` nodes and edges of the result are put together. What a
-/// merge holds besides, a copy of the right solid or its parts, may be larger.
+/// merge holds besides, both solids over one table and the parts of the right one, may be larger.
 #[tactic(auto, using(crate::proofs::Merged::is_operation))]
 pub fn merge_within(
     alloc: Global,
@@ -38,7 +38,7 @@ pub fn merge_within(
     ensures built { IsBuilt (merged op (tree_of left.now) (tree_of right.now)) most result }
     ensures operation { IfOk result (λ s. IsOperationOn op (tree_of left.now) (tree_of right.now) (tree_of s)) }
 {
-    Ok(made_within(alloc, op, left, right, most)?.solid)
+    merged_within(alloc, op, left, right, most)
 }
 
 /// What was built within the limit of all numbers. A solid above that limit is larger than any
@@ -53,69 +53,49 @@ fn in_all_memory(built: Result<Solid, BuildStop>) -> Result<Solid, NoMemory>
     }
 }
 
-/// The merge with its size.
-fn made_within(
+/// The merge, by the definition: both solids stand over one table, the left one is gone through, and
+/// the right one is divided by its faces.
+fn merged_within(
     alloc: Global,
     op: Op,
     left: &Solid,
     right: &Solid,
     most: u64,
-) -> Result<Made, BuildStop>
-    ensures { IsMade (merged op (tree_of left.now) (tree_of right.now)) most result }
+) -> Result<Solid, BuildStop>
+    ensures { IsBuilt (merged op (tree_of left.now) (tree_of right.now)) most result }
+{
+    let (left_planes, _, left_root) = left.parts();
+    let (right_planes, _, right_root) = right.parts();
+    let joined = join(alloc, left_planes, right_planes)?;
+    let table = PlaneTable::of(alloc, joined.planes)?;
+    let left_nodes = solid_over(alloc, &table, left, &joined.left)?;
+    let mut right_nodes = solid_over(alloc, &table, right, &joined.right)?;
+    let mut growing = Growing::new(alloc, &table, most);
+    let merge = Merge {
+        left: &left_nodes,
+        in_decides: is_union(op),
+        is_exchanged: is_difference(op),
+    };
+    let root = merge.branch(alloc, &mut right_nodes, &mut growing, left_root, right_root)?;
+    Ok(finish(alloc, growing, root)?)
+}
+
+/// Whether an operation is a union, in which the leaf inside decides.
+fn is_union(op: Op) -> bool
+    ensures { result ≡ decides op }
 {
     match op {
-        Op::Union => combine_lent(alloc, true, left, right, most),
-        Op::Intersection => combine_lent(alloc, false, left, right, most),
-        Op::Difference => subtract(alloc, left, right, most),
+        Op::Union => true,
+        Op::Intersection | Op::Difference => false,
     }
 }
 
-/// Two solids as one, both lent. Where one of them is a leaf, only the side that is the result is
-/// copied.
-fn combine_lent(
-    alloc: Global,
-    in_decides: bool,
-    left: &Solid,
-    right: &Solid,
-    most: u64,
-) -> Result<Made, BuildStop>
-    ensures { IsMade (combined in_decides (tree_of left.now) (tree_of right.now)) most result }
+/// Whether an operation is a difference, in which the right solid's inside and outside are exchanged.
+fn is_difference(op: Op) -> bool
+    ensures { result ≡ exchanges op }
 {
-    match (left, right) {
-        (Solid::In, _) | (_, Solid::Out) => {
-            copied(alloc, if in_decides { left } else { right }, most)
-        }
-        (Solid::Out, _) | (_, Solid::In) => {
-            copied(alloc, if in_decides { right } else { left }, most)
-        }
-        (Solid::Node(_), Solid::Node(_)) => {
-            combine(alloc, in_decides, left, right.copy(alloc)?, most)
-        }
-    }
-}
-
-/// The left solid without the right one, both lent: the intersection with the right one's inside
-/// and outside exchanged.
-fn subtract(alloc: Global, left: &Solid, right: &Solid, most: u64) -> Result<Made, BuildStop>
-    ensures { IsMade (combined false (tree_of left.now) (complement (tree_of right.now))) most result }
-{
-    match left {
-        Solid::In => exchanged(alloc, right, most),
-        Solid::Out => moved(Solid::Out, most),
-        Solid::Node(_) => combine(alloc, false, left, exchange(alloc, right)?, most),
-    }
-}
-
-/// A solid with its inside and its outside exchanged. One that is too big is not copied.
-#[tactic(auto, using(crate::proofs::Merged::complement_size))]
-fn exchanged(alloc: Global, solid: &Solid, most: u64) -> Result<Made, BuildStop>
-    ensures { IsMade (complement (tree_of solid.now)) most result }
-{
-    match size_within(solid, most) {
-        Some(size) => Ok(Made {
-            solid: exchange(alloc, solid)?,
-            size,
-        }),
-        None => Err(BuildStop::TooBig),
+    match op {
+        Op::Difference => true,
+        Op::Union | Op::Intersection => false,
     }
 }

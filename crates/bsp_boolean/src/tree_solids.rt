@@ -11,7 +11,6 @@ ghost use Rattle.bsp_boolean.specs.TreeSolids.{most_of_one, joins, merges_of, so
 
 use crate::building::{BuildStop, Builder};
 use crate::leaves::leaf_solid;
-use crate::sizes::size_within;
 use bsp_tree::Solid;
 use csg_tree::{CsgNode, CsgStore};
 use std::alloc::Global;
@@ -96,9 +95,10 @@ fn grow<B: Builder>(
         Err(BuildStop::TooBig) => return Err(TreeStop::TooBig(number)),
         Err(BuildStop::NoMemory) => return Err(TreeStop::NoMemory),
     };
-    let Some(size) = size_within(&solid, MOST_OF_ALL - growth.sum) else {
+    let size = solid.count();
+    if size > MOST_OF_ALL - growth.sum {
         return Err(TreeStop::SumTooBig(number));
-    };
+    }
     growth.sum += size;
     if growth.solids.push(solid).is_err() {
         return Err(TreeStop::NoMemory);

@@ -1,1 +1,2 @@
 pub mod Partitions
+pub mod Parts

@@ -10,3 +10,8 @@ pub mod Complements
 pub mod Worlds
 pub mod Halves
 pub mod NearPoints
+pub mod Sheets
+pub mod Growths
+pub mod SheetFaces
+pub mod Wholes
+pub mod CopiedNodes

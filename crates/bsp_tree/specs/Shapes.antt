@@ -1,8 +1,47 @@
 -- The tree that a solid of the program stands for.
-use Rattle.bsp_tree.specs.declared.Solid.{Solid, In, Out, Node'}
+use Rattle.std.specs.Prelude.{◌≡◌, ℕ, Bool, true, false, Some, List, slice_get}
+use Rattle.plane_predicate.specs.Space.{Coefficients}
+use Rattle.link_forest.specs.declared.link.Link.{Link}
+use Rattle.link_forest.specs.declared.forest.Entry.{Entry}
+use Rattle.link_forest.specs.Forests.{Branch, end, fork, tree_at, IsLinkOf, AreReached}
+use Rattle.plane_table.specs.declared.faces.Face.{Face}
+use Rattle.plane_table.specs.Tables.{HasNoTwoAlike}
+use Rattle.plane_table.specs.Faces.{outline_of, IsFaceOver}
 use Rattle.bsp_tree.specs.Trees.{Tree, inside, outside, node}
 
-abbrev pub tree_of : Solid → Tree
-tree_of In = inside
-tree_of Out = outside
-tree_of (Node' p polygon behind ahead) = node polygon (tree_of behind) (tree_of ahead)
+-- a leaf inside or outside a solid
+abbrev pub leaf_of : Bool → Tree
+leaf_of true = inside
+leaf_of false = outside
+
+-- the tree of a branch of faces, with each number replaced by the plane that it names
+abbrev pub shown : List Coefficients → Branch Face → Tree
+shown planes (end side) = leaf_of side
+shown planes (fork face behind ahead) =
+    node (outline_of planes face) (shown planes behind) (shown planes ahead)
+
+-- the tree at a link of a forest of faces
+abbrev pub tree_over : List Coefficients → List (Entry Face) → Link → Tree
+tree_over planes nodes link = shown planes (tree_at nodes link)
+
+-- a solid as contracts see it: a table of planes, a forest of faces over it, and the link at which its tree begins
+pub record SolidParts : Type 0 where
+  pub planes : List Coefficients
+  pub nodes : List (Entry Face)
+  pub root : Link
+
+-- the tree of a solid
+unfoldable pub tree_of : SolidParts → Tree
+tree_of solid = tree_over solid.planes solid.nodes solid.root
+
+-- each node has a face over the planes
+pub record AreFacesOver (planes : List Coefficients) (nodes : List (Entry Face)) : Type 0 where
+  pub each : (index : ℕ) (entry : Entry Face) → slice_get nodes index ≡ Some entry → IsFaceOver planes entry.payload
+
+-- what a solid keeps: no two planes of its table are equal or opposite, each node has a face over them, and is reached
+-- from the root
+pub record IsWhole (solid : SolidParts) : Type 0 where
+  pub apart : HasNoTwoAlike solid.planes
+  pub faces : AreFacesOver solid.planes solid.nodes
+  pub root : IsLinkOf solid.nodes solid.root
+  pub reached : AreReached solid.nodes solid.root

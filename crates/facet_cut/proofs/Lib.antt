@@ -4,3 +4,4 @@ pub mod Counts
 pub mod Pieces
 pub mod FacetPolygons
 pub mod Boundaries
+pub mod Nodes

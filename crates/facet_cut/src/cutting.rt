@@ -1,20 +1,22 @@
 //! The facets of a solid.
 
 ghost use Rattle.std.specs.Prelude.{◌≡◌, ◌<◌, ◌≤◌, length, All, IfOk, IsErrOf};
+ghost use Rattle.plane_table.specs.Tables.{HasNoTwoAlike};
 ghost use Rattle.bsp_tree.specs.Cells.{IsOfCell};
 ghost use Rattle.bsp_tree.specs.Shapes.{tree_of};
-ghost use Rattle.facet_cut.specs.Facets.{facets_ahead, facets_between, facets_of};
-ghost use Rattle.facet_cut.specs.Adding.{Adds};
+ghost use Rattle.facet_cut.specs.Facets.{facets_of};
 ghost use Rattle.facet_cut.specs.Sides.{Bound, IsFacetOf};
 
-use crate::adding::push_facing;
+use crate::walls::Walls;
 use crate::{CutStop, Facet};
 use bsp_tree::Solid;
-use plane_polygon::{Class, Polygon, cut, sort_by};
+use plane_predicate::Plane;
+use plane_table::PlaneTable;
 use std::alloc::Global;
+use text_place::NoMemory;
 
-/// The facets of a solid, of which at most `most` are given. The solid is lent: each node's polygon
-/// is copied once, and the copy is cut into facets.
+/// The facets of a solid, of which at most `most` are given. The solid is lent: each node's face is
+/// cut in numbers, and what is left of it as a facet becomes a polygon.
 ///
 /// `TooMany` comes where there are more than `most`, as soon as one more is found.
 pub fn facets(alloc: Global, solid: &Solid, most: u32) -> Result<Vec<Facet>, CutStop>
@@ -33,86 +35,23 @@ fn listed(alloc: Global, solid: &Solid, most: u32) -> Result<Vec<Facet>, CutStop
     ensures fits { IfOk result (λ v. length v.items ≤ most) }
     ensures many { IsErrOf result CutStop.TooMany → most < length (facets_of (tree_of solid.now)) }
 {
+    let (planes, forest, root) = solid.parts();
+    let table = table_of(alloc, planes)?;
+    let walls = Walls {
+        table: &table,
+        forest,
+    };
     let mut found = Vec::new(alloc);
-    push_facets(alloc, solid, u64::from(most), &mut found)?;
+    walls.push_facets(alloc, root, u64::from(most), &mut found)?;
     Ok(found)
 }
 
-/// Adds the facets of a solid.
-fn push_facets(
-    alloc: Global,
-    solid: &Solid,
-    most: u64,
-    found: &mut Vec<Facet>,
-) -> Result<(), CutStop>
-    requires { length found.old.items ≤ most }
-    ensures { Adds (facets_of (tree_of solid.now)) most found.old.items found.new.items result }
+/// The table of a list of planes.
+fn table_of(alloc: Global, planes: &[Plane]) -> Result<PlaneTable, NoMemory>
+    requires { HasNoTwoAlike planes.now }
+    ensures { IfOk result (λ t. t ≡ planes.now) }
 {
-    match solid {
-        Solid::In | Solid::Out => Ok(()),
-        Solid::Node(inner) => {
-            let polygon = inner.polygon.copy(alloc)?;
-            push_between(alloc, &inner.behind, &inner.ahead, polygon, most, found)?;
-            push_facets(alloc, &inner.behind, most, found)?;
-            push_facets(alloc, &inner.ahead, most, found)
-        }
-    }
-}
-
-/// Adds the facets on a polygon between the solids behind and ahead of its plane.
-fn push_between(
-    alloc: Global,
-    behind: &Solid,
-    ahead: &Solid,
-    polygon: Polygon,
-    most: u64,
-    found: &mut Vec<Facet>,
-) -> Result<(), CutStop>
-    requires { length found.old.items ≤ most }
-    ensures { Adds (facets_between (tree_of behind.now) (tree_of ahead.now) polygon) most found.old.items found.new.items result }
-{
-    match behind {
-        Solid::In => push_ahead(alloc, true, ahead, polygon, most, found),
-        Solid::Out => push_ahead(alloc, false, ahead, polygon, most, found),
-        Solid::Node(inner) => match sort_by(&polygon, inner.polygon.plane()) {
-            Class::Behind | Class::On => {
-                push_between(alloc, &inner.behind, ahead, polygon, most, found)
-            }
-            Class::Ahead => push_between(alloc, &inner.ahead, ahead, polygon, most, found),
-            Class::Across => {
-                let (low, high) = cut(alloc, &polygon, inner.polygon.plane())?;
-                push_between(alloc, &inner.behind, ahead, low, most, found)?;
-                push_between(alloc, &inner.ahead, ahead, high, most, found)
-            }
-        },
-    }
-}
-
-/// Adds the facets on a polygon that has a leaf just behind it, from the solid ahead of its plane.
-fn push_ahead(
-    alloc: Global,
-    is_inside: bool,
-    ahead: &Solid,
-    polygon: Polygon,
-    most: u64,
-    found: &mut Vec<Facet>,
-) -> Result<(), CutStop>
-    requires { length found.old.items ≤ most }
-    ensures { Adds (facets_ahead is_inside (tree_of ahead.now) polygon) most found.old.items found.new.items result }
-{
-    match ahead {
-        Solid::In => push_facing(alloc, is_inside, true, polygon, most, found),
-        Solid::Out => push_facing(alloc, is_inside, false, polygon, most, found),
-        Solid::Node(inner) => match sort_by(&polygon, inner.polygon.plane()) {
-            Class::Behind | Class::On => {
-                push_ahead(alloc, is_inside, &inner.behind, polygon, most, found)
-            }
-            Class::Ahead => push_ahead(alloc, is_inside, &inner.ahead, polygon, most, found),
-            Class::Across => {
-                let (low, high) = cut(alloc, &polygon, inner.polygon.plane())?;
-                push_ahead(alloc, is_inside, &inner.behind, low, most, found)?;
-                push_ahead(alloc, is_inside, &inner.ahead, high, most, found)
-            }
-        },
-    }
+    let mut listed = Vec::new(alloc);
+    listed.extend_from_slice(planes)?;
+    PlaneTable::of(alloc, listed)
 }

@@ -6,6 +6,7 @@ mod cutting;
 mod facet;
 mod laws;
 mod stops;
+mod walls;
 
 pub use cutting::facets;
 pub use facet::Facet;

@@ -1,6 +1,7 @@
 use crate::cutting::{goes_on_from, trimmed};
 use crate::laying::{Wall, high, low, plane_at};
-use bsp_tree::{Node, Solid};
+use crate::nodes::node_of;
+use bsp_tree::Solid;
 use facet_cut::{CutStop, Facet, facets};
 use plane_polygon::{box_polygon, corners};
 use std::alloc::Global;
@@ -12,25 +13,15 @@ fn node(
     alloc: Global,
     above: &[Wall],
     wall: Wall,
-    behind: Solid,
-    ahead: Solid,
+    behind: &Solid,
+    ahead: &Solid,
 ) -> Solid {
     let plane = plane_at(rt, wall);
     let mut polygon = box_polygon(alloc, &plane).expect(rt, "memory");
     for other in above.iter().rev() {
         polygon = trimmed(rt, alloc, &polygon, &plane_at(rt, *other));
     }
-    let inner = Node {
-        polygon,
-        behind,
-        ahead,
-    };
-    Solid::Node(Box::new(alloc, inner).expect(rt, "memory"))
-}
-
-// A leaf.
-fn leaf(is_inside: bool) -> Solid {
-    if is_inside { Solid::In } else { Solid::Out }
+    node_of(rt, alloc, &polygon, behind, ahead)
 }
 
 // What is behind all walls from `from` on, where those before it are the nodes above: the solid
@@ -43,12 +34,13 @@ fn chain(
     there: Solid,
     is_elsewhere: bool,
 ) -> Solid {
+    let elsewhere = Solid::leaf(alloc, is_elsewhere);
     let mut solid = there;
     for k in (0..walls.len()).rev() {
         if k < from {
             return solid;
         }
-        solid = node(rt, alloc, &walls[..k], walls[k], solid, leaf(is_elsewhere));
+        solid = node(rt, alloc, &walls[..k], walls[k], &solid, &elsewhere);
     }
     solid
 }
@@ -97,7 +89,7 @@ fn a_box_has_six_facets(rt: HostRuntime) {
         low(2, 0),
         high(2, 3),
     ];
-    let solid = chain(&rt, alloc, &walls, 0, Solid::In, false);
+    let solid = chain(&rt, alloc, &walls, 0, Solid::leaf(alloc, true), false);
     assert_eq!(rt; solid.count(), 30);
     let found = facets(alloc, &solid, 6).expect(&rt, "six");
     let planes = [
@@ -119,7 +111,7 @@ fn a_box_has_six_facets(rt: HostRuntime) {
 fn leaves_have_no_facets(rt: HostRuntime) {
     let alloc = rt.alloc();
     for is_inside in [true, false] {
-        let found = facets(alloc, &leaf(is_inside), 0).expect(&rt, "none");
+        let found = facets(alloc, &Solid::leaf(alloc, is_inside), 0).expect(&rt, "none");
         assert!(rt; found.is_empty());
     }
 }
@@ -137,7 +129,7 @@ fn notch(rt: &impl Abort, alloc: Global) -> Solid {
         low(1, 1),
         low(2, 1),
     ];
-    let corner = chain(rt, alloc, &walls, 6, Solid::Out, true);
+    let corner = chain(rt, alloc, &walls, 6, Solid::leaf(alloc, false), true);
     chain(rt, alloc, &walls[..6], 0, corner, false)
 }
 
@@ -203,10 +195,11 @@ fn a_shared_wall_has_no_facet(rt: HostRuntime) {
         low(2, 0),
         high(2, 1),
     ];
-    let first = chain(&rt, alloc, &walls, 2, Solid::In, false);
-    let second = chain(&rt, alloc, &others, 2, Solid::In, false);
-    let wall = node(&rt, alloc, &walls[..1], walls[1], first, second);
-    let solid = node(&rt, alloc, &[], walls[0], wall, Solid::Out);
+    let first = chain(&rt, alloc, &walls, 2, Solid::leaf(alloc, true), false);
+    let second = chain(&rt, alloc, &others, 2, Solid::leaf(alloc, true), false);
+    let wall = node(&rt, alloc, &walls[..1], walls[1], &first, &second);
+    let outside = Solid::leaf(alloc, false);
+    let solid = node(&rt, alloc, &[], walls[0], &wall, &outside);
     assert_eq!(rt; solid.count(), 55);
     let found = facets(alloc, &solid, 10).expect(&rt, "ten");
     let planes = [

@@ -1,23 +1,12 @@
 use crate::laying::{high, plane_at, point};
-use bsp_tree::{Solid, exchange, half, holds, new_node};
+use crate::nodes::chain_on;
+use bsp_tree::{Solid, exchange, half, holds};
 use std::alloc::Global;
 use std::process::Abort;
 
 // The half space of the points whose x is below 1.
 fn below_one(rt: &impl Abort, alloc: Global) -> Solid {
     half(alloc, &plane_at(rt, high(0, 1))).expect(rt, "memory")
-}
-
-// As many nodes ahead of one another, with In at the end.
-fn chain(rt: &impl Abort, alloc: Global, nodes: usize) -> Solid {
-    let mut solid = Solid::In;
-    for _ in 0..nodes {
-        if let Solid::Node(inner) = below_one(rt, alloc) {
-            let polygon = inner.polygon.copy(alloc).expect(rt, "memory");
-            solid = new_node(alloc, polygon, Solid::Out, solid).expect(rt, "memory");
-        }
-    }
-    solid
 }
 
 #[test]
@@ -46,7 +35,7 @@ fn leaves_are_solids(rt: HostRuntime) {
     let alloc = rt.alloc();
     let at = point(0, 0, 0, 0);
     for inside in [true, false] {
-        let leaf = if inside { Solid::In } else { Solid::Out };
+        let leaf = Solid::leaf(alloc, inside);
         let copied = leaf.copy(alloc).expect(&rt, "memory");
         let exchanged = exchange(alloc, &leaf).expect(&rt, "memory");
         assert_eq!(rt; leaf.count() + copied.count() + exchanged.count(), 0);
@@ -59,7 +48,7 @@ fn leaves_are_solids(rt: HostRuntime) {
 #[test]
 fn calls_go_to_the_end_of_long_walks(rt: HostRuntime) {
     let alloc = rt.alloc();
-    let solid = chain(&rt, alloc, 1024);
+    let solid = chain_on(&rt, alloc, &plane_at(&rt, high(0, 1)), 1024);
     assert_eq!(rt; solid.count(), 5120);
     let copied = solid.copy(alloc).expect(&rt, "memory");
     let exchanged = exchange(alloc, &solid).expect(&rt, "memory");

@@ -22,7 +22,7 @@ fn slab(rt: &impl Abort, alloc: Global, axis: u8, at: u16) -> Solid {
 
 // So many slabs of an axis, with a step between them.
 fn slabs(rt: &impl Abort, alloc: Global, axis: u8, count: u8) -> Solid {
-    let mut all = Solid::Out;
+    let mut all = Solid::leaf(alloc, false);
     for at in 0..count {
         let next = slab(rt, alloc, axis, u16::from(at) * 2);
         all = merge(alloc, Op::Union, &all, &next).expect(rt, "memory");
@@ -57,7 +57,8 @@ fn a_solid_may_be_near_the_limit_of_size(rt: HostRuntime) {
     assert!(rt; is_too_big(merge_within(alloc, Op::Intersection, &bars, &layer, 49_499)));
     let solid = merge_within(alloc, Op::Intersection, &bars, &layer, 49_500).expect(&rt, "a solid");
     assert_eq!(rt; solid.count(), 49_500);
-    let whole = merge_within(alloc, Op::Union, &solid, &Solid::Out, 49_500).expect(&rt, "a copy");
+    let outside = Solid::leaf(alloc, false);
+    let whole = merge_within(alloc, Op::Union, &solid, &outside, 49_500).expect(&rt, "a copy");
     assert_eq!(rt; whole.count(), 49_500);
     assert_eq!(rt;
         counts(&rt, alloc, &whole, 14_700).as_slice(),

@@ -26,6 +26,8 @@ mod laying;
 #[cfg(test)]
 mod merges;
 #[cfg(test)]
+mod nodes;
+#[cfg(test)]
 mod partitions;
 #[cfg(test)]
 mod planes;
@@ -35,6 +37,8 @@ mod polygons;
 mod solids;
 #[cfg(test)]
 mod stores;
+#[cfg(test)]
+mod tables;
 #[cfg(test)]
 mod texts;
 #[cfg(test)]

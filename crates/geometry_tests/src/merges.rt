@@ -4,7 +4,7 @@ ghost use Rattle.plane_predicate.specs.Space.{ComesInReach};
 use crate::boxes::{add, box_faces, cuboid, leaf, planes_through};
 use crate::laying::{high, low, plane_at, point};
 use bsp_boolean::{BuildStop, Builder, PlainBuilder, merge, merge_within};
-use bsp_tree::{Solid, half, holds};
+use bsp_tree::{Link, Solid, half, holds};
 use csg_tree::Op;
 use plane_predicate::Plane;
 use std::alloc::Global;
@@ -91,14 +91,16 @@ fn merges_have_their_sizes(rt: HostRuntime) {
 fn leaves_decide(rt: HostRuntime) {
     let alloc = rt.alloc();
     let cube = cuboid(&rt, alloc, [0, 0, 0], [1, 1, 1]);
+    let all = Solid::leaf(alloc, true);
+    let nothing = Solid::leaf(alloc, false);
     let rows = [
         (Op::Union, 0, 30),
         (Op::Intersection, 30, 0),
         (Op::Difference, 30, 0),
     ];
     for (op, inside, outside) in rows {
-        assert!(rt; merges(&rt, alloc, op, &Solid::In, &cube, inside));
-        assert!(rt; merges(&rt, alloc, op, &Solid::Out, &cube, outside));
+        assert!(rt; merges(&rt, alloc, op, &all, &cube, inside));
+        assert!(rt; merges(&rt, alloc, op, &nothing, &cube, outside));
     }
     let rows = [
         (Op::Union, 0, 30),
@@ -106,9 +108,26 @@ fn leaves_decide(rt: HostRuntime) {
         (Op::Difference, 0, 30),
     ];
     for (op, inside, outside) in rows {
-        assert!(rt; merges(&rt, alloc, op, &cube, &Solid::In, inside));
-        assert!(rt; merges(&rt, alloc, op, &cube, &Solid::Out, outside));
+        assert!(rt; merges(&rt, alloc, op, &cube, &all, inside));
+        assert!(rt; merges(&rt, alloc, op, &cube, &nothing, outside));
     }
+}
+
+// A node for each plane of a cube, and none where all is outside. The planes that its faces name are its own
+// six and those of the world box; where no face names any, none is kept.
+#[test]
+fn solids_have_no_more_nodes_than_their_trees(rt: HostRuntime) {
+    let alloc = rt.alloc();
+    let cube = cuboid(&rt, alloc, [0, 0, 0], [1, 1, 1]);
+    let (planes, forest, root) = cube.parts();
+    assert_eq!(rt; planes.len(), 12);
+    assert_eq!(rt; forest.len(), 6);
+    assert!(rt; matches!(root, Link::To(_)));
+    let nothing = merge(alloc, Op::Difference, &cube, &cube).expect(&rt, "memory");
+    let (planes, forest, root) = nothing.parts();
+    assert!(rt; planes.is_empty());
+    assert_eq!(rt; forest.len(), 0);
+    assert!(rt; root == Link::End(false));
 }
 
 #[test]

@@ -1,7 +1,10 @@
 use crate::cutting::parts;
 use crate::laying::{high, low, plane_at, point, through};
-use bsp_partition::{partition, split};
-use bsp_tree::{Solid, half, holds, new_node};
+use crate::nodes::node_of;
+use bsp_boolean::merge;
+use bsp_partition::partition;
+use bsp_tree::{Solid, exchange, half, holds};
+use csg_tree::Op;
 use plane_polygon::{Class, Polygon, box_polygon, sort_by};
 use std::alloc::Global;
 use std::process::Abort;
@@ -69,29 +72,38 @@ fn polygons_that_only_touch_leave_the_sides_whole(rt: HostRuntime) {
     let (by, _ahead) = parts(&rt, alloc, &flat(&rt, alloc), &edge);
     assert!(rt; sort_by(&polygon, by.plane()) == Class::Behind);
     assert!(rt; sort_by(&by, polygon.plane()) == Class::Behind);
-    let solid = new_node(alloc, polygon, Solid::In, Solid::Out).expect(&rt, "memory");
-    let (behind, ahead) = split(alloc, solid, &by).expect(&rt, "memory");
+    let (inside, outside) = (Solid::leaf(alloc, true), Solid::leaf(alloc, false));
+    let solid = node_of(&rt, alloc, &polygon, &inside, &outside);
+    let (behind, ahead) = partition(alloc, &solid, &by).expect(&rt, "memory");
     assert_eq!(rt; behind.count(), 5);
     assert_eq!(rt; ahead.count(), 0);
     assert!(rt; holds(&behind, &point(-2, -1, 0, 0)) && !holds(&behind, &point(-1, -2, 0, 0)));
     assert!(rt; holds(&ahead, &point(-1, 1, 0, 0)));
 }
 
-// Nodes on planes x = -512 .. 511, each ahead of the one before it, with In at the end.
-fn chain(rt: &impl Abort, alloc: Global) -> Solid {
-    let mut solid = Solid::In;
-    for k in 0..1024 {
-        let polygon = walled(rt, alloc, 511_i64.saturating_sub(k), false);
-        solid = new_node(alloc, polygon, Solid::Out, solid).expect(rt, "memory");
+// Nodes on as many planes x = first, first + 1, .., each ahead of the one before it, with In at the
+// end. Each half of them is made by itself.
+fn chain(rt: &impl Abort, alloc: Global, first: i64, count: u16) -> Solid {
+    if count <= 1 {
+        let solid = half(alloc, &plane_at(rt, high(0, first))).expect(rt, "memory");
+        return exchange(alloc, &solid).expect(rt, "memory");
     }
-    solid
+    let near = count / 2;
+    let solid = chain(rt, alloc, first, near);
+    let others = chain(
+        rt,
+        alloc,
+        first.saturating_add(i64::from(near)),
+        count - near,
+    );
+    merge(alloc, Op::Intersection, &solid, &others).expect(rt, "memory")
 }
 
 // A walk through 1024 planes, as long as one in an export can be.
 #[test]
 fn parts_go_to_the_end_of_long_walks(rt: HostRuntime) {
     let alloc = rt.alloc();
-    let solid = chain(&rt, alloc);
+    let solid = chain(&rt, alloc, -512, 1024);
     let by = flat(&rt, alloc);
     let (behind, ahead) = partition(alloc, &solid, &by).expect(&rt, "memory");
     assert_eq!(rt; behind.count(), 5120);
@@ -99,7 +111,7 @@ fn parts_go_to_the_end_of_long_walks(rt: HostRuntime) {
     assert!(rt; holds(&behind, &point(4000, -1, 0, 0)) && holds(&ahead, &point(4000, 1, 0, 0)));
     assert!(rt; !holds(&behind, &point(-4000, -1, 0, 0)) && !holds(&ahead, &point(-4000, 1, 0, 0)));
     let last = walled(&rt, alloc, 512, false);
-    let (near, far) = split(alloc, solid, &last).expect(&rt, "memory");
+    let (near, far) = partition(alloc, &solid, &last).expect(&rt, "memory");
     assert_eq!(rt; near.count(), 5120);
     assert_eq!(rt; far.count(), 0);
     assert!(rt; holds(&far, &point(513, 0, 0, 0)));

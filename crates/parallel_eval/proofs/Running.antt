@@ -11,7 +11,7 @@ use Rattle.csg_tree.specs.Formulas.{Formula, leaf, joined}
 use Rattle.csg_tree.specs.Nodes.{IsNodeOf}
 use Rattle.csg_tree.specs.Numberings.{tree_numbered}
 use Rattle.csg_tree.specs.ProperTrees.{IsProper, IsLeafPlane}
-use Rattle.bsp_tree.specs.declared.Solid.{Solid}
+use Rattle.bsp_tree.specs.Shapes.{SolidParts}
 use Rattle.bsp_tree.specs.Trees.{outside}
 use Rattle.bsp_tree.specs.Shapes.{tree_of}
 use Rattle.bsp_boolean.specs.Solids.{solid_of}
@@ -49,13 +49,13 @@ join_of_run trees start number node op left right run is =
     (told.0, below.0, told.2, below.1, told.4)
 
 module _ {Z : Type 0} where
-  pub get_or-read : (solids : List (Arc Solid Z)) (k : ℕ) (d : Arc Solid Z) → k < length solids → tree_of (arc_value (get_or solids k d)) ≡ get_or (shared_solids solids) k outside
+  pub get_or-read : (solids : List (Arc SolidParts Z)) (k : ℕ) (d : Arc SolidParts Z) → k < length solids → tree_of (arc_value (get_or solids k d)) ≡ get_or (shared_solids solids) k outside
   get_or-read [] k d h = absurd (omega arith)
   get_or-read (s ∷ solids) zero d h = refl
   get_or-read (s ∷ solids) (suc k) d h = get_or-read solids k d (omega arith)
 
   -- the solid of a number that is there
-  pub solid_at : (trees : List Formula) (start : ℕ) (solids : List (Arc Solid Z)) (nodes : List CsgNode) (m : ℕ) (d : Arc Solid Z) → IsRunWork trees start solids nodes →
+  pub solid_at : (trees : List Formula) (start : ℕ) (solids : List (Arc SolidParts Z)) (nodes : List CsgNode) (m : ℕ) (d : Arc SolidParts Z) → IsRunWork trees start solids nodes →
       ((n m : ℕ) → 1 ≤ m → m ≤ n → get_or (map solid_of (take n trees)) (m - 1) outside ≡ solid_of (tree_numbered trees m)) →
       1 ≤ m → m ≤ start → tree_of (arc_value (get_or solids (m - 1) d)) ≡ solid_of (tree_numbered trees m)
   solid_at trees start solids nodes m d work numbered low high =

@@ -8,7 +8,7 @@ use Rattle.csg_tree.specs.Formulas.{Formula}
 use Rattle.csg_tree.specs.ProperTrees.{IsProper}
 use Rattle.csg_tree.specs.Numberings.{tree_numbered}
 use Rattle.csg_tree.specs.Nodes.{IsNodeOf}
-use Rattle.bsp_tree.specs.declared.Solid.{Solid}
+use Rattle.bsp_tree.specs.Shapes.{SolidParts}
 use Rattle.bsp_tree.specs.Trees.{Tree}
 use Rattle.bsp_tree.specs.Shapes.{tree_of}
 use Rattle.bsp_boolean.specs.Solids.{solid_of}
@@ -26,7 +26,7 @@ joins_to trees n = joins (take n trees)
 
 -- the solids that are shared
 module _ {Z : Type 0} where
-  abbrev pub shared_solids : List (Arc Solid Z) → List Tree
+  abbrev pub shared_solids : List (Arc SolidParts Z) → List Tree
   shared_solids solids = map (λ s. tree_of (arc_value s)) solids
 
 -- the first n nodes have their solids, which are within the limits
@@ -52,7 +52,7 @@ AreRunNodes trees start before [] = Unit {0}
 AreRunNodes trees start before (node ∷ nodes) = IsRunNode trees start (before + 1) node × AreRunNodes trees start (before + 1) nodes
 
 -- a run: nodes behind the first ones, which have their solids
-pub record IsRunWork {Z : Type 0} (trees : List Formula) (start : ℕ) (solids : List (Arc Solid Z)) (nodes : List CsgNode) : Type 0 where
+pub record IsRunWork {Z : Type 0} (trees : List Formula) (start : ℕ) (solids : List (Arc SolidParts Z)) (nodes : List CsgNode) : Type 0 where
   pub over : shared_solids solids ≡ map solid_of (take start trees)
   pub many : length solids ≡ start
   pub run : AreRunNodes trees start start nodes

@@ -7,6 +7,15 @@ ghost use Rattle.plane_polygon.specs.Parts.{class_of, part_ahead, part_behind};
 ghost use Rattle.plane_polygon.specs.Boxes.{box_outline};
 ghost use Rattle.plane_polygon.specs.declared.classes.Class.TheVariants.{Across};
 
+use crate::Polygon;
+
+/// A polygon has the form that its type keeps.
+pub fn polygons_keep_their_form(polygon: &Polygon)
+    ensures { IsPolygon polygon.now }
+{
+    let _ = &polygon.plane;
+}
+
 /// At least three edges make a polygon exactly where each corner exists, it is strictly behind every
 /// edge other than its own two, and the corners go counterclockwise, seen from ahead.
 pub fn polygons_by_their_corners()

@@ -18,11 +18,12 @@ pub use classes::Class;
 pub use cutting::cut;
 pub use laws::{
     box_polygons_are_polygons, corners_go_counterclockwise, parts_are_polygons,
-    points_lie_in_the_fan, polygons_by_their_corners, within_is_left,
+    points_lie_in_the_fan, polygons_by_their_corners, polygons_keep_their_form, within_is_left,
 };
 pub use listing::corners;
 use plane_predicate::Plane;
-pub use sorting::sort_by;
+pub use sides::{next_index, side_at};
+pub use sorting::{class_from, sort_by};
 use std::alloc::Global;
 use std::marker::Model;
 use text_place::NoMemory;

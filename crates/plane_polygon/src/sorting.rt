@@ -39,7 +39,7 @@ fn either(a: bool, b: bool) -> bool
 }
 
 /// The class by whether some corners are strictly behind, and whether some are strictly ahead.
-fn class_from(some_behind: bool, some_ahead: bool) -> Class
+pub fn class_from(some_behind: bool, some_ahead: bool) -> Class
     ensures { result ≡ class_by some_behind some_ahead }
 {
     match (some_behind, some_ahead) {

@@ -6,21 +6,21 @@ use Rattle.std.proofs.lemmas.List.Elements.{All-head, All-tail, All-nil, All-con
 use Rattle.std.proofs.lemmas.List.Sums.{sum_by-cons}
 use Rattle.std.proofs.Math.Seq.{take-append_seam}
 use Rattle.csg_tree.specs.Formulas.{Formula}
-use Rattle.bsp_tree.specs.declared.Solid.{Solid}
+use Rattle.bsp_tree.specs.Shapes.{SolidParts}
 use Rattle.memo_core.specs.Memo.{Entry, Mark, itself, owned}
 use Rattle.memo_core.specs.Views.{mark_in, marks}
 use Rattle.subtree_memo.specs.Shares.{View, fresh, opened, parts_each}
 use Rattle.script_server.specs.Books.{weights_of}
 
 -- what an owner's entries weigh, by their marks alone
-owned_marks : (owner : ℕ) (es : List (Entry Formula Solid)) → owned itself owner (marks es) ≡ owned mark_in owner es
+owned_marks : (owner : ℕ) (es : List (Entry Formula SolidParts)) → owned itself owner (marks es) ≡ owned mark_in owner es
 owned_marks owner [] = refl
 owned_marks owner (e ∷ es) =
     sum_by-cons (λ (m : Mark Formula). cond (nat_eq m.owner owner) m.weight 0) e.mark (marks es)
     ∙ ap (λ n. cond (nat_eq e.mark.owner owner) e.mark.weight 0 + n) (owned_marks owner es)
-    ∙ sym (sum_by-cons (λ (x : Entry Formula Solid). cond (nat_eq x.mark.owner owner) x.mark.weight 0) e es)
+    ∙ sym (sum_by-cons (λ (x : Entry Formula SolidParts). cond (nat_eq x.mark.owner owner) x.mark.weight 0) e es)
 
-pub one_weight_more : (n weight : ℕ) (es : List (Entry Formula Solid)) (weights : List ℕ) → weights ≡ weights_of n (marks es) → weight ≡ owned mark_in n es →
+pub one_weight_more : (n weight : ℕ) (es : List (Entry Formula SolidParts)) (weights : List ℕ) → weights ≡ weights_of n (marks es) → weight ≡ owned mark_in n es →
     weights ++ weight ∷ [] ≡ weights_of (n + 1) (marks es)
 one_weight_more n weight es weights before next =
     rw add-one (ap (λ ws. ws ++ weight ∷ []) before ∙ ap (λ w. weights_of n (marks es) ++ w ∷ []) (next ∙ sym (owned_marks n es)))

@@ -4,4 +4,5 @@ pub mod Refusing
 pub mod Books
 pub mod SomeReply
 pub mod Sums
+pub mod Told
 mod Rows

@@ -1,11 +1,11 @@
 -- What is told of a memo at the end of a run.
-use Rattle.std.specs.Prelude.{◌≡◌, ℕ, zero, suc, List, [], ◌∷◌, ◌++◌, ◌⊎◌, length}
+use Rattle.std.specs.Prelude.{◌≡◌, ℕ, ◌≤◌, zero, suc, List, [], ◌∷◌, ◌++◌, ◌⊎◌, length, All}
 use Rattle.text_place.specs.declared.fault.Fault.{Fault}
 use Rattle.plane_predicate.specs.declared.unit.Unit.{Unit as LengthUnit}
 use Rattle.csg_tree.specs.Formulas.{Formula}
 use Rattle.csg_tree.specs.Numberings.{is_same_tree, nodes_of}
 use Rattle.csg_tree.specs.TreeKeys.{name_of}
-use Rattle.bsp_tree.specs.declared.Solid.{Solid}
+use Rattle.bsp_tree.specs.Shapes.{SolidParts}
 use Rattle.bsp_tree.specs.Trees.{size}
 use Rattle.bsp_tree.specs.Shapes.{tree_of}
 use Rattle.bsp_boolean.specs.Solids.{solid_of}
@@ -16,12 +16,14 @@ use Rattle.subtree_memo.specs.declared.tally.Tally.{Tally}
 use Rattle.subtree_memo.specs.Tallies.{tally_of}
 use Rattle.script_reader.specs.declared.script.ClientScript.{ClientScript}
 use Rattle.reply_text.specs.declared.reply.Reply.{Reply}
+use Rattle.reply_text.specs.Answers.{AllFit}
 use Rattle.reply_text.specs.Sums.{AllLackNoSolid, AllSumTo}
 use Rattle.script_server.specs.Meaning.Sources.{Means, HasFault}
+use Rattle.script_server.specs.Meaning.Exports.{AnswersExport}
 
 -- A memo of solids by trees: each entry holds the solid of its tree with its size as its weight, and the journal is one that
 -- the sequential memo keeps, and replays to the entries.
-abbrev pub IsSolidMemo : (Formula → List ℕ) → Core Formula Solid → Type 0
+abbrev pub IsSolidMemo : (Formula → List ℕ) → Core Formula SolidParts → Type 0
 IsSolidMemo names core = IsSound is_same_tree names (λ tree solid. tree_of solid ≡ solid_of tree) (λ solid. size (tree_of solid)) core
 
 -- what the entries of the first so many callers weigh
@@ -49,3 +51,15 @@ AreBooks unit clients replies budget share tally weights =
     × (tally ≡ tally_of items tally.dropped)
     × (weights ≡ weights_of (length weights) (replay is_same_tree name_of budget share [] items))
     × AddsUp unit clients replies tally
+
+-- What came of a run of clients over a memo of this budget and share, whose names are these.
+pub record IsRunOf (unit : LengthUnit) (clients : List ClientScript) (budget share : ℕ) (names : Formula → List ℕ) (replies : List (List Reply)) (tally : Tally) (core : Core Formula SolidParts) : Type 0 where
+  -- each client's replies are those that its own commands define, whatever the others do at the same time
+  pub fits : AllFit (AnswersExport unit) clients replies
+  pub few : All (λ rs. length rs ≤ 8192) replies
+  -- the tally is that of the memo's journal, which is one of the sequential memo of the budget and share
+  pub counted : tally ≡ tally_of core.journal tally.dropped
+  -- where no export lacked its solid, it adds up to the joins of all exports
+  pub sums : AddsUp unit clients replies tally
+  pub sound : IsSolidMemo names core
+  pub limits : (core.budget ≡ budget) × (core.share ≡ share)

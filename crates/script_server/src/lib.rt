@@ -5,7 +5,6 @@ mod export;
 mod exporter;
 mod meaning;
 mod program;
-mod runner;
 mod running;
 mod server;
 
@@ -14,6 +13,6 @@ pub use meaning::{
 };
 pub use program::run_program;
 pub use run_words::{Settings, WordsFault, read_words};
-pub use running::{Finished, run_gated, run_script};
+pub use running::{Ran, run_gated, run_named, run_script};
 pub use script_service::Status;
 pub use server::serve;

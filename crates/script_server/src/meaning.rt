@@ -17,10 +17,19 @@ ghost use Rattle.tree_export.specs.Exports.{PassesNoLimit};
 ghost use Rattle.script_server.specs.Meaning.Sources.{Means, HasFault};
 ghost use Rattle.script_server.specs.Meaning.Exports.{Exports, AnswersExport};
 
-use crate::runner::ScriptRunner;
+use reply_text::Exporting;
 use scad_grammar::{no_program_has_a_fault, one_fault_each, one_program_each, program_or_fault};
 use scad_lexer::{one_outcome, some_outcome};
 use tree_export::{one_export, some_export, texts_pass_no_limit};
+
+// The exports of this server, of which the laws of replies are asked.
+struct ServerExports;
+
+impl Exporting for ServerExports {
+    ghost use Rattle.script_server.specs.Meaning.Exports.{AnswersExport};
+
+    ghost exports = { AnswersExport };
+}
 
 /// In each unit a source means at most one tree, or has at most one first fault, and not both.
 pub fn one_meaning()
@@ -75,7 +84,7 @@ pub fn own_replies()
         Fits (AnswersExport unit) s cs rs → Fits (AnswersExport unit) s cs qs → SameWants rs qs → rs ≡ qs }
 {
     one_reply();
-    reply_text::own_replies::<ScriptRunner>();
+    reply_text::own_replies::<ServerExports>();
 }
 
 /// For one script, replies that its clients' own commands define and that print the same bytes are
@@ -86,5 +95,5 @@ pub fn one_output()
         output script.clients rs ≡ output script.clients qs → rs ≡ qs }
 {
     one_reply();
-    reply_text::one_output::<ScriptRunner>();
+    reply_text::one_output::<ServerExports>();
 }

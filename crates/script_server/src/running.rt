@@ -2,12 +2,13 @@
 
 ghost use Rattle.std.specs.Prelude.{◌≡◌, ◌+◌, ◌*◌, ◌<◌, ◌≤◌, [], All, length, map, vec_capacity, IfOk};
 ghost use Rattle.csg_tree.specs.TreeKeys.{name_of};
+ghost use Rattle.memo_core.specs.Views.{marks};
 ghost use Rattle.subtree_memo.specs.Shares.{parts_each};
 ghost use Rattle.subtree_memo.specs.Tallies.{tally_of};
 ghost use Rattle.script_reader.specs.Limits.{AreWithin};
 ghost use Rattle.reply_text.specs.Answers.{AllFit};
 ghost use Rattle.script_server.specs.Meaning.Exports.{AnswersExport};
-ghost use Rattle.script_server.specs.Books.{AddsUp, IsSolidMemo};
+ghost use Rattle.script_server.specs.Books.{AddsUp, IsSolidMemo, weights_of};
 ghost use Rattle.script_server.specs.Clients.{ExportsFor};
 
 use crate::exporter::{Client, ClientExporter, export_source};
@@ -17,7 +18,6 @@ use parallel_eval::{Builds, Gate, OpenGate, ShaNamer, SolidFit};
 use plane_predicate::Unit;
 use reply_text::{Replies, Reply};
 use script_reader::Script;
-use script_service::How;
 use std::alloc::Global;
 use std::marker::Brand;
 use std::sync::Wait;
@@ -26,12 +26,29 @@ use std::thread::Threads;
 use subtree_memo::{Blanks, Memo, MemoLedger, Share, Tally};
 use text_place::NoMemory;
 
-/// What came of a script: the replies to its clients, and the memo at the end with its tally.
+/// What came of a script: the replies to the commands of each client, in the clients' order, and the memo at the end with
+/// its tally.
 #[derive(Drop)]
-pub struct Finished<N: Namer<TreeKey>> {
+pub struct Ran<N: Namer<TreeKey>> {
     pub replies: Vec<Replies>,
     pub tally: Tally,
     pub core: MemoCore<SolidFit, N>,
+}
+
+/// What the entries of each of the first so many callers of a memo weigh.
+pub fn weights(
+    alloc: Global,
+    core: &MemoCore<SolidFit, ShaNamer>,
+    callers: u32,
+) -> Result<Vec<u64>, NoMemory>
+    ensures weights { IfOk result (λ v. v.items ≡ weights_of callers (marks core.now.entries)) }
+    ensures many { IfOk result (λ v. length v.items ≡ callers) }
+{
+    let mut weights = Vec::new(alloc);
+    for caller in 0..callers {
+        weights.push(core.weight_of(caller))?;
+    }
+    Ok(weights)
 }
 
 // The clients of callers with these shares, in their order.
@@ -103,11 +120,12 @@ fn run_over<
     blanks: Blanks,
     callers: u32,
     gate: &G,
-    how: How,
+    workers: u64,
+    unit: Unit,
     script: &Script,
-) -> Result<Finished<N>, NoMemory>
+) -> Result<Ran<N>, NoMemory>
     requires within { AreWithin script.now.clients }
-    requires workers { (1 ≤ how.workers) × (how.workers ≤ 64) }
+    requires workers { (1 ≤ workers) × (workers ≤ 64) }
     requires callers { (1 ≤ callers) × (callers ≤ 64) × (length script.now.clients ≤ callers) }
     requires empty { core.journal ≡ [] }
     requires limits { (core.budget ≡ H.budget) × (core.share ≡ H.share) }
@@ -119,10 +137,10 @@ fn run_over<
         × (K.parts ≡ parts_each * callers) }
     requires heavy { (blanks.heavy.name ≡ E.name) × (blanks.heavy.parts ≡ E.parts)
         × (E.parts ≡ parts_each * callers) }
-    ensures fits { IfOk result (λ f. AllFit (AnswersExport how.unit) script.now.clients f.replies.items) }
+    ensures fits { IfOk result (λ f. AllFit (AnswersExport unit) script.now.clients f.replies.items) }
     ensures few { IfOk result (λ f. All (λ rs. length rs ≤ 8192) f.replies.items) }
     ensures tally { IfOk result (λ f. f.tally ≡ tally_of f.core.journal f.tally.dropped) }
-    ensures sums { IfOk result (λ f. AddsUp how.unit script.now.clients f.replies.items f.tally) }
+    ensures sums { IfOk result (λ f. AddsUp unit script.now.clients f.replies.items f.tally) }
     ensures sound { IfOk result (λ f. IsSolidMemo N.name_of f.core) }
     ensures limits { IfOk result (λ f. (f.core.budget ≡ core.budget) × (f.core.share ≡ core.share)) }
 {
@@ -130,7 +148,7 @@ fn run_over<
         alloc, core, callers, blanks,
     )?;
     let room = Vec::with_capacity(alloc, shares.len())?;
-    let clients = clients_of(alloc, how.workers, shares)?;
+    let clients = clients_of(alloc, workers, shares)?;
     let builds = Builds {
         rt,
         alloc,
@@ -146,10 +164,10 @@ fn run_over<
         ensures { ExportsFor unit source.now result client.entry.now client.exit.now }
     { export_source(lent, client, unit, source) };
     let mut exporters = exporters_of(alloc, clients, export)?;
-    let replies = script_run::run_script(rt, alloc, &mut exporters, how.unit, script)?;
+    let replies = script_run::run_script(rt, alloc, &mut exporters, unit, script)?;
     let shares = shares_of(exporters, room);
     let (tally, core) = memo.close(shares);
-    Ok(Finished {
+    Ok(Ran {
         replies,
         tally,
         core,
@@ -159,50 +177,81 @@ fn run_over<
 /// Runs the clients of a script at the same time, each with so many builders, over one memo of this budget and share with
 /// these names. Each build of each client enters the gate first, with the client's number from 0; where it is refused, the
 /// export is answered as for want of memory. Where the whole has no memory to begin with, nothing is answered.
-pub fn run_gated<N: Namer<TreeKey> + Send + Sync, G: Gate + Sync, R: Threads + Wait + Sync>(
+pub fn run_named<N: Namer<TreeKey> + Send + Sync, G: Gate + Sync, R: Threads + Wait + Sync>(
     rt: &R,
     alloc: Global,
-    namer: N,
-    gate: &G,
-    how: How,
     script: &Script,
-) -> Result<Finished<N>, NoMemory>
+    workers: u64,
+    memo: u64,
+    share: u64,
+    unit: Unit,
+    gate: &G,
+    namer: N,
+) -> Result<Ran<N>, NoMemory>
     requires within { AreWithin script.now.clients }
-    requires workers { (1 ≤ how.workers) × (how.workers ≤ 64) }
+    requires workers { (1 ≤ workers) × (workers ≤ 64) }
     // Each client's replies are those that its own commands define, whatever the others do at the same time.
-    ensures fits { IfOk result (λ f. AllFit (AnswersExport how.unit) script.now.clients f.replies.items) }
+    ensures fits { IfOk result (λ f. AllFit (AnswersExport unit) script.now.clients f.replies.items) }
     ensures few { IfOk result (λ f. All (λ rs. length rs ≤ 8192) f.replies.items) }
     // The tally is that of the memo's journal, which is one of the sequential memo of the budget and share.
     ensures tally { IfOk result (λ f. f.tally ≡ tally_of f.core.journal f.tally.dropped) }
     // Where no export lacked its solid, it adds up to the joins of all exports.
-    ensures sums { IfOk result (λ f. AddsUp how.unit script.now.clients f.replies.items f.tally) }
+    ensures sums { IfOk result (λ f. AddsUp unit script.now.clients f.replies.items f.tally) }
     ensures sound { IfOk result (λ f. IsSolidMemo N.name_of f.core) }
-    ensures limits { IfOk result (λ f. (f.core.budget ≡ how.memo) × (f.core.share ≡ how.share)) }
+    ensures limits { IfOk result (λ f. (f.core.budget ≡ memo) × (f.core.share ≡ share)) }
 {
     // A memo has at least one caller.
     let callers = script.clients.items().len().max(1) as u32;
-    let core = MemoCore::new(alloc, SolidFit, namer, how.memo, how.share)?;
+    let core = MemoCore::new(alloc, SolidFit, namer, memo, share)?;
     let blanks = Blanks::new(callers);
     run_over::<N, Brand, Brand, Brand, Brand, G, R>(
-        rt, alloc, core, blanks, callers, gate, how, script,
+        rt, alloc, core, blanks, callers, gate, workers, unit, script,
     )
 }
 
-/// The same with names by digest and a gate that is open.
+/// The same with names by digest.
+pub fn run_gated<G: Gate + Sync, R: Threads + Wait + Sync>(
+    rt: &R,
+    alloc: Global,
+    script: &Script,
+    workers: u64,
+    memo: u64,
+    share: u64,
+    unit: Unit,
+    gate: &G,
+) -> Result<Ran<ShaNamer>, NoMemory>
+    requires within { AreWithin script.now.clients }
+    requires workers { (1 ≤ workers) × (workers ≤ 64) }
+    ensures fits { IfOk result (λ f. AllFit (AnswersExport unit) script.now.clients f.replies.items) }
+    ensures few { IfOk result (λ f. All (λ rs. length rs ≤ 8192) f.replies.items) }
+    ensures tally { IfOk result (λ f. f.tally ≡ tally_of f.core.journal f.tally.dropped) }
+    ensures sums { IfOk result (λ f. AddsUp unit script.now.clients f.replies.items f.tally) }
+    ensures sound { IfOk result (λ f. IsSolidMemo name_of f.core) }
+    ensures limits { IfOk result (λ f. (f.core.budget ≡ memo) × (f.core.share ≡ share)) }
+{
+    run_named(
+        rt, alloc, script, workers, memo, share, unit, gate, ShaNamer,
+    )
+}
+
+/// The same with a gate that is open.
 pub fn run_script<R: Threads + Wait + Sync>(
     rt: &R,
     alloc: Global,
-    how: How,
     script: &Script,
-) -> Result<Finished<ShaNamer>, NoMemory>
+    workers: u64,
+    memo: u64,
+    share: u64,
+    unit: Unit,
+) -> Result<Ran<ShaNamer>, NoMemory>
     requires within { AreWithin script.now.clients }
-    requires workers { (1 ≤ how.workers) × (how.workers ≤ 64) }
-    ensures fits { IfOk result (λ f. AllFit (AnswersExport how.unit) script.now.clients f.replies.items) }
+    requires workers { (1 ≤ workers) × (workers ≤ 64) }
+    ensures fits { IfOk result (λ f. AllFit (AnswersExport unit) script.now.clients f.replies.items) }
     ensures few { IfOk result (λ f. All (λ rs. length rs ≤ 8192) f.replies.items) }
     ensures tally { IfOk result (λ f. f.tally ≡ tally_of f.core.journal f.tally.dropped) }
-    ensures sums { IfOk result (λ f. AddsUp how.unit script.now.clients f.replies.items f.tally) }
+    ensures sums { IfOk result (λ f. AddsUp unit script.now.clients f.replies.items f.tally) }
     ensures sound { IfOk result (λ f. IsSolidMemo name_of f.core) }
-    ensures limits { IfOk result (λ f. (f.core.budget ≡ how.memo) × (f.core.share ≡ how.share)) }
+    ensures limits { IfOk result (λ f. (f.core.budget ≡ memo) × (f.core.share ≡ share)) }
 {
-    run_gated(rt, alloc, ShaNamer, &OpenGate, how, script)
+    run_gated(rt, alloc, script, workers, memo, share, unit, &OpenGate)
 }

@@ -1,26 +1,92 @@
 //! The call that does all that the program does.
 
-ghost use Rattle.std.specs.Prelude.{◌≡◌, ◌≢◌, ◌≤◌, ◌⊎◌, map, string_bytes, IfSome};
-ghost use Rattle.std.specs.Io.KnownBytes.{Appends};
+ghost use Rattle.std.specs.Prelude.{◌≡◌, ◌≢◌, ◌≤◌, ◌⊎◌, All, length, map, string_bytes, IfSome, IfOk};
 ghost use Rattle.outside_io.specs.Counts.{Rose};
-ghost use Rattle.outside_io.specs.Moves.{AppendsProperPrefix};
+ghost use Rattle.csg_tree.specs.TreeKeys.{name_of};
 ghost use Rattle.run_words.specs.declared.settings.Settings.{Settings};
-ghost use Rattle.run_words.specs.Words.{Chooses, AreOutside};
+ghost use Rattle.run_words.specs.Words.{Chooses, AreInRange};
+ghost use Rattle.subtree_memo.specs.Tallies.{tally_of};
+ghost use Rattle.script_reader.specs.Limits.{AreWithin};
+ghost use Rattle.reply_text.specs.Answers.{AllFit};
 ghost use Rattle.script_service.specs.declared.status.Status.TheVariants as Status;
-ghost use Rattle.script_service.specs.Serving.{usage_line, IsRun, Serves, BreaksOff, Begins, RefusesScript, IsScriptOf, IsNoScript};
-ghost use Rattle.script_service.specs.Units.{unit_of};
+ghost use Rattle.script_service.specs.Streams.{stream, streams};
+ghost use Rattle.script_service.specs.Units.{unit_of, memo_of, share_of};
 ghost use Rattle.script_server.specs.Meaning.Exports.{AnswersExport};
-ghost use Rattle.script_server.specs.Books.{AreBooks};
+ghost use Rattle.script_server.specs.Books.{AddsUp, IsSolidMemo, IsRunOf};
+ghost use Rattle.script_server.specs.Serving.{Tells, WritesOutput, AskForRun, AskForNoInput, IsScriptOf, IsNoScript};
 
-use crate::runner::ScriptRunner;
+use crate::running::{Ran, run_script, weights};
 use outside_io::{Sink, Source};
-use script_service::{Status, serve_with};
+use parallel_eval::ShaNamer;
+use plane_predicate::Unit;
+use run_words::{Settings, read_words};
+use script_reader::{ClientScript, Script, bytes_are_one_script};
+use script_service::{Status, read_input, refuse_input, refuse_words, write_outcome};
 use std::alloc::Global;
 use std::sync::Wait;
 use std::thread::Threads;
+use text_place::NoMemory;
 
-/// Does all that the program does: reads the words, serves the clients of the source's script or of the
-/// demonstration's, and writes their replies to the sink.
+// Runs the clients of a script as the settings say: those of the demonstration by the defaults.
+fn run_clients<R: Threads + Wait + Sync>(
+    rt: &R,
+    alloc: Global,
+    settings: Settings,
+    script: &Script,
+) -> Result<Ran<ShaNamer>, NoMemory>
+    requires within { AreWithin script.now.clients }
+    requires range { AreInRange settings }
+    ensures fits { IfOk result (λ f. AllFit (AnswersExport (unit_of settings)) script.now.clients f.replies.items) }
+    ensures few { IfOk result (λ f. All (λ rs. length rs ≤ 8192) f.replies.items) }
+    ensures tally { IfOk result (λ f. f.tally ≡ tally_of f.core.journal f.tally.dropped) }
+    ensures sums { IfOk result (λ f. AddsUp (unit_of settings) script.now.clients f.replies.items f.tally) }
+    ensures sound { IfOk result (λ f. IsSolidMemo name_of f.core) }
+    ensures limits { IfOk result (λ f. (f.core.budget ≡ memo_of settings) × (f.core.share ≡ share_of settings)) }
+{
+    match settings {
+        Settings::Run {
+            workers,
+            memo,
+            share,
+            half,
+            ..
+        } => {
+            let unit = if half { Unit::Half } else { Unit::Whole };
+            run_script(rt, alloc, script, workers, memo, share, unit)
+        }
+        Settings::Demo(_) => run_script(rt, alloc, script, 4, 500_000, 0, Unit::Whole),
+    }
+}
+
+// Writes what came of a run, with what the memo holds of each client.
+fn write_ran<K: Sink>(
+    alloc: Global,
+    settings: Settings,
+    clients: &[ClientScript],
+    ran: &Ran<ShaNamer>,
+    sink: &mut K,
+) -> Status
+    requires ran { IsRunOf (unit_of settings) clients.now (memo_of settings) (share_of settings) name_of ran.now.replies.items ran.now.tally ran.now.core }
+    requires few { length clients.now ≤ 16 }
+    ensures told { WritesOutput settings clients.now (stream K.held K.faults sink.old sink.new) result }
+    ensures later { K.faults sink.old ≤ K.faults sink.new }
+{
+    match weights(alloc, &ran.core, clients.len() as u32) {
+        Ok(owned) => write_outcome(
+            alloc,
+            settings,
+            clients,
+            &ran.replies,
+            ran.tally,
+            owned.as_slice(),
+            sink,
+        ),
+        Err(_) => Status::NoMemory,
+    }
+}
+
+/// Does all that the program does: reads the words, reads the script of the source or makes the demonstration's, runs its
+/// clients, and writes their replies to the sink.
 pub fn serve<S: Source, K: Sink, R: Threads + Wait + Sync>(
     rt: &R,
     alloc: Global,
@@ -28,47 +94,31 @@ pub fn serve<S: Source, K: Sink, R: Threads + Wait + Sync>(
     source: &mut S,
     sink: &mut K,
 ) -> Status
-    // Whatever is read and written, each client's replies are those that its own commands define, and each solid is the
-    // boundary of what the client's source means, in the unit of the run.
-    ensures done { result ≡ Status.Done → (settings : Settings) × Chooses (map string_bytes words.now) settings
-        × Serves (AnswersExport (unit_of settings)) (AreBooks (unit_of settings)) settings (S.left source.old) (S.left source.new) (K.held sink.old) (K.held sink.new) }
-
-    // Words that are outside the grammar, and they alone, are answered by the usage line, unless memory runs out, and then
-    // nothing is read.
-    ensures bad_words { result ≡ Status.BadWords → AreOutside (map string_bytes words.now)
-        × Appends (K.held sink.old) (K.held sink.new) usage_line }
-    ensures wrong_words { AreOutside (map string_bytes words.now) → (source.new ≡ source.old)
-        × (((result ≡ Status.BadWords) ⊎ (result ≡ Status.WriteFault)) ⊎ ((result ≡ Status.NoMemory) × (sink.new ≡ sink.old))) }
-    ensures usage_cut { AreOutside (map string_bytes words.now) → result ≡ Status.WriteFault
-        → AppendsProperPrefix (K.held sink.old) (K.held sink.new) usage_line }
-
-    // When each other answer comes, and what was written then.
-    ensures bad_script { result ≡ Status.BadScript → (settings : Settings) × Chooses (map string_bytes words.now) settings
-        × RefusesScript settings (S.left source.old) (S.left source.new) (K.held sink.old) (K.held sink.new) }
-    ensures read_fault { result ≡ Status.ReadFault → (settings : Settings) × Chooses (map string_bytes words.now) settings
-        × IsRun settings × Rose (S.faults source.old) (S.faults source.new) × (sink.new ≡ sink.old) }
-    ensures write_fault { result ≡ Status.WriteFault → Rose (K.faults sink.old) (K.faults sink.new) }
-    ensures output_cut { (settings : Settings) → Chooses (map string_bytes words.now) settings → result ≡ Status.WriteFault
-        → BreaksOff (AnswersExport (unit_of settings)) (AreBooks (unit_of settings)) settings (S.left source.old) (S.left source.new) (K.held sink.old) (K.held sink.new) }
-    ensures no_memory { result ≡ Status.NoMemory → (sink.new ≡ sink.old)
-        ⊎ ((settings : Settings) × Chooses (map string_bytes words.now) settings × IsRun settings
-        × Begins (AnswersExport (unit_of settings)) (AreBooks (unit_of settings)) settings (S.left source.old) (S.left source.new) (K.held sink.old) (K.held sink.new)) }
+    // What each status tells. Where it is `Done`, whatever was read, each client's replies are those that its own commands
+    // define, and each solid is the boundary of what the client's source means, in the unit of the run.
+    ensures told { Tells (map string_bytes words.now) (streams S.left S.faults K.held K.faults source.old source.new sink.old sink.new) result }
+    // At words outside the grammar, and for the demonstration, nothing is read.
+    ensures unread { AskForNoInput (map string_bytes words.now) → source.new ≡ source.old }
     ensures counts { (S.faults source.old ≤ S.faults source.new) × (K.faults sink.old ≤ K.faults sink.new) }
 
     // Where no count of faults rose, a script is served and other bytes are refused, unless memory ran out.
     ensures complete { (settings : Settings) → Chooses (map string_bytes words.now) settings
         → (Rose (S.faults source.old) (S.faults source.new) → ⊥) → (Rose (K.faults sink.old) (K.faults sink.new) → ⊥)
         → (result ≡ Status.Done) ⊎ (result ≡ Status.BadScript) ⊎ (result ≡ Status.NoMemory) }
-    ensures script { (settings : Settings) → Chooses (map string_bytes words.now) settings → IsRun settings
-        → IfSome (S.left source.old) (λ bytes. IsScriptOf bytes → result ≢ Status.BadScript) }
-    ensures no_script { (settings : Settings) → Chooses (map string_bytes words.now) settings → IsRun settings
-        → IfSome (S.left source.old) (λ bytes. IsNoScript bytes → result ≢ Status.Done) }
-
-    // The demonstration reads nothing, and its script has no fault.
-    ensures demo { (settings : Settings) → Chooses (map string_bytes words.now) settings → (IsRun settings → ⊥)
-        → (source.new ≡ source.old) × (result ≢ Status.ReadFault) }
-    ensures demo_script { (settings : Settings) → Chooses (map string_bytes words.now) settings → (IsRun settings → ⊥)
-        → result ≢ Status.BadScript }
+    ensures script { IfSome (S.left source.old) (λ bytes. IsScriptOf bytes → result ≢ Status.BadScript) }
+    ensures no_script { AskForRun (map string_bytes words.now) → IfSome (S.left source.old) (λ bytes. IsNoScript bytes → result ≢ Status.Done) }
 {
-    serve_with(rt, alloc, &ScriptRunner, words, source, sink)
+    bytes_are_one_script();
+    let settings = match read_words(alloc, words) {
+        Ok(settings) => settings,
+        Err(fault) => return refuse_words(fault, sink),
+    };
+    let script = match read_input(alloc, settings, source) {
+        Ok(script) => script,
+        Err(end) => return refuse_input(alloc, end, sink),
+    };
+    match run_clients(rt, alloc, settings, &script) {
+        Ok(ran) => write_ran(alloc, settings, script.clients.items(), &ran, sink),
+        Err(_) => Status::NoMemory,
+    }
 }

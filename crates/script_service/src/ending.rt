@@ -4,7 +4,6 @@ ghost use Rattle.std.specs.Prelude.{◌≡◌, ◌++◌, IfOk, OnOk};
 ghost use Rattle.text_place.specs.Decimals.{numeral};
 ghost use Rattle.script_service.specs.Endings.{probe_words, fill_words, tally_line, share_line, share_lines, ending};
 
-use crate::runner::Ran;
 use script_reader::ClientScript;
 use std::alloc::Global;
 use subtree_memo::Tally;
@@ -86,15 +85,16 @@ pub fn ending_lines(
     tally: bool,
     share: u64,
     clients: &[ClientScript],
-    ran: &Ran,
+    counts: Tally,
+    owned: &[u64],
 ) -> Result<Vec<u8>, NoMemory>
-    ensures { IfOk result (λ lines. lines.items ≡ ending tally share clients.now ran.now.tally ran.now.owned.items) }
+    ensures { IfOk result (λ lines. lines.items ≡ ending tally share clients.now counts owned.now) }
 {
     let mut lines = Vec::new(alloc);
     if tally {
-        push_tally(alloc, &mut lines, ran.tally)?;
+        push_tally(alloc, &mut lines, counts)?;
         if 0 < share {
-            push_shares(alloc, &mut lines, clients, &ran.owned)?;
+            push_shares(alloc, &mut lines, clients, owned)?;
         }
     }
     Ok(lines)

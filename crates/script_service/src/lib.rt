@@ -1,15 +1,13 @@
-//! What the program does: reads its words and its script, has the clients run, and writes their replies. What an export
-//! is answered, and what a memo counts on the way, is a runner's.
+//! What the program does round the run of its clients: reads the script, and writes what came of it. What an export is
+//! answered, and what a memo counts on the way, is told to it.
 #![tactic(auto)]
 
 mod demo;
 mod ending;
-mod how;
-mod runner;
-mod service;
+mod input;
+mod outcome;
 mod status;
 
-pub use how::How;
-pub use runner::{Ran, Runner};
-pub use service::serve_with;
+pub use input::{InputEnd, read_input};
+pub use outcome::{refuse_input, refuse_words, write_outcome};
 pub use status::Status;

@@ -2,8 +2,6 @@
 #![tactic(auto)]
 
 #[cfg(test)]
-mod box_runner;
-#[cfg(test)]
 mod demonstration;
 #[cfg(test)]
 mod faults;

@@ -8,8 +8,7 @@ use parallel_eval::Gate;
 use plane_predicate::Unit;
 use reply_text::Reply;
 use script_reader::read_script;
-use script_server::{Finished, run_gated};
-use script_service::How;
+use script_server::{Ran, run_named};
 use std::alloc::Global;
 use std::process::Abort;
 use std::sync::Wait;
@@ -87,19 +86,24 @@ pub fn run<N: Namer<TreeKey> + Send + Sync, G: Gate + Sync, R: Abort + Threads +
     gate: &G,
     sizes: Sizes,
     script: &[u8],
-) -> Finished<N> {
+) -> Ran<N> {
     assert!(rt; 1 <= sizes.workers && sizes.workers <= 64);
     let script = match read_script(alloc, script) {
         Ok(script) => script,
         Err(_) => panic!(rt; "a script"),
     };
-    let how = How {
-        workers: sizes.workers,
-        memo: sizes.memo,
-        share: sizes.share,
-        unit: Unit::Whole,
-    };
-    run_gated(rt, alloc, namer, gate, how, &script).expect(rt, "memory")
+    run_named(
+        rt,
+        alloc,
+        &script,
+        sizes.workers,
+        sizes.memo,
+        sizes.share,
+        Unit::Whole,
+        gate,
+        namer,
+    )
+    .expect(rt, "memory")
 }
 
 /// The text of a solid, `nomem`, `fault`, or another one.
@@ -115,7 +119,7 @@ pub fn told(reply: &Reply) -> &[u8] {
 /// What the last commands of the client with this number, from 0, are told.
 pub fn last_told<'a, N: Namer<TreeKey>>(
     rt: &impl Abort,
-    finished: &'a Finished<N>,
+    finished: &'a Ran<N>,
     client: usize,
     back: usize,
 ) -> &'a [u8] {

@@ -7,7 +7,7 @@ use Rattle.plane_predicate.specs.declared.unit.Unit.{Unit as LengthUnit}
 use Rattle.plane_polygon.specs.Polygons.{Outline}
 use Rattle.csg_tree.specs.Formulas.{Formula}
 use Rattle.csg_tree.specs.Numberings.{nodes_of}
-use Rattle.bsp_tree.specs.declared.Solid.{Solid}
+use Rattle.bsp_tree.specs.Shapes.{SolidParts}
 use Rattle.bsp_tree.specs.Shapes.{tree_of}
 use Rattle.bsp_boolean.specs.declared.tree_solids.TreeStop.{TreeStop}
 use Rattle.bsp_boolean.specs.declared.tree_solids.TreeStop.TheVariants.{TooBig, SumTooBig}
@@ -35,7 +35,7 @@ IsFirstPassed trees _ = ⊥
 
 -- the solid of a tree whose distinct subtrees are within the limits of size, or the first of them that passes one, or want of
 -- memory
-abbrev pub IsMade : Formula → Result (Arc Solid Global) TreeStop → Type 0
+abbrev pub IsMade : Formula → Result (Arc SolidParts Global) TreeStop → Type 0
 IsMade tree made =
     IfOk made (λ solid. tree_of (arc_value solid) ≡ solid_of tree)
     × OnOk made (AreWithin (nodes_of tree))

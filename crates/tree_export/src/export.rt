@@ -83,7 +83,7 @@ pub fn nodes_of_tree(alloc: Global, tree: &CsgTree) -> Result<Arc<CsgStore>, NoM
 pub fn solid_of_nothing(alloc: Global) -> Result<Arc<Solid>, NoMemory>
     ensures { IfOk result (λ s. tree_of (arc_value s) ≡ outside) }
 {
-    shared(alloc, Solid::Out)
+    shared(alloc, Solid::leaf(alloc, false))
 }
 
 /// The export of a tree as a text in units, from the solid of its last node or the first node that passes a limit of size.

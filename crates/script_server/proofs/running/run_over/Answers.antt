@@ -53,7 +53,7 @@ returns-clause-sums g c =
     let fresh = mapped_twice (λ e. e.client) (λ (b : ClientBooks). b.share) es c.in_ok-clients.clients.items (opened c.args.callers) c.in_ok-exporters.ensures.clients
     (c.in_ok-clients.ensures.shares ∙ c.in_ok-memo.ensures) in
     let told = c.close-core.ensures in
-    adds_up (λ e. e.client) c.args.how.unit c.args.script.now.clients c.in_ok-replies.replies.items lent news c.args.callers c.close-core.result.0
+    adds_up (λ e. e.client) c.args.unit c.args.script.now.clients c.in_ok-replies.replies.items lent news c.args.callers c.close-core.result.0
     c.requires.within.few
     (subst (λ l. map (λ e. e.client.share) l ≡ opened c.args.callers) (sym same) fresh)
     c.in_ok-replies.ensures.moved

@@ -1,0 +1,115 @@
+-- Corners of faces, and lists of them.
+use Rattle.std.proofs.Common.{◌≡◌, ◌≢◌, inl, inr, eqb, cond, ℕ, zero, suc, ◌+◌, ◌<◌, Bool, true, false, ◌||◌, List, [], ◌∷◌, ◌++◌, length, get_or, map, refl, sym, ap, ap₂, ◌∙◌, arith, add-one, ℤ, pos, negsuc, int_lt}
+use Rattle.std.proofs.lemmas.List.{map-append, length-append, length-map, get_or_append_left, get_or_push}
+use Rattle.std.proofs.lemmas.Bool.{cases_lt, eqb-false}
+use Rattle.std.proofs.lemmas.Int.{ints}
+use Rattle.plane_predicate.specs.Space.{Coefficients, Coordinates, cramer, value}
+use Rattle.plane_predicate.specs.Sides.{side_of, is_side_behind, is_side_ahead}
+use Rattle.plane_polygon.specs.Polygons.{Outline, after, corner, sides, nowhere}
+use Rattle.plane_polygon.specs.Parts.{up_to, corners, some_of, is_behind, is_ahead, class_by, class_of}
+use Rattle.plane_table.specs.declared.faces.Face.{Face}
+use Rattle.plane_table.specs.declared.sorting.CornerSide.{CornerSide}
+use Rattle.plane_table.specs.Tables.{named}
+use Rattle.plane_table.specs.Faces.{outline_of, side_against}
+use Rattle.plane_table.proofs.Numbers.{get_map}
+
+-- ---- sides
+pub side_behind : (v : ℤ) → is_side_behind (side_of v) ≡ int_lt v (pos 0)
+side_behind (pos zero) = grind (arith, ints)
+side_behind (pos (suc n)) = grind (arith, ints)
+side_behind (negsuc n) = grind (arith, ints)
+
+pub side_ahead : (v : ℤ) → is_side_ahead (side_of v) ≡ int_lt (pos 0) v
+side_ahead (pos zero) = grind (arith, ints)
+side_ahead (pos (suc n)) = grind (arith, ints)
+side_ahead (negsuc n) = grind (arith, ints)
+
+pub after_in : (k i : ℕ) → i < k → after k i < k
+after_in k i h = elim (eqb (suc i) k) as (λ b. eqb (suc i) k ≡ b → cond b 0 (suc i) < k) [
+  | true ↦ λ e. omega arith
+  | false ↦ λ e. (let n = eqb-false (suc i) k e in let m : suc i ≢ k = n in omega arith)
+] refl
+
+-- ---- 0, 1, .. below n
+pub length-up_to : (n : ℕ) → length (up_to n) ≡ n
+length-up_to zero = refl
+length-up_to (suc n) = length-append (up_to n) (n ∷ []) ∙ (let e = length-up_to n in omega arith)
+
+pub get_up_to : (n i d : ℕ) → i < n → get_or (up_to n) i d ≡ i
+get_up_to zero i d h = absurd (omega arith)
+get_up_to (suc n) i d h = elim (cases_lt i n) [
+  | inl l ↦ get_or_append_left (up_to n) (n ∷ []) d i (let e = length-up_to n in omega arith) ∙ get_up_to n i d l
+  | inr l ↦ (let e : i ≡ n = omega arith in get_or_push (up_to n) n d i (length-up_to n ∙ sym e) ∙ sym e)
+]
+
+-- one more number
+pub map_step : {A : Type 0} (f : ℕ → A) (n : ℕ) (found : List A) (x : A) → found ≡ map f (up_to n) → x ≡ f n → found ++ x ∷ [] ≡ map f (up_to (n + 1))
+map_step f n found x e h =
+    ap₂ (λ (l : List _) (y : _). l ++ y ∷ []) e h
+    ∙ sym (map-append f (up_to n) (n ∷ []))
+    ∙ ap (λ (k : ℕ). map f (up_to k)) (sym (add-one n))
+
+or_last : (x : Bool) → (x || false) ≡ x
+or_last true = refl
+or_last false = refl
+
+or_assoc : (x y z : Bool) → (x || (y || z)) ≡ ((x || y) || z)
+or_assoc true y z = refl
+or_assoc false y z = refl
+
+some_more : {A : Type 0} (p : A → Bool) (xs : List A) (y : A) → some_of p (xs ++ y ∷ []) ≡ (some_of p xs || p y)
+some_more p [] y = or_last (p y)
+some_more p (x ∷ xs) y = ap (λ (b : Bool). p x || b) (some_more p xs y) ∙ or_assoc (p x) (some_of p xs) (p y)
+
+-- one more corner
+pub some_step : (p : Coordinates → Bool) (f : ℕ → Coordinates) (n : ℕ) (found here : Bool) → found ≡ some_of p (map f (up_to n)) → here ≡ p (f n) → (found || here) ≡ some_of p (map f (up_to (n + 1)))
+some_step p f n found here e h =
+    ap₂ (λ (b c : Bool). b || c) e h
+    ∙ sym (some_more p (map f (up_to n)) (f n))
+    ∙ ap (some_of p) (sym (map-append f (up_to n) (n ∷ [])))
+    ∙ ap (λ (k : ℕ). some_of p (map f (up_to k))) (sym (add-one n))
+
+map_map : {A B C : Type 0} (f : B → C) (g : A → B) (xs : List A) → map f (map g xs) ≡ map (λ x. f (g x)) xs
+map_map f g [] = refl
+map_map f g (x ∷ xs) = ap (λ (l : List _). f (g x) ∷ l) (map_map f g xs)
+
+-- the sides of the corners, corner by corner
+pub sides_map : (s : Outline) (m : Coefficients) → map (side_against m) (corners s) ≡ map (λ i. side_against m (corner s i)) (up_to (sides s))
+sides_map s m = map_map (side_against m) (corner s) (up_to (sides s))
+
+-- ---- the corners of a face
+pub corner_is : (planes : List Coefficients) (face : Face) (i : ℕ) → i < length face.edges → after (length face.edges) i < length face.edges →
+    corner (outline_of planes face) i ≡ cramer (named planes face.plane) (named planes (get_or face.edges i 0)) (named planes (get_or face.edges (after (length face.edges) i) 0))
+corner_is planes face i h k =
+    let n = length-map face.edges (named planes) in
+    ap (λ (j : ℕ). cramer (named planes face.plane) (get_or (map (named planes) face.edges) i nowhere) (get_or (map (named planes) face.edges) (after j i) nowhere)) n
+    ∙ ap₂ (λ (p q : Coefficients). cramer (named planes face.plane) p q) (get_map (named planes) face.edges i 0 nowhere h) (get_map (named planes) face.edges (after (length face.edges) i) 0 nowhere k)
+
+-- all corners
+pub class_end : (planes : List Coefficients) (face : Face) (m : Coefficients) (b a : Bool) →
+    b ≡ some_of (is_behind m) (map (corner (outline_of planes face)) (up_to (length face.edges))) →
+    a ≡ some_of (is_ahead m) (map (corner (outline_of planes face)) (up_to (length face.edges))) →
+    class_by b a ≡ class_of (outline_of planes face) m
+class_end planes face m b a p q =
+    let s : Outline = outline_of planes face in
+    let n = length-map face.edges (named planes) in
+    ap₂ class_by
+    (p ∙ ap (λ (k : ℕ). some_of (is_behind m) (map (corner s) (up_to k))) (sym n))
+    (q ∙ ap (λ (k : ℕ). some_of (is_ahead m) (map (corner s) (up_to k))) (sym n))
+
+pub sides_end : (planes : List Coefficients) (face : Face) (m : Coefficients) (found : List CornerSide) →
+    found ≡ map (λ i. side_against m (corner (outline_of planes face) i)) (up_to (length face.edges)) →
+    found ≡ map (side_against m) (corners (outline_of planes face))
+sides_end planes face m found e =
+    let s : Outline = outline_of planes face in
+    e
+    ∙ ap (λ (k : ℕ). map (λ i. side_against m (corner s i)) (up_to k)) (sym (length-map face.edges (named planes)))
+    ∙ sym (sides_map s m)
+
+-- the side of a corner by the side that was tested
+pub side_pair : (m : Coefficients) (p : Coordinates) (side : _) (b a : Bool) → side ≡ side_of (value m p) → b ≡ is_side_behind side → a ≡ is_side_ahead side →
+    ◌≡◌ {A = CornerSide} (record { is_behind = b; is_ahead = a }) (side_against m p)
+side_pair m p side b a e x y =
+    let f = x ∙ ap is_side_behind e ∙ side_behind (value m p) in
+    let g = y ∙ ap is_side_ahead e ∙ side_ahead (value m p) in
+    λ i. record { is_behind = f i; is_ahead = g i }

@@ -1,0 +1,7 @@
+pub mod Numbers
+pub mod Corners
+pub mod Cuts
+pub mod Planes
+pub mod Orders
+pub mod Joins
+mod Rows

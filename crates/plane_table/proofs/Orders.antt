@@ -1,0 +1,139 @@
+-- Lists of planes in ascending order.
+use Rattle.std.proofs.Common.{◌≡◌, ℕ, zero, suc, ◌+◌, ◌-◌, ◌<◌, ◌⊎◌, Bool, true, false, not, ◌&&◌, ◌||◌, cond, List, length, get_or, refl, sym, ap, ap₂, ◌∙◌, inl, inr, arith, ℤ, pos, negsuc, neg_ℤ, int_lt, Ordering, true≢false, ◌≤◌, is_lt}
+use Rattle.std.specs.declared.cmp.Ordering.TheVariants.{Less, Equal, Greater}
+use Rattle.std.specs.Ordering.{int_eq}
+use Rattle.std.specs.Cmp.{IsTotalOrder}
+use Rattle.std.proofs.lemmas.Bool.{cases_lt}
+use Rattle.std.proofs.lemmas.Cmp.{then_total, on_total, int_cmp_total, tied_itself}
+use Rattle.std.proofs.lemmas.List.{get_or_read}
+use Rattle.std.proofs.lemmas.Int.{ints}
+use Rattle.plane_predicate.specs.Space.{Coefficients, opposite_of}
+use Rattle.plane_polygon.specs.Polygons.{nowhere}
+use Rattle.plane_table.specs.Tables.{AreApart, HasNoTwoAlike}
+use Rattle.plane_table.specs.Orders.{is_low, normalized, by_numbers, compared, IsAscending}
+use Rattle.plane_table.proofs.Numbers.{opposite_opposite}
+use Rattle.plane_table.proofs.Planes.{four_same}
+
+-- ---- a plane and its opposite are turned to the same plane
+abbrev below_first : ℤ → Bool → Bool
+below_first x rest = int_lt x (pos 0) || (int_eq x (pos 0) && rest)
+
+first_zero : (r : Bool) → below_first (pos zero) r ≡ r
+first_zero r = refl
+
+first_above : (n : ℕ) (r : Bool) → below_first (pos (suc n)) r ≡ false
+first_above n r =
+    let e : int_lt (pos (suc n)) (pos 0) ≡ false = grind (arith, ints) in
+    let h : int_eq (pos (suc n)) (pos 0) ≡ false = grind (arith, ints) in
+    ap₂ (λ (x y : Bool). x || (y && r)) e h
+
+first_below : (n : ℕ) (r : Bool) → below_first (negsuc n) r ≡ true
+first_below n r = refl
+
+first_turned : (x : ℤ) (r t : Bool) (Z : Type 0) → Z ⊎ (t ≡ not r) → ((x ≡ pos 0) × Z) ⊎ (below_first (neg_ℤ x) t ≡ not (below_first x r))
+first_turned (pos zero) r t Z (inl z) = inl (refl, z)
+first_turned (pos zero) r t Z (inr e) = inr (first_zero t ∙ e ∙ ap not (sym (first_zero r)))
+first_turned (pos (suc n)) r t Z h = inr (first_below n t ∙ ap not (sym (first_above n r)))
+first_turned (negsuc n) r t Z h = inr (first_above n t ∙ ap not (sym (first_below n r)))
+
+last_turned : (x : ℤ) → (x ≡ pos 0) ⊎ (int_lt (neg_ℤ x) (pos 0) ≡ not (int_lt x (pos 0)))
+last_turned (pos zero) = inl refl
+last_turned (pos (suc n)) = inr (let e : int_lt (pos (suc n)) (pos 0) ≡ false = grind (arith, ints) in ap not (sym e))
+last_turned (negsuc n) = inr (grind (arith, ints))
+
+low_turned : (m : Coefficients) → (m ≡ opposite_of m) ⊎ (is_low (opposite_of m) ≡ not (is_low m))
+low_turned m =
+    let d = last_turned m.d in
+    let c = first_turned m.c (int_lt m.d (pos 0)) (int_lt (neg_ℤ m.d) (pos 0)) (m.d ≡ pos 0) d in
+    let b = first_turned m.b (below_first m.c (int_lt m.d (pos 0))) (below_first (neg_ℤ m.c) (int_lt (neg_ℤ m.d) (pos 0))) ((m.c ≡ pos 0) × (m.d ≡ pos 0)) c in
+    let a = first_turned m.a (below_first m.b (below_first m.c (int_lt m.d (pos 0)))) (below_first (neg_ℤ m.b) (below_first (neg_ℤ m.c) (int_lt (neg_ℤ m.d) (pos 0)))) ((m.b ≡ pos 0) × ((m.c ≡ pos 0) × (m.d ≡ pos 0))) b in
+    elim a [
+      | inl z ↦ inl (four_same m (opposite_of m) (z.0 ∙ ap neg_ℤ (sym z.0)) (z.1.0 ∙ ap neg_ℤ (sym z.1.0)) (z.1.1.0 ∙ ap neg_ℤ (sym z.1.1.0)) (z.1.1.1 ∙ ap neg_ℤ (sym z.1.1.1)))
+      | inr e ↦ inr e
+    ]
+
+normalized_low : (m : Coefficients) → is_low m ≡ true → normalized m ≡ opposite_of m
+unfolding normalized
+normalized_low m e = ap (λ (b : Bool). cond b (opposite_of m) m) e
+
+normalized_high : (m : Coefficients) → is_low m ≡ false → normalized m ≡ m
+unfolding normalized
+normalized_high m e = ap (λ (b : Bool). cond b (opposite_of m) m) e
+
+normalized_opposite : (m : Coefficients) → normalized (opposite_of m) ≡ normalized m
+normalized_opposite m = elim (low_turned m) [
+  | inl e ↦ ap normalized (sym e)
+  | inr e ↦ elim (is_low m) as (λ b. is_low m ≡ b → normalized (opposite_of m) ≡ normalized m) [
+    | true ↦ λ h. normalized_high (opposite_of m) (e ∙ ap not h) ∙ sym (normalized_low m h)
+    | false ↦ λ h. normalized_low (opposite_of m) (e ∙ ap not h) ∙ opposite_opposite m ∙ sym (normalized_high m h)
+  ] refl
+]
+
+-- ---- the order
+by_numbers_total : IsTotalOrder by_numbers
+by_numbers_total =
+    then_total (on_total (λ (m : Coefficients). m.a) int_cmp_total)
+    (then_total (on_total (λ (m : Coefficients). m.b) int_cmp_total)
+    (then_total (on_total (λ (m : Coefficients). m.c) int_cmp_total) (on_total (λ (m : Coefficients). m.d) int_cmp_total)))
+
+pub total : IsTotalOrder compared
+total = on_total normalized by_numbers_total
+
+itself : (m : Coefficients) → compared m m ≡ Less → ⊥
+itself m e = let h : compared m m ≡ Equal = tied_itself total m in cc
+
+less_apart : (m n : Coefficients) → compared m n ≡ Less → AreApart m n
+less_apart m n e = record {
+  differ = λ h. itself n (ap (λ (p : Coefficients). compared p n) (sym h) ∙ e);
+  not_opposite = λ h. itself n (ap (λ (p : Coefficients). by_numbers p (normalized n)) (sym (ap normalized h ∙ normalized_opposite n)) ∙ e);
+}
+
+pub apart_back : (m n : Coefficients) → AreApart m n → AreApart n m
+apart_back m n h = record {
+  differ = λ e. h.differ (sym e);
+  not_opposite = λ e. h.not_opposite (sym (opposite_opposite m) ∙ ap opposite_of (sym e));
+}
+
+-- ---- lists in ascending order
+along : (ps : List Coefficients) → IsAscending ps → (i j d : ℕ) → j ≡ i + 1 + d → j < length ps → compared (get_or ps i nowhere) (get_or ps j nowhere) ≡ Less
+along ps h i j zero e l =
+    let k : j ≡ i + 1 = omega arith in
+    ap (λ (n : ℕ). compared (get_or ps i nowhere) (get_or ps n nowhere)) k ∙ h.next i (omega arith)
+along ps h i j (suc d) e l =
+    let k : j ≡ (i + 1 + d) + 1 = omega arith in
+    total.trans (get_or ps i nowhere) (get_or ps (i + 1 + d) nowhere) (get_or ps j nowhere)
+    (along ps h i (i + 1 + d) d refl (omega arith))
+    (ap (λ (n : ℕ). compared (get_or ps (i + 1 + d) nowhere) (get_or ps n nowhere)) k ∙ h.next (i + 1 + d) (omega arith))
+
+pub ascending_apart : (ps : List Coefficients) → IsAscending ps → HasNoTwoAlike ps
+ascending_apart ps h = record {
+  apart = λ i j x y n. elim (cases_lt i j) [
+    | inl l ↦ less_apart (get_or ps i nowhere) (get_or ps j nowhere) (along ps h i j (j - (i + 1)) (omega arith) y)
+    | inr l ↦ apart_back (get_or ps j nowhere) (get_or ps i nowhere) (less_apart (get_or ps j nowhere) (get_or ps i nowhere) (along ps h j i (i - (j + 1)) (omega arith) x))
+  ];
+}
+
+-- ---- the walk over a list
+less_is : (r : Ordering) → is_lt r ≡ true → r ≡ Less
+less_is Less e = refl
+less_is Equal e = absurd (true≢false (sym e))
+less_is Greater e = absurd (true≢false (sym e))
+
+compared_at : (ps : List Coefficients) (i : ℕ) (m n : Coefficients) → 1 ≤ i → i < length ps → m ≡ get_or ps (i - 1) m → n ≡ get_or ps i n → compared m n ≡ compared (get_or ps (i - 1) nowhere) (get_or ps i nowhere)
+compared_at ps i m n l h x y = ap₂ compared (get_or_read ps (i - 1) m (omega arith) x nowhere) (get_or_read ps i n h y nowhere)
+
+pub order_more : (ps : List Coefficients) (i : ℕ) (m n : Coefficients) (b : Bool) → 1 ≤ i → i < length ps → m ≡ get_or ps (i - 1) m → n ≡ get_or ps i n →
+    b ≡ is_lt (compared m n) → b ≡ true → ((k : ℕ) → k + 1 < i → compared (get_or ps k nowhere) (get_or ps (k + 1) nowhere) ≡ Less) →
+    (k : ℕ) → k + 1 < i + 1 → compared (get_or ps k nowhere) (get_or ps (k + 1) nowhere) ≡ Less
+order_more ps i m n b l h x y e t before k j = elim (cases_lt (k + 1) i) [
+  | inl a ↦ before k a
+  | inr a ↦ (let p : k ≡ i - 1 = omega arith in let q : k + 1 ≡ i = omega arith in
+      ap₂ (λ (u v : ℕ). compared (get_or ps u nowhere) (get_or ps v nowhere)) p q ∙ sym (compared_at ps i m n l h x y) ∙ less_is (compared m n) (sym e ∙ t))
+]
+
+pub order_fails : (ps : List Coefficients) (i : ℕ) (m n : Coefficients) (b : Bool) → 1 ≤ i → i < length ps → m ≡ get_or ps (i - 1) m → n ≡ get_or ps i n →
+    b ≡ is_lt (compared m n) → b ≡ false → IsAscending ps → ⊥
+order_fails ps i m n b l h x y e f a =
+    let k : (i - 1) + 1 ≡ i = omega arith in
+    let c = ap (λ (u : ℕ). compared (get_or ps (i - 1) nowhere) (get_or ps u nowhere)) (sym k) ∙ a.next (i - 1) (omega arith) in
+    true≢false (sym (ap is_lt (compared_at ps i m n l h x y ∙ c)) ∙ sym e ∙ f)

@@ -1,0 +1,6 @@
+use Rattle.std.proofs.Common.{◌≡◌, map, take}
+use Rattle.plane_table.specs.Joins.{number_among}
+use Rattle.plane_table.proofs.renumbering.renumber.Given as goal
+
+abbrev pub invariant-loop-edge : goal.invariant-loop-edge
+invariant-loop-edge l = l.edges ≡ map (number_among l.numbers) (take l.edge-index l.face.edges)

@@ -1,0 +1,29 @@
+use Rattle.std.proofs.Common.{◌≡◌, ap, ◌∙◌, length, arith}
+use Rattle.plane_polygon.specs.Polygons.{Outline, corner}
+use Rattle.plane_polygon.specs.Parts.{is_behind, is_ahead}
+use Rattle.plane_table.specs.declared.sorting.CornerSide.{CornerSide}
+use Rattle.plane_table.specs.Tables.{named}
+use Rattle.plane_table.specs.Faces.{outline_of, side_against}
+use Rattle.plane_table.proofs.Corners.{some_step, map_step, class_end, sides_end}
+use Rattle.plane_table.proofs.sorting.sides.Goals as goal
+
+pub loop-i-preserved : goal.loop-i-preserved
+loop-i-preserved c =
+    let s : Outline = outline_of c.args.table.now c.args.face.now in
+    let m = named c.args.table.now c.args.number in
+    let i = c.loop-i.i in
+    record {
+      behind = c.either-some_behind.ensures ∙ some_step (is_behind m) (corner s) i c.loop-i.some_behind c.corner_side-side.result.is_behind c.loop-i.invariant.behind (ap (λ (d : CornerSide). d.is_behind) c.corner_side-side.ensures);
+      ahead = c.either-some_ahead.ensures ∙ some_step (is_ahead m) (corner s) i c.loop-i.some_ahead c.corner_side-side.result.is_ahead c.loop-i.invariant.ahead (ap (λ (d : CornerSide). d.is_ahead) c.corner_side-side.ensures);
+      corners = c.in_ok-push.ensures.ok ∙ map_step (λ k. side_against m (corner s k)) i c.loop-i.corners.items c.corner_side-side.result c.loop-i.invariant.corners c.corner_side-side.ensures;
+    }
+
+pub returns : goal.returns
+returns c =
+    let e : c.loop-i.i ≡ length c.args.face.now.edges = omega arith in
+    let m = named c.args.table.now c.args.number in
+    record {
+      class = c.class_from.ensures
+          ∙ class_end c.args.table.now c.args.face.now m c.loop-i.some_behind c.loop-i.some_ahead (rw e at c.loop-i.invariant.behind) (rw e at c.loop-i.invariant.ahead);
+      corners = sides_end c.args.table.now c.args.face.now m c.loop-i.corners.items (rw e at c.loop-i.invariant.corners);
+    }

@@ -1,0 +1,32 @@
+-- Faces over a list of planes: polygons whose planes are named by number.
+use Rattle.std.specs.Prelude.{◌≡◌, ℕ, ◌+◌, List, length, map, All}
+use Rattle.plane_predicate.specs.Space.{Coefficients, Coordinates}
+use Rattle.plane_polygon.specs.Polygons.{Outline, IsPolygon}
+use Rattle.plane_polygon.specs.Parts.{class_of, corners, is_behind, is_ahead}
+use Rattle.plane_table.specs.declared.faces.Face.{Face}
+use Rattle.plane_table.specs.declared.sorting.CornerSide.{CornerSide}
+use Rattle.plane_table.specs.declared.sorting.CornerSides.{CornerSides}
+use Rattle.plane_table.specs.Tables.{named, IsNumberIn}
+
+-- the outline of a face: the planes that its numbers name
+abbrev pub outline_of : List Coefficients → Face → Outline
+outline_of planes face = record { plane = named planes face.plane; edges = map (named planes) face.edges }
+
+-- one for the face, and one for each of its edges
+abbrev pub face_size : Face → ℕ
+face_size face = 1 + length face.edges
+
+-- each number of the face names a plane, and its outline is a polygon
+pub record IsFaceOver (planes : List Coefficients) (face : Face) : Type 0 where
+  pub plane : IsNumberIn planes face.plane
+  pub edges : All (IsNumberIn planes) face.edges
+  pub polygon : IsPolygon (outline_of planes face)
+
+-- whether a point is strictly behind a plane, and whether it is strictly ahead of it
+abbrev pub side_against : Coefficients → Coordinates → CornerSide
+side_against m p = record { is_behind = is_behind m p; is_ahead = is_ahead m p }
+
+-- how an outline lies against a plane, and on which side of the plane each of its corners lies
+pub record AreSidesOf (s : Outline) (m : Coefficients) (sides : CornerSides) : Type 0 where
+  pub class : sides.class ≡ class_of s m
+  pub corners : sides.corners.items ≡ map (side_against m) (corners s)

@@ -1,0 +1,35 @@
+-- Planes by number over a list of planes.
+use Rattle.std.specs.Prelude.{◌≡◌, ◌≢◌, ℕ, ◌+◌, ◌-◌, ◌*◌, ◌/◌, ◌%◌, ◌<◌, List, length, get_or, map, if◌then◌else◌, ◌==◌}
+use Rattle.plane_predicate.specs.Space.{Coefficients, opposite_of}
+use Rattle.plane_polygon.specs.Polygons.{nowhere}
+
+-- a plane for an even number, and its opposite for an odd one
+unfoldable pub turned_by_number : ℕ → Coefficients → Coefficients
+turned_by_number n m = if n % 2 == 0 then m else opposite_of m
+
+-- the plane that a number names over a list of planes: 2k names plane k, and 2k + 1 its opposite
+abbrev pub named : List Coefficients → ℕ → Coefficients
+named planes n = turned_by_number n (get_or planes (n / 2) nowhere)
+
+-- the number that names the opposite plane
+unfoldable pub opposite_number : ℕ → ℕ
+opposite_number n = if n % 2 == 0 then n + 1 else n - 1
+
+-- the number names a plane of the list or its opposite
+abbrev pub IsNumberIn : List Coefficients → ℕ → Type 0
+IsNumberIn planes n = n < 2 * length planes
+
+-- neither equal nor opposite
+pub record AreApart (m n : Coefficients) : Type 0 where
+  pub differ : m ≢ n
+  pub not_opposite : m ≢ opposite_of n
+
+-- no two planes of the list are equal or opposite
+pub record HasNoTwoAlike (planes : List Coefficients) : Type 0 where
+  pub apart : (i j : ℕ) → i < length planes → j < length planes → i ≢ j →
+      AreApart (get_or planes i nowhere) (get_or planes j nowhere)
+
+-- what a table keeps: the second planes are the opposites of the first ones, of which no two are equal or opposite
+pub record AreOpposites (planes opposites : List Coefficients) : Type 0 where
+  pub turned : opposites ≡ map opposite_of planes
+  pub apart : HasNoTwoAlike planes

@@ -1,0 +1,83 @@
+//! Lists of plane numbers.
+
+ghost use Rattle.std.specs.Prelude.{◌≡◌, ◌<◌, ◌++◌, [], ◌∷◌, length, slice_index, IfOk, OnOk};
+
+use smallvec::SmallVec;
+use std::alloc::Global;
+use std::marker::Model;
+use text_place::NoMemory;
+
+/// How many numbers stand in the value itself.
+const FEW: usize = 6;
+
+/// A list of plane numbers, which contracts see as a list. Up to six stand in the value itself, more
+/// on the heap.
+#[derive(Drop)]
+pub struct Edges {
+    numbers: SmallVec<u32, FEW>,
+}
+
+impl Model for Edges {
+    ghost use Rattle.std.specs.Prelude.{List, ℕ};
+
+    ghost Value = { List ℕ };
+
+    ghost view = { λ e. e.numbers.items };
+}
+
+impl Edges {
+    /// No numbers. Takes no memory.
+    pub fn new(alloc: Global) -> Edges
+        ensures { result ≡ [] }
+    {
+        Edges {
+            numbers: SmallVec::new(alloc),
+        }
+    }
+
+    /// A copy of numbers.
+    pub fn copy_of(alloc: Global, numbers: &[u32]) -> Result<Edges, NoMemory>
+        ensures { IfOk result (λ e. e ≡ numbers.now) }
+    {
+        Ok(Edges {
+            numbers: SmallVec::from_slice(alloc, numbers)?,
+        })
+    }
+
+    /// Equal numbers.
+    pub fn copy(&self, alloc: Global) -> Result<Edges, NoMemory>
+        ensures { IfOk result (λ e. e ≡ self.now) }
+    {
+        Edges::copy_of(alloc, self.numbers())
+    }
+
+    /// Adds a number at the end.
+    pub fn push(&mut self, number: u32) -> Result<(), NoMemory>
+        ensures { OnOk result (self.new ≡ self.old ++ number ∷ []) }
+    {
+        self.numbers.push(number)?;
+        Ok(())
+    }
+
+    /// How many numbers there are.
+    pub fn len(&self) -> usize
+        ensures { result ≡ length self.now }
+    {
+        self.numbers.len()
+    }
+
+    /// Number `i`.
+    pub fn at(&self, i: usize) -> u32
+        requires { i < length self.now }
+        ensures { result ≡ slice_index self.now i }
+    {
+        self.numbers()[i]
+    }
+
+    /// The numbers in order. Takes no memory.
+    pub fn numbers(&self) -> &[u32]
+        ensures { result.now ≡ self.now }
+    {
+        self.numbers.as_slice()
+    }
+}

@@ -1,0 +1,23 @@
+//! Planes by number, and the faces of solids as lists of such numbers.
+#![tactic(auto)]
+
+mod cutting;
+mod edges;
+mod faces;
+mod joining;
+mod laws;
+mod numbering;
+mod ordering;
+mod renumbering;
+mod sorting;
+mod table;
+
+pub use cutting::cut;
+pub use edges::Edges;
+pub use faces::{Face, polygon_of};
+pub use joining::{Joined, join};
+pub use laws::faces_are_found;
+pub use numbering::{HalfFaces, Numbered, OwnFace, face_of, half_face, half_faces, numbers_of};
+pub use renumbering::{keep_used, mark_used, renumber};
+pub use sorting::{CornerSide, CornerSides, sides};
+pub use table::{PlaneTable, opposite_number};

@@ -1,0 +1,68 @@
+//! The order in which lists of planes stand.
+
+ghost use Rattle.std.specs.Prelude.{◌≡◌, ◌↔◌, IfOk, IsTrue};
+ghost use Rattle.plane_table.specs.Tables.{HasNoTwoAlike};
+ghost use Rattle.plane_table.specs.Orders.{by_numbers, compared, is_low, normalized, IsAscending};
+
+use plane_predicate::{Plane, opposite};
+use std::alloc::Global;
+use std::cmp::Ordering;
+use text_place::NoMemory;
+
+/// The planes of a list, no two of which are equal or opposite, in ascending order.
+pub fn in_order(alloc: Global, planes: Vec<Plane>) -> Result<Vec<Plane>, NoMemory>
+    requires { HasNoTwoAlike planes.items }
+    ensures { IfOk result (λ v. HasNoTwoAlike v.items) }
+{
+    let mut sorted = Vec::from_slice(alloc, &planes)?;
+    sorted.sort_by(compare)?;
+    if is_ascending(&sorted) {
+        Ok(sorted)
+    } else {
+        Ok(planes)
+    }
+}
+
+/// Whether each plane comes before the next. Then no two of them are equal or opposite.
+pub fn is_ascending(planes: &[Plane]) -> bool
+    ensures ascending { IsTrue result ↔ IsAscending planes.now }
+    ensures apart { IsTrue result → HasNoTwoAlike planes.now }
+{
+    for i in 1..planes.len() {
+        if !compare(&planes[i - 1], &planes[i]).is_lt() {
+            return false;
+        }
+    }
+    true
+}
+
+/// How two planes are ordered: by their numbers, each plane turned so that its first number that isn't
+/// 0 is above 0.
+pub fn compare(m: &Plane, n: &Plane) -> Ordering
+    ensures { result ≡ compared m.now n.now }
+{
+    by_numbers(&normalized(m), &normalized(n))
+}
+
+/// The order of four numbers, by their first difference.
+fn by_numbers(m: &Plane, n: &Plane) -> Ordering
+    ensures { result ≡ by_numbers m.now n.now }
+{
+    let last = m.c.cmp(&n.c).then(m.d.cmp(&n.d));
+    m.a.cmp(&n.a).then(m.b.cmp(&n.b).then(last))
+}
+
+/// A plane or its opposite, so that the first number that isn't 0 is above 0.
+#[tactic(auto, unfolding(crate::specs::Orders::normalized))]
+fn normalized(m: &Plane) -> Plane
+    ensures { result ≡ normalized m.now }
+{
+    if is_low(m) { opposite(m) } else { *m }
+}
+
+/// Whether the first number that isn't 0 is below 0.
+fn is_low(m: &Plane) -> bool
+    ensures { result ≡ is_low m.now }
+{
+    m.a < 0 || (m.a == 0 && (m.b < 0 || (m.b == 0 && (m.c < 0 || (m.c == 0 && m.d < 0)))))
+}

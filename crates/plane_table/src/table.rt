@@ -1,0 +1,111 @@
+//! Planes by number.
+
+ghost use Rattle.std.specs.Prelude.{◌≡◌, ◌<◌, ◌*◌, ◌^◌, length, map, IfOk};
+ghost use Rattle.plane_predicate.specs.Space.{opposite_of, is_same};
+ghost use Rattle.plane_table.specs.Tables.{named, opposite_number, HasNoTwoAlike, IsNumberIn};
+
+use plane_predicate::{Plane, opposite};
+use std::alloc::Global;
+use std::marker::Model;
+use text_place::NoMemory;
+
+/// Planes by number, which contracts see as the list of planes: 2k names plane k of the list, and
+/// 2k + 1 its opposite.
+///
+/// A table keeps that no two planes of the list are equal or opposite.
+#[derive(Drop)]
+pub struct PlaneTable {
+    planes: Vec<Plane>,
+    opposites: Vec<Plane>,
+}
+
+impl Model for PlaneTable {
+    ghost use Rattle.std.specs.Prelude.{List};
+    ghost use Rattle.plane_predicate.specs.Space.{Coefficients};
+    ghost use Rattle.plane_table.specs.Tables.{AreOpposites};
+
+    ghost Value = { List Coefficients };
+
+    ghost view = { λ t. t.planes.items };
+
+    ghost invariant = { λ t. AreOpposites t.planes.items t.opposites.items };
+}
+
+impl PlaneTable {
+    /// The table of a list of planes.
+    pub fn of(alloc: Global, planes: Vec<Plane>) -> Result<PlaneTable, NoMemory>
+        requires { HasNoTwoAlike planes.items }
+        ensures { IfOk result (λ t. t ≡ planes.items) }
+    {
+        let opposites = opposites_of(alloc, &planes)?;
+        Ok(PlaneTable { planes, opposites })
+    }
+
+    /// The list of planes, without their opposites. Takes no memory.
+    pub fn planes(&self) -> &[Plane]
+        ensures planes { result.now ≡ self.now }
+        ensures apart { HasNoTwoAlike self.now }
+    {
+        &self.planes
+    }
+
+    /// The plane that a number names.
+    pub fn plane(&self, number: u32) -> &Plane
+        requires { IsNumberIn self.now number }
+        ensures { result.now ≡ named self.now number }
+    {
+        let index = (number / 2) as usize;
+        if number % 2 == 0 {
+            &self.planes[index]
+        } else {
+            &self.opposites[index]
+        }
+    }
+
+    /// Whether two numbers name the same plane.
+    pub fn is_same(&self, m: u32, n: u32) -> bool
+        requires m { IsNumberIn self.now m }
+        requires n { IsNumberIn self.now n }
+        ensures { result ≡ is_same (named self.now m) (named self.now n) }
+    {
+        // Reading these shows the proof what a table and a plane keep.
+        let _ = &self.planes;
+        let _ = &self.plane(m).a;
+        m == n
+    }
+
+    /// Whether two numbers name opposite planes.
+    pub fn is_opposite(&self, m: u32, n: u32) -> bool
+        requires m { IsNumberIn self.now m }
+        requires n { IsNumberIn self.now n }
+        ensures { result ≡ is_same (named self.now m) (opposite_of (named self.now n)) }
+    {
+        // Reading these shows the proof what a table and a plane keep.
+        let _ = &self.planes;
+        let _ = &self.plane(m).a;
+        m == opposite_number(n)
+    }
+}
+
+/// The number that names the opposite plane.
+#[tactic(auto, unfolding(crate::specs::Tables::opposite_number))]
+pub fn opposite_number(number: u32) -> u32
+    ensures { result ≡ opposite_number number }
+{
+    if number % 2 == 0 {
+        number + 1
+    } else {
+        number - 1
+    }
+}
+
+/// The opposites of planes, in order.
+fn opposites_of(alloc: Global, planes: &[Plane]) -> Result<Vec<Plane>, NoMemory>
+    ensures { IfOk result (λ v. v.items ≡ map opposite_of planes.now) }
+{
+    let mut opposites = Vec::new(alloc);
+    for plane in planes {
+        opposites.push(opposite(plane))?;
+    }
+    Ok(opposites)
+}

@@ -1,0 +1,17 @@
+use Rattle.script_server.proofs.running.run_named.Given as goal
+
+-- the ledgers are named by the blanks that are handed on, and keep to the new memo's limits
+abbrev pub ghosts-run_over-H-Ledger : goal.ghosts-run_over-H-Ledger
+ghosts-run_over-H-Ledger g a = record { name = a.blanks.hits.name; parts = a.blanks.hits.parts }
+
+abbrev pub ghosts-run_over-H-MemoLedger : goal.ghosts-run_over-H-MemoLedger
+ghosts-run_over-H-MemoLedger g a = record { budget = a.core.budget; share = a.core.share }
+
+abbrev pub ghosts-run_over-M-Ledger : goal.ghosts-run_over-M-Ledger
+ghosts-run_over-M-Ledger g a = record { name = a.blanks.misses.name; parts = a.blanks.misses.parts }
+
+abbrev pub ghosts-run_over-K-Ledger : goal.ghosts-run_over-K-Ledger
+ghosts-run_over-K-Ledger g a = record { name = a.blanks.kept.name; parts = a.blanks.kept.parts }
+
+abbrev pub ghosts-run_over-E-Ledger : goal.ghosts-run_over-E-Ledger
+ghosts-run_over-E-Ledger g a = record { name = a.blanks.heavy.name; parts = a.blanks.heavy.parts }

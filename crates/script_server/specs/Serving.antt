@@ -1,0 +1,110 @@
+-- What a call of the server does with its words, its source and its sink: the table of statuses.
+use Rattle.std.specs.Prelude.{◌≡◌, ℕ, List, ◌⊎◌, length}
+use Rattle.std.specs.Io.KnownBytes.{Appends}
+use Rattle.outside_io.specs.Counts.{Rose}
+use Rattle.outside_io.specs.Moves.{AppendsProperPrefix}
+use Rattle.run_words.specs.declared.settings.Settings.{Settings}
+use Rattle.run_words.specs.Words.{Chooses, AreOutside}
+use Rattle.subtree_memo.specs.declared.tally.Tally.{Tally}
+use Rattle.script_reader.specs.declared.script.ClientScript.{ClientScript}
+use Rattle.script_reader.specs.declared.script.Script.{Script}
+use Rattle.script_reader.specs.declared.script.ScriptFault.{ScriptFault}
+use Rattle.script_reader.specs.Scripts.{IsScript, IsScriptFault}
+use Rattle.script_reader.specs.FaultLines.{fault_line}
+use Rattle.reply_text.specs.declared.reply.Reply.{Reply}
+use Rattle.reply_text.specs.Answers.{AllFit}
+use Rattle.script_service.specs.declared.status.Status.{Status}
+use Rattle.script_service.specs.declared.status.Status.TheVariants.{Done, BadWords, BadScript, ReadFault, WriteFault, NoMemory}
+use Rattle.script_service.specs.Streams.{Stream, Streams}
+use Rattle.script_service.specs.Units.{unit_of, memo_of, share_of}
+use Rattle.script_service.specs.Serving.{usage_line, IsRun, IsInput, IsWholeInput, printed}
+use Rattle.script_service.specs.Outcomes.{AppendsPart, Prints}
+use Rattle.script_server.specs.Meaning.Exports.{AnswersExport}
+use Rattle.script_server.specs.Books.{AreBooks}
+
+-- what is written for the clients of a script: their replies, which their own commands define, and what the memo of the
+-- settings' budget and share counts and holds of each client
+abbrev pub IsOutputFor : Settings → List ClientScript → List ℕ → Type 0
+IsOutputFor settings clients out =
+    (replies : List (List Reply)) × (counts : Tally) × (owned : List ℕ)
+    × AllFit (AnswersExport (unit_of settings)) clients replies
+    × AreBooks (unit_of settings) clients replies (memo_of settings) (share_of settings) counts owned × (length owned ≡ length clients)
+    × (out ≡ printed settings clients replies counts owned)
+
+-- that was written, or memory ran out before anything was written
+abbrev pub WritesOutput : Settings → List ClientScript → Stream → Status → Type 0
+WritesOutput settings clients sink status =
+    ((out : List ℕ) × IsOutputFor settings clients out × Prints settings sink out status) ⊎ ((status ≡ NoMemory) × sink.same)
+
+-- what is written for bytes that are a script
+abbrev pub IsOutput : Settings → List ℕ → List ℕ → Type 0
+IsOutput settings bytes out = (script : Script) × IsScript bytes script × IsOutputFor settings script.clients out
+
+-- what is written for bytes: the output of a script, or the line of the first fault
+abbrev pub IsAnswer : Settings → List ℕ → List ℕ → Type 0
+IsAnswer settings bytes out =
+    IsOutput settings bytes out ⊎ ((fault : ScriptFault) × IsScriptFault bytes fault × (out ≡ fault_line fault))
+
+-- the whole input was served, and its output was appended to the sink
+abbrev pub Serves : Settings → Streams → Type 0
+Serves settings s =
+    (bytes : List ℕ) × (out : List ℕ)
+    × IsWholeInput settings s.source bytes × IsOutput settings bytes out × Appends s.sink.old s.sink.new out
+
+-- part of what is to be written was appended, and not the whole
+abbrev pub BreaksOff : Settings → Streams → Type 0
+BreaksOff settings s =
+    (bytes : List ℕ) × (out : List ℕ)
+    × IsInput settings s.source bytes × IsAnswer settings bytes out × AppendsProperPrefix s.sink.old s.sink.new out
+
+-- the whole input was read, and something of its output was appended, and not the whole
+abbrev pub Begins : Settings → Streams → Type 0
+Begins settings s =
+    (bytes : List ℕ) × (out : List ℕ)
+    × IsWholeInput settings s.source bytes × IsOutput settings bytes out × AppendsPart s.sink.old s.sink.new out
+
+-- the input is no script, and its first fault was told
+abbrev pub RefusesScript : Settings → Streams → Type 0
+RefusesScript settings s =
+    (bytes : List ℕ) × (fault : ScriptFault)
+    × IsInput settings s.source bytes × IsScriptFault bytes fault × Appends s.sink.old s.sink.new (fault_line fault)
+
+-- the words choose these settings and no others
+abbrev pub ChoosesAlone : List (List ℕ) → Settings → Type 0
+ChoosesAlone words settings = Chooses words settings × ((other : Settings) → Chooses words other → other ≡ settings)
+
+-- What a status tells of the words, the source and the sink.
+abbrev pub Tells : List (List ℕ) → Streams → Status → Type 0
+-- The words choose settings, and what they ask for was served whole.
+Tells words s Done = (settings : Settings) × ChoosesAlone words settings × Serves settings s
+-- The words are outside the grammar, and the usage line was written.
+Tells words s BadWords = AreOutside words × Appends s.sink.old s.sink.new usage_line
+-- The script of the source has a fault, and its line was written.
+Tells words s BadScript = (settings : Settings) × ChoosesAlone words settings × IsRun settings × RefusesScript settings s
+-- The source failed, and nothing was written.
+Tells words s ReadFault =
+    (settings : Settings) × ChoosesAlone words settings × IsRun settings × Rose s.source.before s.source.now × s.sink.same
+-- The sink failed, and a prefix of what was to be written was written, and not the whole.
+Tells words s WriteFault =
+    Rose s.sink.before s.sink.now
+    × ((AreOutside words × AppendsProperPrefix s.sink.old s.sink.new usage_line)
+    ⊎ ((settings : Settings) × ChoosesAlone words settings × BreaksOff settings s))
+-- Nothing was written, or something of the output of a script, and not the whole.
+Tells words s NoMemory =
+    s.sink.same ⊎ ((settings : Settings) × ChoosesAlone words settings × IsRun settings × Begins settings s)
+
+-- the words choose to serve a script
+abbrev pub AskForRun : List (List ℕ) → Type 0
+AskForRun words = (settings : Settings) × Chooses words settings × IsRun settings
+
+-- the words are outside the grammar, or choose the demonstration: nothing is to be read
+abbrev pub AskForNoInput : List (List ℕ) → Type 0
+AskForNoInput words = AreOutside words ⊎ ((settings : Settings) × Chooses words settings × (IsRun settings → ⊥))
+
+-- the bytes are some script
+abbrev pub IsScriptOf : List ℕ → Type 0
+IsScriptOf bytes = (script : Script) × IsScript bytes script
+
+-- the bytes have a first fault
+abbrev pub IsNoScript : List ℕ → Type 0
+IsNoScript bytes = (fault : ScriptFault) × IsScriptFault bytes fault

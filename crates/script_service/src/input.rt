@@ -1,0 +1,107 @@
+//! Reads the input: the script of the source, or that of the demonstration.
+
+ghost use Rattle.std.specs.Prelude.{◌≡◌, ◌≤◌, IfOk, IfErr};
+ghost use Rattle.run_words.specs.Words.{AreInRange};
+ghost use Rattle.big_input.specs.DemoScript.{demo_script};
+ghost use Rattle.script_reader.specs.Limits.{AreWithin};
+ghost use Rattle.script_reader.specs.Scripts.{IsScript};
+ghost use Rattle.script_service.specs.Streams.{stream};
+ghost use Rattle.script_service.specs.Serving.{IsRun, AreNoScript, Gives, Lacks};
+
+use big_input::make_script;
+use outside_io::{ReadEnd, Source, read_to_end};
+use run_words::Settings;
+use script_reader::{Script, ScriptFault, read_script};
+use std::alloc::Global;
+use text_place::NoMemory;
+
+// The most bytes of a script.
+const SCRIPT_BYTES: usize = 1_048_576;
+
+/// Why there is no script to serve.
+#[derive(Clone, Copy, PartialEq, Eq)]
+pub enum InputEnd {
+    /// The bytes that were read are no script.
+    BadScript(ScriptFault),
+    /// The source failed.
+    Failed,
+    /// Memory ran out.
+    NoMemory,
+}
+
+impl From<NoMemory> for InputEnd {
+    ghost use Rattle.script_service.specs.declared.input.InputEnd.TheVariants.{NoMemory};
+
+    ghost from_gives = { λ _ end. end ≡ NoMemory };
+
+    fn from(_refused: NoMemory) -> InputEnd {
+        InputEnd::NoMemory
+    }
+}
+
+// Reads bytes as a script.
+fn parse(alloc: Global, bytes: &[u8]) -> Result<Script, InputEnd>
+    ensures script { IfOk result (IsScript bytes.now) }
+    ensures within { IfOk result (λ script. AreWithin script.clients) }
+    ensures lacks { IfErr result (AreNoScript bytes.now) }
+{
+    match read_script(alloc, bytes) {
+        Ok(script) => Ok(script),
+        Err(ScriptFault::NoMemory) => Err(InputEnd::NoMemory),
+        Err(fault) => Err(InputEnd::BadScript(fault)),
+    }
+}
+
+// Reads the script of the source.
+fn read_run<S: Source>(
+    alloc: Global,
+    settings: Settings,
+    source: &mut S,
+) -> Result<Script, InputEnd>
+    requires { IsRun settings }
+    ensures script { IfOk result (Gives settings (stream S.left S.faults source.old source.new)) }
+    ensures within { IfOk result (λ script. AreWithin script.clients) }
+    ensures lacks { IfErr result (Lacks settings (stream S.left S.faults source.old source.new)) }
+    ensures later { S.faults source.old ≤ S.faults source.new }
+{
+    match read_to_end(alloc, source, SCRIPT_BYTES) {
+        Ok(bytes) => parse(alloc, bytes.as_slice()),
+        Err(ReadEnd::TooLarge) => Err(InputEnd::BadScript(ScriptFault::TooLarge)),
+        Err(ReadEnd::Failed) => Err(InputEnd::Failed),
+        Err(ReadEnd::NoMemory) => Err(InputEnd::NoMemory),
+    }
+}
+
+// Makes the script of the demonstration, which has no fault.
+fn make_demo(alloc: Global, parts: u64) -> Result<Script, NoMemory>
+    requires { (1 ≤ parts) × (parts ≤ 200) }
+    ensures script { IfOk result (IsScript (demo_script parts)) }
+    ensures within { IfOk result (λ script. AreWithin script.clients) }
+{
+    let bytes = make_script(alloc, parts as u32)?;
+    match read_script(alloc, bytes.as_slice()) {
+        Ok(script) => Ok(script),
+        // The script has no fault (`demo_scripts_have_no_fault`), so memory ran out.
+        Err(_) => Err(NoMemory),
+    }
+}
+
+/// Reads what the settings have the program serve: the script of the source, or that of the demonstration, for which
+/// nothing is read.
+pub fn read_input<S: Source>(
+    alloc: Global,
+    settings: Settings,
+    source: &mut S,
+) -> Result<Script, InputEnd>
+    requires { AreInRange settings }
+    ensures script { IfOk result (Gives settings (stream S.left S.faults source.old source.new)) }
+    ensures within { IfOk result (λ script. AreWithin script.clients) }
+    ensures lacks { IfErr result (Lacks settings (stream S.left S.faults source.old source.new)) }
+    ensures later { S.faults source.old ≤ S.faults source.new }
+    ensures unread { (IsRun settings → ⊥) → source.new ≡ source.old }
+{
+    match settings {
+        Settings::Run { .. } => read_run(alloc, settings, source),
+        Settings::Demo(parts) => Ok(make_demo(alloc, parts)?),
+    }
+}
