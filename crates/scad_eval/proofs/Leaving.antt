@@ -1,5 +1,5 @@
 -- Shapes and hulls whose checks hold, as leaves.
-use Rattle.std.proofs.Common.{◌≡◌, ℕ, Bool, true, false, [], ◌∷◌, Option, Some, None, sym, ap, ◌∙◌, if◌then◌else◌}
+use Rattle.std.proofs.Common.{◌≡◌, ℕ, Bool, false, [], ◌∷◌, Option, Some, None, sym, ap, ◌∙◌, if◌then◌else◌}
 use Rattle.text_place.specs.declared.fault.Stop.{Stop}
 use Rattle.text_place.specs.declared.fault.Stop.TheVariants.{NoMemory}
 use Rattle.text_place.specs.declared.fault.FaultKind.{FaultKind}

@@ -1,5 +1,5 @@
 -- Worked rows of hulls, which compute. Each comment is the source whose syntax stands below it.
-use Rattle.std.proofs.Common.{◌≡◌, pos, true, false, List, [], ◌∷◌, None, Some, refl}
+use Rattle.std.proofs.Common.{◌≡◌, pos, true, false, [], ◌∷◌, None, Some, refl}
 use Rattle.std.specs.Prelude.{codes}
 use Rattle.text_place.specs.declared.fault.FaultKind.TheVariants.{UnknownModule, NotInProfile, WrongDimension, BadArgument, TooManyParts}
 use Rattle.plane_predicate.specs.declared.unit.Unit.TheVariants.{Whole}
@@ -8,11 +8,11 @@ use Rattle.scad_ast.specs.declared.operator.Modifier.TheVariants.{Root}
 use Rattle.scad_ast.specs.Terms.{NumberTerm, NameTerm, ListTerm, no_terms, and_term, PositionalTerm, InstanceStatement, no_statements, and_statement, AnInstance, ModuleCallTerm, EmptyBody, BlockBody, InstanceBody}
 use Rattle.scad_scope.specs.Names.{first_chain}
 use Rattle.scad_func.specs.Meaning.{Gives, Faults, evaluated}
-use Rattle.scad_design.specs.Designs.{Design, Part, empty, a_part, grouped}
+use Rattle.scad_design.specs.Designs.{Part, empty, a_part, grouped}
 use Rattle.scad_meaning.specs.Verdicts.{Judge}
 use Rattle.scad_meaning.specs.Meaning.{made_within, design_of}
 use Rattle.scad_meaning.specs.Hulls.{is_union, points_of}
-use Rattle.scad_meaning.proofs.Rows.{at, lenient, meaning, Seen, nothing_seen, points_seen, seen_in, is_given, begun}
+use Rattle.scad_meaning.proofs.Rows.{at, meaning, nothing_seen, points_seen, seen_in, is_given, begun}
 
 -- a judge that finds no hull right
 abbrev strict : Judge

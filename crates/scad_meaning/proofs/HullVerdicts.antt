@@ -1,5 +1,5 @@
 -- What is wrong with a hull can be decided.
-use Rattle.std.proofs.Common.{◌≡◌, ◌⊎◌, inl, inr, ⊎_elim, ℕ, ◌<◌, ◌≤◌, pos, Bool, true, false, ℤ, List, length, get_or, All, refl}
+use Rattle.std.proofs.Common.{◌≡◌, ◌⊎◌, inl, inr, ⊎_elim, ℕ, pos, Bool, true, false, ℤ, List, length, get_or, refl}
 use Rattle.text_place.specs.declared.fault.FaultKind.{FaultKind}
 use Rattle.text_place.specs.declared.fault.FaultKind.TheVariants.{NotInProfile, TooLarge, OutOfRange, LongList, FewPoints}
 use Rattle.plane_predicate.specs.Space.{point_at, value}
@@ -7,12 +7,11 @@ use Rattle.shape_planes.specs.Shapes.{HasTriangle, IsInRange}
 use Rattle.shape_planes.specs.Spanning.{IsTriangle}
 use Rattle.shape_planes.specs.declared.spanning.Triangle.{Triangle}
 use Rattle.scad_hull.specs.Hulls.{different, from, AreOnOnePlane}
-use Rattle.scad_hull.specs.Refusals.{AreInRange}
 use Rattle.scad_hull.specs.Steps.{AreNumbered}
 use Rattle.scad_hull.proofs.Lines.{plane}
 use Rattle.scad_hull.proofs.Loops.{flat_by_lines, flat_by_plane, numbered_by, solid_by_plane}
 use Rattle.scad_design.specs.Designs.{Design, empty, a_part, joined}
-use Rattle.scad_design.proofs.Deciding.{Decided, decided_all, decided_at_most, decided_both, decided_same_ℤ, at_most_or_more}
+use Rattle.scad_design.proofs.Deciding.{Decided, decided_all, decided_both, decided_same_ℤ, at_most_or_more}
 use Rattle.scad_design.proofs.SomePlacing.{decided_safe}
 use Rattle.scad_meaning.specs.Hulls.{is_union, points_of, StaySafe, HasHull, IsHullFault}
 use Rattle.scad_meaning.proofs.Triangles.{decided_point_range, decided_triangle}

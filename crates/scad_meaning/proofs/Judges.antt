@@ -5,7 +5,7 @@ use Rattle.std.proofs.lemmas.List.{get_or_default}
 use Rattle.text_place.specs.declared.fault.FaultKind.{FaultKind}
 use Rattle.text_place.specs.declared.fault.FaultKind.TheVariants.{BadSize, NotOnGrid, TooLarge, OutOfRange, LongList, FewPoints, NotConvex}
 use Rattle.plane_predicate.specs.declared.unit.Unit.{Unit as LengthUnit}
-use Rattle.plane_predicate.specs.Space.{Coefficients, Coordinates, point_at, opposite_of, inner, through}
+use Rattle.plane_predicate.specs.Space.{Coefficients, point_at, opposite_of, inner, through}
 use Rattle.shape_planes.specs.Shapes.{Mesh, corner, value_at, HasTriangle, IsInRange as IsPointInRange, IsOnOnePlane}
 use Rattle.primitives.specs.Sizes.{AreSizes, IsSizeFault, IsLong, IsEven, IsSafe, AreOnGrid, grid_steps}
 use Rattle.primitives.specs.Polygons.{polygon_of, IsPolygon, IsPolygonFault, IsInRange, IsConvex, GoesLeft, GoesRight, HasCorner, turn, point, after, x_of, y_of}
