@@ -61,6 +61,7 @@ ROUND = "give r, and $fn = 4 for a square on its corner; docs/OPENSCAD.md has a 
 FORMS: dict[str, str] = {
     **dict.fromkeys(["circle", "cylinder"], ROUND),
     **dict.fromkeys(["for", "function", "linear_extrude", "mirror", "polygon", "rotate"], PAGE),
+    "hull": "a hull is of unions alone: make its cuts around it, as in difference() { hull() .. }",
 }
 # The cure of a division that does not come out even.
 EVEN = "count in tenths, 70 / 2 for 7 / 2, or drop the rest: (w - w % 2) / 2"

@@ -37,6 +37,7 @@ PARTS: Mapping[str, tuple[float, float]] = {
     "cabinet": VIEW,
     "brick": VIEW,
     "stair": VIEW,
+    "hopper": VIEW,
     "menger": VIEW,
     "star": VIEW,
 }

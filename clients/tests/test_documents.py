@@ -140,6 +140,7 @@ class Differences(unittest.TestCase):
         9: None,
         10: ((0, 0, 0), (2, 2, 1)),
         11: ((0, 0, 0), (2, 2, 2)),
+        12: ((0, 0, 0), (3, 2, 5)),
     }
 
     def rows(self) -> dict[int, list[str]]:

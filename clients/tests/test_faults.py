@@ -53,6 +53,7 @@ class Lines(unittest.TestCase):
         ("Expected", b'"' + b"x" * 99, 1, '"' + "x" * 39 + ".. can't follow what stands before it"),
         ("Expected", None, 1, "the source ends in the middle of a statement"),
         ("NotInProfile", b"cylinder(2, r = 3);", 1, "this form of cylinder is left out of this profile of OpenSCAD"),
+        ("NotInProfile", b"hull() difference() { cube(2); cube(1); }", 1, "this form of hull is left out of this profile of OpenSCAD"),
         ("BadCharacter", b"\xef\xbb\xbfcube(1);", 1, "a byte order mark can't stand here"),
         ("BadCharacter", b"x = \xef\xbb\xbf\xc3\xa4;", 5, "\\ufeffä can't stand here"),
         ("BadCharacter", b"cube(\x00);", 6, "\\x00 can't stand here"),
@@ -71,6 +72,7 @@ class Lines(unittest.TestCase):
             ("NotInProfile", b"cylinder(h = 2, d = 3);", 1, "twelve corners"),
             ("NotInProfile", b"sphere(3);", 1, "docs/OPENSCAD.md"),
             ("NotInProfile", b"rotate(90, [0, 0, 1]) cube(1);", 1, "docs/OPENSCAD.md"),
+            ("NotInProfile", b"hull() difference() { cube(2); cube(1); }", 1, "make its cuts around it"),
             ("NotWhole", b"cube(2.5);", 6, "off2stl --unit 1/10"),
             ("NotWhole", b"w = 7 / 2;", 7, "(w - w % 2) / 2"),
         ):

@@ -33,6 +33,12 @@ TUBE = ((66 * 66 - 2 * 19 * 19) - (48 * 48 - 2 * 14 * 14)) * 86
 # A quarter of the stair has five triangles from the axis to the rim, less a quarter of the core; 4 high each.
 STEPS = Fraction(175 + 220 + 175 + 220 + 175, 2) - Fraction(15 + 7 + 15, 2)
 
+
+def funnel(narrow: int, wide: int) -> int:
+    """The volume of a hopper's hull: a frustum, 30 high, and a rim, 4 high."""
+    return 30 * (narrow**2 + narrow * wide + wide**2) // 3 + 4 * wide**2
+
+
 #: Volume and box of each part, by hand.
 BY_HAND = {
     "bracket": (ANGLE - 4 * 4 * 2 - 2 * 4 * 3, (20, 12, 16)),
@@ -50,6 +56,7 @@ BY_HAND = {
     "brick": (BRICK_SHELL + 8 * STUD + 3 * TUBE, (318, 158, 96 + 18)),
     # The core is a quarter four times, 80 high.
     "stair": (4 * STEPS * 4 + 2 * (15 + 7 + 15) * 80, (50, 50, 80)),
+    "hopper": (funnel(10, 40) - funnel(6, 36) + 12 * (10**2 - 6**2), (40, 40, 34 + 12)),
     # Of 27 cubes 20 are left, and so of each of these.
     "menger": (20 * 20, (9, 9, 9)),
     # Two tetrahedra of a third of the cube have an octahedron of a sixth in common.
@@ -107,7 +114,7 @@ class Made(unittest.TestCase):
 
     def test_the_script(self):
         done = subprocess.run([f"{TOP}/tools/gallery.sh", "--kept", "--compare"], stdout=subprocess.PIPE, check=False)
-        self.assertEqual((done.returncode, done.stdout), (0, b"25 files compared, 0 differ\n"))
+        self.assertEqual((done.returncode, done.stdout), (0, b"27 files compared, 0 differ\n"))
 
     def test_faults(self):
         with tempfile.TemporaryDirectory() as top, mock.patch("gallery.TOP", top):

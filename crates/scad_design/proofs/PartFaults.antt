@@ -17,7 +17,7 @@ use Rattle.scad_design.specs.Trees.{IsRangeStop, IsStopOf}
 some_not : {A : Type 0} (P : A → Type 0) (xs : List A) → Any (λ (x : A). P x → ⊥) xs → All P xs → ⊥
 some_not P xs h all = h.4 (subst P h.3 (all h.0 h.1 h.2))
 
-past : (part : Part) → Any (λ (p : List ℤ). LeavesRange part.steps (point_at p)) part.mesh.points → StaysSafe part → ⊥
+pub past : (part : Part) → Any (λ (p : List ℤ). LeavesRange part.steps (point_at p)) part.mesh.points → StaysSafe part → ⊥
 past part h safe =
     let stays : StaysInRange part.steps (point_at h.1) = subst (λ (p : List ℤ). StaysInRange part.steps (point_at p)) h.3 (safe h.0 h.1 h.2) in
     h.4.past (stays h.4.after h.4.within)

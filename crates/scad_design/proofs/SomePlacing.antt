@@ -47,7 +47,7 @@ decided_range steps p =
     decided_by {P = StaysBelow steps p} (λ h k le. h k (omega (arith, le))) (λ h k lt. h k (omega (arith, lt)))
     (decided_all_below (suc (length steps)) (λ k. HasSafeCoordinates (image (map_of (take k steps)) p)) (λ k lt. decided_coordinates (image (map_of (take k steps)) p)))
 
-decided_safe : (part : Part) → Decided (StaysSafe part)
+pub decided_safe : (part : Part) → Decided (StaysSafe part)
 decided_safe part = decided_all (λ p. StaysInRange part.steps (point_at p)) (λ p. decided_range part.steps (point_at p)) part.mesh.points
 
 decided_reach : (p : Coordinates) → Decided (IsInReach p)

@@ -35,15 +35,15 @@ impl Part {
         }
     }
 
-    /// The shape before its steps.
-    pub(crate) fn shape(&self) -> &Shape
+    /// The shape before its steps. Takes no memory.
+    pub fn shape(&self) -> &Shape
         ensures { result.now ≡ self.now.mesh }
     {
         &self.shape
     }
 
-    /// The steps, of which the first is done first.
-    pub(crate) fn steps(&self) -> &[Step]
+    /// The steps, of which the first is done first. Takes no memory.
+    pub fn steps(&self) -> &[Step]
         ensures { result.now ≡ self.now.steps }
     {
         &self.steps

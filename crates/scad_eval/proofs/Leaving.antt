@@ -1,5 +1,5 @@
--- Shapes whose checks hold, as leaves.
-use Rattle.std.proofs.Common.{◌≡◌, ℕ, [], ◌∷◌, Option, Some, None, sym, ap, ◌∙◌}
+-- Shapes and hulls whose checks hold, as leaves.
+use Rattle.std.proofs.Common.{◌≡◌, ℕ, Bool, false, [], ◌∷◌, Option, Some, None, sym, ap, ◌∙◌, if◌then◌else◌}
 use Rattle.text_place.specs.declared.fault.Stop.{Stop}
 use Rattle.text_place.specs.declared.fault.Stop.TheVariants.{NoMemory}
 use Rattle.text_place.specs.declared.fault.FaultKind.{FaultKind}
@@ -11,7 +11,9 @@ use Rattle.scad_meaning.specs.declared.extrusion.Extrusion.{Extrusion}
 use Rattle.text_place.specs.declared.fault.Place.{Place}
 use Rattle.shape_planes.specs.Shapes.{Mesh}
 use Rattle.scad_meaning.specs.Verdicts.{Verdict}
-use Rattle.scad_meaning.specs.Meaning.{checked, leaf_made}
+use Rattle.scad_func.specs.Meaning.{Outcome, Gives, then_with}
+use Rattle.scad_meaning.specs.Hulls.{is_nothing, hull_mesh}
+use Rattle.scad_meaning.specs.Meaning.{Made, checked, leaf_made, hulled, hull_made}
 use Rattle.scad_eval.specs.Seen.{IsStopAt}
 use Rattle.scad_eval.specs.Makings.{IsThrough}
 use Rattle.scad_meaning.proofs.Verdicts.{one_height_verdict}
@@ -31,3 +33,16 @@ height_stops unit through at (shapes.Kind kind) result known fault is =
     differ : (kind : FaultKind) → ◌≡◌ {A = Option FaultKind} None (Some kind) → ⊥
     differ kind e = cc
 height_stops unit through at shapes.NoMemory result known fault is = is
+
+-- a hull with nothing wrong is a leaf, where there is something
+abbrev hull_or_not : Verdict → Place → Made → ℕ → Bool → Outcome Made
+hull_or_not v at m turns nothing =
+    if nothing then Gives turns m
+    else checked v at (then_with (leaf_made at (hull_mesh m.design) turns m.leaves) (λ turns leaf. Gives turns (hulled m leaf)))
+
+pub hull_checked : (v : Verdict) (at : Place) (m : Made) (shape : Mesh) (turns : ℕ) (b : Bool) → b ≡ is_nothing m.design → b ≡ false → v ≡ None → shape ≡ hull_mesh m.design
+    → hull_made v at m turns ≡ then_with (leaf_made at shape turns m.leaves) (λ turns leaf. Gives turns (hulled m leaf))
+hull_checked v at m shape turns b is e none same =
+    ap (hull_or_not v at m turns) (sym is ∙ e)
+    ∙ ap (λ (x : Verdict). checked x at (then_with (leaf_made at (hull_mesh m.design) turns m.leaves) (λ turns leaf. Gives turns (hulled m leaf)))) none
+    ∙ ap (λ (mesh : Mesh). then_with (leaf_made at mesh turns m.leaves) (λ turns leaf. Gives turns (hulled m leaf))) (sym same)

@@ -22,15 +22,16 @@ use Rattle.scad_scope.specs.Blocks.{Module, assignments_of, statements_of_body}
 use Rattle.scad_func.specs.Meaning.{Outcome, Gives, Faults, then_with, or_fault, Env, Opened, no_call, opened, module_in, call_in, entered_scope, turn, one_call_fewer, value_at, Arguments, nothing_given, each_argument, each_parameter}
 use Rattle.scad_modules.specs.declared.table.BuiltinModule.{BuiltinModule}
 use Rattle.scad_modules.specs.Table.{module_named}
-use Rattle.scad_modules.specs.Effects.{EffectCall, a_solid, a_flat, a_move, a_join, an_extrusion, silence, some_children, FlatCall, ChosenCall}
+use Rattle.scad_modules.specs.Effects.{EffectCall, a_solid, a_flat, a_move, a_join, a_hull, an_extrusion, silence, some_children, FlatCall, ChosenCall}
 use Rattle.scad_modules.specs.Calls.{effect_of}
 use Rattle.scad_design.specs.Designs.{Design, a_part, balanced, grouped, moved_by}
 use Rattle.scad_design.specs.Trees.{parts_in, pieces_in, IsTrim}
 use Rattle.scad_meaning.specs.declared.extrusion.Extrusion.{Extrusion}
+use Rattle.scad_meaning.specs.Hulls.{is_nothing, hull_mesh}
 use Rattle.scad_meaning.specs.Verdicts.{Judge, Verdict, solid_of, extruded}
 use Rattle.scad_meaning.specs.Bodies.{evaluated_in, children_in, is_marked, says_only, is_bare}
 use Rattle.scad_meaning.specs.Loops.{items_of, chosen_among}
-use Rattle.scad_meaning.specs.Meaning.{Stand, standing, chained, called_from, marked_from, extruding, setting, Made, Members, first_marked, made_nothing, no_members, as_member, and_members, made_of, made_moved, Makes, each_assigned, core_of, each_member, each_in_scope, each_in_body, body_made, after_step, each_step, in_loop, each_turn, loop_made, leaf_made, checked, answered_with, module_scope, module_made, arguments_for, children_made, flat_made, effect_made, built_in_made, call_made, core_made, marked_made, instance_made, made_within, program_stand, or_all, design_of}
+use Rattle.scad_meaning.specs.Meaning.{Stand, standing, chained, called_from, marked_from, extruding, setting, Made, Members, first_marked, made_nothing, no_members, as_member, and_members, made_of, made_moved, Makes, each_assigned, core_of, each_member, each_in_scope, each_in_body, body_made, after_step, each_step, in_loop, each_turn, loop_made, leaf_made, checked, hulled, hull_made, answered_with, module_scope, module_made, arguments_for, children_made, flat_made, effect_made, built_in_made, call_made, core_made, marked_made, instance_made, made_within, program_stand, or_all, design_of}
 
 -- what holds of that which an outcome gives
 abbrev Has : {A : Type 0} → (A → Type 0) → Outcome A → Type 0
@@ -148,6 +149,24 @@ leaf_small at mesh turns leaves = by_test (nat_lt leaves 1024) (λ e. grind (ari
     by_test true h = let few = h refl in record { grows = omega arith; most = λ before. omega arith; parts = omega arith; trim = tt; marked = tt }
     by_test false h = tt
 
+-- a hull has one part, behind the leaves of its children
+one_hull : (before : ℕ) (m leaf : Made) → IsSmall before m → IsSmall m.leaves leaf → IsSmall before (hulled m leaf)
+one_hull before m leaf h g = record {
+  grows = let a = h.grows in let b = g.grows in omega arith;
+  most = λ few. g.most (h.most few);
+  parts = let a = h.grows in let b = g.parts in omega arith;
+  trim = g.trim;
+  marked = few_wider before before m.leaves leaf.leaves m.marked (omega arith) g.grows h.marked;
+}
+
+hull_small : (v : Verdict) (at : Place) (before : ℕ) (m : Made) (turns : ℕ) → IsSmall before m → Has (IsSmall before) (hull_made v at m turns)
+hull_small v at before m turns h =
+    let next : Outcome Made = then_with (leaf_made at (hull_mesh m.design) turns m.leaves) (λ turns leaf. Gives turns (hulled m leaf)) in
+    if_has (IsSmall before) (is_nothing m.design) (Gives turns m) (checked v at next) h
+    (checked_has (IsSmall before) v at next
+    (then_has (IsSmall m.leaves) (IsSmall before) (leaf_made at (hull_mesh m.design) turns m.leaves) _
+    (leaf_small at (hull_mesh m.design) turns m.leaves) (λ turns leaf g. one_hull before m leaf h g)))
+
 -- instances one evaluation deeper give designs that are no larger than they may be
 abbrev IsGood : Makes → Type 0
 IsGood make = (here : Stand) (i : InstanceTerm) (turns leaves : ℕ) → Has (IsSmall leaves) (make here i turns leaves)
@@ -251,6 +270,9 @@ module _ (grouped_trim : (op : Op) (designs : List Design) → All IsTrim design
         then_has (IsSmall leaves) (IsSmall leaves) (body_made left make Union here body turns leaves) _
         (body_small Union here body turns leaves) (λ turns m h. moved_small steps leaves m h)
     effect_small here at (a_join op) body turns leaves = body_small op here body turns leaves
+    effect_small here at a_hull body turns leaves =
+        then_has (IsSmall leaves) (IsSmall leaves) (body_made left make Union here body turns leaves) _
+        (body_small Union here body turns leaves) (λ turns m h. hull_small (judge.hull m.design) at leaves m turns h)
     effect_small here at (an_extrusion center height) body turns leaves =
         checked_has (IsSmall leaves) (judge.height unit center height) at
         (body_made left make Union (extruding here (record { center = center; height = height })) body turns leaves)

@@ -10,7 +10,7 @@ ghost use Rattle.scad_modules.specs.Bounds.{IsSafeCall};
 ghost use Rattle.scad_modules.specs.Table.{module_named};
 ghost use Rattle.scad_modules.specs.View.{call_of};
 ghost use Rattle.scad_design.specs.Designs.{moved_by};
-ghost use Rattle.scad_meaning.specs.Meaning.{built_in_made as built_in_at, effect_made as effect_at, body_made, made_moved, checked, extruding};
+ghost use Rattle.scad_meaning.specs.Meaning.{built_in_made as built_in_at, effect_made as effect_at, body_made, made_moved, hull_made, checked, extruding};
 ghost use Rattle.scad_eval.specs.Seen.{made_seen};
 ghost use Rattle.scad_eval.specs.Makings.{Stands, Stays, Says};
 ghost use Rattle.scad_eval.specs.Steps.{built_in_given};
@@ -102,6 +102,7 @@ impl Making<'_, '_> {
             Effect::Flat(shape) => self.flat(stand, place, &shape),
             Effect::Move(steps) => self.moved(stand, &steps, body),
             Effect::Join(op) => self.body(op, stand, body),
+            Effect::Hull => self.hulled(stand, place, body),
             Effect::Extrusion { height, center } => {
                 self.extruded(stand, place, Extrusion { center, height }, body)
             }
@@ -124,6 +125,19 @@ impl Making<'_, '_> {
             Ok(design) => Ok(Made { design, marked }),
             Err(_) => Err(Stop::NoMemory),
         }
+    }
+
+    /// The hull of the union of a body, as one leaf more. Where the body gives nothing, so does its hull.
+    #[cycle(making)]
+    fn hulled(&mut self, stand: Stand, place: Place, body: NumberedBody<'_>) -> Result<Made, Stop>
+        requires stand { Stands self.old stand }
+        requires block { IsInBlock (text_of self.old.evaluation.source.now) body }
+        ensures made { Says made_seen self.old self.new stand result (λ unit judge left make here turns leaves.
+            then_with (body_made left make Union here (body_seen body.entry) turns leaves) (λ turns m. hull_made (judge.hull m.design) place m turns)) }
+        ensures stays { OnOk result (Stays self.old self.new) }
+    {
+        let made = self.body(Op::Union, stand, body)?;
+        self.hull(place, made)
     }
 
     /// The union of a body inside an extrusion.

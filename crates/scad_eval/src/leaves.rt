@@ -3,9 +3,10 @@
 ghost use Rattle.std.specs.Prelude.{◌≡◌};
 ghost use Rattle.scad_modules.specs.Bounds.{IsSafeSolid, IsSafeFlat};
 ghost use Rattle.scad_modules.specs.View.{solid_of as solid_call, flat_of as flat_call};
+ghost use Rattle.scad_design.specs.View.{plain_of};
 ghost use Rattle.scad_eval.specs.declared.stand.Stand.{Stand as StandIn};
 ghost use Rattle.scad_meaning.specs.Verdicts.{solid_of, extruded};
-ghost use Rattle.scad_meaning.specs.Meaning.{checked, leaf_made, flat_made};
+ghost use Rattle.scad_meaning.specs.Meaning.{checked, leaf_made, flat_made, hull_made};
 ghost use Rattle.scad_eval.specs.Seen.{made_seen, IsStopAt};
 ghost use Rattle.scad_eval.specs.Makings.{IsThrough, Stands, Stays, Says};
 
@@ -16,7 +17,7 @@ use primitives::extrude;
 use scad_design::{Design, Part};
 use scad_meaning::Extrusion;
 use scad_modules::{FlatShape, SolidShape};
-use scad_pieces::{flat_shape, solid_shape};
+use scad_pieces::{design_hull, flat_shape, is_nothing, solid_shape};
 use shape_planes::{Shape, ShapeStop};
 use text_place::{FaultKind, Place, Stop};
 
@@ -74,6 +75,29 @@ impl Making<'_, '_> {
                 Ok(shape) => self.leaf(place, shape),
                 Err(stop) => Err(stop_at(stop, place)),
             },
+            Err(stop) => Err(stop_at(stop, place)),
+        }
+    }
+
+    /// The hull of what children give, as one leaf more in place of their design. Where that is
+    /// nothing, it stays so.
+    pub(crate) fn hull(&mut self, place: Place, made: Made) -> Result<Made, Stop>
+        ensures made { (s : StandIn) → Says made_seen self.old self.new s result (λ unit judge left make here turns leaves.
+            hull_made (judge.hull (plain_of made.design)) place (made_seen leaves made) turns) }
+        ensures stays { Stays self.old self.new }
+    {
+        let Made { design, marked } = made;
+        if is_nothing(&design) {
+            return Ok(Made { design, marked });
+        }
+        match design_hull(self.evaluation.alloc, &design) {
+            Ok(shape) => {
+                let leaf = self.leaf(place, shape)?;
+                Ok(Made {
+                    design: leaf.design,
+                    marked,
+                })
+            }
             Err(stop) => Err(stop_at(stop, place)),
         }
     }

@@ -8,16 +8,16 @@ use Rattle.std.proofs.lemmas.List.{get_or_default, take_all, take_more}
 use Rattle.std.proofs.lemmas.List.Elements.{All-from_recursion, recursion_from_All}
 use Rattle.plane_predicate.specs.Space.{Coefficients, Coordinates, point_at, value, opposite_of, AreCollinear}
 use Rattle.plane_predicate.proofs.IntegerRing.{sums}
-use Rattle.shape_planes.specs.Shapes.{corner, value_at, HasTriangle, IsInRange, IsInside, MakesShape}
+use Rattle.shape_planes.specs.Shapes.{corner, value_at, HasTriangle, IsInRange, IsInside, IsShape, MakesShape}
 use Rattle.shape_planes.specs.Sizes.{IsOnGrid}
-use Rattle.shape_planes.proofs.Bodies.{range_on_grid}
+use Rattle.shape_planes.proofs.Bodies.{range_on_grid, shape_of}
 use Rattle.std.specs.Cmp.Lexicographic.{slice_cmp}
 use Rattle.shape_planes.specs.Spanning.{HasNoDirection, IsTriangle}
 use Rattle.shape_planes.specs.declared.spanning.Triangle.{Triangle}
 use Rattle.shape_planes.proofs.OnePlane.{nowhere}
 use Rattle.scad_hull.specs.Hulls.{different, faces_of, from, hull_of, put, has_direction, has_none_ahead, is_supporting, plane_of, shares_plane, AreOnOnePlane}
 use Rattle.scad_hull.specs.Combinations.{IsInnerCombination}
-use Rattle.scad_hull.specs.Refusals.{AreInRange}
+use Rattle.scad_hull.specs.Refusals.{AreInRange, HaveHull}
 use Rattle.scad_hull.specs.Steps.{with_triple, AreNumbered}
 use Rattle.scad_hull.proofs.Lines.{collinear_by, on_one_plane, plane, with_direction}
 use Rattle.scad_hull.proofs.Members.{all_from, all_weaker, IsWithin}
@@ -241,3 +241,10 @@ shape_by given points faces e range solid ef = subst (λ fs. MakesShape (record 
 
 pub inside_by : (given points : List (List ℤ)) → points ≡ different given → (AreOnOnePlane points → ⊥) → (q : Coordinates) → pos 0 <ℤ q.w → IsInside (hull_of given) q ↔ IsInnerCombination (different given) q
 inside_by given points e solid q hw = inside_where_combined (different given) (subst (λ ps. AreOnOnePlane ps → ⊥) e solid) q hw
+
+-- ---- points with a hull
+pub hull_is_shape : (given : List (List ℤ)) → HaveHull given → IsShape (hull_of given)
+hull_is_shape given h = shape_of (hull_of given) (shape_by given (different given) (faces_of (different given)) refl h.range h.solid refl)
+
+pub hull_inside : (given : List (List ℤ)) → HaveHull given → (q : Coordinates) → pos 0 <ℤ q.w → IsInside (hull_of given) q ↔ IsInnerCombination (different given) q
+hull_inside given h = inside_by given (different given) refl h.solid

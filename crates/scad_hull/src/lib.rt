@@ -9,4 +9,4 @@ mod points;
 mod triples;
 
 pub use hull::hull_shape;
-pub use laws::different_points_ascend;
+pub use laws::{different_points_ascend, hulls_hold_inner_combinations};

@@ -22,17 +22,19 @@ use Rattle.scad_func.specs.Meaning.{Outcome, Gives, Faults, then_with, Env, Oute
 use Rattle.scad_modules.specs.declared.table.BuiltinModule.{BuiltinModule}
 use Rattle.scad_modules.specs.declared.table.BuiltinModule.TheVariants.{Echo}
 use Rattle.scad_modules.specs.Table.{module_named, parameters_of}
-use Rattle.scad_modules.specs.Effects.{EffectCall, a_solid, a_flat, a_move, a_join, an_extrusion, silence, some_children, FlatCall, ChosenCall}
+use Rattle.scad_modules.specs.Effects.{EffectCall, a_solid, a_flat, a_move, a_join, a_hull, an_extrusion, silence, some_children, FlatCall, ChosenCall}
 use Rattle.scad_modules.specs.Calls.{effect_of}
 use Rattle.scad_design.specs.Designs.{Design, empty, a_part, joined, join, joined_within, balanced, grouped, moved_by}
 use Rattle.int_transform.proofs.Ranges.{IsRegular}
 use Rattle.primitives.specs.Sizes.{AreSizes}
 use Rattle.scad_design.specs.Trees.{AreRegular, IsSound}
+use Rattle.scad_hull.proofs.Loops.{hull_is_shape}
 use Rattle.scad_meaning.specs.declared.extrusion.Extrusion.{Extrusion}
-use Rattle.scad_meaning.specs.Verdicts.{Judge, Verdict, IsRight, IsSolidVerdict, IsFlatVerdict, IsHeightVerdict, solid_of, extruded}
+use Rattle.scad_meaning.specs.Hulls.{is_nothing, points_of, hull_mesh}
+use Rattle.scad_meaning.specs.Verdicts.{Judge, Verdict, IsRight, IsSolidVerdict, IsFlatVerdict, IsHeightVerdict, IsHullVerdict, solid_of, extruded}
 use Rattle.scad_meaning.specs.Bodies.{evaluated_in, is_child, children_in, is_marked, says_only, is_bare}
 use Rattle.scad_meaning.specs.Loops.{items_of, chosen_among}
-use Rattle.scad_meaning.specs.Meaning.{Stand, standing, chained, called_from, marked_from, extruding, setting, Made, Members, first_marked, made_nothing, no_members, as_member, and_members, made_of, Makes, assigned_value, assigned, each_assigned, core_of, each_member, each_in_scope, each_in_body, body_made, after_step, each_step, in_loop, each_turn, loop_made, leaf_made, checked, answered_with, module_scope, module_made, each_said, arguments_for, children_made, flat_made, effect_made, built_in_made, call_made, core_made, marked_made, instance_made, made_within, program_stand, or_all, design_of}
+use Rattle.scad_meaning.specs.Meaning.{Stand, standing, chained, called_from, marked_from, extruding, setting, Made, Members, first_marked, made_nothing, no_members, as_member, and_members, made_of, Makes, assigned_value, assigned, each_assigned, core_of, each_member, each_in_scope, each_in_body, body_made, after_step, each_step, in_loop, each_turn, loop_made, leaf_made, checked, hulled, hull_made, answered_with, module_scope, module_made, each_said, arguments_for, children_made, flat_made, effect_made, built_in_made, call_made, core_made, marked_made, instance_made, made_within, program_stand, or_all, design_of}
 use Rattle.scad_meaning.proofs.Choosing.{all_chosen}
 use Rattle.scad_meaning.proofs.HeldPlaces.{if_keeps, Whatever, Held, first_held, rest_held, ModuleHeld, ScopeHeld, CallHeld, module_found, call_found, variable_held, functions_held, modules_held, entered_held, body_held, AssignedHeld, assignments_held, InstanceHeld, evaluated_held, Keeps, then_keeps, skip_keeps, some_keeps, turn_keeps, call_keeps}
 use Rattle.scad_meaning.proofs.SoundShapes.{HasFlatSides, IsSoundCall, effect_sound, solid_is_shape, extruded_is_shape}
@@ -272,6 +274,16 @@ module _ (P : Place → Type 0) where
             leaf_keeps at (extruded unit through call) turns leaves p
             (extruded_is_shape unit through call i sides (subst (IsFlatVerdict unit call) none (right.flat unit call))))
 
+        hull_keeps : (at : Place) (m : Made) (turns : ℕ) → P at → MadeHeld m → Keeps P MadeHeld (hull_made (judge.hull m.design) at m turns)
+        hull_keeps at m turns p k =
+            let next : Outcome Made = then_with (leaf_made at (hull_mesh m.design) turns m.leaves) (λ turns leaf. Gives turns (hulled m leaf)) in
+            if_keeps (Keeps P MadeHeld) (is_nothing m.design) (Gives turns m) (checked (judge.hull m.design) at next) k
+            (checked_keeps MadeHeld (judge.hull m.design) at next p (λ none.
+            then_keeps P MadeHeld MadeHeld (leaf_made at (hull_mesh m.design) turns m.leaves) _
+            (leaf_keeps at (hull_mesh m.design) turns m.leaves p
+            (hull_is_shape (points_of m.design) (subst (IsHullVerdict m.design) none (right.hull m.design)).points))
+            (λ turns leaf g. (g.0, k.1))))
+
         call_effect_keeps : (here : Stand) (at : Place) (effect : EffectCall) (body : BodyTerm) (turns leaves : ℕ) → P at
             → Held P (places_of_body body) → StandHeld here → IsSoundCall effect
             → Keeps P MadeHeld (effect_made unit judge left make here at effect body turns leaves)
@@ -284,6 +296,9 @@ module _ (P : Place → Type 0) where
             then_keeps P MadeHeld MadeHeld (body_made left make Union here body turns leaves) _ (body_keeps Union here body turns leaves s h)
             (λ turns m k. (moved_held steps m.design sound k.0, k.1))
         call_effect_keeps here at (a_join op) body turns leaves p h s sound = body_keeps op here body turns leaves s h
+        call_effect_keeps here at a_hull body turns leaves p h s sound =
+            then_keeps P MadeHeld MadeHeld (body_made left make Union here body turns leaves) _ (body_keeps Union here body turns leaves s h)
+            (λ turns m k. hull_keeps at m turns p k)
         call_effect_keeps here at (an_extrusion center height) body turns leaves p h s sound =
             checked_keeps MadeHeld (judge.height unit center height) at
             (body_made left make Union (extruding here (record { center = center; height = height })) body turns leaves) p (λ none.

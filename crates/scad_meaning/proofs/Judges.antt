@@ -5,7 +5,7 @@ use Rattle.std.proofs.lemmas.List.{get_or_default}
 use Rattle.text_place.specs.declared.fault.FaultKind.{FaultKind}
 use Rattle.text_place.specs.declared.fault.FaultKind.TheVariants.{BadSize, NotOnGrid, TooLarge, OutOfRange, LongList, FewPoints, NotConvex}
 use Rattle.plane_predicate.specs.declared.unit.Unit.{Unit as LengthUnit}
-use Rattle.plane_predicate.specs.Space.{Coefficients, Coordinates, point_at, opposite_of, inner, through, AreCollinear}
+use Rattle.plane_predicate.specs.Space.{Coefficients, point_at, opposite_of, inner, through}
 use Rattle.shape_planes.specs.Shapes.{Mesh, corner, value_at, HasTriangle, IsInRange as IsPointInRange, IsOnOnePlane}
 use Rattle.primitives.specs.Sizes.{AreSizes, IsSizeFault, IsLong, IsEven, IsSafe, AreOnGrid, grid_steps}
 use Rattle.primitives.specs.Polygons.{polygon_of, IsPolygon, IsPolygonFault, IsInRange, IsConvex, GoesLeft, GoesRight, HasCorner, turn, point, after, x_of, y_of}
@@ -21,7 +21,10 @@ use Rattle.polyhedra.proofs.Planes.{flat_by, flat_on}
 use Rattle.polyhedra.proofs.OuterPlanes.{one_plane, bounded_spanned, bounded_opposite}
 use Rattle.polyhedra.proofs.Solids.{convex_by}
 use Rattle.scad_modules.specs.Effects.{SolidCall, cube_call, polyhedron_call, cylinder_call, FlatCall, square_call, polygon_call, circle_call}
-use Rattle.scad_meaning.specs.Verdicts.{Verdict, Judge, IsRight, IsSolidVerdict, IsFlatVerdict, IsHeightVerdict}
+use Rattle.scad_design.specs.Designs.{Design}
+use Rattle.scad_meaning.specs.Verdicts.{Verdict, Judge, IsRight, IsSolidVerdict, IsFlatVerdict, IsHeightVerdict, IsHullVerdict}
+use Rattle.scad_meaning.proofs.HullVerdicts.{hull_verdict, HullVerdict}
+use Rattle.scad_meaning.proofs.Triangles.{decided_point_range, at_place, decided_triangle}
 use Rattle.scad_design.proofs.Deciding.{Decided, decided_by, decided_both, decided_either, decided_not, decided_at_most, decided_same, decided_at_most_ℤ, decided_same_ℤ, decided_same_list, decided_all_below, decided_some_below, all_or_any, decided_all, decided_any, decided_below, decided_less_ℤ, all_or_one_below, at_most_or_more}
 
 -- sides and heights
@@ -182,36 +185,7 @@ decided_enough faces =
 decided_there : (points : ℕ) (faces : List (List ℕ)) → Decided (AreThere points faces)
 decided_there points faces = decided_all (λ f. All (λ i. i < points) f) (λ f. decided_all (λ i. i < points) (λ i. decided_below i points) f) faces
 
-decided_point_range : (p : Coordinates) → Decided (IsPointInRange p)
-decided_point_range p =
-    decided_by (λ h. record { x_size = h.0; y_size = h.1.0; z_size = h.1.1 }) (λ h. (h.x_size, (h.y_size, h.z_size)))
-    (decided_both (decided_at_most (unsigned_abs p.x) 65535)
-    (decided_both (decided_at_most (unsigned_abs p.y) 65535) (decided_at_most (unsigned_abs p.z) 65535)))
-
 -- a face whose corners don't lie on one line spans a plane
-decided_collinear : (p q r : Coordinates) → Decided (AreCollinear p q r)
-decided_collinear p q r =
-    decided_by (λ h. record { a = h.0; b = h.1.0; c = h.1.1 }) (λ h. (h.a, (h.b, h.c)))
-    (decided_both (decided_same_ℤ (through p q r).a (pos 0))
-    (decided_both (decided_same_ℤ (through p q r).b (pos 0)) (decided_same_ℤ (through p q r).c (pos 0))))
-
-abbrev at_place : List (List ℤ) → List ℕ → ℕ → Coordinates
-at_place points face i = corner points (get_or face i 0)
-
-abbrev SomeTriangle : List (List ℤ) → List ℕ → Type 0
-SomeTriangle points face = (i : ℕ) × (i < length face) × ((j : ℕ) × (j < length face) × ((k : ℕ) × (k < length face)
-    × (AreCollinear (at_place points face i) (at_place points face j) (at_place points face k) → ⊥)))
-
-decided_triangle : (points : List (List ℤ)) (face : List ℕ) → Decided (HasTriangle points face)
-decided_triangle points face =
-    decided_by {P = SomeTriangle points face}
-    (λ h. record { first = h.0; second = h.2.0; third = h.2.2.0; first_in = h.1; second_in = h.2.1; third_in = h.2.2.1; apart = h.2.2.2 })
-    (λ h. (h.first, h.first_in, (h.second, h.second_in, (h.third, h.third_in, h.apart))))
-    (decided_some_below (length face) (λ i. (j : ℕ) × (j < length face) × ((k : ℕ) × (k < length face) × (AreCollinear (at_place points face i) (at_place points face j) (at_place points face k) → ⊥)))
-    (λ i h. decided_some_below (length face) (λ j. (k : ℕ) × (k < length face) × (AreCollinear (at_place points face i) (at_place points face j) (at_place points face k) → ⊥))
-    (λ j h. decided_some_below (length face) (λ k. AreCollinear (at_place points face i) (at_place points face j) (at_place points face k) → ⊥)
-    (λ k h. decided_not (decided_collinear (at_place points face i) (at_place points face j) (at_place points face k))))))
-
 abbrev plane_by : (points : List (List ℤ)) (face : List ℕ) → HasTriangle points face → Coefficients
 plane_by points face t = through (at_place points face t.first) (at_place points face t.second) (at_place points face t.third)
 
@@ -398,8 +372,17 @@ flat_right unit (square_call center size) = square_right unit center size (size_
 flat_right unit (polygon_call points) = polygon_right unit points (polygon_verdict unit points)
 flat_right unit (circle_call radius) = circle_right unit radius (circle_verdict unit radius)
 
+hull_right : (design : Design) (v : HullVerdict design) → IsHullVerdict design (told v)
+hull_right design (inl h) = h
+hull_right design (inr f) = f.1
+
 abbrev the_judge : Judge
-the_judge = record { solid = judged_solid; flat = judged_flat; height = λ unit center height. told (size_verdict unit center (height ∷ [])) }
+the_judge = record {
+  solid = judged_solid;
+  flat = judged_flat;
+  height = λ unit center height. told (size_verdict unit center (height ∷ []));
+  hull = λ design. told (hull_verdict design);
+}
 
 pub some_judge : (judge : Judge) × IsRight judge
 some_judge = (
@@ -408,5 +391,6 @@ some_judge = (
     solid = solid_right;
     flat = flat_right;
     height = λ unit center height. height_right unit center height (size_verdict unit center (height ∷ []));
+    hull = λ design. hull_right design (hull_verdict design);
   },
 )

@@ -17,24 +17,24 @@ use Rattle.scad_design.specs.Designs.{Design, empty, a_part, joined}
 use Rattle.scad_meaning.specs.Verdicts.{Judge}
 use Rattle.scad_meaning.specs.Meaning.{Members, each_in_scope, program_stand, made_within, design_of}
 
-abbrev at : ℕ → ℕ → Place
+abbrev pub at : ℕ → ℕ → Place
 at line column = record { line = line; column = column }
 
 -- a judge that finds nothing wrong
-abbrev lenient : Judge
-lenient = record { solid = λ _ _. None; flat = λ _ _. None; height = λ _ _ _. None }
+abbrev pub lenient : Judge
+lenient = record { solid = λ _ _. None; flat = λ _ _. None; height = λ _ _ _. None; hull = λ _. None }
 
-abbrev meaning : StatementTerms → Outcome Design
+abbrev pub meaning : StatementTerms → Outcome Design
 meaning p = design_of Whole lenient first_chain p
 
 -- a design by the points of its shapes in world position
-data Seen : Type 0 where
+pub data Seen : Type 0 where
   nothing_seen : Seen
   points_seen : (points : List (List ℤ)) → (faces : List (List ℕ)) → Seen
   both_seen : (op : Op) → (left right : Seen) → Seen
   fault_seen : Seen
 
-abbrev seen : Design → Seen
+abbrev pub seen : Design → Seen
 seen empty = nothing_seen
 seen (a_part part) = points_seen (map (λ p. coordinates (image (map_of part.steps) (point_at p))) part.mesh.points) part.mesh.faces
 seen (joined op left right) = both_seen op (seen left) (seen right)
@@ -44,14 +44,14 @@ turns_in (Gives turns design) = turns
 turns_in (Faults kind at) = 0
 
 -- from so many turns and leaves on
-abbrev is_given : {A : Type 0} → Outcome A → Bool
+abbrev pub is_given : {A : Type 0} → Outcome A → Bool
 is_given (Gives turns x) = true
 is_given (Faults kind at) = false
 
-abbrev begun : ℕ → ℕ → StatementTerms → Outcome Members
+abbrev pub begun : ℕ → ℕ → StatementTerms → Outcome Members
 begun turns leaves p = each_in_scope 512 (made_within Whole lenient 512) (program_stand first_chain p) p turns leaves
 
-abbrev seen_in : Outcome Design → Seen
+abbrev pub seen_in : Outcome Design → Seen
 seen_in (Gives turns design) = seen design
 seen_in (Faults kind at) = fault_seen
 

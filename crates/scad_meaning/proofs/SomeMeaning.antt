@@ -16,7 +16,7 @@ use Rattle.scad_meaning.specs.Sources.{Meaning, a_tree, a_fault, IsMeaning, IsMe
 use Rattle.scad_meaning.proofs.HeldPlaces.{Keeps}
 use Rattle.scad_meaning.proofs.InstancePlaces.{DesignHeld}
 use Rattle.scad_meaning.proofs.ProgramPlaces.{program_keeps}
-use Rattle.scad_meaning.proofs.Verdicts.{one_solid_verdict, one_flat_verdict, one_height_verdict}
+use Rattle.scad_meaning.proofs.Verdicts.{one_solid_verdict, one_flat_verdict, one_height_verdict, one_hull_verdict}
 
 -- two judges that are always right are one
 same_judge : (j k : Judge) → IsRight j → IsRight k → j ≡ k
@@ -25,7 +25,8 @@ same_judge j k right also =
     let flat : j.flat ≡ k.flat = fun_ext (λ unit. fun_ext (λ call. one_flat_verdict unit call (j.flat unit call) (k.flat unit call) (right.flat unit call) (also.flat unit call))) in
     let height : j.height ≡ k.height = fun_ext (λ unit. fun_ext (λ center. fun_ext (λ height.
     one_height_verdict unit center height (j.height unit center height) (k.height unit center height) (right.height unit center height) (also.height unit center height)))) in
-    λ i. record { solid = solid i; flat = flat i; height = height i }
+    let hull : j.hull ≡ k.hull = fun_ext (λ design. one_hull_verdict design (j.hull design) (k.hull design) (right.hull design) (also.hull design)) in
+    λ i. record { solid = solid i; flat = flat i; height = height i; hull = hull i }
 
 abbrev pub SomePlacing : Type 0
 SomePlacing = (design : Design) (known : List Coefficients) → IsSound design → (out : Placed) × Places design known out

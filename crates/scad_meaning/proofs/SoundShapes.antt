@@ -34,8 +34,8 @@ use Rattle.polyhedra.proofs.Solids.{shape_of}
 use Rattle.scad_value.specs.Values.{Val, NumberVal, truth_of}
 use Rattle.scad_value.specs.Operators.{Answer}
 use Rattle.scad_modules.specs.declared.table.BuiltinModule.{BuiltinModule}
-use Rattle.scad_modules.specs.declared.table.BuiltinModule.TheVariants.{Cube, Polyhedron, Cylinder, Square, Polygon, Circle, LinearExtrude, Translate, Rotate, Mirror, Scale, Multmatrix, Union, Difference, Intersection, Color, Render, Echo, Assert, Children}
-use Rattle.scad_modules.specs.Effects.{SolidCall, cube_call, polyhedron_call, cylinder_call, FlatCall, square_call, polygon_call, circle_call, EffectCall, a_solid, a_flat, a_move, a_join, an_extrusion, silence, some_children, ChosenCall, all_children}
+use Rattle.scad_modules.specs.declared.table.BuiltinModule.TheVariants.{Cube, Polyhedron, Cylinder, Square, Polygon, Circle, LinearExtrude, Translate, Rotate, Mirror, Scale, Multmatrix, Union, Difference, Intersection, Hull, Color, Render, Echo, Assert, Children}
+use Rattle.scad_modules.specs.Effects.{SolidCall, cube_call, polyhedron_call, cylinder_call, FlatCall, square_call, polygon_call, circle_call, EffectCall, a_solid, a_flat, a_move, a_join, a_hull, an_extrusion, silence, some_children, ChosenCall, all_children}
 use Rattle.scad_modules.specs.Reading.{Slots, slot, number_in, truth_in, numbers_in, of_length, sides_in, coordinates_in, points_in, faces_in, or_default, required, refused_where, of_type}
 use Rattle.scad_modules.specs.Transforms.{part, is_zero, is_past, on_grid, some_part, leaves_plane, angles_in, is_skew, quarters_of, tilts_plane, turns_of, axis_of, along, factors_in, factors_for, rows_in, some_row, is_past_matrix, leaves_plane_by, rows_on_grid, moves_past}
 use Rattle.scad_modules.specs.Calls.{chosen_in, effect_of}
@@ -61,6 +61,7 @@ IsSoundCall (a_solid call) = HasSides call
 IsSoundCall (a_flat call) = HasFlatSides call
 IsSoundCall (a_move steps) = AreRegular steps
 IsSoundCall (a_join op) = Unit {0}
+IsSoundCall a_hull = Unit {0}
 IsSoundCall (an_extrusion center height) = Unit {0}
 IsSoundCall silence = Unit {0}
 IsSoundCall (some_children chosen) = Unit {0}
@@ -353,6 +354,7 @@ effect_sound unit inside fragments Multmatrix slots = matrix_sound unit inside (
 effect_sound unit inside fragments Union slots = tt
 effect_sound unit inside fragments Difference slots = tt
 effect_sound unit inside fragments Intersection slots = tt
+effect_sound unit inside fragments Hull slots = refused_sound inside WrongDimension (Ok a_hull) (λ _. tt)
 effect_sound unit inside fragments Color slots = tt
 effect_sound unit inside fragments Render slots = tt
 effect_sound unit inside fragments Echo slots = tt

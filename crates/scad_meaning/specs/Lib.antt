@@ -1,3 +1,4 @@
+pub mod Hulls
 pub mod Verdicts
 pub mod Bodies
 pub mod Loops

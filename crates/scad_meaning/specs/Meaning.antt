@@ -17,10 +17,11 @@ use Rattle.scad_func.specs.Meaning.{Outcome, Gives, Faults, then_with, or_fault,
 use Rattle.scad_modules.specs.declared.table.BuiltinModule.{BuiltinModule}
 use Rattle.scad_modules.specs.declared.table.BuiltinModule.TheVariants.{Echo}
 use Rattle.scad_modules.specs.Table.{module_named, is_left_out, parameters_of}
-use Rattle.scad_modules.specs.Effects.{EffectCall, a_solid, a_flat, a_move, a_join, an_extrusion, silence, some_children, FlatCall, ChosenCall}
+use Rattle.scad_modules.specs.Effects.{EffectCall, a_solid, a_flat, a_move, a_join, a_hull, an_extrusion, silence, some_children, FlatCall, ChosenCall}
 use Rattle.scad_modules.specs.Calls.{effect_of}
 use Rattle.scad_design.specs.Designs.{Design, empty, a_part, balanced, grouped, moved_by}
 use Rattle.scad_meaning.specs.declared.extrusion.Extrusion.{Extrusion}
+use Rattle.scad_meaning.specs.Hulls.{is_nothing, hull_mesh}
 use Rattle.scad_meaning.specs.Verdicts.{Judge, Verdict, solid_of, extruded}
 use Rattle.scad_meaning.specs.Bodies.{evaluated_in, children_in, is_marked, says_only, is_bare}
 use Rattle.scad_meaning.specs.Loops.{items_of, chosen_among}
@@ -182,6 +183,17 @@ abbrev pub checked : {A : Type 0} → Verdict → Place → Outcome A → Outcom
 checked None at next = next
 checked (Some kind) at next = Faults kind at
 
+-- the hull of what children give, as one leaf more behind theirs, in place of their design; where that is nothing, there is no
+-- hull
+abbrev pub hulled : Made → Made → Made
+hulled m leaf = record { leaves = leaf.leaves; design = leaf.design; marked = m.marked }
+
+abbrev pub hull_made : Verdict → Place → Made → ℕ → Outcome Made
+hull_made verdict at m turns =
+    if is_nothing m.design then Gives turns m
+    else checked verdict at
+    (then_with (leaf_made at (hull_mesh m.design) turns m.leaves) (λ turns leaf. Gives turns (hulled m leaf)))
+
 abbrev pub answered_with : {A B : Type 0} → Answer A → Place → (A → Outcome B) → Outcome B
 answered_with (Ok x) at go = go x
 answered_with (Err kind) at go = Faults kind at
@@ -262,6 +274,8 @@ module _ (unit : LengthUnit) (judge : Judge) where
   effect_made left make here at (a_move steps) body turns leaves =
       then_with (body_made left make Union here body turns leaves) (λ turns m. Gives turns (made_moved (moved_by steps) m))
   effect_made left make here at (a_join op) body turns leaves = body_made left make op here body turns leaves
+  effect_made left make here at a_hull body turns leaves =
+      then_with (body_made left make Union here body turns leaves) (λ turns m. hull_made (judge.hull m.design) at m turns)
   effect_made left make here at (an_extrusion center height) body turns leaves =
       checked (judge.height unit center height) at
       (body_made left make Union (extruding here (record { center = center; height = height })) body turns leaves)

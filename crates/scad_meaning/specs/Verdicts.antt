@@ -1,4 +1,4 @@
--- What is wrong with the sizes and points of a shape, and the shape where nothing is.
+-- What is wrong with the sizes and points of a shape or with a hull, and the shape where nothing is.
 use Rattle.std.specs.Prelude.{ℤ, Bool, List, [], ◌∷◌, Option, Some, None}
 use Rattle.text_place.specs.declared.fault.FaultKind.{FaultKind}
 use Rattle.plane_predicate.specs.declared.unit.Unit.{Unit as LengthUnit}
@@ -10,19 +10,22 @@ use Rattle.primitives.specs.Prisms.{extrusion_of}
 use Rattle.round_four.specs.Circles.{circle_of, IsCircleSize, IsCircleFault}
 use Rattle.round_four.specs.Cylinders.{cylinder_of, AreCylinderSizes, IsCylinderFault}
 use Rattle.polyhedra.specs.Polyhedra.{mesh_of, IsPolyhedron, IsFaultOf, checks, faults}
+use Rattle.scad_design.specs.Designs.{Design}
 use Rattle.scad_meaning.specs.declared.extrusion.Extrusion.{Extrusion}
+use Rattle.scad_meaning.specs.Hulls.{HasHull, IsHullFault}
 use Rattle.scad_modules.specs.Effects.{SolidCall, cube_call, polyhedron_call, cylinder_call, FlatCall, square_call, polygon_call, circle_call}
 
 -- the first check of shapes that fails, or none
 abbrev pub Verdict : Type 0
 Verdict = Option FaultKind
 
--- For each shape and height what is wrong with it. Whether points make a convex polygon or polyhedron is told by relations,
--- so a judge is any function that tells it rightly
+-- For each shape, height and hull what is wrong with it. Whether points make a convex polygon or polyhedron, or lie on one
+-- plane, is told by relations, so a judge is any function that tells it rightly
 pub record Judge : Type 0 where
   pub solid : LengthUnit → SolidCall → Verdict
   pub flat : LengthUnit → FlatCall → Verdict
   pub height : LengthUnit → Bool → ℤ → Verdict
+  pub hull : Design → Verdict
 
 abbrev pub IsSolidVerdict : LengthUnit → SolidCall → Verdict → Type 0
 IsSolidVerdict unit (cube_call center size) None = AreSizes unit center size
@@ -44,11 +47,16 @@ abbrev pub IsHeightVerdict : LengthUnit → Bool → ℤ → Verdict → Type 0
 IsHeightVerdict unit center height None = AreSizes unit center (height ∷ [])
 IsHeightVerdict unit center height (Some kind) = IsSizeFault unit center (height ∷ []) kind
 
+abbrev pub IsHullVerdict : Design → Verdict → Type 0
+IsHullVerdict design None = HasHull design
+IsHullVerdict design (Some kind) = IsHullFault design kind
+
 -- a judge that is always right
 pub record IsRight (judge : Judge) : Type 0 where
   pub solid : (unit : LengthUnit) (call : SolidCall) → IsSolidVerdict unit call (judge.solid unit call)
   pub flat : (unit : LengthUnit) (call : FlatCall) → IsFlatVerdict unit call (judge.flat unit call)
   pub height : (unit : LengthUnit) (center : Bool) (height : ℤ) → IsHeightVerdict unit center height (judge.height unit center height)
+  pub hull : (design : Design) → IsHullVerdict design (judge.hull design)
 
 -- the shape with nothing wrong, in grid steps
 abbrev pub solid_of : LengthUnit → SolidCall → Mesh

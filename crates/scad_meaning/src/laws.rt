@@ -1,6 +1,6 @@
 //! Laws of the meaning of sources, on functions that do nothing.
 
-ghost use Rattle.std.specs.Prelude.{◌≡◌, ℤ, Bool, true, List};
+ghost use Rattle.std.specs.Prelude.{◌≡◌, ◌↔◌, ℤ, ◌<ℤ◌, pos, Bool, true, List, None};
 ghost use Rattle.std.specs.List.{AllByRecursion};
 ghost use Rattle.text_place.specs.declared.fault.Place.{Place};
 ghost use Rattle.text_place.specs.declared.fault.FaultKind.{FaultKind};
@@ -9,11 +9,18 @@ ghost use Rattle.scad_ast.specs.Places.{HoldsPlace};
 ghost use Rattle.scad_scope.specs.Blocks.{assigned_in, assignments_of};
 ghost use Rattle.scad_meaning.specs.Bodies.{StandsForAll, HaveOwnNames, is_named_in};
 ghost use Rattle.plane_predicate.specs.declared.unit.Unit.{Unit as LengthUnit};
+ghost use Rattle.plane_predicate.specs.Space.{Coordinates};
+ghost use Rattle.shape_planes.specs.Shapes.{IsInside};
+ghost use Rattle.scad_hull.specs.Combinations.{IsInnerCombination};
+ghost use Rattle.scad_hull.specs.Hulls.{different};
+ghost use Rattle.scad_meaning.specs.Hulls.{hull_mesh, points_of};
 ghost use Rattle.scad_modules.specs.Effects.{SolidCall, FlatCall};
-ghost use Rattle.scad_meaning.specs.Verdicts.{Verdict, Judge, IsRight, IsSolidVerdict, IsFlatVerdict, IsHeightVerdict};
+ghost use Rattle.scad_design.specs.Designs.{Design};
+ghost use Rattle.scad_meaning.specs.Verdicts.{Verdict, Judge, IsRight, IsSolidVerdict, IsFlatVerdict, IsHeightVerdict, IsHullVerdict};
 ghost use Rattle.scad_meaning.specs.Sources.{Meaning, a_fault, IsMeaning};
 
 use scad_design::{one_placing, some_placing};
+use scad_hull::hulls_hold_inner_combinations;
 
 /// The last assignment of a name in a scope counts everywhere in it (OpenSCAD User Manual, "Variables"): of all
 /// assignments of a body, those that are evaluated have each name once, with its last expression, in the place of its
@@ -24,8 +31,8 @@ pub fn last_assignments_count()
     ensures all { (statements : StatementTerms) → AllByRecursion (λ a. is_named_in (assignments_of statements) a ≡ true) (assigned_in statements) }
 {}
 
-/// What is wrong with a shape, or with the height of an extrusion, is one thing: some judge is always right, and no two
-/// verdicts are.
+/// What is wrong with a shape, with the height of an extrusion or with a hull is one thing: some judge is always right, and
+/// no two verdicts are.
 pub fn shapes_have_one_verdict()
     ensures some { (judge : Judge) × IsRight judge }
     ensures solids { (unit : LengthUnit) (call : SolidCall) (v w : Verdict) →
@@ -34,7 +41,17 @@ pub fn shapes_have_one_verdict()
         IsFlatVerdict unit call v → IsFlatVerdict unit call w → v ≡ w }
     ensures heights { (unit : LengthUnit) (center : Bool) (height : ℤ) (v w : Verdict) →
         IsHeightVerdict unit center height v → IsHeightVerdict unit center height w → v ≡ w }
+    ensures hulls { (design : Design) (v w : Verdict) → IsHullVerdict design v → IsHullVerdict design w → v ≡ w }
 {}
+
+/// Where nothing is wrong with the hull of what children give, a point is strictly behind all of its faces exactly where it is
+/// a combination, with weights above 0, of the points of their leaves, each moved by its leaf's steps.
+pub fn hulls_in_programs_hold_inner_combinations()
+    ensures { (judge : Judge) → IsRight judge → (design : Design) → judge.hull design ≡ None → (q : Coordinates) → pos 0 <ℤ q.w →
+        IsInside (hull_mesh design) q ↔ IsInnerCombination (different (points_of design)) q }
+{
+    hulls_hold_inner_combinations();
+}
 
 /// A program has one meaning at most in each unit: one tree, or one first fault.
 pub fn one_meaning()

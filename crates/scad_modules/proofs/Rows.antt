@@ -9,8 +9,8 @@ use Rattle.int_transform.specs.Maps.{identity, moving, scaling, mirroring, quart
 use Rattle.scad_value.specs.Values.{Val, NumberVal, TruthVal, TextVal, ListVal, RangeVal, UndefVal, vals_from}
 use Rattle.scad_value.specs.Operators.{Answer}
 use Rattle.scad_modules.specs.declared.table.BuiltinModule.{BuiltinModule}
-use Rattle.scad_modules.specs.declared.table.BuiltinModule.TheVariants.{Cube, Polyhedron, Cylinder, Square, Polygon, Circle, LinearExtrude, Translate, Rotate, Mirror, Scale, Multmatrix, Union, Color, Echo, Assert, Children}
-use Rattle.scad_modules.specs.Effects.{EffectCall, a_solid, a_flat, a_move, a_join, an_extrusion, silence, some_children, cube_call, polyhedron_call, cylinder_call, square_call, polygon_call, circle_call, all_children, numbered, ranged}
+use Rattle.scad_modules.specs.declared.table.BuiltinModule.TheVariants.{Cube, Polyhedron, Cylinder, Square, Polygon, Circle, LinearExtrude, Translate, Rotate, Mirror, Scale, Multmatrix, Union, Hull, Color, Echo, Assert, Children}
+use Rattle.scad_modules.specs.Effects.{EffectCall, a_solid, a_flat, a_move, a_join, a_hull, an_extrusion, silence, some_children, cube_call, polyhedron_call, cylinder_call, square_call, polygon_call, circle_call, all_children, numbered, ranged}
 use Rattle.scad_modules.specs.Table.{module_named, is_left_out}
 use Rattle.scad_modules.specs.Calls.{effect_of}
 
@@ -255,9 +255,15 @@ extruded_in_slices = refl
 extruded_twice : inside LinearExtrude (given 1 ∷ None ∷ None ∷ None ∷ None ∷ None ∷ []) ≡ Err WrongDimension
 extruded_twice = refl
 
--- union(), color("red"), echo(), assert(0), assert(), assert(true, "")
+-- union(), hull(), hull() inside an extrusion, color("red"), echo(), assert(0), assert(), assert(true, "")
 joined : outside Union [] ≡ Ok (a_join ops.Union)
 joined = refl
+
+hulled : outside Hull [] ≡ Ok a_hull
+hulled = refl
+
+hulled_inside : inside Hull [] ≡ Err WrongDimension
+hulled_inside = refl
 
 colored : inside Color (Some (TextVal (codes "red")) ∷ None ∷ []) ≡ Ok (a_join ops.Union)
 colored = refl
@@ -297,8 +303,14 @@ scale_is_known = refl
 sphere_is_unknown : module_named (codes "sphere") ≡ None
 sphere_is_unknown = refl
 
-hull_is_left_out : is_left_out (codes "hull") ≡ true
-hull_is_left_out = refl
+hull_is_known : module_named (codes "hull") ≡ Some Hull
+hull_is_known = refl
+
+hull_is_not_left_out : is_left_out (codes "hull") ≡ false
+hull_is_not_left_out = refl
+
+minkowski_is_left_out : is_left_out (codes "minkowski") ≡ true
+minkowski_is_left_out = refl
 
 cylinder_is_not_left_out : is_left_out (codes "cylinder") ≡ false
 cylinder_is_not_left_out = refl

@@ -2,7 +2,7 @@
 use Rattle.std.specs.Prelude.{Bool, true, ◌&&◌, [], ◌∷◌, Option, Some, None, All}
 use Rattle.primitives.specs.Sizes.{IsSafe}
 use Rattle.scad_value.specs.Values.{Val, is_bounded}
-use Rattle.scad_modules.specs.Effects.{SolidCall, cube_call, polyhedron_call, cylinder_call, FlatCall, square_call, polygon_call, circle_call, ChosenCall, all_children, numbered, ranged, EffectCall, a_solid, a_flat, a_move, a_join, an_extrusion, silence, some_children}
+use Rattle.scad_modules.specs.Effects.{SolidCall, cube_call, polyhedron_call, cylinder_call, FlatCall, square_call, polygon_call, circle_call, ChosenCall, all_children, numbered, ranged, EffectCall, a_solid, a_flat, a_move, a_join, a_hull, an_extrusion, silence, some_children}
 use Rattle.scad_modules.specs.Reading.{Slots}
 
 -- each value that is given is bounded
@@ -36,6 +36,7 @@ IsSafeCall (a_solid solid) = IsSafeSolid solid
 IsSafeCall (a_flat flat) = IsSafeFlat flat
 IsSafeCall (a_move steps) = Unit {0}
 IsSafeCall (a_join op) = Unit {0}
+IsSafeCall a_hull = Unit {0}
 IsSafeCall (an_extrusion center height) = IsSafe height
 IsSafeCall silence = Unit {0}
 IsSafeCall (some_children chosen) = IsSafeChoice chosen

@@ -1,13 +1,13 @@
 -- What the arguments of a built-in module's call mean, or the first fault that they have together.
 use Rattle.std.specs.Prelude.{Bool, not, [], ◌∷◌, Option, Some, option_map, Ok}
-use Rattle.text_place.specs.declared.fault.FaultKind.TheVariants.{AssertFailed}
+use Rattle.text_place.specs.declared.fault.FaultKind.TheVariants.{AssertFailed, WrongDimension}
 use Rattle.csg_tree.specs.declared.op.Op.TheVariants as ops
 use Rattle.plane_predicate.specs.declared.unit.Unit.{Unit as LengthUnit}
 use Rattle.scad_value.specs.Values.{Val, NumberVal, RangeVal, truth_of}
 use Rattle.scad_value.specs.Operators.{Answer}
 use Rattle.scad_modules.specs.declared.table.BuiltinModule.{BuiltinModule}
-use Rattle.scad_modules.specs.declared.table.BuiltinModule.TheVariants.{Cube, Polyhedron, Cylinder, Square, Polygon, Circle, LinearExtrude, Translate, Rotate, Mirror, Scale, Multmatrix, Union, Difference, Intersection, Color, Render, Echo, Assert, Children}
-use Rattle.scad_modules.specs.Effects.{EffectCall, a_join, silence, some_children, ChosenCall, all_children, numbered, ranged}
+use Rattle.scad_modules.specs.declared.table.BuiltinModule.TheVariants.{Cube, Polyhedron, Cylinder, Square, Polygon, Circle, LinearExtrude, Translate, Rotate, Mirror, Scale, Multmatrix, Union, Difference, Intersection, Hull, Color, Render, Echo, Assert, Children}
+use Rattle.scad_modules.specs.Effects.{EffectCall, a_join, a_hull, silence, some_children, ChosenCall, all_children, numbered, ranged}
 use Rattle.scad_modules.specs.Reading.{Slots, slot, numbers_in, or_default, required, of_type, refused_where}
 use Rattle.scad_modules.specs.Transforms.{translate_call, rotate_call, mirror_call, scale_call, multmatrix_call}
 use Rattle.scad_modules.specs.Shapes.{cube_effect, polyhedron_effect, square_effect, polygon_effect, circle_effect, cylinder_effect, extrude_effect}
@@ -23,6 +23,10 @@ children_effect slots = of_type (or_default all_children chosen_in (slot slots 0
 
 abbrev pub assert_effect : Slots → Answer EffectCall
 assert_effect slots = required (slot slots 0) (λ v. refused_where (not (truth_of v)) AssertFailed (Ok silence))
+
+-- a hull stands inside no extrusion
+abbrev pub hull_effect : Bool → Answer EffectCall
+hull_effect inside = refused_where inside WrongDimension (Ok a_hull)
 
 -- a call's effect, inside an extrusion or not, by the value of `$fn` and the values of its parameters. Its faults come in
 -- this order: a missing argument, one that the profile leaves out, one of another type, the module's own, a wrong
@@ -43,6 +47,7 @@ effect_of unit inside fragments Multmatrix slots = multmatrix_call unit inside s
 effect_of unit inside fragments Union slots = Ok (a_join ops.Union)
 effect_of unit inside fragments Difference slots = Ok (a_join ops.Difference)
 effect_of unit inside fragments Intersection slots = Ok (a_join ops.Intersection)
+effect_of unit inside fragments Hull slots = hull_effect inside
 effect_of unit inside fragments Color slots = Ok (a_join ops.Union)
 effect_of unit inside fragments Render slots = Ok (a_join ops.Union)
 effect_of unit inside fragments Echo slots = Ok silence

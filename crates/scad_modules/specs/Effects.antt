@@ -21,13 +21,14 @@ pub data ChosenCall : Type 0 where
   numbered : (numbers : List ℤ) → ChosenCall
   ranged : (from by upto : ℤ) → ChosenCall
 
--- a shape; its children moved by steps, the first done first, joined by an operation, or extruded; nothing; or
+-- a shape; its children moved by steps, the first done first, joined by an operation, extruded, or their hull; nothing; or
 -- children of the enclosing call
 pub data EffectCall : Type 0 where
   a_solid : (solid : SolidCall) → EffectCall
   a_flat : (flat : FlatCall) → EffectCall
   a_move : (steps : List Affine) → EffectCall
   a_join : (op : Op) → EffectCall
+  a_hull : EffectCall
   an_extrusion : (center : Bool) → (height : ℤ) → EffectCall
   silence : EffectCall
   some_children : (chosen : ChosenCall) → EffectCall

@@ -2,7 +2,7 @@
 use Rattle.std.specs.Prelude.{ℕ, Bool, List, [], ◌∷◌, Option, codes}
 use Rattle.scad_builtin.specs.Builtins.{named_in, is_among}
 use Rattle.scad_modules.specs.declared.table.BuiltinModule.{BuiltinModule}
-use Rattle.scad_modules.specs.declared.table.BuiltinModule.TheVariants.{Cube, Polyhedron, Cylinder, Square, Polygon, Circle, LinearExtrude, Translate, Rotate, Mirror, Scale, Multmatrix, Union, Difference, Intersection, Color, Render, Echo, Assert, Children}
+use Rattle.scad_modules.specs.declared.table.BuiltinModule.TheVariants.{Cube, Polyhedron, Cylinder, Square, Polygon, Circle, LinearExtrude, Translate, Rotate, Mirror, Scale, Multmatrix, Union, Difference, Intersection, Hull, Color, Render, Echo, Assert, Children}
 
 abbrev pub module_named : List ℕ → Option BuiltinModule
 module_named name = named_in
@@ -10,13 +10,13 @@ module_named name = named_in
     ∷ (codes "polygon", Polygon) ∷ (codes "circle", Circle) ∷ (codes "linear_extrude", LinearExtrude)
     ∷ (codes "translate", Translate) ∷ (codes "rotate", Rotate) ∷ (codes "mirror", Mirror) ∷ (codes "scale", Scale)
     ∷ (codes "multmatrix", Multmatrix) ∷ (codes "union", Union) ∷ (codes "difference", Difference)
-    ∷ (codes "intersection", Intersection) ∷ (codes "color", Color) ∷ (codes "render", Render) ∷ (codes "echo", Echo)
-    ∷ (codes "assert", Assert) ∷ (codes "children", Children) ∷ []) name
+    ∷ (codes "intersection", Intersection) ∷ (codes "hull", Hull) ∷ (codes "color", Color) ∷ (codes "render", Render)
+    ∷ (codes "echo", Echo) ∷ (codes "assert", Assert) ∷ (codes "children", Children) ∷ []) name
 
 -- modules of OpenSCAD that the profile leaves out
 abbrev pub is_left_out : List ℕ → Bool
 is_left_out = is_among
-    (codes "sphere" ∷ codes "hull" ∷ codes "minkowski" ∷ codes "offset" ∷ codes "resize" ∷ codes "projection"
+    (codes "sphere" ∷ codes "minkowski" ∷ codes "offset" ∷ codes "resize" ∷ codes "projection"
     ∷ codes "text" ∷ codes "surface" ∷ codes "import" ∷ codes "rotate_extrude" ∷ [])
 
 -- the names of a module's parameters in order; those of `echo` may be any, and it has none of its own
@@ -38,6 +38,7 @@ parameters_of Multmatrix = codes "m" ∷ []
 parameters_of Union = []
 parameters_of Difference = []
 parameters_of Intersection = []
+parameters_of Hull = []
 parameters_of Color = codes "c" ∷ codes "alpha" ∷ []
 parameters_of Render = codes "convexity" ∷ []
 parameters_of Echo = []

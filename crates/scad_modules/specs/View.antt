@@ -16,8 +16,8 @@ use Rattle.scad_modules.specs.declared.effects.FlatShape.TheVariants.{Square, Po
 use Rattle.scad_modules.specs.declared.effects.Chosen.{Chosen}
 use Rattle.scad_modules.specs.declared.effects.Chosen.TheVariants.{All, Numbered, Range}
 use Rattle.scad_modules.specs.declared.effects.Effect.{Effect}
-use Rattle.scad_modules.specs.declared.effects.Effect.TheVariants.{Solid, Flat, Move, Join, Extrusion, Nothing, Children}
-use Rattle.scad_modules.specs.Effects.{SolidCall, cube_call, polyhedron_call, cylinder_call, FlatCall, square_call, polygon_call, circle_call, ChosenCall, all_children, numbered, ranged, EffectCall, a_solid, a_flat, a_move, a_join, an_extrusion, silence, some_children}
+use Rattle.scad_modules.specs.declared.effects.Effect.TheVariants.{Solid, Flat, Move, Join, Hull, Extrusion, Nothing, Children}
+use Rattle.scad_modules.specs.Effects.{SolidCall, cube_call, polyhedron_call, cylinder_call, FlatCall, square_call, polygon_call, circle_call, ChosenCall, all_children, numbered, ranged, EffectCall, a_solid, a_flat, a_move, a_join, a_hull, an_extrusion, silence, some_children}
 use Rattle.scad_modules.specs.Reading.{Slots}
 use Rattle.scad_modules.specs.Bounds.{IsSafeCall}
 
@@ -48,6 +48,7 @@ call_of (Solid shape) = a_solid (solid_of shape)
 call_of (Flat shape) = a_flat (flat_of shape)
 call_of (Move steps) = a_move steps.items
 call_of (Join op) = a_join op
+call_of Hull = a_hull
 call_of (Extrusion height center) = an_extrusion center height
 call_of Nothing = silence
 call_of (Children chosen) = some_children (chosen_of chosen)

@@ -3,7 +3,7 @@
 ghost use Rattle.std.specs.Prelude.{◌≡◌, IsTrue};
 ghost use Rattle.scad_value.specs.View.{val_of};
 ghost use Rattle.scad_modules.specs.Bounds.{are_bounded};
-ghost use Rattle.scad_modules.specs.Calls.{chosen_in, assert_effect, children_effect, effect_of};
+ghost use Rattle.scad_modules.specs.Calls.{chosen_in, assert_effect, children_effect, effect_of, hull_effect};
 ghost use Rattle.scad_modules.specs.Effects.{all_children};
 ghost use Rattle.scad_modules.specs.Reading.{slot, or_default};
 ghost use Rattle.scad_modules.specs.View.{fragments_of, slots_of, chosen_of, ReadsAs, TellsEffect, GivesSafe};
@@ -61,10 +61,22 @@ pub fn effect(
         }
         BuiltinModule::Difference => Ok(Effect::Join(Op::Difference)),
         BuiltinModule::Intersection => Ok(Effect::Join(Op::Intersection)),
+        BuiltinModule::Hull => hull(inside),
         BuiltinModule::Echo => Ok(Effect::Nothing),
         BuiltinModule::Assert => asserted(slots),
         BuiltinModule::Children => children(alloc, slots),
     }
+}
+
+/// The effect of `hull`, or WrongDimension.
+fn hull(inside: bool) -> Result<Effect, ValueStop>
+    ensures effect { TellsEffect result (hull_effect inside) }
+    ensures safe { GivesSafe result }
+{
+    if inside {
+        return Err(ValueStop::Kind(FaultKind::WrongDimension));
+    }
+    Ok(Effect::Hull)
 }
 
 /// The effect of `assert`, or its first fault: BadArgument or AssertFailed.

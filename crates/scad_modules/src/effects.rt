@@ -49,6 +49,8 @@ pub enum Effect {
     Move(Vec<Step>),
     /// Its children joined.
     Join(Op),
+    /// The hull of the union of its children.
+    Hull,
     /// The union of its children, shapes in the plane, extruded by a height in units.
     Extrusion { height: i64, center: bool },
     /// No solid, and no child of the call around it.

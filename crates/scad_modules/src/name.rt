@@ -11,7 +11,7 @@ fn same(known: &[u8], name: &[u8]) -> bool
     known == name
 }
 
-const MODULES: [(&[u8], BuiltinModule); 20] = [
+const MODULES: [(&[u8], BuiltinModule); 21] = [
     (b"cube", BuiltinModule::Cube),
     (b"polyhedron", BuiltinModule::Polyhedron),
     (b"cylinder", BuiltinModule::Cylinder),
@@ -27,6 +27,7 @@ const MODULES: [(&[u8], BuiltinModule); 20] = [
     (b"union", BuiltinModule::Union),
     (b"difference", BuiltinModule::Difference),
     (b"intersection", BuiltinModule::Intersection),
+    (b"hull", BuiltinModule::Hull),
     (b"color", BuiltinModule::Color),
     (b"render", BuiltinModule::Render),
     (b"echo", BuiltinModule::Echo),
@@ -52,9 +53,8 @@ fn named_in(names: &[(&[u8], BuiltinModule)], name: &[u8]) -> Option<BuiltinModu
     None
 }
 
-const LEFT_OUT: [&[u8]; 10] = [
+const LEFT_OUT: [&[u8]; 9] = [
     b"sphere",
-    b"hull",
     b"minkowski",
     b"offset",
     b"resize",

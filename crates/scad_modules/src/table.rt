@@ -19,6 +19,7 @@ pub enum BuiltinModule {
     Union,
     Difference,
     Intersection,
+    Hull,
     Color,
     Render,
     Echo,
@@ -60,6 +61,7 @@ impl BuiltinModule {
             BuiltinModule::Union
             | BuiltinModule::Difference
             | BuiltinModule::Intersection
+            | BuiltinModule::Hull
             | BuiltinModule::Echo => &[],
         }
     }

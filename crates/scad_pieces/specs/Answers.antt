@@ -1,5 +1,6 @@
 -- What the calls that make shapes answer.
 use Rattle.std.specs.Prelude.{◌≡◌, ℤ, List, Some, None, Result, Ok, Err}
+use Rattle.text_place.specs.declared.fault.FaultKind.TheVariants.{TooLarge}
 use Rattle.shape_planes.specs.declared.stop.ShapeStop.{ShapeStop}
 use Rattle.shape_planes.specs.declared.stop.ShapeStop.TheVariants.{Kind, NoMemory}
 use Rattle.shape_planes.specs.Shapes.{Mesh}
@@ -15,3 +16,9 @@ abbrev pub TellsFlat : Result (List (List ℤ)) ShapeStop → Verdict → List (
 TellsFlat (Ok flat) verdict outline = (verdict ≡ None) × (flat ≡ outline)
 TellsFlat (Err (Kind kind)) verdict outline = verdict ≡ Some kind
 TellsFlat (Err NoMemory) verdict outline = Unit {0}
+
+-- TooLarge comes where a part doesn't keep within 2^53 - 1; and memory may run out
+abbrev pub IsPastRange : Type 0 → ShapeStop → Type 0
+IsPastRange safe (Kind TooLarge) = safe → ⊥
+IsPastRange safe (Kind kind) = ⊥
+IsPastRange safe NoMemory = Unit {0}

@@ -152,6 +152,7 @@ fn modules_have_names_and_parameters(rt: HostRuntime) {
         (b"union", 0),
         (b"difference", 0),
         (b"intersection", 0),
+        (b"hull", 0),
         (b"color", 2),
         (b"render", 1),
         (b"echo", 0),
@@ -244,6 +245,10 @@ fn groups_join_and_children_are_chosen(rt: HostRuntime) -> Result<(), Fail> {
     for (module, op) in joins {
         assert!(rt; joins_by(called(&rt, alloc, true, module, &[]), op));
     }
+    let got = called(&rt, alloc, false, BuiltinModule::Hull, &[]);
+    assert!(rt; matches!(got, Ok(Effect::Hull)));
+    let got = called(&rt, alloc, true, BuiltinModule::Hull, &[]);
+    assert!(rt; is_refused(got, FaultKind::WrongDimension));
     let got = called(&rt, alloc, true, BuiltinModule::Echo, &[]);
     assert!(rt; matches!(got, Ok(Effect::Nothing)));
     let held = [Some(Value::Text(Bytes::of(b"a".to_vec(alloc)?)))];

@@ -1,5 +1,5 @@
 use Rattle.scad_meaning.proofs.Judges.{some_judge}
-use Rattle.scad_meaning.proofs.Verdicts.{one_solid_verdict, one_flat_verdict, one_height_verdict}
+use Rattle.scad_meaning.proofs.Verdicts.{one_solid_verdict, one_flat_verdict, one_height_verdict, one_hull_verdict}
 use Rattle.scad_meaning.proofs.laws.shapes_have_one_verdict.Goals as goal
 
 pub returns-clause-some : goal.returns-clause-some
@@ -13,3 +13,6 @@ returns-clause-flats c = one_flat_verdict
 
 pub returns-clause-heights : goal.returns-clause-heights
 returns-clause-heights c = one_height_verdict
+
+pub returns-clause-hulls : goal.returns-clause-hulls
+returns-clause-hulls c = one_hull_verdict

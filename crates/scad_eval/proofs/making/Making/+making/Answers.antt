@@ -24,7 +24,7 @@ use Rattle.scad_func.specs.declared.source.Source.{Source}
 use Rattle.scad_func.specs.declared.arguments.ArgumentValues.{ArgumentValues}
 use Rattle.scad_eval.specs.declared.stand.Stand.{Stand as StandIn}
 use Rattle.scad_eval.specs.Items.{left_in}
-use Rattle.scad_meaning.specs.Meaning.{Stand, Members, Made, Makes, made_within, made_of, made_nothing, as_member, and_members, body_made, children_made as children_at, effect_made as effect_at, each_member, each_step, each_turn, in_loop, module_scope, called_from, chained, standing, setting}
+use Rattle.scad_meaning.specs.Meaning.{Stand, Members, Made, Makes, made_within, made_of, made_nothing, as_member, and_members, body_made, hull_made, children_made as children_at, effect_made as effect_at, each_member, each_step, each_turn, in_loop, module_scope, called_from, chained, standing, setting}
 use Rattle.scad_pieces.specs.Positions.{term_of_numbered, HasBlocks}
 use Rattle.scad_eval.specs.Seen.{members_seen, member_seen, apart}
 use Rattle.scad_eval.specs.declared.making.Making.{Making}
@@ -101,6 +101,12 @@ effect_made-returns-in-Solid-clause-made t c = record {
       along (ap (λ (e : Effect). effect_at m.unit judge l (made_within m.unit judge l) (stand_at m c.args.stand) c.args.place (call_of e) (body_seen c.args.body) m.evaluation.turns m.leaves)
       c.in-Solid.is)
       ((c.solid.ensures.made c.args.stand).by judge right);
+}
+
+pub hulled-returns-clause-made : goal.hulled-returns-clause-made
+hulled-returns-clause-made t c = record {
+  by = λ judge right. then_told (λ turns m. hull_made (judge.hull m.design) c.args.place m turns)
+      (c.in_ok-made.ensures.made.by judge right) ((c.hull.ensures.made c.args.stand).by judge right);
 }
 
 pub instance-returns-in_err-begin_evaluation-clause-made : goal.instance-returns-in_err-begin_evaluation-clause-made

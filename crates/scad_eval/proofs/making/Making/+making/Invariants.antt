@@ -73,6 +73,9 @@ decreases-children_called l = work l.self.now.evaluation.depth + 5
 abbrev pub decreases-moved : goal.decreases-moved
 decreases-moved l = work l.self.now.evaluation.depth + 5
 
+abbrev pub decreases-hulled : goal.decreases-hulled
+decreases-hulled l = work l.self.now.evaluation.depth + 5
+
 abbrev pub decreases-extruded : goal.decreases-extruded
 decreases-extruded l = work l.self.now.evaluation.depth + 5
 
