@@ -9,6 +9,7 @@ mod classes;
 mod cutting;
 mod laws;
 mod listing;
+mod parallels;
 mod planes;
 mod sides;
 mod sorting;
@@ -21,6 +22,7 @@ pub use laws::{
     points_lie_in_the_fan, polygons_by_their_corners, polygons_keep_their_form, within_is_left,
 };
 pub use listing::corners;
+pub use parallels::parallel_side;
 use plane_predicate::Plane;
 pub use sides::{next_index, side_at};
 pub use sorting::{class_from, sort_by};
