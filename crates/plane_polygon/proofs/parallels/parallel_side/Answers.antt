@@ -1,4 +1,3 @@
-use Rattle.std.proofs.Common.{◌≡◌, IfSome}
 use Rattle.plane_polygon.proofs.ParallelPlanes.{all_on_opposite}
 use Rattle.plane_polygon.proofs.parallels.parallel_side.Goals as goal
 

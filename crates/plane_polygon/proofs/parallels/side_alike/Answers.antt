@@ -1,5 +1,4 @@
-use Rattle.std.proofs.Common.{rules, ◌≡◌, ◌∙◌, ℤ}
-use Rattle.plane_polygon.specs.Parallels.{side_past}
+use Rattle.std.proofs.Common.{rules, ◌∙◌}
 use Rattle.plane_polygon.proofs.ParallelPlanes.{same_direction}
 use Rattle.plane_polygon.proofs.parallels.side_alike.Goals as goal
 

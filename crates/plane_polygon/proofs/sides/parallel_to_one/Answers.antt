@@ -1,4 +1,3 @@
-use Rattle.std.proofs.Common.{◌≡◌}
 use Rattle.plane_predicate.specs.Space.{cramer}
 use Rattle.plane_predicate.proofs.Identities.{cramer_on_first, cramer_on_second, cramer_on_third}
 use Rattle.plane_polygon.proofs.ParallelPlanes.{all_on_at}
