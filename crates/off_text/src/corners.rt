@@ -3,13 +3,13 @@
 ghost use Rattle.std.specs.Prelude.{◌≡◌, ◌<◌, ◌<ℤ◌, pos, [], length, OnOk};
 ghost use Rattle.plane_predicate.specs.Space.{cramer, IsPointTimes, IsReduced};
 ghost use Rattle.plane_predicate.specs.InUnits.{in_units};
-ghost use Rattle.plane_polygon.specs.Polygons.{after, corner, AreReducedFrom, IsPolygon};
+ghost use Rattle.plane_polygon.specs.Polygons.{corner, AreReducedFrom, IsPolygon};
 ghost use Rattle.off_text.specs.Texts.{corners_in_units};
 
 use crate::lowest::lowest_terms;
 use crate::vertex::Vertex;
-use plane_polygon::Polygon;
-use plane_predicate::{Plane, Point, Unit, meet};
+use plane_polygon::{Polygon, meeting_of, next_index};
+use plane_predicate::{Plane, Unit};
 use std::alloc::{AllocError, Global};
 use text_place::NoMemory;
 
@@ -63,15 +63,7 @@ fn corner_at(plane: &Plane, edges: &[Plane], i: usize, unit: Unit) -> Vertex
     ensures times { IsPointTimes (in_units unit (corner (record { plane = plane.now; edges = edges.now }) i)) result }
     ensures reduced { IsReduced result }
 {
-    vertex_at(plane, &edges[i], &edges[index_after(i, edges.len())], unit)
-}
-
-/// The index after `i` round a list of `count` items.
-fn index_after(i: usize, count: usize) -> usize
-    requires { i < count }
-    ensures { result ≡ after count i }
-{
-    if i + 1 == count { 0 } else { i + 1 }
+    vertex_at(plane, &edges[i], &edges[next_index(i, edges.len())], unit)
 }
 
 /// The vertex where three planes meet whose determinant is above 0.
@@ -81,13 +73,4 @@ fn vertex_at(p: &Plane, q: &Plane, r: &Plane, unit: Unit) -> Vertex
     ensures reduced { IsReduced result }
 {
     Vertex::of(&lowest_terms(&meeting_of(p, q, r)), unit)
-}
-
-/// The meeting of three planes whose determinant is above 0.
-#[tactic(auto, using(plane_polygon::proofs::CornerSides::positive_meeting, plane_polygon::proofs::CornerSides::positive_apart))]
-fn meeting_of(p: &Plane, q: &Plane, r: &Plane) -> Point
-    requires { pos 0 <ℤ (cramer p.now q.now r.now).w }
-    ensures { result ≡ cramer p.now q.now r.now }
-{
-    meet(p, q, r).unwrap()
 }

@@ -9,6 +9,7 @@ pub mod PartPoints
 pub mod PartCovers
 pub mod Faces
 pub mod CornerSides
+pub mod ParallelPlanes
 pub mod ByCorners
 pub mod Parts
 pub mod BoxStarts

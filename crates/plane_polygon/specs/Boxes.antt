@@ -1,5 +1,5 @@
 -- The polygon that a plane has in the world box.
-use Rattle.std.specs.Prelude.{◌≡◌, not, if◌then◌else◌, List, [], ◌∷◌, ℤ, pos, negsuc}
+use Rattle.std.specs.Prelude.{not, if◌then◌else◌, List, [], ◌∷◌, ℤ, pos, negsuc}
 use Rattle.std.specs.Ordering.{int_eq}
 use Rattle.plane_predicate.specs.Space.{Coefficients}
 use Rattle.plane_polygon.specs.declared.classes.Class.{Class}

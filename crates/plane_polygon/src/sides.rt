@@ -1,10 +1,11 @@
 //! On which side of a plane the corners of a polygon lie.
 
-ghost use Rattle.std.specs.Prelude.{◌≡◌, ◌-◌, ◌<◌, ◌<ℤ◌, pos, length};
+ghost use Rattle.std.specs.Prelude.{◌≡◌, ◌-◌, ◌<◌, ◌<ℤ◌, pos, length, IfSome};
 ghost use Rattle.plane_predicate.specs.Space.{value, cramer};
 ghost use Rattle.plane_predicate.specs.Sides.{side_of};
 ghost use Rattle.plane_polygon.specs.Polygons.{after, corner, IsPolygon};
 
+use crate::parallels::parallel_side;
 use plane_predicate::{Plane, Side, side};
 
 /// The index after `i` round a list of `count` items.
@@ -21,7 +22,24 @@ pub fn side_at(p: &Plane, q: &Plane, r: &Plane, m: &Plane) -> Side
     requires { pos 0 <ℤ (cramer p.now q.now r.now).w }
     ensures { result ≡ side_of (value m.now (cramer p.now q.now r.now)) }
 {
-    side(p, q, r, m)
+    match parallel_to_one(p, q, r, m) {
+        Some(found) => found,
+        None => side(p, q, r, m),
+    }
+}
+
+/// The same, where `m` is parallel to one of the planes that meet.
+fn parallel_to_one(p: &Plane, q: &Plane, r: &Plane, m: &Plane) -> Option<Side>
+    requires { pos 0 <ℤ (cramer p.now q.now r.now).w }
+    ensures { IfSome result (λ s. s ≡ side_of (value m.now (cramer p.now q.now r.now))) }
+{
+    if let Some(found) = parallel_side(p, m) {
+        return Some(found);
+    }
+    if let Some(found) = parallel_side(q, m) {
+        return Some(found);
+    }
+    parallel_side(r, m)
 }
 
 /// The side of `m` on which corner `i` lies.
