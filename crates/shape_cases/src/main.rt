@@ -1,0 +1,45 @@
+//! Answers cases of transforms and shapes, in the form of `case_lines`. A case is a list of phrases, a comma and a space
+//! between two of them. What phrases write stands one behind another, a semicolon and a space between.
+//!
+//! - `half` says that a unit is two grid steps from there on, and `centred` that what is made is centred.
+//! - `cube X Y Z`, `cylinder HEIGHT LOW HIGH`, `extrude HEIGHT` (of the last flat), `hull POINTS` and `polyhedron` (of the
+//!   points and faces before it) make a shape; `square X Y`, `circle RADIUS` and `polygon POINTS` make a flat. Each writes
+//!   `made`, or the fault.
+//! - `at POINTS` puts points of a polyhedron, and `face NUMBERS` a face of it.
+//! - `move X Y Z`, `turn AXIS QUARTERS`, `mirror AXIS`, `scale X Y Z` and `matrix ROWS` add a step of a transform.
+//! - `points`, `faces` and `counts` ask for what the last shape has, `corners` for the points of the last flat, and
+//!   `planes` for the planes of the shape that the steps have moved. `image POINTS` asks for the images of one point or two.
+#![tactic(auto)]
+
+mod making;
+mod put;
+mod safe;
+mod steps;
+mod table;
+
+use crate::table::Table;
+use case_lines::{Answers, CaseStop, answers_all, put_phrases, unfolded};
+use outside_io::{ReadSource, WriteSink};
+use std::alloc::Global;
+use std::process::ExitCode;
+
+/// The answers of phrases about shapes.
+#[derive(Drop)]
+struct Shapes {}
+
+impl Answers for Shapes {
+    fn put_answer(&self, alloc: Global, out: &mut Vec<u8>, case: &[u8]) -> Result<(), CaseStop> {
+        let text = unfolded(alloc, case)?;
+        put_phrases(alloc, out, &mut Table::new(alloc), &text)
+    }
+}
+
+fn main(rt: HostRuntime) -> ExitCode {
+    let mut source = ReadSource::new(rt.stdin());
+    let mut sink = WriteSink::new(rt.stdout());
+    if answers_all(rt.alloc(), &Shapes {}, &mut source, &mut sink) {
+        ExitCode::SUCCESS
+    } else {
+        ExitCode::FAILURE
+    }
+}
