@@ -49,8 +49,3 @@ pub fn leaf(rt: &impl Abort, alloc: Global, planes: &[Plane], most: u64) -> Resu
     assert!(rt; !planes.is_empty());
     leaf_solid(alloc, planes, most)
 }
-
-pub fn cuboid(rt: &impl Abort, alloc: Global, low: [i64; 3], high: [i64; 3]) -> Solid {
-    let planes = planes_through(rt, alloc, &box_faces(low, high));
-    leaf(rt, alloc, &planes, 30).expect(rt, "a box")
-}

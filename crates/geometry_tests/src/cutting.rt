@@ -1,7 +1,7 @@
-//! Parts of polygons, and their corners.
+//! Parts of polygons.
 
 use plane_polygon::{Class, Polygon, cut, sort_by};
-use plane_predicate::{Plane, Point};
+use plane_predicate::Plane;
 use std::alloc::Global;
 use std::process::Abort;
 
@@ -27,16 +27,4 @@ pub fn trimmed(rt: &impl Abort, alloc: Global, polygon: &Polygon, plane: &Plane)
         }
         Class::Behind | Class::Ahead | Class::On => polygon.copy(alloc).expect(rt, "memory"),
     }
-}
-
-// Whether the points from index `from` on, round the list, are these.
-pub fn goes_on_from(found: &[Point], from: usize, wanted: &[[i128; 4]]) -> bool {
-    let tail = found.iter().skip(from);
-    for (point, numbers) in tail.chain(found.iter()).zip(wanted) {
-        let [x, y, z, w] = *numbers;
-        if point.x != x || point.y != y || point.z != z || point.w != w {
-            return false;
-        }
-    }
-    found.len() == wanted.len()
 }

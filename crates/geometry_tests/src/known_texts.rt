@@ -19,26 +19,6 @@ pub const SHARED_WALL: &[u8] =
 2 0 0 1\n2 1 0 1\n2 1 1 1\n2 0 1 1\n4 0 1 2 3\n4 0 4 5 1\n4 3 2 6 7\n4 0 3 7 4\n4 1 5 6 2\n\
 4 8 9 10 11\n4 4 8 11 5\n4 7 6 10 9\n4 4 7 9 8\n4 5 11 10 6\n";
 
-// A tetrahedron that a cube cuts.
-pub const CUT_TETRAHEDRON: &[u8] =
-    b"4OFF\n9 7 0\n0 0 0 1\n0 1 0 1\n1 1 0 1\n1 0 0 1\n1 0 1 1\n0 0 1 1\n0 1 1 1\n3 1 3 3\n3 3 1 3\n\
-4 0 1 2 3\n4 0 3 4 5\n4 0 5 6 1\n3 6 7 8\n5 3 2 8 7 4\n4 1 6 8 2\n4 5 4 7 6\n";
-
-// A sliver across the whole range.
-pub const SLIVER: &[u8] =
-    b"4OFF\n4 4 0\n-4095 -4095 -4095 1\n-4094 4095 4095 1\n4095 4095 -4094 1\n4095 -4095 4095 1\n\
-3 0 1 2\n3 0 2 3\n3 0 3 1\n3 1 3 2\n";
-
-// A box whose planes come in the order of a turned one.
-pub const TURNED_BOX: &[u8] =
-    b"4OFF\n8 6 0\n0 0 0 1\n3 0 0 1\n3 0 2 1\n0 0 2 1\n0 1 0 1\n0 1 2 1\n3 1 2 1\n3 1 0 1\n\
-4 0 1 2 3\n4 4 5 6 7\n4 0 4 7 1\n4 3 2 6 5\n4 0 3 5 4\n4 1 7 6 2\n";
-
-// A box whose planes come in the order of a polyhedron's faces.
-pub const POLYHEDRON: &[u8] =
-    b"4OFF\n8 6 0\n0 0 0 1\n0 7 0 1\n10 7 0 1\n10 0 0 1\n10 0 5 1\n0 0 5 1\n10 7 5 1\n0 7 5 1\n\
-4 0 1 2 3\n4 0 3 4 5\n4 5 4 6 7\n4 3 2 6 4\n4 1 7 6 2\n4 0 5 7 1\n";
-
 // Nothing.
 pub const EMPTY: &[u8] = b"4OFF\n0 0 0\n";
 
@@ -46,22 +26,3 @@ pub const EMPTY: &[u8] = b"4OFF\n0 0 0\n";
 pub const CENTRED_CUBE: &[u8] =
     b"4OFF\n8 6 0\n-3 -3 -3 2\n-3 -3 3 2\n-3 3 3 2\n-3 3 -3 2\n3 -3 -3 2\n3 3 -3 2\n3 3 3 2\n3 -3 3 2\n\
 4 0 1 2 3\n4 4 5 6 7\n4 0 4 7 1\n4 3 2 6 5\n4 0 3 5 4\n4 1 7 6 2\n";
-
-// A cube of 1 from x = 2046 on.
-pub const FAR_CUBE: &[u8] =
-    b"4OFF\n8 6 0\n2046 0 0 1\n2046 0 1 1\n2046 1 1 1\n2046 1 0 1\n2047 0 0 1\n2047 1 0 1\n2047 1 1 1\n\
-2047 0 1 1\n4 0 1 2 3\n4 4 5 6 7\n4 0 4 7 1\n4 3 2 6 5\n4 0 3 5 4\n4 1 7 6 2\n";
-
-// A box of a half by 1 by 1.
-pub const HALVED_BOX: &[u8] =
-    b"4OFF\n8 6 0\n0 0 0 1\n0 0 1 1\n0 1 1 1\n0 1 0 1\n1 0 0 2\n1 2 0 2\n1 2 2 2\n1 0 2 2\n\
-4 0 1 2 3\n4 4 5 6 7\n4 0 4 7 1\n4 3 2 6 5\n4 0 3 5 4\n4 1 7 6 2\n";
-
-// A tetrahedron with one corner between whole units.
-pub const HALVED_TETRAHEDRON: &[u8] =
-    b"4OFF\n4 4 0\n1 0 0 1\n1 1 0 2\n2 2 0 1\n1 1 1 1\n3 0 1 2\n3 0 3 1\n3 1 3 2\n3 0 2 3\n";
-
-// The tetrahedron that a cube cuts, half as large.
-pub const SIXTHS: &[u8] =
-    b"4OFF\n9 7 0\n0 0 0 1\n0 1 0 2\n1 1 0 2\n1 0 0 2\n1 0 1 2\n0 0 1 2\n0 1 1 2\n3 1 3 6\n3 3 1 6\n\
-4 0 1 2 3\n4 0 3 4 5\n4 0 5 6 1\n3 6 7 8\n5 3 2 8 7 4\n4 1 6 8 2\n4 5 4 7 6\n";

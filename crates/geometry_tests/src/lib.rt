@@ -1,10 +1,8 @@
-//! Tests of planes, polygons, trees and solids, up to the bytes of their texts.
+//! Tests of faces over tables, of trees and their stores, and of deep and large solids: what no line of `geometry_cases` shows.
 #![tactic(auto)]
 
 #[cfg(test)]
 mod boxes;
-#[cfg(test)]
-mod cut_facets;
 #[cfg(test)]
 mod cutting;
 #[cfg(test)]
@@ -13,8 +11,6 @@ mod exports;
 mod forests;
 #[cfg(test)]
 mod half_spaces;
-#[cfg(test)]
-mod half_units;
 #[cfg(test)]
 mod joins;
 #[cfg(test)]
@@ -30,11 +26,7 @@ mod nodes;
 #[cfg(test)]
 mod partitions;
 #[cfg(test)]
-mod planes;
-#[cfg(test)]
 mod polygons;
-#[cfg(test)]
-mod solids;
 #[cfg(test)]
 mod stores;
 #[cfg(test)]

@@ -1,5 +1,5 @@
 use crate::cutting::parts;
-use crate::laying::{high, low, plane_at, point, through};
+use crate::laying::{high, plane_at, point, through};
 use crate::nodes::node_of;
 use bsp_boolean::merge;
 use bsp_partition::partition;
@@ -9,55 +9,9 @@ use plane_polygon::{Class, Polygon, box_polygon, sort_by};
 use std::alloc::Global;
 use std::process::Abort;
 
-// The box polygon of the points with this x, seen from where x is greater, or turned.
-fn walled(rt: &impl Abort, alloc: Global, x: i64, turned: bool) -> Polygon {
-    let wall = if turned { low(0, x) } else { high(0, x) };
-    box_polygon(alloc, &plane_at(rt, wall)).expect(rt, "memory")
-}
-
 // The box polygon of the points whose y is 0.
 fn flat(rt: &impl Abort, alloc: Global) -> Polygon {
     box_polygon(alloc, &plane_at(rt, high(1, 0))).expect(rt, "memory")
-}
-
-// What the two parts are: their sizes, and whether they hold a point whose x is -9, and 9.
-fn has_parts(
-    rt: &impl Abort,
-    alloc: Global,
-    by: &Polygon,
-    sizes: [u64; 2],
-    held: [[bool; 2]; 2],
-) -> bool {
-    let solid = half(alloc, &plane_at(rt, high(0, 0))).expect(rt, "memory");
-    let (behind, ahead) = partition(alloc, &solid, by).expect(rt, "memory");
-    let [low, high] = held;
-    let [left, right] = [point(-9, 1, 0, 0), point(9, 1, 0, 0)];
-    [behind.count(), ahead.count()] == sizes
-        && [holds(&behind, &left), holds(&behind, &right)] == low
-        && [holds(&ahead, &left), holds(&ahead, &right)] == high
-}
-
-// The points whose x is below 0, parted by its own plane, by the opposite, by planes behind it and
-// ahead of it that are seen from either side, and by a plane that is across it.
-#[test]
-fn a_half_space_is_parted(rt: HostRuntime) {
-    let alloc = rt.alloc();
-    let all = [true, true];
-    let none = [false, false];
-    let left = [true, false];
-    let rows = [
-        (0, false, [0, 0], [all, none]),
-        (0, true, [0, 0], [none, all]),
-        (-5, false, [0, 5], [all, left]),
-        (5, false, [5, 0], [left, none]),
-        (-5, true, [5, 0], [left, all]),
-        (5, true, [0, 5], [none, left]),
-    ];
-    for (x, turned, sizes, held) in rows {
-        let by = walled(&rt, alloc, x, turned);
-        assert!(rt; has_parts(&rt, alloc, &by, sizes, held), "at {x} {turned}");
-    }
-    assert!(rt; has_parts(&rt, alloc, &flat(&rt, alloc), [5, 5], [left, left]));
 }
 
 // In the cell of the points whose x is below 0, the polygons of y = 0 and of x = y meet on the
@@ -110,7 +64,7 @@ fn parts_go_to_the_end_of_long_walks(rt: HostRuntime) {
     assert_eq!(rt; ahead.count(), 5120);
     assert!(rt; holds(&behind, &point(4000, -1, 0, 0)) && holds(&ahead, &point(4000, 1, 0, 0)));
     assert!(rt; !holds(&behind, &point(-4000, -1, 0, 0)) && !holds(&ahead, &point(-4000, 1, 0, 0)));
-    let last = walled(&rt, alloc, 512, false);
+    let last = box_polygon(alloc, &plane_at(&rt, high(0, 512))).expect(&rt, "memory");
     let (near, far) = partition(alloc, &solid, &last).expect(&rt, "memory");
     assert_eq!(rt; near.count(), 5120);
     assert_eq!(rt; far.count(), 0);

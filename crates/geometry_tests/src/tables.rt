@@ -3,7 +3,7 @@
 ghost use Rattle.plane_table.specs.Faces.{IsFaceOver};
 ghost use Rattle.plane_table.specs.Joins.{AreNumbersOf};
 
-use crate::laying::{Wall, high, low, plane, plane_at};
+use crate::laying::{high, plane_at};
 use plane_polygon::Class;
 use plane_predicate::Plane;
 use plane_table::{
@@ -60,108 +60,6 @@ fn lists_keep_their_numbers(rt: HostRuntime) {
     assert_eq!(rt; edges.len(), 8);
     assert_eq!(rt; opposite_number(30), 31);
     assert_eq!(rt; opposite_number(31), 30);
-}
-
-// The face of a half space over the planes that it names, in the order of their numbers.
-#[test]
-fn half_spaces_have_a_face_over_their_planes(rt: HostRuntime) {
-    let alloc = rt.alloc();
-    let rows: [(Wall, &[[i64; 4]], u32, &[u32]); 3] = [
-        (
-            high(2, 1),
-            &[
-                [0, 0, 1, 1],
-                [0, -1, 0, 4096],
-                [0, 1, 0, 4096],
-                [-1, 0, 0, 4096],
-                [1, 0, 0, 4096],
-            ],
-            0,
-            &[6, 2, 8, 4],
-        ),
-        (
-            low(2, 1),
-            &[
-                [0, 0, -1, -1],
-                [0, -1, 0, 4096],
-                [0, 1, 0, 4096],
-                [-1, 0, 0, 4096],
-                [1, 0, 0, 4096],
-            ],
-            0,
-            &[6, 4, 8, 2],
-        ),
-        (
-            high(0, 1),
-            &[
-                [0, 0, -1, 4096],
-                [0, 0, 1, 4096],
-                [0, -1, 0, 4096],
-                [0, 1, 0, 4096],
-                [1, 0, 0, 1],
-            ],
-            8,
-            &[4, 0, 6, 2],
-        ),
-    ];
-    for (wall, planes, number, edges) in rows {
-        let found = half_face(alloc, &plane_at(&rt, wall)).expect(&rt, "memory");
-        assert!(rt; are_planes(&found.planes, planes));
-        assert_eq!(rt; found.face.plane, number);
-        assert!(rt; found.face.edges.numbers() == edges);
-        assert_eq!(rt; found.face.size(), 5);
-    }
-}
-
-// Each plane stands once in a joined list, whichever side of it the two lists name.
-#[test]
-fn lists_are_joined(rt: HostRuntime) {
-    let alloc = rt.alloc();
-    let rows: [(&[[i64; 4]], &[[i64; 4]], &[[i64; 4]], &[u32], &[u32]); 5] = [
-        (&[], &[], &[], &[], &[]),
-        (
-            &[[1, 0, 0, 1]],
-            &[[-1, 0, 0, -1]],
-            &[[1, 0, 0, 1]],
-            &[0],
-            &[1],
-        ),
-        (
-            &[[0, 0, 1, 1], [0, -1, 0, 2]],
-            &[[0, 0, -1, 1], [0, 1, 0, -2], [1, 0, 0, 0]],
-            &[[0, 0, -1, 1], [0, 0, 1, 1], [0, -1, 0, 2], [1, 0, 0, 0]],
-            &[2, 4],
-            &[0, 5, 6],
-        ),
-        (
-            &[],
-            &[[0, 1, 0, 0], [1, 0, 0, 0]],
-            &[[0, 1, 0, 0], [1, 0, 0, 0]],
-            &[],
-            &[0, 2],
-        ),
-        // in no order
-        (
-            &[[1, 0, 0, 1], [0, 0, 1, 1]],
-            &[[0, 0, 1, 1]],
-            &[[0, 0, 1, 1], [1, 0, 0, 1]],
-            &[2, 0],
-            &[0],
-        ),
-    ];
-    for (left, right, wanted, of_left, of_right) in rows {
-        let mut lefts = Vec::new(alloc);
-        for numbers in left {
-            lefts.push(plane(&rt, *numbers)).expect(&rt, "memory");
-        }
-        let mut rights = Vec::new(alloc);
-        for numbers in right {
-            rights.push(plane(&rt, *numbers)).expect(&rt, "memory");
-        }
-        let joined = join(alloc, &lefts, &rights).expect(&rt, "memory");
-        assert!(rt; are_planes(&joined.planes, wanted));
-        assert!(rt; joined.left.as_slice() == of_left && joined.right.as_slice() == of_right);
-    }
 }
 
 // The planes of the faces of z = 1 and x = 1 in one table, and the first of these faces over it.

@@ -1,8 +1,5 @@
 use crate::boxes::box_faces;
 use crate::cutting::trimmed;
-use crate::known_texts::{
-    BOX, CUT_TETRAHEDRON, EMPTY, POLYHEDRON, SHARED_WALL, SLIVER, TURNED_BOX,
-};
 use crate::laying::{Points, through};
 use facet_cut::Facet;
 use off_text::{OffStop, off_bytes};
@@ -23,94 +20,6 @@ fn face(rt: &impl Abort, alloc: Global, points: Points, others: &[Points]) -> Fa
         plane: *polygon.plane(),
         polygon,
     }
-}
-
-// Adds the facets of a convex body on those of its planes that are given, each by three points.
-fn add_faces(
-    rt: &impl Abort,
-    alloc: Global,
-    facets: &mut Vec<Facet>,
-    planes: &[Points],
-    given: &[Points],
-) {
-    for points in given {
-        facets
-            .push(face(rt, alloc, *points, planes))
-            .expect(rt, "memory");
-    }
-}
-
-// The text of a convex body, whose planes go through three points each.
-fn text(rt: &impl Abort, alloc: Global, planes: &[Points]) -> Vec<u8> {
-    let mut facets = Vec::new(alloc);
-    add_faces(rt, alloc, &mut facets, planes, planes);
-    off_bytes(alloc, &facets, Unit::Whole).expect(rt, "within the limits")
-}
-
-#[test]
-fn writes_boxes(rt: HostRuntime) {
-    let alloc = rt.alloc();
-    assert_eq!(rt;
-        text(&rt, alloc, &box_faces([0, 0, 0], [1, 2, 3])).as_slice(),
-        BOX
-    );
-    let [low_x, high_x, low_y, high_y, low_z, high_z] = box_faces([0, 0, 0], [3, 1, 2]);
-    assert_eq!(rt;
-        text(&rt, alloc, &[low_y, high_y, low_z, high_z, low_x, high_x]).as_slice(),
-        TURNED_BOX
-    );
-    let [low_x, high_x, low_y, high_y, low_z, high_z] = box_faces([0, 0, 0], [10, 7, 5]);
-    assert_eq!(rt;
-        text(&rt, alloc, &[low_z, low_y, high_z, high_x, high_y, low_x]).as_slice(),
-        POLYHEDRON
-    );
-}
-
-#[test]
-fn writes_other_bodies(rt: HostRuntime) {
-    let alloc = rt.alloc();
-    let a = [-4095, -4095, -4095];
-    let b = [-4094, 4095, 4095];
-    let c = [4095, 4095, -4094];
-    let d = [4095, -4095, 4095];
-    assert_eq!(rt;
-        text(&rt, alloc, &[[a, b, c], [a, c, d], [a, d, b], [b, d, c]]).as_slice(),
-        SLIVER
-    );
-    let [low_x, high_x, low_y, high_y, low_z, high_z] = box_faces([0, 0, 0], [1, 1, 1]);
-    let slanted = [[3, 0, 0], [0, 2, 0], [0, 0, 2]];
-    assert_eq!(rt;
-        text(
-            &rt,
-            alloc,
-            &[low_z, low_y, low_x, slanted, high_x, high_y, high_z]
-        )
-        .as_slice(),
-        CUT_TETRAHEDRON
-    );
-    let first = box_faces([0, 0, 0], [1, 1, 1]);
-    let second = box_faces([1, 0, 0], [2, 1, 1]);
-    let mut facets = Vec::new(alloc);
-    add_faces(
-        &rt,
-        alloc,
-        &mut facets,
-        &first,
-        &[low_x, low_y, high_y, low_z, high_z],
-    );
-    add_faces(&rt, alloc, &mut facets, &second, &second[1..]);
-    assert_eq!(rt;
-        off_bytes(alloc, &facets, Unit::Whole)
-            .expect(&rt, "within the limits")
-            .as_slice(),
-        SHARED_WALL
-    );
-    assert_eq!(rt;
-        off_bytes(alloc, &[], Unit::Whole)
-            .expect(&rt, "within the limits")
-            .as_slice(),
-        EMPTY
-    );
 }
 
 // Adds a square on z = 0, so many times.

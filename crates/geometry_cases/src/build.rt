@@ -1,0 +1,84 @@
+//! Things put together by phrases.
+
+use crate::asking::{ask, asking_of, print, printing_of};
+use crate::faces::put_face;
+use crate::laying::{lay, laying_of};
+use crate::polygons::{Polygons, shaping_of};
+use crate::solids::{Solids, building_of};
+use crate::walls::Walls;
+use case_lines::{CaseStop, Follows, Phrase};
+use std::alloc::Global;
+
+/// Planes, polygons with facets, and solids.
+#[derive(Drop)]
+pub struct Bench {
+    walls: Walls,
+    polygons: Polygons,
+    solids: Solids,
+}
+
+impl Bench {
+    pub fn new(alloc: Global) -> Bench {
+        Bench {
+            walls: Walls::new(alloc),
+            polygons: Polygons {
+                items: Vec::new(alloc),
+                facets: Vec::new(alloc),
+            },
+            solids: Solids {
+                items: Vec::new(alloc),
+            },
+        }
+    }
+
+    /// Writes what is asked.
+    fn tell(
+        &mut self,
+        alloc: Global,
+        out: &mut Vec<u8>,
+        word: &[u8],
+        numbers: &[i64],
+    ) -> Result<(), CaseStop> {
+        if let Some(asking) = asking_of(word) {
+            let solid = self.solids.last()?;
+            ask(
+                alloc,
+                out,
+                asking,
+                numbers,
+                solid,
+                &mut self.polygons.facets,
+            )
+        } else if let Some(printing) = printing_of(word) {
+            print(alloc, out, printing, numbers, &self.polygons.facets)
+        } else if word == b"face".as_slice() {
+            let plane = self.walls.last().ok_or(CaseStop::Unread)?;
+            put_face(alloc, out, &plane)
+        } else {
+            Err(CaseStop::Unread)
+        }
+    }
+}
+
+impl Follows for Bench {
+    fn follow(
+        &mut self,
+        alloc: Global,
+        out: &mut Vec<u8>,
+        phrase: &Phrase,
+    ) -> Result<(), CaseStop> {
+        let (word, numbers) = (phrase.word.as_slice(), phrase.numbers.as_slice());
+        if let Some(laying) = laying_of(word) {
+            lay(&mut self.walls, laying, numbers)
+        } else if let Some(shaping) = shaping_of(word) {
+            let plane = self.walls.last().ok_or(CaseStop::Unread)?;
+            self.polygons.shape(alloc, out, shaping, &plane)
+        } else if let Some(building) = building_of(word) {
+            let by = self.polygons.items.last();
+            self.solids
+                .build(alloc, out, building, numbers, &mut self.walls, by)
+        } else {
+            self.tell(alloc, out, word, numbers)
+        }
+    }
+}

@@ -1,0 +1,102 @@
+//! Answers cases of planes, polygons and solids, in the form of `case_lines`. A plane is its four numbers a, b, c and d; a
+//! point x, y, z and w stands for (x / w, y / w, z / w).
+//!
+//! - `through P Q R` asks for the plane through three points with three coordinates each; `meet P Q R` for the point on
+//!   three planes, also in lowest terms; `side P Q R S` for the side of the plane S on which that point lies, in four orders
+//!   of the first three; `point P Q` for the side of the plane P, and of its opposite, on which the point Q lies.
+//! - `signs P Q R S` asks how often the first three planes, with all signs of their numbers, meet behind S, on it and ahead.
+//! - `join N PLANES` asks for the list in which the first N planes are joined with the others, and for their numbers there.
+//! - `build PHRASES` puts planes, polygons and solids together, and asks for what they are. Each phrase works on what was
+//!   put last.
+//!
+//! Planes: `low AXIS AT` and `high AXIS AT` are square to an axis, seen from where the coordinate is smaller, and greater;
+//! `through P Q R`. `face` asks for the face that the last one has in the world box.
+//!
+//! Polygons: `polygon` of the last plane in the world box, `again`, `drop`, `cut` into the parts behind and ahead of the last
+//! plane, `trim` to the part behind it, `facet` puts it among the facets. `class`, `edges` and `corners` ask.
+//!
+//! Solids: `half` of the last plane, `leaf` of all planes, `box LOW HIGH`, `end 1` (all) and `end 0` (nothing), `over` (the
+//! second last one again), `copy`, `exchange`, `part` (both parts by the last polygon), and `+`, `*` and `-` of the last two.
+//! `leaf MOST`, `+ MOST`, `* MOST` and `- MOST` ask for the size within a limit. `size`, `nodes` and `holds POINT` ask.
+//!
+//! Facets: `facets MOST` asks how many the last solid has, and keeps them. `planes`, `around AT` (the corners of one), `text`
+//! and `text 2` (in half units) ask for what is kept, where a stroke `|` stands for each newline of a text.
+#![tactic(auto)]
+
+mod asking;
+mod build;
+mod faces;
+mod laying;
+mod numbers;
+mod polygons;
+mod put;
+mod solids;
+mod walls;
+
+use crate::build::Bench;
+use crate::faces::put_joined;
+use crate::numbers::{put_meeting, put_point_side, put_sides, put_signs, put_through};
+use case_lines::{Answers, CaseStop, answers_all, cut, found, phrases_of, put_phrases, unfolded};
+use outside_io::{ReadSource, WriteSink};
+use std::alloc::Global;
+use std::process::ExitCode;
+
+#[derive(Clone, Copy)]
+enum Question {
+    Through,
+    Meet,
+    Side,
+    Signs,
+    Point,
+    Join,
+}
+
+const QUESTIONS: [(&[u8], Question); 6] = [
+    (b"through", Question::Through),
+    (b"meet", Question::Meet),
+    (b"side", Question::Side),
+    (b"signs", Question::Signs),
+    (b"point", Question::Point),
+    (b"join", Question::Join),
+];
+
+/// The answer of a question about numbers.
+fn put_about(alloc: Global, out: &mut Vec<u8>, text: &[u8]) -> Result<(), CaseStop> {
+    let phrases = phrases_of(alloc, text)?;
+    let phrase = phrases.first().ok_or(CaseStop::Unread)?;
+    let numbers = phrase.numbers.as_slice();
+    match found(&QUESTIONS, &phrase.word).ok_or(CaseStop::Unread)? {
+        Question::Through => put_through(alloc, out, numbers),
+        Question::Meet => put_meeting(alloc, out, numbers),
+        Question::Side => put_sides(alloc, out, numbers),
+        Question::Signs => put_signs(alloc, out, numbers),
+        Question::Point => put_point_side(out, numbers),
+        Question::Join => put_joined(alloc, out, numbers),
+    }
+}
+
+/// The answers of questions about numbers and of phrases that build.
+#[derive(Drop)]
+struct Geometry {}
+
+impl Answers for Geometry {
+    fn put_answer(&self, alloc: Global, out: &mut Vec<u8>, case: &[u8]) -> Result<(), CaseStop> {
+        let text = unfolded(alloc, case)?;
+        let (asked, rest) = cut(&text);
+        if asked == b"build".as_slice() {
+            put_phrases(alloc, out, &mut Bench::new(alloc), rest)
+        } else {
+            put_about(alloc, out, &text)
+        }
+    }
+}
+
+fn main(rt: HostRuntime) -> ExitCode {
+    let mut source = ReadSource::new(rt.stdin());
+    let mut sink = WriteSink::new(rt.stdout());
+    if answers_all(rt.alloc(), &Geometry {}, &mut source, &mut sink) {
+        ExitCode::SUCCESS
+    } else {
+        ExitCode::FAILURE
+    }
+}

@@ -1,0 +1,203 @@
+//! Phrases that put solids.
+
+use crate::laying::{Laying, lay};
+use crate::walls::Walls;
+use bsp_boolean::{BuildStop, Builder, PlainBuilder, leaf_solid, merge};
+use bsp_partition::partition;
+use bsp_tree::{Solid, exchange, half};
+use case_lines::{CaseStop, found, put, put_number};
+use csg_tree::Op;
+use plane_polygon::Polygon;
+use std::alloc::Global;
+
+#[derive(Clone, Copy)]
+pub enum Building {
+    Half,
+    Leaf,
+    Box,
+    End,
+    Over,
+    Copy,
+    Exchange,
+    Part,
+    Join(Op),
+}
+
+const BUILDINGS: [(&[u8], Building); 11] = [
+    (b"half", Building::Half),
+    (b"leaf", Building::Leaf),
+    (b"box", Building::Box),
+    (b"end", Building::End),
+    (b"over", Building::Over),
+    (b"copy", Building::Copy),
+    (b"exchange", Building::Exchange),
+    (b"part", Building::Part),
+    (b"+", Building::Join(Op::Union)),
+    (b"*", Building::Join(Op::Intersection)),
+    (b"-", Building::Join(Op::Difference)),
+];
+
+pub fn building_of(word: &[u8]) -> Option<Building> {
+    found(&BUILDINGS, word)
+}
+
+/// The solid behind all planes of a list, of any size.
+fn leaf(alloc: Global, walls: &Walls) -> Result<Solid, CaseStop> {
+    leaf_within(alloc, walls, u64::MAX)?.ok_or(CaseStop::Unread)
+}
+
+/// The same of a size at most, or nothing where it is larger.
+fn leaf_within(alloc: Global, walls: &Walls, most: u64) -> Result<Option<Solid>, CaseStop> {
+    let planes = walls.planes();
+    if planes.is_empty() {
+        return Err(CaseStop::Unread);
+    }
+    within(leaf_solid(alloc, planes, most))
+}
+
+/// A solid where one was built, or nothing where it is too big.
+fn within(built: Result<Solid, BuildStop>) -> Result<Option<Solid>, CaseStop> {
+    match built {
+        Ok(solid) => Ok(Some(solid)),
+        Err(BuildStop::TooBig) => Ok(None),
+        Err(BuildStop::NoMemory) => Err(CaseStop::NoMemory),
+    }
+}
+
+/// The box between two corners: low x, high x, low y, high y, low z, high z.
+fn cuboid(alloc: Global, numbers: &[i64]) -> Result<Solid, CaseStop> {
+    let [a, b, c, d, e, f] = numbers else {
+        return Err(CaseStop::Unread);
+    };
+    let mut walls = Walls::new(alloc);
+    for (axis, low, high) in [(0, *a, *d), (1, *b, *e), (2, *c, *f)] {
+        lay(&mut walls, Laying::Low, &[axis, low])?;
+        lay(&mut walls, Laying::High, &[axis, high])?;
+    }
+    leaf(alloc, &walls)
+}
+
+/// The size of a solid, or that it is too big.
+fn put_size(alloc: Global, out: &mut Vec<u8>, solid: Option<Solid>) -> Result<(), CaseStop> {
+    match solid {
+        Some(solid) => put_number(alloc, out, i128::from(solid.count()))?,
+        None => put(out, b"too big")?,
+    }
+    Ok(())
+}
+
+/// The size that the merge of two solids has within a limit, by a builder of its own.
+fn put_joined(
+    alloc: Global,
+    out: &mut Vec<u8>,
+    op: Op,
+    solids: &[Solid],
+    most: i64,
+) -> Result<(), CaseStop> {
+    let [.., left, right] = solids else {
+        return Err(CaseStop::Unread);
+    };
+    let mut builder = PlainBuilder::new();
+    let most = u64::try_from(most).unwrap_or(0);
+    put_size(
+        alloc,
+        out,
+        within(builder.build(alloc, op, left, right, most))?,
+    )
+}
+
+/// Solids in the order in which they were put.
+#[derive(Drop)]
+pub struct Solids {
+    pub items: Vec<Solid>,
+}
+
+impl Solids {
+    pub fn last(&self) -> Result<&Solid, CaseStop> {
+        self.items.last().ok_or(CaseStop::Unread)
+    }
+
+    fn put(&mut self, solid: Solid) -> Result<(), CaseStop> {
+        self.items.push(solid)?;
+        Ok(())
+    }
+
+    /// The join of the last two solids, in their place.
+    fn join(&mut self, alloc: Global, op: Op) -> Result<(), CaseStop> {
+        let [.., left, right] = self.items.as_slice() else {
+            return Err(CaseStop::Unread);
+        };
+        let joined = merge(alloc, op, left, right)?;
+        self.items.pop();
+        self.items.pop();
+        self.put(joined)
+    }
+
+    /// The second last solid once more.
+    fn over(&mut self, alloc: Global) -> Result<(), CaseStop> {
+        let [.., left, _] = self.items.as_slice() else {
+            return Err(CaseStop::Unread);
+        };
+        let copied = left.copy(alloc)?;
+        self.put(copied)
+    }
+
+    /// A copy of the last solid behind it.
+    fn copy(&mut self, alloc: Global) -> Result<(), CaseStop> {
+        let copied = self.last()?.copy(alloc)?;
+        self.put(copied)
+    }
+
+    /// The last solid with inside and outside exchanged, in its place.
+    fn exchange(&mut self, alloc: Global) -> Result<(), CaseStop> {
+        let exchanged = exchange(alloc, self.last()?)?;
+        self.items.pop();
+        self.put(exchanged)
+    }
+
+    /// The parts of the last solid behind a polygon and ahead of it, in its place.
+    fn part(&mut self, alloc: Global, by: &Polygon) -> Result<(), CaseStop> {
+        let (behind, ahead) = partition(alloc, self.last()?, by)?;
+        self.items.pop();
+        self.items.push(behind)?;
+        self.put(ahead)
+    }
+
+    /// What a phrase makes of the solids, the planes and the last polygon, and what it writes.
+    pub fn build(
+        &mut self,
+        alloc: Global,
+        out: &mut Vec<u8>,
+        building: Building,
+        numbers: &[i64],
+        walls: &mut Walls,
+        by: Option<&Polygon>,
+    ) -> Result<(), CaseStop> {
+        match (building, numbers) {
+            (Building::Leaf, []) => {
+                self.put(leaf(alloc, walls)?)?;
+                walls.clear();
+                Ok(())
+            }
+            (Building::Leaf, [most]) => {
+                let most = u64::try_from(*most).unwrap_or(0);
+                put_size(alloc, out, leaf_within(alloc, walls, most)?)
+            }
+            (Building::Half, []) => {
+                let plane = walls.last().ok_or(CaseStop::Unread)?;
+                self.put(half(alloc, &plane)?)?;
+                walls.clear();
+                Ok(())
+            }
+            (Building::Box, _) => self.put(cuboid(alloc, numbers)?),
+            (Building::End, [is_inside]) => self.put(Solid::leaf(alloc, *is_inside == 1)),
+            (Building::Over, []) => self.over(alloc),
+            (Building::Copy, []) => self.copy(alloc),
+            (Building::Exchange, []) => self.exchange(alloc),
+            (Building::Part, []) => self.part(alloc, by.ok_or(CaseStop::Unread)?),
+            (Building::Join(op), []) => self.join(alloc, op),
+            (Building::Join(op), [most]) => put_joined(alloc, out, op, &self.items, *most),
+            _ => Err(CaseStop::Unread),
+        }
+    }
+}
