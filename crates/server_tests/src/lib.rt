@@ -1,4 +1,4 @@
-//! Tests of words, bytes, scripts, sessions and replies, and of whole scripts that are served.
+//! Tests of words, bytes, streams and replies: what no line of `server_cases` shows.
 #![tactic(auto)]
 
 #[cfg(test)]
@@ -12,10 +12,6 @@ mod outside;
 #[cfg(test)]
 mod replies;
 #[cfg(test)]
-mod scripts;
-#[cfg(test)]
 mod serving;
-#[cfg(test)]
-mod sessions;
 #[cfg(test)]
 mod words;

@@ -1,0 +1,215 @@
+//! What a case asks of a script.
+
+use crate::outside::{Asked, CALM, Outside, Served, serve_in};
+use crate::serving::{Told, put_end, put_status};
+use case_lines::{CaseStop, cut, found, put};
+use script_server::Status;
+use std::alloc::Global;
+use std::sync::Wait;
+use std::thread::Threads;
+use text_place::read_decimal;
+
+#[derive(Clone, Copy)]
+enum Question {
+    Serve,
+    Head,
+    Tail,
+    Room,
+    Read,
+    Write,
+    Reads,
+    Writes,
+}
+
+const QUESTIONS: [(&[u8], Question); 8] = [
+    (b"serve", Question::Serve),
+    (b"head", Question::Head),
+    (b"tail", Question::Tail),
+    (b"room", Question::Room),
+    (b"read", Question::Read),
+    (b"write", Question::Write),
+    (b"reads", Question::Reads),
+    (b"writes", Question::Writes),
+];
+
+/// How many numbers stand between a question and the words.
+fn count_of(question: Question) -> usize {
+    match question {
+        Question::Serve => 0,
+        Question::Head | Question::Tail | Question::Room | Question::Reads | Question::Writes => 1,
+        Question::Read | Question::Write => 2,
+    }
+}
+
+/// A number of up to seven digits, and what stands behind it.
+fn number(text: &[u8]) -> Result<(u32, &[u8]), CaseStop> {
+    let (digits, rest) = cut(text);
+    let number = read_decimal(digits).ok_or(CaseStop::Unread)?;
+    match u32::try_from(number) {
+        Ok(number) => Ok((number, rest)),
+        Err(_) => Err(CaseStop::Unread),
+    }
+}
+
+/// Words, a space between two of them.
+fn words_of(alloc: Global, text: &[u8]) -> Result<Vec<String>, CaseStop> {
+    let mut words = Vec::new(alloc);
+    for word in text.split(|byte| *byte == b' ') {
+        if !word.is_empty() {
+            let word = str::from_utf8(word).ok().ok_or(CaseStop::Unread)?;
+            words.push(String::from_str(alloc, word)?)?;
+        }
+    }
+    Ok(words)
+}
+
+/// The words and the script of a case, a slash and a space between them.
+fn asked_of(alloc: Global, text: &[u8]) -> Result<Asked, CaseStop> {
+    let at = text
+        .iter()
+        .position(|byte| *byte == b'/')
+        .ok_or(CaseStop::Unread)?;
+    let script = match &text[at + 1..] {
+        [b' ', rest @ ..] => rest,
+        rest => rest,
+    };
+    Ok(Asked {
+        words: words_of(alloc, &text[..at])?,
+        script: script.to_vec(alloc)?,
+    })
+}
+
+/// How calls end where each read fails in turn, up to the first that is done: each different end once.
+fn put_reads<R: Threads + Wait + Sync>(
+    rt: &R,
+    alloc: Global,
+    out: &mut Vec<u8>,
+    asked: &Asked,
+    piece: u32,
+) -> Result<(), CaseStop> {
+    let mut last = Vec::new(alloc);
+    for read in 1..1000 {
+        let served = serve_in(
+            rt,
+            alloc,
+            asked,
+            Outside {
+                read,
+                piece,
+                ..CALM
+            },
+        )?;
+        let mut end = Vec::new(alloc);
+        put_end(alloc, &mut end, &served, Told::All)?;
+        if end != last {
+            put(out, &end)?;
+            put(out, b"; ")?;
+            last = end;
+        }
+        if served.status == Status::Done {
+            return Ok(());
+        }
+    }
+    Err(CaseStop::Unread)
+}
+
+/// How a call ended, and whether its output is a beginning of another one.
+fn put_beginning(out: &mut Vec<u8>, served: &Served, whole: &[u8]) -> Result<(), CaseStop> {
+    put_status(out, served.status)?;
+    if served.output.as_slice() == whole {
+        put(out, b" all")?;
+    } else if whole.starts_with(&served.output) {
+        put(out, b" a beginning")?;
+    } else {
+        put(out, b" something else")?;
+    }
+    Ok(())
+}
+
+/// How calls end where each write fails in turn, up to the first that is done: each different end once.
+fn put_writes<R: Threads + Wait + Sync>(
+    rt: &R,
+    alloc: Global,
+    out: &mut Vec<u8>,
+    asked: &Asked,
+    piece: u32,
+) -> Result<(), CaseStop> {
+    let whole = serve_in(rt, alloc, asked, CALM)?;
+    let mut last = Vec::new(alloc);
+    for write in 1..1000 {
+        let served = serve_in(
+            rt,
+            alloc,
+            asked,
+            Outside {
+                write,
+                piece,
+                ..CALM
+            },
+        )?;
+        let mut end = Vec::new(alloc);
+        put_beginning(&mut end, &served, &whole.output)?;
+        if end != last {
+            put(out, &end)?;
+            put(out, b"; ")?;
+            last = end;
+        }
+        if served.status == Status::Done {
+            return Ok(());
+        }
+    }
+    Err(CaseStop::Unread)
+}
+
+/// The outside of a question, by its numbers.
+fn outside_of(question: Question, first: u32, second: u32) -> Outside {
+    match question {
+        Question::Room => Outside {
+            room: first as usize,
+            ..CALM
+        },
+        Question::Read => Outside {
+            read: u64::from(first),
+            piece: second,
+            ..CALM
+        },
+        Question::Write => Outside {
+            write: u64::from(first),
+            piece: second,
+            ..CALM
+        },
+        _ => CALM,
+    }
+}
+
+/// What is told of the output.
+fn told_of(question: Question, first: u32) -> Told {
+    match question {
+        Question::Head => Told::First(first as usize),
+        Question::Tail => Told::Last(first as usize),
+        _ => Told::All,
+    }
+}
+
+/// The answer of a case.
+pub fn put_served<R: Threads + Wait + Sync>(
+    rt: &R,
+    alloc: Global,
+    out: &mut Vec<u8>,
+    text: &[u8],
+) -> Result<(), CaseStop> {
+    let (asked, rest) = cut(text);
+    let question = found(&QUESTIONS, asked).ok_or(CaseStop::Unread)?;
+    let count = count_of(question);
+    let (first, rest) = if count > 0 { number(rest)? } else { (0, rest) };
+    let (second, rest) = if count > 1 { number(rest)? } else { (0, rest) };
+    let asked = asked_of(alloc, rest)?;
+    match question {
+        Question::Reads => put_reads(rt, alloc, out, &asked, first),
+        Question::Writes => put_writes(rt, alloc, out, &asked, first),
+        _ => {
+            let served = serve_in(rt, alloc, &asked, outside_of(question, first, second))?;
+            put_end(alloc, out, &served, told_of(question, first))
+        }
+    }
+}

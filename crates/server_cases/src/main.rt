@@ -1,0 +1,89 @@
+//! Answers cases of whole scripts, in the form of `case_lines`, where a stroke `|` stands for a newline in a script and in
+//! an output. Another byte that cannot be seen, and a stroke, is told by its number between backticks. What is answered is how the call ended, and the output.
+//!
+//! - `serve WORDS / SCRIPT` serves a script by the words of a command line. `head N WORDS / SCRIPT` and
+//!   `tail N WORDS / SCRIPT` tell the first N bytes of the output, and the last N.
+//! - `read K PIECE WORDS / SCRIPT` lets the read of number K fail, counted from 1, where each gives PIECE bytes at most;
+//!   `write K PIECE WORDS / SCRIPT` the same of writes. `room N WORDS / SCRIPT` leaves room for N bytes of output.
+//! - `reads PIECE WORDS / SCRIPT` lets each read fail in turn, and tells how the calls end, each different end once;
+//!   `writes PIECE WORDS / SCRIPT` lets each write fail, and tells in place of the output whether it is a beginning of the
+//!   last one.
+//! - `commands SCRIPT` asks for the clients of a script with their commands, or its fault.
+//! - `option NAME,VALUE` asks whether a run takes an option, with its value in its own word, and behind `=`.
+#![tactic(auto)]
+
+mod asked;
+mod commands;
+mod options;
+mod outside;
+mod serving;
+
+use crate::asked::put_served;
+use crate::commands::put_commands;
+use crate::options::put_option;
+use case_lines::{CaseStop, begin_line, cut, end_line, read_lines, unfolded};
+use outside_io::{ReadSource, WriteSink, write_all};
+use std::alloc::Global;
+use std::process::ExitCode;
+use std::sync::Wait;
+use std::thread::Threads;
+use text_place::{Bytes, NoMemory};
+
+/// A case, with a newline in place of each stroke.
+fn script_of(alloc: Global, case: &[u8]) -> Result<Vec<u8>, NoMemory> {
+    let mut script = Vec::new(alloc);
+    for byte in case {
+        script.push(if *byte == b'|' { b'\n' } else { *byte })?;
+    }
+    Ok(script)
+}
+
+/// The answer of a case.
+fn put_answer<R: Threads + Wait + Sync>(
+    rt: &R,
+    alloc: Global,
+    out: &mut Vec<u8>,
+    case: &[u8],
+) -> Result<(), CaseStop> {
+    let text = unfolded(alloc, &script_of(alloc, case)?)?;
+    let (asked, rest) = cut(&text);
+    if asked == b"commands".as_slice() {
+        put_commands(alloc, out, rest)
+    } else if asked == b"option".as_slice() {
+        put_option(alloc, out, rest)
+    } else {
+        put_served(rt, alloc, out, &text)
+    }
+}
+
+/// Each line, with its answer below where it is a case.
+fn put_lines<R: Threads + Wait + Sync>(
+    rt: &R,
+    alloc: Global,
+    out: &mut Vec<u8>,
+    lines: &[Bytes],
+) -> Result<(), NoMemory> {
+    for line in lines {
+        if begin_line(out, line.items())? {
+            let told = put_answer(rt, alloc, out, line.items());
+            end_line(out, told)?;
+        }
+    }
+    Ok(())
+}
+
+fn main(rt: HostRuntime) -> ExitCode {
+    let mut out = Vec::new(rt.alloc());
+    let is_done = match read_lines(rt.alloc(), &mut ReadSource::new(rt.stdin())) {
+        Some(lines) => {
+            put_lines(&rt, rt.alloc(), &mut out, &lines).is_ok()
+                && write_all(&mut WriteSink::new(rt.stdout()), &out).is_ok()
+        }
+        None => false,
+    };
+    if is_done {
+        ExitCode::SUCCESS
+    } else {
+        ExitCode::FAILURE
+    }
+}
