@@ -1,20 +1,11 @@
 -- The solids of leaves: what lies behind the planes of all of their faces.
-use Rattle.std.proofs.Common.{◌≡◌, ℕ, true, false, List, [], ◌∷◌, ◌<◌, ◌≤◌, ◌-◌, ◌∙◌, length, map, take, drop, get_or, refl, sym, ap, ap₂, subst, All, Result, Ok, Err, arith}
+use Rattle.std.proofs.Common.{◌≡◌, ℕ, false, List, [], ◌∷◌, ◌∙◌, map, refl, sym, ap, subst, All, Result, Ok, Err}
 use Rattle.std.specs.Prelude.{IfOk}
-use Rattle.std.proofs.lemmas.List.{take_rest}
 use Rattle.plane_predicate.specs.Space.{Coefficients, IsPlane, ComesInReach}
 use Rattle.plane_polygon.specs.Polygons.{Outline}
 use Rattle.plane_polygon.specs.Boxes.{box_outline}
 use Rattle.csg_tree.specs.Formulas.{leaf}
-use Rattle.link_forest.specs.declared.link.Link.{Link}
-use Rattle.link_forest.specs.declared.link.Link.TheVariants.{End}
-use Rattle.plane_table.specs.declared.faces.Face.{Face}
-use Rattle.plane_table.specs.Faces.{outline_of}
 use Rattle.bsp_tree.specs.Trees.{Tree, inside, outside, node, make}
-use Rattle.bsp_tree.specs.Growths.{Sheet, tree_on}
-use Rattle.bsp_tree.proofs.Sheets.{leaf_stands, longer_itself, longer_twice}
-use Rattle.bsp_tree.proofs.Wholes.{leaf_tree}
-use Rattle.bsp_partition.specs.Parts.{HasMade, HasParts}
 use Rattle.bsp_tree.specs.Shapes.{tree_of, SolidParts}
 use Rattle.bsp_partition.specs.Partitions.{divide}
 use Rattle.bsp_boolean.specs.declared.building.BuildStop.{BuildStop}
@@ -53,28 +44,3 @@ pub built_is_solid : (planes : List Coefficients) (most : ℕ) (r : Result Solid
 built_is_solid planes most r whole reach h =
     built_holds r (convex planes) most (λ u. IsSolidOf (leaf planes) u) h
     (leaf_is_solid planes (λ k d l. record { plane = whole k d l; reach = reach k d l }))
-
--- nothing lies ahead of the planes of no faces
-pub none_behind : (sheet : Sheet) (faces : List Face) → length faces < 1 → HasMade sheet sheet (End true) (behind_all (map (outline_of sheet.planes) faces))
-none_behind sheet [] h = record { longer = longer_itself sheet; stands = leaf_stands sheet true }
-none_behind sheet (face ∷ faces) h = absurd (omega arith)
-
-make_same : {s t : Outline} {b c a d : Tree} → s ≡ t → b ≡ c → a ≡ d → make s b a ≡ make t c d
-make_same {s} {t} {b} {c} {a} {d} e eb ea = ap₂ (λ (u : Outline) (v : Tree). make u v a) e eb ∙ ap (make t c) ea
-
--- what lies behind one face's plane of what lies behind those of the others
-pub one_more_behind : (old middle new last : Sheet) (faces : List Face) (first copy : Face) (rest behind ahead made : Link) →
-    1 ≤ length faces → first ≡ get_or faces 0 first → copy ≡ first →
-    HasMade old middle rest (behind_all (map (outline_of old.planes) (take (length faces - 1) (drop 1 faces)))) →
-    HasParts middle new (behind, ahead) (divide (tree_on middle rest) (outline_of middle.planes first)) →
-    HasMade new last made (make (outline_of new.planes copy) (tree_on new behind) (tree_on new (End false))) →
-    HasMade old last made (behind_all (map (outline_of old.planes) faces))
-one_more_behind old middle new last [] first copy rest behind ahead made some r e h k m = absurd (omega arith)
-one_more_behind old middle new last (face ∷ faces) first copy rest behind ahead made some r e h k m =
-    let others = h.stands.same ∙ ap (λ (fs : List Face). behind_all (map (outline_of old.planes) fs)) (take_rest (face ∷ faces) 1) in
-    let outline = ap₂ outline_of (k.longer.planes ∙ h.longer.planes) (e ∙ r) in
-    let low = k.low.same ∙ ap₂ (λ (t : Tree) (s : Outline). (divide t s).0) others (ap₂ outline_of h.longer.planes r) in
-    record {
-      longer = longer_twice old new last (longer_twice old middle new h.longer k.longer) m.longer;
-      stands = record { there = m.stands.there; same = m.stands.same ∙ make_same outline low (leaf_tree new.planes new.nodes false) };
-    }

@@ -3,5 +3,6 @@ pub mod Combined
 pub mod Merged
 pub mod Solids
 pub mod Convex
+pub mod FaceChains
 mod Examples
 pub mod TreeSolids

@@ -1,4 +1,5 @@
 pub mod Merges
 pub mod Branches
+pub mod Chains
 pub mod Solids
 pub mod TreeSolids

@@ -5,13 +5,12 @@ ghost use Rattle.plane_predicate.specs.Space.{ComesInReach};
 ghost use Rattle.csg_tree.specs.Formulas.{leaf};
 ghost use Rattle.plane_table.specs.Faces.{outline_of, IsFaceOver};
 ghost use Rattle.bsp_tree.specs.Shapes.{tree_of};
-ghost use Rattle.bsp_partition.specs.Parts.{HasMade};
 ghost use Rattle.bsp_boolean.specs.Branches.{behind_all};
 ghost use Rattle.bsp_boolean.specs.Solids.{convex, IsBuilt, IsSolidOf};
 
 use crate::building::BuildStop;
-use bsp_partition::{add_parts, make_node};
-use bsp_tree::{Face, Growing, Link, Nodes, Solid, add_branch, finish};
+use crate::chains::grow_behind;
+use bsp_tree::{Face, Growing, Solid, finish};
 use plane_predicate::Plane;
 use plane_table::{HalfFaces, PlaneTable, half_faces};
 use std::alloc::Global;
@@ -42,24 +41,7 @@ fn behind_all(
     requires { All (IsFaceOver table.now) faces.now }
     ensures { IsBuilt (behind_all (map (outline_of table.now) faces.now)) most result }
 {
-    let mut nodes = Nodes::new(alloc, table);
-    let whole = add_behind_all(alloc, &mut nodes, faces)?;
     let mut growing = Growing::new(alloc, table, most);
-    let root = add_branch(alloc, &mut growing, &nodes, whole, false)?;
+    let root = grow_behind(alloc, &mut growing, table, faces)?;
     Ok(finish(alloc, growing, root)?)
-}
-
-/// Adds their tree to nodes. The whole may be smaller than a part of it, so the parts have no limit.
-fn add_behind_all(alloc: Global, nodes: &mut Nodes<'_>, faces: &[Face]) -> Result<Link, NoMemory>
-    requires { All (IsFaceOver nodes.old.planes) faces.now }
-    ensures { IfOk result (λ l. HasMade nodes.old nodes.new l (behind_all (map (outline_of nodes.old.planes) faces.now))) }
-{
-    match faces {
-        [] => Ok(Link::End(true)),
-        [first, others @ ..] => {
-            let rest = add_behind_all(alloc, nodes, others)?;
-            let (behind, _) = add_parts(alloc, nodes, rest, first)?;
-            make_node(nodes, first.copy(alloc)?, behind, Link::End(false))
-        }
-    }
 }

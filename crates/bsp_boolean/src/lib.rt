@@ -3,6 +3,7 @@
 
 mod branches;
 mod building;
+mod chains;
 mod laws;
 mod leaves;
 mod merging;

@@ -1,7 +1,6 @@
 -- The parts of trees on a sheet to which nodes are added.
 use Rattle.std.proofs.Common.{◌≡◌, Bool, true, false, refl, sym, ap, ap₂, ◌∙◌, subst, arith}
 use Rattle.std.proofs.lemmas.Bool.{false≢true}
-use Rattle.plane_predicate.specs.Space.{Coefficients}
 use Rattle.plane_polygon.specs.Polygons.{Outline}
 use Rattle.link_forest.specs.declared.link.Link.{Link}
 use Rattle.link_forest.specs.declared.link.Link.TheVariants.{End, To}
@@ -12,10 +11,9 @@ use Rattle.plane_table.specs.Faces.{outline_of}
 use Rattle.bsp_tree.specs.Trees.{Tree, node, make}
 use Rattle.bsp_tree.specs.Links.{same_leaf}
 use Rattle.bsp_tree.specs.Shapes.{leaf_of}
-use Rattle.bsp_tree.specs.Growths.{Sheet, tree_on, HasTree, IsLonger}
+use Rattle.bsp_tree.specs.Growths.{Sheet, tree_on, HasTree}
 use Rattle.bsp_tree.proofs.Sheets.{longer_itself, longer_twice, still, stood_on, adds_longer, adds_tree}
 use Rattle.bsp_tree.proofs.Wholes.{leaf_tree}
-use Rattle.bsp_partition.specs.declared.part.Part.{Part}
 use Rattle.bsp_partition.specs.declared.part.Part.TheVariants.{Low, High}
 use Rattle.bsp_partition.specs.Partitions.{across_row, ahead_row, behind_row, divide}
 use Rattle.bsp_partition.specs.Parts.{trees_on, AreLinksOf, HasMade, HasParts, HasSideParts}

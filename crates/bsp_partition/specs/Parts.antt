@@ -1,5 +1,4 @@
 -- The parts of a tree, as they stand on a sheet of nodes.
-use Rattle.std.specs.Prelude.{◌≡◌}
 use Rattle.link_forest.specs.declared.link.Link.{Link}
 use Rattle.link_forest.specs.Forests.{IsLinkOf}
 use Rattle.plane_polygon.specs.Polygons.{Outline}

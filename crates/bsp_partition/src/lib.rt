@@ -10,7 +10,7 @@ mod part;
 mod parting;
 
 use bsp_tree::{Solid, solid_at, solid_over};
-pub use parting::{add_parts, make_node};
+pub use parting::add_parts;
 use plane_polygon::Polygon;
 use plane_table::{PlaneTable, face_of, faces_are_found, join, renumber};
 use std::alloc::Global;

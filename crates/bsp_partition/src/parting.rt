@@ -190,12 +190,7 @@ fn ahead_parts(
 }
 
 /// A node over two links, or the leaf where both are the same leaf.
-pub fn make_node(
-    nodes: &mut Nodes<'_>,
-    face: Face,
-    behind: Link,
-    ahead: Link,
-) -> Result<Link, NoMemory>
+fn make_node(nodes: &mut Nodes<'_>, face: Face, behind: Link, ahead: Link) -> Result<Link, NoMemory>
     requires face { IsFaceOver nodes.old.planes face }
     requires behind { IsLinkOf nodes.old.nodes behind }
     requires ahead { IsLinkOf nodes.old.nodes ahead }

@@ -1,4 +1,4 @@
-use Rattle.std.proofs.Common.{◌≡◌, ◌∙◌, List, sym, ap, ap₂}
+use Rattle.std.proofs.Common.{◌∙◌, List, sym, ap, ap₂}
 use Rattle.plane_predicate.specs.Space.{Coefficients}
 use Rattle.plane_table.specs.Faces.{outline_of}
 use Rattle.link_forest.specs.declared.link.Link.{Link}

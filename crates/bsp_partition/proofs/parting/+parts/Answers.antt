@@ -1,11 +1,10 @@
-use Rattle.std.proofs.Common.{◌≡◌, ◌∙◌, List, sym, ap, ap₂, subst}
+use Rattle.std.proofs.Common.{◌∙◌, List, sym, ap, ap₂, subst}
 use Rattle.std.proofs.lemmas.Result.{IfOk-weaker}
 use Rattle.plane_predicate.specs.Space.{Coefficients}
 use Rattle.plane_polygon.specs.Polygons.{Outline}
-use Rattle.plane_polygon.specs.Parts.{class_of, part_ahead, part_behind}
+use Rattle.plane_polygon.specs.Parts.{part_ahead, part_behind}
 use Rattle.plane_polygon.specs.declared.classes.Class.{Class}
 use Rattle.plane_table.specs.Faces.{outline_of}
-use Rattle.link_forest.specs.declared.link.Link.{Link}
 use Rattle.bsp_tree.specs.Trees.{Tree}
 use Rattle.bsp_tree.specs.Growths.{tree_on}
 use Rattle.bsp_tree.proofs.Sheets.{stood_on}

@@ -1,7 +1,6 @@
-use Rattle.std.proofs.Common.{◌≡◌, ◌∙◌, List, sym, ap, ap₂, subst}
+use Rattle.std.proofs.Common.{◌∙◌, List, sym, ap, ap₂, subst}
 use Rattle.plane_predicate.specs.Space.{Coefficients}
 use Rattle.plane_polygon.specs.Polygons.{Outline}
-use Rattle.plane_polygon.specs.Parts.{part_ahead, part_behind}
 use Rattle.plane_table.specs.Faces.{outline_of}
 use Rattle.bsp_tree.specs.Trees.{make}
 use Rattle.bsp_tree.specs.Growths.{tree_on}
