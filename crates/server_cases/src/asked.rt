@@ -79,7 +79,8 @@ fn asked_of(alloc: Global, text: &[u8]) -> Result<Asked, CaseStop> {
     })
 }
 
-/// How calls end where each read fails in turn, up to the first that is done: each different end once.
+/// How calls end where each read fails in turn, up to the first that is done: each end that differs from the
+/// one before.
 fn put_reads<R: Threads + Wait + Sync>(
     rt: &R,
     alloc: Global,
@@ -126,7 +127,8 @@ fn put_beginning(out: &mut Vec<u8>, served: &Served, whole: &[u8]) -> Result<(),
     Ok(())
 }
 
-/// How calls end where each write fails in turn, up to the first that is done: each different end once.
+/// How calls end where each write fails in turn, up to the first that is done: each end that differs from the
+/// one before.
 fn put_writes<R: Threads + Wait + Sync>(
     rt: &R,
     alloc: Global,

@@ -5,9 +5,9 @@
 //!   `tail N WORDS / SCRIPT` tell the first N bytes of the output, and the last N.
 //! - `read K PIECE WORDS / SCRIPT` lets the read of number K fail, counted from 1, where each gives PIECE bytes at most;
 //!   `write K PIECE WORDS / SCRIPT` the same of writes. `room N WORDS / SCRIPT` leaves room for N bytes of output.
-//! - `reads PIECE WORDS / SCRIPT` lets each read fail in turn, and tells how the calls end, each different end once;
-//!   `writes PIECE WORDS / SCRIPT` lets each write fail, and tells in place of the output whether it is a beginning of the
-//!   last one.
+//! - `reads PIECE WORDS / SCRIPT` lets each read fail in turn, and tells how the calls end, each end that differs from the one
+//!   before; `writes PIECE WORDS / SCRIPT` lets each write fail, and tells in place of the output whether it is a beginning of
+//!   the one where nothing fails.
 //! - `commands SCRIPT` asks for the clients of a script with their commands, or its fault.
 //! - `option NAME,VALUE` asks whether a run takes an option, with its value in its own word, and behind `=`.
 #![tactic(auto)]
