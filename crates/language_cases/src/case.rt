@@ -1,11 +1,10 @@
 //! One case and its answer.
 
 use crate::program::{put_program, put_reads};
-use crate::repeat::unfolded;
-use crate::text::{cut, put};
 use crate::tokens::put_tokens;
 use crate::tree::put_meaning;
 use crate::value::put_value_after;
+use case_lines::{cut, put, unfolded};
 use plane_predicate::Unit;
 use std::alloc::Global;
 use text_place::{NoMemory, read_decimal};
@@ -50,20 +49,13 @@ fn put_turns(alloc: Global, out: &mut Vec<u8>, text: &[u8]) -> Result<(), NoMemo
     }
 }
 
-/// A line, and the answer of the case that it has.
-pub fn put_case(alloc: Global, out: &mut Vec<u8>, line: &[u8]) -> Result<(), NoMemory> {
-    put(out, line)?;
-    put(out, b"\n")?;
-    if line.is_empty() || line.starts_with(b"#") {
-        return Ok(());
-    }
-    put(out, b"    ")?;
-    let (asked, text) = cut(line);
+/// The answer of a case.
+pub fn put_case(alloc: Global, out: &mut Vec<u8>, case: &[u8]) -> Result<(), NoMemory> {
+    let (asked, text) = cut(case);
     if asked == b"turns".as_slice() {
-        put_turns(alloc, out, text)?;
+        put_turns(alloc, out, text)
     } else {
         let source = unfolded(alloc, text)?;
-        put_answer(alloc, out, asked, &source)?;
+        put_answer(alloc, out, asked, &source)
     }
-    put(out, b"\n")
 }

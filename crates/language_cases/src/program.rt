@@ -2,7 +2,8 @@
 
 ghost use Rattle.std.specs.Prelude.{◌≤◌, ◌^◌, length};
 
-use crate::text::{put, put_at, put_name, put_special, put_stop};
+use crate::text::{put_at, put_name, put_special, put_stop};
+use case_lines::put;
 use scad_ast::{
     Arg, Args, BinaryOp, Binder, Body, Core, Expr, Exprs, Instance, Link, Mark, Modifier, Param,
     Params, Program, Statement, Statements, Suffix, UnaryOp,

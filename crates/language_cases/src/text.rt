@@ -1,13 +1,9 @@
 //! Text, columns and faults, written behind what was written.
 
+use case_lines::put;
 use compact_bytes::CompactBytes;
 use std::alloc::Global;
 use text_place::{Fault, NoMemory, Place, Stop, push_decimal, word};
-
-pub fn put(out: &mut Vec<u8>, text: &[u8]) -> Result<(), NoMemory> {
-    out.extend_from_slice(text)?;
-    Ok(())
-}
 
 /// A text with the column of its place.
 pub fn put_at(alloc: Global, out: &mut Vec<u8>, text: &[u8], place: Place) -> Result<(), NoMemory> {
@@ -53,13 +49,5 @@ pub fn put_stop(alloc: Global, out: &mut Vec<u8>, stop: Stop) -> Result<(), NoMe
     match stop {
         Stop::Fault(fault) => put_fault(alloc, out, fault),
         Stop::NoMemory => put(out, b"no memory"),
-    }
-}
-
-/// What stands before the first space, and what stands behind it.
-pub fn cut(text: &[u8]) -> (&[u8], &[u8]) {
-    match text.iter().position(|byte| *byte == b' ') {
-        Some(at) => (&text[..at], &text[at + 1..]),
-        None => (text, b""),
     }
 }

@@ -2,7 +2,8 @@
 
 ghost use Rattle.std.specs.Prelude.{◌≤◌, ◌^◌, length};
 
-use crate::text::{put, put_place, put_stop};
+use crate::text::{put_place, put_stop};
+use case_lines::put;
 use scad_lexer::{Token, TokenKind, lex};
 use std::alloc::Global;
 use text_place::NoMemory;

@@ -4,7 +4,8 @@
 ghost use Rattle.std.specs.Prelude.{◌≤◌, ◌^◌, length};
 
 use crate::program::read;
-use crate::text::{put, put_stop};
+use crate::text::put_stop;
+use case_lines::put;
 use csg_tree::{CsgTree, Op};
 use plane_predicate::{Plane, Unit};
 use scad_eval::evaluate;

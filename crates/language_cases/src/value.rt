@@ -3,7 +3,8 @@
 ghost use Rattle.std.specs.Prelude.{◌≤◌, ◌^◌, length};
 
 use crate::program::read;
-use crate::text::{put, put_stop};
+use crate::text::put_stop;
+use case_lines::put;
 use scad_ast::{Expr, Program, Statement};
 use scad_func::{Meter, Source, value_in};
 use scad_scope::Scopes;
