@@ -1,12 +1,13 @@
 -- Nodes over a table of planes, and solids in the making.
-use Rattle.std.specs.Prelude.{◌≡◌, ℕ, ◌+◌, ◌<◌, Bool, true, false, List, length, Result, Ok, Err}
-use Rattle.plane_predicate.specs.Space.{Coefficients}
+use Rattle.std.specs.Prelude.{◌≡◌, ℕ, ◌+◌, ◌<◌, Bool, true, false, List, length, slice_get, Some, Result, Ok, Err, Vec}
+use Rattle.plane_predicate.specs.Space.{Coefficients, Coordinates}
 use Rattle.link_forest.specs.declared.link.Link.{Link}
 use Rattle.link_forest.specs.declared.forest.Entry.{Entry}
 use Rattle.link_forest.specs.Forests.{Extends, IsLinkOf, AreReached, AreReachedFrom}
 use Rattle.plane_table.specs.declared.faces.Face.{Face}
+use Rattle.plane_table.specs.Faces.{outline_of, AreKnownCorners}
 use Rattle.bsp_tree.specs.Trees.{Tree, complement, size}
-use Rattle.bsp_tree.specs.Shapes.{tree_over}
+use Rattle.bsp_tree.specs.Shapes.{tree_over, AreFacesOver}
 use Rattle.bsp_tree.specs.declared.growing.GrowStop.{GrowStop}
 use Rattle.bsp_tree.specs.declared.growing.GrowStop.TheVariants.{TooBig, NoMemory}
 
@@ -14,6 +15,13 @@ use Rattle.bsp_tree.specs.declared.growing.GrowStop.TheVariants.{TooBig, NoMemor
 pub record Sheet : Type 0 where
   pub planes : List Coefficients
   pub nodes : List (Entry Face)
+
+-- each node has a face over the planes, and beside each stand the corners of its face, or none
+pub record AreMetNodes {Z : Type 0} (planes : List Coefficients) (nodes : List (Entry Face)) (kept : List (Vec Coordinates Z)) : Type 0 where
+  pub faces : AreFacesOver planes nodes
+  pub same : length kept ≡ length nodes
+  pub known : (index : ℕ) (node : Entry Face) (corners : Vec Coordinates Z) →
+      slice_get nodes index ≡ Some node → slice_get kept index ≡ Some corners → AreKnownCorners (outline_of planes node.payload) corners.items
 
 -- the tree at a link of a sheet
 abbrev pub tree_on : Sheet → Link → Tree

@@ -21,7 +21,7 @@ pub use laws::{
     box_polygons_are_polygons, corners_go_counterclockwise, parts_are_polygons,
     points_lie_in_the_fan, polygons_by_their_corners, polygons_keep_their_form, within_is_left,
 };
-pub use listing::corners;
+pub use listing::{corners, meeting_of};
 pub use parallels::parallel_side;
 use plane_predicate::Plane;
 pub use sides::{next_index, side_at};

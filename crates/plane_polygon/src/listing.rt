@@ -45,7 +45,7 @@ fn corner_point(plane: &Plane, edges: &[Plane], i: usize) -> Point
 
 /// The meeting of three planes whose determinant is positive.
 #[tactic(auto, using(crate::proofs::CornerSides::positive_meeting, crate::proofs::CornerSides::positive_apart))]
-fn meeting_of(p: &Plane, q: &Plane, r: &Plane) -> Point
+pub fn meeting_of(p: &Plane, q: &Plane, r: &Plane) -> Point
     requires { pos 0 <ℤ (cramer p.now q.now r.now).w }
     ensures { result ≡ cramer p.now q.now r.now }
 {

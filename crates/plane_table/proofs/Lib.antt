@@ -1,5 +1,6 @@
 pub mod Numbers
 pub mod Corners
+pub mod MetCorners
 pub mod Cuts
 pub mod Planes
 pub mod Orders

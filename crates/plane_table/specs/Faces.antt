@@ -1,9 +1,10 @@
 -- Faces over a list of planes: polygons whose planes are named by number.
-use Rattle.std.specs.Prelude.{◌≡◌, ℕ, ◌+◌, List, length, map, All}
+use Rattle.std.specs.Prelude.{◌≡◌, ◌⊎◌, ℕ, ◌+◌, List, [], length, map, All}
 use Rattle.plane_predicate.specs.Space.{Coefficients, Coordinates}
 use Rattle.plane_polygon.specs.Polygons.{Outline, IsPolygon}
 use Rattle.plane_polygon.specs.Parts.{class_of, corners, is_behind, is_ahead}
 use Rattle.plane_table.specs.declared.faces.Face.{Face}
+use Rattle.plane_table.specs.declared.met_faces.MetFace.{MetFace}
 use Rattle.plane_table.specs.declared.sorting.CornerSide.{CornerSide}
 use Rattle.plane_table.specs.declared.sorting.CornerSides.{CornerSides}
 use Rattle.plane_table.specs.Tables.{named, IsNumberIn}
@@ -30,3 +31,12 @@ side_against m p = record { is_behind = is_behind m p; is_ahead = is_ahead m p }
 pub record AreSidesOf (s : Outline) (m : Coefficients) (sides : CornerSides) : Type 0 where
   pub class : sides.class ≡ class_of s m
   pub corners : sides.corners.items ≡ map (side_against m) (corners s)
+
+-- the corners of an outline in order, or none where they are not known
+abbrev pub AreKnownCorners : Outline → List Coordinates → Type 0
+AreKnownCorners s known = (known ≡ []) ⊎ (known ≡ corners s)
+
+-- a face over a table with its corners, or without them
+pub record IsMetOver (planes : List Coefficients) (met : MetFace) : Type 0 where
+  pub face : IsFaceOver planes met.face
+  pub corners : AreKnownCorners (outline_of planes met.face) met.corners.items

@@ -5,7 +5,7 @@ use Rattle.plane_table.specs.declared.sorting.CornerSide.{CornerSide}
 use Rattle.plane_table.specs.Tables.{named}
 use Rattle.plane_table.specs.Faces.{outline_of, side_against}
 use Rattle.plane_table.proofs.Corners.{some_step, map_step, class_end, sides_end}
-use Rattle.plane_table.proofs.sorting.sides.Goals as goal
+use Rattle.plane_table.proofs.sorting.sides_by.Goals as goal
 
 pub loop-i-preserved : goal.loop-i-preserved
 loop-i-preserved c =
@@ -13,9 +13,9 @@ loop-i-preserved c =
     let m = named c.args.table.now c.args.number in
     let i = c.loop-i.i in
     record {
-      behind = c.either-some_behind.ensures ∙ some_step (is_behind m) (corner s) i c.loop-i.some_behind c.corner_side-side.result.is_behind c.loop-i.invariant.behind (ap (λ (d : CornerSide). d.is_behind) c.corner_side-side.ensures);
-      ahead = c.either-some_ahead.ensures ∙ some_step (is_ahead m) (corner s) i c.loop-i.some_ahead c.corner_side-side.result.is_ahead c.loop-i.invariant.ahead (ap (λ (d : CornerSide). d.is_ahead) c.corner_side-side.ensures);
-      corners = c.in_ok-push.ensures.ok ∙ map_step (λ k. side_against m (corner s k)) i c.loop-i.corners.items c.corner_side-side.result c.loop-i.invariant.corners c.corner_side-side.ensures;
+      behind = c.either-some_behind.ensures ∙ some_step (is_behind m) (corner s) i c.loop-i.some_behind c.known_side-side.result.is_behind c.loop-i.invariant.behind (ap (λ (d : CornerSide). d.is_behind) c.known_side-side.ensures);
+      ahead = c.either-some_ahead.ensures ∙ some_step (is_ahead m) (corner s) i c.loop-i.some_ahead c.known_side-side.result.is_ahead c.loop-i.invariant.ahead (ap (λ (d : CornerSide). d.is_ahead) c.known_side-side.ensures);
+      corners = c.in_ok-push.ensures.ok ∙ map_step (λ k. side_against m (corner s k)) i c.loop-i.corners.items c.known_side-side.result c.loop-i.invariant.corners c.known_side-side.ensures;
     }
 
 pub returns : goal.returns

@@ -1,0 +1,8 @@
+use Rattle.std.proofs.Common.{◌≡◌, map}
+use Rattle.plane_polygon.specs.Polygons.{corner}
+use Rattle.plane_polygon.specs.Parts.{up_to}
+use Rattle.plane_table.specs.Faces.{outline_of}
+use Rattle.plane_table.proofs.met_faces.corners_like.Given as goal
+
+abbrev pub invariant-loop-i : goal.invariant-loop-i
+invariant-loop-i l = l.found.items ≡ map (corner (outline_of l.table l.face)) (up_to l.i)
