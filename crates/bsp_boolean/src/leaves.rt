@@ -13,7 +13,7 @@ use crate::building::BuildStop;
 use bsp_partition::{add_parts, make_node};
 use bsp_tree::{Face, Growing, Link, Nodes, Solid, add_branch, finish};
 use plane_predicate::Plane;
-use plane_table::{HalfFaces, PlaneTable, half_faces};
+use plane_table::{HalfFaces, MetFace, PlaneTable, half_faces};
 use std::alloc::Global;
 use text_place::NoMemory;
 
@@ -59,7 +59,8 @@ fn add_behind_all(alloc: Global, nodes: &mut Nodes<'_>, faces: &[Face]) -> Resul
         [first, others @ ..] => {
             let rest = add_behind_all(alloc, nodes, others)?;
             let (behind, _) = add_parts(alloc, nodes, rest, first)?;
-            make_node(nodes, first.copy(alloc)?, behind, Link::End(false))
+            let met = MetFace::of(alloc, nodes.table(), first.copy(alloc)?)?;
+            make_node(nodes, met, behind, Link::End(false))
         }
     }
 }

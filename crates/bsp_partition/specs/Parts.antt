@@ -6,7 +6,7 @@ use Rattle.plane_polygon.specs.Polygons.{Outline}
 use Rattle.plane_polygon.specs.Parts.{class_of, part_ahead, part_behind}
 use Rattle.bsp_tree.specs.Trees.{Tree}
 use Rattle.bsp_tree.specs.Growths.{Sheet, tree_on, HasTree, IsLonger}
-use Rattle.plane_table.specs.Faces.{IsFaceOver}
+use Rattle.plane_table.specs.Faces.{IsMetOver}
 use Rattle.bsp_partition.specs.declared.fork.Fork.{Fork}
 use Rattle.bsp_partition.specs.Partitions.{divide, rows}
 
@@ -48,6 +48,6 @@ trees_on sheet links = (tree_on sheet links.0, tree_on sheet links.1)
 
 -- a node by itself has a face over the sheet's planes, and links of the sheet
 pub record IsForkOn (sheet : Sheet) (node : Fork) : Type 0 where
-  pub own : IsFaceOver sheet.planes node.face
+  pub own : IsMetOver sheet.planes node.met
   pub behind : IsLinkOf sheet.nodes node.behind
   pub ahead : IsLinkOf sheet.nodes node.ahead

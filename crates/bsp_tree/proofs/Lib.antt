@@ -13,5 +13,6 @@ pub mod NearPoints
 pub mod Sheets
 pub mod Growths
 pub mod SheetFaces
+pub mod MetNodes
 pub mod Wholes
 pub mod CopiedNodes

@@ -2,7 +2,7 @@
 
 ghost use Rattle.std.specs.Prelude.{◌≤◌, length};
 ghost use Rattle.link_forest.specs.Forests.{IsLinkOf};
-ghost use Rattle.plane_table.specs.Faces.{outline_of, IsFaceOver};
+ghost use Rattle.plane_table.specs.Faces.{outline_of, IsFaceOver, IsMetOver};
 ghost use Rattle.bsp_tree.specs.Shapes.{tree_over, AreFacesOver};
 ghost use Rattle.facet_cut.specs.Facets.{facets_ahead, facets_between, facets_of, facing};
 ghost use Rattle.facet_cut.specs.Adding.{Adds};
@@ -11,7 +11,7 @@ use crate::adding::push_facing;
 use crate::{CutStop, Facet};
 use bsp_tree::{Face, Forest, Link};
 use plane_polygon::Class;
-use plane_table::{PlaneTable, cut, polygon_of, sides};
+use plane_table::{MetFace, PlaneTable, met_cut, met_sides, polygon_of};
 use std::alloc::Global;
 
 /// The nodes of a solid, between whose leaves its faces are cut.
@@ -41,15 +41,16 @@ impl<'a> Walls<'a> {
             Link::End(_) => Ok(()),
             Link::To(id) => {
                 let (face, behind, ahead) = self.forest.at(id);
-                self.push_between(alloc, behind, ahead, face, most, found)?;
+                self.push_on_face(alloc, behind, ahead, face, most, found)?;
                 self.push_facets(alloc, behind, most, found)?;
                 self.push_facets(alloc, ahead, most, found)
             }
         }
     }
 
-    /// Adds the facets on a face between the solids behind and ahead of its plane.
-    fn push_between(
+    /// Adds the facets on a face between the solids behind and ahead of its plane. Between two leaves its
+    /// corners aren't met.
+    fn push_on_face(
         &self,
         alloc: Global,
         behind: Link,
@@ -65,18 +66,42 @@ impl<'a> Walls<'a> {
         requires within { length found.old.items ≤ most }
         ensures { Adds (facets_between (tree_over self.now.table.now self.now.forest.now.nodes behind) (tree_over self.now.table.now self.now.forest.now.nodes ahead) (outline_of self.now.table.now face.now)) most found.old.items found.new.items result }
     {
+        if let (Link::End(is_inside), Link::End(is_ahead_inside)) = (behind, ahead) {
+            return self.push_wall(alloc, is_inside, is_ahead_inside, face, most, found);
+        }
+        let met = MetFace::of(alloc, self.table, face.copy(alloc)?)?;
+        self.push_between(alloc, behind, ahead, &met, most, found)
+    }
+
+    /// Adds the facets on a face between the solids behind and ahead of its plane.
+    fn push_between(
+        &self,
+        alloc: Global,
+        behind: Link,
+        ahead: Link,
+        met: &MetFace,
+        most: u64,
+        found: &mut Vec<Facet>,
+    ) -> Result<(), CutStop>
+        requires faces { AreFacesOver self.now.table.now self.now.forest.now.nodes }
+        requires behind { IsLinkOf self.now.forest.now.nodes behind }
+        requires ahead { IsLinkOf self.now.forest.now.nodes ahead }
+        requires met { IsMetOver self.now.table.now met.now }
+        requires within { length found.old.items ≤ most }
+        ensures { Adds (facets_between (tree_over self.now.table.now self.now.forest.now.nodes behind) (tree_over self.now.table.now self.now.forest.now.nodes ahead) (outline_of self.now.table.now met.now.face)) most found.old.items found.new.items result }
+    {
         match behind {
-            Link::End(is_inside) => { self.push_ahead(alloc, is_inside, ahead, face, most, found) }
+            Link::End(is_inside) => { self.push_ahead(alloc, is_inside, ahead, met, most, found) }
             Link::To(id) => {
                 let (own, low, high) = self.forest.at(id);
-                let of_face = sides(alloc, self.table, face, own.plane)?;
+                let of_face = met_sides(alloc, self.table, met, own.plane)?;
                 match of_face.class {
                     Class::Behind | Class::On => {
-                        self.push_between(alloc, low, ahead, face, most, found)
+                        self.push_between(alloc, low, ahead, met, most, found)
                     }
-                    Class::Ahead => self.push_between(alloc, high, ahead, face, most, found),
+                    Class::Ahead => self.push_between(alloc, high, ahead, met, most, found),
                     Class::Across => {
-                        let parts = cut(alloc, self.table, face, own.plane, &of_face)?;
+                        let parts = met_cut(alloc, self.table, met, own.plane, &of_face)?;
                         self.push_between(alloc, low, ahead, &parts.0, most, found)?;
                         self.push_between(alloc, high, ahead, &parts.1, most, found)
                     }
@@ -91,30 +116,30 @@ impl<'a> Walls<'a> {
         alloc: Global,
         is_inside: bool,
         ahead: Link,
-        face: &Face,
+        met: &MetFace,
         most: u64,
         found: &mut Vec<Facet>,
     ) -> Result<(), CutStop>
         requires faces { AreFacesOver self.now.table.now self.now.forest.now.nodes }
         requires ahead { IsLinkOf self.now.forest.now.nodes ahead }
-        requires face { IsFaceOver self.now.table.now face.now }
+        requires met { IsMetOver self.now.table.now met.now }
         requires within { length found.old.items ≤ most }
-        ensures { Adds (facets_ahead is_inside (tree_over self.now.table.now self.now.forest.now.nodes ahead) (outline_of self.now.table.now face.now)) most found.old.items found.new.items result }
+        ensures { Adds (facets_ahead is_inside (tree_over self.now.table.now self.now.forest.now.nodes ahead) (outline_of self.now.table.now met.now.face)) most found.old.items found.new.items result }
     {
         match ahead {
             Link::End(is_ahead_inside) => {
-                self.push_wall(alloc, is_inside, is_ahead_inside, face, most, found)
+                self.push_wall(alloc, is_inside, is_ahead_inside, &met.face, most, found)
             }
             Link::To(id) => {
                 let (own, low, high) = self.forest.at(id);
-                let of_face = sides(alloc, self.table, face, own.plane)?;
+                let of_face = met_sides(alloc, self.table, met, own.plane)?;
                 match of_face.class {
                     Class::Behind | Class::On => {
-                        self.push_ahead(alloc, is_inside, low, face, most, found)
+                        self.push_ahead(alloc, is_inside, low, met, most, found)
                     }
-                    Class::Ahead => self.push_ahead(alloc, is_inside, high, face, most, found),
+                    Class::Ahead => self.push_ahead(alloc, is_inside, high, met, most, found),
                     Class::Across => {
-                        let parts = cut(alloc, self.table, face, own.plane, &of_face)?;
+                        let parts = met_cut(alloc, self.table, met, own.plane, &of_face)?;
                         self.push_ahead(alloc, is_inside, low, &parts.0, most, found)?;
                         self.push_ahead(alloc, is_inside, high, &parts.1, most, found)
                     }

@@ -2,8 +2,8 @@ use Rattle.std.proofs.Common.{◌+◌, ◌*◌, max}
 use Rattle.link_forest.specs.Forests.{least_nodes}
 use Rattle.bsp_partition.proofs.parting.+parts.Given as goal
 
-abbrev pub decreases-add_parts : goal.decreases-add_parts
-decreases-add_parts l = 4 * least_nodes l.at
+abbrev pub decreases-met_parts : goal.decreases-met_parts
+decreases-met_parts l = 4 * least_nodes l.at
 
 abbrev pub decreases-node_parts : goal.decreases-node_parts
 decreases-node_parts l = 4 * l.id.index + 3

@@ -23,7 +23,7 @@ returns c =
     let new = c.make_node-2.new.nodes in
     let links = c.args.parts in
     let behind = rw c.table.ensures at c.in_ok-behind.ensures.behind in
-    let ahead = ap (λ (ps : List Coefficients). outline_of ps c.in_ok-behind.ahead) c.in_ok-first.ensures.longer.planes
+    let ahead = ap (λ (ps : List Coefficients). outline_of ps c.in_ok-behind.ahead.face) c.in_ok-first.ensures.longer.planes
     ∙ (rw c.table.ensures at c.in_ok-behind.ensures.ahead) in
     let first = subst (λ (s : Outline). HasMade old middle c.in_ok-first.first (make s (tree_on old links.0.0) (tree_on old links.1.0)))
     behind c.in_ok-first.ensures in

@@ -10,5 +10,5 @@ returns-then-is_same_leaf c = same_made _ _ _ _ c.requires.behind (sym c.is_same
 pub returns : goal.returns
 returns c =
     let old = c.args.nodes.now in
-    rw (← other_make old c.args.behind c.args.ahead (outline_of old.planes c.args.face) c.len.ensures.linked c.requires.behind c.requires.ahead (sym c.is_same_leaf.ensures ∙ c.if-is_same_leaf.false))
-    (node_made old _ _ _ _ _ c.in_ok-add.ensures.planes c.in_ok-add.ensures.adds)
+    rw (← other_make old c.args.behind c.args.ahead (outline_of old.planes c.args.met.face) c.len.ensures.linked c.requires.behind c.requires.ahead (sym c.is_same_leaf.ensures ∙ c.if-is_same_leaf.false))
+    (node_made old _ _ _ _ _ c.in_ok-add_met.ensures.planes c.in_ok-add_met.ensures.adds)

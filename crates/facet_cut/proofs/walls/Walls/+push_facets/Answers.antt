@@ -3,8 +3,8 @@ use Rattle.bsp_tree.proofs.SheetFaces.{face_is}
 use Rattle.facet_cut.proofs.Nodes.{end_facets}
 use Rattle.facet_cut.proofs.walls.Walls.+push_facets.Goals as goal
 
-pub push_between-requires-clause-face : goal.push_between-requires-clause-face
-push_between-requires-clause-face t c = face_is _ _ _ _ _ _ c.requires.faces c.at-behind.ensures
+pub push_on_face-requires-clause-face : goal.push_on_face-requires-clause-face
+push_on_face-requires-clause-face t c = face_is _ _ _ _ _ _ c.requires.faces c.at-behind.ensures
 
 pub returns-in-End : goal.returns-in-End
 returns-in-End t c =
