@@ -100,12 +100,7 @@ impl<'t> Nodes<'t> {
     }
 
     /// Adds a node, with the corners of its face where they were met.
-    pub fn add_met(
-        &mut self,
-        met: MetFace,
-        behind: Link,
-        ahead: Link,
-    ) -> Result<NodeId, NoMemory>
+    pub fn add_met(&mut self, met: MetFace, behind: Link, ahead: Link) -> Result<NodeId, NoMemory>
         requires met { IsMetOver self.old.planes met }
         requires behind { IsLinkOf self.old.nodes behind }
         requires ahead { IsLinkOf self.old.nodes ahead }

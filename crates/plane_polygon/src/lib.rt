@@ -24,7 +24,7 @@ pub use laws::{
 pub use listing::{corners, meeting_of};
 pub use parallels::parallel_side;
 use plane_predicate::Plane;
-pub use sides::{next_index, side_at};
+pub use sides::{meeting_side, next_index, side_at};
 pub use sorting::{class_from, sort_by};
 use std::alloc::Global;
 use std::marker::Model;

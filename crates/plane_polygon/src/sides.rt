@@ -17,15 +17,23 @@ pub fn next_index(i: usize, count: usize) -> usize
 }
 
 /// The side of `m` on which a meeting with a positive determinant lies.
-#[tactic(auto, using(crate::proofs::CornerSides::positive_meeting, crate::proofs::CornerSides::positive_apart))]
 pub fn side_at(p: &Plane, q: &Plane, r: &Plane, m: &Plane) -> Side
     requires { pos 0 <ℤ (cramer p.now q.now r.now).w }
     ensures { result ≡ side_of (value m.now (cramer p.now q.now r.now)) }
 {
     match parallel_to_one(p, q, r, m) {
         Some(found) => found,
-        None => side(p, q, r, m),
+        None => meeting_side(p, q, r, m),
     }
+}
+
+/// The same by the meeting's numbers, however `m` lies to the three.
+#[tactic(auto, using(crate::proofs::CornerSides::positive_meeting, crate::proofs::CornerSides::positive_apart))]
+pub fn meeting_side(p: &Plane, q: &Plane, r: &Plane, m: &Plane) -> Side
+    requires { pos 0 <ℤ (cramer p.now q.now r.now).w }
+    ensures { result ≡ side_of (value m.now (cramer p.now q.now r.now)) }
+{
+    side(p, q, r, m)
 }
 
 /// The same, where `m` is parallel to one of the planes that meet.

@@ -1,6 +1,7 @@
 pub mod Numbers
 pub mod Corners
 pub mod MetCorners
+pub mod ToldSides
 pub mod Cuts
 pub mod Planes
 pub mod Orders

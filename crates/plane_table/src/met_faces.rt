@@ -142,13 +142,7 @@ fn place_from(numbers: &[u32], from: usize, number: u32) -> usize {
 }
 
 /// Corner `i` of a face. Where another face of the same plane has it at some place, it is that one.
-fn corner_like(
-    table: &PlaneTable,
-    face: &Face,
-    i: usize,
-    other: &MetFace,
-    place: usize,
-) -> Point
+fn corner_like(table: &PlaneTable, face: &Face, i: usize, other: &MetFace, place: usize) -> Point
     requires index { i < length face.now.edges }
     requires face { IsFaceOver table.now face.now }
     requires other { IsMetOver table.now other.now }
