@@ -1,16 +1,19 @@
 -- Corners of faces, and lists of them.
-use Rattle.std.proofs.Common.{◌≡◌, ◌≢◌, inl, inr, eqb, cond, ℕ, zero, suc, ◌+◌, ◌<◌, Bool, true, false, ◌||◌, List, [], ◌∷◌, ◌++◌, length, get_or, map, refl, sym, ap, ap₂, ◌∙◌, arith, add-one, ℤ, pos, negsuc, int_lt}
+use Rattle.std.proofs.Common.{◌≡◌, ◌≢◌, inl, inr, eqb, cond, ℕ, zero, suc, ◌+◌, ◌<◌, ◌<ℤ◌, ◌⊎◌, subst, Option, None, Some, IfSome, Bool, true, false, ◌||◌, List, [], ◌∷◌, ◌++◌, length, get_or, map, refl, sym, ap, ap₂, ◌∙◌, arith, add-one, ℤ, pos, negsuc, int_lt}
 use Rattle.std.proofs.lemmas.List.{map-append, length-append, length-map, get_or_append_left, get_or_push}
-use Rattle.std.proofs.lemmas.Bool.{cases_lt, eqb-false}
+use Rattle.std.proofs.lemmas.Bool.{cases_lt, eqb-false, eqb-true}
 use Rattle.std.proofs.lemmas.Int.{ints}
 use Rattle.plane_predicate.specs.Space.{Coefficients, Coordinates, cramer, value}
 use Rattle.plane_predicate.specs.Sides.{side_of, is_side_behind, is_side_ahead}
+use Rattle.plane_predicate.specs.declared.sides.Side.{Side}
+use Rattle.plane_predicate.proofs.Identities.{cramer_on_first, cramer_on_second, cramer_on_third}
+use Rattle.plane_polygon.specs.Parallels.{HasAllOn}
 use Rattle.plane_polygon.specs.Polygons.{Outline, after, corner, sides, nowhere}
 use Rattle.plane_polygon.specs.Parts.{up_to, corners, some_of, is_behind, is_ahead, class_by, class_of}
 use Rattle.plane_table.specs.declared.faces.Face.{Face}
 use Rattle.plane_table.specs.declared.sorting.CornerSide.{CornerSide}
 use Rattle.plane_table.specs.Tables.{named}
-use Rattle.plane_table.specs.Faces.{outline_of, side_against}
+use Rattle.plane_table.specs.Faces.{outline_of, side_against, IsFaceOver, IsSideAt}
 use Rattle.plane_table.proofs.Numbers.{get_map}
 
 -- ---- sides
@@ -105,6 +108,43 @@ sides_end planes face m found e =
     e
     ∙ ap (λ (k : ℕ). map (λ i. side_against m (corner s i)) (up_to k)) (sym (length-map face.edges (named planes)))
     ∙ sym (sides_map s m)
+
+-- ---- what is known of the side of a corner
+pub some_on : (p m : Coefficients) (side : Option Side) (v : Coordinates) → pos 0 <ℤ v.w → value p v ≡ pos 0 → IfSome side (HasAllOn p m) → IfSome side (λ s. s ≡ side_of (value m v))
+some_on p m None v w on h = tt
+some_on p m (Some side) v w on h = h v w on
+
+one_of : (own ends begins known : Option Side) (P : Side → Type 0) → (known ≡ own) ⊎ ((known ≡ ends) ⊎ (known ≡ begins)) → IfSome own P → IfSome ends P → IfSome begins P → IfSome known P
+one_of own ends begins known P choose a b c = elim choose [
+  | inl e ↦ subst (λ (side : Option Side). IfSome side P) (sym e) a
+  | inr (inl e) ↦ subst (λ (side : Option Side). IfSome side P) (sym e) b
+  | inr (inr e) ↦ subst (λ (side : Option Side). IfSome side P) (sym e) c
+]
+
+-- by the three planes that meet there
+pub known_at : (planes : List Coefficients) (face : Face) (m : Coefficients) (i : ℕ) (own ends begins known : Option Side) →
+    IsFaceOver planes face → i < length face.edges →
+    IfSome own (HasAllOn (named planes face.plane) m) → IfSome ends (HasAllOn (named planes (get_or face.edges i 0)) m) →
+    IfSome begins (HasAllOn (named planes (get_or face.edges (after (length face.edges) i) 0)) m) →
+    (known ≡ own) ⊎ ((known ≡ ends) ⊎ (known ≡ begins)) →
+    IfSome known (IsSideAt planes face m i)
+known_at planes face m i own ends begins known h l a b c choose =
+    let p = named planes face.plane in
+    let q = named planes (get_or face.edges i 0) in
+    let r = named planes (get_or face.edges (after (length face.edges) i) 0) in
+    let e = corner_is planes face i l (after_in (length face.edges) i l) in
+    let v = cramer p q r in
+    let w : pos 0 <ℤ v.w = subst (λ (x : Coordinates). pos 0 <ℤ x.w) e (h.polygon.turns_left i (let n = length-map face.edges (named planes) in omega arith)) in
+    subst (λ (x : Coordinates). IfSome known (λ s. s ≡ side_of (value m x))) (sym e)
+    (one_of own ends begins known (λ s. s ≡ side_of (value m v)) choose
+    (some_on p m own v w (cramer_on_first p q r) a) (some_on q m ends v w (cramer_on_second p q r) b) (some_on r m begins v w (cramer_on_third p q r) c))
+
+-- the edge that begins at a corner ends at the next one
+pub after_next : (k i : ℕ) → i + 1 < k → after k i ≡ i + 1
+after_next k i h = elim (eqb (suc i) k) as (λ b. eqb (suc i) k ≡ b → cond b 0 (suc i) ≡ i + 1) [
+  | true ↦ λ e. absurd (let n : suc i ≡ k = eqb-true (suc i) k e in omega arith)
+  | false ↦ λ e. omega arith
+] refl
 
 -- the side of a corner by the side that was tested
 pub side_pair : (m : Coefficients) (p : Coordinates) (side : _) (b a : Bool) → side ≡ side_of (value m p) → b ≡ is_side_behind side → a ≡ is_side_ahead side →

@@ -1,7 +1,9 @@
 -- Faces over a list of planes: polygons whose planes are named by number.
 use Rattle.std.specs.Prelude.{◌≡◌, ℕ, ◌+◌, List, length, map, All}
-use Rattle.plane_predicate.specs.Space.{Coefficients, Coordinates}
-use Rattle.plane_polygon.specs.Polygons.{Outline, IsPolygon}
+use Rattle.plane_predicate.specs.Space.{Coefficients, Coordinates, value}
+use Rattle.plane_predicate.specs.Sides.{side_of}
+use Rattle.plane_predicate.specs.declared.sides.Side.{Side}
+use Rattle.plane_polygon.specs.Polygons.{Outline, corner, IsPolygon}
 use Rattle.plane_polygon.specs.Parts.{class_of, corners, is_behind, is_ahead}
 use Rattle.plane_table.specs.declared.faces.Face.{Face}
 use Rattle.plane_table.specs.declared.sorting.CornerSide.{CornerSide}
@@ -25,6 +27,10 @@ pub record IsFaceOver (planes : List Coefficients) (face : Face) : Type 0 where
 -- whether a point is strictly behind a plane, and whether it is strictly ahead of it
 abbrev pub side_against : Coefficients → Coordinates → CornerSide
 side_against m p = record { is_behind = is_behind m p; is_ahead = is_ahead m p }
+
+-- the side of a plane on which corner i of a face lies
+abbrev pub IsSideAt : List Coefficients → Face → Coefficients → ℕ → Side → Type 0
+IsSideAt planes face m i side = side ≡ side_of (value m (corner (outline_of planes face) i))
 
 -- how an outline lies against a plane, and on which side of the plane each of its corners lies
 pub record AreSidesOf (s : Outline) (m : Coefficients) (sides : CornerSides) : Type 0 where

@@ -1,13 +1,14 @@
 //! On which sides of a plane the corners of a face lie.
 
-ghost use Rattle.std.specs.Prelude.{◌≡◌, ◌<◌, ◌||◌, length, IfOk};
-ghost use Rattle.plane_predicate.specs.Space.{value};
+ghost use Rattle.std.specs.Prelude.{◌≡◌, ◌<◌, ◌⊎◌, ◌||◌, length, IfOk, IfSome};
 ghost use Rattle.plane_polygon.specs.Polygons.{corner};
+ghost use Rattle.plane_polygon.specs.Parallels.{HasAllOn};
 ghost use Rattle.plane_table.specs.Tables.{named, IsNumberIn};
-ghost use Rattle.plane_table.specs.Faces.{outline_of, side_against, AreSidesOf, IsFaceOver};
+ghost use Rattle.plane_table.specs.Faces.{outline_of, side_against, AreSidesOf, IsFaceOver, IsSideAt};
 
-use crate::{Face, PlaneTable};
-use plane_polygon::{Class, class_from, next_index, side_at};
+use crate::{Face, PlaneTable, opposite_number};
+use plane_polygon::{Class, class_from, next_index, side_alike, side_at};
+use plane_predicate::Side;
 use smallvec::SmallVec;
 use std::alloc::Global;
 use text_place::NoMemory;
@@ -35,7 +36,6 @@ pub struct CornerSides {
 
 /// How a face lies against the plane of a number, with the side of each corner: On where all its corners
 /// are on the plane, Across where some lie strictly on each side, else the side of those that are off it.
-/// Each corner's side is tested once.
 pub fn sides(
     alloc: Global,
     table: &PlaneTable,
@@ -46,14 +46,20 @@ pub fn sides(
     requires number { IsNumberIn table.now number }
     ensures { IfOk result (λ r. AreSidesOf (outline_of table.now face.now) (named table.now number) r) }
 {
+    let edges = face.edges.numbers();
     let mut corners = SmallVec::new(alloc);
     let mut some_behind = false;
     let mut some_ahead = false;
-    for i in 0..face.edges.len() {
-        let side = corner_side(table, face, i, number);
+    let own = side_of_all(table, face.plane, number);
+    let mut ends = side_of_all(table, edges[0], number);
+    for i in 0..edges.len() {
+        let begins = side_of_all(table, edges[next_index(i, edges.len())], number);
+        let known = first_known(own, ends, begins);
+        let side = corner_side(table, face, i, number, known);
         some_behind = either(some_behind, side.is_behind);
         some_ahead = either(some_ahead, side.is_ahead);
         corners.push(side)?;
+        ends = begins;
     }
     Ok(CornerSides {
         class: class_from(some_behind, some_ahead),
@@ -61,20 +67,70 @@ pub fn sides(
     })
 }
 
-/// The side of the plane of a number on which corner `i` lies.
-fn corner_side(table: &PlaneTable, face: &Face, i: usize, number: u32) -> CornerSide
+/// The side of the plane of a number on which corner `i` lies, if it isn't known by a plane through the
+/// corner that has all its points on that side.
+fn corner_side(
+    table: &PlaneTable,
+    face: &Face,
+    i: usize,
+    number: u32,
+    known: Option<Side>,
+) -> CornerSide
     requires index { i < length face.now.edges }
     requires face { IsFaceOver table.now face.now }
     requires number { IsNumberIn table.now number }
+    requires known { IfSome known (IsSideAt table.now face.now (named table.now number) i) }
     ensures { result ≡ side_against (named table.now number) (corner (outline_of table.now face.now) i) }
+{
+    let side = match known {
+        Some(side) => side,
+        None => meeting_side(table, face, i, number),
+    };
+    CornerSide {
+        is_behind: side.is_behind(),
+        is_ahead: side.is_ahead(),
+    }
+}
+
+/// The side of the plane of a number on which corner `i` lies.
+fn meeting_side(table: &PlaneTable, face: &Face, i: usize, number: u32) -> Side
+    requires index { i < length face.now.edges }
+    requires face { IsFaceOver table.now face.now }
+    requires number { IsNumberIn table.now number }
+    ensures { IsSideAt table.now face.now (named table.now number) i result }
 {
     let edges = face.edges.numbers();
     let ends = table.plane(edges[i]);
     let begins = table.plane(edges[next_index(i, edges.len())]);
-    let side = side_at(table.plane(face.plane), ends, begins, table.plane(number));
-    CornerSide {
-        is_behind: side.is_behind(),
-        is_ahead: side.is_ahead(),
+    side_at(table.plane(face.plane), ends, begins, table.plane(number))
+}
+
+/// The first of three sides that is known.
+fn first_known(own: Option<Side>, ends: Option<Side>, begins: Option<Side>) -> Option<Side>
+    ensures { (result ≡ own) ⊎ (result ≡ ends) ⊎ (result ≡ begins) }
+{
+    match (own, ends) {
+        (Some(_), _) => own,
+        (None, Some(_)) => ends,
+        (None, None) => begins,
+    }
+}
+
+/// The side of the plane of a number on which all points of another plane lie, where the table has one
+/// direction for them or their opposites.
+fn side_of_all(table: &PlaneTable, of: u32, number: u32) -> Option<Side>
+    requires of { IsNumberIn table.now of }
+    requires number { IsNumberIn table.now number }
+    ensures { IfSome result (λ s. HasAllOn (named table.now of) (named table.now number) s) }
+{
+    let direction = table.direction(of);
+    let other = table.direction(number);
+    if direction == other {
+        Some(side_alike(table.plane(of), table.plane(number)))
+    } else if direction == opposite_number(other) {
+        Some(side_alike(table.plane(opposite_number(of)), table.plane(number)))
+    } else {
+        None
     }
 }
 
