@@ -7,8 +7,8 @@ use crate::laying::{high, plane_at};
 use plane_polygon::Class;
 use plane_predicate::Plane;
 use plane_table::{
-    Crossing, Edges, Face, Half, PlaneTable, cut, faces_are_found, half_face, join, keep_used, mark_used,
-    opposite_number, polygon_of, renumber, sides,
+    Crossing, Edges, Face, Half, PlaneTable, cut, faces_are_found, half_face, join, keep_used,
+    mark_used, opposite_number, polygon_of, renumber, sides,
 };
 use std::alloc::Global;
 use std::process::Abort;

@@ -11,7 +11,7 @@ use Rattle.plane_polygon.specs.Polygons.{Outline, corner, sides, nowhere, IsPoly
 use Rattle.plane_polygon.specs.Parts.{up_to, before, kept, kept_by, corners, is_behind, is_ahead, part_behind, part_ahead}
 use Rattle.plane_table.specs.declared.faces.Face.{Face}
 use Rattle.plane_table.specs.declared.sorting.CornerSide.{CornerSide}
-use Rattle.plane_table.specs.Tables.{named, opposite_number, IsNumberIn}
+use Rattle.plane_table.specs.Tables.{named, IsNumberIn}
 use Rattle.plane_table.specs.Faces.{outline_of, side_against, IsFaceOver}
 use Rattle.plane_table.specs.declared.cutting.Half.{Half}
 use Rattle.plane_table.specs.declared.cutting.Half.TheVariants.{Behind, Ahead}

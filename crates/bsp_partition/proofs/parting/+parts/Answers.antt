@@ -1,4 +1,4 @@
-use Rattle.std.proofs.Common.{◌∙◌, List, sym, ap, ap₂, subst}
+use Rattle.std.proofs.Common.{◌∙◌, List, sym, ap₂, subst}
 use Rattle.std.proofs.lemmas.Result.{IfOk-weaker}
 use Rattle.plane_predicate.specs.Space.{Coefficients}
 use Rattle.plane_polygon.specs.Polygons.{Outline}

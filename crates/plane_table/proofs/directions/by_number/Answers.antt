@@ -1,4 +1,4 @@
-use Rattle.std.proofs.Common.{rules, ◌∙◌, ap}
+use Rattle.std.proofs.Common.{◌∙◌, ap}
 use Rattle.std.proofs.lemmas.List.{get_or_read}
 use Rattle.plane_predicate.specs.Space.{opposite_of}
 use Rattle.plane_polygon.specs.Polygons.{nowhere}

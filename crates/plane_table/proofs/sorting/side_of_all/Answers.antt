@@ -1,7 +1,6 @@
 use Rattle.std.proofs.Common.{◌∙◌, ap, subst, sym}
 use Rattle.plane_predicate.specs.Space.{Coefficients, opposite_of, value}
 use Rattle.plane_predicate.specs.Sides.{side_of}
-use Rattle.plane_polygon.specs.Parallels.{IsAlike}
 use Rattle.plane_table.specs.Tables.{named, IsNumberIn}
 use Rattle.plane_table.proofs.Numbers.{opposite_in}
 use Rattle.plane_table.proofs.Oriented.{back_opposite, opposite_alike}

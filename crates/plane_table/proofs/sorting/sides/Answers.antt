@@ -1,4 +1,4 @@
-use Rattle.std.proofs.Common.{◌≡◌, ◌<◌, ap, ◌∙◌, length, get_or, arith, IfSome, sym, subst, ℕ}
+use Rattle.std.proofs.Common.{◌≡◌, ap, ◌∙◌, length, get_or, arith, IfSome, subst, ℕ}
 use Rattle.plane_polygon.specs.Polygons.{Outline, corner}
 use Rattle.plane_polygon.specs.Parts.{is_behind, is_ahead}
 use Rattle.plane_polygon.specs.Parallels.{HasAllOn}

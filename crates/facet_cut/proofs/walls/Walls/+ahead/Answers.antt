@@ -3,8 +3,7 @@ use Rattle.plane_polygon.specs.Polygons.{Outline}
 use Rattle.plane_table.specs.Tables.{named}
 use Rattle.plane_table.specs.Faces.{outline_of}
 use Rattle.plane_table.specs.Cuts.{part_in}
-use Rattle.bsp_tree.specs.Shapes.{tree_over}
-use Rattle.facet_cut.specs.Facets.{Piece, facets_ahead, facing}
+use Rattle.facet_cut.specs.Facets.{Piece, facing}
 use Rattle.facet_cut.specs.Adding.{Adds}
 use Rattle.facet_cut.proofs.Nodes.{end_pieces, across_node, adds_more, adds_none, adds_stopped, same_leaf_facets}
 use Rattle.facet_cut.proofs.walls.Walls.+ahead.Goals as goal
