@@ -1,14 +1,16 @@
 -- Corners of faces, and lists of them.
-use Rattle.std.proofs.Common.{◌≡◌, ◌≢◌, inl, inr, eqb, cond, ℕ, zero, suc, ◌+◌, ◌<◌, ◌<ℤ◌, ◌⊎◌, subst, Option, None, Some, IfSome, Bool, true, false, ◌||◌, List, [], ◌∷◌, ◌++◌, length, get_or, map, refl, sym, ap, ap₂, ◌∙◌, arith, add-one, ℤ, pos, negsuc, int_lt}
+use Rattle.std.proofs.Common.{◌≡◌, ◌≢◌, inl, inr, eqb, cond, ℕ, zero, suc, ◌+◌, ◌-◌, ◌<◌, ◌<ℤ◌, ◌⊎◌, subst, Option, None, Some, IfSome, Bool, true, false, ◌||◌, List, [], ◌∷◌, ◌++◌, length, get_or, map, refl, sym, ap, ap₂, ◌∙◌, arith, add-one, ℤ, pos, negsuc, int_lt}
 use Rattle.std.proofs.lemmas.List.{map-append, length-append, length-map, get_or_append_left, get_or_push}
 use Rattle.std.proofs.lemmas.Bool.{cases_lt, eqb-false, eqb-true}
 use Rattle.std.proofs.lemmas.Int.{ints}
 use Rattle.plane_predicate.specs.Space.{Coefficients, Coordinates, cramer, value}
 use Rattle.plane_predicate.specs.Sides.{side_of, is_side_behind, is_side_ahead}
 use Rattle.plane_predicate.specs.declared.sides.Side.{Side}
+use Rattle.plane_predicate.specs.declared.sides.Side.TheVariants.{Behind, On, Ahead}
+use Rattle.plane_polygon.specs.declared.classes.Class.TheVariants.{Across}
 use Rattle.plane_predicate.proofs.Identities.{cramer_on_first, cramer_on_second, cramer_on_third}
 use Rattle.plane_polygon.specs.Parallels.{HasAllOn}
-use Rattle.plane_polygon.specs.Polygons.{Outline, after, corner, sides, nowhere}
+use Rattle.plane_polygon.specs.Polygons.{Outline, after, corner, edge, sides, nowhere}
 use Rattle.plane_polygon.specs.Parts.{up_to, corners, some_of, is_behind, is_ahead, class_by, class_of}
 use Rattle.plane_table.specs.declared.faces.Face.{Face}
 use Rattle.plane_table.specs.declared.sorting.CornerSide.{CornerSide}
@@ -114,21 +116,20 @@ pub some_on : (p m : Coefficients) (side : Option Side) (v : Coordinates) → po
 some_on p m None v w on h = tt
 some_on p m (Some side) v w on h = h v w on
 
-one_of : (own ends begins known : Option Side) (P : Side → Type 0) → (known ≡ own) ⊎ ((known ≡ ends) ⊎ (known ≡ begins)) → IfSome own P → IfSome ends P → IfSome begins P → IfSome known P
-one_of own ends begins known P choose a b c = elim choose [
-  | inl e ↦ subst (λ (side : Option Side). IfSome side P) (sym e) a
-  | inr (inl e) ↦ subst (λ (side : Option Side). IfSome side P) (sym e) b
-  | inr (inr e) ↦ subst (λ (side : Option Side). IfSome side P) (sym e) c
+one_of : (ends begins known : Option Side) (P : Side → Type 0) → (known ≡ ends) ⊎ (known ≡ begins) → IfSome ends P → IfSome begins P → IfSome known P
+one_of ends begins known P choose b c = elim choose [
+  | inl e ↦ subst (λ (side : Option Side). IfSome side P) (sym e) b
+  | inr e ↦ subst (λ (side : Option Side). IfSome side P) (sym e) c
 ]
 
--- by the three planes that meet there
-pub known_at : (planes : List Coefficients) (face : Face) (m : Coefficients) (i : ℕ) (own ends begins known : Option Side) →
+-- by the two edge planes that meet there
+pub known_at : (planes : List Coefficients) (face : Face) (m : Coefficients) (i : ℕ) (ends begins known : Option Side) →
     IsFaceOver planes face → i < length face.edges →
-    IfSome own (HasAllOn (named planes face.plane) m) → IfSome ends (HasAllOn (named planes (get_or face.edges i 0)) m) →
+    IfSome ends (HasAllOn (named planes (get_or face.edges i 0)) m) →
     IfSome begins (HasAllOn (named planes (get_or face.edges (after (length face.edges) i) 0)) m) →
-    (known ≡ own) ⊎ ((known ≡ ends) ⊎ (known ≡ begins)) →
+    (known ≡ ends) ⊎ (known ≡ begins) →
     IfSome known (IsSideAt planes face m i)
-known_at planes face m i own ends begins known h l a b c choose =
+known_at planes face m i ends begins known h l b c choose =
     let p = named planes face.plane in
     let q = named planes (get_or face.edges i 0) in
     let r = named planes (get_or face.edges (after (length face.edges) i) 0) in
@@ -136,8 +137,36 @@ known_at planes face m i own ends begins known h l a b c choose =
     let v = cramer p q r in
     let w : pos 0 <ℤ v.w = subst (λ (x : Coordinates). pos 0 <ℤ x.w) e (h.polygon.turns_left i (let n = length-map face.edges (named planes) in omega arith)) in
     subst (λ (x : Coordinates). IfSome known (λ s. s ≡ side_of (value m x))) (sym e)
-    (one_of own ends begins known (λ s. s ≡ side_of (value m v)) choose
-    (some_on p m own v w (cramer_on_first p q r) a) (some_on q m ends v w (cramer_on_second p q r) b) (some_on r m begins v w (cramer_on_third p q r) c))
+    (one_of ends begins known (λ s. s ≡ side_of (value m v)) choose
+    (some_on q m ends v w (cramer_on_second p q r) b) (some_on r m begins v w (cramer_on_third p q r) c))
+
+-- by the plane of the face, which has all its points on one side
+or_itself : (x : Bool) → (x || x) ≡ x
+or_itself true = refl
+or_itself false = refl
+
+all_of : (p : Coordinates → Bool) (f : ℕ → Coordinates) (b : Bool) (n : ℕ) → ((i : ℕ) → i < n + 1 → p (f i) ≡ b) → some_of p (map f (up_to (n + 1))) ≡ b
+all_of p f b zero h = sym (some_step p f 0 false b refl (sym (h 0 (omega arith))))
+all_of p f b (suc n) h =
+    let before = ap (λ (k : ℕ). some_of p (map f (up_to k))) (sym (add-one n)) ∙ all_of p f b n (λ i l. h i (omega arith)) in
+    sym (some_step p f (suc n) b b (sym before) (sym (h (suc n) (omega arith)))) ∙ or_itself b
+
+pub all_of_class : (planes : List Coefficients) (face : Face) (m : Coefficients) (side : Side) → IsFaceOver planes face → HasAllOn (named planes face.plane) m side →
+    class_by (is_side_behind side) (is_side_ahead side) ≡ class_of (outline_of planes face) m
+all_of_class planes face m side h k =
+    let s : Outline = outline_of planes face in
+    let n = sides s - 1 in
+    let count : n + 1 ≡ sides s = omega (arith, h.polygon.three) in
+    let at : (i : ℕ) → i < n + 1 → side ≡ side_of (value m (corner s i)) = λ i l.
+    k (corner s i) (h.polygon.turns_left i (omega arith)) (cramer_on_first s.plane (edge s i) (edge s (after (sides s) i))) in
+    ap₂ class_by
+    (sym (all_of (is_behind m) (corner s) (is_side_behind side) n (λ i l. sym (ap is_side_behind (at i l) ∙ side_behind (value m (corner s i))))) ∙ ap (λ (j : ℕ). some_of (is_behind m) (map (corner s) (up_to j))) count)
+    (sym (all_of (is_ahead m) (corner s) (is_side_ahead side) n (λ i l. sym (ap is_side_ahead (at i l) ∙ side_ahead (value m (corner s i))))) ∙ ap (λ (j : ℕ). some_of (is_ahead m) (map (corner s) (up_to j))) count)
+
+pub one_side : (side : Side) → class_by (is_side_behind side) (is_side_ahead side) ≡ Across → ⊥
+one_side Behind e = cc
+one_side On e = cc
+one_side Ahead e = cc
 
 -- the edge that begins at a corner ends at the next one
 pub after_next : (k i : ℕ) → i + 1 < k → after k i ≡ i + 1

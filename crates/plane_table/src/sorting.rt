@@ -1,7 +1,9 @@
 //! On which sides of a plane the corners of a face lie.
 
 ghost use Rattle.std.specs.Prelude.{◌≡◌, ◌<◌, ◌⊎◌, ◌||◌, length, IfOk, IfSome};
+ghost use Rattle.plane_predicate.specs.Sides.{is_side_ahead, is_side_behind};
 ghost use Rattle.plane_polygon.specs.Polygons.{corner};
+ghost use Rattle.plane_polygon.specs.Parts.{class_by};
 ghost use Rattle.plane_polygon.specs.Parallels.{HasAllOn};
 ghost use Rattle.plane_table.specs.Tables.{named, IsNumberIn};
 ghost use Rattle.plane_table.specs.Faces.{outline_of, side_against, AreSidesOf, IsFaceOver, IsSideAt};
@@ -25,18 +27,51 @@ pub struct CornerSide {
     pub is_ahead: bool,
 }
 
-/// How a face lies against a plane, with the side of each corner.
+/// How a face lies against a plane, and, where it is across the plane, the side of each corner.
 #[derive(Drop)]
 pub struct CornerSides {
     /// How the face lies against the plane.
     pub class: Class,
-    /// The sides of the corners in order. Up to eight stand in the value itself, more on the heap.
+    /// The sides of the corners of a face that is across, in order. Up to eight stand in the value itself,
+    /// more on the heap.
     pub corners: SmallVec<CornerSide, FEW>,
 }
 
-/// How a face lies against the plane of a number, with the side of each corner: On where all its corners
-/// are on the plane, Across where some lie strictly on each side, else the side of those that are off it.
+/// How a face lies against the plane of a number: On where all its corners are on the plane, Across where
+/// some lie strictly on each side, else the side of those that are off it. Where the planes are parallel,
+/// no corner is looked at.
 pub fn sides(
+    alloc: Global,
+    table: &PlaneTable,
+    face: &Face,
+    number: u32,
+) -> Result<CornerSides, NoMemory>
+    requires face { IsFaceOver table.now face.now }
+    requires number { IsNumberIn table.now number }
+    ensures { IfOk result (λ r. AreSidesOf (outline_of table.now face.now) (named table.now number) r) }
+{
+    match side_of_all(table, face.plane, number) {
+        Some(side) => Ok(CornerSides {
+            class: class_on(side),
+            corners: SmallVec::new(alloc),
+        }),
+        None => corner_sides(alloc, table, face, number),
+    }
+}
+
+/// How a face lies that has all its corners on one side.
+fn class_on(side: Side) -> Class
+    ensures { result ≡ class_by (is_side_behind side) (is_side_ahead side) }
+{
+    match side {
+        Side::Behind => Class::Behind,
+        Side::On => Class::On,
+        Side::Ahead => Class::Ahead,
+    }
+}
+
+/// How a face lies, by the side of each corner.
+fn corner_sides(
     alloc: Global,
     table: &PlaneTable,
     face: &Face,
@@ -50,11 +85,10 @@ pub fn sides(
     let mut corners = SmallVec::new(alloc);
     let mut some_behind = false;
     let mut some_ahead = false;
-    let own = side_of_all(table, face.plane, number);
     let mut ends = side_of_all(table, edges[0], number);
     for i in 0..edges.len() {
         let begins = side_of_all(table, edges[next_index(i, edges.len())], number);
-        let known = first_known(own, ends, begins);
+        let known = first_known(ends, begins);
         let side = corner_side(table, face, i, number, known);
         some_behind = either(some_behind, side.is_behind);
         some_ahead = either(some_ahead, side.is_ahead);
@@ -105,14 +139,13 @@ fn meeting_side(table: &PlaneTable, face: &Face, i: usize, number: u32) -> Side
     side_at(table.plane(face.plane), ends, begins, table.plane(number))
 }
 
-/// The first of three sides that is known.
-fn first_known(own: Option<Side>, ends: Option<Side>, begins: Option<Side>) -> Option<Side>
-    ensures { (result ≡ own) ⊎ (result ≡ ends) ⊎ (result ≡ begins) }
+/// The first of two sides that is known.
+fn first_known(ends: Option<Side>, begins: Option<Side>) -> Option<Side>
+    ensures { (result ≡ ends) ⊎ (result ≡ begins) }
 {
-    match (own, ends) {
-        (Some(_), _) => own,
-        (None, Some(_)) => ends,
-        (None, None) => begins,
+    match ends {
+        Some(_) => ends,
+        None => begins,
     }
 }
 
