@@ -39,7 +39,7 @@ pub struct CornerSides {
 
 /// How a face lies against the plane of a number: On where all its corners are on the plane, Across where
 /// some lie strictly on each side, else the side of those that are off it. Where the planes are parallel,
-/// no corner is looked at.
+/// no corner is looked at; where no other plane has the direction, no edge is.
 pub fn sides(
     alloc: Global,
     table: &PlaneTable,
@@ -50,12 +50,13 @@ pub fn sides(
     requires number { IsNumberIn table.now number }
     ensures { IfOk result (λ r. AreSidesOf (outline_of table.now face.now) (named table.now number) r) }
 {
-    match side_of_all(table, face.plane, number) {
+    let is_lone = table.is_lone(number);
+    match known_side(table, face.plane, number, is_lone) {
         Some(side) => Ok(CornerSides {
             class: class_on(side),
             corners: SmallVec::new(alloc),
         }),
-        None => corner_sides(alloc, table, face, number),
+        None => corner_sides(alloc, table, face, number, is_lone),
     }
 }
 
@@ -76,6 +77,7 @@ fn corner_sides(
     table: &PlaneTable,
     face: &Face,
     number: u32,
+    is_lone: bool,
 ) -> Result<CornerSides, NoMemory>
     requires face { IsFaceOver table.now face.now }
     requires number { IsNumberIn table.now number }
@@ -85,9 +87,10 @@ fn corner_sides(
     let mut corners = SmallVec::new(alloc);
     let mut some_behind = false;
     let mut some_ahead = false;
-    let mut ends = side_of_all(table, edges[0], number);
+    let mut ends = known_side(table, edges[0], number, is_lone);
     for i in 0..edges.len() {
-        let begins = side_of_all(table, edges[next_index(i, edges.len())], number);
+        let next = edges[next_index(i, edges.len())];
+        let begins = known_side(table, next, number, is_lone);
         let known = first_known(ends, begins);
         let side = corner_side(table, face, i, number, known);
         some_behind = either(some_behind, side.is_behind);
@@ -147,6 +150,19 @@ fn first_known(ends: Option<Side>, begins: Option<Side>) -> Option<Side>
         Some(_) => ends,
         None => begins,
     }
+}
+
+/// The side of the plane of a number on which all points of another plane lie, where it is looked for and
+/// found: no other plane may have its direction.
+fn known_side(table: &PlaneTable, of: u32, number: u32, is_lone: bool) -> Option<Side>
+    requires of { IsNumberIn table.now of }
+    requires number { IsNumberIn table.now number }
+    ensures { IfSome result (λ s. HasAllOn (named table.now of) (named table.now number) s) }
+{
+    if is_lone {
+        return None;
+    }
+    side_of_all(table, of, number)
 }
 
 /// The side of the plane of a number on which all points of another plane lie, where the table has one
