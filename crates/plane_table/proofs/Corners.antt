@@ -14,8 +14,9 @@ use Rattle.plane_polygon.specs.Polygons.{Outline, after, corner, edge, sides, no
 use Rattle.plane_polygon.specs.Parts.{up_to, corners, some_of, is_behind, is_ahead, class_by, class_of}
 use Rattle.plane_table.specs.declared.faces.Face.{Face}
 use Rattle.plane_table.specs.declared.sorting.CornerSide.{CornerSide}
+use Rattle.plane_table.specs.declared.sorting.CornerSides.{CornerSides}
 use Rattle.plane_table.specs.Tables.{named}
-use Rattle.plane_table.specs.Faces.{outline_of, side_against, IsFaceOver, IsSideAt}
+use Rattle.plane_table.specs.Faces.{outline_of, side_against, AreFourSides, AreSidesOf, IsFaceOver, IsSideAt}
 use Rattle.plane_table.proofs.Numbers.{get_map}
 
 -- ---- sides
@@ -111,6 +112,14 @@ sides_end planes face m found e =
     ∙ ap (λ (k : ℕ). map (λ i. side_against m (corner s i)) (up_to k)) (sym (length-map face.edges (named planes)))
     ∙ sym (sides_map s m)
 
+-- the side of a corner by the side that was tested
+pub side_pair : (m : Coefficients) (p : Coordinates) (side : _) (b a : Bool) → side ≡ side_of (value m p) → b ≡ is_side_behind side → a ≡ is_side_ahead side →
+    ◌≡◌ {A = CornerSide} (record { is_behind = b; is_ahead = a }) (side_against m p)
+side_pair m p side b a e x y =
+    let f = x ∙ ap is_side_behind e ∙ side_behind (value m p) in
+    let g = y ∙ ap is_side_ahead e ∙ side_ahead (value m p) in
+    λ i. record { is_behind = f i; is_ahead = g i }
+
 -- ---- what is known of the side of a corner
 pub some_on : (p m : Coefficients) (side : Option Side) (v : Coordinates) → pos 0 <ℤ v.w → value p v ≡ pos 0 → IfSome side (HasAllOn p m) → IfSome side (λ s. s ≡ side_of (value m v))
 some_on p m None v w on h = tt
@@ -168,17 +177,46 @@ one_side Behind e = cc
 one_side On e = cc
 one_side Ahead e = cc
 
+-- ---- four corners
+-- by the edge that ends at a corner, and by the one that begins there
+pub ends_at : (planes : List Coefficients) (face : Face) (m : Coefficients) (i : ℕ) (side : Side) → IsFaceOver planes face → i < length face.edges →
+    HasAllOn (named planes (get_or face.edges i 0)) m side → IsSideAt planes face m i side
+ends_at planes face m i side f l h = known_at planes face m i (Some side) None (Some side) f l h tt (inl refl)
+
+pub begins_at : (planes : List Coefficients) (face : Face) (m : Coefficients) (i j : ℕ) (side : Side) → IsFaceOver planes face → i < length face.edges →
+    after (length face.edges) i ≡ j → HasAllOn (named planes (get_or face.edges j 0)) m side → IsSideAt planes face m i side
+begins_at planes face m i j side f l e h =
+    known_at planes face m i None (Some side) (Some side) f l tt (subst (λ (k : ℕ). HasAllOn (named planes (get_or face.edges k 0)) m side) (sym e) h) (inr refl)
+
+or_four : (a b c d w x y z : Bool) → a ≡ w → b ≡ x → c ≡ y → d ≡ z → (a || (b || (c || d))) ≡ (w || (x || (y || (z || false))))
+or_four a b c d w x y z p q r s = ap₂ (λ (u v : Bool). u || v) p (ap₂ (λ (u v : Bool). u || v) q (ap₂ (λ (u v : Bool). u || v) r (s ∙ sym (or_last z))))
+
+four_list : {A : Type 0} (a b c d w x y z : A) → a ≡ w → b ≡ x → c ≡ y → d ≡ z → a ∷ b ∷ c ∷ d ∷ [] ≡ w ∷ x ∷ y ∷ z ∷ []
+four_list a b c d w x y z p q r s = λ i. p i ∷ q i ∷ r i ∷ s i ∷ []
+
+pub four_end : (planes : List Coefficients) (face : Face) (m : Coefficients) (a b c d : Side) (sides : CornerSides) → length face.edges ≡ 4 →
+    IsSideAt planes face m 0 a → IsSideAt planes face m 1 b → IsSideAt planes face m 2 c → IsSideAt planes face m 3 d →
+    AreFourSides a b c d sides → AreSidesOf (outline_of planes face) m sides
+four_end planes face m a b c d found four x y z w h =
+    let s : Outline = outline_of planes face in
+    let n : sides s ≡ 4 = length-map face.edges (named planes) ∙ four in
+    let at : ℕ → Coordinates = corner s in
+    let behind = or_four _ _ _ _ _ _ _ _ (ap is_side_behind x ∙ side_behind (value m (at 0))) (ap is_side_behind y ∙ side_behind (value m (at 1)))
+    (ap is_side_behind z ∙ side_behind (value m (at 2))) (ap is_side_behind w ∙ side_behind (value m (at 3))) in
+    let ahead = or_four _ _ _ _ _ _ _ _ (ap is_side_ahead x ∙ side_ahead (value m (at 0))) (ap is_side_ahead y ∙ side_ahead (value m (at 1)))
+    (ap is_side_ahead z ∙ side_ahead (value m (at 2))) (ap is_side_ahead w ∙ side_ahead (value m (at 3))) in
+    record {
+      class = h.class ∙ ap₂ class_by
+          (behind ∙ ap (λ (k : ℕ). some_of (is_behind m) (map at (up_to k))) (sym n))
+          (ahead ∙ ap (λ (k : ℕ). some_of (is_ahead m) (map at (up_to k))) (sym n));
+      corners = λ across. h.corners across
+          ∙ four_list _ _ _ _ _ _ _ _ (side_pair m (at 0) a _ _ x refl refl) (side_pair m (at 1) b _ _ y refl refl) (side_pair m (at 2) c _ _ z refl refl) (side_pair m (at 3) d _ _ w refl refl)
+          ∙ ap (λ (k : ℕ). map (side_against m) (map at (up_to k))) (sym n);
+    }
+
 -- the edge that begins at a corner ends at the next one
 pub after_next : (k i : ℕ) → i + 1 < k → after k i ≡ i + 1
 after_next k i h = elim (eqb (suc i) k) as (λ b. eqb (suc i) k ≡ b → cond b 0 (suc i) ≡ i + 1) [
   | true ↦ λ e. absurd (let n : suc i ≡ k = eqb-true (suc i) k e in omega arith)
   | false ↦ λ e. omega arith
 ] refl
-
--- the side of a corner by the side that was tested
-pub side_pair : (m : Coefficients) (p : Coordinates) (side : _) (b a : Bool) → side ≡ side_of (value m p) → b ≡ is_side_behind side → a ≡ is_side_ahead side →
-    ◌≡◌ {A = CornerSide} (record { is_behind = b; is_ahead = a }) (side_against m p)
-side_pair m p side b a e x y =
-    let f = x ∙ ap is_side_behind e ∙ side_behind (value m p) in
-    let g = y ∙ ap is_side_ahead e ∙ side_ahead (value m p) in
-    λ i. record { is_behind = f i; is_ahead = g i }

@@ -6,7 +6,7 @@ ghost use Rattle.plane_polygon.specs.Polygons.{corner};
 ghost use Rattle.plane_polygon.specs.Parts.{class_by};
 ghost use Rattle.plane_polygon.specs.Parallels.{HasAllOn};
 ghost use Rattle.plane_table.specs.Tables.{named, IsNumberIn};
-ghost use Rattle.plane_table.specs.Faces.{outline_of, side_against, AreSidesOf, IsFaceOver, IsSideAt};
+ghost use Rattle.plane_table.specs.Faces.{corner_on, outline_of, side_against, AreFourSides, AreSidesOf, IsFaceOver, IsSideAt};
 
 use crate::{Face, PlaneTable, opposite_number};
 use plane_polygon::{Class, class_from, next_index, side_alike, side_at};
@@ -51,12 +51,86 @@ pub fn sides(
     ensures { IfOk result (λ r. AreSidesOf (outline_of table.now face.now) (named table.now number) r) }
 {
     let is_lone = table.is_lone(number);
-    match known_side(table, face.plane, number, is_lone) {
-        Some(side) => Ok(CornerSides {
+    if let Some(side) = known_side(table, face.plane, number, is_lone) {
+        return Ok(CornerSides {
             class: class_on(side),
             corners: SmallVec::new(alloc),
-        }),
-        None => corner_sides(alloc, table, face, number, is_lone),
+        });
+    }
+    if !is_lone && face.edges.len() == 4 {
+        let edges = face.edges.numbers();
+        if let Some((first, third)) = both_known(table, edges[0], edges[2], number) {
+            return four_sides(alloc, first, third, third, first);
+        }
+        if let Some((second, fourth)) = both_known(table, edges[1], edges[3], number) {
+            return four_sides(alloc, second, second, fourth, fourth);
+        }
+    }
+    corner_sides(alloc, table, face, number, is_lone)
+}
+
+/// The sides of the plane of a number on which all points of two other planes lie, where both are known.
+fn both_known(table: &PlaneTable, one: u32, other: u32, number: u32) -> Option<(Side, Side)>
+    requires one { IsNumberIn table.now one }
+    requires other { IsNumberIn table.now other }
+    requires number { IsNumberIn table.now number }
+    ensures { IfSome result (λ r. HasAllOn (named table.now one) (named table.now number) r.0 × HasAllOn (named table.now other) (named table.now number) r.1) }
+{
+    let first = side_of_all(table, one, number)?;
+    let second = side_of_all(table, other, number)?;
+    Some((first, second))
+}
+
+/// How a face of four corners lies, by their sides in order.
+fn four_sides(
+    alloc: Global,
+    first: Side,
+    second: Side,
+    third: Side,
+    fourth: Side,
+) -> Result<CornerSides, NoMemory>
+    ensures { IfOk result (AreFourSides first second third fourth) }
+{
+    let some_behind = some_of_four(
+        first.is_behind(),
+        second.is_behind(),
+        third.is_behind(),
+        fourth.is_behind(),
+    );
+    let some_ahead = some_of_four(
+        first.is_ahead(),
+        second.is_ahead(),
+        third.is_ahead(),
+        fourth.is_ahead(),
+    );
+    let class = class_from(some_behind, some_ahead);
+    let mut corners = SmallVec::new(alloc);
+    match class {
+        Class::Across => {
+            corners.push(corner_on(first))?;
+            corners.push(corner_on(second))?;
+            corners.push(corner_on(third))?;
+            corners.push(corner_on(fourth))?;
+        }
+        Class::Behind | Class::Ahead | Class::On => {}
+    }
+    Ok(CornerSides { class, corners })
+}
+
+/// Whether one of four holds.
+fn some_of_four(a: bool, b: bool, c: bool, d: bool) -> bool
+    ensures { result ≡ (a || (b || (c || d))) }
+{
+    either(a, either(b, either(c, d)))
+}
+
+/// A corner on a side.
+fn corner_on(side: Side) -> CornerSide
+    ensures { result ≡ corner_on side }
+{
+    CornerSide {
+        is_behind: side.is_behind(),
+        is_ahead: side.is_ahead(),
     }
 }
 
@@ -123,10 +197,7 @@ fn corner_side(
         Some(side) => side,
         None => meeting_side(table, face, i, number),
     };
-    CornerSide {
-        is_behind: side.is_behind(),
-        is_ahead: side.is_ahead(),
-    }
+    corner_on(side)
 }
 
 /// The side of the plane of a number on which corner `i` lies.

@@ -1,4 +1,4 @@
-use Rattle.std.proofs.Common.{◌∙◌, subst, Option, IfSome}
+use Rattle.std.proofs.Common.{refl, ◌∙◌, subst, Option, IfSome}
 use Rattle.plane_predicate.specs.declared.sides.Side.{Side}
 use Rattle.plane_polygon.specs.Polygons.{corner}
 use Rattle.plane_table.specs.Tables.{named}
@@ -16,4 +16,4 @@ returns c =
       | in-Some w ↦ w.side-is ∙ subst (λ (known : Option Side). IfSome known (IsSideAt table face m c.args.i)) w.in-Some.is c.requires.known
       | in-None w ↦ w.side-is ∙ w.meeting_side-side.ensures
     ] in
-    side_pair m (corner (outline_of table face) c.args.i) c.match-known.side c.is_behind.result c.is_ahead.result found c.is_behind.ensures c.is_ahead.ensures
+    c.corner_on.ensures ∙ side_pair m (corner (outline_of table face) c.args.i) c.match-known.side _ _ found refl refl
