@@ -18,7 +18,7 @@ use Rattle.bsp_tree.specs.Shapes.{tree_of}
 use Rattle.bsp_boolean.specs.Merges.{merged}
 use Rattle.bsp_boolean.specs.Solids.{solid_of}
 use Rattle.bsp_boolean.specs.TreeSolids.{most_of_one, most_of_all, solid_size, total_size, AreWithin, is_join, joins, merges_of, solid_over, IsOverSolids, IsGrown}
-use Rattle.bsp_boolean.specs.declared.tree_solids.Growth.{Growth}
+use Rattle.bsp_boolean.specs.declared.tree_solids.FirstSolids.{FirstSolids}
 
 pub first_more : (trees : List Formula) (n : ℕ) → IsNumberIn trees n → take n trees ≡ take (n - 1) trees ++ tree_numbered trees n ∷ []
 first_more trees zero h = absurd (omega arith)
@@ -119,7 +119,7 @@ too_much trees n sum solid h is within same past =
     let before = within.together in
     omega arith
 
-pub grown_by : (trees : List Formula) (n : ℕ) (growth new : Growth) (solid : SolidParts) → IsNumberIn trees n →
+pub grown_by : (trees : List Formula) (n : ℕ) (growth new : FirstSolids) (solid : SolidParts) → IsNumberIn trees n →
     IsGrown trees (n - 1) growth → new.solids.items ≡ growth.solids.items ++ solid ∷ [] → new.sum ≡ growth.sum + size (tree_of solid) →
     tree_of solid ≡ solid_of (tree_numbered trees n) → size (tree_of solid) ≤ most_of_one → size (tree_of solid) ≤ most_of_all - growth.sum →
     IsGrown trees n new
@@ -136,7 +136,7 @@ grown_by trees n growth new solid h grown items added same small fits =
       within = within_more trees n h grown.within one all;
     }
 
-pub none_grown : (trees : List Formula) (growth : Growth) → growth.solids.items ≡ [] → growth.sum ≡ 0 → IsGrown trees 0 growth
+pub none_grown : (trees : List Formula) (growth : FirstSolids) → growth.solids.items ≡ [] → growth.sum ≡ 0 → IsGrown trees 0 growth
 none_grown trees growth none none_yet = record {
   solids = ap (map tree_of) none;
   sum = none_yet;

@@ -5,6 +5,7 @@ use Rattle.csg_tree.specs.declared.op.Op.TheVariants.{Union, Intersection, Diffe
 use Rattle.plane_polygon.specs.Polygons.{Outline}
 use Rattle.bsp_tree.specs.Trees.{Tree, inside, outside, make}
 use Rattle.bsp_tree.specs.Growths.{Sheet, Growth}
+use Rattle.bsp_tree.specs.Moves.{Moved}
 use Rattle.bsp_partition.specs.Partitions.{divide}
 
 -- whether the leaf inside decides, and else the leaf outside
@@ -20,7 +21,7 @@ exchanges Intersection = false
 exchanges Difference = true
 
 -- the left tree, the right one and what grows stand over one table
-pub record AreOverOne (left right : Sheet) (growth : Growth) : Type 0 where
+pub record AreOverOne (left : Moved) (right : Sheet) (growth : Growth) : Type 0 where
   pub right_planes : right.planes ≡ left.planes
   pub growing_planes : growth.sheet.planes ≡ left.planes
 

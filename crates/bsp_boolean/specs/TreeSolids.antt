@@ -12,7 +12,7 @@ use Rattle.bsp_boolean.specs.Merges.{merged}
 use Rattle.bsp_boolean.specs.Solids.{convex, solid_of}
 use Rattle.bsp_boolean.specs.declared.tree_solids.TreeStop.{TreeStop}
 use Rattle.bsp_boolean.specs.declared.tree_solids.TreeStop.TheVariants.{TooBig, SumTooBig, NoMemory}
-use Rattle.bsp_boolean.specs.declared.tree_solids.Growth.{Growth}
+use Rattle.bsp_boolean.specs.declared.tree_solids.FirstSolids.{FirstSolids}
 
 -- the most that the size of one node's solid may be
 abbrev pub most_of_one : ℕ
@@ -54,7 +54,7 @@ IsTreeStop trees (SumTooBig number) = IsNumberIn trees number × AreWithin (take
 IsTreeStop trees NoMemory = Unit {0}
 
 -- the first n nodes have their solids, which are within the limits
-pub record IsGrown (trees : List Formula) (n : ℕ) (growth : Growth) : Type 0 where
+pub record IsGrown (trees : List Formula) (n : ℕ) (growth : FirstSolids) : Type 0 where
   pub solids : map tree_of growth.solids.items ≡ map solid_of (take n trees)
   pub sum : growth.sum ≡ total_size (take n trees)
   pub within : AreWithin (take n trees)

@@ -8,14 +8,16 @@ ghost use Rattle.bsp_boolean.specs.Merges.{combined};
 ghost use Rattle.bsp_boolean.specs.Branches.{AreOverOne};
 
 use bsp_partition::add_parts;
-use bsp_tree::{GrowStop, Growing, Link, NodeId, Nodes, add_branch, alike, turned};
+use bsp_tree::{
+    GrowStop, Growing, Link, MovedNodes, NodeId, Nodes, add_branch, add_moved, alike, turned,
+};
 use std::alloc::Global;
 
 /// How a left tree is merged with a right one.
 #[derive(Clone, Copy)]
 pub struct Merge<'a> {
     /// The nodes of the left tree.
-    pub left: &'a Nodes<'a>,
+    pub left: &'a MovedNodes<'a>,
     /// Whether the leaf inside decides, and else the leaf outside.
     pub in_decides: bool,
     /// Whether the right tree's inside and outside are exchanged.
@@ -35,10 +37,10 @@ impl<'a> Merge<'a> {
         right: Link,
     ) -> Result<Link, GrowStop>
         requires tables { AreOverOne self.now.left.now scratch.old growing.old }
-        requires left { IsLinkOf self.now.left.now.nodes left }
+        requires left { IsLinkOf self.now.left.now.own.nodes left }
         requires right { IsLinkOf scratch.old.nodes right }
         ensures scratch { OnOk result (scratch.new ≡ scratch.old) }
-        ensures grows { GrowsBy growing.old growing.new (combined self.now.in_decides (tree_on self.now.left.now left) (exchanged self.now.is_exchanged (tree_on scratch.old right))) result }
+        ensures grows { GrowsBy growing.old growing.new (combined self.now.in_decides (tree_on self.now.left.now.own left) (exchanged self.now.is_exchanged (tree_on scratch.old right))) result }
     {
         match (left, right) {
             (Link::End(is_inside), _) => {
@@ -51,7 +53,7 @@ impl<'a> Merge<'a> {
                 if alike(turned(is_inside, self.is_exchanged), self.in_decides) {
                     return Ok(Link::End(self.in_decides));
                 }
-                add_branch(alloc, growing, self.left, left, false)
+                add_moved(alloc, growing, self.left, left)
             }
             (Link::To(left), Link::To(right)) => { self.node(alloc, scratch, growing, left, right) }
         }
@@ -68,17 +70,17 @@ impl<'a> Merge<'a> {
         right: NodeId,
     ) -> Result<Link, GrowStop>
         requires tables { AreOverOne self.now.left.now scratch.old growing.old }
-        requires left { left.index < length self.now.left.now.nodes }
+        requires left { left.index < length self.now.left.now.own.nodes }
         requires right { right.index < length scratch.old.nodes }
         ensures scratch { OnOk result (scratch.new ≡ scratch.old) }
-        ensures grows { GrowsBy growing.old growing.new (combined self.now.in_decides (tree_on self.now.left.now (To left)) (exchanged self.now.is_exchanged (tree_on scratch.old (To right)))) result }
+        ensures grows { GrowsBy growing.old growing.new (combined self.now.in_decides (tree_on self.now.left.now.own (To left)) (exchanged self.now.is_exchanged (tree_on scratch.old (To right)))) result }
     {
-        let (face, behind, ahead) = self.left.node(left);
+        let (face, behind, ahead) = self.left.node(alloc, left)?;
         let kept = scratch.len();
-        let (low, high) = add_parts(alloc, scratch, Link::To(right), face)?;
+        let (low, high) = add_parts(alloc, scratch, Link::To(right), &face)?;
         let behind = self.branch(alloc, scratch, growing, behind, low)?;
         let ahead = self.branch(alloc, scratch, growing, ahead, high)?;
         scratch.cut_back(kept);
-        growing.make(face.copy(alloc)?, behind, ahead)
+        growing.make(face, behind, ahead)
     }
 }

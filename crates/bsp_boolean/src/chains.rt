@@ -10,7 +10,7 @@ ghost use Rattle.bsp_boolean.specs.Chains.{after_step, chained, kept_items, outl
 
 use bsp_tree::{GrowStop, Growing, Link};
 use plane_polygon::Class;
-use plane_table::{Face, PlaneTable, cut, sides};
+use plane_table::{Crossing, Face, Half, PlaneTable, cut, sides};
 use std::alloc::Global;
 use text_place::NoMemory;
 
@@ -57,7 +57,7 @@ fn behind_first(
     requires chain { All (IsFaceOver table.now) chain.items }
     ensures { IfOk result (IsChainOf table.now (chained (outline_of table.now first ∷ []) (divide (chained (outlines_of table.now chain.items) inside) (outline_of table.now first)).0)) }
 {
-    let mut low = Vec::new(alloc);
+    let mut low = Vec::with_capacity(alloc, chain.len().saturating_add(1))?;
     let mut by = Some(first.copy(alloc)?);
     low.push(first)?;
     for face in chain {
@@ -121,8 +121,18 @@ fn step_behind(alloc: Global, table: &PlaneTable, face: Face, by: Face) -> Resul
     let of_own = sides(alloc, table, &face, by.plane)?;
     match (of_by.class, of_own.class) {
         (Class::Across, Class::Across) => {
-            let (kept, _) = cut(alloc, table, &face, by.plane, &of_own)?;
-            let (part, _) = cut(alloc, table, &by, face.plane, &of_by)?;
+            let own = Crossing {
+                face: &face,
+                number: by.plane,
+                sides: &of_own,
+            };
+            let kept = cut(alloc, table, own, Half::Behind)?;
+            let other = Crossing {
+                face: &by,
+                number: face.plane,
+                sides: &of_by,
+            };
+            let part = cut(alloc, table, other, Half::Behind)?;
             Ok(Step::On(Some(kept), part))
         }
         (Class::Behind, Class::Behind) => Ok(Step::On(Some(face), by)),

@@ -9,7 +9,7 @@ ghost use Rattle.bsp_boolean.specs.Solids.{IsBuilt};
 
 use crate::branches::Merge;
 use crate::building::BuildStop;
-use bsp_tree::{Growing, Solid, finish, solid_over};
+use bsp_tree::{Growing, MovedNodes, Solid, finish, solid_over};
 use csg_tree::Op;
 use plane_table::{PlaneTable, join};
 use std::alloc::Global;
@@ -68,7 +68,7 @@ fn merged_within(
     let (right_planes, _, right_root) = right.parts();
     let joined = join(alloc, left_planes, right_planes)?;
     let table = PlaneTable::of(alloc, joined.planes)?;
-    let left_nodes = solid_over(alloc, &table, left, &joined.left)?;
+    let left_nodes = MovedNodes::of(&table, left, &joined.left);
     let mut right_nodes = solid_over(alloc, &table, right, &joined.right)?;
     let mut growing = Growing::new(alloc, &table, most);
     let merge = Merge {

@@ -45,7 +45,7 @@ impl From<NoMemory> for TreeStop {
 
 /// The solids of the first nodes in order of number, and what they are in size together.
 #[derive(Drop)]
-pub struct Growth {
+pub struct FirstSolids {
     solids: Vec<Solid>,
     sum: u64,
 }
@@ -65,7 +65,7 @@ pub fn tree_solid<B: Builder>(
     ensures counted { OnOk result (B.builds builder.new ≡ B.builds builder.old + joins store.now) }
     ensures bounded { B.builds builder.new ≤ B.builds builder.old + joins store.now }
 {
-    let mut growth = Growth {
+    let mut growth = FirstSolids {
         solids: Vec::new(alloc),
         sum: 0,
     };
@@ -80,7 +80,7 @@ fn grow<B: Builder>(
     alloc: Global,
     store: &CsgStore,
     number: u32,
-    growth: &mut Growth,
+    growth: &mut FirstSolids,
     builder: &mut B,
 ) -> Result<(), TreeStop>
     requires number { IsNumberIn store.now number }

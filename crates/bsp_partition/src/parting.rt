@@ -6,6 +6,7 @@ ghost use Rattle.link_forest.specs.declared.link.Link.TheVariants.{To};
 ghost use Rattle.plane_polygon.specs.declared.classes.Class.TheVariants.{Across};
 ghost use Rattle.plane_polygon.specs.Parts.{class_of, part_ahead, part_behind};
 ghost use Rattle.plane_table.specs.Tables.{named};
+ghost use Rattle.plane_table.specs.Cuts.{part_in, IsCrossing};
 ghost use Rattle.plane_table.specs.Faces.{outline_of, AreSidesOf, IsFaceOver};
 ghost use Rattle.bsp_tree.specs.Trees.{make};
 ghost use Rattle.bsp_tree.specs.Growths.{tree_on};
@@ -16,7 +17,7 @@ use crate::fork::Fork;
 use crate::part::Part;
 use bsp_tree::{Face, Link, NodeId, Nodes, is_same_leaf};
 use plane_polygon::Class;
-use plane_table::{CornerSides, cut, sides};
+use plane_table::{CornerSides, Crossing, Half, cut, sides};
 use std::alloc::Global;
 use text_place::NoMemory;
 
@@ -98,7 +99,7 @@ fn other_parts(
 }
 
 /// The parts of what lies behind and ahead of a node's plane, by the parts of another face that is
-/// across that plane. A leaf is both its parts.
+/// across that plane.
 #[cycle(parts)]
 fn side_parts(
     alloc: Global,
@@ -113,14 +114,36 @@ fn side_parts(
     requires across { of_by.now.class ≡ Across }
     ensures { IfOk result (λ r. HasSideParts nodes.old nodes.new r (divide (tree_on nodes.old node.now.behind) (part_behind (outline_of nodes.old.planes by.now) (named nodes.old.planes node.now.face.plane))) (divide (tree_on nodes.old node.now.ahead) (part_ahead (outline_of nodes.old.planes by.now) (named nodes.old.planes node.now.face.plane)))) }
 {
-    let (behind, ahead) = (node.behind, node.ahead);
-    if let (Link::End(_), Link::End(_)) = (behind, ahead) {
-        return Ok(((behind, behind), (ahead, ahead)));
-    }
-    let (by_low, by_high) = cut(alloc, nodes.table(), by, node.face.plane, of_by)?;
-    let low = add_parts(alloc, nodes, behind, &by_low)?;
-    let high = add_parts(alloc, nodes, ahead, &by_high)?;
+    let by = Crossing {
+        face: by,
+        number: node.face.plane,
+        sides: of_by,
+    };
+    let low = half_parts(alloc, nodes, node.behind, by, Half::Behind)?;
+    let high = half_parts(alloc, nodes, node.ahead, by, Half::Ahead)?;
     Ok((low, high))
+}
+
+/// The parts of the tree at a link, by the part of a face in a half space. A leaf is both its parts.
+#[cycle(parts)]
+fn half_parts(
+    alloc: Global,
+    nodes: &mut Nodes<'_>,
+    at: Link,
+    by: Crossing<'_>,
+    half: Half,
+) -> Result<(Link, Link), NoMemory>
+    requires link { IsLinkOf nodes.old.nodes at }
+    requires crossing { IsCrossing nodes.old.planes by }
+    ensures { IfOk result (λ r. HasParts nodes.old nodes.new r (divide (tree_on nodes.old at) (part_in half (outline_of nodes.old.planes by.entry.face.now) (named nodes.old.planes by.entry.number)))) }
+{
+    match at {
+        Link::End(_) => Ok((at, at)),
+        Link::To(_) => {
+            let part = cut(alloc, nodes.table(), by, half)?;
+            add_parts(alloc, nodes, at, &part)
+        }
+    }
 }
 
 /// The two parts of a face that is across another one's plane, in nodes with the parts of its sides.
@@ -140,13 +163,35 @@ fn made_across(
     ensures { IfOk result (λ r. HasParts nodes.old nodes.new r (across_row (outline_of nodes.old.planes by.now) (outline_of nodes.old.planes face.now) (trees_on nodes.old parts.0) (trees_on nodes.old parts.1))) }
 {
     let (low, high) = parts;
-    if is_same_leaf(low.0, high.0) && is_same_leaf(low.1, high.1) {
-        return Ok(low);
-    }
-    let (behind, ahead) = cut(alloc, nodes.table(), face, by.plane, of_own)?;
-    let first = make_node(nodes, behind, low.0, high.0)?;
-    let second = make_node(nodes, ahead, low.1, high.1)?;
+    let own = Crossing {
+        face,
+        number: by.plane,
+        sides: of_own,
+    };
+    let first = make_half(alloc, nodes, own, Half::Behind, low.0, high.0)?;
+    let second = make_half(alloc, nodes, own, Half::Ahead, low.1, high.1)?;
     Ok((first, second))
+}
+
+/// A node of the part of a face in a half space, or the leaf where both its sides are the same leaf.
+fn make_half(
+    alloc: Global,
+    nodes: &mut Nodes<'_>,
+    own: Crossing<'_>,
+    half: Half,
+    behind: Link,
+    ahead: Link,
+) -> Result<Link, NoMemory>
+    requires crossing { IsCrossing nodes.old.planes own }
+    requires behind { IsLinkOf nodes.old.nodes behind }
+    requires ahead { IsLinkOf nodes.old.nodes ahead }
+    ensures { IfOk result (λ l. HasMade nodes.old nodes.new l (make (part_in half (outline_of nodes.old.planes own.entry.face.now) (named nodes.old.planes own.entry.number)) (tree_on nodes.old behind) (tree_on nodes.old ahead))) }
+{
+    if is_same_leaf(behind, ahead) {
+        return Ok(behind);
+    }
+    let part = cut(alloc, nodes.table(), own, half)?;
+    make_node(nodes, part, behind, ahead)
 }
 
 /// The parts of a node by a face that lies behind its plane, where its own face lies in this part.

@@ -34,7 +34,7 @@ abbrev pub exchanged : Bool → Tree → Tree
 exchanged true tree = complement tree
 exchanged false tree = tree
 
--- a solid in the making: its nodes over a table, what they are in size together, and the most that they may be
+-- a solid in the making: nodes over a table, a size, which grows with each tree that is added, and the most that it may be
 pub record Growth : Type 0 where
   pub sheet : Sheet
   pub size : ℕ
@@ -48,7 +48,7 @@ pub record HasGrown (old new : Growth) (link : Link) (tree : Tree) : Type 0 wher
   pub size : new.size ≡ old.size + size tree
   pub most : new.most ≡ old.most
 
--- the tree's nodes were added within the limit, or with them the size is above it
+-- nodes were added, and the tree stands at the link, or with it the size would be above the limit
 abbrev pub GrowsBy : Growth → Growth → Tree → Result Link GrowStop → Type 0
 GrowsBy old new tree (Ok link) = HasGrown old new link tree
 GrowsBy old new tree (Err TooBig) = old.most < old.size + size tree

@@ -5,3 +5,4 @@ pub mod Shapes
 pub mod Kept
 pub mod Growths
 pub mod Copies
+pub mod Moves

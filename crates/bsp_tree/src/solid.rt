@@ -74,7 +74,7 @@ impl Solid {
     }
 
     /// A solid that has grown over a table from nothing, with its size. Takes no memory.
-    pub fn grown(planes: Vec<Plane>, forest: Forest<Face>, root: Link, size: u64) -> Solid
+    pub(crate) fn grown(planes: Vec<Plane>, forest: Forest<Face>, root: Link, size: u64) -> Solid
         requires apart { HasNoTwoAlike planes.items }
         requires faces { AreFacesOver planes.items forest.nodes }
         requires grown { HasGrownWhole (record { planes = planes.items; nodes = forest.nodes }) root size }

@@ -1,5 +1,6 @@
 -- The facets on faces between the trees of a forest's links.
-use Rattle.std.proofs.Common.{◌≡◌, ℕ, ◌<◌, Bool, true, false, List, [], ◌++◌, length, flat_map, Result, Ok, Err, refl, sym, ap, ap₂, ◌∙◌, subst, arith, append-nil, append_assoc, length-append}
+use Rattle.std.proofs.Common.{◌≡◌, ℕ, ◌<◌, ◌≤◌, Bool, true, false, List, [], ◌++◌, length, flat_map, Result, Ok, Err, refl, sym, ap, ◌∙◌, subst, arith, append-nil, append_assoc, length-append}
+use Rattle.std.proofs.lemmas.Bool.{false≢true}
 use Rattle.std.proofs.lemmas.Grind.{flat_map-append}
 use Rattle.plane_predicate.specs.Space.{Coefficients}
 use Rattle.plane_polygon.specs.Polygons.{Outline}
@@ -15,13 +16,14 @@ use Rattle.plane_table.specs.declared.faces.Face.{Face}
 use Rattle.plane_table.specs.declared.sorting.CornerSides.{CornerSides}
 use Rattle.plane_table.specs.Tables.{named}
 use Rattle.plane_table.specs.Faces.{outline_of, AreSidesOf}
+use Rattle.bsp_tree.specs.Links.{same_leaf}
 use Rattle.bsp_tree.specs.Trees.{Tree}
 use Rattle.bsp_tree.specs.Shapes.{leaf_of, tree_over}
 use Rattle.bsp_tree.proofs.Sheets.{node_shown}
 use Rattle.bsp_tree.proofs.Wholes.{leaf_tree}
 use Rattle.facet_cut.specs.declared.stops.CutStop.{CutStop}
 use Rattle.facet_cut.specs.declared.stops.CutStop.TheVariants.{TooMany, NoMemory}
-use Rattle.facet_cut.specs.Facets.{Piece, on_sides, pieces, facets_of}
+use Rattle.facet_cut.specs.Facets.{Piece, facets_ahead, facing, on_sides, pieces, facets_of}
 use Rattle.facet_cut.specs.Adding.{Adds}
 
 -- ---- ends
@@ -48,15 +50,13 @@ end_pieces f planes nodes side s =
 -- ---- nodes
 -- what the pieces give of a face that lies across the plane of a link's node: what those of its parts give
 pub across_node : (f : Piece → List Outline) (planes : List Coefficients) (nodes : List (Entry Face)) (link : Link) (id : NodeId)
-    (own face low high : Face) (behind ahead : Link) (of_face : CornerSides) →
+    (own face : Face) (behind ahead : Link) (of_face : CornerSides) →
     link ≡ To id → IsNode nodes id own behind ahead →
     AreSidesOf (outline_of planes face) (named planes own.plane) of_face → of_face.class ≡ Across →
-    outline_of planes low ≡ part_behind (outline_of planes face) (named planes own.plane) →
-    outline_of planes high ≡ part_ahead (outline_of planes face) (named planes own.plane) →
     flat_map f (pieces (tree_over planes nodes link) (outline_of planes face)) ≡
-    flat_map f (pieces (tree_over planes nodes behind) (outline_of planes low)) ++
-    flat_map f (pieces (tree_over planes nodes ahead) (outline_of planes high))
-across_node f planes nodes link id own face low high behind ahead of_face e n h x l k =
+    flat_map f (pieces (tree_over planes nodes behind) (part_behind (outline_of planes face) (named planes own.plane))) ++
+    flat_map f (pieces (tree_over planes nodes ahead) (part_ahead (outline_of planes face) (named planes own.plane)))
+across_node f planes nodes link id own face behind ahead of_face e n h x =
     let s = outline_of planes face in
     let m = named planes own.plane in
     let b = tree_over planes nodes behind in
@@ -65,7 +65,24 @@ across_node f planes nodes link id own face low high behind ahead of_face e n h 
     ∙ ap (λ (t : Tree). flat_map f (pieces t s)) (node_shown planes nodes id own behind ahead n.tree)
     ∙ ap (λ (y : Class). flat_map f (on_sides y (pieces b s) (pieces a s) (pieces b (part_behind s m)) (pieces a (part_ahead s m)))) (sym h.class ∙ x)
     ∙ flat_map-append f (pieces b (part_behind s m)) (pieces a (part_ahead s m))
-    ∙ ap₂ (λ (v w : Outline). flat_map f (pieces b v) ++ flat_map f (pieces a w)) (sym l) (sym k)
+
+-- ---- two leaves of one kind
+-- between which nothing is added
+no_wall : (side : Bool) (s : Outline) → facing side side s ≡ []
+no_wall true s = refl
+no_wall false s = refl
+
+pub same_leaf_facets : (planes : List Coefficients) (nodes : List (Entry Face)) (side : Bool) (ahead : Link) (s : Outline) → same_leaf (End side) ahead ≡ true →
+    facets_ahead side (tree_over planes nodes ahead) s ≡ []
+same_leaf_facets planes nodes true (End true) s e = end_pieces (λ (r : Piece). facing true r.is_inside r.part) planes nodes true s ∙ no_wall true s
+same_leaf_facets planes nodes false (End false) s e = end_pieces (λ (r : Piece). facing false r.is_inside r.part) planes nodes false s ∙ no_wall false s
+same_leaf_facets planes nodes true (End false) s e = absurd (false≢true e)
+same_leaf_facets planes nodes false (End true) s e = absurd (false≢true e)
+same_leaf_facets planes nodes true (To id) s e = absurd (false≢true e)
+same_leaf_facets planes nodes false (To id) s e = absurd (false≢true e)
+
+pub adds_none : {A : Type 0} (most : ℕ) (found : List Outline) (done : A) → length found ≤ most → Adds [] most found found (Ok done)
+adds_none most found done h = (sym (append-nil found), h)
 
 -- ---- facets that are added one after the others
 pub adds_more : {A : Type 0} (first others : List Outline) (most : ℕ) (old middle new : List Outline) (result : Result A CutStop) →

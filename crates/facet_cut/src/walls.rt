@@ -2,16 +2,18 @@
 
 ghost use Rattle.std.specs.Prelude.{◌≤◌, length};
 ghost use Rattle.link_forest.specs.Forests.{IsLinkOf};
+ghost use Rattle.plane_table.specs.Tables.{named};
 ghost use Rattle.plane_table.specs.Faces.{outline_of, IsFaceOver};
+ghost use Rattle.plane_table.specs.Cuts.{part_in, IsCrossing};
 ghost use Rattle.bsp_tree.specs.Shapes.{tree_over, AreFacesOver};
 ghost use Rattle.facet_cut.specs.Facets.{facets_ahead, facets_between, facets_of, facing};
 ghost use Rattle.facet_cut.specs.Adding.{Adds};
 
 use crate::adding::push_facing;
 use crate::{CutStop, Facet};
-use bsp_tree::{Face, Forest, Link};
+use bsp_tree::{Face, Forest, Link, is_same_leaf};
 use plane_polygon::Class;
-use plane_table::{PlaneTable, cut, polygon_of, sides};
+use plane_table::{Crossing, Half, PlaneTable, cut, polygon_of, sides};
 use std::alloc::Global;
 
 /// The nodes of a solid, between whose leaves its faces are cut.
@@ -76,9 +78,15 @@ impl<'a> Walls<'a> {
                     }
                     Class::Ahead => self.push_between(alloc, high, ahead, face, most, found),
                     Class::Across => {
-                        let parts = cut(alloc, self.table, face, own.plane, &of_face)?;
-                        self.push_between(alloc, low, ahead, &parts.0, most, found)?;
-                        self.push_between(alloc, high, ahead, &parts.1, most, found)
+                        let crossing = Crossing {
+                            face,
+                            number: own.plane,
+                            sides: &of_face,
+                        };
+                        let part = cut(alloc, self.table, crossing, Half::Behind)?;
+                        self.push_between(alloc, low, ahead, &part, most, found)?;
+                        let part = cut(alloc, self.table, crossing, Half::Ahead)?;
+                        self.push_between(alloc, high, ahead, &part, most, found)
                     }
                 }
             }
@@ -86,6 +94,7 @@ impl<'a> Walls<'a> {
     }
 
     /// Adds the facets on a face that has a leaf just behind it, from the solid ahead of its plane.
+    #[cycle(ahead)]
     fn push_ahead(
         &self,
         alloc: Global,
@@ -114,13 +123,43 @@ impl<'a> Walls<'a> {
                     }
                     Class::Ahead => self.push_ahead(alloc, is_inside, high, face, most, found),
                     Class::Across => {
-                        let parts = cut(alloc, self.table, face, own.plane, &of_face)?;
-                        self.push_ahead(alloc, is_inside, low, &parts.0, most, found)?;
-                        self.push_ahead(alloc, is_inside, high, &parts.1, most, found)
+                        let crossing = Crossing {
+                            face,
+                            number: own.plane,
+                            sides: &of_face,
+                        };
+                        self.push_half(alloc, is_inside, low, crossing, Half::Behind, most, found)?;
+                        self.push_half(alloc, is_inside, high, crossing, Half::Ahead, most, found)
                     }
                 }
             }
         }
+    }
+
+    /// Adds the facets on the part of a face in a half space, where a leaf is just behind it. A leaf of
+    /// the same kind ahead of it gives none, and needs no part.
+    #[cycle(ahead)]
+    fn push_half(
+        &self,
+        alloc: Global,
+        is_inside: bool,
+        ahead: Link,
+        crossing: Crossing<'_>,
+        half: Half,
+        most: u64,
+        found: &mut Vec<Facet>,
+    ) -> Result<(), CutStop>
+        requires faces { AreFacesOver self.now.table.now self.now.forest.now.nodes }
+        requires ahead { IsLinkOf self.now.forest.now.nodes ahead }
+        requires crossing { IsCrossing self.now.table.now crossing }
+        requires within { length found.old.items ≤ most }
+        ensures { Adds (facets_ahead is_inside (tree_over self.now.table.now self.now.forest.now.nodes ahead) (part_in half (outline_of self.now.table.now crossing.entry.face.now) (named self.now.table.now crossing.entry.number))) most found.old.items found.new.items result }
+    {
+        if is_same_leaf(Link::End(is_inside), ahead) {
+            return Ok(());
+        }
+        let part = cut(alloc, self.table, crossing, half)?;
+        self.push_ahead(alloc, is_inside, ahead, &part, most, found)
     }
 
     /// Adds the facet on a face between two leaves, if there is one.

@@ -7,8 +7,8 @@ use crate::laying::{high, plane_at};
 use plane_polygon::Class;
 use plane_predicate::Plane;
 use plane_table::{
-    Edges, Face, PlaneTable, cut, faces_are_found, half_face, join, keep_used, mark_used,
-    opposite_number, polygon_of, renumber, sides,
+    Crossing, Edges, Face, Half, PlaneTable, cut, faces_are_found, half_face, join, keep_used,
+    mark_used, opposite_number, polygon_of, renumber, sides,
 };
 use std::alloc::Global;
 use std::process::Abort;
@@ -96,6 +96,19 @@ fn faces_have_the_numbers_of_a_table(rt: HostRuntime) {
     assert_eq!(rt; polygon.edges().len(), 4);
 }
 
+// The planes of x = -4096, which looks the other way, x = 1 and x = 4096 are 10, 12 and 14, and z = 1 is 2.
+#[test]
+fn planes_of_one_direction_have_one_number(rt: HostRuntime) {
+    let alloc = rt.alloc();
+    let (table, _) = top_face(&rt, alloc);
+    assert!(rt; table.planes().len() == 8);
+    assert!(rt; table.direction(12) == table.direction(14));
+    assert!(rt; table.direction(12) == table.direction(11));
+    assert!(rt; table.direction(13) == table.direction(10));
+    assert!(rt; table.direction(12) != table.direction(13));
+    assert!(rt; table.direction(12) != table.direction(2));
+}
+
 // The face of z = 1 lies on its own plane, and behind that of y = 4096.
 #[test]
 fn faces_lie_against_planes(rt: HostRuntime) {
@@ -116,7 +129,13 @@ fn faces_are_cut(rt: HostRuntime) {
     let found = sides(alloc, &table, &face, 12).expect(&rt, "memory");
     match found.class {
         Class::Across => {
-            let (behind, ahead) = cut(alloc, &table, &face, 12, &found).expect(&rt, "memory");
+            let crossing = Crossing {
+                face: &face,
+                number: 12,
+                sides: &found,
+            };
+            let behind = cut(alloc, &table, crossing, Half::Behind).expect(&rt, "memory");
+            let ahead = cut(alloc, &table, crossing, Half::Ahead).expect(&rt, "memory");
             assert!(rt; behind.plane == 2 && ahead.plane == 2);
             assert!(rt; behind.edges.numbers() == [10, 6, 12, 8].as_slice());
             assert!(rt; ahead.edges.numbers() == [6, 14, 8, 13].as_slice());

@@ -48,10 +48,12 @@ same_direction p m ea eb ec v h e =
     sym (ap side_of (here ∙ past p.a p.b p.c p.d m.d v.x v.y v.z v.w ∙ ap (λ (k : ℤ). k +ℤ v.w *ℤ (p.d -ℤ m.d)) e ∙ omega (arith, sums))
     ∙ side_times v.w (p.d -ℤ m.d) h)
 
--- the opposite of a plane has its points
-pub all_on_opposite : (p m q : Coefficients) (side : Option Side) → q ≡ opposite_of p → IfSome side (HasAllOn q m) → IfSome side (HasAllOn p m)
-all_on_opposite p m q None e h = tt
-all_on_opposite p m q (Some side) e h = λ v w on. h v w (ap (λ (k : Coefficients). value k v) e ∙ value-opposite p v ∙ ap neg_ℤ on)
+-- a plane has the points of its opposite
+opposite_zero : (x : ℤ) → neg_ℤ x ≡ pos 0 → x ≡ pos 0
+opposite_zero x e = omega (arith, sums)
+
+pub same_points : (p : Coefficients) (v : Coordinates) → value (opposite_of p) v ≡ pos 0 → value p v ≡ pos 0
+same_points p v e = opposite_zero (value p v) (sym (value-opposite p v) ∙ e)
 
 -- the side at a point of the parallel plane
 pub all_on_at : (p m : Coefficients) (side : Option Side) (v : Coordinates) → pos 0 <ℤ v.w → value p v ≡ pos 0 → IfSome side (HasAllOn p m) → IfSome side (λ s. s ≡ side_of (value m v))

@@ -22,8 +22,9 @@ pub use laws::{
     points_lie_in_the_fan, polygons_by_their_corners, polygons_keep_their_form, within_is_left,
 };
 pub use listing::{corners, meeting_of};
-pub use parallels::parallel_side;
+pub use parallels::{is_alike, side_alike};
 use plane_predicate::Plane;
+pub use planes::world_planes;
 pub use sides::{next_index, side_at};
 pub use sorting::{class_from, sort_by};
 use std::alloc::Global;

@@ -1,30 +1,41 @@
 //! Parallel planes.
 
-ghost use Rattle.std.specs.Prelude.{◌≡◌, IfSome};
-ghost use Rattle.plane_polygon.specs.Parallels.{side_past, HasAllOn};
+ghost use Rattle.std.specs.Prelude.{◌≡◌, true, IfSome};
+ghost use Rattle.plane_predicate.specs.Space.{opposite_of};
+ghost use Rattle.plane_polygon.specs.Parallels.{side_past, HasAllOn, IsAlike};
 
 use plane_predicate::{Plane, Side, opposite};
 
 /// The side of `m` on which all points of `p` lie, where their directions are equal or opposite. `None`
-/// where they are neither.
+/// is no promise.
 pub fn parallel_side(p: &Plane, m: &Plane) -> Option<Side>
     ensures { IfSome result (λ s. HasAllOn p.now m.now s) }
 {
-    if let Some(found) = side_alike(p, m) {
-        return Some(found);
+    if is_alike(p, m) {
+        return Some(side_alike(p, m));
     }
-    side_alike(&opposite(p), m)
+    let turned = opposite(p);
+    if is_alike(&turned, m) {
+        return Some(side_alike(&turned, m));
+    }
+    None
 }
 
-/// The same, where the directions are equal.
-fn side_alike(p: &Plane, m: &Plane) -> Option<Side>
-    ensures { IfSome result (λ s. HasAllOn p.now m.now s) }
+/// Whether two planes have one direction.
+pub fn is_alike(p: &Plane, m: &Plane) -> bool
+    ensures { result ≡ true → IsAlike p.now m.now }
 {
-    if p.a == m.a && p.b == m.b && p.c == m.c {
-        Some(side_past(p, m))
-    } else {
-        None
-    }
+    p.a == m.a && p.b == m.b && p.c == m.c
+}
+
+/// The side of `m` on which all points of `p` lie, which are those of its opposite, where both have one
+/// direction.
+pub fn side_alike(p: &Plane, m: &Plane) -> Side
+    requires { IsAlike p.now m.now }
+    ensures own { HasAllOn p.now m.now result }
+    ensures opposite { HasAllOn (opposite_of p.now) m.now result }
+{
+    side_past(p, m)
 }
 
 /// The side of the offset of `m` on which that of `p` lies.

@@ -1,9 +1,19 @@
 //! The planes of the world box.
 
-ghost use Rattle.std.specs.Prelude.{◌≡◌};
+ghost use Rattle.std.specs.Prelude.{◌≡◌, ◌∷◌, [], IfOk};
 ghost use Rattle.plane_polygon.specs.Boxes.{high_x, low_x, high_y, low_y, high_z, low_z};
 
 use plane_predicate::Plane;
+use std::alloc::Global;
+use text_place::NoMemory;
+
+/// The six planes of the world box.
+pub fn world_planes(alloc: Global) -> Result<Vec<Plane>, NoMemory>
+    ensures { IfOk result (λ v. v.items ≡ low_x ∷ high_x ∷ low_y ∷ high_y ∷ low_z ∷ high_z ∷ []) }
+{
+    let planes = [low_x(), high_x(), low_y(), high_y(), low_z(), high_z()];
+    Ok(Vec::from_slice(alloc, &planes)?)
+}
 
 /// The high plane of the world box over x.
 pub fn high_x() -> Plane

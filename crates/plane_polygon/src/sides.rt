@@ -22,10 +22,7 @@ pub fn side_at(p: &Plane, q: &Plane, r: &Plane, m: &Plane) -> Side
     requires { pos 0 <ℤ (cramer p.now q.now r.now).w }
     ensures { result ≡ side_of (value m.now (cramer p.now q.now r.now)) }
 {
-    match parallel_to_one(p, q, r, m) {
-        Some(found) => found,
-        None => side(p, q, r, m),
-    }
+    side(p, q, r, m)
 }
 
 /// The same, where `m` is parallel to one of the planes that meet.
@@ -48,7 +45,12 @@ pub fn corner_side(plane: &Plane, edges: &[Plane], i: usize, m: &Plane) -> Side
     requires polygon { IsPolygon (record { plane = plane.now; edges = edges.now }) }
     ensures { result ≡ side_of (value m.now (corner (record { plane = plane.now; edges = edges.now }) i)) }
 {
-    side_at(plane, &edges[i], &edges[next_index(i, edges.len())], m)
+    let ends = &edges[i];
+    let begins = &edges[next_index(i, edges.len())];
+    match parallel_to_one(plane, ends, begins, m) {
+        Some(found) => found,
+        None => side_at(plane, ends, begins, m),
+    }
 }
 
 /// The same, where the last corner's side is known.

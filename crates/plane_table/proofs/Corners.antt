@@ -1,16 +1,22 @@
 -- Corners of faces, and lists of them.
-use Rattle.std.proofs.Common.{◌≡◌, ◌≢◌, inl, inr, eqb, cond, ℕ, zero, suc, ◌+◌, ◌<◌, Bool, true, false, ◌||◌, List, [], ◌∷◌, ◌++◌, length, get_or, map, refl, sym, ap, ap₂, ◌∙◌, arith, add-one, ℤ, pos, negsuc, int_lt}
+use Rattle.std.proofs.Common.{◌≡◌, ◌≢◌, inl, inr, eqb, cond, ℕ, zero, suc, ◌+◌, ◌-◌, ◌<◌, ◌<ℤ◌, ◌⊎◌, subst, Option, None, Some, IfSome, Bool, true, false, ◌||◌, List, [], ◌∷◌, ◌++◌, length, get_or, map, refl, sym, ap, ap₂, ◌∙◌, arith, add-one, ℤ, pos, negsuc, int_lt}
 use Rattle.std.proofs.lemmas.List.{map-append, length-append, length-map, get_or_append_left, get_or_push}
-use Rattle.std.proofs.lemmas.Bool.{cases_lt, eqb-false}
+use Rattle.std.proofs.lemmas.Bool.{cases_lt, eqb-false, eqb-true}
 use Rattle.std.proofs.lemmas.Int.{ints}
 use Rattle.plane_predicate.specs.Space.{Coefficients, Coordinates, cramer, value}
 use Rattle.plane_predicate.specs.Sides.{side_of, is_side_behind, is_side_ahead}
-use Rattle.plane_polygon.specs.Polygons.{Outline, after, corner, sides, nowhere}
+use Rattle.plane_predicate.specs.declared.sides.Side.{Side}
+use Rattle.plane_predicate.specs.declared.sides.Side.TheVariants.{Behind, On, Ahead}
+use Rattle.plane_polygon.specs.declared.classes.Class.TheVariants.{Across}
+use Rattle.plane_predicate.proofs.Identities.{cramer_on_first, cramer_on_second, cramer_on_third}
+use Rattle.plane_polygon.specs.Parallels.{HasAllOn}
+use Rattle.plane_polygon.specs.Polygons.{Outline, after, corner, edge, sides, nowhere}
 use Rattle.plane_polygon.specs.Parts.{up_to, corners, some_of, is_behind, is_ahead, class_by, class_of}
 use Rattle.plane_table.specs.declared.faces.Face.{Face}
 use Rattle.plane_table.specs.declared.sorting.CornerSide.{CornerSide}
+use Rattle.plane_table.specs.declared.sorting.CornerSides.{CornerSides}
 use Rattle.plane_table.specs.Tables.{named}
-use Rattle.plane_table.specs.Faces.{outline_of, side_against}
+use Rattle.plane_table.specs.Faces.{outline_of, side_against, AreFourSides, AreSidesOf, IsFaceOver, IsSideAt}
 use Rattle.plane_table.proofs.Numbers.{get_map}
 
 -- ---- sides
@@ -113,3 +119,104 @@ side_pair m p side b a e x y =
     let f = x ∙ ap is_side_behind e ∙ side_behind (value m p) in
     let g = y ∙ ap is_side_ahead e ∙ side_ahead (value m p) in
     λ i. record { is_behind = f i; is_ahead = g i }
+
+-- ---- what is known of the side of a corner
+pub some_on : (p m : Coefficients) (side : Option Side) (v : Coordinates) → pos 0 <ℤ v.w → value p v ≡ pos 0 → IfSome side (HasAllOn p m) → IfSome side (λ s. s ≡ side_of (value m v))
+some_on p m None v w on h = tt
+some_on p m (Some side) v w on h = h v w on
+
+one_of : (ends begins known : Option Side) (P : Side → Type 0) → (known ≡ ends) ⊎ (known ≡ begins) → IfSome ends P → IfSome begins P → IfSome known P
+one_of ends begins known P choose b c = elim choose [
+  | inl e ↦ subst (λ (side : Option Side). IfSome side P) (sym e) b
+  | inr e ↦ subst (λ (side : Option Side). IfSome side P) (sym e) c
+]
+
+-- by the two edge planes that meet there
+pub known_at : (planes : List Coefficients) (face : Face) (m : Coefficients) (i : ℕ) (ends begins known : Option Side) →
+    IsFaceOver planes face → i < length face.edges →
+    IfSome ends (HasAllOn (named planes (get_or face.edges i 0)) m) →
+    IfSome begins (HasAllOn (named planes (get_or face.edges (after (length face.edges) i) 0)) m) →
+    (known ≡ ends) ⊎ (known ≡ begins) →
+    IfSome known (IsSideAt planes face m i)
+known_at planes face m i ends begins known h l b c choose =
+    let p = named planes face.plane in
+    let q = named planes (get_or face.edges i 0) in
+    let r = named planes (get_or face.edges (after (length face.edges) i) 0) in
+    let e = corner_is planes face i l (after_in (length face.edges) i l) in
+    let v = cramer p q r in
+    let w : pos 0 <ℤ v.w = subst (λ (x : Coordinates). pos 0 <ℤ x.w) e (h.polygon.turns_left i (let n = length-map face.edges (named planes) in omega arith)) in
+    subst (λ (x : Coordinates). IfSome known (λ s. s ≡ side_of (value m x))) (sym e)
+    (one_of ends begins known (λ s. s ≡ side_of (value m v)) choose
+    (some_on q m ends v w (cramer_on_second p q r) b) (some_on r m begins v w (cramer_on_third p q r) c))
+
+-- by the plane of the face, which has all its points on one side
+or_itself : (x : Bool) → (x || x) ≡ x
+or_itself true = refl
+or_itself false = refl
+
+all_of : (p : Coordinates → Bool) (f : ℕ → Coordinates) (b : Bool) (n : ℕ) → ((i : ℕ) → i < n + 1 → p (f i) ≡ b) → some_of p (map f (up_to (n + 1))) ≡ b
+all_of p f b zero h = sym (some_step p f 0 false b refl (sym (h 0 (omega arith))))
+all_of p f b (suc n) h =
+    let before = ap (λ (k : ℕ). some_of p (map f (up_to k))) (sym (add-one n)) ∙ all_of p f b n (λ i l. h i (omega arith)) in
+    sym (some_step p f (suc n) b b (sym before) (sym (h (suc n) (omega arith)))) ∙ or_itself b
+
+pub all_of_class : (planes : List Coefficients) (face : Face) (m : Coefficients) (side : Side) → IsFaceOver planes face → HasAllOn (named planes face.plane) m side →
+    class_by (is_side_behind side) (is_side_ahead side) ≡ class_of (outline_of planes face) m
+all_of_class planes face m side h k =
+    let s : Outline = outline_of planes face in
+    let n = sides s - 1 in
+    let count : n + 1 ≡ sides s = omega (arith, h.polygon.three) in
+    let at : (i : ℕ) → i < n + 1 → side ≡ side_of (value m (corner s i)) = λ i l.
+    k (corner s i) (h.polygon.turns_left i (omega arith)) (cramer_on_first s.plane (edge s i) (edge s (after (sides s) i))) in
+    ap₂ class_by
+    (sym (all_of (is_behind m) (corner s) (is_side_behind side) n (λ i l. sym (ap is_side_behind (at i l) ∙ side_behind (value m (corner s i))))) ∙ ap (λ (j : ℕ). some_of (is_behind m) (map (corner s) (up_to j))) count)
+    (sym (all_of (is_ahead m) (corner s) (is_side_ahead side) n (λ i l. sym (ap is_side_ahead (at i l) ∙ side_ahead (value m (corner s i))))) ∙ ap (λ (j : ℕ). some_of (is_ahead m) (map (corner s) (up_to j))) count)
+
+pub one_side : (side : Side) → class_by (is_side_behind side) (is_side_ahead side) ≡ Across → ⊥
+one_side Behind e = cc
+one_side On e = cc
+one_side Ahead e = cc
+
+-- ---- four corners
+-- by the edge that ends at a corner, and by the one that begins there
+pub ends_at : (planes : List Coefficients) (face : Face) (m : Coefficients) (i : ℕ) (side : Side) → IsFaceOver planes face → i < length face.edges →
+    HasAllOn (named planes (get_or face.edges i 0)) m side → IsSideAt planes face m i side
+ends_at planes face m i side f l h = known_at planes face m i (Some side) None (Some side) f l h tt (inl refl)
+
+pub begins_at : (planes : List Coefficients) (face : Face) (m : Coefficients) (i j : ℕ) (side : Side) → IsFaceOver planes face → i < length face.edges →
+    after (length face.edges) i ≡ j → HasAllOn (named planes (get_or face.edges j 0)) m side → IsSideAt planes face m i side
+begins_at planes face m i j side f l e h =
+    known_at planes face m i None (Some side) (Some side) f l tt (subst (λ (k : ℕ). HasAllOn (named planes (get_or face.edges k 0)) m side) (sym e) h) (inr refl)
+
+or_four : (a b c d w x y z : Bool) → a ≡ w → b ≡ x → c ≡ y → d ≡ z → (a || (b || (c || d))) ≡ (w || (x || (y || (z || false))))
+or_four a b c d w x y z p q r s = ap₂ (λ (u v : Bool). u || v) p (ap₂ (λ (u v : Bool). u || v) q (ap₂ (λ (u v : Bool). u || v) r (s ∙ sym (or_last z))))
+
+four_list : {A : Type 0} (a b c d w x y z : A) → a ≡ w → b ≡ x → c ≡ y → d ≡ z → a ∷ b ∷ c ∷ d ∷ [] ≡ w ∷ x ∷ y ∷ z ∷ []
+four_list a b c d w x y z p q r s = λ i. p i ∷ q i ∷ r i ∷ s i ∷ []
+
+pub four_end : (planes : List Coefficients) (face : Face) (m : Coefficients) (a b c d : Side) (sides : CornerSides) → length face.edges ≡ 4 →
+    IsSideAt planes face m 0 a → IsSideAt planes face m 1 b → IsSideAt planes face m 2 c → IsSideAt planes face m 3 d →
+    AreFourSides a b c d sides → AreSidesOf (outline_of planes face) m sides
+four_end planes face m a b c d found four x y z w h =
+    let s : Outline = outline_of planes face in
+    let n : sides s ≡ 4 = length-map face.edges (named planes) ∙ four in
+    let at : ℕ → Coordinates = corner s in
+    let behind = or_four _ _ _ _ _ _ _ _ (ap is_side_behind x ∙ side_behind (value m (at 0))) (ap is_side_behind y ∙ side_behind (value m (at 1)))
+    (ap is_side_behind z ∙ side_behind (value m (at 2))) (ap is_side_behind w ∙ side_behind (value m (at 3))) in
+    let ahead = or_four _ _ _ _ _ _ _ _ (ap is_side_ahead x ∙ side_ahead (value m (at 0))) (ap is_side_ahead y ∙ side_ahead (value m (at 1)))
+    (ap is_side_ahead z ∙ side_ahead (value m (at 2))) (ap is_side_ahead w ∙ side_ahead (value m (at 3))) in
+    record {
+      class = h.class ∙ ap₂ class_by
+          (behind ∙ ap (λ (k : ℕ). some_of (is_behind m) (map at (up_to k))) (sym n))
+          (ahead ∙ ap (λ (k : ℕ). some_of (is_ahead m) (map at (up_to k))) (sym n));
+      corners = λ across. h.corners across
+          ∙ four_list _ _ _ _ _ _ _ _ (side_pair m (at 0) a _ _ x refl refl) (side_pair m (at 1) b _ _ y refl refl) (side_pair m (at 2) c _ _ z refl refl) (side_pair m (at 3) d _ _ w refl refl)
+          ∙ ap (λ (k : ℕ). map (side_against m) (map at (up_to k))) (sym n);
+    }
+
+-- the edge that begins at a corner ends at the next one
+pub after_next : (k i : ℕ) → i + 1 < k → after k i ≡ i + 1
+after_next k i h = elim (eqb (suc i) k) as (λ b. eqb (suc i) k ≡ b → cond b 0 (suc i) ≡ i + 1) [
+  | true ↦ λ e. absurd (let n : suc i ≡ k = eqb-true (suc i) k e in omega arith)
+  | false ↦ λ e. omega arith
+] refl

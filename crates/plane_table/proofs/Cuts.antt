@@ -11,9 +11,11 @@ use Rattle.plane_polygon.specs.Polygons.{Outline, corner, sides, nowhere, IsPoly
 use Rattle.plane_polygon.specs.Parts.{up_to, before, kept, kept_by, corners, is_behind, is_ahead, part_behind, part_ahead}
 use Rattle.plane_table.specs.declared.faces.Face.{Face}
 use Rattle.plane_table.specs.declared.sorting.CornerSide.{CornerSide}
-use Rattle.plane_table.specs.Tables.{named, opposite_number, IsNumberIn}
+use Rattle.plane_table.specs.Tables.{named, IsNumberIn}
 use Rattle.plane_table.specs.Faces.{outline_of, side_against, IsFaceOver}
-use Rattle.plane_table.specs.Cuts.{kept_numbers, kept_behind, kept_ahead, on_the_plane}
+use Rattle.plane_table.specs.declared.cutting.Half.{Half}
+use Rattle.plane_table.specs.declared.cutting.Half.TheVariants.{Behind, Ahead}
+use Rattle.plane_table.specs.Cuts.{is_within, kept_in, kept_numbers, on_the_plane, part_in, side_number}
 use Rattle.plane_table.proofs.Numbers.{get_map, named_opposite, opposite_in}
 use Rattle.plane_table.proofs.Corners.{get_up_to, length-up_to, sides_map}
 
@@ -76,49 +78,51 @@ before_in : (n i : ℕ) → i < n → before n i < n
 before_in n zero h = omega arith
 before_in n (suc i) h = omega arith
 
--- ---- the parts
-pub part_is_behind : (planes : List Coefficients) (face : Face) (m : ℕ) (found : List CornerSide) →
-    found ≡ map (side_against (named planes m)) (corners (outline_of planes face)) →
-    map (named planes) (flat_map (kept_behind face.edges m found) (up_to (length face.edges))) ≡ (part_behind (outline_of planes face) (named planes m)).edges
-part_is_behind planes face m found e =
-    let s : Outline = outline_of planes face in
-    let n = length-map face.edges (named planes) in
-    let q = named planes m in
-    map_flat (named planes) (kept_behind face.edges m found) (kept s q) (length face.edges) (λ i l.
-    kept_named (named planes) (get_or found (before (length face.edges) i) on_the_plane).is_behind (get_or found i on_the_plane).is_behind (get_or face.edges i 0) m
-    ∙ ap₂ (λ (b c : Bool). kept_by b c (named planes (get_or face.edges i 0)) q)
-    (ap (λ (k : ℕ). (get_or found (before k i) on_the_plane).is_behind) (sym n) ∙ ap (λ (d : CornerSide). d.is_behind) (side_in s q found (before (sides s) i) e (before_in (sides s) i (omega arith))))
-    (ap (λ (d : CornerSide). d.is_behind) (side_in s q found i e (omega arith)))
-    ∙ ap (λ (p : Coefficients). kept_by (is_behind q (corner s (before (sides s) i))) (is_behind q (corner s i)) p q) (sym (get_map (named planes) face.edges i 0 nowhere l)))
-    ∙ ap (λ (k : ℕ). flat_map (kept s q) (up_to k)) (sym n)
+-- ---- the half spaces
+-- the plane that has the half space behind it
+abbrev half_plane : Half → Coefficients → Coefficients
+half_plane Behind m = m
+half_plane Ahead m = opposite_of m
 
-pub part_is_ahead : (planes : List Coefficients) (face : Face) (m : ℕ) (found : List CornerSide) →
+within_is : (half : Half) (m : Coefficients) (p : Coordinates) → is_within half (side_against m p) ≡ is_behind (half_plane half m) p
+within_is Behind m p = refl
+within_is Ahead m p = sym (behind_opposite m p)
+
+named_side : (half : Half) (planes : List Coefficients) (m : ℕ) → named planes (side_number half m) ≡ half_plane half (named planes m)
+named_side Behind planes m = refl
+named_side Ahead planes m = named_opposite planes m
+
+side_in_range : (half : Half) (planes : List Coefficients) (m : ℕ) → IsNumberIn planes m → IsNumberIn planes (side_number half m)
+side_in_range Behind planes m h = h
+side_in_range Ahead planes m h = opposite_in planes m h
+
+part_behind_it : (half : Half) (s : Outline) (m : Coefficients) → part_in half s m ≡ part_behind s (half_plane half m)
+part_behind_it Behind s m = refl
+part_behind_it Ahead s m = refl
+
+-- ---- the part
+part_is : (half : Half) (planes : List Coefficients) (face : Face) (m : ℕ) (found : List CornerSide) →
     found ≡ map (side_against (named planes m)) (corners (outline_of planes face)) →
-    map (named planes) (flat_map (kept_ahead face.edges m found) (up_to (length face.edges))) ≡ (part_ahead (outline_of planes face) (named planes m)).edges
-part_is_ahead planes face m found e =
+    map (named planes) (flat_map (kept_in half face.edges m found) (up_to (length face.edges))) ≡ (part_behind (outline_of planes face) (half_plane half (named planes m))).edges
+part_is half planes face m found e =
     let s : Outline = outline_of planes face in
     let n = length-map face.edges (named planes) in
     let q = named planes m in
-    let t = opposite_of q in
-    map_flat (named planes) (kept_ahead face.edges m found) (kept s t) (length face.edges) (λ i l.
-    kept_named (named planes) (get_or found (before (length face.edges) i) on_the_plane).is_ahead (get_or found i on_the_plane).is_ahead (get_or face.edges i 0) (opposite_number m)
-    ∙ ap (kept_by (get_or found (before (length face.edges) i) on_the_plane).is_ahead (get_or found i on_the_plane).is_ahead (named planes (get_or face.edges i 0))) (named_opposite planes m)
+    let t = half_plane half q in
+    map_flat (named planes) (kept_in half face.edges m found) (kept s t) (length face.edges) (λ i l.
+    kept_named (named planes) (is_within half (get_or found (before (length face.edges) i) on_the_plane)) (is_within half (get_or found i on_the_plane)) (get_or face.edges i 0) (side_number half m)
+    ∙ ap (kept_by (is_within half (get_or found (before (length face.edges) i) on_the_plane)) (is_within half (get_or found i on_the_plane)) (named planes (get_or face.edges i 0))) (named_side half planes m)
     ∙ ap₂ (λ (b c : Bool). kept_by b c (named planes (get_or face.edges i 0)) t)
-    (ap (λ (k : ℕ). (get_or found (before k i) on_the_plane).is_ahead) (sym n) ∙ ap (λ (d : CornerSide). d.is_ahead) (side_in s q found (before (sides s) i) e (before_in (sides s) i (omega arith))) ∙ sym (behind_opposite q (corner s (before (sides s) i))))
-    (ap (λ (d : CornerSide). d.is_ahead) (side_in s q found i e (omega arith)) ∙ sym (behind_opposite q (corner s i)))
+    (ap (λ (k : ℕ). is_within half (get_or found (before k i) on_the_plane)) (sym n) ∙ ap (is_within half) (side_in s q found (before (sides s) i) e (before_in (sides s) i (omega arith))) ∙ within_is half q (corner s (before (sides s) i)))
+    (ap (is_within half) (side_in s q found i e (omega arith)) ∙ within_is half q (corner s i))
     ∙ ap (λ (p : Coefficients). kept_by (is_behind t (corner s (before (sides s) i))) (is_behind t (corner s i)) p t) (sym (get_map (named planes) face.edges i 0 nowhere l)))
     ∙ ap (λ (k : ℕ). flat_map (kept s t) (up_to k)) (sym n)
 
--- ---- the numbers of the parts
-pub numbers_behind : (planes : List Coefficients) (edges : List ℕ) (m : ℕ) (found : List CornerSide) → All (IsNumberIn planes) edges → IsNumberIn planes m →
-    All (IsNumberIn planes) (flat_map (kept_behind edges m found) (up_to (length edges)))
-numbers_behind planes edges m found h k =
-    all_flat (IsNumberIn planes) (kept_behind edges m found) (length edges) (λ i l. all_kept (IsNumberIn planes) (get_or found (before (length edges) i) on_the_plane).is_behind (get_or found i on_the_plane).is_behind (get_or edges i 0) m (h i 0 l) k)
-
-pub numbers_ahead : (planes : List Coefficients) (edges : List ℕ) (m : ℕ) (found : List CornerSide) → All (IsNumberIn planes) edges → IsNumberIn planes m →
-    All (IsNumberIn planes) (flat_map (kept_ahead edges m found) (up_to (length edges)))
-numbers_ahead planes edges m found h k =
-    all_flat (IsNumberIn planes) (kept_ahead edges m found) (length edges) (λ i l. all_kept (IsNumberIn planes) (get_or found (before (length edges) i) on_the_plane).is_ahead (get_or found i on_the_plane).is_ahead (get_or edges i 0) (opposite_number m) (h i 0 l) (opposite_in planes m k))
+numbers_in : (half : Half) (planes : List Coefficients) (edges : List ℕ) (m : ℕ) (found : List CornerSide) → All (IsNumberIn planes) edges → IsNumberIn planes m →
+    All (IsNumberIn planes) (flat_map (kept_in half edges m found) (up_to (length edges)))
+numbers_in half planes edges m found h k =
+    all_flat (IsNumberIn planes) (kept_in half edges m found) (length edges) (λ i l.
+    all_kept (IsNumberIn planes) (is_within half (get_or found (before (length edges) i) on_the_plane)) (is_within half (get_or found i on_the_plane)) (get_or edges i 0) (side_number half m) (h i 0 l) (side_in_range half planes m k))
 
 -- ---- the parts as faces
 pub same_outline : (m n : Coefficients) (ms ns : List Coefficients) → m ≡ n → ms ≡ ns → ◌≡◌ {A = Outline} (record { plane = m; edges = ms }) (record { plane = n; edges = ns })
@@ -130,42 +134,26 @@ sides_count planes face m found e =
     let s : Outline = outline_of planes face in
     ap length (e ∙ sides_map s m) ∙ length-map (up_to (sides s)) (λ i. side_against m (corner s i)) ∙ length-up_to (sides s) ∙ length-map face.edges (named planes)
 
-pub outline_behind : (planes : List Coefficients) (face : Face) (m : ℕ) (found : List CornerSide) (edges : List ℕ) →
+pub outline_in : (half : Half) (planes : List Coefficients) (face : Face) (m : ℕ) (found : List CornerSide) (edges : List ℕ) →
     found ≡ map (side_against (named planes m)) (corners (outline_of planes face)) →
-    edges ≡ flat_map (kept_behind face.edges m found) (up_to (length face.edges)) →
-    outline_of planes (record { plane = face.plane; edges = edges }) ≡ part_behind (outline_of planes face) (named planes m)
-outline_behind planes face m found edges e k =
-    let f = ap (map (named planes)) k ∙ part_is_behind planes face m found e in
-    λ i. record { plane = named planes face.plane; edges = f i }
+    edges ≡ flat_map (kept_in half face.edges m found) (up_to (length face.edges)) →
+    outline_of planes (record { plane = face.plane; edges = edges }) ≡ part_in half (outline_of planes face) (named planes m)
+outline_in half planes face m found edges e k =
+    let f = ap (map (named planes)) k ∙ part_is half planes face m found e in
+    (λ i. record { plane = named planes face.plane; edges = f i }) ∙ sym (part_behind_it half (outline_of planes face) (named planes m))
 
-pub outline_ahead : (planes : List Coefficients) (face : Face) (m : ℕ) (found : List CornerSide) (edges : List ℕ) →
-    found ≡ map (side_against (named planes m)) (corners (outline_of planes face)) →
-    edges ≡ flat_map (kept_ahead face.edges m found) (up_to (length face.edges)) →
-    outline_of planes (record { plane = face.plane; edges = edges }) ≡ part_ahead (outline_of planes face) (named planes m)
-outline_ahead planes face m found edges e k =
-    let f = ap (map (named planes)) k ∙ part_is_ahead planes face m found e in
-    λ i. record { plane = named planes face.plane; edges = f i }
+pub polygon_in : (half : Half) (s : Outline) (m : Coefficients) → IsPolygon (part_behind s m) → IsPolygon (part_ahead s m) → IsPolygon (part_in half s m)
+polygon_in Behind s m b a = b
+polygon_in Ahead s m b a = a
 
-pub face_behind : (planes : List Coefficients) (face : Face) (m : ℕ) (found : List CornerSide) (edges : List ℕ) →
+pub face_in : (half : Half) (planes : List Coefficients) (face : Face) (m : ℕ) (found : List CornerSide) (edges : List ℕ) →
     IsFaceOver planes face → IsNumberIn planes m →
     found ≡ map (side_against (named planes m)) (corners (outline_of planes face)) →
-    edges ≡ flat_map (kept_behind face.edges m found) (up_to (length face.edges)) →
-    IsPolygon (part_behind (outline_of planes face) (named planes m)) →
+    edges ≡ flat_map (kept_in half face.edges m found) (up_to (length face.edges)) →
+    IsPolygon (part_in half (outline_of planes face) (named planes m)) →
     IsFaceOver planes (record { plane = face.plane; edges = edges })
-face_behind planes face m found edges h i e k p = record {
+face_in half planes face m found edges h i e k p = record {
   plane = h.plane;
-  edges = subst (All (IsNumberIn planes)) (sym k) (numbers_behind planes face.edges m found h.edges i);
-  polygon = subst IsPolygon (sym (outline_behind planes face m found edges e k)) p;
-}
-
-pub face_ahead : (planes : List Coefficients) (face : Face) (m : ℕ) (found : List CornerSide) (edges : List ℕ) →
-    IsFaceOver planes face → IsNumberIn planes m →
-    found ≡ map (side_against (named planes m)) (corners (outline_of planes face)) →
-    edges ≡ flat_map (kept_ahead face.edges m found) (up_to (length face.edges)) →
-    IsPolygon (part_ahead (outline_of planes face) (named planes m)) →
-    IsFaceOver planes (record { plane = face.plane; edges = edges })
-face_ahead planes face m found edges h i e k p = record {
-  plane = h.plane;
-  edges = subst (All (IsNumberIn planes)) (sym k) (numbers_ahead planes face.edges m found h.edges i);
-  polygon = subst IsPolygon (sym (outline_ahead planes face m found edges e k)) p;
+  edges = subst (All (IsNumberIn planes)) (sym k) (numbers_in half planes face.edges m found h.edges i);
+  polygon = subst IsPolygon (sym (outline_in half planes face m found edges e k)) p;
 }

@@ -3,5 +3,6 @@ pub mod Corners
 pub mod Cuts
 pub mod Planes
 pub mod Orders
+pub mod Oriented
 pub mod Joins
 mod Rows

@@ -1,16 +1,16 @@
 -- Lists of planes in ascending order.
-use Rattle.std.proofs.Common.{◌≡◌, ℕ, zero, suc, ◌+◌, ◌-◌, ◌<◌, ◌⊎◌, Bool, true, false, not, ◌&&◌, ◌||◌, cond, List, length, get_or, refl, sym, ap, ap₂, ◌∙◌, inl, inr, arith, ℤ, pos, negsuc, neg_ℤ, int_lt, Ordering, true≢false, ◌≤◌, is_lt}
+use Rattle.std.proofs.Common.{◌≡◌, ℕ, zero, suc, ◌+◌, ◌-◌, ◌<◌, ◌⊎◌, Bool, true, false, not, ◌&&◌, ◌||◌, cond, List, [], ◌∷◌, ◌++◌, length, get_or, refl, sym, ap, ap₂, ◌∙◌, inl, inr, arith, ℤ, pos, negsuc, neg_ℤ, int_lt, Ordering, true≢false, ◌≤◌, is_lt}
 use Rattle.std.specs.declared.cmp.Ordering.TheVariants.{Less, Equal, Greater}
 use Rattle.std.specs.Ordering.{int_eq}
 use Rattle.std.specs.Cmp.{IsTotalOrder}
 use Rattle.std.proofs.lemmas.Bool.{cases_lt}
 use Rattle.std.proofs.lemmas.Cmp.{then_total, on_total, int_cmp_total, tied_itself}
-use Rattle.std.proofs.lemmas.List.{get_or_read}
+use Rattle.std.proofs.lemmas.List.{get_or_append_left, get_or_push, get_or_read, length-append}
 use Rattle.std.proofs.lemmas.Int.{ints}
 use Rattle.plane_predicate.specs.Space.{Coefficients, opposite_of}
 use Rattle.plane_polygon.specs.Polygons.{nowhere}
 use Rattle.plane_table.specs.Tables.{AreApart, HasNoTwoAlike}
-use Rattle.plane_table.specs.Orders.{is_low, normalized, by_numbers, compared, IsAscending}
+use Rattle.plane_table.specs.Orders.{is_low, normalized, by_numbers, compared, ComesNext, IsAscending}
 use Rattle.plane_table.proofs.Numbers.{opposite_opposite}
 use Rattle.plane_table.proofs.Planes.{four_same}
 
@@ -113,8 +113,18 @@ ascending_apart ps h = record {
   ];
 }
 
+-- one more plane at the end
+pub ascending_more : (ps : List Coefficients) (m : Coefficients) → IsAscending ps → ComesNext ps m → IsAscending (ps ++ m ∷ [])
+ascending_more ps m h k = record {
+  next = λ i l. (let n = length-append ps (m ∷ []) in elim (cases_lt (i + 1) (length ps)) [
+    | inl a ↦ ap₂ compared (get_or_append_left ps (m ∷ []) nowhere i (omega arith)) (get_or_append_left ps (m ∷ []) nowhere (i + 1) a) ∙ h.next i a
+    | inr a ↦ (let e : i + 1 ≡ length ps = omega arith in
+        ap₂ compared (get_or_append_left ps (m ∷ []) nowhere i (omega arith)) (get_or_push ps m nowhere (i + 1) (sym e)) ∙ k i e)
+  ]);
+}
+
 -- ---- the walk over a list
-less_is : (r : Ordering) → is_lt r ≡ true → r ≡ Less
+pub less_is : (r : Ordering) → is_lt r ≡ true → r ≡ Less
 less_is Less e = refl
 less_is Equal e = absurd (true≢false (sym e))
 less_is Greater e = absurd (true≢false (sym e))

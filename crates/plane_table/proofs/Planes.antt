@@ -32,8 +32,11 @@ same_equal m n h =
 same_itself : (m : Coefficients) → is_same m m ≡ true
 same_itself m = rw (int_itself m.a, int_itself m.b, int_itself m.c, int_itself m.d) refl
 
-not_same : (m n : Coefficients) → m ≢ n → is_same m n ≡ false
-not_same m n h = elim (is_same m n) as (λ b. is_same m n ≡ b → b ≡ false) [ true ↦ λ e. absurd (h (same_equal m n e)) | false ↦ λ e. refl ] refl
+not_equal : (m n : Coefficients) → m ≢ n → is_same m n ≡ false
+not_equal m n h = elim (is_same m n) as (λ b. is_same m n ≡ b → b ≡ false) [ true ↦ λ e. absurd (h (same_equal m n e)) | false ↦ λ e. refl ] refl
+
+pub not_same : (m n : Coefficients) → is_same m n ≡ false → m ≢ n
+not_same m n h e = true≢false (sym (same_itself n) ∙ ap (λ (k : Coefficients). is_same k n) (sym e) ∙ h)
 
 -- ---- a plane is not its own opposite
 own_opposite : (x : ℤ) → x ≡ neg_ℤ x → unsigned_abs x ≡ 0
@@ -82,7 +85,7 @@ pub same_number : (planes : List Coefficients) (m n : ℕ) → HasNoTwoAlike pla
     eqb m n ≡ is_same (named planes m) (named planes n)
 same_number planes m n h p i j = elim (cases_eq m n) [
   | inl e ↦ eq-eqb m n e ∙ sym (ap (λ (k : ℕ). is_same (named planes m) (named planes k)) (sym e) ∙ same_itself (named planes m))
-  | inr e ↦ ne_eqb m n e ∙ sym (not_same (named planes m) (named planes n) (numbers_differ planes m n h p i j e))
+  | inr e ↦ ne_eqb m n e ∙ sym (not_equal (named planes m) (named planes n) (numbers_differ planes m n h p i j e))
 ]
 
 pub other_number : (planes : List Coefficients) (m n : ℕ) → HasNoTwoAlike planes → IsPlane (named planes m) → IsNumberIn planes m → IsNumberIn planes n →

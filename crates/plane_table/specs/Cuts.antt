@@ -1,8 +1,15 @@
 -- The numbers of the edges of the parts of a face.
-use Rattle.std.specs.Prelude.{ℕ, Bool, true, false, List, [], ◌∷◌, get_or, length}
-use Rattle.plane_polygon.specs.Parts.{before}
+use Rattle.std.specs.Prelude.{◌≡◌, ℕ, Bool, true, false, List, [], ◌∷◌, get_or, length}
+use Rattle.plane_predicate.specs.Space.{Coefficients}
+use Rattle.plane_polygon.specs.Polygons.{Outline}
+use Rattle.plane_polygon.specs.Parts.{before, part_behind, part_ahead}
+use Rattle.plane_polygon.specs.declared.classes.Class.TheVariants.{Across}
+use Rattle.plane_table.specs.declared.cutting.Crossing.{Crossing}
+use Rattle.plane_table.specs.declared.cutting.Half.{Half}
+use Rattle.plane_table.specs.declared.cutting.Half.TheVariants.{Behind, Ahead}
 use Rattle.plane_table.specs.declared.sorting.CornerSide.{CornerSide}
-use Rattle.plane_table.specs.Tables.{opposite_number}
+use Rattle.plane_table.specs.Tables.{named, opposite_number, IsNumberIn}
+use Rattle.plane_table.specs.Faces.{outline_of, AreSidesOf, IsFaceOver}
 
 -- on the plane
 abbrev pub on_the_plane : CornerSide
@@ -16,14 +23,30 @@ kept_numbers true false e m = e ∷ m ∷ []
 kept_numbers false true e m = e ∷ []
 kept_numbers false false e m = []
 
--- what edge i gives to the part behind the plane of number m
-abbrev pub kept_behind : List ℕ → ℕ → List CornerSide → ℕ → List ℕ
-kept_behind edges m corners i =
-    kept_numbers (get_or corners (before (length edges) i) on_the_plane).is_behind (get_or corners i on_the_plane).is_behind
-    (get_or edges i 0) m
+-- a corner lies strictly in a half space
+abbrev pub is_within : Half → CornerSide → Bool
+is_within Behind side = side.is_behind
+is_within Ahead side = side.is_ahead
 
--- what edge i gives to the part ahead of it
-abbrev pub kept_ahead : List ℕ → ℕ → List CornerSide → ℕ → List ℕ
-kept_ahead edges m corners i =
-    kept_numbers (get_or corners (before (length edges) i) on_the_plane).is_ahead (get_or corners i on_the_plane).is_ahead
-    (get_or edges i 0) (opposite_number m)
+-- the number of the plane that has the half space behind it
+abbrev pub side_number : Half → ℕ → ℕ
+side_number Behind m = m
+side_number Ahead m = opposite_number m
+
+-- what edge i gives to the part in a half space of the plane of number m
+abbrev pub kept_in : Half → List ℕ → ℕ → List CornerSide → ℕ → List ℕ
+kept_in half edges m corners i =
+    kept_numbers (is_within half (get_or corners (before (length edges) i) on_the_plane)) (is_within half (get_or corners i on_the_plane))
+    (get_or edges i 0) (side_number half m)
+
+-- the part of an outline in a half space
+abbrev pub part_in : Half → Outline → Coefficients → Outline
+part_in Behind s m = part_behind s m
+part_in Ahead s m = part_ahead s m
+
+-- the face is across the plane of the number, and has these sides
+pub record IsCrossing (planes : List Coefficients) (crossing : Crossing) : Type 0 where
+  pub face : IsFaceOver planes crossing.face.now
+  pub number : IsNumberIn planes crossing.number
+  pub sides : AreSidesOf (outline_of planes crossing.face.now) (named planes crossing.number) crossing.sides.now
+  pub across : crossing.sides.now.class ≡ Across

@@ -28,3 +28,7 @@ compared m n = by_numbers (normalized m) (normalized n)
 -- each plane comes before the next
 pub record IsAscending (planes : List Coefficients) : Type 0 where
   pub next : (i : ℕ) → i + 1 < length planes → compared (get_or planes i nowhere) (get_or planes (i + 1) nowhere) ≡ Less
+
+-- a plane comes after the last of a list, if there is one
+abbrev pub ComesNext : List Coefficients → Coefficients → Type 0
+ComesNext planes m = (i : ℕ) → i + 1 ≡ length planes → compared (get_or planes i nowhere) m ≡ Less

@@ -1,7 +1,9 @@
 -- Planes by number over a list of planes.
-use Rattle.std.specs.Prelude.{◌≡◌, ◌≢◌, ℕ, ◌+◌, ◌-◌, ◌*◌, ◌/◌, ◌%◌, ◌<◌, List, length, get_or, map, if◌then◌else◌, ◌==◌}
+use Rattle.std.specs.Prelude.{◌≡◌, ◌≢◌, ℕ, ◌+◌, ◌-◌, ◌*◌, ◌/◌, ◌%◌, ◌<◌, List, length, get_or, if◌then◌else◌, ◌==◌}
 use Rattle.plane_predicate.specs.Space.{Coefficients, opposite_of}
 use Rattle.plane_polygon.specs.Polygons.{nowhere}
+use Rattle.plane_polygon.specs.Parallels.{IsAlike}
+use Rattle.plane_table.specs.declared.directions.Oriented.{Oriented}
 
 -- a plane for an even number, and its opposite for an odd one
 unfoldable pub turned_by_number : ℕ → Coefficients → Coefficients
@@ -29,7 +31,25 @@ pub record HasNoTwoAlike (planes : List Coefficients) : Type 0 where
   pub apart : (i j : ℕ) → i < length planes → j < length planes → i ≢ j →
       AreApart (get_or planes i nowhere) (get_or planes j nowhere)
 
--- what a table keeps: the second planes are the opposites of the first ones, of which no two are equal or opposite
-pub record AreOpposites (planes opposites : List Coefficients) : Type 0 where
-  pub turned : opposites ≡ map opposite_of planes
+-- the plane that a number names, with the number of one that has its direction
+pub record IsOrientedAs (planes : List Coefficients) (n : ℕ) (entry : Oriented) : Type 0 where
+  pub plane : entry.plane ≡ named planes n
+  pub alike : IsAlike (named planes entry.direction) (named planes n)
+
+-- past the end of a list of such planes
+abbrev pub no_entry : Oriented
+no_entry = record { plane = nowhere; direction = 0 }
+
+-- the first planes of the list and their opposites, by number
+pub record AreFirstOriented (planes : List Coefficients) (entries : List Oriented) (first : ℕ) : Type 0 where
+  pub count : length entries ≡ 2 * first
+  pub each : (n : ℕ) → n < length entries → IsOrientedAs planes n (get_or entries n no_entry)
+
+-- all of them
+abbrev pub AreOriented : List Coefficients → List Oriented → Type 0
+AreOriented planes entries = AreFirstOriented planes entries (length planes)
+
+-- what a table keeps: the entries are its planes and their opposites by number, and no two planes are equal or opposite
+pub record IsTable (planes : List Coefficients) (entries : List Oriented) : Type 0 where
+  pub oriented : AreOriented planes entries
   pub apart : HasNoTwoAlike planes

@@ -1,87 +1,111 @@
 //! The parts into which a plane cuts a face.
 
 ghost use Rattle.std.specs.Prelude.{◌≡◌, ◌<◌, ◌++◌, flat_map, length, IfOk, OnOk};
-ghost use Rattle.plane_polygon.specs.Parts.{class_of, part_ahead, part_behind, up_to};
-ghost use Rattle.plane_polygon.specs.declared.classes.Class.TheVariants.{Across};
-ghost use Rattle.plane_table.specs.Tables.{named, IsNumberIn};
-ghost use Rattle.plane_table.specs.Faces.{outline_of, AreSidesOf, IsFaceOver};
-ghost use Rattle.plane_table.specs.Cuts.{kept_ahead, kept_behind, kept_numbers};
+ghost use Rattle.plane_polygon.specs.Parts.{up_to};
+ghost use Rattle.plane_table.specs.Tables.{named};
+ghost use Rattle.plane_table.specs.Faces.{outline_of, IsFaceOver};
+ghost use Rattle.plane_table.specs.Cuts.{is_within, kept_in, kept_numbers, part_in, side_number, IsCrossing};
 
 use crate::{CornerSide, CornerSides, Edges, Face, PlaneTable, opposite_number};
 use plane_polygon::parts_are_polygons;
 use std::alloc::Global;
 use text_place::NoMemory;
 
-/// The parts of a face behind and ahead of the plane of a number that the face is across, by the sides
-/// of its corners.
+/// One of the two half spaces of a plane.
+#[derive(Clone, Copy)]
+pub enum Half {
+    /// What lies behind it.
+    Behind,
+    /// What lies ahead of it.
+    Ahead,
+}
+
+/// A face that is across the plane of a number, with the sides of its corners.
+#[derive(Clone, Copy)]
+pub struct Crossing<'a> {
+    /// The face.
+    pub face: &'a Face,
+    /// The number of the plane.
+    pub number: u32,
+    /// On which sides of the plane the face's corners lie.
+    pub sides: &'a CornerSides,
+}
+
+/// The part of a face in one half space of the plane that it is across.
 pub fn cut(
     alloc: Global,
     table: &PlaneTable,
-    face: &Face,
-    number: u32,
-    sides: &CornerSides,
-) -> Result<(Face, Face), NoMemory>
-    requires face { IsFaceOver table.now face.now }
-    requires number { IsNumberIn table.now number }
-    requires sides { AreSidesOf (outline_of table.now face.now) (named table.now number) sides.now }
-    requires across { class_of (outline_of table.now face.now) (named table.now number) ≡ Across }
-    ensures behind { IfOk result (λ r. outline_of table.now r.0 ≡ part_behind (outline_of table.now face.now) (named table.now number)) }
-    ensures ahead { IfOk result (λ r. outline_of table.now r.1 ≡ part_ahead (outline_of table.now face.now) (named table.now number)) }
-    ensures faces { IfOk result (λ r. IsFaceOver table.now r.0 × IsFaceOver table.now r.1) }
+    crossing: Crossing<'_>,
+    half: Half,
+) -> Result<Face, NoMemory>
+    requires { IsCrossing table.now crossing }
+    ensures outline { IfOk result (λ r. outline_of table.now r ≡ part_in half (outline_of table.now crossing.entry.face.now) (named table.now crossing.entry.number)) }
+    ensures face { IfOk result (IsFaceOver table.now) }
 {
     parts_are_polygons();
-    let parts = part_edges(
+    let Crossing {
+        face,
+        number,
+        sides,
+    } = crossing;
+    let edges = part_edges(
         alloc,
         face.edges.numbers(),
         number,
         sides.corners.as_slice(),
+        half,
     )?;
-    Ok((
-        Face {
-            plane: face.plane,
-            edges: parts.behind,
-        },
-        Face {
-            plane: face.plane,
-            edges: parts.ahead,
-        },
-    ))
+    Ok(Face {
+        plane: face.plane,
+        edges,
+    })
 }
 
-/// The edges of the two parts.
-#[derive(Drop)]
-struct PartEdges {
-    behind: Edges,
-    ahead: Edges,
-}
-
-/// The edges of both parts, by the sides of the corners.
+/// The edges of the part, by the sides of the corners.
 fn part_edges(
     alloc: Global,
     edges: &[u32],
     number: u32,
     corners: &[CornerSide],
-) -> Result<PartEdges, NoMemory>
+    half: Half,
+) -> Result<Edges, NoMemory>
     requires some { 0 < length edges.now }
     requires same { length corners.now ≡ length edges.now }
-    ensures behind { IfOk result (λ r. r.behind ≡ flat_map (kept_behind edges.now number corners.now) (up_to (length edges.now))) }
-    ensures ahead { IfOk result (λ r. r.ahead ≡ flat_map (kept_ahead edges.now number corners.now) (up_to (length edges.now))) }
+    ensures { IfOk result (λ r. r ≡ flat_map (kept_in half edges.now number corners.now) (up_to (length edges.now))) }
 {
-    let turned = opposite_number(number);
-    let mut behind = Edges::new(alloc);
-    let mut ahead = Edges::new(alloc);
-    let mut from = corners[edges.len() - 1];
+    let number = side_number(number, half);
+    let mut kept = Edges::new(alloc);
+    let mut from = is_within(corners[edges.len() - 1], half);
     for i in 0..edges.len() {
-        let to = corners[i];
-        push_kept(&mut behind, from.is_behind, to.is_behind, edges[i], number)?;
-        push_kept(&mut ahead, from.is_ahead, to.is_ahead, edges[i], turned)?;
+        let to = is_within(corners[i], half);
+        push_kept(&mut kept, from, to, edges[i], number)?;
         from = to;
     }
-    Ok(PartEdges { behind, ahead })
+    Ok(kept)
 }
 
-/// Adds what an edge gives to the part behind the plane of a number, by whether its ends are strictly
-/// behind it.
+/// Whether a corner lies strictly in a half space.
+fn is_within(side: CornerSide, half: Half) -> bool
+    ensures { result ≡ is_within half side }
+{
+    match half {
+        Half::Behind => side.is_behind,
+        Half::Ahead => side.is_ahead,
+    }
+}
+
+/// The number of the plane that has a half space of another one behind it.
+fn side_number(number: u32, half: Half) -> u32
+    ensures { result ≡ side_number half number }
+{
+    match half {
+        Half::Behind => number,
+        Half::Ahead => opposite_number(number),
+    }
+}
+
+/// Adds what an edge gives to the part in a half space, by whether its ends are strictly within, and by
+/// the number of the plane that has the half space behind it.
 fn push_kept(
     found: &mut Edges,
     from: bool,

@@ -42,7 +42,7 @@ pub fn polygon_of(alloc: Global, table: &PlaneTable, face: &Face) -> Result<Poly
     requires { IsFaceOver table.now face.now }
     ensures { IfOk result (λ s. s ≡ outline_of table.now face.now) }
 {
-    let mut edges = Vec::new(alloc);
+    let mut edges = Vec::with_capacity(alloc, face.edges.len())?;
     for number in face.edges.numbers() {
         edges.push(*table.plane(*number))?;
     }

@@ -41,9 +41,9 @@ fn walked(alloc: Global, left: &[Plane], right: &[Plane]) -> Result<Joined, NoMe
     ensures left { IfOk result (λ r. AreNumbersOf r.planes.items r.left.items left.now) }
     ensures right { IfOk result (λ r. AreNumbersOf r.planes.items r.right.items right.now) }
 {
-    let mut planes = Vec::new(alloc);
-    let mut of_left = Vec::new(alloc);
-    let mut of_right = Vec::new(alloc);
+    let mut planes = Vec::with_capacity(alloc, left.len().saturating_add(right.len()))?;
+    let mut of_left = Vec::with_capacity(alloc, left.len())?;
+    let mut of_right = Vec::with_capacity(alloc, right.len())?;
     while of_left.len() < left.len() || of_right.len() < right.len() {
         put_next(left, right, &mut planes, &mut of_left, &mut of_right)?;
     }

@@ -2,6 +2,7 @@
 #![tactic(auto)]
 
 mod cutting;
+mod directions;
 mod edges;
 mod faces;
 mod joining;
@@ -12,7 +13,7 @@ mod renumbering;
 mod sorting;
 mod table;
 
-pub use cutting::cut;
+pub use cutting::{Crossing, Half, cut};
 pub use edges::Edges;
 pub use faces::{Face, polygon_of};
 pub use joining::{Joined, join};

@@ -9,7 +9,7 @@ ghost use Rattle.plane_table.specs.Joins.{AreHalfFacesOf, AreNumbersOf, IsFaceOf
 
 use crate::ordering::in_order;
 use crate::{Edges, Face};
-use plane_polygon::{Polygon, box_polygon, polygons_keep_their_form};
+use plane_polygon::{Polygon, box_polygon, polygons_keep_their_form, world_planes};
 use plane_predicate::{Plane, opposite};
 use std::alloc::Global;
 use text_place::NoMemory;
@@ -39,8 +39,9 @@ pub fn half_face(alloc: Global, plane: &Plane) -> Result<OwnFace, NoMemory>
 pub fn face_of(alloc: Global, polygon: &Polygon) -> Result<OwnFace, NoMemory>
     ensures { IfOk result (λ r. IsFaceOf polygon.now r) }
 {
-    let found = own_face(alloc, Vec::new(alloc), polygon)?;
-    own_face(alloc, in_order(alloc, found.planes)?, polygon)
+    let mut planes = Vec::from_slice(alloc, polygon.edges())?;
+    planes.push(*polygon.plane())?;
+    own_face(alloc, in_order(alloc, planes)?, polygon)
 }
 
 /// Faces over one list of planes, no two of which are equal or opposite.
@@ -58,8 +59,9 @@ pub fn half_faces(alloc: Global, from: &[Plane]) -> Result<HalfFaces, NoMemory>
     requires { All ComesInReach from.now }
     ensures { IfOk result (AreHalfFacesOf from.now) }
 {
-    let found = half_faces_over(alloc, Vec::new(alloc), from)?;
-    half_faces_over(alloc, in_order(alloc, found.planes)?, from)
+    let mut planes = world_planes(alloc)?;
+    planes.extend_from_slice(from)?;
+    half_faces_over(alloc, in_order(alloc, planes)?, from)
 }
 
 /// The same over a list to which the planes that it lacks are added.
@@ -69,7 +71,7 @@ fn half_faces_over(alloc: Global, known: Vec<Plane>, from: &[Plane]) -> Result<H
     ensures { IfOk result (AreHalfFacesOf from.now) }
 {
     let mut planes = known;
-    let mut faces = Vec::new(alloc);
+    let mut faces = Vec::with_capacity(alloc, from.len())?;
     for plane in from {
         // Reading a number shows the proof what each plane keeps.
         let _ = &plane.a;
@@ -112,7 +114,7 @@ pub fn numbers_of(alloc: Global, known: Vec<Plane>, from: &[Plane]) -> Result<Nu
     ensures numbers { IfOk result (λ r. AreNumbersOf r.planes.items r.numbers.items from.now) }
 {
     let mut planes = known;
-    let mut numbers = Vec::new(alloc);
+    let mut numbers = Vec::with_capacity(alloc, from.len())?;
     for plane in from {
         numbers.push(number_of(plane, &mut planes)?)?;
     }

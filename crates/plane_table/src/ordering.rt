@@ -2,25 +2,43 @@
 
 ghost use Rattle.std.specs.Prelude.{◌≡◌, ◌↔◌, IfOk, IsTrue};
 ghost use Rattle.plane_table.specs.Tables.{HasNoTwoAlike};
-ghost use Rattle.plane_table.specs.Orders.{by_numbers, compared, is_low, normalized, IsAscending};
+ghost use Rattle.plane_table.specs.Orders.{by_numbers, compared, is_low, normalized, ComesNext, IsAscending};
 
 use plane_predicate::{Plane, opposite};
 use std::alloc::Global;
 use std::cmp::Ordering;
 use text_place::NoMemory;
 
-/// The planes of a list, no two of which are equal or opposite, in ascending order.
+/// The planes of a list in ascending order, each once: of planes that are equal or opposite one.
 pub fn in_order(alloc: Global, planes: Vec<Plane>) -> Result<Vec<Plane>, NoMemory>
-    requires { HasNoTwoAlike planes.items }
     ensures { IfOk result (λ v. HasNoTwoAlike v.items) }
 {
-    let mut sorted = Vec::from_slice(alloc, &planes)?;
+    let mut sorted = planes;
     sorted.sort_by(compare)?;
-    if is_ascending(&sorted) {
-        Ok(sorted)
-    } else {
-        Ok(planes)
+    rising(alloc, &sorted)
+}
+
+/// Those planes of a list that come after all that are taken before them.
+fn rising(alloc: Global, planes: &[Plane]) -> Result<Vec<Plane>, NoMemory>
+    ensures { IfOk result (λ v. HasNoTwoAlike v.items) }
+{
+    let mut taken = Vec::with_capacity(alloc, planes.len())?;
+    for plane in planes {
+        if comes_next(&taken, plane) {
+            taken.push(*plane)?;
+        }
     }
+    Ok(taken)
+}
+
+/// Whether a plane comes after the last one of a list, or the list has none.
+fn comes_next(taken: &[Plane], plane: &Plane) -> bool
+    ensures { IsTrue result → ComesNext taken.now plane.now }
+{
+    if taken.is_empty() {
+        return true;
+    }
+    compare(&taken[taken.len() - 1], plane).is_lt()
 }
 
 /// Whether each plane comes before the next. Then no two of them are equal or opposite.

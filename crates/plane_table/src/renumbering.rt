@@ -65,8 +65,8 @@ pub fn keep_used(alloc: Global, planes: &[Plane], used: &[bool]) -> Result<Numbe
     ensures apart { IfOk result (λ r. HasNoTwoAlike r.planes.items) }
     ensures numbers { IfOk result (λ r. AreNumbersOfUsed r.planes.items r.numbers.items planes.now used.now) }
 {
-    let mut kept = Vec::new(alloc);
-    let mut numbers = Vec::new(alloc);
+    let mut kept = Vec::with_capacity(alloc, planes.len())?;
+    let mut numbers = Vec::with_capacity(alloc, planes.len())?;
     for i in 0..planes.len() {
         numbers.push(keep(&planes[i], used[i], &mut kept)?)?;
     }

@@ -1,13 +1,16 @@
 //! On which sides of a plane the corners of a face lie.
 
-ghost use Rattle.std.specs.Prelude.{◌≡◌, ◌<◌, ◌||◌, length, IfOk};
-ghost use Rattle.plane_predicate.specs.Space.{value};
+ghost use Rattle.std.specs.Prelude.{◌≡◌, ◌<◌, ◌⊎◌, ◌||◌, length, IfOk, IfSome};
+ghost use Rattle.plane_predicate.specs.Sides.{is_side_ahead, is_side_behind};
 ghost use Rattle.plane_polygon.specs.Polygons.{corner};
+ghost use Rattle.plane_polygon.specs.Parts.{class_by};
+ghost use Rattle.plane_polygon.specs.Parallels.{HasAllOn};
 ghost use Rattle.plane_table.specs.Tables.{named, IsNumberIn};
-ghost use Rattle.plane_table.specs.Faces.{outline_of, side_against, AreSidesOf, IsFaceOver};
+ghost use Rattle.plane_table.specs.Faces.{corner_on, outline_of, side_against, AreFourSides, AreSidesOf, IsFaceOver, IsSideAt};
 
-use crate::{Face, PlaneTable};
-use plane_polygon::{Class, class_from, next_index, side_at};
+use crate::{Face, PlaneTable, opposite_number};
+use plane_polygon::{Class, class_from, next_index, side_alike, side_at};
+use plane_predicate::Side;
 use smallvec::SmallVec;
 use std::alloc::Global;
 use text_place::NoMemory;
@@ -24,18 +27,19 @@ pub struct CornerSide {
     pub is_ahead: bool,
 }
 
-/// How a face lies against a plane, with the side of each corner.
+/// How a face lies against a plane, and, where it is across the plane, the side of each corner.
 #[derive(Drop)]
 pub struct CornerSides {
     /// How the face lies against the plane.
     pub class: Class,
-    /// The sides of the corners in order. Up to eight stand in the value itself, more on the heap.
+    /// The sides of the corners of a face that is across, in order. Up to eight stand in the value itself,
+    /// more on the heap.
     pub corners: SmallVec<CornerSide, FEW>,
 }
 
-/// How a face lies against the plane of a number, with the side of each corner: On where all its corners
-/// are on the plane, Across where some lie strictly on each side, else the side of those that are off it.
-/// Each corner's side is tested once.
+/// How a face lies against the plane of a number: On where all its corners are on the plane, Across where
+/// some lie strictly on each side, else the side of those that are off it. Where the planes are parallel,
+/// no corner is looked at; where no other plane has the direction, no edge is.
 pub fn sides(
     alloc: Global,
     table: &PlaneTable,
@@ -46,14 +50,127 @@ pub fn sides(
     requires number { IsNumberIn table.now number }
     ensures { IfOk result (λ r. AreSidesOf (outline_of table.now face.now) (named table.now number) r) }
 {
+    let is_lone = table.is_lone(number);
+    if let Some(side) = known_side(table, face.plane, number, is_lone) {
+        return Ok(CornerSides {
+            class: class_on(side),
+            corners: SmallVec::new(alloc),
+        });
+    }
+    if !is_lone && face.edges.len() == 4 {
+        let edges = face.edges.numbers();
+        if let Some((first, third)) = both_known(table, edges[0], edges[2], number) {
+            return four_sides(alloc, first, third, third, first);
+        }
+        if let Some((second, fourth)) = both_known(table, edges[1], edges[3], number) {
+            return four_sides(alloc, second, second, fourth, fourth);
+        }
+    }
+    corner_sides(alloc, table, face, number, is_lone)
+}
+
+/// The sides of the plane of a number on which all points of two other planes lie, where both are known.
+fn both_known(table: &PlaneTable, one: u32, other: u32, number: u32) -> Option<(Side, Side)>
+    requires one { IsNumberIn table.now one }
+    requires other { IsNumberIn table.now other }
+    requires number { IsNumberIn table.now number }
+    ensures { IfSome result (λ r. HasAllOn (named table.now one) (named table.now number) r.0 × HasAllOn (named table.now other) (named table.now number) r.1) }
+{
+    let first = side_of_all(table, one, number)?;
+    let second = side_of_all(table, other, number)?;
+    Some((first, second))
+}
+
+/// How a face of four corners lies, by their sides in order.
+fn four_sides(
+    alloc: Global,
+    first: Side,
+    second: Side,
+    third: Side,
+    fourth: Side,
+) -> Result<CornerSides, NoMemory>
+    ensures { IfOk result (AreFourSides first second third fourth) }
+{
+    let some_behind = some_of_four(
+        first.is_behind(),
+        second.is_behind(),
+        third.is_behind(),
+        fourth.is_behind(),
+    );
+    let some_ahead = some_of_four(
+        first.is_ahead(),
+        second.is_ahead(),
+        third.is_ahead(),
+        fourth.is_ahead(),
+    );
+    let class = class_from(some_behind, some_ahead);
+    let mut corners = SmallVec::new(alloc);
+    match class {
+        Class::Across => {
+            corners.push(corner_on(first))?;
+            corners.push(corner_on(second))?;
+            corners.push(corner_on(third))?;
+            corners.push(corner_on(fourth))?;
+        }
+        Class::Behind | Class::Ahead | Class::On => {}
+    }
+    Ok(CornerSides { class, corners })
+}
+
+/// Whether one of four holds.
+fn some_of_four(a: bool, b: bool, c: bool, d: bool) -> bool
+    ensures { result ≡ (a || (b || (c || d))) }
+{
+    either(a, either(b, either(c, d)))
+}
+
+/// A corner on a side.
+fn corner_on(side: Side) -> CornerSide
+    ensures { result ≡ corner_on side }
+{
+    CornerSide {
+        is_behind: side.is_behind(),
+        is_ahead: side.is_ahead(),
+    }
+}
+
+/// How a face lies that has all its corners on one side.
+fn class_on(side: Side) -> Class
+    ensures { result ≡ class_by (is_side_behind side) (is_side_ahead side) }
+{
+    match side {
+        Side::Behind => Class::Behind,
+        Side::On => Class::On,
+        Side::Ahead => Class::Ahead,
+    }
+}
+
+/// How a face lies, by the side of each corner.
+fn corner_sides(
+    alloc: Global,
+    table: &PlaneTable,
+    face: &Face,
+    number: u32,
+    is_lone: bool,
+) -> Result<CornerSides, NoMemory>
+    requires face { IsFaceOver table.now face.now }
+    requires number { IsNumberIn table.now number }
+    ensures { IfOk result (λ r. AreSidesOf (outline_of table.now face.now) (named table.now number) r) }
+{
+    let edges = face.edges.numbers();
     let mut corners = SmallVec::new(alloc);
     let mut some_behind = false;
     let mut some_ahead = false;
-    for i in 0..face.edges.len() {
-        let side = corner_side(table, face, i, number);
+    let mut ends = known_side(table, edges[0], number, is_lone);
+    for i in 0..edges.len() {
+        let next = edges[next_index(i, edges.len())];
+        let begins = known_side(table, next, number, is_lone);
+        let known = first_known(ends, begins);
+        let side = corner_side(table, face, i, number, known);
         some_behind = either(some_behind, side.is_behind);
         some_ahead = either(some_ahead, side.is_ahead);
         corners.push(side)?;
+        ends = begins;
     }
     Ok(CornerSides {
         class: class_from(some_behind, some_ahead),
@@ -61,20 +178,79 @@ pub fn sides(
     })
 }
 
-/// The side of the plane of a number on which corner `i` lies.
-fn corner_side(table: &PlaneTable, face: &Face, i: usize, number: u32) -> CornerSide
+/// The side of the plane of a number on which corner `i` lies, if it isn't known by a plane through the
+/// corner that has all its points on that side.
+fn corner_side(
+    table: &PlaneTable,
+    face: &Face,
+    i: usize,
+    number: u32,
+    known: Option<Side>,
+) -> CornerSide
     requires index { i < length face.now.edges }
     requires face { IsFaceOver table.now face.now }
     requires number { IsNumberIn table.now number }
+    requires known { IfSome known (IsSideAt table.now face.now (named table.now number) i) }
     ensures { result ≡ side_against (named table.now number) (corner (outline_of table.now face.now) i) }
+{
+    let side = match known {
+        Some(side) => side,
+        None => meeting_side(table, face, i, number),
+    };
+    corner_on(side)
+}
+
+/// The side of the plane of a number on which corner `i` lies.
+fn meeting_side(table: &PlaneTable, face: &Face, i: usize, number: u32) -> Side
+    requires index { i < length face.now.edges }
+    requires face { IsFaceOver table.now face.now }
+    requires number { IsNumberIn table.now number }
+    ensures { IsSideAt table.now face.now (named table.now number) i result }
 {
     let edges = face.edges.numbers();
     let ends = table.plane(edges[i]);
     let begins = table.plane(edges[next_index(i, edges.len())]);
-    let side = side_at(table.plane(face.plane), ends, begins, table.plane(number));
-    CornerSide {
-        is_behind: side.is_behind(),
-        is_ahead: side.is_ahead(),
+    side_at(table.plane(face.plane), ends, begins, table.plane(number))
+}
+
+/// The first of two sides that is known.
+fn first_known(ends: Option<Side>, begins: Option<Side>) -> Option<Side>
+    ensures { (result ≡ ends) ⊎ (result ≡ begins) }
+{
+    match ends {
+        Some(_) => ends,
+        None => begins,
+    }
+}
+
+/// The side of the plane of a number on which all points of another plane lie, where it is looked for and
+/// found: no other plane may have its direction.
+fn known_side(table: &PlaneTable, of: u32, number: u32, is_lone: bool) -> Option<Side>
+    requires of { IsNumberIn table.now of }
+    requires number { IsNumberIn table.now number }
+    ensures { IfSome result (λ s. HasAllOn (named table.now of) (named table.now number) s) }
+{
+    if is_lone {
+        return None;
+    }
+    side_of_all(table, of, number)
+}
+
+/// The side of the plane of a number on which all points of another plane lie, where the table has one
+/// direction for them or their opposites.
+fn side_of_all(table: &PlaneTable, of: u32, number: u32) -> Option<Side>
+    requires of { IsNumberIn table.now of }
+    requires number { IsNumberIn table.now number }
+    ensures { IfSome result (λ s. HasAllOn (named table.now of) (named table.now number) s) }
+{
+    let direction = table.direction(of);
+    let other = table.direction(number);
+    if direction == other {
+        Some(side_alike(table.plane(of), table.plane(number)))
+    } else if direction == opposite_number(other) {
+        Some(side_alike(table.plane(opposite_number(of)), table.plane(number)))
+    } else {
+        None
     }
 }
 

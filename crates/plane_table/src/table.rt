@@ -1,10 +1,12 @@
 //! Planes by number.
 
-ghost use Rattle.std.specs.Prelude.{◌≡◌, ◌<◌, ◌*◌, ◌^◌, length, map, IfOk};
+ghost use Rattle.std.specs.Prelude.{◌≡◌, IfOk};
 ghost use Rattle.plane_predicate.specs.Space.{opposite_of, is_same};
+ghost use Rattle.plane_polygon.specs.Parallels.{IsAlike};
 ghost use Rattle.plane_table.specs.Tables.{named, opposite_number, HasNoTwoAlike, IsNumberIn};
 
-use plane_predicate::{Plane, opposite};
+use crate::directions::{Oriented, by_number};
+use plane_predicate::Plane;
 use std::alloc::Global;
 use std::marker::Model;
 use text_place::NoMemory;
@@ -16,19 +18,19 @@ use text_place::NoMemory;
 #[derive(Drop)]
 pub struct PlaneTable {
     planes: Vec<Plane>,
-    opposites: Vec<Plane>,
+    oriented: Vec<Oriented>,
 }
 
 impl Model for PlaneTable {
     ghost use Rattle.std.specs.Prelude.{List};
     ghost use Rattle.plane_predicate.specs.Space.{Coefficients};
-    ghost use Rattle.plane_table.specs.Tables.{AreOpposites};
+    ghost use Rattle.plane_table.specs.Tables.{IsTable};
 
     ghost Value = { List Coefficients };
 
     ghost view = { λ t. t.planes.items };
 
-    ghost invariant = { λ t. AreOpposites t.planes.items t.opposites.items };
+    ghost invariant = { λ t. IsTable t.planes.items t.oriented.items };
 }
 
 impl PlaneTable {
@@ -37,8 +39,8 @@ impl PlaneTable {
         requires { HasNoTwoAlike planes.items }
         ensures { IfOk result (λ t. t ≡ planes.items) }
     {
-        let opposites = opposites_of(alloc, &planes)?;
-        Ok(PlaneTable { planes, opposites })
+        let oriented = by_number(alloc, &planes)?;
+        Ok(PlaneTable { planes, oriented })
     }
 
     /// The list of planes, without their opposites. Takes no memory.
@@ -54,11 +56,28 @@ impl PlaneTable {
         requires { IsNumberIn self.now number }
         ensures { result.now ≡ named self.now number }
     {
-        let index = (number / 2) as usize;
-        if number % 2 == 0 {
-            &self.planes[index]
-        } else {
-            &self.opposites[index]
+        &self.oriented[number as usize].plane
+    }
+
+    /// The number of a plane that has the direction of the one that a number names. Planes of one direction
+    /// that follow one another in the list, or whose opposites do, have the same one.
+    pub fn direction(&self, number: u32) -> u32
+        requires { IsNumberIn self.now number }
+        ensures { IsAlike (named self.now result) (named self.now number) }
+    {
+        self.oriented[number as usize].direction
+    }
+
+    /// Whether no other plane of the table has the direction of the plane that a number names, as far as
+    /// the table knows.
+    pub fn is_lone(&self, number: u32) -> bool
+        requires { IsNumberIn self.now number }
+    {
+        let index = number as usize / 2;
+        let direction = self.oriented[2 * index].direction as usize / 2;
+        match self.oriented.get(2 * index + 2) {
+            Some(next) => direction == index && next.direction as usize / 2 != index,
+            None => direction == index,
         }
     }
 
@@ -97,15 +116,4 @@ pub fn opposite_number(number: u32) -> u32
     } else {
         number - 1
     }
-}
-
-/// The opposites of planes, in order.
-fn opposites_of(alloc: Global, planes: &[Plane]) -> Result<Vec<Plane>, NoMemory>
-    ensures { IfOk result (λ v. v.items ≡ map opposite_of planes.now) }
-{
-    let mut opposites = Vec::new(alloc);
-    for plane in planes {
-        opposites.push(opposite(plane))?;
-    }
-    Ok(opposites)
 }

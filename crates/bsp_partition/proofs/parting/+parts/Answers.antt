@@ -1,38 +1,47 @@
-use Rattle.std.proofs.Common.{◌∙◌, List, sym, ap, ap₂, subst}
+use Rattle.std.proofs.Common.{◌∙◌, List, sym, ap₂, subst}
 use Rattle.std.proofs.lemmas.Result.{IfOk-weaker}
 use Rattle.plane_predicate.specs.Space.{Coefficients}
 use Rattle.plane_polygon.specs.Polygons.{Outline}
 use Rattle.plane_polygon.specs.Parts.{part_ahead, part_behind}
 use Rattle.plane_polygon.specs.declared.classes.Class.{Class}
+use Rattle.plane_table.specs.Tables.{named}
 use Rattle.plane_table.specs.Faces.{outline_of}
+use Rattle.plane_table.specs.Cuts.{part_in}
 use Rattle.bsp_tree.specs.Trees.{Tree}
 use Rattle.bsp_tree.specs.Growths.{tree_on}
 use Rattle.bsp_tree.proofs.Sheets.{stood_on}
 use Rattle.bsp_partition.specs.Partitions.{across_row, divide, rows}
 use Rattle.bsp_partition.specs.Parts.{row_parts, trees_on, HasParts}
-use Rattle.bsp_partition.proofs.SheetParts.{end_parts, end_sides, sides_parted, across_parted}
+use Rattle.bsp_partition.proofs.SheetParts.{end_parts, sides_parted, across_parted}
 use Rattle.bsp_partition.proofs.parting.+parts.Goals as goal
 
 pub add_parts-returns-in-End : goal.add_parts-returns-in-End
 add_parts-returns-in-End t c = rw c.in-End.is (end_parts c.args.nodes.now c.in-End.field-0 _)
 
-pub side_parts-returns-in-End-End : goal.side_parts-returns-in-End-End
-side_parts-returns-in-End-End t c =
-    rw (c.in-End-End.is-0, c.in-End-End.is-1) (end_sides c.args.nodes.now c.in-End-End.field-0-0 c.in-End-End.field-0-1 _ _)
+pub half_parts-returns-in-End : goal.half_parts-returns-in-End
+half_parts-returns-in-End t c = rw c.in-End.is (end_parts c.args.nodes.now c.in-End.field-0 _)
+
+pub half_parts-returns-in_ok-part-in-To : goal.half_parts-returns-in_ok-part-in-To
+half_parts-returns-in_ok-part-in-To t c =
+    let old = c.args.nodes.now in
+    let outline = rw c.table.ensures at c.in_ok-part-in-To.ensures.outline in
+    IfOk-weaker c.add_parts.result
+    (λ r. HasParts old c.add_parts.new.nodes r (divide (tree_on old c.args.at) (outline_of old.planes c.in_ok-part-in-To.part)))
+    (λ r. HasParts old c.add_parts.new.nodes r (divide (tree_on old c.args.at) (part_in c.args.half (outline_of old.planes c.args.by.face.now) (named old.planes c.args.by.number))))
+    (λ r. subst (λ (s : Outline). HasParts old c.add_parts.new.nodes r (divide (tree_on old c.args.at) s)) outline)
+    c.add_parts.ensures
 
 pub side_parts-returns : goal.side_parts-returns
 side_parts-returns t c =
     let old = c.args.nodes.now in
-    let middle = c.add_parts.new.nodes in
-    let new = c.add_parts-2.new.nodes in
+    let middle = c.half_parts.new.nodes in
+    let new = c.half_parts-2.new.nodes in
     let longer = c.in_ok-low.ensures.longer in
-    let low = rw c.table.ensures at c.in_ok-by_low.ensures.behind in
-    let high = ap (λ (ps : List Coefficients). outline_of ps c.in_ok-by_low.by_high) longer.planes ∙ (rw c.table.ensures at c.in_ok-by_low.ensures.ahead) in
-    let first = subst (λ (s : Outline). HasParts old middle c.in_ok-low.low (divide (tree_on old c.args.node.now.behind) s)) low c.in_ok-low.ensures in
-    let second = subst (λ (s : Outline). HasParts middle new c.in_ok-high.high (divide (tree_on old c.args.node.now.ahead) s)) high
-    (subst (λ (u : Tree). HasParts middle new c.in_ok-high.high (divide u (outline_of middle.planes c.in_ok-by_low.by_high)))
-    (stood_on old middle c.args.node.now.ahead longer c.requires.node.ahead) c.in_ok-high.ensures) in
-    sides_parted old middle new c.args.node.now.behind c.args.node.now.ahead c.in_ok-low.low c.in_ok-high.high _ _ first second
+    let node = c.args.node.now in
+    let second = subst (λ (u : Tree). HasParts middle new c.in_ok-high.high (divide u (part_ahead (outline_of middle.planes c.args.by.now) (named middle.planes node.face.plane))))
+    (stood_on old middle node.ahead longer c.requires.node.ahead) c.in_ok-high.ensures in
+    sides_parted old middle new node.behind node.ahead c.in_ok-low.low c.in_ok-high.high _ _ c.in_ok-low.ensures
+    (subst (λ (ps : List Coefficients). HasParts middle new c.in_ok-high.high (divide (tree_on old node.ahead) (part_ahead (outline_of ps c.args.by.now) (named ps node.face.plane)))) longer.planes second)
 
 pub other_parts-returns-in_ok-parts-in-Across-Across : goal.other_parts-returns-in_ok-parts-in-Across-Across
 other_parts-returns-in_ok-parts-in-Across-Across t c =

@@ -2,36 +2,29 @@ use Rattle.std.proofs.Common.{ap, ◌∙◌, length, sym}
 use Rattle.plane_polygon.specs.Polygons.{Outline}
 use Rattle.plane_table.specs.Tables.{named}
 use Rattle.plane_table.specs.Faces.{outline_of}
-use Rattle.plane_table.proofs.Cuts.{sides_count, outline_behind, outline_ahead, face_behind, face_ahead}
+use Rattle.plane_table.proofs.Cuts.{sides_count, outline_in, face_in, polygon_in}
 use Rattle.plane_table.proofs.cutting.cut.Goals as goal
 
 pub part_edges-requires-clause-same : goal.part_edges-requires-clause-same
 part_edges-requires-clause-same c =
+    let crossing = c.args.crossing in
     ap length c.as_slice.ensures
-    ∙ sides_count c.args.table.now c.args.face.now (named c.args.table.now c.args.number) c.args.sides.now.corners.items c.requires.sides.corners
+    ∙ sides_count c.args.table.now crossing.face.now (named c.args.table.now crossing.number) crossing.sides.now.corners.items (c.requires.sides.corners c.requires.across)
     ∙ ap length (sym c.numbers.ensures)
 
-pub returns-clause-behind : goal.returns-clause-behind
-returns-clause-behind c =
-    outline_behind c.args.table.now c.args.face.now c.args.number c.args.sides.now.corners.items c.in_ok-parts.parts.behind c.requires.sides.corners
-    (rw (c.numbers.ensures, c.as_slice.ensures) at c.in_ok-parts.ensures.behind)
+pub returns-clause-outline : goal.returns-clause-outline
+returns-clause-outline c =
+    let crossing = c.args.crossing in
+    outline_in c.args.half c.args.table.now crossing.face.now crossing.number crossing.sides.now.corners.items c.in_ok-edges.edges (c.requires.sides.corners c.requires.across)
+    (rw (c.numbers.ensures, c.as_slice.ensures) at c.in_ok-edges.ensures)
 
-pub returns-clause-ahead : goal.returns-clause-ahead
-returns-clause-ahead c =
-    outline_ahead c.args.table.now c.args.face.now c.args.number c.args.sides.now.corners.items c.in_ok-parts.parts.ahead c.requires.sides.corners
-    (rw (c.numbers.ensures, c.as_slice.ensures) at c.in_ok-parts.ensures.ahead)
-
-pub returns-clause-faces : goal.returns-clause-faces
-returns-clause-faces c =
+pub returns-clause-face : goal.returns-clause-face
+returns-clause-face c =
+    let crossing = c.args.crossing in
     let planes = c.args.table.now in
-    let face = c.args.face.now in
-    let m = c.args.number in
-    let s : Outline = outline_of planes face in
-    let corners = c.args.sides.now.corners.items in (
-      face_behind planes face m corners c.in_ok-parts.parts.behind c.requires.face c.requires.number c.requires.sides.corners
-          (rw (c.numbers.ensures, c.as_slice.ensures) at c.in_ok-parts.ensures.behind)
-          (c.parts_are_polygons.ensures.behind s (named planes m) c.requires.face.polygon c.requires.across),
-      face_ahead planes face m corners c.in_ok-parts.parts.ahead c.requires.face c.requires.number c.requires.sides.corners
-          (rw (c.numbers.ensures, c.as_slice.ensures) at c.in_ok-parts.ensures.ahead)
-          (c.parts_are_polygons.ensures.ahead s (named planes m) c.requires.face.polygon c.requires.across),
-    )
+    let s : Outline = outline_of planes crossing.face.now in
+    let m = named planes crossing.number in
+    let across = sym c.requires.sides.class ∙ c.requires.across in
+    face_in c.args.half planes crossing.face.now crossing.number crossing.sides.now.corners.items c.in_ok-edges.edges c.requires.face c.requires.number (c.requires.sides.corners c.requires.across)
+    (rw (c.numbers.ensures, c.as_slice.ensures) at c.in_ok-edges.ensures)
+    (polygon_in c.args.half s m (c.parts_are_polygons.ensures.behind s m c.requires.face.polygon across) (c.parts_are_polygons.ensures.ahead s m c.requires.face.polygon across))

@@ -1,8 +1,6 @@
-use Rattle.std.proofs.Common.{◌≡◌, ap, ◌∙◌, length, get_or, sym, add-one, arith, ℕ}
+use Rattle.std.proofs.Common.{◌≡◌, Bool, ap, ◌∙◌, length, get_or, sym, add-one, arith, ℕ}
 use Rattle.plane_polygon.specs.Parts.{before}
-use Rattle.plane_table.specs.declared.sorting.CornerSide.{CornerSide}
-use Rattle.plane_table.specs.Tables.{opposite_number}
-use Rattle.plane_table.specs.Cuts.{kept_behind, kept_ahead, kept_numbers, on_the_plane}
+use Rattle.plane_table.specs.Cuts.{is_within, kept_in, kept_numbers, on_the_plane, side_number}
 use Rattle.plane_table.proofs.Cuts.{flat_step}
 use Rattle.plane_table.proofs.cutting.part_edges.Goals as goal
 
@@ -10,25 +8,18 @@ pub loop-i-preserved : goal.loop-i-preserved
 loop-i-preserved c =
     let edges = c.args.edges.now in
     let corners = c.args.corners.now in
+    let half = c.args.half in
     let m = c.args.number in
     let i = c.loop-i.i in
-    let to : CornerSide = get_or corners i on_the_plane in
+    let to : Bool = is_within half (get_or corners i on_the_plane) in
     record {
-      behind = c.in_ok-push_kept.ensures
-          ∙ flat_step (kept_behind edges m corners) i c.loop-i.behind (kept_numbers c.loop-i.from.is_behind to.is_behind (get_or edges i 0) m) c.loop-i.invariant.behind
-          (ap (λ (d : CornerSide). kept_numbers d.is_behind to.is_behind (get_or edges i 0) m) c.loop-i.invariant.from);
-      ahead = rw c.opposite_number-turned.ensures at c.in_ok-push_kept-2.ensures
-          ∙ flat_step (kept_ahead edges m corners) i c.loop-i.ahead (kept_numbers c.loop-i.from.is_ahead to.is_ahead (get_or edges i 0) (opposite_number m)) c.loop-i.invariant.ahead
-          (ap (λ (d : CornerSide). kept_numbers d.is_ahead to.is_ahead (get_or edges i 0) (opposite_number m)) c.loop-i.invariant.from);
-      from = ap (λ (k : ℕ). get_or corners (before (length edges) k) on_the_plane) (sym (add-one i));
+      kept = rw (c.side_number-number.ensures, c.is_within-to.ensures) at c.in_ok-push_kept.ensures
+          ∙ flat_step (kept_in half edges m corners) i c.loop-i.kept (kept_numbers c.loop-i.from to (get_or edges i 0) (side_number half m)) c.loop-i.invariant.kept
+          (ap (λ (b : Bool). kept_numbers b to (get_or edges i 0) (side_number half m)) c.loop-i.invariant.from);
+      from = c.is_within-to.ensures ∙ ap (λ (k : ℕ). is_within half (get_or corners (before (length edges) k) on_the_plane)) (sym (add-one i));
     }
 
-pub returns-clause-behind : goal.returns-clause-behind
-returns-clause-behind c =
+pub returns : goal.returns
+returns c =
     let e : c.loop-i.i ≡ length c.args.edges.now = omega arith in
-    rw e at c.loop-i.invariant.behind
-
-pub returns-clause-ahead : goal.returns-clause-ahead
-returns-clause-ahead c =
-    let e : c.loop-i.i ≡ length c.args.edges.now = omega arith in
-    rw e at c.loop-i.invariant.ahead
+    rw e at c.loop-i.invariant.kept
