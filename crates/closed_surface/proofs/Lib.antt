@@ -1,2 +1,3 @@
+mod Rows
 pub mod Turns
 pub mod Sectors

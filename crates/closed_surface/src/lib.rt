@@ -1,4 +1,5 @@
-//! Planes through a line, and why nothing is left over of the values of sectors on a way round it.
+//! Closed surfaces: what it means that faces leave no hole along their edges, and why nothing is left over of the values of sectors on
+//! a way round a line.
 #![tactic(auto)]
 
 mod laws;
