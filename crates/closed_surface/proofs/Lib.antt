@@ -1,3 +1,5 @@
 mod Rows
 pub mod Turns
 pub mod Sectors
+pub mod Parallels
+pub mod EdgeLines

@@ -51,7 +51,7 @@ twice_below x y z e k h = omega (arith, sums)
 zero_at_least : (x : ℤ) → x ≡ pos 0 → pos 0 ≤ℤ x
 zero_at_least x h = omega (arith, sums)
 
-below_back : (x y : ℤ) → int_lt x y ≡ true → x <ℤ y
+pub below_back : (x y : ℤ) → int_lt x y ≡ true → x <ℤ y
 below_back x y h = grind (arith, ints)
 
 same_out : (x : ℤ) → pos 0 ≡ x -ℤ x
