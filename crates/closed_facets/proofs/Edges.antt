@@ -11,13 +11,13 @@ use Rattle.closed_surface.specs.Closed.{runs_through}
 use Rattle.closed_surface.proofs.EdgeLines.{IsSide, runs, runs_zero, runs_behind, same_way_turns, opposite_way_turns, turns_same_way, turns_opposite_way}
 use Rattle.closed_facets.specs.Edges.{edge_at, IsOnEdge, RunsAlong, RunsAgainst}
 
-lt_most : (x : ℤ) → x <ℤ pos 0 → x ≤ℤ pos 0
+pub lt_most : (x : ℤ) → x <ℤ pos 0 → x ≤ℤ pos 0
 lt_most x h = omega (arith, sums)
 
-zero_most : (x : ℤ) → x ≡ pos 0 → x ≤ℤ pos 0
+pub zero_most : (x : ℤ) → x ≡ pos 0 → x ≤ℤ pos 0
 zero_most x h = omega (arith, sums)
 
-same_or_not : (i j : ℕ) → (i ≡ j) ⊎ (i ≢ j)
+pub same_or_not : (i j : ℕ) → (i ≡ j) ⊎ (i ≢ j)
 same_or_not i j = elim (eqb_tells i j) [ inl p ↦ inl p.1 | inr p ↦ inr p.1 ]
 
 -- no corner is ahead of an edge
@@ -70,6 +70,13 @@ run_points s h i l q hw r =
       edge_on = runs_zero (edge s j) a b q (h.turns_left i l) (h.turns_left j lj) r (corner_on_next s i) (corner_on_edge s j);
       behind = λ m lm o. runs_behind (edge s m) a b q (h.turns_left i l) (h.turns_left j lj) hw r (corner_not_ahead s h i m l lm) (corner_not_ahead s h j m lj lm) (end_behind s h i m l lm o);
     }
+
+-- the neighbours alone tell
+pub on_line_strictly : (s : Outline) → IsPolygon s → (i : ℕ) → i < sides s → (q : Coordinates) → pos 0 <ℤ q.w → value s.plane q ≡ pos 0 → value (edge s (after (sides s) i)) q ≡ pos 0 →
+    value (edge s i) q <ℤ pos 0 → value (edge s (after (sides s) (after (sides s) i))) q <ℤ pos 0 → IsOnEdge s (after (sides s) i) q
+on_line_strictly s h i l q hw on edge_on x y =
+    let k : ℕ = sides s in let j : ℕ = after k i in
+    run_points s h i l q hw (runs s.plane (edge s i) (edge s j) (edge s (after k j)) (side s h i l) q hw on edge_on x y)
 
 -- ---- with the way of the edge
 pub along_runs : (s : Outline) → IsPolygon s → (i : ℕ) → i < sides s → (q : Coordinates) → pos 0 <ℤ q.w → (v : Direction) →

@@ -1,14 +1,14 @@
 -- An edge of a polygon: the line in which the polygon's plane n meets the edge's plane j, from the plane i of the edge before to the plane m
 -- of the edge behind it.
-use Rattle.std.proofs.Common.{◌≡◌, ◌⊎◌, inl, inr, true, refl, sym, ap, ◌∙◌, subst, arith, ℤ, pos, ◌-ℤ◌, ◌*ℤ◌, neg_ℤ, ◌<ℤ◌, ◌≤ℤ◌}
+use Rattle.std.proofs.Common.{◌≡◌, ◌≢◌, ◌⊎◌, inl, inr, true, refl, sym, ap, ◌∙◌, subst, arith, ℤ, pos, ◌-ℤ◌, ◌*ℤ◌, neg_ℤ, ◌<ℤ◌, ◌≤ℤ◌}
 use Rattle.std.proofs.Math.IntN.{*ℤ-zero, zero-*ℤ}
 use Rattle.plane_predicate.specs.Space.{Coefficients, Coordinates, value, cramer}
 use Rattle.plane_predicate.proofs.IntegerRing.{sums, mul_comm_ℤ}
 use Rattle.plane_predicate.proofs.Identities.{cramer_on_first, cramer_on_second, cramer_on_third, weight_swapped}
 use Rattle.plane_predicate.proofs.Signs.{signs, pos_pos, pos_neg, neg_neg, least_least, least_most, pos_cancel, neg_cancel, zero_cancel}
-use Rattle.closed_surface.specs.Ways.{Direction, way, dot, cross, slope, line_of, is_same_way, is_opposite_way}
+use Rattle.closed_surface.specs.Ways.{Direction, way, dot, cross, slope, line_of, is_same_place, is_same_way, is_opposite_way}
 use Rattle.closed_surface.specs.Around.{turn_about}
-use Rattle.closed_surface.proofs.Parallels.{IsZero, slope_way, line_turn, line_slope, along_dot, along_slope, along_cross, in_planes, dot_above, same_way_is, same_way_parts, opposite_way_is, opposite_way_parts}
+use Rattle.closed_surface.proofs.Parallels.{IsZero, slope_way, line_turn, line_slope, along_dot, along_slope, along_cross, in_planes, dot_above, same_place_is, same_way_is, same_way_parts, opposite_way_is, opposite_way_parts}
 
 above_least : (x : ℤ) → pos 0 <ℤ x → pos 0 ≤ℤ x
 above_least x h = omega (arith, sums)
@@ -47,6 +47,17 @@ second_below k y u v hk e hu hy = neg_cancel u v hu (omega (arith, sums, pos_neg
 
 second_zero : (k y u v : ℤ) → pos 0 <ℤ k → k *ℤ y ≡ u *ℤ v → v ≡ pos 0 → y ≡ pos 0
 second_zero k y u v hk e z = zero_cancel k y hk (e ∙ ap (λ (x : ℤ). u *ℤ x) z ∙ *ℤ-zero u)
+
+zero_factor : (x y : ℤ) → x *ℤ y ≡ pos 0 → y ≢ pos 0 → x ≡ pos 0
+zero_factor x y e h = elim (signs y) [
+  | inl k ↦ elim (signs x) [
+    | inl l ↦ absurd (omega (arith, sums, neg_neg x y l k))
+    | inr (inl l) ↦ l
+    | inr (inr l) ↦ absurd (omega (arith, sums, pos_neg x y l k))
+  ]
+  | inr (inl k) ↦ absurd (h k)
+  | inr (inr k) ↦ zero_cancel y x k (omega (arith, sums, mul_comm_ℤ y x))
+]
 
 -- ---- how a plane's value grows from p to q, where it is 0 at an end
 grown_from_zero : (u x v y : ℤ) → y ≡ pos 0 → u *ℤ x -ℤ v *ℤ y ≡ u *ℤ x
@@ -213,3 +224,39 @@ module _ (n i j m : Coefficients) (h : IsSide n i j m) where
   turns_opposite_way v p t =
       opposite_way_is (way a b) v (along_cross g (way a b) v long edge_along (in_planes n j v p.plane p.edge))
       (product_below (dot g g) (dot (way a b) v) (dot g (way a b)) (dot g v) long (along_dot g (way a b) v edge_along) edge_forward (subst (λ (x : ℤ). x <ℤ pos 0) (sym (line_turn n j v)) t))
+
+  -- ---- the ends of the edge
+  -- a way that all three planes of an end hold is none
+  none_held : (u : Direction) (p : Coefficients) → slope n u ≡ pos 0 → slope j u ≡ pos 0 → slope p u ≡ pos 0 → slope p g ≢ pos 0 → dot u u ≡ pos 0
+  none_held u p un uj up apart =
+      let z = in_planes n j u un uj in
+      let gu = zero_factor (dot g u) (slope p g) (sym (along_slope p g u z) ∙ times_zero (dot g g) (slope p u) up) apart in
+      zero_cancel (dot g g) (dot u u) long (along_dot g u u z ∙ zero_times (dot g u) (dot g u) gu)
+
+  pub none_held_first : (u : Direction) → slope n u ≡ pos 0 → slope i u ≡ pos 0 → slope j u ≡ pos 0 → dot u u ≡ pos 0
+  none_held_first u un ui uj = none_held u i un uj ui (λ e. apart_below (slope i g) behind e)
+
+  pub none_held_second : (u : Direction) → slope n u ≡ pos 0 → slope j u ≡ pos 0 → slope m u ≡ pos 0 → dot u u ≡ pos 0
+  none_held_second u un uj um = none_held u m un uj um (λ e. apart_above (slope m g) ahead e)
+
+  -- a point on all three planes of an end is that end
+  pub meets_at_first : (q : Coordinates) → pos 0 <ℤ q.w → value n q ≡ pos 0 → value j q ≡ pos 0 → value i q ≡ pos 0 → is_same_place a q ≡ true
+  meets_at_first q hw nq jq iq =
+      same_place_is a q (none_held_first (way a q)
+      (slope_way n a q ∙ both_zero a.w (value n q) q.w (value n a) nq (cramer_on_first n i j))
+      (slope_way i a q ∙ both_zero a.w (value i q) q.w (value i a) iq (cramer_on_second n i j))
+      (slope_way j a q ∙ both_zero a.w (value j q) q.w (value j a) jq (cramer_on_third n i j)))
+
+  pub meets_at_second : (q : Coordinates) → pos 0 <ℤ q.w → value n q ≡ pos 0 → value j q ≡ pos 0 → value m q ≡ pos 0 → is_same_place b q ≡ true
+  meets_at_second q hw nq jq mq =
+      same_place_is b q (none_held_second (way b q)
+      (slope_way n b q ∙ both_zero b.w (value n q) q.w (value n b) nq (cramer_on_first n j m))
+      (slope_way j b q ∙ both_zero b.w (value j q) q.w (value j b) jq (cramer_on_second n j m))
+      (slope_way m b q ∙ both_zero b.w (value m q) q.w (value m b) mq (cramer_on_third n j m)))
+
+  -- a direction that both planes hold is along the edge: it has a turn about it where there is one
+  pub turn_apart : (v : Direction) → pos 0 <ℤ dot v v → IsInPlanes v → turn_about v n j ≢ pos 0
+  turn_apart v hv p e =
+      let z = in_planes n j v p.plane p.edge in
+      let gv = line_turn n j v ∙ e in
+      apart_above (dot v v) hv (zero_cancel (dot g g) (dot v v) long (along_dot g v v z ∙ zero_times (dot g v) (dot g v) gv))

@@ -9,7 +9,7 @@ use Rattle.plane_predicate.proofs.IntegerRing.{sums}
 use Rattle.plane_predicate.proofs.Polynomials.{Poly, var, plus, times, minus, ring}
 use Rattle.plane_predicate.proofs.Vectors.{Form, Place, form, place, of_plane, of_point, valueP, minorP, determinantP}
 use Rattle.plane_predicate.proofs.Signs.{signs, pos_pos, neg_neg, least_least, most_most, zero_cancel}
-use Rattle.closed_surface.specs.Ways.{Direction, way, dot, cross, slope, line_of, is_parallel, is_same_way, is_opposite_way}
+use Rattle.closed_surface.specs.Ways.{Direction, way, dot, cross, slope, line_of, is_same_place, is_parallel, is_same_way, is_opposite_way}
 use Rattle.closed_surface.specs.Around.{turn_about}
 use Rattle.closed_surface.proofs.Sectors.{below, below_back}
 
@@ -191,3 +191,10 @@ opposite_way_is u v h k = and_from _ _ (parallel_is u v h) (below (dot u v) (pos
 pub opposite_way_parts : (u v : Direction) → is_opposite_way u v ≡ true → IsZero (cross u v) × (dot u v <ℤ pos 0)
 opposite_way_parts u v h =
     let a = and_parts (is_parallel u v) (int_lt (dot u v) (pos 0)) h in (parallel_parts u v a.0, below_back (dot u v) (pos 0) a.1)
+
+-- a way of no length leads to the same place
+pub same_place_is : (p q : Coordinates) → dot (way p q) (way p q) ≡ pos 0 → is_same_place p q ≡ true
+same_place_is p q h =
+    let a = square (way p q).x in let b = square (way p q).y in let c = square (way p q).z in
+    and_from _ _ (is_int (way p q).x (no_square (way p q).x (omega (arith, sums))))
+    (and_from _ _ (is_int (way p q).y (no_square (way p q).y (omega (arith, sums)))) (is_int (way p q).z (no_square (way p q).z (omega (arith, sums)))))

@@ -139,7 +139,7 @@ int_itself x = (Decides-int_eq x x).1 refl
 same_itself : (m : Coefficients) → is_same m m ≡ true
 same_itself m = rw (int_itself m.a, int_itself m.b, int_itself m.c, int_itself m.d) refl
 
-false_by : (b : Bool) → (b ≡ true → ⊥) → b ≡ false
+pub false_by : (b : Bool) → (b ≡ true → ⊥) → b ≡ false
 false_by true h = absurd (h refl)
 false_by false h = refl
 
