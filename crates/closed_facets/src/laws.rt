@@ -1,13 +1,19 @@
 //! Laws of the edges of facets, for the crates above. They are proved, and do nothing when they run.
 
-ghost use Rattle.std.specs.Prelude.{◌≡◌, ◌↔◌, ◌<◌, ◌<ℤ◌, ◌-ℤ◌, ◌&&◌, ℕ, pos, true};
+ghost use Rattle.std.specs.Prelude.{◌≡◌, ◌↔◌, ◌<◌, ◌<ℤ◌, ◌-ℤ◌, ◌&&◌, ℕ, pos, true, map};
+ghost use Rattle.plane_predicate.specs.declared.unit.Unit.TheVariants.{Whole};
 ghost use Rattle.plane_predicate.specs.Space.{Coordinates, opposite_of};
 ghost use Rattle.plane_polygon.specs.Polygons.{Outline, IsPolygon, IsStrictlyWithin, sides, after};
 ghost use Rattle.plane_polygon.specs.Parts.{corners};
 ghost use Rattle.closed_surface.specs.Ways.{Direction, way, dot, is_same_way, is_opposite_way};
-ghost use Rattle.closed_surface.specs.Closed.{runs_through, edges_of, along as edges_along, against as edges_against};
+ghost use Rattle.closed_surface.specs.Closed.{runs_through, edges_of, AreClosed, along as edges_along, against as edges_against};
+ghost use Rattle.bsp_tree.specs.Trees.{Tree};
+ghost use Rattle.bsp_tree.specs.Cells.{IsOfWorld};
+ghost use Rattle.facet_cut.specs.Facets.{facets_of};
 ghost use Rattle.closed_facets.specs.Edges.{edge_at, IsOnEdge, RunsAlong, RunsAgainst};
 ghost use Rattle.closed_facets.specs.Near.{near, beside, IsOften, IsNoCorner, IsClear, is_within, number_of};
+
+use facet_cut::{facets_are_polygons, facets_bound_their_solid};
 
 /// The edge of a polygon from a corner to the next runs through exactly the points of its plane and of
 /// the edge's plane that are strictly behind all other edges. It runs along a direction exactly where
@@ -41,3 +47,13 @@ pub fn edges_bound_what_is_covered()
         ≡ number_of (is_within s (near number q (beside s.plane v))) -ℤ number_of (is_within s (near number q (beside (opposite_of s.plane) v))) }
     ensures within { (s : Outline) (p : Coordinates) → (is_within s p ≡ true) ↔ IsStrictlyWithin s p }
 {}
+
+/// The facets of a solid of the world box are closed. Take a point strictly inside the box that is no
+/// corner of a facet, and a direction. As many edges of facets run through the point along the
+/// direction as run through it the opposite way.
+pub fn facets_are_closed()
+    ensures { (t : Tree) → IsOfWorld t → AreClosed Whole (map corners (facets_of t)) }
+{
+    facets_are_polygons();
+    facets_bound_their_solid();
+}

@@ -3,4 +3,6 @@
 
 mod laws;
 
-pub use laws::{edges_bound_what_is_covered, edges_run_on, edges_run_on_their_planes};
+pub use laws::{
+    edges_bound_what_is_covered, edges_run_on, edges_run_on_their_planes, facets_are_closed,
+};

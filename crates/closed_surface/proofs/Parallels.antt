@@ -192,9 +192,12 @@ pub opposite_way_parts : (u v : Direction) → is_opposite_way u v ≡ true → 
 opposite_way_parts u v h =
     let a = and_parts (is_parallel u v) (int_lt (dot u v) (pos 0)) h in (parallel_parts u v a.0, below_back (dot u v) (pos 0) a.1)
 
+pub zero_by_length : (u : Direction) → dot u u ≡ pos 0 → IsZero u
+zero_by_length u h =
+    let a = square u.x in let b = square u.y in let c = square u.z in
+    record { x = no_square u.x (omega (arith, sums)); y = no_square u.y (omega (arith, sums)); z = no_square u.z (omega (arith, sums)) }
+
 -- a way of no length leads to the same place
 pub same_place_is : (p q : Coordinates) → dot (way p q) (way p q) ≡ pos 0 → is_same_place p q ≡ true
 same_place_is p q h =
-    let a = square (way p q).x in let b = square (way p q).y in let c = square (way p q).z in
-    and_from _ _ (is_int (way p q).x (no_square (way p q).x (omega (arith, sums))))
-    (and_from _ _ (is_int (way p q).y (no_square (way p q).y (omega (arith, sums)))) (is_int (way p q).z (no_square (way p q).z (omega (arith, sums)))))
+    let z = zero_by_length (way p q) h in and_from _ _ (is_int (way p q).x z.x) (and_from _ _ (is_int (way p q).y z.y) (is_int (way p q).z z.z))

@@ -122,7 +122,7 @@ total_sum f g [] = refl
 total_sum f g (m ∷ ms) = four_sums (f m) (g m) (total f ms) (total g ms) (total (λ m. f m +ℤ g m) ms) (total_sum f g ms)
 
 -- ---- planes that are apart are not the same
-same_plane : (m n : Coefficients) → is_same m n ≡ true → m ≡ n
+pub same_plane : (m n : Coefficients) → is_same m n ≡ true → m ≡ n
 same_plane m n h =
     let x = and_parts (int_eq m.a n.a) (int_eq m.b n.b && (int_eq m.c n.c && int_eq m.d n.d)) h in
     let y = and_parts (int_eq m.b n.b) (int_eq m.c n.c && int_eq m.d n.d) x.1 in
@@ -136,7 +136,7 @@ same_plane m n h =
 int_itself : (x : ℤ) → int_eq x x ≡ true
 int_itself x = (Decides-int_eq x x).1 refl
 
-same_itself : (m : Coefficients) → is_same m m ≡ true
+pub same_itself : (m : Coefficients) → is_same m m ≡ true
 same_itself m = rw (int_itself m.a, int_itself m.b, int_itself m.c, int_itself m.d) refl
 
 pub false_by : (b : Bool) → (b ≡ true → ⊥) → b ≡ false
