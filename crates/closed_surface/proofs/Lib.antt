@@ -3,3 +3,5 @@ pub mod Turns
 pub mod Sectors
 pub mod Parallels
 pub mod EdgeLines
+pub mod Multiples
+pub mod Printing

@@ -4,4 +4,4 @@
 
 mod laws;
 
-pub use laws::values_round_a_line_cancel;
+pub use laws::{printed_faces_are_closed, values_round_a_line_cancel};
