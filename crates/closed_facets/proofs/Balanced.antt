@@ -1,5 +1,5 @@
 -- At a point of a line that is on no plane which doesn't hold the line, the edges of a solid's facets along the line are as many one way as the other.
-use Rattle.std.proofs.Common.{◌≡◌, ◌≢◌, ◌⊎◌, inl, inr, ℕ, ◌≤◌, Bool, true, false, not, ◌&&◌, List, [], ◌∷◌, refl, sym, ap, ap₂, ◌∙◌, subst, arith, ℤ, pos, neg_ℤ, ◌+ℤ◌, ◌-ℤ◌, ◌<ℤ◌, ◌≤ℤ◌, unsigned_abs}
+use Rattle.std.proofs.Common.{◌≡◌, ◌≢◌, ◌⊎◌, inl, inr, ℕ, ◌≤◌, Bool, true, false, not, ◌&&◌, List, [], ◌∷◌, refl, sym, ap, ap₂, ◌∙◌, subst, arith, ℤ, pos, ◌+ℤ◌, ◌-ℤ◌, ◌<ℤ◌, unsigned_abs}
 use Rattle.plane_predicate.specs.Space.{Coefficients, Coordinates, value, opposite_of, IsPlane}
 use Rattle.plane_predicate.proofs.IntegerRing.{sums}
 use Rattle.plane_predicate.proofs.Signs.{signs}
@@ -14,11 +14,12 @@ use Rattle.closed_surface.specs.Ways.{Direction, dot, slope}
 use Rattle.closed_surface.specs.Around.{turn_about, sides_at, IsApartFrom, AreApart, fall, total}
 use Rattle.closed_surface.specs.Closed.{edges_of, along, against}
 use Rattle.closed_surface.proofs.Turns.{turn_exchanged, turn_itself, turn_opposite, opposite_turn}
-use Rattle.closed_surface.proofs.Sectors.{below, not_below, false_by, round}
+use Rattle.closed_surface.proofs.Sectors.{round}
+use Rattle.closed_surface.proofs.Numbers.{below, not_below, false_by, at_least, not_zero_below, not_zero_above, negative_apart, negative_zero}
 use Rattle.closed_facets.specs.Near.{near, beside, is_within, number_of, IsOften, IsClear}
 use Rattle.closed_facets.proofs.Near.{near_on, near_behind, near_ahead, near_weight, zero_near, slope_beside}
 use Rattle.closed_facets.proofs.Covers.{balance, is_within_parts}
-use Rattle.closed_facets.proofs.Each.{Each, each_weaker, each_both, Member, members, each_member, total_same, total_difference, total_exchanged}
+use Rattle.closed_surface.proofs.Each.{Each, each_weaker, each_both, Member, members, each_member, total_same, total_difference, total_exchanged}
 use Rattle.closed_facets.proofs.Lines.{IsEither, AmongEither, planes_of, each_of, pick, pick_each, pick_among, Holds, pick_apart}
 use Rattle.closed_facets.proofs.Walks.{walk_alike, sides_beside, just_behind, just_ahead, opposite_behind, opposite_ahead, extend, KeepsSide, Fits, extended}
 use Rattle.closed_facets.proofs.Shares.{covering, counted, number_differs, share, gain, shares_are_gain, shares_are_none}
@@ -47,24 +48,9 @@ pub record FacetAt (t : Tree) (q : Coordinates) (v : Direction) (f : Outline) : 
   pub plane : IsPlaneOf f.plane t ⊎ IsPlaneOf (opposite_of f.plane) t
   pub clear : IsClear f q v
 
-above_least : (x : ℤ) → pos 0 <ℤ x → pos 0 ≤ℤ x
-above_least x h = omega (arith, sums)
-
-not_zero_below : (x : ℤ) → x <ℤ pos 0 → x ≡ pos 0 → ⊥
-not_zero_below x h e = omega (arith, sums)
-
-not_zero_above : (x : ℤ) → pos 0 <ℤ x → x ≡ pos 0 → ⊥
-not_zero_above x h e = omega (arith, sums)
-
 -- ---- planes that are apart, seen from each of them
 abbrev SameOrApart : Direction → Coefficients → Coefficients → Type 0
 SameOrApart v n m = (m ≡ n) ⊎ (turn_about v m n ≢ pos 0)
-
-negative_apart : (x y : ℤ) → y ≡ neg_ℤ x → x ≢ pos 0 → y ≢ pos 0
-negative_apart x y e h z = h (omega (arith, sums))
-
-negative_zero : (x y : ℤ) → y ≡ neg_ℤ x → x ≡ pos 0 → y ≡ pos 0
-negative_zero x y e h = omega (arith, sums)
 
 seen_from_first : (v : Direction) (n : Coefficients) (ms : List Coefficients) → IsApartFrom v n ms → Each (SameOrApart v n) ms
 seen_from_first v n [] a = tt
@@ -94,7 +80,7 @@ side_near : (m : Coefficients) (number : ℕ) (q : Coordinates) (u : Direction) 
 side_near m number q u e off = elim (signs (value m q)) [
   | inl h ↦ below (value m q) (pos 0) h ∙ sym (below (value m (near number q u)) (pos 0) (near_behind m number q u e h))
   | inr (inl h) ↦ absurd (off h)
-  | inr (inr h) ↦ not_below (value m q) (pos 0) (above_least _ h) ∙ sym (not_below (value m (near number q u)) (pos 0) (above_least _ (near_ahead m number q u e h)))
+  | inr (inr h) ↦ not_below (value m q) (pos 0) (at_least _ h) ∙ sym (not_below (value m (near number q u)) (pos 0) (at_least _ (near_ahead m number q u e h)))
 ]
 
 zero_or_not : (x : ℤ) → (x ≡ pos 0) ⊎ (x ≢ pos 0)

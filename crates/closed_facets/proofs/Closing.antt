@@ -24,12 +24,12 @@ use Rattle.closed_surface.specs.Ways.{Direction, way, dot, slope, is_same_place,
 use Rattle.closed_surface.specs.Around.{total}
 use Rattle.closed_surface.specs.Closed.{Edge, edges_of, runs_through, along, against, is_corner, AreClosed}
 use Rattle.closed_surface.proofs.Parallels.{dot_above, same_way_parts, opposite_way_parts}
-use Rattle.closed_surface.proofs.Sectors.{false_by}
+use Rattle.closed_surface.proofs.Numbers.{false_by, not_both, not_zero_below, not_zero_above}
 use Rattle.closed_facets.specs.Near.{near, beside, IsOften, IsNoCorner}
 use Rattle.closed_facets.proofs.Edges.{same_or_not}
 use Rattle.closed_facets.proofs.Near.{near_on, zero_near}
 use Rattle.closed_facets.proofs.Slides.{along_near, against_near}
-use Rattle.closed_facets.proofs.Each.{Each, each_weaker, each_both, each_from_all, total_same}
+use Rattle.closed_surface.proofs.Each.{Each, each_weaker, each_both, each_from_all, total_same}
 use Rattle.closed_facets.proofs.Lines.{planes_of, each_plane}
 use Rattle.closed_facets.proofs.Balanced.{TreePlane, Enough, EnoughBeside, FacetAt, in_near, balanced}
 
@@ -144,9 +144,6 @@ same_number : (m n : ℕ) → pos m -ℤ pos n ≡ pos 0 → m ≡ n
 same_number m n e = omega (arith, sums)
 
 -- ---- no direction
-not_both : (x : ℤ) → pos 0 <ℤ x → x <ℤ pos 0 → ⊥
-not_both x h k = omega (arith, sums)
-
 dot_exchanged : (u v : Direction) → dot u v ≡ dot v u
 dot_exchanged u v = omega (arith, sums, mul_comm_ℤ u.x v.x, mul_comm_ℤ u.y v.y, mul_comm_ℤ u.z v.z)
 
@@ -158,18 +155,12 @@ count_none_by p [] h = refl
 count_none_by p (x ∷ xs) h =
     sum_by-append (λ y. cond (p y) 1 0) (x ∷ []) xs ∙ ap₂ (λ (m n : ℕ). m + n) (ap (λ (b : Bool). 0 + cond b 1 0) (h x)) (count_none_by p xs h)
 
-below_apart : (x : ℤ) → x <ℤ pos 0 → x ≢ pos 0
-below_apart x h e = omega (arith, sums)
-
-above_apart : (x : ℤ) → pos 0 <ℤ x → x ≢ pos 0
-above_apart x h e = omega (arith, sums)
-
 nothing_runs : (edges : List Edge) (q : Coordinates) (v : Direction) → (pos 0 <ℤ dot v v → ⊥) → along edges q v ≡ against edges q v
 nothing_runs edges q v none =
     count_none_by (λ e. runs_through e q && is_same_way (way e.0 e.1) v) edges
-    (λ e. false_by _ (λ r. none (dot_above v (way e.0 e.1) (λ z. above_apart _ (same_way_parts (way e.0 e.1) v (and_parts (runs_through e q) (is_same_way (way e.0 e.1) v) r).1).1 (dot_exchanged (way e.0 e.1) v ∙ z)))))
+    (λ e. false_by _ (λ r. none (dot_above v (way e.0 e.1) (λ z. not_zero_above _ (same_way_parts (way e.0 e.1) v (and_parts (runs_through e q) (is_same_way (way e.0 e.1) v) r).1).1 (dot_exchanged (way e.0 e.1) v ∙ z)))))
     ∙ sym (count_none_by (λ e. runs_through e q && is_opposite_way (way e.0 e.1) v) edges
-    (λ e. false_by _ (λ r. none (dot_above v (way e.0 e.1) (λ z. below_apart _ (opposite_way_parts (way e.0 e.1) v (and_parts (runs_through e q) (is_opposite_way (way e.0 e.1) v) r).1).1 (dot_exchanged (way e.0 e.1) v ∙ z))))))
+    (λ e. false_by _ (λ r. none (dot_above v (way e.0 e.1) (λ z. not_zero_below _ (opposite_way_parts (way e.0 e.1) v (and_parts (runs_through e q) (is_opposite_way (way e.0 e.1) v) r).1).1 (dot_exchanged (way e.0 e.1) v ∙ z))))))
 
 -- ---- from the point to one beside it on the line, which is on no plane that doesn't hold the line
 module _ (t : Tree) (h : IsOfWorld t) (bounded : Bound world_box t (facets_of t)) (facets : All (IsFacetOf world_box t) (facets_of t))
@@ -214,7 +205,7 @@ module _ (t : Tree) (h : IsOfWorld t) (bounded : Bound world_box t (facets_of t)
 pub facets_closed : (t : Tree) → IsOfWorld t → Bound world_box t (facets_of t) → All (IsFacetOf world_box t) (facets_of t) → AreClosed Whole (map corners (facets_of t))
 facets_closed t h bounded facets q v world free = elim (signs (dot v v)) [
   | inl x ↦ nothing_runs (flat_map edges_of (map corners (facets_of t))) q v (λ y. not_both _ y x)
-  | inr (inl x) ↦ nothing_runs (flat_map edges_of (map corners (facets_of t))) q v (λ y. above_apart _ y x)
+  | inr (inl x) ↦ nothing_runs (flat_map edges_of (map corners (facets_of t))) q v (λ y. not_zero_above _ y x)
   | inr (inr x) ↦ same_number _ _ (all_edges (facets_of t) q v
       ∙ here t h bounded facets q ((open_world q).1 (subst IsInWorld (whole_steps q) world)) (no_corners (facets_of t) q free) v x)
 ]

@@ -16,22 +16,13 @@ use Rattle.closed_surface.specs.Ways.{Direction, way, dot, is_same_way, is_oppos
 use Rattle.closed_surface.specs.Around.{turn_about}
 use Rattle.closed_surface.specs.Closed.{edges_of, runs_through, along, against}
 use Rattle.closed_surface.proofs.Turns.{turn_exchanged, turn_itself, turn_opposite}
-use Rattle.closed_surface.proofs.Sectors.{below, below_back, false_by}
+use Rattle.closed_surface.proofs.Numbers.{below, below_back, false_by, not_zero_below, not_zero_above, not_both, negative_zero, negative_below, negative_above}
 use Rattle.closed_surface.proofs.EdgeLines.{none_held_first, none_held_second, turn_apart}
 use Rattle.closed_facets.specs.Edges.{edge_at, IsOnEdge, Holds}
 use Rattle.closed_facets.specs.Near.{near, beside, IsOften, IsClear, is_within, number_of}
 use Rattle.closed_facets.proofs.Edges.{side, on_line_strictly, runs_along, along_runs, runs_against, against_runs, same_or_not}
 use Rattle.closed_facets.proofs.Counting.{count_to, count_edges, count_none, count_one}
 use Rattle.closed_facets.proofs.Near.{near_on, near_behind, near_ahead, zero_near, slope_beside}
-
-not_zero_below : (x : ℤ) → x <ℤ pos 0 → x ≡ pos 0 → ⊥
-not_zero_below x h e = omega (arith, sums)
-
-not_zero_above : (x : ℤ) → pos 0 <ℤ x → x ≡ pos 0 → ⊥
-not_zero_above x h e = omega (arith, sums)
-
-not_both : (x : ℤ) → pos 0 <ℤ x → x <ℤ pos 0 → ⊥
-not_both x h k = omega (arith, sums)
 
 -- ---- what the test of a covered point says
 all_behind : (es : List Coefficients) (p : Coordinates) → ((j : ℕ) → j < length es → value (get_or es j nowhere) p <ℤ pos 0) → list_all (λ e. int_lt (value e p) (pos 0)) es ≡ true
@@ -137,15 +128,6 @@ module _ (s : Outline) (h : IsPolygon s) (number : ℕ) (q : Coordinates) (hw : 
   -- the plane goes on to both sides
   left_on : value s.plane q ≡ pos 0 → value s.plane left_point ≡ pos 0
   left_on on = near_on s.plane number q (beside s.plane v) on ∙ slope_beside s.plane s.plane v ∙ turn_itself v s.plane
-
-  negative_zero : (x y : ℤ) → y ≡ neg_ℤ x → x ≡ pos 0 → y ≡ pos 0
-  negative_zero x y e z = omega (arith, sums)
-
-  negative_below : (x y : ℤ) → y ≡ neg_ℤ x → pos 0 <ℤ x → y <ℤ pos 0
-  negative_below x y e z = omega (arith, sums)
-
-  negative_above : (x y : ℤ) → y ≡ neg_ℤ x → x <ℤ pos 0 → pos 0 <ℤ y
-  negative_above x y e z = omega (arith, sums)
 
   right_on : value s.plane q ≡ pos 0 → value s.plane right_point ≡ pos 0
   right_on on =

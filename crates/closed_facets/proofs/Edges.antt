@@ -1,21 +1,15 @@
 -- The edges of a polygon run where their planes say.
-use Rattle.std.proofs.Common.{◌≡◌, ◌≢◌, ◌⊎◌, inl, inr, ℕ, ◌<◌, true, ◌&&◌, sym, ap, ◌∙◌, arith, ℤ, pos, ◌<ℤ◌, ◌≤ℤ◌}
+use Rattle.std.proofs.Common.{◌≡◌, ◌≢◌, ◌⊎◌, inl, inr, ℕ, ◌<◌, true, ◌&&◌, sym, ap, ◌∙◌, pos, ◌<ℤ◌, ◌≤ℤ◌}
 use Rattle.std.proofs.lemmas.Bool.{and_parts, and_from}
 use Rattle.std.proofs.lemmas.Bool.Decides.{eqb_tells}
 use Rattle.plane_predicate.specs.Space.{Coordinates, value}
-use Rattle.plane_predicate.proofs.IntegerRing.{sums}
 use Rattle.plane_polygon.specs.Polygons.{Outline, after, edge, sides, corner, IsPolygon}
 use Rattle.plane_polygon.proofs.Hull.{after_below, after_other, after_twice, corner_on, corner_on_edge, corner_on_next, far_behind}
 use Rattle.closed_surface.specs.Ways.{Direction, way, is_same_way, is_opposite_way}
 use Rattle.closed_surface.specs.Closed.{runs_through}
 use Rattle.closed_surface.proofs.EdgeLines.{IsSide, runs, runs_zero, runs_behind, same_way_turns, opposite_way_turns, turns_same_way, turns_opposite_way}
+use Rattle.closed_surface.proofs.Numbers.{at_most, zero_at_most}
 use Rattle.closed_facets.specs.Edges.{edge_at, IsOnEdge, RunsAlong, RunsAgainst}
-
-pub lt_most : (x : ℤ) → x <ℤ pos 0 → x ≤ℤ pos 0
-lt_most x h = omega (arith, sums)
-
-pub zero_most : (x : ℤ) → x ≡ pos 0 → x ≤ℤ pos 0
-zero_most x h = omega (arith, sums)
 
 pub same_or_not : (i j : ℕ) → (i ≡ j) ⊎ (i ≢ j)
 same_or_not i j = elim (eqb_tells i j) [ inl p ↦ inl p.1 | inr p ↦ inr p.1 ]
@@ -23,10 +17,10 @@ same_or_not i j = elim (eqb_tells i j) [ inl p ↦ inl p.1 | inr p ↦ inr p.1 ]
 -- no corner is ahead of an edge
 pub corner_not_ahead : (s : Outline) → IsPolygon s → (i l : ℕ) → i < sides s → l < sides s → value (edge s l) (corner s i) ≤ℤ pos 0
 corner_not_ahead s h i l li ll = elim (same_or_not l i) [
-  | inl e ↦ zero_most _ (ap (λ (n : ℕ). value (edge s n) (corner s i)) e ∙ corner_on_edge s i)
+  | inl e ↦ zero_at_most _ (ap (λ (n : ℕ). value (edge s n) (corner s i)) e ∙ corner_on_edge s i)
   | inr a ↦ elim (same_or_not l (after (sides s) i)) [
-    | inl e ↦ zero_most _ (ap (λ (n : ℕ). value (edge s n) (corner s i)) e ∙ corner_on_next s i)
-    | inr b ↦ lt_most _ (h.behind i l li ll a b)
+    | inl e ↦ zero_at_most _ (ap (λ (n : ℕ). value (edge s n) (corner s i)) e ∙ corner_on_next s i)
+    | inr b ↦ at_most _ (h.behind i l li ll a b)
   ]
 ]
 

@@ -3,7 +3,6 @@ pub mod Counting
 pub mod Near
 pub mod Slides
 pub mod Covers
-pub mod Each
 pub mod Lines
 pub mod Walks
 pub mod Shares

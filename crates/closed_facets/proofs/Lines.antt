@@ -15,7 +15,7 @@ use Rattle.closed_surface.specs.Ways.{Direction, way, dot, slope, line_of}
 use Rattle.closed_surface.specs.Around.{turn_about, IsApartFrom, AreApart}
 use Rattle.closed_surface.proofs.Parallels.{IsZero, in_planes, along_dot, line_turn, slope_way, zero_by_length}
 use Rattle.closed_surface.proofs.Sectors.{same_plane, same_itself}
-use Rattle.closed_facets.proofs.Each.{Each, each_weaker, each_append, each_left, each_right}
+use Rattle.closed_surface.proofs.Each.{Each, each_weaker, each_append, each_left, each_right}
 
 -- the plane or its opposite
 abbrev pub IsEither : Coefficients → Coefficients → Type 0

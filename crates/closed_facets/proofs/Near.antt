@@ -9,6 +9,7 @@ use Rattle.plane_predicate.proofs.Signs.{signs, pos_pos}
 use Rattle.bsp_tree.proofs.Openness.{more_below, more_above}
 use Rattle.closed_surface.specs.Ways.{Direction, slope}
 use Rattle.closed_surface.specs.Around.{turn_about}
+use Rattle.closed_surface.proofs.Numbers.{not_zero_below, not_zero_above, not_both}
 use Rattle.closed_facets.specs.Near.{near, beside}
 
 pub value_near : (m : Coefficients) (number : ℕ) (q : Coordinates) (v : Direction) → value m (near number q v) ≡ pos (suc number) *ℤ value m q +ℤ slope m v
@@ -37,15 +38,6 @@ near_behind m number q v b h = subst (λ (x : ℤ). x <ℤ pos 0) (sym (value_ne
 
 pub near_ahead : (m : Coefficients) (number : ℕ) (q : Coordinates) (v : Direction) → unsigned_abs (slope m v) ≤ number → pos 0 <ℤ value m q → pos 0 <ℤ value m (near number q v)
 near_ahead m number q v b h = subst (λ (x : ℤ). pos 0 <ℤ x) (sym (value_near m number q v)) (more_above number (value m q) (slope m v) h b)
-
-not_zero_below : (x : ℤ) → x <ℤ pos 0 → x ≡ pos 0 → ⊥
-not_zero_below x h e = omega (arith, sums)
-
-not_zero_above : (x : ℤ) → pos 0 <ℤ x → x ≡ pos 0 → ⊥
-not_zero_above x h e = omega (arith, sums)
-
-not_both : (x : ℤ) → pos 0 <ℤ x → x <ℤ pos 0 → ⊥
-not_both x h k = omega (arith, sums)
 
 -- ---- back from the point near by
 pub zero_near : (m : Coefficients) (number : ℕ) (q : Coordinates) (v : Direction) → unsigned_abs (slope m v) ≤ number → value m (near number q v) ≡ pos 0 → value m q ≡ pos 0

@@ -1,5 +1,5 @@
 -- What each facet has beside a line, by the planes through the line.
-use Rattle.std.proofs.Common.{◌≡◌, ◌≢◌, inl, inr, Bool, true, false, not, ◌&&◌, List, [], ◌∷◌, refl, sym, ap, ap₂, ◌∙◌, subst, arith, ℤ, pos, neg_ℤ, ◌+ℤ◌, ◌-ℤ◌}
+use Rattle.std.proofs.Common.{◌≡◌, ◌≢◌, inl, inr, Bool, true, false, not, ◌&&◌, List, [], ◌∷◌, refl, sym, ap, ap₂, ◌∙◌, subst, arith, ℤ, pos, ◌+ℤ◌, ◌-ℤ◌}
 use Rattle.std.proofs.lemmas.Bool.{and_parts, and_from}
 use Rattle.plane_predicate.specs.Space.{Coefficients, Coordinates, opposite_of, is_same}
 use Rattle.plane_predicate.proofs.IntegerRing.{sums}
@@ -9,10 +9,11 @@ use Rattle.facet_cut.specs.Sides.{CoversFacing, HasNone, HasOne, HasOneWhere}
 use Rattle.closed_surface.specs.Ways.{Direction}
 use Rattle.closed_surface.specs.Around.{turn_about, IsApartFrom, AreApart, total}
 use Rattle.closed_surface.proofs.Turns.{turn_exchanged, turn_itself, opposite_turn}
-use Rattle.closed_surface.proofs.Sectors.{same_plane, same_itself, false_by}
+use Rattle.closed_surface.proofs.Sectors.{same_plane, same_itself}
+use Rattle.closed_surface.proofs.Numbers.{false_by, negative_zero}
 use Rattle.closed_facets.specs.Near.{is_within, number_of}
 use Rattle.closed_facets.proofs.Covers.{within_is, is_within_parts}
-use Rattle.closed_facets.proofs.Each.{Each}
+use Rattle.closed_surface.proofs.Each.{Each}
 use Rattle.closed_facets.proofs.Lines.{IsEither, AmongEither}
 
 -- 1 where the facet faces n and covers the point, else 0
@@ -48,18 +49,15 @@ number_differs false false = refl
 
 -- ---- planes that are apart
 module _ (v : Direction) where
-  zero_back : (x y : ℤ) → y ≡ neg_ℤ x → x ≡ pos 0 → y ≡ pos 0
-  zero_back x y e h = omega (arith, sums)
-
   turn_zero_left : (k m n : Coefficients) → IsEither k m → turn_about v k n ≡ pos 0 → turn_about v m n ≡ pos 0
   turn_zero_left k m n (inl e) h = subst (λ (x : Coefficients). turn_about v x n ≡ pos 0) e h
   turn_zero_left k m n (inr e) h =
-      ap (λ (x : Coefficients). turn_about v x n) (sym (opposite_twice m) ∙ ap opposite_of (sym e)) ∙ zero_back (turn_about v k n) _ (opposite_turn v k n) h
+      ap (λ (x : Coefficients). turn_about v x n) (sym (opposite_twice m) ∙ ap opposite_of (sym e)) ∙ negative_zero (turn_about v k n) _ (opposite_turn v k n) h
 
   either_turn : (k m n : Coefficients) → IsEither k m → IsEither k n → turn_about v m n ≡ pos 0
   either_turn k m n em en =
       let first = turn_zero_left k n k en (turn_itself v k) in
-      turn_zero_left k m n em (zero_back (turn_about v n k) (turn_about v k n) (turn_exchanged v n k) first)
+      turn_zero_left k m n em (negative_zero (turn_about v n k) (turn_about v k n) (turn_exchanged v n k) first)
 
   -- a plane that is one of two planes that are apart is not the other one
   pub not_among : (k m : Coefficients) (ms : List Coefficients) → IsApartFrom v m ms → AmongEither k ms → IsEither k m → ⊥

@@ -1,5 +1,5 @@
 -- The edges that run through a point along a direction run through a point near by along it too, and no others do.
-use Rattle.std.proofs.Common.{◌≡◌, ◌⊎◌, inl, inr, ℕ, ◌<◌, Bool, true, false, ◌&&◌, refl, sym, ◌∙◌, true≢false, arith, pos, ◌<ℤ◌}
+use Rattle.std.proofs.Common.{◌≡◌, ◌⊎◌, inl, inr, ℕ, ◌<◌, false, ◌&&◌, sym, ◌∙◌, true≢false, arith, pos, ◌<ℤ◌}
 use Rattle.plane_predicate.specs.Space.{Coordinates, value}
 use Rattle.plane_polygon.specs.Polygons.{Outline, after, edge, sides, corner, IsPolygon}
 use Rattle.plane_polygon.specs.Parts.{corners}
@@ -7,6 +7,7 @@ use Rattle.plane_polygon.proofs.Hull.{after_below, after_other}
 use Rattle.closed_surface.specs.Ways.{Direction, way, is_same_place, is_same_way, is_opposite_way}
 use Rattle.closed_surface.specs.Closed.{edges_of, runs_through, along, against}
 use Rattle.closed_surface.proofs.EdgeLines.{meets_at_first, meets_at_second}
+use Rattle.closed_surface.proofs.Numbers.{same_tests}
 use Rattle.closed_facets.specs.Edges.{edge_at, IsOnEdge, Holds}
 use Rattle.closed_facets.specs.Near.{near, IsOften, IsNoCorner}
 use Rattle.closed_facets.proofs.Edges.{side, on_line_strictly, runs_along, along_runs, runs_against, against_runs}
@@ -14,11 +15,6 @@ use Rattle.closed_facets.proofs.Counting.{count_edges, count_same}
 use Rattle.closed_facets.proofs.Near.{near_on, near_behind, near_weight, zero_near, behind_near}
 
 -- ---- tests that are true together
-pub same_tests : (b c : Bool) → (b ≡ true → c ≡ true) → (c ≡ true → b ≡ true) → b ≡ c
-same_tests true c h k = sym (h refl)
-same_tests false true h k = k refl
-same_tests false false h k = refl
-
 -- ---- a point of a line of an edge that is ahead of no neighbour and no end of the edge
 pub on_line : (s : Outline) → IsPolygon s → (i : ℕ) → i < sides s → (q : Coordinates) → pos 0 <ℤ q.w →
     is_same_place (corner s i) q ≡ false → is_same_place (corner s (after (sides s) i)) q ≡ false →

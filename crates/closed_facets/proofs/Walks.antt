@@ -11,10 +11,11 @@ use Rattle.bsp_tree.proofs.Opposites.{opposite_twice}
 use Rattle.facet_cut.specs.Sides.{walk_by, AreJustBehind, AreJustAhead}
 use Rattle.closed_surface.specs.Ways.{Direction}
 use Rattle.closed_surface.specs.Around.{turn_about, sides_at}
-use Rattle.closed_surface.proofs.Sectors.{below, not_below, same_plane, same_itself, false_by}
+use Rattle.closed_surface.proofs.Sectors.{same_plane, same_itself}
+use Rattle.closed_surface.proofs.Numbers.{below, not_below, false_by}
 use Rattle.closed_facets.specs.Near.{near, beside}
 use Rattle.closed_facets.proofs.Near.{near_on, slope_beside}
-use Rattle.closed_facets.proofs.Each.{Each}
+use Rattle.closed_surface.proofs.Each.{Each}
 use Rattle.closed_facets.proofs.Lines.{AmongEither}
 
 -- ---- a walk needs the sides of the solid's planes alone

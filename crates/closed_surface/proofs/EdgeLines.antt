@@ -8,10 +8,8 @@ use Rattle.plane_predicate.proofs.Identities.{cramer_on_first, cramer_on_second,
 use Rattle.plane_predicate.proofs.Signs.{signs, pos_pos, pos_neg, neg_neg, least_least, least_most, pos_cancel, neg_cancel, zero_cancel}
 use Rattle.closed_surface.specs.Ways.{Direction, way, dot, cross, slope, line_of, is_same_place, is_same_way, is_opposite_way}
 use Rattle.closed_surface.specs.Around.{turn_about}
+use Rattle.closed_surface.proofs.Numbers.{at_least, not_zero_above, not_zero_below, negative_below}
 use Rattle.closed_surface.proofs.Parallels.{IsZero, slope_way, line_turn, line_slope, along_dot, along_slope, along_cross, in_planes, dot_above, same_place_is, same_way_is, same_way_parts, opposite_way_is, opposite_way_parts}
-
-above_least : (x : ℤ) → pos 0 <ℤ x → pos 0 ≤ℤ x
-above_least x h = omega (arith, sums)
 
 zero_times : (x y : ℤ) → x ≡ pos 0 → x *ℤ y ≡ pos 0
 zero_times x y h = ap (λ (z : ℤ). z *ℤ y) h ∙ zero-*ℤ y
@@ -69,22 +67,13 @@ grown_to_zero u x v y h = ap (λ (z : ℤ). u *ℤ z -ℤ v *ℤ y) h ∙ omega 
 both_zero : (u x v y : ℤ) → x ≡ pos 0 → y ≡ pos 0 → u *ℤ x -ℤ v *ℤ y ≡ pos 0
 both_zero u x v y h k = rw (h, k, *ℤ-zero u, *ℤ-zero v) refl
 
-negative_above : (x : ℤ) → x <ℤ pos 0 → pos 0 <ℤ neg_ℤ x
-negative_above x h = omega (arith, sums)
-
-negative_below : (x y : ℤ) → x ≡ neg_ℤ y → pos 0 <ℤ y → x <ℤ pos 0
-negative_below x y e h = omega (arith, sums)
-
-apart_above : (x : ℤ) → pos 0 <ℤ x → x ≡ pos 0 → ⊥
-apart_above x h e = omega (arith, sums)
-
-apart_below : (x : ℤ) → x <ℤ pos 0 → x ≡ pos 0 → ⊥
-apart_below x h e = omega (arith, sums)
+negated_above : (x : ℤ) → x <ℤ pos 0 → pos 0 <ℤ neg_ℤ x
+negated_above x h = omega (arith, sums)
 
 -- ---- a point between two others, as a plane sees them: x, first and last are its values there
 no_meet : (k l x y : ℤ) → pos 0 <ℤ k → pos 0 <ℤ l → k *ℤ x ≡ l *ℤ y → x ≤ℤ pos 0 → pos 0 ≤ℤ y → (x <ℤ pos 0) ⊎ (pos 0 <ℤ y) → ⊥
-no_meet k l x y hk hl e hx hy (inl h) = omega (arith, sums, pos_neg k x hk h, least_least l y (above_least l hl) hy)
-no_meet k l x y hk hl e hx hy (inr h) = omega (arith, sums, least_most k x (above_least k hk) hx, pos_pos l y hl h)
+no_meet k l x y hk hl e hx hy (inl h) = omega (arith, sums, pos_neg k x hk h, least_least l y (at_least l hl) hy)
+no_meet k l x y hk hl e hx hy (inr h) = omega (arith, sums, least_most k x (at_least k hk) hx, pos_pos l y hl h)
 
 pub between_zero : (k l aw bw qw first last x : ℤ) → pos 0 <ℤ k → pos 0 <ℤ l → pos 0 <ℤ aw → pos 0 <ℤ bw →
     k *ℤ (qw *ℤ last -ℤ bw *ℤ x) ≡ l *ℤ (aw *ℤ x -ℤ qw *ℤ first) → first ≡ pos 0 → last ≡ pos 0 → x ≡ pos 0
@@ -102,16 +91,16 @@ pub between_behind : (k l aw bw qw first last x : ℤ) → pos 0 <ℤ k → pos 
 between_behind k l aw bw qw first last x hk hl ha hb hq e hf hz one = elim (signs x) [
   | inl h ↦ h
   | inr (inl h) ↦ absurd (no_meet k l _ _ hk hl e
-      (omega (arith, sums, least_most qw last (above_least qw hq) hz, times_zero bw x h))
-      (omega (arith, sums, least_most qw first (above_least qw hq) hf, times_zero aw x h))
+      (omega (arith, sums, least_most qw last (at_least qw hq) hz, times_zero bw x h))
+      (omega (arith, sums, least_most qw first (at_least qw hq) hf, times_zero aw x h))
       (elim one [
         | inl f ↦ inr (omega (arith, sums, pos_neg qw first hq f, times_zero aw x h))
         | inr z ↦ inl (omega (arith, sums, pos_neg qw last hq z, times_zero bw x h))
       ]))
   | inr (inr h) ↦ absurd (no_meet k l _ _ hk hl e
-      (omega (arith, sums, least_most qw last (above_least qw hq) hz, pos_pos bw x hb h))
-      (omega (arith, sums, least_most qw first (above_least qw hq) hf, pos_pos aw x ha h))
-      (inl (omega (arith, sums, least_most qw last (above_least qw hq) hz, pos_pos bw x hb h))))
+      (omega (arith, sums, least_most qw last (at_least qw hq) hz, pos_pos bw x hb h))
+      (omega (arith, sums, least_most qw first (at_least qw hq) hf, pos_pos aw x ha h))
+      (inl (omega (arith, sums, least_most qw last (at_least qw hq) hz, pos_pos bw x hb h))))
 ]
 
 -- what a plane says of a point through which the way from a to b runs
@@ -127,14 +116,14 @@ pub runs_zero : (p : Coefficients) (a b q : Coordinates) → pos 0 <ℤ a.w → 
 runs_zero p a b q ha hb r za zb =
     let w = same_way_parts (way a q) (way q b) r in
     between_zero (dot (way a q) (way a q)) (dot (way a q) (way q b)) a.w b.w q.w (value p a) (value p b) (value p q)
-    (dot_above (way a q) (way q b) (apart_above _ w.1)) w.1 ha hb (between p a b q w.0) za zb
+    (dot_above (way a q) (way q b) (not_zero_above _ w.1)) w.1 ha hb (between p a b q w.0) za zb
 
 pub runs_behind : (p : Coefficients) (a b q : Coordinates) → pos 0 <ℤ a.w → pos 0 <ℤ b.w → pos 0 <ℤ q.w → is_same_way (way a q) (way q b) ≡ true →
     value p a ≤ℤ pos 0 → value p b ≤ℤ pos 0 → (value p a <ℤ pos 0) ⊎ (value p b <ℤ pos 0) → value p q <ℤ pos 0
 runs_behind p a b q ha hb hq r la lb one =
     let w = same_way_parts (way a q) (way q b) r in
     between_behind (dot (way a q) (way a q)) (dot (way a q) (way q b)) a.w b.w q.w (value p a) (value p b) (value p q)
-    (dot_above (way a q) (way q b) (apart_above _ w.1)) w.1 ha hb hq (between p a b q w.0) la lb one
+    (dot_above (way a q) (way q b) (not_zero_above _ w.1)) w.1 ha hb hq (between p a b q w.0) la lb one
 
 -- ---- the edge
 pub record IsSide (n i j m : Coefficients) : Type 0 where
@@ -160,7 +149,7 @@ module _ (n i j m : Coefficients) (h : IsSide n i j m) where
   behind = negative_below _ _ (line_slope i n j ∙ weight_swapped n i j) h.first
 
   long : pos 0 <ℤ dot g g
-  long = dot_above g (record { x = m.a; y = m.b; z = m.c }) (λ e. apart_above (slope m g) ahead (exchanged g m ∙ e))
+  long = dot_above g (record { x = m.a; y = m.b; z = m.c }) (λ e. not_zero_above (slope m g) ahead (exchanged g m ∙ e))
 
   way_along : (p q : Coordinates) → value n p ≡ pos 0 → value n q ≡ pos 0 → value j p ≡ pos 0 → value j q ≡ pos 0 → IsZero (cross g (way p q))
   way_along p q np nq jp jq =
@@ -172,7 +161,7 @@ module _ (n i j m : Coefficients) (h : IsSide n i j m) where
   edge_forward : pos 0 <ℤ dot g (way a b)
   edge_forward =
       above_factor (dot g g) (slope m (way a b)) (dot g (way a b)) (slope m g) long (along_slope m g (way a b) edge_along) ahead
-      (subst (λ (x : ℤ). pos 0 <ℤ x) (sym (slope_way m a b ∙ grown_to_zero a.w (value m b) b.w (value m a) (cramer_on_third n j m))) (negative_above _ (pos_neg b.w (value m a) h.second h.far)))
+      (subst (λ (x : ℤ). pos 0 <ℤ x) (sym (slope_way m a b ∙ grown_to_zero a.w (value m b) b.w (value m a) (cramer_on_third n j m))) (negated_above _ (pos_neg b.w (value m a) h.second h.far)))
 
   -- a point on both planes, strictly behind the planes of the neighbours
   pub runs : (q : Coordinates) → pos 0 <ℤ q.w → value n q ≡ pos 0 → value j q ≡ pos 0 → value i q <ℤ pos 0 → value m q <ℤ pos 0 → is_same_way (way a q) (way q b) ≡ true
@@ -182,7 +171,7 @@ module _ (n i j m : Coefficients) (h : IsSide n i j m) where
       let gu = below_factor (dot g g) (slope i (way a q)) (dot g (way a q)) (slope i g) long (along_slope i g (way a q) u) behind
       (subst (λ (x : ℤ). x <ℤ pos 0) (sym (slope_way i a q ∙ grown_from_zero a.w (value i q) q.w (value i a) (cramer_on_second n i j))) (pos_neg a.w (value i q) h.first iq)) in
       let gv = above_factor (dot g g) (slope m (way q b)) (dot g (way q b)) (slope m g) long (along_slope m g (way q b) v) ahead
-      (subst (λ (x : ℤ). pos 0 <ℤ x) (sym (slope_way m q b ∙ grown_to_zero q.w (value m b) b.w (value m q) (cramer_on_third n j m))) (negative_above _ (pos_neg b.w (value m q) h.second mq))) in
+      (subst (λ (x : ℤ). pos 0 <ℤ x) (sym (slope_way m q b ∙ grown_to_zero q.w (value m b) b.w (value m q) (cramer_on_third n j m))) (negated_above _ (pos_neg b.w (value m q) h.second mq))) in
       same_way_is (way a q) (way q b) (along_cross g (way a q) (way q b) long u v)
       (product_above (dot g g) (dot (way a q) (way q b)) (dot g (way a q)) (dot g (way q b)) long (along_dot g (way a q) (way q b) u) gu gv)
 
@@ -202,7 +191,7 @@ module _ (n i j m : Coefficients) (h : IsSide n i j m) where
   pub same_way_turns : (v : Direction) → is_same_way (way a b) v ≡ true → IsInPlanes v × (pos 0 <ℤ turn_about v n j)
   same_way_turns v r =
       let w = same_way_parts (way a b) v r in (
-        parallel_in v w.0 (dot_above (way a b) v (apart_above _ w.1)),
+        parallel_in v w.0 (dot_above (way a b) v (not_zero_above _ w.1)),
         subst (λ (x : ℤ). pos 0 <ℤ x) (line_turn n j v)
             (second_above (dot g g) (dot (way a b) v) (dot g (way a b)) (dot g v) long (along_dot g (way a b) v edge_along) edge_forward w.1),
       )
@@ -210,7 +199,7 @@ module _ (n i j m : Coefficients) (h : IsSide n i j m) where
   pub opposite_way_turns : (v : Direction) → is_opposite_way (way a b) v ≡ true → IsInPlanes v × (turn_about v n j <ℤ pos 0)
   opposite_way_turns v r =
       let w = opposite_way_parts (way a b) v r in (
-        parallel_in v w.0 (dot_above (way a b) v (apart_below _ w.1)),
+        parallel_in v w.0 (dot_above (way a b) v (not_zero_below _ w.1)),
         subst (λ (x : ℤ). x <ℤ pos 0) (line_turn n j v)
             (second_below (dot g g) (dot (way a b) v) (dot g (way a b)) (dot g v) long (along_dot g (way a b) v edge_along) edge_forward w.1),
       )
@@ -234,10 +223,10 @@ module _ (n i j m : Coefficients) (h : IsSide n i j m) where
       zero_cancel (dot g g) (dot u u) long (along_dot g u u z ∙ zero_times (dot g u) (dot g u) gu)
 
   pub none_held_first : (u : Direction) → slope n u ≡ pos 0 → slope i u ≡ pos 0 → slope j u ≡ pos 0 → dot u u ≡ pos 0
-  none_held_first u un ui uj = none_held u i un uj ui (λ e. apart_below (slope i g) behind e)
+  none_held_first u un ui uj = none_held u i un uj ui (λ e. not_zero_below (slope i g) behind e)
 
   pub none_held_second : (u : Direction) → slope n u ≡ pos 0 → slope j u ≡ pos 0 → slope m u ≡ pos 0 → dot u u ≡ pos 0
-  none_held_second u un uj um = none_held u m un uj um (λ e. apart_above (slope m g) ahead e)
+  none_held_second u un uj um = none_held u m un uj um (λ e. not_zero_above (slope m g) ahead e)
 
   -- a point on all three planes of an end is that end
   pub meets_at_first : (q : Coordinates) → pos 0 <ℤ q.w → value n q ≡ pos 0 → value j q ≡ pos 0 → value i q ≡ pos 0 → is_same_place a q ≡ true
@@ -259,4 +248,4 @@ module _ (n i j m : Coefficients) (h : IsSide n i j m) where
   turn_apart v hv p e =
       let z = in_planes n j v p.plane p.edge in
       let gv = line_turn n j v ∙ e in
-      apart_above (dot v v) hv (zero_cancel (dot g g) (dot v v) long (along_dot g v v z ∙ zero_times (dot g v) (dot g v) gv))
+      not_zero_above (dot v v) hv (zero_cancel (dot g g) (dot v v) long (along_dot g v v z ∙ zero_times (dot g v) (dot g v) gv))

@@ -1,4 +1,6 @@
 mod Rows
+pub mod Numbers
+pub mod Each
 pub mod Turns
 pub mod Sectors
 pub mod Parallels

@@ -1,5 +1,5 @@
 -- Tests of ways where a way is taken several times.
-use Rattle.std.proofs.Common.{◌≡◌, Bool, true, false, ◌&&◌, [], ◌∷◌, refl, sym, ap, ap₂, ◌∙◌, arith, ℤ, pos, ◌+ℤ◌, ◌-ℤ◌, ◌*ℤ◌, ◌<ℤ◌, int_lt}
+use Rattle.std.proofs.Common.{◌≡◌, Bool, ◌&&◌, [], ◌∷◌, refl, sym, ap, ap₂, ◌∙◌, arith, ℤ, pos, ◌+ℤ◌, ◌-ℤ◌, ◌*ℤ◌, ◌<ℤ◌, int_lt}
 use Rattle.std.specs.Ordering.{int_eq}
 use Rattle.std.proofs.Math.IntN.{*ℤ-zero}
 use Rattle.std.proofs.lemmas.Bool.Decides.{Decides-int_eq}
@@ -13,14 +13,9 @@ use Rattle.plane_predicate.proofs.Polynomials.{var, plus, times, minus, ring}
 use Rattle.plane_predicate.proofs.Signs.{pos_pos, pos_neg, pos_cancel, neg_cancel, zero_cancel}
 use Rattle.closed_surface.specs.Ways.{Direction, way, is_same_place, is_parallel, is_same_way, is_opposite_way}
 use Rattle.closed_surface.specs.Closed.{runs_through}
-use Rattle.closed_surface.proofs.Sectors.{below, below_back}
+use Rattle.closed_surface.proofs.Numbers.{below, below_back, same_tests}
 
 -- ---- tests of a number that is taken several times
-pub same_tests : (b c : Bool) → (b ≡ true → c ≡ true) → (c ≡ true → b ≡ true) → b ≡ c
-same_tests true c h k = sym (h refl)
-same_tests false true h k = k refl
-same_tests false false h k = refl
-
 zero_times : (k x y : ℤ) → pos 0 <ℤ k → x ≡ k *ℤ y → int_eq x (pos 0) ≡ int_eq y (pos 0)
 zero_times k x y h e =
     same_tests _ _

@@ -11,7 +11,7 @@ use Rattle.plane_predicate.proofs.Vectors.{Form, Place, form, place, of_plane, o
 use Rattle.plane_predicate.proofs.Signs.{signs, pos_pos, neg_neg, least_least, most_most, zero_cancel}
 use Rattle.closed_surface.specs.Ways.{Direction, way, dot, cross, slope, line_of, is_same_place, is_parallel, is_same_way, is_opposite_way}
 use Rattle.closed_surface.specs.Around.{turn_about}
-use Rattle.closed_surface.proofs.Sectors.{below, below_back}
+use Rattle.closed_surface.proofs.Numbers.{below, below_back}
 
 -- ---- polynomials
 pub record Line : Type 0 where

@@ -3,42 +3,16 @@ use Rattle.std.proofs.Common.{◌≡◌, ◌≢◌, inl, inr, Bool, true, false,
 use Rattle.std.specs.Ordering.{int_eq}
 use Rattle.std.proofs.lemmas.Bool.{and_parts}
 use Rattle.std.proofs.lemmas.Bool.Decides.{Decides-int_eq}
-use Rattle.std.proofs.lemmas.Int.{ints}
 use Rattle.plane_predicate.specs.Space.{Coefficients, opposite_of, is_same}
 use Rattle.plane_predicate.proofs.IntegerRing.{sums, mul_comm_ℤ}
 use Rattle.plane_predicate.proofs.Signs.{signs, pos_pos, pos_neg, neg_pos, least_least, least_most, pos_cancel}
 use Rattle.closed_surface.specs.Ways.{Direction}
 use Rattle.closed_surface.specs.Around.{turn_about, IsApartFrom, AreApart, sides_at, fall_at, fall, total}
+use Rattle.closed_surface.proofs.Each.{Each, total_same, total_sum}
+use Rattle.closed_surface.proofs.Numbers.{below, not_below, below_back, false_by, at_most, at_least, zero_at_most, zero_at_least, negative_above, negative_below, negative_apart, negative_zero}
 use Rattle.closed_surface.proofs.Turns.{turn_exchanged, turn_itself, four_turns, turn_opposite, opposite_turn}
 
 -- ---- tests of numbers
-pub below : (x y : ℤ) → x <ℤ y → int_lt x y ≡ true
-below x y h = grind (arith, ints)
-
-pub not_below : (x y : ℤ) → y ≤ℤ x → int_lt x y ≡ false
-not_below x y h = grind (arith, ints)
-
-at_most : (x : ℤ) → x <ℤ pos 0 → x ≤ℤ pos 0
-at_most x h = omega (arith, sums)
-
-at_least : (x : ℤ) → pos 0 <ℤ x → pos 0 ≤ℤ x
-at_least x h = omega (arith, sums)
-
-zero_at_most : (x : ℤ) → x ≡ pos 0 → x ≤ℤ pos 0
-zero_at_most x h = omega (arith, sums)
-
-negative_above : (x y : ℤ) → y ≡ neg_ℤ x → x <ℤ pos 0 → pos 0 <ℤ y
-negative_above x y e h = omega (arith, sums)
-
-negative_below : (x y : ℤ) → y ≡ neg_ℤ x → pos 0 <ℤ x → y <ℤ pos 0
-negative_below x y e h = omega (arith, sums)
-
-negative_apart : (x y : ℤ) → y ≡ neg_ℤ x → x ≢ pos 0 → y ≢ pos 0
-negative_apart x y e h z = h (omega (arith, sums))
-
-negative_zero : (x y : ℤ) → y ≡ neg_ℤ x → x ≡ pos 0 → y ≡ pos 0
-negative_zero x y e h = omega (arith, sums)
-
 negative_back : (x y : ℤ) → y ≡ neg_ℤ x → y ≡ pos 0 → x ≡ pos 0
 negative_back x y e h = omega (arith, sums)
 
@@ -47,12 +21,6 @@ twice_above x y z e k h = omega (arith, sums)
 
 twice_below : (x y z : ℤ) → x ≡ neg_ℤ y → z ≡ neg_ℤ y → x <ℤ pos 0 → z <ℤ pos 0
 twice_below x y z e k h = omega (arith, sums)
-
-zero_at_least : (x : ℤ) → x ≡ pos 0 → pos 0 ≤ℤ x
-zero_at_least x h = omega (arith, sums)
-
-pub below_back : (x y : ℤ) → int_lt x y ≡ true → x <ℤ y
-below_back x y h = grind (arith, ints)
 
 same_out : (x : ℤ) → pos 0 ≡ x -ℤ x
 same_out x = omega (arith, sums)
@@ -106,21 +74,6 @@ abbrev gate : Bool → ℤ → ℤ
 gate true x = x
 gate false x = pos 0
 
-abbrev All : (Coefficients → Type 0) → List Coefficients → Type 0
-All P [] = Unit {0}
-All P (m ∷ ms) = P m × All P ms
-
-total_same : (P : Coefficients → Type 0) (f g : Coefficients → ℤ) → ((m : Coefficients) → P m → f m ≡ g m) → (ms : List Coefficients) → All P ms → total f ms ≡ total g ms
-total_same P f g h [] a = refl
-total_same P f g h (m ∷ ms) a = ap₂ (λ (x y : ℤ). x +ℤ y) (h m a.0) (total_same P f g h ms a.1)
-
-four_sums : (a b c d s : ℤ) → s ≡ c +ℤ d → (a +ℤ b) +ℤ s ≡ (a +ℤ c) +ℤ (b +ℤ d)
-four_sums a b c d s e = omega (arith, sums)
-
-total_sum : (f g : Coefficients → ℤ) (ms : List Coefficients) → total (λ m. f m +ℤ g m) ms ≡ total f ms +ℤ total g ms
-total_sum f g [] = refl
-total_sum f g (m ∷ ms) = four_sums (f m) (g m) (total f ms) (total g ms) (total (λ m. f m +ℤ g m) ms) (total_sum f g ms)
-
 -- ---- planes that are apart are not the same
 pub same_plane : (m n : Coefficients) → is_same m n ≡ true → m ≡ n
 same_plane m n h =
@@ -139,10 +92,6 @@ int_itself x = (Decides-int_eq x x).1 refl
 pub same_itself : (m : Coefficients) → is_same m m ≡ true
 same_itself m = rw (int_itself m.a, int_itself m.b, int_itself m.c, int_itself m.d) refl
 
-pub false_by : (b : Bool) → (b ≡ true → ⊥) → b ≡ false
-false_by true h = absurd (h refl)
-false_by false h = refl
-
 module _ (d : Direction) where
   apart_sames : (n m : Coefficients) → turn_about d n m ≢ pos 0 → (is_same n m ≡ false) × (is_same m n ≡ false)
   apart_sames n m h = (
@@ -150,7 +99,7 @@ module _ (d : Direction) where
     false_by (is_same m n) (λ e. h (ap (λ (k : Coefficients). turn_about d n k) (same_plane m n e) ∙ turn_itself d n)),
   )
 
-  apart_all : (n : Coefficients) (ms : List Coefficients) → IsApartFrom d n ms → All (λ m. turn_about d n m ≢ pos 0) ms
+  apart_all : (n : Coefficients) (ms : List Coefficients) → IsApartFrom d n ms → Each (λ m. turn_about d n m ≢ pos 0) ms
   apart_all n [] h = tt
   apart_all n (m ∷ ms) h = (h.0, apart_all n ms h.1)
 
