@@ -6,7 +6,7 @@ use Rattle.plane_predicate.specs.Space.{Coefficients, Coordinates, value, minor}
 use Rattle.plane_polygon.specs.Polygons.{Outline, edge, sides, corner}
 use Rattle.closed_surface.specs.Ways.{Direction, slope, is_same_place}
 
--- the point moved a little along v: q + v / k, with k above the number
+-- the point moved a little along v: by v over its weight and over one more than the number
 abbrev pub near : ℕ → Coordinates → Direction → Coordinates
 near number q v =
     record { x = pos (suc number) *ℤ q.x +ℤ v.x; y = pos (suc number) *ℤ q.y +ℤ v.y; z = pos (suc number) *ℤ q.z +ℤ v.z; w = pos (suc number) *ℤ q.w }
