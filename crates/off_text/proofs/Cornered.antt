@@ -1,6 +1,6 @@
 -- The corners of a polygon as they are printed: reduced, and from the least one on.
 use Rattle.std.proofs.Common.{◌≡◌, ⊎_elim, ℕ, zero, suc, ◌-◌, ◌<◌, ◌≤◌, Bool, true, false, List, [], ◌∷◌, ◌++◌, map, length, get_or, take, drop, refl, sym, ap, ◌∙◌, subst, arith, length-append, All, ℤ, pos, ◌<ℤ◌}
-use Rattle.std.proofs.lemmas.List.{map-append, get_or_append_left, get_or-append_right, get_or-drop, get_or-take, length-drop, length-take-le}
+use Rattle.std.proofs.lemmas.List.{map-append, take-append-drop, get_or_append_left, get_or-append_right, get_or-drop, get_or-take, length-drop, length-take-le}
 use Rattle.std.proofs.lemmas.Simd.{map-map}
 use Rattle.std.proofs.lemmas.List.Elements.{All-from_get_or, All-append, All-take, All-drop}
 use Rattle.plane_predicate.specs.declared.unit.Unit.{Unit as LengthUnit}
@@ -10,8 +10,9 @@ use Rattle.plane_predicate.specs.Units.{steps_of}
 use Rattle.plane_predicate.proofs.InUnits.{steps_above}
 use Rattle.plane_predicate.proofs.Signs.{pos_cancel, pos_pos}
 use Rattle.plane_polygon.specs.Polygons.{Outline, sides, corner, IsPolygon, AreReducedFrom}
-use Rattle.plane_polygon.specs.Parts.{up_to}
+use Rattle.plane_polygon.specs.Parts.{up_to, corners}
 use Rattle.plane_polygon.proofs.Rounds.{step, step_is, step_below, at_most}
+use Rattle.closed_surface.specs.Printing.{AreInUnits, IsRoundOf}
 use Rattle.off_text.specs.Reading.{IsVertex}
 use Rattle.off_text.specs.Boundaries.{origin}
 use Rattle.off_text.specs.Texts.{comes_before, corners_in_units, place_of_least, from_least}
@@ -108,9 +109,19 @@ turned-at points a i h l =
 -- points that are a polygon's corners in units, from one of them on
 pub record ArePrinted (unit : LengthUnit) (s : Outline) (points : List Coordinates) : Type 0 where
   pub count : length points ≡ sides s
+  pub round : IsRoundOf unit (corners s) points
   pub start : ℕ
   pub starts : start < sides s
   pub at : (i : ℕ) → i < sides s → IsPointTimes (in_units unit (corner s (step (sides s) start i))) (get_or points i origin)
+
+reduced_units : (unit : LengthUnit) (ps qs : List Coordinates) → AreReducedFrom (map (in_units unit) ps) qs → AreInUnits unit ps qs
+reduced_units unit [] [] h = tt
+reduced_units unit [] (q ∷ qs) h = absurd h
+reduced_units unit (p ∷ ps) [] h = absurd h
+reduced_units unit (p ∷ ps) (q ∷ qs) h = (h.0, reduced_units unit ps qs h.2)
+
+turned_round : (unit : LengthUnit) (ps qs : List Coordinates) (a : ℕ) → AreInUnits unit ps qs → IsRoundOf unit ps (drop a qs ++ take a qs)
+turned_round unit ps qs a h = record { front = take a qs; back = drop a qs; places = subst (AreInUnits unit ps) (sym (take-append-drop a qs)) h; turned = refl }
 
 pub printed : (unit : LengthUnit) (s : Outline) (found : List Coordinates) → IsPolygon s → AreReducedFrom (corners_in_units unit s) found → ArePrinted unit s (from_least found)
 printed unit s found polygon h =
@@ -120,6 +131,7 @@ printed unit s found polygon h =
     let starts : place_of_least found < sides s = omega (arith, count, least) in
     record {
       count = turned-length found (place_of_least found) (omega (arith, least)) ∙ count;
+      round = turned_round unit (corners s) found (place_of_least found) (reduced_units unit (corners s) found h);
       start = place_of_least found;
       starts = starts;
       at = λ i l. subst (λ (q : Coordinates). IsPointTimes (in_units unit (corner s (step (sides s) (place_of_least found) i))) q)

@@ -1,5 +1,5 @@
 -- The faces of a text are the polygons.
-use Rattle.std.proofs.Common.{◌≡◌, ◌≢◌, ℕ, zero, suc, ◌<◌, ◌≤◌, not, List, filter, [], ◌∷◌, map, length, get_or, refl, sym, ap, ◌∙◌, subst, arith, All, pos, ◌<ℤ◌}
+use Rattle.std.proofs.Common.{◌≡◌, ◌≢◌, ℕ, zero, suc, ◌<◌, ◌≤◌, not, List, filter, [], ◌∷◌, map, length, get_or, refl, sym, ap, ap₂, ◌∙◌, subst, arith, All, pos, ◌<ℤ◌}
 use Rattle.std.proofs.lemmas.List.{length-map}
 use Rattle.std.proofs.lemmas.List.Elements.{All-append, All-filter, All-map, All-from_get_or}
 use Rattle.std.proofs.lemmas.List.Sums.{passes_at_first}
@@ -8,6 +8,9 @@ use Rattle.plane_predicate.specs.Space.{Coefficients, Coordinates, value, turn, 
 use Rattle.plane_predicate.specs.InUnits.{in_steps, in_units}
 use Rattle.plane_polygon.specs.Polygons.{Outline, sides, IsPolygon, IsStrictlyWithin, corner as corner_of}
 use Rattle.plane_polygon.proofs.Rounds.{step, step_below}
+use Rattle.plane_polygon.specs.Parts.{corners}
+use Rattle.closed_surface.specs.Closed.{corners_at}
+use Rattle.closed_surface.specs.Printing.{IsRoundOf}
 use Rattle.off_text.specs.Reading.{IsVertex, IsFace, off_text}
 use Rattle.off_text.specs.Boundaries.{origin, corner, grid_corner, after, Faces, Covers}
 use Rattle.off_text.specs.Texts.{same_point, distinct, number_among, from_least, printed_corners, vertices_of, faces_of, AreCornersOf, IsTextOf}
@@ -48,6 +51,11 @@ corner-at : (vertices points : List Coordinates) → AllKnown vertices points �
 corner-at vertices [] h i l = absurd (omega arith)
 corner-at vertices (p ∷ points) h zero l = known-at vertices p h.0
 corner-at vertices (p ∷ points) h (suc i) l = corner-at vertices points h.1 i (omega arith)
+
+-- all corners of a printed face
+corners-are : (vertices points : List Coordinates) → AllKnown vertices points → corners_at vertices (map (number_among vertices) points) ≡ points
+corners-are vertices [] h = refl
+corners-are vertices (p ∷ points) h = ap₂ (λ (q : Coordinates) (qs : List Coordinates). q ∷ qs) (known-at vertices p h.0) (corners-are vertices points h.1)
 
 -- ---- one face
 module _ (unit : LengthUnit) (s : Outline) (polygon : IsPolygon s) (vertices points : List Coordinates) (printed : ArePrinted unit s points) (known : AllKnown vertices points) where
@@ -99,6 +107,7 @@ module _ (unit : LengthUnit) (s : Outline) (polygon : IsPolygon s) (vertices poi
   drawn = record {
     corners = λ i l. (let b : i < sides s = omega (arith, count, l) in
         record { place = step (sides s) printed.start i; within = step_below (sides s) printed.start i printed.starts; times = times i b });
+    round = subst (IsRoundOf unit (corners s)) (sym (corners-are vertices points known)) printed.round;
     facing = facing;
     covering = λ n p hs hn. (
       (λ c. let e = faced_plane n hs hn c.faces in (e, covering-out p (subst (λ (m : Coefficients). Covers unit vertices m p face) (sym e) c))),

@@ -1,5 +1,5 @@
 -- The text of the facets of a formula's solid is the boundary of the formula.
-use Rattle.std.proofs.Common.{◌⊎◌, inl, inr, ℕ, ◌<◌, Bool, not, ◌&&◌, List, [], ◌∷◌, slice_index_or, ap₂, subst}
+use Rattle.std.proofs.Common.{◌⊎◌, inl, inr, ℕ, ◌<◌, Bool, not, ◌&&◌, List, [], ◌∷◌, map, slice_index_or, ap₂, subst}
 use Rattle.std.specs.List.{All}
 use Rattle.std.proofs.lemmas.List.Elements.{All-nil, All-cons, All-head, All-tail, All-weaker}
 use Rattle.plane_predicate.specs.declared.unit.Unit.{Unit as LengthUnit}
@@ -17,6 +17,11 @@ use Rattle.facet_cut.specs.Facets.{facets_of}
 use Rattle.facet_cut.specs.Sides.{walk_by, IsOnOnePlane}
 use Rattle.facet_cut.proofs.FacetPolygons.{all_facets, world_corners}
 use Rattle.facet_cut.proofs.Boundaries.{facets_bound}
+use Rattle.plane_polygon.specs.Parts.{corners}
+use Rattle.closed_surface.specs.Closed.{corners_at}
+use Rattle.closed_surface.specs.Printing.{AreRoundsOf}
+use Rattle.closed_surface.proofs.Printing.{printed_closed}
+use Rattle.closed_facets.proofs.Closing.{facets_closed}
 use Rattle.off_text.specs.Boundaries.{corner, Covers, OneExactlyWhere}
 use Rattle.off_text.specs.Prints.{IsFaceOf, AreFacesOf, Prints}
 use Rattle.off_text.specs.Bounding.{IsBoundaryFace, IsBoundary}
@@ -88,6 +93,13 @@ covered_where unit f bytes h solid text beside n p o =
     text.drawn (walk_by t low && not (walk_by t high))
     (facets_bound world_box t solid.world n q (on_one_plane f n q solid o) low high b.0 b.1))
 
+-- the corners of the faces are those of the facets
+rounds : (unit : LengthUnit) (vertices : List Coordinates) (polygons : List Outline) (faces : List (List ℕ)) → AreFacesOf unit vertices polygons faces → AreRoundsOf unit (map corners polygons) (map (corners_at vertices) faces)
+rounds unit vertices [] [] h = tt
+rounds unit vertices [] (face ∷ faces) h = absurd h
+rounds unit vertices (s ∷ polygons) [] h = absurd h
+rounds unit vertices (s ∷ polygons) (face ∷ faces) h = (h.0.round, rounds unit vertices polygons faces h.1)
+
 pub boundary_from : (unit : LengthUnit) (f : Formula) (bytes : List ℕ) → IsProper f → Prints unit (facets_of (solid_of f)) bytes →
     BesideLeaves f → IsBoundary unit bytes f
 boundary_from unit f bytes h text beside =
@@ -98,6 +110,8 @@ boundary_from unit f bytes h text beside =
       read = text.read;
       bounding = faces_bound unit f text.vertices facets text.faces text.drawn (formula_facets f solid);
       covered = covered_where unit f bytes h solid text beside;
+      closed = printed_closed unit (map corners facets) (map (corners_at text.vertices) text.faces) (rounds unit text.vertices facets text.faces text.drawn)
+          (facets_closed (solid_of f) solid.world (facets_bound world_box (solid_of f) solid.world) (all_facets (solid_of f) world_box solid.world));
     }
 
 -- the text of the facets of a proper tree's solid is the tree's boundary

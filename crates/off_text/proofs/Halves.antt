@@ -1,7 +1,6 @@
 -- A corner without a common factor in half units: its weight is doubled, or else its coordinates are halved.
-use Rattle.std.proofs.Common.{◌≡◌, ℕ, ◌+◌, ◌-◌, ◌*◌, ◌/◌, ◌%◌, ◌^◌, ◌<◌, ◌≤◌, Bool, true, false, ◌&&◌, refl, sym, ap, ◌∙◌, subst, arith, ℤ, pos, negsuc, ◌*ℤ◌, ◌<ℤ◌, neg_ℤ, unsigned_abs}
+use Rattle.std.proofs.Common.{◌≡◌, ℕ, ◌+◌, ◌-◌, ◌*◌, ◌/◌, ◌%◌, ◌^◌, ◌<◌, ◌≤◌, true, false, ◌&&◌, sym, ap, ◌∙◌, subst, arith, ℤ, pos, negsuc, ◌*ℤ◌, ◌<ℤ◌, neg_ℤ, unsigned_abs}
 use Rattle.std.specs.Prelude.{int_rem}
-use Rattle.std.specs.Ordering.{int_eq}
 use Rattle.std.proofs.lemmas.Bool.{and_parts, and_from, false≢true}
 use Rattle.std.proofs.lemmas.Bool.Decides.{Decides-int_eq}
 use Rattle.std.proofs.lemmas.Int.{unsigned_abs-mul}
@@ -9,8 +8,7 @@ use Rattle.std.proofs.lemmas.Nat.Gcd.{dvd_trans, dvd_of_mod-eq-zero, mod-eq-zero
 use Rattle.std.proofs.Math.Nat.{mul-div_cancel', dvd-mul_right, dvd-mul_left_of_dvd}
 use Prim.Native.Nat.{◌∣◌}
 use Rattle.plane_predicate.specs.declared.unit.Unit.TheVariants.{Half}
-use Rattle.plane_predicate.specs.Space.{Coordinates, most_direction, IsPoint, IsPointTimes, IsReduced}
-use Rattle.plane_predicate.specs.InUnits.{in_units}
+use Rattle.plane_predicate.specs.Space.{Coordinates, most_direction, IsPoint}
 use Rattle.plane_predicate.proofs.IntegerRing.{sums, one_mul}
 use Rattle.off_text.specs.Numbering.{is_even, HasVertexSizes, IsVertexAt}
 

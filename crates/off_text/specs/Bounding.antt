@@ -6,6 +6,7 @@ use Rattle.plane_predicate.specs.Space.{Coefficients, Coordinates, IsInClosedWor
 use Rattle.plane_predicate.specs.InUnits.{in_steps}
 use Rattle.csg_tree.specs.Formulas.{Formula}
 use Rattle.csg_tree.specs.FacePlanes.{IsFacePlane, IsOnOneFacePlane, bounds}
+use Rattle.closed_surface.specs.Closed.{Closed}
 use Rattle.off_text.specs.Reading.{Reads}
 use Rattle.off_text.specs.Boundaries.{grid_corner, Faces, Covers, OneExactlyWhere}
 
@@ -17,7 +18,8 @@ pub record IsBoundaryFace (unit : LengthUnit) (f : Formula) (vertices : List Coo
   pub boxed : (i : ℕ) → i < length face → IsInClosedWorld (grid_corner unit vertices face i)
 
 -- the bytes are a 4OFF text whose faces bound the formula: a point on exactly one face plane is covered by exactly one
--- face facing a side where the formula is solid just behind and empty just ahead, and by none otherwise
+-- face facing a side where the formula is solid just behind and empty just ahead, and by none otherwise. And the faces are
+-- closed: through a point strictly inside the world box that is no corner, as many of their edges run one way as the opposite way
 pub record IsBoundary (unit : LengthUnit) (bytes : List ℕ) (f : Formula) : Type 0 where
   pub vertices : List Coordinates
   pub faces : List (List ℕ)
@@ -25,3 +27,4 @@ pub record IsBoundary (unit : LengthUnit) (bytes : List ℕ) (f : Formula) : Typ
   pub bounding : All (IsBoundaryFace unit f vertices) faces
   pub covered : (n : Coefficients) (p : Coordinates) → IsOnOneFacePlane f n (in_steps unit p) →
       OneExactlyWhere (bounds f n (in_steps unit p)) (Covers unit vertices n p) faces
+  pub closed : Closed unit vertices faces

@@ -4,6 +4,9 @@ use Rattle.plane_predicate.specs.declared.unit.Unit.{Unit as LengthUnit}
 use Rattle.plane_predicate.specs.Space.{Coefficients, Coordinates, IsPlane, IsPointTimes}
 use Rattle.plane_predicate.specs.InUnits.{in_steps, in_units}
 use Rattle.plane_polygon.specs.Polygons.{Outline, sides, corner as corner_of, IsStrictlyWithin}
+use Rattle.plane_polygon.specs.Parts.{corners as all_corners}
+use Rattle.closed_surface.specs.Closed.{corners_at}
+use Rattle.closed_surface.specs.Printing.{IsRoundOf}
 use Rattle.off_text.specs.Reading.{Reads}
 use Rattle.off_text.specs.Boundaries.{corner, Faces, Covers}
 
@@ -13,10 +16,11 @@ pub record IsCornerOf (unit : LengthUnit) (s : Outline) (p : Coordinates) : Type
   pub within : place < sides s
   pub times : IsPointTimes (in_units unit (corner_of s place)) p
 
--- the printed face is the polygon: its corners are the polygon's, it faces the polygon's plane, and it covers exactly the
--- points strictly within the polygon, facing no other plane
+-- the printed face is the polygon: its corners are the polygon's, in order from one of them on, it faces the polygon's plane,
+-- and it covers exactly the points strictly within the polygon, facing no other plane
 pub record IsFaceOf (unit : LengthUnit) (vertices : List Coordinates) (s : Outline) (face : List ℕ) : Type 0 where
   pub corners : (i : ℕ) → i < length face → IsCornerOf unit s (corner vertices face i)
+  pub round : IsRoundOf unit (all_corners s) (corners_at vertices face)
   pub facing : Faces unit vertices s.plane face
   pub covering : (n : Coefficients) (p : Coordinates) → IsPlane s.plane → IsPlane n → Covers unit vertices n p face ↔ ((s.plane ≡ n) × IsStrictlyWithin s (in_steps unit p))
 

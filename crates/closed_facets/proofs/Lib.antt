@@ -1,0 +1,10 @@
+pub mod Edges
+pub mod Counting
+pub mod Near
+pub mod Slides
+pub mod Covers
+pub mod Lines
+pub mod Walks
+pub mod Shares
+pub mod Balanced
+pub mod Closing

@@ -1,0 +1,44 @@
+-- When a surface is closed. Vertices and points are in units.
+use Rattle.std.specs.Prelude.{◌≡◌, ℕ, Bool, false, ◌&&◌, List, ◌++◌, map, flat_map, take, drop, zip, count_by, pos, slice_index_or}
+use Rattle.std.specs.List.{list_any}
+use Rattle.plane_predicate.specs.declared.unit.Unit.{Unit as LengthUnit}
+use Rattle.plane_predicate.specs.Space.{Coordinates, IsInWorld}
+use Rattle.plane_predicate.specs.InUnits.{in_steps}
+use Rattle.closed_surface.specs.Ways.{Direction, way, is_same_place, is_same_way, is_opposite_way}
+
+-- a directed edge, from its first end to its second
+abbrev pub Edge : Type 0
+Edge = Coordinates × Coordinates
+
+-- the edges of a face, from each corner to the next
+abbrev pub edges_of : List Coordinates → List Edge
+edges_of corners = zip corners (drop 1 corners ++ take 1 corners)
+
+-- the edge runs through the point: the point lies on the line of the edge's ends, strictly between them
+abbrev pub runs_through : Edge → Coordinates → Bool
+runs_through e q = is_same_way (way e.0 q) (way q e.1)
+
+-- how many edges run through the point the way of v, and how many the opposite way
+abbrev pub along : List Edge → Coordinates → Direction → ℕ
+along edges q v = count_by (λ e. runs_through e q && is_same_way (way e.0 e.1) v) edges
+
+abbrev pub against : List Edge → Coordinates → Direction → ℕ
+against edges q v = count_by (λ e. runs_through e q && is_opposite_way (way e.0 e.1) v) edges
+
+-- the point is a corner of some face
+abbrev pub is_corner : List (List Coordinates) → Coordinates → Bool
+is_corner faces q = list_any (λ p. is_same_place p q) (flat_map (λ corners. corners) faces)
+
+-- the corners of a face that is given by numbers of vertices, from 0
+abbrev pub corners_at : List Coordinates → List ℕ → List Coordinates
+corners_at vertices face = map (λ i. slice_index_or vertices i (record { x = pos 0; y = pos 0; z = pos 0; w = pos 1 })) face
+
+-- faces, given by their corners, are closed: through each point strictly inside the world box that is no corner of a face,
+-- as many of their edges run one way as the opposite way. In particular as many run the way of an edge as the opposite way
+abbrev pub AreClosed : LengthUnit → List (List Coordinates) → Type 0
+AreClosed unit faces = (q : Coordinates) (v : Direction) → IsInWorld (in_steps unit q) → is_corner faces q ≡ false →
+    along (flat_map edges_of faces) q v ≡ against (flat_map edges_of faces) q v
+
+-- the same of vertices and faces as a text has them
+abbrev pub Closed : LengthUnit → List Coordinates → List (List ℕ) → Type 0
+Closed unit vertices faces = AreClosed unit (map (corners_at vertices) faces)

@@ -1,0 +1,4 @@
+pub mod Ways
+pub mod Closed
+pub mod Around
+pub mod Printing
