@@ -1,7 +1,7 @@
 //! Phrases that ask what a solid or a list of facets is.
 
 use crate::numbers::point;
-use crate::put::{put_corners, put_facets};
+use crate::put::{put_corners, put_facets, put_stroked, unit_of};
 use bsp_tree::{Link, Solid, holds};
 use case_lines::{CaseStop, found, put, put_number};
 use facet_cut::{CutStop, Facet, facets};
@@ -101,23 +101,16 @@ pub fn printing_of(word: &[u8]) -> Option<Printing> {
     found(&PRINTINGS, word)
 }
 
-/// A text in one line: a stroke stands for each newline.
-fn put_stroked(out: &mut Vec<u8>, text: &[u8]) -> Result<(), CaseStop> {
-    for byte in text {
-        out.push(if *byte == b'\n' { b'|' } else { *byte })?;
-    }
-    Ok(())
-}
-
-/// The text of facets.
+/// The first bytes of the text of facets.
 fn put_text(
     alloc: Global,
     out: &mut Vec<u8>,
     facets: &[Facet],
     unit: Unit,
+    most: usize,
 ) -> Result<(), CaseStop> {
     match off_bytes(alloc, facets, unit) {
-        Ok(text) => put_stroked(out, &text),
+        Ok(text) => Ok(put_stroked(out, &text, most)?),
         Err(OffStop::TooManyCorners) => Ok(put(out, b"too many corners")?),
         Err(OffStop::TooManyVertices) => Ok(put(out, b"too many vertices")?),
         Err(OffStop::NoMemory) => Err(CaseStop::NoMemory),
@@ -139,8 +132,12 @@ pub fn print(
             let facet = facets.get(at).ok_or(CaseStop::Unread)?;
             put_corners(alloc, out, &facet.polygon)?;
         }
-        (Printing::Text, []) => put_text(alloc, out, facets, Unit::Whole)?,
-        (Printing::Text, [2]) => put_text(alloc, out, facets, Unit::Half)?,
+        (Printing::Text, []) => put_text(alloc, out, facets, Unit::Whole, usize::MAX)?,
+        (Printing::Text, [unit]) => put_text(alloc, out, facets, unit_of(*unit)?, usize::MAX)?,
+        (Printing::Text, [unit, most]) => {
+            let most = usize::try_from(*most).unwrap_or(0);
+            put_text(alloc, out, facets, unit_of(*unit)?, most)?;
+        }
         _ => return Err(CaseStop::Unread),
     }
     Ok(())

@@ -70,9 +70,12 @@ impl Follows for Bench {
         let (word, numbers) = (phrase.word.as_slice(), phrase.numbers.as_slice());
         if let Some(laying) = laying_of(word) {
             lay(&mut self.walls, laying, numbers)
+        } else if word == b"squares".as_slice() {
+            let count = numbers.first().ok_or(CaseStop::Unread)?;
+            self.polygons.put_squares(alloc, *count)
         } else if let Some(shaping) = shaping_of(word) {
             let plane = self.walls.last().ok_or(CaseStop::Unread)?;
-            self.polygons.shape(alloc, out, shaping, &plane)
+            self.polygons.shape(alloc, out, shaping, numbers, &plane)
         } else if let Some(building) = building_of(word) {
             let by = self.polygons.items.last();
             self.solids

@@ -13,14 +13,24 @@
 //! `through P Q R`. `face` asks for the face that the last one has in the world box.
 //!
 //! Polygons: `polygon` of the last plane in the world box, `again`, `drop`, `cut` into the parts behind and ahead of the last
-//! plane, `trim` to the part behind it, `facet` puts it among the facets. `class`, `edges` and `corners` ask.
+//! plane, `trim` to the part behind it, `facet` puts it among the facets, and `facet N` so many times. `squares N` puts squares
+//! on z = 0 there, as `put_squares` says. `class`, `edges` and `corners` ask.
 //!
-//! Solids: `half` of the last plane, `leaf` of all planes, `box LOW HIGH`, `end 1` (all) and `end 0` (nothing), `over` (the
-//! second last one again), `copy`, `exchange`, `part` (both parts by the last polygon), and `+`, `*` and `-` of the last two.
+//! Solids: `half` of the last plane, `leaf` of all planes, `box LOW HIGH`, `slabs AXIS FROM N` (the union of N slabs of an axis
+//! that are one step thick, with a step between two of them), `end 1` (all) and `end 0` (nothing), `over` (the second last one
+//! again), `copy`, `exchange`, `part` (both parts by the last polygon), and `+`, `*` and `-` of the last two.
 //! `leaf MOST`, `+ MOST`, `* MOST` and `- MOST` ask for the size within a limit. `size`, `nodes` and `holds POINT` ask.
 //!
-//! Facets: `facets MOST` asks how many the last solid has, and keeps them. `planes`, `around AT` (the corners of one), `text`
-//! and `text 2` (in half units) ask for what is kept, where a stroke `|` stands for each newline of a text.
+//! Facets: `facets MOST` asks how many the last solid has, and keeps them. `planes`, `around AT` (the corners of one), `text`,
+//! `text 2` (in half units) and `text UNIT N` (its first N bytes) ask for what is kept, where a stroke `|` stands for each newline
+//! of a text.
+//!
+//! - `tree PHRASES` puts trees together, and asks for what they are: `nothing`, `leaf` of all planes, `box LOW HIGH`,
+//!   `slabs AXIS FROM N`, `copy`, and `+`, `*` and `-` of the last two. `written` asks for the last one in a line, where a leaf
+//!   stands by the last digits of its planes' offsets, `long` how long that line is, `alike` whether those of the last two are the
+//!   same, and `halves` for the union by halves of all. `key` asks for the number of its bytes, `nodes` for the number of its
+//!   nodes, `node N` for one, `same M N` for two keys, `size` for the size of its solid, and `export UNIT` for its text, or the
+//!   limit that is passed, `export UNIT N` for the first N bytes.
 #![tactic(auto)]
 
 mod asking;
@@ -29,13 +39,18 @@ mod faces;
 mod laying;
 mod numbers;
 mod polygons;
+mod proper;
 mod put;
 mod solids;
+mod stores;
+mod trees;
 mod walls;
+mod written;
 
 use crate::build::Bench;
 use crate::faces::put_joined;
 use crate::numbers::{put_meeting, put_point_side, put_sides, put_signs, put_through};
+use crate::trees::Trees;
 use case_lines::{Answers, CaseStop, answers_all, cut, found, phrases_of, put_phrases, unfolded};
 use outside_io::{ReadSource, WriteSink};
 use std::alloc::Global;
@@ -85,6 +100,8 @@ impl Answers for Geometry {
         let (asked, rest) = cut(&text);
         if asked == b"build".as_slice() {
             put_phrases(alloc, out, &mut Bench::new(alloc), rest)
+        } else if asked == b"tree".as_slice() {
+            put_phrases(alloc, out, &mut Trees::new(alloc), rest)
         } else {
             put_about(alloc, out, &text)
         }

@@ -3,6 +3,7 @@
 ghost use Rattle.plane_predicate.specs.Space.{ComesInReach};
 
 use crate::put::{put_class, put_corners};
+use crate::walls::{high, low};
 use case_lines::{CaseStop, found, put_number};
 use facet_cut::Facet;
 use plane_polygon::{Class, Polygon, box_polygon, cut, sort_by};
@@ -82,13 +83,44 @@ impl Polygons {
         }
     }
 
-    /// The last polygon, as a facet that it faces.
-    fn end_facet(&mut self) -> Result<(), CaseStop> {
-        let polygon = self.items.pop().ok_or(CaseStop::Unread)?;
+    /// Adds a polygon as a facet that it faces.
+    fn add_facet(&mut self, polygon: Polygon) -> Result<(), CaseStop> {
         self.facets.push(Facet {
             plane: *polygon.plane(),
             polygon,
         })?;
+        Ok(())
+    }
+
+    /// The last polygon, so many times, as facets that it faces.
+    fn end_facet(&mut self, alloc: Global, times: i64) -> Result<(), CaseStop> {
+        let polygon = self.items.pop().ok_or(CaseStop::Unread)?;
+        for _ in 0..times {
+            self.add_facet(polygon.copy(alloc)?)?;
+        }
+        Ok(())
+    }
+
+    /// Adds the square on z = 0 from x to x + 1 and from y to y + 1 as a facet that faces down.
+    fn put_square(&mut self, alloc: Global, x: i64, y: i64) -> Result<(), CaseStop> {
+        let floor = low(2, 0).ok_or(CaseStop::Unread)?;
+        self.items.push(box_polygon(alloc, &floor)?)?;
+        for (axis, from) in [(0, x), (1, y)] {
+            let below = low(axis, from).ok_or(CaseStop::Unread)?;
+            self.trim(alloc, &below)?;
+            let upto = from.checked_add(1).ok_or(CaseStop::Unread)?;
+            let above = high(axis, upto).ok_or(CaseStop::Unread)?;
+            self.trim(alloc, &above)?;
+        }
+        self.end_facet(alloc, 1)
+    }
+
+    /// Adds so many squares from 2i to 2i + 1 and from 2j to 2j + 1, for i and j from 0 to 122, in order of i and then j.
+    pub fn put_squares(&mut self, alloc: Global, count: i64) -> Result<(), CaseStop> {
+        let count = u16::try_from(count).ok().ok_or(CaseStop::Unread)?;
+        for at in 0..count {
+            self.put_square(alloc, i64::from(at / 123) * 2, i64::from(at % 123) * 2)?;
+        }
         Ok(())
     }
 
@@ -98,6 +130,7 @@ impl Polygons {
         alloc: Global,
         out: &mut Vec<u8>,
         shaping: Shaping,
+        numbers: &[i64],
         plane: &Plane,
     ) -> Result<(), CaseStop>
         requires { ComesInReach plane.now }
@@ -110,7 +143,7 @@ impl Polygons {
             }
             Shaping::Cut => self.cut(alloc, plane)?,
             Shaping::Trim => self.trim(alloc, plane)?,
-            Shaping::Facet => self.end_facet()?,
+            Shaping::Facet => self.end_facet(alloc, numbers.first().copied().unwrap_or(1))?,
             Shaping::Class => put_class(out, sort_by(self.last()?, plane))?,
             Shaping::Edges => put_number(alloc, out, self.last()?.edges().len() as i128)?,
             Shaping::Corners => put_corners(alloc, out, self.last()?)?,

@@ -1,7 +1,6 @@
 //! Phrases that put solids.
 
-use crate::laying::{Laying, lay};
-use crate::walls::Walls;
+use crate::walls::{Walls, box_walls, slab_walls};
 use bsp_boolean::{BuildStop, Builder, PlainBuilder, leaf_solid, merge};
 use bsp_partition::partition;
 use bsp_tree::{Solid, exchange, half};
@@ -15,6 +14,7 @@ pub enum Building {
     Half,
     Leaf,
     Box,
+    Slabs,
     End,
     Over,
     Copy,
@@ -23,10 +23,11 @@ pub enum Building {
     Join(Op),
 }
 
-const BUILDINGS: [(&[u8], Building); 11] = [
+const BUILDINGS: [(&[u8], Building); 12] = [
     (b"half", Building::Half),
     (b"leaf", Building::Leaf),
     (b"box", Building::Box),
+    (b"slabs", Building::Slabs),
     (b"end", Building::End),
     (b"over", Building::Over),
     (b"copy", Building::Copy),
@@ -64,17 +65,16 @@ fn within(built: Result<Solid, BuildStop>) -> Result<Option<Solid>, CaseStop> {
     }
 }
 
-/// The box between two corners: low x, high x, low y, high y, low z, high z.
-fn cuboid(alloc: Global, numbers: &[i64]) -> Result<Solid, CaseStop> {
-    let [a, b, c, d, e, f] = numbers else {
-        return Err(CaseStop::Unread);
-    };
-    let mut walls = Walls::new(alloc);
-    for (axis, low, high) in [(0, *a, *d), (1, *b, *e), (2, *c, *f)] {
-        lay(&mut walls, Laying::Low, &[axis, low])?;
-        lay(&mut walls, Laying::High, &[axis, high])?;
+/// The union of so many slabs of an axis from a coordinate on, with a step between them.
+fn slabs(alloc: Global, axis: i64, from: i64, count: i64) -> Result<Solid, CaseStop> {
+    let mut all = Solid::leaf(alloc, false);
+    let mut at = from;
+    for _ in 0..count {
+        let next = leaf(alloc, &slab_walls(alloc, axis, at)?)?;
+        all = merge(alloc, Op::Union, &all, &next)?;
+        at = at.checked_add(2).ok_or(CaseStop::Unread)?;
     }
-    leaf(alloc, &walls)
+    Ok(all)
 }
 
 /// The size of a solid, or that it is too big.
@@ -189,7 +189,10 @@ impl Solids {
                 walls.clear();
                 Ok(())
             }
-            (Building::Box, _) => self.put(cuboid(alloc, numbers)?),
+            (Building::Box, _) => self.put(leaf(alloc, &box_walls(alloc, numbers)?)?),
+            (Building::Slabs, [axis, from, count]) => {
+                self.put(slabs(alloc, *axis, *from, *count)?)
+            }
             (Building::End, [is_inside]) => self.put(Solid::leaf(alloc, *is_inside == 1)),
             (Building::Over, []) => self.over(alloc),
             (Building::Copy, []) => self.copy(alloc),

@@ -127,3 +127,25 @@ impl Walls {
         }
     }
 }
+
+/// The planes of the box between two corners: low x, high x, low y, high y, low z, high z.
+pub fn box_walls(alloc: Global, numbers: &[i64]) -> Result<Walls, CaseStop> {
+    let [a, b, c, d, e, f] = numbers else {
+        return Err(CaseStop::Unread);
+    };
+    let mut walls = Walls::new(alloc);
+    for (axis, below, above) in [(0, *a, *d), (1, *b, *e), (2, *c, *f)] {
+        walls.put(low(axis, below))?;
+        walls.put(high(axis, above))?;
+    }
+    Ok(walls)
+}
+
+/// The planes of what lies between two walls of an axis, one step apart.
+pub fn slab_walls(alloc: Global, axis: i64, from: i64) -> Result<Walls, CaseStop> {
+    let upto = from.checked_add(1).ok_or(CaseStop::Unread)?;
+    let mut walls = Walls::new(alloc);
+    walls.put(low(axis, from))?;
+    walls.put(high(axis, upto))?;
+    Ok(walls)
+}

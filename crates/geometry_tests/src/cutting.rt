@@ -17,14 +17,3 @@ pub fn parts(
         Class::Behind | Class::Ahead | Class::On => panic!(rt; "the plane is across"),
     }
 }
-
-// The part of a polygon behind a plane that it is across, and else the polygon.
-pub fn trimmed(rt: &impl Abort, alloc: Global, polygon: &Polygon, plane: &Plane) -> Polygon {
-    match sort_by(polygon, plane) {
-        Class::Across => {
-            let (behind, _ahead) = cut(alloc, polygon, plane).expect(rt, "memory");
-            behind
-        }
-        Class::Behind | Class::Ahead | Class::On => polygon.copy(alloc).expect(rt, "memory"),
-    }
-}

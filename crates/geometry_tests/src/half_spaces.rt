@@ -1,4 +1,4 @@
-use crate::laying::{high, plane_at, point};
+use crate::laying::{high, point, through};
 use crate::nodes::chain_on;
 use bsp_tree::{exchange, holds};
 
@@ -6,7 +6,7 @@ use bsp_tree::{exchange, holds};
 #[test]
 fn calls_go_to_the_end_of_long_walks(rt: HostRuntime) {
     let alloc = rt.alloc();
-    let solid = chain_on(&rt, alloc, &plane_at(&rt, high(0, 1)), 1024);
+    let solid = chain_on(&rt, alloc, &through(&rt, high(0, 1)), 1024);
     assert_eq!(rt; solid.count(), 5120);
     let copied = solid.copy(alloc).expect(&rt, "memory");
     let exchanged = exchange(alloc, &solid).expect(&rt, "memory");

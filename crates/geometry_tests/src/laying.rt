@@ -1,8 +1,8 @@
-//! Planes by three points, by their numbers, and square to an axis.
+//! Planes by three points, and square to an axis.
 
 ghost use Rattle.plane_predicate.specs.Space.{point_at, IsInReach, ComesInReach};
 
-use plane_predicate::{Plane, Point, plane_of, plane_through};
+use plane_predicate::{Plane, Point, plane_through};
 use std::process::Abort;
 
 // Three points of a plane, counterclockwise seen from ahead.
@@ -34,59 +34,13 @@ pub fn through(rt: &impl Abort, points: Points) -> Plane
     laid(rt, [a, b, c], [d, e, f], [g, h, i])
 }
 
-// A plane square to an axis, by the points at which it is laid: ahead of it are the greater
-// coordinates where `up`, and else the smaller ones.
-#[derive(Clone, Copy)]
-pub struct Wall {
-    axis: u8,
-    at: i64,
-    up: bool,
-}
-
-// The wall of an axis at a coordinate, seen from where it is smaller.
-pub fn low(axis: u8, at: i64) -> Wall {
-    Wall {
-        axis,
-        at,
-        up: false,
+// Three points of the plane square to an axis at a coordinate, counterclockwise seen from where it is greater.
+pub fn high(axis: u8, at: i64) -> Points {
+    match axis {
+        0 => [[at, 0, 0], [at, 1, 0], [at, 0, 1]],
+        1 => [[0, at, 0], [0, at, 1], [1, at, 0]],
+        _ => [[0, 0, at], [1, 0, at], [0, 1, at]],
     }
-}
-
-// The same, seen from where it is greater.
-pub fn high(axis: u8, at: i64) -> Wall {
-    Wall { axis, at, up: true }
-}
-
-// Three points of a wall, counterclockwise seen from ahead.
-pub fn points_of(wall: Wall) -> Points {
-    let at = wall.at;
-    let (first, second, third) = match wall.axis {
-        0 => ([at, 0, 0], [at, 1, 0], [at, 0, 1]),
-        1 => ([0, at, 0], [0, at, 1], [1, at, 0]),
-        _ => ([0, 0, at], [1, 0, at], [0, 1, at]),
-    };
-    if wall.up {
-        [first, second, third]
-    } else {
-        [first, third, second]
-    }
-}
-
-pub fn plane_at(rt: &impl Abort, wall: Wall) -> Plane
-    ensures { ComesInReach result }
-{
-    through(rt, points_of(wall))
-}
-
-// The plane with these numbers, which have no common factor.
-pub fn plane(rt: &impl Abort, numbers: [i64; 4]) -> Plane {
-    let [a, b, c, d] = numbers;
-    let is_small = a.unsigned_abs() <= 134_152_200
-        && b.unsigned_abs() <= 134_152_200
-        && c.unsigned_abs() <= 134_152_200
-        && d.unsigned_abs() <= 1_648_059_777_000;
-    assert!(rt; is_small);
-    plane_of(a, b, c, d).expect(rt, "a plane has a direction")
 }
 
 // A point with small coordinates, each divided by one more than `w`.

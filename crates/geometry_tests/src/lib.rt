@@ -1,4 +1,4 @@
-//! Tests of faces over tables, of trees and their stores, and of deep and large solids: what no line of `geometry_cases` shows.
+//! Tests of faces over tables, of forests, and of deep solids: what no line of `geometry_cases` shows.
 #![tactic(auto)]
 
 #[cfg(test)]
@@ -6,17 +6,11 @@ mod boxes;
 #[cfg(test)]
 mod cutting;
 #[cfg(test)]
-mod exports;
+mod deep_facets;
 #[cfg(test)]
 mod forests;
 #[cfg(test)]
 mod half_spaces;
-#[cfg(test)]
-mod joins;
-#[cfg(test)]
-mod known_texts;
-#[cfg(test)]
-mod large_solids;
 #[cfg(test)]
 mod laying;
 #[cfg(test)]
@@ -28,10 +22,4 @@ mod partitions;
 #[cfg(test)]
 mod polygons;
 #[cfg(test)]
-mod stores;
-#[cfg(test)]
 mod tables;
-#[cfg(test)]
-mod texts;
-#[cfg(test)]
-mod tree_solids;

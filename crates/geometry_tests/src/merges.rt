@@ -2,7 +2,7 @@ ghost use Rattle.std.specs.Prelude.{All};
 ghost use Rattle.plane_predicate.specs.Space.{ComesInReach};
 
 use crate::boxes::{add, leaf};
-use crate::laying::{high, plane_at};
+use crate::laying::{high, through};
 use bsp_boolean::{BuildStop, Builder, PlainBuilder, merge, merge_within};
 use bsp_tree::{Solid, half};
 use csg_tree::Op;
@@ -19,7 +19,7 @@ pub fn steps(rt: &impl Abort, alloc: Global, count: i64) -> Vec<Plane>
         add(
             rt,
             &mut planes,
-            plane_at(rt, high(0, count.wrapping_sub(below))),
+            through(rt, high(0, count.wrapping_sub(below))),
         );
     }
     planes
@@ -53,7 +53,7 @@ fn deep_solids_are_merged(rt: HostRuntime) {
     assert!(rt; is_too_big(leaf(&rt, alloc, &planes, 5119)));
     let deep = leaf(&rt, alloc, &planes, 5120).expect(&rt, "a leaf");
     assert_eq!(rt; deep.count(), 5120);
-    let across = half(alloc, &plane_at(&rt, high(1, 0))).expect(&rt, "memory");
+    let across = half(alloc, &through(&rt, high(1, 0))).expect(&rt, "memory");
     assert!(rt; merges(&rt, alloc, Op::Intersection, &deep, &across, 5125));
     assert!(rt; merges(&rt, alloc, Op::Intersection, &across, &deep, 5125));
     assert!(rt; merges(&rt, alloc, Op::Union, &deep, &deep, 5120));

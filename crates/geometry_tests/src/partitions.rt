@@ -1,5 +1,5 @@
 use crate::cutting::parts;
-use crate::laying::{high, plane_at, point, through};
+use crate::laying::{high, point, through};
 use crate::nodes::node_of;
 use bsp_boolean::merge;
 use bsp_partition::partition;
@@ -11,7 +11,7 @@ use std::process::Abort;
 
 // The box polygon of the points whose y is 0.
 fn flat(rt: &impl Abort, alloc: Global) -> Polygon {
-    box_polygon(alloc, &plane_at(rt, high(1, 0))).expect(rt, "memory")
+    box_polygon(alloc, &through(rt, high(1, 0))).expect(rt, "memory")
 }
 
 // In the cell of the points whose x is below 0, the polygons of y = 0 and of x = y meet on the
@@ -19,7 +19,7 @@ fn flat(rt: &impl Abort, alloc: Global) -> Polygon {
 #[test]
 fn polygons_that_only_touch_leave_the_sides_whole(rt: HostRuntime) {
     let alloc = rt.alloc();
-    let edge = plane_at(&rt, high(0, 0));
+    let edge = through(&rt, high(0, 0));
     let diagonal = through(&rt, [[0, 0, 0], [1, 1, 0], [0, 0, 1]]);
     let slope = box_polygon(alloc, &diagonal).expect(&rt, "memory");
     let (polygon, _ahead) = parts(&rt, alloc, &slope, &edge);
@@ -39,7 +39,7 @@ fn polygons_that_only_touch_leave_the_sides_whole(rt: HostRuntime) {
 // end. Each half of them is made by itself.
 fn chain(rt: &impl Abort, alloc: Global, first: i64, count: u16) -> Solid {
     if count <= 1 {
-        let solid = half(alloc, &plane_at(rt, high(0, first))).expect(rt, "memory");
+        let solid = half(alloc, &through(rt, high(0, first))).expect(rt, "memory");
         return exchange(alloc, &solid).expect(rt, "memory");
     }
     let near = count / 2;
@@ -64,7 +64,7 @@ fn parts_go_to_the_end_of_long_walks(rt: HostRuntime) {
     assert_eq!(rt; ahead.count(), 5120);
     assert!(rt; holds(&behind, &point(4000, -1, 0, 0)) && holds(&ahead, &point(4000, 1, 0, 0)));
     assert!(rt; !holds(&behind, &point(-4000, -1, 0, 0)) && !holds(&ahead, &point(-4000, 1, 0, 0)));
-    let last = box_polygon(alloc, &plane_at(&rt, high(0, 512))).expect(&rt, "memory");
+    let last = box_polygon(alloc, &through(&rt, high(0, 512))).expect(&rt, "memory");
     let (near, far) = partition(alloc, &solid, &last).expect(&rt, "memory");
     assert_eq!(rt; near.count(), 5120);
     assert_eq!(rt; far.count(), 0);

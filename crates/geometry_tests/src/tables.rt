@@ -3,7 +3,7 @@
 ghost use Rattle.plane_table.specs.Faces.{IsFaceOver};
 ghost use Rattle.plane_table.specs.Joins.{AreNumbersOf};
 
-use crate::laying::{high, plane_at};
+use crate::laying::{high, through};
 use plane_polygon::Class;
 use plane_predicate::Plane;
 use plane_table::{
@@ -66,8 +66,8 @@ fn lists_keep_their_numbers(rt: HostRuntime) {
 fn top_face(rt: &impl Abort, alloc: Global) -> (PlaneTable, Face)
     ensures { IsFaceOver result.0 result.1 }
 {
-    let top = half_face(alloc, &plane_at(rt, high(2, 1))).expect(rt, "memory");
-    let wall = half_face(alloc, &plane_at(rt, high(0, 1))).expect(rt, "memory");
+    let top = half_face(alloc, &through(rt, high(2, 1))).expect(rt, "memory");
+    let wall = half_face(alloc, &through(rt, high(0, 1))).expect(rt, "memory");
     let joined = join(alloc, &top.planes, &wall.planes).expect(rt, "memory");
     let face = moved(
         rt,
@@ -149,8 +149,8 @@ fn faces_are_cut(rt: HostRuntime) {
 #[test]
 fn unused_planes_are_left_out(rt: HostRuntime) {
     let alloc = rt.alloc();
-    let top = half_face(alloc, &plane_at(&rt, high(2, 1))).expect(&rt, "memory");
-    let wall = half_face(alloc, &plane_at(&rt, high(0, 1))).expect(&rt, "memory");
+    let top = half_face(alloc, &through(&rt, high(2, 1))).expect(&rt, "memory");
+    let wall = half_face(alloc, &through(&rt, high(0, 1))).expect(&rt, "memory");
     let joined = join(alloc, &top.planes, &wall.planes).expect(&rt, "memory");
     let face = moved(
         &rt,

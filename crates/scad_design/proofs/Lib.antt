@@ -8,3 +8,4 @@ pub mod TrimDesigns
 pub mod Deciding
 pub mod FacePlanes
 pub mod SomePlacing
+pub mod ProperTrees

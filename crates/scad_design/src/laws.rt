@@ -1,15 +1,18 @@
 //! Laws of designs, for the crates above. They are proved, and do nothing when they run.
 
-ghost use Rattle.std.specs.Prelude.{◌≡◌, ◌+◌, ◌*◌, ◌≤◌, List, All, map};
+ghost use Rattle.std.specs.Prelude.{◌≡◌, ◌+◌, ◌*◌, ◌^◌, ◌<◌, ◌≤◌, List, All, map};
 ghost use Rattle.std.specs.List.{AllZip, sum_by};
 ghost use Rattle.plane_predicate.specs.Space.{Coefficients};
 ghost use Rattle.int_transform.specs.declared.affine.Affine.{Affine};
 ghost use Rattle.csg_tree.specs.declared.op.Op.{Op};
 ghost use Rattle.csg_tree.specs.Formulas.{Formula};
 ghost use Rattle.csg_tree.specs.Joins.{balanced_of, join_of};
+ghost use Rattle.csg_tree.specs.ProperTrees.{IsProper};
 ghost use Rattle.scad_design.specs.Designs.{Design, balanced, grouped, join, moved_by};
 ghost use Rattle.scad_design.specs.Placing.{Placed, placed, Places};
-ghost use Rattle.scad_design.specs.Trees.{parts_in, pieces_in, IsSound, IsTreeOf, IsTrim};
+ghost use Rattle.scad_design.specs.Trees.{parts_in, pieces_in, IsPlacedAs, IsSound, IsTreeOf, IsTrim};
+
+use csg_tree::joins_are_proper;
 
 /// The tree of designs that are joined is the join of their trees, by halves as well. Moving keeps
 /// the joins. A design that is placed has its tree.
@@ -29,6 +32,14 @@ pub fn one_placing()
 pub fn some_placing()
     ensures { (design : Design) (known : List Coefficients) → IsSound design → (out : Placed) × Places design known out }
 {}
+
+/// A placed design of shapes has a proper tree, where it has fewer than 2^32 pieces: each leaf has planes, which have the
+/// numbers of a plane and come in reach, and no join has an empty side.
+pub fn placed_trees_are_proper()
+    ensures { (design : Design) (tree : Formula) → IsSound design → pieces_in design < 2 ^ 32 → IsPlacedAs design tree → IsProper tree }
+{
+    joins_are_proper();
+}
 
 /// Grouping and moving leave no empty side in a join, and add no part. So a design has at most about
 /// twice as many pieces as parts.

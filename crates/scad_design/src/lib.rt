@@ -11,6 +11,9 @@ mod placing;
 
 pub use design::Design;
 pub use joining::{balanced, grouped, join};
-pub use laws::{designs_stay_trim, joins_of_designs_are_joins_of_trees, one_placing, some_placing};
+pub use laws::{
+    designs_stay_trim, joins_of_designs_are_joins_of_trees, one_placing, placed_trees_are_proper,
+    some_placing,
+};
 pub use part::Part;
 pub use placing::place;

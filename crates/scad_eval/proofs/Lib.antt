@@ -7,7 +7,6 @@ mod Telling
 mod Standing
 mod Beginning
 mod Saying
-mod Parts
 mod Binding
 mod KeptChildren
 mod Slots

@@ -1,13 +1,11 @@
 -- The design of a program, from the members of its block.
-use Rattle.std.proofs.Common.{◌≡◌, ℕ, ◌-◌, ◌<◌, false, List, [], ◌∷◌, map, None, option_map, Result, Ok, Err, refl, sym, ap, subst, ◌∙◌}
-use Rattle.std.specs.Prelude.{IfOk, IfErr, ◌+◌, ◌*◌, ◌≤◌, ◌^◌, All}
-use Rattle.std.specs.List.{sum_by}
+use Rattle.std.proofs.Common.{◌≡◌, ℕ, ◌-◌, false, List, [], ◌∷◌, map, None, option_map, Result, Ok, Err, refl, sym, ap, subst, ◌∙◌}
+use Rattle.std.specs.Prelude.{IfOk, IfErr}
 use Rattle.text_place.specs.declared.fault.Stop.{Stop}
 use Rattle.text_place.specs.declared.fault.Stop.TheVariants.{Fault, NoMemory}
 use Rattle.plane_predicate.specs.declared.unit.Unit.{Unit as LengthUnit}
-use Rattle.int_transform.specs.declared.affine.Affine.{Affine}
-use Rattle.csg_tree.specs.declared.op.Op.{Op}
 use Rattle.csg_tree.specs.declared.tree.CsgTree.{CsgTree}
+use Rattle.csg_tree.specs.Formulas.{Formula}
 use Rattle.csg_tree.specs.ProperTrees.{IsProper}
 use Rattle.csg_tree.specs.Trees.{formula_of}
 use Rattle.scad_ast.specs.Terms.{StatementTerm, StatementTerms, statements_from}
@@ -21,8 +19,8 @@ use Rattle.scad_func.specs.Definitions.{statements_at, block_scope, IsWhole}
 use Rattle.scad_func.specs.Evaluations.{ScopeEnters}
 use Rattle.scad_func.specs.declared.source.Source.{Source}
 use Rattle.scad_func.specs.declared.evaluation.Evaluation.{Evaluation}
-use Rattle.scad_design.specs.Designs.{Design, grouped, moved_by}
-use Rattle.scad_design.specs.Trees.{parts_in, pieces_in, IsTrim, IsPlacedAs, IsStopOf}
+use Rattle.scad_design.specs.Designs.{Design}
+use Rattle.scad_design.specs.Trees.{IsPlacedAs, IsStopOf}
 use Rattle.scad_design.specs.View.{plain_of}
 use Rattle.scad_design.specs.declared.design.Design.{Design as DesignIn}
 use Rattle.scad_eval.specs.declared.stand.Stand.{Stand as StandIn}
@@ -37,8 +35,6 @@ use Rattle.scad_meaning.specs.Sources.{a_tree, a_fault, IsMeaning, IsMeaningOfDe
 use Rattle.scad_meaning.proofs.ProgramPlaces.{stop_held}
 use Rattle.scad_eval.specs.Programs.{TellsDesign}
 use Rattle.scad_eval.proofs.Evaluating.{tree_meant, placing_stops}
-use Rattle.scad_meaning.proofs.Judges.{some_judge}
-use Rattle.scad_eval.proofs.Parts.{design_small}
 use Rattle.scad_eval.proofs.Telling.{along, stop_told}
 
 -- the scope outside all others
@@ -118,18 +114,11 @@ module _ (unit : LengthUnit) (program : List StatementTerm) (design : DesignIn) 
   placing_stop (Ok tree) h = tt
   placing_stop (Err stop) h = placing_stops unit program design stop told h
 
-  pub proper_tree : ((op : Op) (designs : List Design) → All IsTrim designs → IsTrim (grouped op designs))
-      → ((op : Op) (designs : List Design) → parts_in (grouped op designs) ≤ sum_by parts_in designs)
-      → ((steps : List Affine) (design : Design) → IsTrim design → IsTrim (moved_by steps design))
-      → ((steps : List Affine) (design : Design) → parts_in (moved_by steps design) ≡ parts_in design)
-      → ((design : Design) → IsTrim design → pieces_in design ≤ 1 + 2 * parts_in design)
-      → (r : Result CsgTree Stop) → IfOk r (λ tree. pieces_in (plain_of design) < 2 ^ 32 → IsProper (formula_of tree))
+  pub proper_tree : ((tree : Formula) → IsMeaning unit program (a_tree tree) → IsProper tree)
+      → (r : Result CsgTree Stop) → IfOk r (λ tree. IsPlacedAs (plain_of design) (formula_of tree))
       → IfOk r (λ tree. IsProper (formula_of tree))
-  proper_tree a b c d e (Ok tree) h =
-      let j = some_judge in
-      let t = told j.0 j.1 in
-      h (design_small a b c d e unit j.0 first_chain (statements_from program) t.0 (plain_of design) t.1.is)
-  proper_tree a b c d e (Err stop) h = tt
+  proper_tree proper (Ok tree) h = proper (formula_of tree) (tree_meant unit program design (formula_of tree) told h)
+  proper_tree proper (Err stop) h = tt
 
 -- the fault of a program stands at one of its places
 pub design_stop_held : (unit : LengthUnit) (program : List StatementTerm) (stop : Stop) → TellsDesign unit program (Err stop) → HoldsFault program stop

@@ -17,8 +17,9 @@ use crate::stand::{Members, Stand};
 use csg_tree::{CsgTree, Op};
 use plane_predicate::Unit;
 use scad_ast::Program;
-use scad_design::{Design, balanced, designs_stay_trim, place};
+use scad_design::{Design, balanced, place};
 use scad_func::{Evaluation, Source};
+use scad_meaning::programs_mean_proper_trees;
 use scad_scope::Scopes;
 use std::alloc::Global;
 use text_place::{NoMemory, Stop};
@@ -30,8 +31,7 @@ pub fn evaluate(alloc: Global, program: &Program, unit: Unit) -> Result<CsgTree,
     ensures place { IfErr result (HoldsFault (program_of program.now)) }
     ensures proper { IfOk result (λ tree. IsProper (formula_of tree)) }
 {
-    // Joins of designs have no empty sides, and at most 1,024 parts: a tree has few enough subtrees.
-    designs_stay_trim();
+    programs_mean_proper_trees();
     let source = Source::of(alloc, program)?;
     let mut scopes = Scopes::new(alloc)?;
     let design = design_of(alloc, &source, &mut scopes, unit)?;

@@ -7,7 +7,9 @@ mod HullVerdicts
 mod InstancePlaces
 pub mod Judges
 mod OneMeaning
+mod Parts
 pub mod ProgramPlaces
+mod ProperMeanings
 mod Rows
 mod SomeMeaning
 mod SoundShapes

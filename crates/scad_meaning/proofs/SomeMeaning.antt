@@ -31,7 +31,7 @@ same_judge j k right also =
 abbrev pub SomePlacing : Type 0
 SomePlacing = (design : Design) (known : List Coefficients) → IsSound design → (out : Placed) × Places design known out
 
-sound : (P : Place → Type 0) (design : Design) → DesignHeld P design → IsSound design
+pub sound : (P : Place → Type 0) (design : Design) → DesignHeld P design → IsSound design
 sound P empty h = tt
 sound P (a_part part) h = h.1
 sound P (joined op left right) h = (sound P left h.0, sound P right h.1)

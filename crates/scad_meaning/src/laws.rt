@@ -15,11 +15,13 @@ ghost use Rattle.scad_hull.specs.Combinations.{IsInnerCombination};
 ghost use Rattle.scad_hull.specs.Hulls.{different};
 ghost use Rattle.scad_meaning.specs.Hulls.{hull_mesh, points_of};
 ghost use Rattle.scad_modules.specs.Effects.{SolidCall, FlatCall};
+ghost use Rattle.csg_tree.specs.Formulas.{Formula};
+ghost use Rattle.csg_tree.specs.ProperTrees.{IsProper};
 ghost use Rattle.scad_design.specs.Designs.{Design};
 ghost use Rattle.scad_meaning.specs.Verdicts.{Verdict, Judge, IsRight, IsSolidVerdict, IsFlatVerdict, IsHeightVerdict, IsHullVerdict};
-ghost use Rattle.scad_meaning.specs.Sources.{Meaning, a_fault, IsMeaning};
+ghost use Rattle.scad_meaning.specs.Sources.{Meaning, a_fault, a_tree, IsMeaning};
 
-use scad_design::{one_placing, some_placing};
+use scad_design::{designs_stay_trim, one_placing, placed_trees_are_proper, some_placing};
 use scad_hull::hulls_hold_inner_combinations;
 
 /// The last assignment of a name in a scope counts everywhere in it (OpenSCAD User Manual, "Variables"): of all
@@ -67,6 +69,16 @@ pub fn some_meaning()
 {
     shapes_have_one_verdict();
     some_placing();
+}
+
+/// The tree that a program means is proper: its leaves have planes, which have the numbers of a plane and come in reach, no
+/// join of it has an empty side, and it has fewer than 2^32 subtrees.
+pub fn programs_mean_proper_trees()
+    ensures { (unit : LengthUnit) (program : List StatementTerm) (tree : Formula) → IsMeaning unit program (a_tree tree) → IsProper tree }
+{
+    shapes_have_one_verdict();
+    designs_stay_trim();
+    placed_trees_are_proper();
 }
 
 /// A fault can be shown in its program: where a program means a fault, it stands at one of the program's places, that of

@@ -7,5 +7,6 @@ mod laws;
 pub use extrusion::Extrusion;
 pub use laws::{
     faults_stand_in_their_program, hulls_in_programs_hold_inner_combinations,
-    last_assignments_count, one_meaning, shapes_have_one_verdict, some_meaning,
+    last_assignments_count, one_meaning, programs_mean_proper_trees, shapes_have_one_verdict,
+    some_meaning,
 };

@@ -54,10 +54,11 @@ tree_bounded unit source tree (exported.Complex passed) means bounds = tt
 abbrev pub SomeExport : Type 0
 SomeExport = (unit : LengthUnit) (tree : Formula) → IsProper tree → (out : Exported) × IsExported unit tree out × Bounds unit tree out
 
-pub tree_answered : SomeExport → (unit : LengthUnit) (source : List ℕ) (tree : Formula) → Means unit source tree → IsProper tree → (r : Reply) × AnswersExport unit source r
-tree_answered some unit source tree means proper =
-    let (out, is, bounds) = some unit tree proper in
-    (reply_of out, (inr (tree, means, (out, is, refl)), tree_bounded unit source tree out means bounds))
+abbrev pub ProperTrees : Type 0
+ProperTrees = (unit : LengthUnit) (program : List StatementTerm) (tree : Formula) → IsMeaning unit program (a_tree tree) → IsProper tree
 
-pub fault_answered : (unit : LengthUnit) (source : List ℕ) (fault : Fault) → HasFault unit source fault → (r : Reply) × AnswersExport unit source r
-fault_answered unit source fault has = (reply.Faulted fault, (inl (fault, has, refl), tt))
+pub some_answer : SomeExport → ProperTrees → (unit : LengthUnit) (source : List ℕ) → MeansSome unit source → (r : Reply) × AnswersExport unit source r
+some_answer some proper unit source (inl (tree, means)) =
+    let (out, is, bounds) = some unit tree (proper unit means.0 tree means.2) in
+    (reply_of out, (inr (tree, means, (out, is, refl)), tree_bounded unit source tree out means bounds))
+some_answer some proper unit source (inr (fault, has)) = (reply.Faulted fault, (inl (fault, has, refl), tt))

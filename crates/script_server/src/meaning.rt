@@ -7,7 +7,6 @@ ghost use Rattle.plane_predicate.specs.declared.unit.Unit.{Unit as LengthUnit};
 ghost use Rattle.script_reader.specs.declared.script.Command.{Command};
 ghost use Rattle.script_reader.specs.declared.script.Script.{Script};
 ghost use Rattle.csg_tree.specs.Formulas.{Formula};
-ghost use Rattle.csg_tree.specs.ProperTrees.{IsProper};
 ghost use Rattle.edit_session.specs.Sessions.{State};
 ghost use Rattle.reply_text.specs.declared.reply.Reply.{Reply};
 ghost use Rattle.reply_text.specs.declared.reply.Reply.TheVariants as reply;
@@ -20,6 +19,7 @@ ghost use Rattle.script_server.specs.Meaning.Exports.{Exports, AnswersExport};
 use reply_text::Exporting;
 use scad_grammar::{no_program_has_a_fault, one_fault_each, one_program_each, program_or_fault};
 use scad_lexer::{one_outcome, some_outcome};
+use scad_meaning::programs_mean_proper_trees;
 use tree_export::{one_export, some_export, texts_pass_no_limit};
 
 // The exports of this server, of which the laws of replies are asked.
@@ -70,11 +70,12 @@ pub fn one_reply()
     one_export();
 }
 
-/// A source that means a proper tree has a reply to its export, and so has one with a fault.
+/// Each source has a reply to its export.
 pub fn some_reply()
-    ensures tree { (unit : LengthUnit) (source : List ℕ) (tree : Formula) → Means unit source tree → IsProper tree → (r : Reply) × AnswersExport unit source r }
-    ensures fault { (unit : LengthUnit) (source : List ℕ) (fault : Fault) → HasFault unit source fault → (r : Reply) × AnswersExport unit source r }
+    ensures { (unit : LengthUnit) (source : List ℕ) → (r : Reply) × AnswersExport unit source r }
 {
+    some_meaning();
+    programs_mean_proper_trees();
     some_export();
 }
 

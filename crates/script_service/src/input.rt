@@ -8,7 +8,7 @@ ghost use Rattle.script_reader.specs.Scripts.{IsScript};
 ghost use Rattle.script_service.specs.Streams.{stream};
 ghost use Rattle.script_service.specs.Serving.{IsRun, AreNoScript, Gives, Lacks};
 
-use big_input::make_script;
+use big_input::{demo_scripts_have_no_fault, make_script};
 use outside_io::{ReadEnd, Source, read_to_end};
 use run_words::Settings;
 use script_reader::{Script, ScriptFault, read_script};
@@ -78,11 +78,15 @@ fn make_demo(alloc: Global, parts: u64) -> Result<Script, NoMemory>
     ensures script { IfOk result (IsScript (demo_script parts)) }
     ensures within { IfOk result (λ script. AreWithin script.clients) }
 {
+    demo_scripts_have_no_fault();
     let bytes = make_script(alloc, parts as u32)?;
     match read_script(alloc, bytes.as_slice()) {
         Ok(script) => Ok(script),
-        // The script has no fault (`demo_scripts_have_no_fault`), so memory ran out.
-        Err(_) => Err(NoMemory),
+        Err(fault) => {
+            // The script has no fault, so memory ran out.
+            prove!(fault == ScriptFault::NoMemory);
+            Err(NoMemory)
+        }
     }
 }
 

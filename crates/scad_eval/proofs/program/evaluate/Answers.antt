@@ -28,7 +28,6 @@ returns-clause-place c =
 
 pub returns-clause-proper : goal.returns-clause-proper
 returns-clause-proper c =
-    let laws = c.designs_stay_trim.ensures in
     proper_tree c.args.unit (program_of c.args.program.now) c.in_ok-design.design
     (c.in_ok-design.ensures (program_of c.args.program.now) c.in_ok-source.ensures.text)
-    laws.grouped_trim laws.grouped_parts laws.moved_trim laws.moved_parts laws.pieces c.place.result c.place.ensures.proper
+    (λ tree means. c.programs_mean_proper_trees.ensures c.args.unit (program_of c.args.program.now) tree means) c.place.result c.place.ensures.tree

@@ -1,11 +1,11 @@
-use Rattle.std.proofs.Common.{◌≡◌, ◌∷◌, ◌++◌, [], All, subst, rules}
+use Rattle.std.proofs.Common.{◌≡◌, ◌∷◌, ◌++◌, [], subst, rules}
 use Rattle.std.proofs.lemmas.List.Elements.{All-append, All-cons, All-nil}
 use Rattle.plane_predicate.specs.Space.{IsPlane}
 use Rattle.csg_tree.specs.ProperTrees.{IsLeafPlane}
-use Rattle.geometry_tests.proofs.stores.add.Goals as goal
+use Rattle.geometry_cases.proofs.proper.add.Goals as goal
 
 pub returns : goal.returns
-returns g c =
+returns c =
     let items : c.push.new.self.items ≡ c.args.planes.now.items ++ c.args.plane ∷ [] = search rules in
     let plane : IsLeafPlane c.args.plane =
     record { plane = subst IsPlane c.plane.view_is c.plane.invariant; reach = c.requires.reach } in

@@ -6,13 +6,13 @@ use Rattle.csg_tree.specs.Formulas.{Formula, leaf}
 use Rattle.csg_tree.specs.Trees.{formula_of, formula_step}
 use Rattle.csg_tree.specs.ProperTrees.{IsProper, IsLeafPlane}
 use Rattle.std.specs.List.{All}
-use Rattle.geometry_tests.proofs.stores.leaf.Goals as goal
+use Rattle.geometry_cases.proofs.proper.leaf.Goals as goal
 
 pub returns : goal.returns
-returns g c =
+returns c =
     let form : formula_of (Leaf c.of.result) ≡ leaf c.of.result =
     ap formula_of (sym (rolls-Leaf c.of.result)) ∙ fold-roll-CsgTree Formula formula_step (LeafIn c.of.result) in
     let some : 0 < length c.of.result = search rules in
-    let all : All IsLeafPlane c.of.result = subst (All IsLeafPlane) (sym c.of.ensures) c.loop-points.invariant in
+    let all : All IsLeafPlane c.of.result = subst (All IsLeafPlane) (sym c.of.ensures) c.loop-plane.invariant in
     let proper : IsProper (leaf c.of.result) = record { leaves = (some, all); joins = tt; few = omega arith } in
     subst IsProper (sym form) proper

@@ -1,0 +1,75 @@
+-- The tree of a placed design of shapes is proper: the planes of its leaves have the numbers of a plane and come in reach, its
+-- joins have no empty side, and it has no more subtrees than the design has pieces.
+use Rattle.std.proofs.Common.{ℕ, ◌+◌, ◌≤◌, ◌<◌, ◌^◌, List, [], ◌∷◌, length, refl, sym, subst, arith, All}
+use Rattle.std.specs.List.{AllZip}
+use Rattle.plane_predicate.specs.Space.{Coefficients}
+use Rattle.int_transform.specs.Maps.{map_of}
+use Rattle.shape_planes.specs.Shapes.{Mesh, IsFacePlane, IsShape}
+use Rattle.shape_planes.specs.Placing.{moved, MeetsReach}
+use Rattle.shape_planes.proofs.Distinct.{some_distinct}
+use Rattle.shape_planes.proofs.Transforms.{planes_meet_reach}
+use Rattle.csg_tree.specs.declared.op.Op.{Op}
+use Rattle.csg_tree.specs.Formulas.{Formula, nothing, leaf}
+use Rattle.csg_tree.specs.Joins.{join_of}
+use Rattle.csg_tree.specs.ProperTrees.{subtrees, IsProper}
+use Rattle.scad_design.specs.Designs.{Design, empty, a_part, joined, Part}
+use Rattle.scad_design.specs.Placing.{Placed, placed, unplaced, joined_placed, IsPlaced, Places, PlacesRight}
+use Rattle.scad_design.specs.Trees.{pieces_in, IsPlacedAs, IsSound}
+use Rattle.scad_design.proofs.FacePlanes.{images_are_in_reach}
+use Rattle.scad_design.proofs.FullTrees.{few_joined}
+
+-- ---- a leaf
+some_planes : (mesh : Mesh) (faces : List (List ℕ)) (all : List Coefficients) → AllZip (IsFacePlane mesh) faces all → 0 < length faces → 0 < length all
+some_planes mesh [] all h lt = absurd (omega (arith, lt))
+some_planes mesh (face ∷ faces) [] h lt = absurd h
+some_planes mesh (face ∷ faces) (m ∷ all) h lt = omega arith
+
+proper_leaf : (part : Part) (known planes : List Coefficients) → IsShape part.mesh → IsPlaced part known planes → IsProper (leaf planes)
+proper_leaf part known planes shape is =
+    let f = map_of part.steps in
+    let mesh = moved f part.mesh in
+    let faces = is.planes_are.faces in
+    let some : 0 < length planes = subst (λ (ps : List Coefficients). 0 < length ps) (sym faces.first) (some_distinct faces.all (some_planes mesh part.mesh.faces faces.all faces.each shape.some)) in
+    let meet : All MeetsReach planes = planes_meet_reach mesh is.planes_are.solid (images_are_in_reach f part.mesh.points is.reach) planes faces in
+    record {
+      leaves = (some, λ k d lt. record { plane = is.planes_are.reduced k d lt; reach = record { point = (meet k d lt).point; reach = (meet k d lt).reach; on = (meet k d lt).on } });
+      joins = tt;
+      few = omega arith;
+    }
+
+-- ---- a design
+-- a proper tree with at most so many subtrees, where there is a tree
+record IsSmall (pieces : ℕ) (tree : Formula) : Type 0 where
+  pub proper : IsProper tree
+  pub few : subtrees tree ≤ pieces
+
+abbrev IsSmallPlaced : ℕ → Placed → Type 0
+IsSmallPlaced pieces (placed tree known) = IsSmall pieces tree
+IsSmallPlaced pieces (unplaced kind at) = Unit {0}
+
+module _ (joins : (op : Op) (left right : Formula) → IsProper left → IsProper right → 1 + subtrees left + subtrees right < 2 ^ 32 → IsProper (join_of op left right)) where
+  small_join : (op : Op) (m n : ℕ) (first : Formula) (next : Placed) → 1 + m + n < 2 ^ 32 → IsSmall m first → IsSmallPlaced n next → IsSmallPlaced (1 + m + n) (joined_placed op first next)
+  small_join op m n first (placed second known) few h g = record {
+    proper = joins op first second h.proper g.proper (omega (arith, few, h.few, g.few));
+    few = few_joined op first second (join_of op first second) m n refl h.few g.few;
+  }
+  small_join op m n first (unplaced kind at) few h g = tt
+
+  small_right : (op : Op) (right : Design) (m n : ℕ) (first out : Placed) → 1 + m + n < 2 ^ 32 → IsSmallPlaced m first →
+      ((known : List Coefficients) (next : Placed) → Places right known next → IsSmallPlaced n next) → PlacesRight (Places right) op first out → IsSmallPlaced (1 + m + n) out
+  small_right op right m n (placed tree known) out few h small r =
+      subst (IsSmallPlaced (1 + m + n)) (sym r.2) (small_join op m n tree r.0 few h (small known r.0 r.1))
+  small_right op right m n (unplaced kind at) out few h small r = subst (IsSmallPlaced (1 + m + n)) (sym r) tt
+
+  small_placed : (design : Design) (known : List Coefficients) (out : Placed) → IsSound design → pieces_in design < 2 ^ 32 → Places design known out → IsSmallPlaced (pieces_in design) out
+  small_placed empty known out sound few h =
+      subst (IsSmallPlaced 1) (sym h) (record { proper = record { leaves = tt; joins = tt; few = omega arith }; few = omega arith })
+  small_placed (a_part part) known (placed tree now) sound few h =
+      subst (IsSmall 1) (sym h.2) (record { proper = proper_leaf part known h.0 sound.0 h.1; few = omega arith })
+  small_placed (a_part part) known (unplaced kind at) sound few h = tt
+  small_placed (joined op left right) known out sound few h =
+      small_right op right (pieces_in left) (pieces_in right) h.0 out few (small_placed left known h.0 sound.0 (omega (arith, few)) h.1)
+      (λ known next there. small_placed right known next sound.1 (omega (arith, few)) there) h.2
+
+  pub proper_placed : (design : Design) (tree : Formula) → IsSound design → pieces_in design < 2 ^ 32 → IsPlacedAs design tree → IsProper tree
+  proper_placed design tree sound few h = (small_placed design [] (placed tree h.0) sound few h.1).proper

@@ -1,0 +1,47 @@
+-- The tree that a program means is proper: its design is one of shapes, with few enough parts and no empty sides.
+use Rattle.std.proofs.Common.{◌≡◌, ℕ, ◌+◌, ◌*◌, ◌≤◌, ◌<◌, ◌^◌, List, [], refl, sym, subst}
+use Rattle.std.specs.Prelude.{All}
+use Rattle.std.specs.List.{sum_by}
+use Rattle.text_place.specs.declared.fault.Place.{Place}
+use Rattle.plane_predicate.specs.declared.unit.Unit.{Unit as LengthUnit}
+use Rattle.int_transform.specs.declared.affine.Affine.{Affine}
+use Rattle.csg_tree.specs.declared.op.Op.{Op}
+use Rattle.csg_tree.specs.Formulas.{Formula}
+use Rattle.csg_tree.specs.ProperTrees.{IsProper}
+use Rattle.scad_ast.specs.Terms.{StatementTerm, statements_from}
+use Rattle.scad_scope.specs.Names.{first_chain}
+use Rattle.scad_func.specs.Meaning.{Outcome, Gives, Faults}
+use Rattle.scad_design.specs.Designs.{Design, grouped, moved_by}
+use Rattle.scad_design.specs.Placing.{Placed, placed, unplaced, Places}
+use Rattle.scad_design.specs.Trees.{parts_in, pieces_in, IsPlacedAs, IsSound, IsTrim}
+use Rattle.scad_meaning.specs.Verdicts.{Judge, IsRight}
+use Rattle.scad_meaning.specs.Meaning.{design_of}
+use Rattle.scad_meaning.specs.Sources.{a_tree, a_fault, IsMeaning, IsMeaningOf, IsMeaningOfDesign}
+use Rattle.scad_meaning.proofs.HeldPlaces.{Keeps}
+use Rattle.scad_meaning.proofs.InstancePlaces.{DesignHeld}
+use Rattle.scad_meaning.proofs.Parts.{design_small}
+use Rattle.scad_meaning.proofs.ProgramPlaces.{program_keeps}
+use Rattle.scad_meaning.proofs.SomeMeaning.{sound}
+
+same_tree : (f g : Formula) → a_tree f ≡ a_tree g → f ≡ g
+same_tree f g e = cc
+
+module _ (grouped_trim : (op : Op) (designs : List Design) → All IsTrim designs → IsTrim (grouped op designs))
+    (grouped_parts : (op : Op) (designs : List Design) → parts_in (grouped op designs) ≤ sum_by parts_in designs)
+    (moved_trim : (steps : List Affine) (design : Design) → IsTrim design → IsTrim (moved_by steps design))
+    (moved_parts : (steps : List Affine) (design : Design) → parts_in (moved_by steps design) ≡ parts_in design)
+    (pieces : (design : Design) → IsTrim design → pieces_in design ≤ 1 + 2 * parts_in design)
+    (proper : (design : Design) (tree : Formula) → IsSound design → pieces_in design < 2 ^ 32 → IsPlacedAs design tree → IsProper tree) where
+  proper_placed : (tree : Formula) (design : Design) (out : Placed) → IsSound design → pieces_in design < 2 ^ 32 → Places design [] out → IsMeaningOf out (a_tree tree) → IsProper tree
+  proper_placed tree design (placed other known) is few places e = subst IsProper (sym (same_tree tree other e)) (proper design other is few (known, places))
+  proper_placed tree design (unplaced kind at) is few places e = absurd (cc e)
+
+  proper_design : (P : Place → Type 0) (tree : Formula) (out : Outcome Design) → Keeps P (DesignHeld P) out
+      → ((turns : ℕ) (design : Design) → out ≡ Gives turns design → pieces_in design < 2 ^ 32) → IsMeaningOfDesign out (a_tree tree) → IsProper tree
+  proper_design P tree (Faults kind at) held few h = absurd (cc h)
+  proper_design P tree (Gives turns design) held few h = proper_placed tree design h.0 (sound P design held) (few turns design refl) h.1 h.2
+
+  pub proper_meaning : (judge : Judge) → IsRight judge → (unit : LengthUnit) (program : List StatementTerm) (tree : Formula) → IsMeaning unit program (a_tree tree) → IsProper tree
+  proper_meaning judge right unit program tree means =
+      proper_design _ tree (design_of unit judge first_chain (statements_from program)) (program_keeps unit judge right program)
+      (design_small grouped_trim grouped_parts moved_trim moved_parts pieces unit judge first_chain (statements_from program)) (means judge right)
