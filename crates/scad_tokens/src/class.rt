@@ -2,7 +2,7 @@ ghost use Rattle.std.specs.Prelude.{◌≡◌, cond};
 ghost use Rattle.scad_grammar.specs.Classes.{class_of, listed, symbol_class, reserved_class, numeral, name, text, child_count, special};
 ghost use Rattle.scad_grammar.specs.Faults.{left_out};
 ghost use Rattle.scad_grammar.specs.StatementReads.{mark_signs, firsts_of_core};
-ghost use Rattle.scad_expressions.specs.TokenClasses.{classes_of, operators_at, tighter_levels, looser_than, binary_signs, unary_signs, continuations};
+ghost use Rattle.scad_tokens.specs.TokenClasses.{classes_of, operators_at, tighter_levels, looser_than, binary_signs, unary_signs, continuations};
 
 use scad_lexer::{Reserved, Symbol, TokenKind};
 

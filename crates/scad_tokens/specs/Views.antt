@@ -8,9 +8,9 @@ use Rattle.scad_grammar.specs.Classes.{numeral, text, true_word, false_word, und
 use Rattle.scad_grammar.specs.Faults.{fault_of}
 use Rattle.scad_grammar.specs.Reading.{Read, starts}
 use Rattle.scad_grammar.specs.Reads.{head_of}
-use Rattle.scad_expressions.specs.TokenClasses.{atoms, continuations}
-use Rattle.scad_expressions.specs.declared.next.Stopped.{Stopped}
-use Rattle.scad_expressions.specs.declared.next.Stopped.TheVariants.{Fault, NoMemory}
+use Rattle.scad_tokens.specs.TokenClasses.{atoms, continuations}
+use Rattle.scad_tokens.specs.declared.next.Stopped.{Stopped}
+use Rattle.scad_tokens.specs.declared.next.Stopped.TheVariants.{Fault, NoMemory}
 
 -- what was read, or the fault and the tokens from where it stands, unless memory ran out
 abbrev pub Gives : {A X : Type 0} → (A → X × List Token) → Result A Stopped → Read Token SyntaxFault X → Type 0

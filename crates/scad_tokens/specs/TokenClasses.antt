@@ -5,10 +5,10 @@ use Rattle.scad_grammar.specs.Grammar.{levels}
 use Rattle.scad_grammar.specs.Reads.{firsts_of_expression}
 use Rattle.scad_grammar.specs.StatementReads.{mark_signs, loop_words, firsts_of_statement, firsts_of_body}
 use Rattle.scad_grammar.specs.Faults.{left_out, left_out_of_expressions}
-use Rattle.scad_expressions.specs.declared.class.Level.{Level}
-use Rattle.scad_expressions.specs.declared.class.Level.TheVariants.{Or, And, Equal, Order, Sum, Product}
-use Rattle.scad_expressions.specs.declared.class.Class.{Class}
-use Rattle.scad_expressions.specs.declared.class.Class.TheVariants.{Name, Special, ArgumentName, End, Word, Sign, Literal, Atom, Continuation, Operator, BinaryOperator, UnaryOperator, Suffix, Mark, LoopWord, Expression, Statement, Body, LeftOut, LeftOutOfExpressions}
+use Rattle.scad_tokens.specs.declared.class.Level.{Level}
+use Rattle.scad_tokens.specs.declared.class.Level.TheVariants.{Or, And, Equal, Order, Sum, Product}
+use Rattle.scad_tokens.specs.declared.class.Class.{Class}
+use Rattle.scad_tokens.specs.declared.class.Class.TheVariants.{Name, Special, ArgumentName, End, Word, Sign, Literal, Atom, Continuation, Operator, BinaryOperator, UnaryOperator, Suffix, Mark, LoopWord, Expression, Statement, Body, LeftOut, LeftOutOfExpressions}
 
 -- all operators of two sides
 abbrev pub joined : List (List ℕ) → List ℕ

@@ -4,9 +4,9 @@ ghost use Rattle.scad_grammar.specs.Classes.{name};
 ghost use Rattle.scad_grammar.specs.Grammar.{binary_at, unary_at, modifier_at};
 ghost use Rattle.scad_grammar.specs.Faults.{one, first};
 ghost use Rattle.scad_grammar.specs.Reading.{starts};
-ghost use Rattle.scad_expressions.specs.TokenClasses.{classes_of, continuations};
-ghost use Rattle.scad_expressions.specs.declared.class.Class.TheVariants.{LeftOut};
-ghost use Rattle.scad_expressions.specs.Views.{Gives, IsStop, nested_fault, fault_at, item_stands, past_comma, names_value, gives_value, has_lone_atom};
+ghost use Rattle.scad_tokens.specs.TokenClasses.{classes_of, continuations};
+ghost use Rattle.scad_tokens.specs.declared.class.Class.TheVariants.{LeftOut};
+ghost use Rattle.scad_tokens.specs.Views.{Gives, IsStop, nested_fault, fault_at, item_stands, past_comma, names_value, gives_value, has_lone_atom};
 
 use crate::class::Class;
 use compact_bytes::CompactBytes;
@@ -24,7 +24,7 @@ pub enum Stopped<'a> {
 
 impl<'a> From<AllocError> for Stopped<'a> {
     ghost use Rattle.std.specs.Prelude.{◌≡◌};
-    ghost use Rattle.scad_expressions.specs.declared.next.Stopped.TheVariants.{NoMemory};
+    ghost use Rattle.scad_tokens.specs.declared.next.Stopped.TheVariants.{NoMemory};
 
     ghost from_gives = { λ _ stopped. stopped ≡ NoMemory };
 
@@ -35,7 +35,7 @@ impl<'a> From<AllocError> for Stopped<'a> {
 
 impl<'a, T: Drop> From<AllocFailed<T>> for Stopped<'a> {
     ghost use Rattle.std.specs.Prelude.{◌≡◌};
-    ghost use Rattle.scad_expressions.specs.declared.next.Stopped.TheVariants.{NoMemory};
+    ghost use Rattle.scad_tokens.specs.declared.next.Stopped.TheVariants.{NoMemory};
 
     ghost from_gives = { λ _ stopped. stopped ≡ NoMemory };
 
