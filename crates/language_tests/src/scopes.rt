@@ -5,7 +5,7 @@ ghost use Rattle.scad_scope.specs.Table.{rows_of};
 use crate::reading::{at, read};
 use compact_bytes::CompactBytes;
 use scad_ast::{Arg, Expr, Param};
-use scad_scope::{BlockText, Blocks, Call, Found, Matching, Scopes, arguments, arguments_by_name};
+use scad_scope::{BlockText, Blocks, Call, Found, Matching, Scopes, arguments};
 use scad_value::Value;
 use std::alloc::Global;
 use std::process::Abort;
@@ -173,13 +173,7 @@ fn matched(
         args.push(argument(alloc, column, name)?)?;
         column = column.saturating_add(10);
     }
-    let by_name = told(arguments_by_name(alloc, &[b"a", b"b"], args.as_slice()))?;
-    let by_params = told(arguments(alloc, params.as_slice(), args.as_slice(), at(99)))?;
-    Ok(if by_name == by_params {
-        by_params
-    } else {
-        Err(at(100))
-    })
+    told(arguments(alloc, params.as_slice(), args.as_slice(), at(99)))
 }
 
 fn told(

@@ -15,7 +15,7 @@ use Rattle.scad_func.specs.Meaning.{Outcome, Gives, then_with}
 use Rattle.scad_meaning.specs.Hulls.{is_nothing, hull_mesh}
 use Rattle.scad_meaning.specs.Meaning.{Made, checked, leaf_made, hulled, hull_made}
 use Rattle.scad_eval.specs.Seen.{IsStopAt}
-use Rattle.scad_eval.specs.Makings.{IsThrough}
+use Rattle.scad_eval.specs.Keeping.{IsThrough}
 use Rattle.scad_meaning.proofs.Verdicts.{one_height_verdict}
 
 pub shape_checked : (v : Verdict) (at : Place) (mesh shape : Mesh) (turns leaves : ℕ) → v ≡ None → shape ≡ mesh

@@ -9,7 +9,7 @@ use Rattle.scad_ast.specs.Terms.{InstanceTerm, AnInstance}
 use Rattle.std.specs.Prelude.{Option}
 use Rattle.scad_design.specs.Designs.{Design}
 use Rattle.scad_func.specs.Meaning.{Outcome, Gives, Faults, Env, then_with}
-use Rattle.scad_eval.specs.declared.stand.Made.{Made as MadeIn}
+use Rattle.scad_eval.specs.declared.position.InstanceResult.{InstanceResult}
 use Rattle.scad_pieces.specs.declared.numbered.NumberedInstance.{NumberedInstance}
 use Rattle.scad_meaning.specs.Bodies.{says_only, is_child}
 use Rattle.scad_meaning.specs.Meaning.{Made, Members, as_member, and_members, after_step, core_of}
@@ -25,13 +25,13 @@ pub child_is_member : (env : Env) (i : InstanceTerm) → (if says_only env (core
 child_is_member env (AnInstance at marks core) = flipped (says_only env core)
 
 -- an instance's design, as a member
-as_tells : (b : Bool) (r : Result MadeIn Stop) (m l : ℕ) (out : Outcome Made) → TellsAs made_seen r m l out
+as_tells : (b : Bool) (r : Result InstanceResult Stop) (m l : ℕ) (out : Outcome Made) → TellsAs made_seen r m l out
     → TellsAs (member_seen b) r m l (then_with out (λ turns x. Gives turns (as_member b x)))
 as_tells b (Ok made) m l out h = ap (λ o. then_with o (λ turns x. Gives turns (as_member b x))) h
 as_tells b (Err (Fault fault)) m l out h = ap (λ o. then_with o (λ turns x. Gives turns (as_member b x))) h
 as_tells b (Err NoMemory) m l out h = tt
 
-pub as_told : (b : Bool) {r : Result MadeIn Stop} {m l : ℕ} {out : Outcome Made} → Told made_seen r m l out
+pub as_told : (b : Bool) {r : Result InstanceResult Stop} {m l : ℕ} {out : Outcome Made} → Told made_seen r m l out
     → Told (member_seen b) r m l (then_with out (λ turns x. Gives turns (as_member b x)))
 as_told b {r = r} {m = m} {l = l} {out = out} h = record { is = as_tells b r m l out h.is }
 

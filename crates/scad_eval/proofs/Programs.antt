@@ -23,14 +23,14 @@ use Rattle.scad_design.specs.Designs.{Design}
 use Rattle.scad_design.specs.Trees.{IsPlacedAs, IsStopOf}
 use Rattle.scad_design.specs.View.{plain_of}
 use Rattle.scad_design.specs.declared.design.Design.{Design as DesignIn}
-use Rattle.scad_eval.specs.declared.stand.Stand.{Stand as StandIn}
-use Rattle.scad_eval.specs.declared.stand.Members.{Members as MembersIn}
-use Rattle.scad_eval.specs.declared.making.Making.{Making}
+use Rattle.scad_eval.specs.declared.position.Position.{Position}
+use Rattle.scad_eval.specs.declared.position.MemberResults.{MemberResults}
+use Rattle.scad_eval.specs.declared.evaluator.InstanceEvaluator.{InstanceEvaluator}
 use Rattle.scad_meaning.specs.Verdicts.{Judge, IsRight}
 use Rattle.scad_meaning.specs.Meaning.{Stand, made_within, each_in_scope, program_stand, or_all, design_of}
 use Rattle.scad_eval.specs.Seen.{Told, members_seen}
 use Rattle.scad_eval.specs.Steps.{block_members}
-use Rattle.scad_eval.specs.Makings.{stand_at, Says}
+use Rattle.scad_eval.specs.Keeping.{stand_at, Says}
 use Rattle.scad_meaning.specs.Sources.{a_tree, a_fault, IsMeaning, IsMeaningOfDesign, IsMeaningStop, HoldsFault}
 use Rattle.scad_meaning.proofs.ProgramPlaces.{stop_held}
 use Rattle.scad_eval.specs.Programs.{TellsDesign}
@@ -67,7 +67,7 @@ program_begins {old = old} {new = new} {scope = scope} e program whole text rows
     ∙ ap (λ (c : Pairs Val). stand_of 0 (entered_scope (statements_from program) no_call (Within [] [] [] no_call Outermost)) c) (e.chain ∙ chain)
 
 -- what the members of the block say
-pub program_says : {old new : Making} {s : StandIn} {r : Result MembersIn Stop} (statements : StatementTerms)
+pub program_says : {old new : InstanceEvaluator} {s : Position} {r : Result MemberResults Stop} (statements : StatementTerms)
     → Says members_seen old new s r (λ unit judge left make. block_members left make None statements)
     → (program : List StatementTerm) → stand_at old s ≡ program_stand first_chain (statements_from program)
     → statements ≡ statements_from program → old.evaluation.depth ≡ 0 → old.evaluation.turns ≡ 0 → old.leaves ≡ 0
@@ -88,7 +88,7 @@ program_statements old new program same e = ap (λ (x : Source). statements_at (
 
 -- the design
 module _ (unit : LengthUnit) (judge : Judge) (chain : Pairs Val) (statements : StatementTerms) where
-  pub design_told : (ms : MembersIn) (design : DesignIn) (m l : ℕ)
+  pub design_told : (ms : MemberResults) (design : DesignIn) (m l : ℕ)
       → Told members_seen (Ok ms) m l (each_in_scope 512 (made_within unit judge 512) (program_stand chain statements) statements 0 0)
       → plain_of design ≡ or_all (option_map plain_of ms.marked) (map plain_of ms.designs.items)
       → Told (λ leaves. plain_of) (Ok design) m 0 (design_of unit judge chain statements)

@@ -15,22 +15,23 @@ use Rattle.scad_scope.specs.Names.{Pairs, Row}
 use Rattle.scad_scope.specs.Table.{rows_of, chain_of}
 use Rattle.scad_scope.specs.Blocks.{assignments_of}
 use Rattle.scad_func.specs.Meaning.{Outcome, Gives, Faults, Env, Opened, opened, no_call, entered_scope, then_with, evaluated}
-use Rattle.scad_func.specs.View.{seen, text_of, IsFault}
+use Rattle.scad_scope.specs.ArgumentsView.{IsFault}
+use Rattle.scad_func.specs.View.{seen, text_of}
 use Rattle.scad_func.specs.Definitions.{IsWhole, statements_at, block_scope}
 use Rattle.scad_func.specs.Evaluations.{CallBegins, EvaluationBegins, SpecialsBegin}
 use Rattle.scad_func.specs.Evaluations as there
 use Rattle.scad_func.specs.declared.source.Source.{Source}
 use Rattle.scad_modules.specs.Effects.{ChosenCall}
-use Rattle.scad_eval.specs.declared.stand.Stand.{Stand as StandIn}
-use Rattle.scad_eval.specs.declared.stand.Made.{Made as MadeIn}
-use Rattle.scad_eval.specs.declared.stand.Members.{Members as MembersIn}
-use Rattle.scad_eval.specs.declared.making.Making.{Making}
+use Rattle.scad_eval.specs.declared.position.Position.{Position}
+use Rattle.scad_eval.specs.declared.position.InstanceResult.{InstanceResult}
+use Rattle.scad_eval.specs.declared.position.MemberResults.{MemberResults}
+use Rattle.scad_eval.specs.declared.evaluator.InstanceEvaluator.{InstanceEvaluator}
 use Rattle.scad_meaning.specs.Verdicts.{Judge, IsRight}
 use Rattle.scad_meaning.specs.Bodies.{children_in, is_marked}
 use Rattle.scad_meaning.specs.Loops.{chosen_among}
 use Rattle.scad_meaning.specs.Meaning.{Stand, Made, Members, Makes, standing, chained, called_from, marked_from, setting, made_within, instance_made, core_made, core_of, made_of, each_assigned, each_member, children_made, no_members, and_members}
 use Rattle.scad_eval.specs.Seen.{TellsAs, Told, made_seen, members_seen, member_seen, apart, IsLengthened, in_front}
-use Rattle.scad_eval.specs.Makings.{left_at, stand_at, Stays, Enters, Equation, Says}
+use Rattle.scad_eval.specs.Keeping.{left_at, stand_at, Stays, Enters, Equation, Says}
 use Rattle.scad_eval.specs.Steps.{block_members}
 use Rattle.scad_eval.proofs.Telling.{along, then_told, then_then, front_of_none, no_memory}
 use Rattle.scad_eval.proofs.Standing.{said_at, same_stand, entered_stand}
@@ -45,7 +46,7 @@ refused_told (Fault fault) m l kind at h =
 refused_told NoMemory m l kind at h = absurd h
 
 -- members that were joined
-pub joined_told : (op : Op) (members : MembersIn) (made : MadeIn) (turns leaves : ℕ) (out : Outcome Members)
+pub joined_told : (op : Op) (members : MemberResults) (made : InstanceResult) (turns leaves : ℕ) (out : Outcome Members)
     → Told members_seen (Ok members) turns leaves out
     → ((leaves : ℕ) → made_seen leaves made ≡ made_of op (members_seen leaves members))
     → Told made_seen (Ok made) turns leaves (then_with out (λ turns ms. Gives turns (made_of op ms)))
@@ -53,7 +54,7 @@ joined_told op members made turns leaves out h joined =
     then_told (λ turns ms. Gives turns (made_of op ms)) h (record { is = ap (λ m. Gives turns m) (sym (joined leaves)) })
 
 -- in a scope that was entered
-pub entered_said : {A B : Type 0} {see : ℕ → A → B} {r : Result A Stop} (equation : Source → Equation B) (old mid new : Making) (s t : StandIn)
+pub entered_said : {A B : Type 0} {see : ℕ → A → B} {r : Result A Stop} (equation : Source → Equation B) (old mid new : InstanceEvaluator) (s t : Position)
     (scope : ℕ) (env : Env) → Enters old mid scope
     → seen mid.evaluation.source.now (rows_of mid.evaluation.scopes.now) scope ≡ env
     → mid.evaluation.turns ≡ old.evaluation.turns
@@ -70,10 +71,10 @@ entered_said equation old mid new s t scope env e is turns same h judge right =
     ∙ ap (λ n. equation mid.evaluation.source.now old.unit judge l make here n old.leaves) (sym turns)
     ∙ ap (λ n. equation mid.evaluation.source.now old.unit judge l make here mid.evaluation.turns n) (sym e.leaves))
     (said_at old.unit l here e.unit (ap (λ n. 512 - n) e.evaluation.depth)
-    (ap (λ (x : StandIn). stand_at mid x) same ∙ entered_stand old mid s scope env e is) h judge right)
+    (ap (λ (x : Position). stand_at mid x) same ∙ entered_stand old mid s scope env e is) h judge right)
 
 -- a block in a scope that was entered
-pub body_entered : {r : Result MembersIn Stop} (old mid new : Making) (s t : StandIn) (scope block : ℕ) (call : Opened) (outer : Env)
+pub body_entered : {r : Result MemberResults Stop} (old mid new : InstanceEvaluator) (s t : Position) (scope block : ℕ) (call : Opened) (outer : Env)
     (chosen : Option ChosenCall) (statements : StatementTerms)
     → IsWhole (text_of old.evaluation.source.now) → statements_at (text_of old.evaluation.source.now) block ≡ statements
     → Enters old mid scope
@@ -96,7 +97,7 @@ body_entered old mid new s t scope block call outer chosen statements whole is e
     turns same h judge right)
 
 -- one evaluation deeper
-pub deeper_said : {r : Result MadeIn Stop} (old mid new : Making) (s : StandIn) (i : InstanceTerm) → mid.unit ≡ old.unit → mid.leaves ≡ old.leaves
+pub deeper_said : {r : Result InstanceResult Stop} (old mid new : InstanceEvaluator) (s : Position) (i : InstanceTerm) → mid.unit ≡ old.unit → mid.leaves ≡ old.leaves
     → mid.evaluation.turns ≡ old.evaluation.turns → EvaluationBegins old.evaluation mid.evaluation
     → Says made_seen mid new s r (λ unit judge left make here. instance_made unit judge left make here i) → (judge : Judge) → IsRight judge
     → Told made_seen r new.evaluation.turns new.leaves
@@ -111,7 +112,7 @@ deeper_said old mid new s i unit leaves turns b h judge right =
     (said_at old.unit l (stand_at old s) unit (deeper_left old mid b) (deeper_stand old mid s b) h judge right)
 
 -- one call deeper; the turns are those that a call counts
-pub call_said : {A B : Type 0} {see : ℕ → A → B} {r : Result A Stop} (equation : Source → List Row → Equation B) (old mid new : Making) (s : StandIn)
+pub call_said : {A B : Type 0} {see : ℕ → A → B} {r : Result A Stop} (equation : Source → List Row → Equation B) (old mid new : InstanceEvaluator) (s : Position)
     → mid.unit ≡ old.unit → mid.leaves ≡ old.leaves → CallBegins old.evaluation mid.evaluation
     → Says see mid new s r (equation mid.evaluation.source.now (rows_of mid.evaluation.scopes.now)) → (judge : Judge) → IsRight judge
     → Told see r new.evaluation.turns new.leaves
@@ -127,7 +128,7 @@ call_said equation old mid new s unit leaves b h judge right =
     (said_at old.unit l here unit (call_left old mid b) (call_stand old mid s b) h judge right)
 
 -- with special arguments on the chain, and behind steps that keep all
-pub specials_said : {A B : Type 0} {see : ℕ → A → B} {r : Result A Stop} (equation : Source → List Row → Equation B) (old begun mid new : Making) (s : StandIn)
+pub specials_said : {A B : Type 0} {see : ℕ → A → B} {r : Result A Stop} (equation : Source → List Row → Equation B) (old begun mid new : InstanceEvaluator) (s : Position)
     (count : ℕ) (specials : Pairs Val)
     → begun.unit ≡ old.unit → begun.leaves ≡ old.leaves → SpecialsBegin old.evaluation begun.evaluation count
     → chain_of begun.evaluation.scopes.now ≡ specials ++ chain_of old.evaluation.scopes.now
@@ -149,7 +150,7 @@ specials_said equation old begun mid new s count specials unit leaves b chain k 
     (same_stand begun mid s k ∙ specials_stand old begun s count specials b chain) h judge right)
 
 -- where an expression stands with special arguments on the chain
-pub specials_setting : (old begun : Making) (s : StandIn) (scope count : ℕ) (specials : Pairs Val) → SpecialsBegin old.evaluation begun.evaluation count
+pub specials_setting : (old begun : InstanceEvaluator) (s : Position) (scope count : ℕ) (specials : Pairs Val) → SpecialsBegin old.evaluation begun.evaluation count
     → chain_of begun.evaluation.scopes.now ≡ specials ++ chain_of old.evaluation.scopes.now
     → there.setting begun.evaluation scope
     ≡ setting (left_at old) (standing (chained (stand_at old s) (specials ++ chain_of old.evaluation.scopes.now))
@@ -182,20 +183,20 @@ marked_form unit judge left make here i turns leaves marked outside first =
     rw (marked, outside, first) refl
 
 -- members with nothing in front, and a step of a loop that gave something
-pub begun_front : (before : MembersIn) (leaves : ℕ) (out : Outcome Members) → members_seen leaves before ≡ no_members leaves
+pub begun_front : (before : MemberResults) (leaves : ℕ) (out : Outcome Members) → members_seen leaves before ≡ no_members leaves
     → out ≡ in_front (members_seen leaves before) out
 begun_front before leaves out none = sym (ap (λ (ms : Members). in_front ms out) none ∙ front_of_none leaves out)
 
 pub OnOk-at_ok : {A E : Type 0} {P : Type 0} {r : Result A E} {x : A} → r ≡ Ok x → OnOk r P → P
 OnOk-at_ok {P = P} e h = subst (λ s. OnOk s P) e h
 
-pub lengthened_on : {A : Type 0} (see : ℕ → A → Members) (before : MembersIn) (r : Result A Stop) (after : MembersIn) (P : Type 0)
+pub lengthened_on : {A : Type 0} (see : ℕ → A → Members) (before : MemberResults) (r : Result A Stop) (after : MemberResults) (P : Type 0)
     → IsLengthened see before r (Ok after) → OnOk r P → P
 lengthened_on see before (Ok x) after P l p = p
 lengthened_on see before (Err stop) after P l p = absurd l
 
 -- one member alone
-pub first_told : (b : Bool) (before : MembersIn) (start : ℕ) (r : Result MadeIn Stop) (all : Result MembersIn Stop) (m l : ℕ) (out : Outcome Members)
+pub first_told : (b : Bool) (before : MemberResults) (start : ℕ) (r : Result InstanceResult Stop) (all : Result MemberResults Stop) (m l : ℕ) (out : Outcome Members)
     → ((leaves : ℕ) → members_seen leaves before ≡ no_members leaves) → IsLengthened (member_seen b) before r all
     → Told (member_seen b) r m l out → Told members_seen all m l out
 first_told b before start (Ok x) (Ok after) m l out none long h = record {

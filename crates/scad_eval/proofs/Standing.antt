@@ -10,16 +10,16 @@ use Rattle.scad_func.specs.View.{seen}
 use Rattle.scad_func.specs.Evaluations.{Keeps}
 use Rattle.scad_func.specs.declared.source.Source.{Source}
 use Rattle.scad_meaning.specs.declared.extrusion.Extrusion.{Extrusion}
-use Rattle.scad_eval.specs.declared.stand.Stand.{Stand as StandIn}
-use Rattle.scad_eval.specs.declared.making.Making.{Making}
+use Rattle.scad_eval.specs.declared.position.Position.{Position}
+use Rattle.scad_eval.specs.declared.evaluator.InstanceEvaluator.{InstanceEvaluator}
 use Rattle.scad_meaning.specs.Verdicts.{Judge, IsRight}
 use Rattle.scad_meaning.specs.Meaning.{Stand, made_within}
 use Rattle.scad_eval.specs.Seen.{Told}
-use Rattle.scad_eval.specs.Makings.{left_at, stand_at, IsChecked, Stays, Enters, Assigns, Equation, Says}
+use Rattle.scad_eval.specs.Keeping.{left_at, stand_at, IsChecked, Stays, Enters, Assigns, Equation, Says}
 use Rattle.scad_eval.proofs.Telling.{along}
 
 -- where an instance stands, by what it depends on
-abbrev pub stand_by : ℕ → Source → List Row → ℕ → Pairs Val → StandIn → Stand
+abbrev pub stand_by : ℕ → Source → List Row → ℕ → Pairs Val → Position → Stand
 stand_by calls source rows scope chain s = record {
   calls = 64 - calls;
   env = seen source rows scope;
@@ -28,7 +28,7 @@ stand_by calls source rows scope chain s = record {
   under_mark = s.under_mark;
 }
 
-pub stand_from : (old new : Making) (s : StandIn) → new.evaluation.calls ≡ old.evaluation.calls → new.evaluation.source.now ≡ old.evaluation.source.now
+pub stand_from : (old new : InstanceEvaluator) (s : Position) → new.evaluation.calls ≡ old.evaluation.calls → new.evaluation.source.now ≡ old.evaluation.source.now
     → rows_of new.evaluation.scopes.now ≡ rows_of old.evaluation.scopes.now → chain_of new.evaluation.scopes.now ≡ chain_of old.evaluation.scopes.now
     → stand_at new s ≡ stand_at old s
 stand_from old new s calls source rows chain =
@@ -37,16 +37,16 @@ stand_from old new s calls source rows chain =
     ∙ ap (λ l. stand_by old.evaluation.calls old.evaluation.source.now l s.scope (chain_of new.evaluation.scopes.now) s) rows
     ∙ ap (λ c. stand_by old.evaluation.calls old.evaluation.source.now (rows_of old.evaluation.scopes.now) s.scope c s) chain
 
-pub same_stand : (old new : Making) (s : StandIn) → Stays old new → stand_at new s ≡ stand_at old s
+pub same_stand : (old new : InstanceEvaluator) (s : Position) → Stays old new → stand_at new s ≡ stand_at old s
 same_stand old new s k = stand_from old new s k.calls k.source k.rows k.chain
 
-pub same_left : (old new : Making) → Stays old new → left_at new ≡ left_at old
+pub same_left : (old new : InstanceEvaluator) → Stays old new → left_at new ≡ left_at old
 same_left old new k = ap (λ n. 512 - n) k.depth
 
-pub stays_same : (m : Making) → Stays m m
+pub stays_same : (m : InstanceEvaluator) → Stays m m
 stays_same m = record { unit = refl; source = refl; lent = refl; rows = refl; chain = refl; calls = refl; depth = refl }
 
-pub stays_then : {a b c : Making} → Stays a b → Stays b c → Stays a c
+pub stays_then : {a b c : InstanceEvaluator} → Stays a b → Stays b c → Stays a c
 stays_then f g = record {
   unit = g.unit ∙ f.unit;
   source = g.source ∙ f.source;
@@ -58,7 +58,7 @@ stays_then f g = record {
 }
 
 -- what an evaluation keeps, where the unit stays
-pub stays_kept : (old new : Making) → new.unit ≡ old.unit → Keeps old.evaluation new.evaluation → Stays old new
+pub stays_kept : (old new : InstanceEvaluator) → new.unit ≡ old.unit → Keeps old.evaluation new.evaluation → Stays old new
 stays_kept old new u k = record { unit = u; source = k.source; lent = k.lent; rows = k.rows; chain = k.chain; calls = k.calls; depth = k.depth }
 
 -- a stand is still there
@@ -75,7 +75,7 @@ moved equation judge u v l m here there turns leaves a b c =
     ∙ ap (λ x. equation u judge l (made_within u judge l) x turns leaves) c
 
 -- from a stand that an equation changes
-pub said_at : {A B : Type 0} {see : ℕ → A → B} {mid new : Making} {s : StandIn} {r : Result A Stop} {equation : Equation B}
+pub said_at : {A B : Type 0} {see : ℕ → A → B} {mid new : InstanceEvaluator} {s : Position} {r : Result A Stop} {equation : Equation B}
     (u : LengthUnit) (left : ℕ) (here : Stand) → mid.unit ≡ u → left_at mid ≡ left → stand_at mid s ≡ here
     → Says see mid new s r equation → (judge : Judge) → IsRight judge
     → Told see r new.evaluation.turns new.leaves (equation u judge left (made_within u judge left) here mid.evaluation.turns mid.leaves)
@@ -83,7 +83,7 @@ said_at {mid = mid} {s = s} {equation = equation} u left here a b c h judge righ
     along (sym (moved equation judge u mid.unit left (left_at mid) here (stand_at mid s) mid.evaluation.turns mid.leaves a b c)) (h.by judge right)
 
 -- from the same stand
-pub said_after : {A B : Type 0} {see : ℕ → A → B} {old mid new : Making} {s : StandIn} {r : Result A Stop} {equation : Equation B}
+pub said_after : {A B : Type 0} {see : ℕ → A → B} {old mid new : InstanceEvaluator} {s : Position} {r : Result A Stop} {equation : Equation B}
     → Stays old mid → Says see mid new s r equation → (judge : Judge) → IsRight judge
     → Told see r new.evaluation.turns new.leaves
     (equation old.unit judge (left_at old) (made_within old.unit judge (left_at old)) (stand_at old s) mid.evaluation.turns mid.leaves)
@@ -91,7 +91,7 @@ said_after {old = old} {mid = mid} {s = s} k h judge right =
     said_at old.unit (left_at old) (stand_at old s) k.unit (same_left old mid k) (same_stand old mid s k) h judge right
 
 -- a stand in a scope that was entered
-pub entered_stand : (old new : Making) (s : StandIn) (scope : ℕ) (env : Env) → Enters old new scope
+pub entered_stand : (old new : InstanceEvaluator) (s : Position) (scope : ℕ) (env : Env) → Enters old new scope
     → seen new.evaluation.source.now (rows_of new.evaluation.scopes.now) scope ≡ env
     → stand_at new (record { scope = scope; inside = s.inside; under_mark = s.under_mark })
     ≡ record { calls = 64 - old.evaluation.calls; env = env; chain = chain_of old.evaluation.scopes.now; inside = s.inside; under_mark = s.under_mark }
@@ -101,7 +101,7 @@ entered_stand old new s scope env e is =
     ∙ ap (λ (c : Pairs Val). record { calls = 64 - old.evaluation.calls; env = env; chain = c; inside = s.inside; under_mark = s.under_mark }) e.evaluation.chain
 
 -- assignments, one behind another
-pub assigns_then : {a b c : Making} {scope : ℕ} → Assigns a b scope → Assigns b c scope → Assigns a c scope
+pub assigns_then : {a b c : InstanceEvaluator} {scope : ℕ} → Assigns a b scope → Assigns b c scope → Assigns a c scope
 assigns_then {a = a} {b = b} {c = c} f g = record {
   unit = g.unit ∙ f.unit;
   source = g.source ∙ f.source;

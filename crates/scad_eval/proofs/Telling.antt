@@ -8,7 +8,7 @@ use Rattle.scad_value.specs.View.{val_of}
 use Rattle.scad_design.specs.Designs.{Design}
 use Rattle.scad_func.specs.Meaning.{Outcome, Gives, Faults, then_with}
 use Rattle.scad_func.specs.View.{Tells}
-use Rattle.scad_eval.specs.declared.stand.Members.{Members as MembersIn}
+use Rattle.scad_eval.specs.declared.position.MemberResults.{MemberResults}
 use Rattle.scad_meaning.specs.Meaning.{Members, no_members, and_members, first_marked}
 use Rattle.scad_eval.specs.Seen.{TellsAs, Told, members_seen, IsLengthened, in_front}
 
@@ -41,7 +41,7 @@ no_memory {see = see} {m = m} {l = l} {out = out} e = subst (λ (s : Stop). Told
 
 -- what an expression tells
 value_tells : (r : Result Value Stop) (turns leaves : ℕ) (out : Outcome Val) → Tells r turns out → TellsAs (λ leaves. val_of) r turns leaves out
-value_tells (Ok v) turns leaves out h = h
+value_tells (Ok v) turns leaves out h = h.0
 value_tells (Err (Fault fault)) turns leaves out h = h
 value_tells (Err NoMemory) turns leaves out h = tt
 
@@ -76,14 +76,14 @@ front_twice before more (Faults kind at) = refl
 
 -- a loop that lengthens members: one step more
 module _ {A : Type 0} (see : ℕ → A → Members) (counts : (leaves : ℕ) (x : A) → (see leaves x).leaves ≡ leaves)
-    (start : Outcome Members) (before : MembersIn) (first : ℕ) (now step : Outcome Members) (go : ℕ → ℕ → Outcome Members)
+    (start : Outcome Members) (before : MemberResults) (first : ℕ) (now step : Outcome Members) (go : ℕ → ℕ → Outcome Members)
     (s : start ≡ in_front (members_seen first before) now) (h : now ≡ then_with step (λ turns ms. in_front ms (go turns ms.leaves))) where
   gone : (turns leaves : ℕ) (x : A) (out : Outcome Members) → out ≡ Gives turns (see leaves x)
       → then_with out (λ turns ms. in_front ms (go turns ms.leaves)) ≡ in_front (see leaves x) (go turns leaves)
   gone turns leaves x out e = ap (λ o. then_with o (λ turns ms. in_front ms (go turns ms.leaves))) e
       ∙ ap (λ n. in_front (see leaves x) (go turns n)) (counts leaves x)
 
-  pub lengthened : (r : Result A Stop) (after : MembersIn) (turns leaves : ℕ) → IsLengthened see before r (Ok after)
+  pub lengthened : (r : Result A Stop) (after : MemberResults) (turns leaves : ℕ) → IsLengthened see before r (Ok after)
       → Told see r turns leaves step → start ≡ in_front (members_seen leaves after) (go turns leaves)
   lengthened (Ok x) after turns leaves l t =
       s ∙ ap (in_front (members_seen first before)) (h ∙ gone turns leaves x step t.is)

@@ -1,7 +1,7 @@
 pub mod BoundedItems
 pub mod Items
 pub mod Seen
-pub mod Makings
+pub mod Keeping
 pub mod Steps
 pub mod Within
 pub mod Programs

@@ -10,18 +10,18 @@ use Rattle.shape_planes.specs.declared.stop.ShapeStop.TheVariants as shapes
 use Rattle.scad_design.specs.Designs.{empty}
 use Rattle.scad_design.specs.View.{plain_of}
 use Rattle.scad_func.specs.Meaning.{Outcome, Gives, Faults, then_with}
-use Rattle.scad_eval.specs.declared.stand.Made.{Made as MadeIn}
-use Rattle.scad_eval.specs.declared.stand.Members.{Members as MembersIn}
+use Rattle.scad_eval.specs.declared.position.InstanceResult.{InstanceResult}
+use Rattle.scad_eval.specs.declared.position.MemberResults.{MemberResults}
 use Rattle.scad_meaning.specs.Bodies.{is_bare}
 use Rattle.scad_meaning.specs.Meaning.{Made, Members, as_member, and_members, made_nothing}
 
-abbrev pub made_seen : ℕ → MadeIn → Made
+abbrev pub made_seen : ℕ → InstanceResult → Made
 made_seen leaves m = record { leaves = leaves; design = plain_of m.design; marked = option_map plain_of m.marked }
 
-abbrev pub members_seen : ℕ → MembersIn → Members
+abbrev pub members_seen : ℕ → MemberResults → Members
 members_seen leaves ms = record { leaves = leaves; designs = map plain_of ms.designs.items; marked = option_map plain_of ms.marked }
 
-abbrev pub member_seen : Bool → ℕ → MadeIn → Members
+abbrev pub member_seen : Bool → ℕ → InstanceResult → Members
 member_seen is_member leaves m = as_member is_member (made_seen leaves m)
 
 -- what an instance gives that is marked `!`
@@ -38,7 +38,7 @@ pub record Told {A B : Type 0} (see : ℕ → A → B) (r : Result A Stop) (turn
   pub is : TellsAs see r turns leaves out
 
 -- members with those that are given next, unless memory ran out or nothing was given
-abbrev pub IsLengthened : {A : Type 0} → (ℕ → A → Members) → MembersIn → Result A Stop → Result MembersIn Stop → Type 0
+abbrev pub IsLengthened : {A : Type 0} → (ℕ → A → Members) → MemberResults → Result A Stop → Result MemberResults Stop → Type 0
 IsLengthened see before (Ok x) (Ok after) =
     (start leaves : ℕ) → members_seen leaves after ≡ and_members (members_seen start before) (see leaves x)
 IsLengthened see before (Ok x) (Err stop) = stop ≡ NoMemory
@@ -55,6 +55,6 @@ IsStopAt (shapes.Kind kind) at stop = stop ≡ Fault (record { kind = kind; plac
 IsStopAt shapes.NoMemory at stop = stop ≡ NoMemory
 
 -- a call that only says something gives nothing, or is refused where it has a body
-abbrev pub TellsSilence : Result MadeIn Stop → Place → BodyTerm → Type 0
+abbrev pub TellsSilence : Result InstanceResult Stop → Place → BodyTerm → Type 0
 TellsSilence r at body = (turns leaves : ℕ) → Told made_seen r turns leaves
     (if is_bare body then Gives turns (made_nothing leaves) else Faults NotInProfile at)

@@ -1,5 +1,5 @@
 -- Parts of the meaning, as the evaluator's steps have them.
-use Rattle.std.specs.Prelude.{◌≡◌, ℕ, true, List, ◌++◌, Option, Some, None, ◌∷◌, option_map, is_some, codes, Result, Ok, Err, if◌then◌else◌}
+use Rattle.std.specs.Prelude.{◌≡◌, ℕ, true, List, ◌++◌, Option, Some, None, ◌∷◌, option_map, is_some, codes, IsTrue, Result, Ok, Err, if◌then◌else◌}
 use Rattle.std.specs.Borrow.{Bor}
 use Rattle.text_place.specs.declared.fault.Place.{Place}
 use Rattle.text_place.specs.declared.fault.Stop.{Stop}
@@ -10,13 +10,14 @@ use Rattle.std.specs.declared.vec.Vec.{Vec}
 use Rattle.std.specs.declared.alloc.Global.{Global}
 use Rattle.text_place.specs.declared.fault.FaultKind.TheVariants.{BadArgument}
 use Rattle.scad_ast.specs.Terms.{BinderTerm, StatementTerms, InstanceTerm, BodyTerm, ArgTerm, NamedTerm, SpecialArgTerm, PositionalTerm}
+use Rattle.scad_value.specs.declared.value.Value.{Value}
 use Rattle.scad_value.specs.Values.{Val, Vals}
 use Rattle.scad_value.specs.Operators.{Answer}
-use Rattle.scad_scope.specs.Names.{Pairs, find_in}
+use Rattle.scad_scope.specs.Names.{Pairs, find_in, have_bounded}
 use Rattle.scad_scope.specs.Blocks.{Module, assignments_of, statements_of_body}
 use Rattle.scad_func.specs.Meaning.{Outcome, Gives, Faults, then_with, Env, Setting, value_at, Arguments, each_parameter}
 use Rattle.scad_func.specs.View.{specials_in}
-use Rattle.scad_func.specs.declared.arguments.SpecialArgument.{SpecialArgument}
+use Rattle.scad_scope.specs.declared.parameters.SpecialArgument.{SpecialArgument}
 use Rattle.scad_modules.specs.declared.table.BuiltinModule.{BuiltinModule}
 use Rattle.scad_modules.specs.declared.effects.Chosen.{Chosen}
 use Rattle.scad_modules.specs.declared.effects.Effect.{Effect}
@@ -87,7 +88,8 @@ said_once here (SpecialArgTerm at name value) specials turns =
     else then_with (value_at here true value turns) (λ turns v. Gives turns ((name, v) ∷ specials))
 said_once here (PositionalTerm value) specials turns = then_with (value_at here true value turns) (λ turns v. Gives turns specials)
 
-abbrev pub TellsSpecials : Result (Vec SpecialArgument Global) Stop → ℕ → Outcome (Pairs Val) → Type 0
-TellsSpecials (Ok specials) turns out = out ≡ Gives turns (specials_in specials.items)
+-- the outcome is the special arguments that were given, each bounded, or the fault, unless memory ran out
+abbrev pub TellsSpecials : Result (Vec (SpecialArgument Value) Global) Stop → ℕ → Outcome (Pairs Val) → Type 0
+TellsSpecials (Ok specials) turns out = (out ≡ Gives turns (specials_in specials.items)) × IsTrue (have_bounded (specials_in specials.items))
 TellsSpecials (Err (Fault fault)) turns out = out ≡ Faults fault.kind fault.place
 TellsSpecials (Err NoMemory) turns out = Unit {0}

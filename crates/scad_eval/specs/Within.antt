@@ -3,7 +3,7 @@ use Rattle.scad_ast.specs.StatementView.{body_of}
 use Rattle.scad_ast.specs.Terms.{BodyTerm}
 use Rattle.scad_scope.specs.Blocks.{NumberedText}
 use Rattle.scad_func.specs.Definitions.{IsBlockOf}
-use Rattle.scad_eval.specs.declared.stand.NumberedBody.{NumberedBody}
+use Rattle.scad_eval.specs.declared.position.NumberedBody.{NumberedBody}
 
 abbrev pub body_seen : NumberedBody → BodyTerm
 body_seen b = body_of b.body.now

@@ -7,8 +7,8 @@ ghost use Rattle.scad_ast.specs.ExprView.{arg_of, args_of};
 ghost use Rattle.scad_ast.specs.StatementView.{body_of};
 ghost use Rattle.scad_scope.specs.Names.{find_in, have_bounded};
 ghost use Rattle.scad_scope.specs.Table.{chain_of};
-ghost use Rattle.scad_func.specs.Meaning.{nothing_given};
-ghost use Rattle.scad_func.specs.View.{TellsArguments, arguments_of, arguments_bounded, slots_in, slots_bounded, specials_in};
+ghost use Rattle.scad_scope.specs.Arguments.{nothing_given};
+ghost use Rattle.scad_func.specs.View.{TellsArguments, slots_in, slots_bounded, specials_in};
 ghost use Rattle.scad_func.specs.Evaluations.{Keeps, scopes_there, setting};
 ghost use Rattle.scad_modules.specs.Bounds.{IsSafeCall};
 ghost use Rattle.scad_modules.specs.Calls.{effect_of as effect_at};
@@ -18,27 +18,27 @@ ghost use Rattle.scad_meaning.specs.Meaning.{arguments_for as arguments_at, each
 ghost use Rattle.scad_eval.specs.Seen.{TellsSilence};
 ghost use Rattle.scad_eval.specs.Steps.{TellsEffectAt, said_once, TellsSpecials};
 
-use crate::joins::{fault_at, nothing_made};
-use crate::making::Making;
-use crate::stand::{Made, Stand};
+use crate::evaluator::InstanceEvaluator;
+use crate::joins::nothing_made;
+use crate::position::{InstanceResult, Position};
 use scad_ast::{Arg, Args, Body};
-use scad_func::{ArgumentValues, Names, SpecialArgument};
 use scad_modules::{BuiltinModule, Effect, effect, is_left_out};
 use scad_pieces::is_bare;
+use scad_scope::{GivenArguments, Names, SpecialArgument, fault_at, has_special};
 use scad_value::{Value, ValueStop};
 use text_place::{FaultKind, Place, Stop};
 
-impl Making<'_, '_> {
+impl InstanceEvaluator<'_, '_> {
     /// The effect of a call of a built-in module. Its faults stand at the module's name.
     pub(crate) fn effect_of(
         &self,
-        stand: Stand,
+        position: Position,
         place: Place,
         built_in: BuiltinModule,
         slots: Vec<Option<Value>>,
     ) -> Result<Effect, Stop>
         requires { IsTrue (slots_bounded (slots_in slots.items)) }
-        ensures effect { TellsEffectAt result place (effect_at self.now.unit (is_some stand.inside)
+        ensures effect { TellsEffectAt result place (effect_at self.now.unit (is_some position.inside)
             (find_in (chain_of self.now.evaluation.scopes.now) (codes "fn")) built_in (slots_in slots.items)) }
         ensures safe { IfOk result (λ effect. IsSafeCall (call_of effect)) }
     {
@@ -47,7 +47,7 @@ impl Making<'_, '_> {
             Err(_) => None,
         };
         let alloc = self.evaluation.alloc;
-        let inside = stand.inside.is_some();
+        let inside = position.inside.is_some();
         match effect(alloc, self.unit, inside, fragments, built_in, &slots) {
             Ok(effect) => Ok(effect),
             Err(ValueStop::Kind(kind)) => Err(fault_at(kind, place)),
@@ -61,11 +61,10 @@ impl Making<'_, '_> {
         scope: u32,
         built_in: BuiltinModule,
         args: &'b Args,
-    ) -> Result<ArgumentValues<'b>, Stop>
+    ) -> Result<GivenArguments<'b, Value>, Stop>
         requires { scope < scopes_there self.old.evaluation }
         ensures value { TellsArguments result self.new.evaluation.turns
             (arguments_at built_in (setting self.old.evaluation scope) (args_from (args_of args.now)) self.old.evaluation.turns) }
-        ensures bounded { IfOk result (λ given. IsTrue (arguments_bounded (arguments_of given))) }
         ensures kept { Keeps self.old.evaluation self.new.evaluation }
         ensures unit { self.new.unit ≡ self.old.unit }
         ensures leaves { self.new.leaves ≡ self.old.leaves }
@@ -78,11 +77,10 @@ impl Making<'_, '_> {
     }
 
     /// The arguments of `echo`, from the first on: a name may come twice, a special name may not.
-    fn said<'b>(&mut self, scope: u32, args: &'b Args) -> Result<ArgumentValues<'b>, Stop>
+    fn said<'b>(&mut self, scope: u32, args: &'b Args) -> Result<GivenArguments<'b, Value>, Stop>
         requires { scope < scopes_there self.old.evaluation }
         ensures value { TellsArguments result self.new.evaluation.turns
             (each_said (setting self.old.evaluation scope) (args_from (args_of args.now)) (nothing_given 0) self.old.evaluation.turns) }
-        ensures bounded { IfOk result (λ given. IsTrue (arguments_bounded (arguments_of given))) }
         ensures kept { Keeps self.old.evaluation self.new.evaluation }
         ensures unit { self.new.unit ≡ self.old.unit }
         ensures leaves { self.new.leaves ≡ self.old.leaves }
@@ -92,7 +90,7 @@ impl Making<'_, '_> {
         'each: for arg in &args.items {
             specials = self.say(scope, specials, arg)?;
         }
-        Ok(ArgumentValues {
+        Ok(GivenArguments {
             slots: Vec::new(alloc),
             specials,
         })
@@ -102,14 +100,13 @@ impl Making<'_, '_> {
     fn say<'b>(
         &mut self,
         scope: u32,
-        specials: Vec<SpecialArgument<'b>>,
+        specials: Vec<SpecialArgument<'b, Value>>,
         arg: &'b Arg,
-    ) -> Result<Vec<SpecialArgument<'b>>, Stop>
+    ) -> Result<Vec<SpecialArgument<'b, Value>>, Stop>
         requires scope { scope < scopes_there self.old.evaluation }
         requires bounded { IsTrue (have_bounded (specials_in specials.items)) }
         ensures value { TellsSpecials result self.new.evaluation.turns
             (said_once (setting self.old.evaluation scope) (arg_of arg.now) (specials_in specials.entry.items) self.old.evaluation.turns) }
-        ensures bounded { IfOk result (λ more. IsTrue (have_bounded (specials_in more.items))) }
         ensures kept { Keeps self.old.evaluation self.new.evaluation }
         ensures unit { self.new.unit ≡ self.old.unit }
         ensures leaves { self.new.leaves ≡ self.old.leaves }
@@ -136,17 +133,10 @@ impl Making<'_, '_> {
 }
 
 /// Whether a special name was given a value.
-fn is_given(specials: &[SpecialArgument<'_>], name: &[u8]) -> bool
+fn is_given(specials: &[SpecialArgument<'_, Value>], name: &[u8]) -> bool
     ensures { result ≡ is_some (find_in (specials_in specials.now) name.now) }
 {
-    let mut n = specials.len();
-    'newest: while n > 0 {
-        n -= 1;
-        if specials[n].name == name {
-            return true;
-        }
-    }
-    false
+    has_special(specials, name)
 }
 
 /// The kind of fault of a name that no module has.
@@ -160,7 +150,7 @@ pub(crate) fn unknown(name: &[u8]) -> FaultKind
 }
 
 /// A call that only says something has no body.
-pub(crate) fn silent(place: Place, body: &Body) -> Result<Made, Stop>
+pub(crate) fn silent(place: Place, body: &Body) -> Result<InstanceResult, Stop>
     ensures { TellsSilence result place (body_of body.now) }
 {
     if is_bare(body) {

@@ -8,46 +8,49 @@ ghost use Rattle.scad_func.specs.View.{text_of};
 ghost use Rattle.scad_func.specs.Definitions.{statements_at};
 ghost use Rattle.scad_func.specs.Evaluations.{scopes_there};
 ghost use Rattle.scad_meaning.specs.Meaning.{assigned_value, assigned, each_assigned};
-ghost use Rattle.scad_eval.specs.Makings.{stand_at, Stands, Assigns, Says};
+ghost use Rattle.scad_eval.specs.Keeping.{stand_at, Stands, Assigns, Says};
 
-use crate::making::Making;
-use crate::stand::Stand;
+use crate::evaluator::InstanceEvaluator;
+use crate::position::Position;
 use scad_scope::Assignment;
 use text_place::Stop;
 
-impl Making<'_, '_> {
+impl InstanceEvaluator<'_, '_> {
     /// Gives the names of a block's assignments their values, from the first on.
-    pub(crate) fn assign_all(&mut self, stand: Stand, block: u32) -> Result<(), Stop>
-        requires stand { Stands self.old stand }
-        requires newest { stand.scope + 1 ≡ scopes_there self.old.evaluation }
+    pub(crate) fn assign_all(&mut self, position: Position, block: u32) -> Result<(), Stop>
+        requires position { Stands self.old position }
+        requires newest { position.scope + 1 ≡ scopes_there self.old.evaluation }
         ensures assigned { let statements = statements_at (text_of self.old.evaluation.source.now) block in
-            Says (λ leaves x. stand_at self.new stand) self.old self.new stand result (λ unit judge left make here turns leaves. each_assigned left here (assignments_of statements) turns) }
-        ensures assigns { OnOk result (Assigns self.old self.new stand.scope) }
+            Says (λ leaves x. stand_at self.new position) self.old self.new position result (λ unit judge left make here turns leaves. each_assigned left here (assignments_of statements) turns) }
+        ensures assigns { OnOk result (Assigns self.old self.new position.scope) }
         ensures leaves { self.new.leaves ≡ self.old.leaves }
     {
         let assignments = self.evaluation.assignments(block);
         'each: for assignment in assignments {
-            self.assign(stand, assignment)?;
+            self.assign(position, assignment)?;
         }
         Ok(())
     }
 
     /// Gives a name its value: its statement is one evaluation deeper, and its expression one more.
-    fn assign(&mut self, stand: Stand, assignment: &Assignment<'_>) -> Result<(), Stop>
-        requires stand { Stands self.old stand }
-        requires newest { stand.scope + 1 ≡ scopes_there self.old.evaluation }
-        ensures assigned { Says (λ leaves x. stand_at self.new stand) self.old self.new stand result (λ unit judge left make here turns leaves.
+    fn assign(&mut self, position: Position, assignment: &Assignment<'_>) -> Result<(), Stop>
+        requires position { Stands self.old position }
+        requires newest { position.scope + 1 ≡ scopes_there self.old.evaluation }
+        ensures assigned { Says (λ leaves x. stand_at self.new position) self.old self.new position result (λ unit judge left make here turns leaves.
             then_with (assigned_value left here (assigned_of assignment.now) turns) (λ turns v. Gives turns (assigned (assigned_of assignment.now) v here))) }
-        ensures assigns { OnOk result (Assigns self.old self.new stand.scope) }
+        ensures assigns { OnOk result (Assigns self.old self.new position.scope) }
         ensures leaves { self.new.leaves ≡ self.old.leaves }
     {
         self.evaluation.begin_evaluation(assignment.place)?;
-        let value = self.evaluation.expression(stand.scope, assignment.value)?;
+        let value = self
+            .evaluation
+            .expression(position.scope, assignment.value)?;
         self.evaluation.end_evaluation();
         if assignment.special {
             self.evaluation.bind_special(assignment.name, value)?;
         } else {
-            self.evaluation.bind(stand.scope, assignment.name, value)?;
+            self.evaluation
+                .bind(position.scope, assignment.name, value)?;
         }
         Ok(())
     }

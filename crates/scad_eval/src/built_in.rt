@@ -12,153 +12,164 @@ ghost use Rattle.scad_modules.specs.View.{call_of};
 ghost use Rattle.scad_design.specs.Designs.{moved_by};
 ghost use Rattle.scad_meaning.specs.Meaning.{built_in_made as built_in_at, effect_made as effect_at, body_made, made_moved, hull_made, checked, extruding};
 ghost use Rattle.scad_eval.specs.Seen.{made_seen};
-ghost use Rattle.scad_eval.specs.Makings.{Stands, Stays, Says};
+ghost use Rattle.scad_eval.specs.Keeping.{Stands, Stays, Says};
 ghost use Rattle.scad_eval.specs.Steps.{built_in_given};
 ghost use Rattle.scad_eval.specs.Within.{body_seen, IsInBlock};
 
 use crate::arguments::{silent, unknown};
-use crate::joins::fault_at;
-use crate::making::Making;
-use crate::stand::{Made, NumberedBody, Stand};
+use crate::evaluator::InstanceEvaluator;
+use crate::position::{InstanceResult, NumberedBody, Position};
 use csg_tree::Op;
 use int_transform::Step;
 use primitives::size_fault;
 use scad_ast::Args;
-use scad_func::{ArgumentValues, with};
+use scad_func::with;
 use scad_meaning::Extrusion;
 use scad_modules::{BuiltinModule, Effect, builtin_module};
+use scad_scope::{GivenArguments, fault_at};
+use scad_value::Value;
 use text_place::{Place, Stop};
 
-impl Making<'_, '_> {
+impl InstanceEvaluator<'_, '_> {
     /// A call of a built-in module.
-    #[cycle(making)]
+    #[cycle(instances)]
     pub(crate) fn built_in_called(
         &mut self,
-        stand: Stand,
+        position: Position,
         place: Place,
         name: &[u8],
         args: &Args,
         body: NumberedBody<'_>,
-    ) -> Result<Made, Stop>
-        requires stand { Stands self.old stand }
+    ) -> Result<InstanceResult, Stop>
+        requires position { Stands self.old position }
         requires block { IsInBlock (text_of self.old.evaluation.source.now) body }
-        ensures made { Says made_seen self.old self.new stand result (λ unit judge left make here.
+        ensures made { Says made_seen self.old self.new position result (λ unit judge left make here.
             built_in_at unit judge left make here place name.now (args_of args.now) (body_seen body.entry) (module_named name.now)) }
         ensures stays { OnOk result (Stays self.old self.new) }
     {
         match builtin_module(name) {
             None => Err(fault_at(unknown(name), place)),
             Some(built_in) => {
-                let given = self.arguments_for(stand.scope, built_in, args)?;
-                self.built_in_made(stand, place, built_in, given, body)
+                let given = self.arguments_for(position.scope, built_in, args)?;
+                self.built_in_made(position, place, built_in, given, body)
             }
         }
     }
 
     /// What a call of a built-in module does, with its special arguments on the chain.
-    #[cycle(making)]
+    #[cycle(instances)]
     fn built_in_made(
         &mut self,
-        stand: Stand,
+        position: Position,
         place: Place,
         built_in: BuiltinModule,
-        given: ArgumentValues<'_>,
+        given: GivenArguments<'_, Value>,
         body: NumberedBody<'_>,
-    ) -> Result<Made, Stop>
-        requires stand { Stands self.old stand }
+    ) -> Result<InstanceResult, Stop>
+        requires position { Stands self.old position }
         requires block { IsInBlock (text_of self.old.evaluation.source.now) body }
         requires bounded { IsTrue (arguments_bounded (arguments_of given)) }
-        ensures made { Says made_seen self.old self.new stand result (λ unit judge left make.
+        ensures made { Says made_seen self.old self.new position result (λ unit judge left make.
             built_in_given unit judge left make place built_in (arguments_of given.entry) (body_seen body.entry)) }
         ensures stays { OnOk result (Stays self.old self.new) }
     {
-        let ArgumentValues { slots, specials } = given;
+        let GivenArguments { slots, specials } = given;
         let begun = self.evaluation.begin_specials(specials);
         let (slots, length) = with(slots, begun)?;
-        let effect = self.effect_of(stand, place, built_in, slots)?;
-        let made = self.effect_made(stand, place, effect, body)?;
+        let effect = self.effect_of(position, place, built_in, slots)?;
+        let made = self.effect_made(position, place, effect, body)?;
         self.evaluation.end_specials(length);
         Ok(made)
     }
 
     /// What an effect gives.
-    #[cycle(making)]
+    #[cycle(instances)]
     fn effect_made(
         &mut self,
-        stand: Stand,
+        position: Position,
         place: Place,
         effect: Effect,
         body: NumberedBody<'_>,
-    ) -> Result<Made, Stop>
-        requires stand { Stands self.old stand }
+    ) -> Result<InstanceResult, Stop>
+        requires position { Stands self.old position }
         requires block { IsInBlock (text_of self.old.evaluation.source.now) body }
         requires safe { IsSafeCall (call_of effect) }
-        ensures made { Says made_seen self.old self.new stand result (λ unit judge left make here.
+        ensures made { Says made_seen self.old self.new position result (λ unit judge left make here.
             effect_at unit judge left make here place (call_of effect) (body_seen body.entry)) }
         ensures stays { OnOk result (Stays self.old self.new) }
     {
         match effect {
             Effect::Solid(shape) => self.solid(place, &shape),
-            Effect::Flat(shape) => self.flat(stand, place, &shape),
-            Effect::Move(steps) => self.moved(stand, &steps, body),
-            Effect::Join(op) => self.body(op, stand, body),
-            Effect::Hull => self.hulled(stand, place, body),
+            Effect::Flat(shape) => self.flat(position, place, &shape),
+            Effect::Move(steps) => self.moved(position, &steps, body),
+            Effect::Join(op) => self.body(op, position, body),
+            Effect::Hull => self.hulled(position, place, body),
             Effect::Extrusion { height, center } => {
-                self.extruded(stand, place, Extrusion { center, height }, body)
+                self.extruded(position, place, Extrusion { center, height }, body)
             }
             Effect::Nothing => silent(place, body.body),
-            Effect::Children(chosen) => self.children_called(stand, place, &chosen),
+            Effect::Children(chosen) => self.children_called(position, place, &chosen),
         }
     }
 
     /// The union of a body, moved by steps.
-    #[cycle(making)]
-    fn moved(&mut self, stand: Stand, steps: &[Step], body: NumberedBody<'_>) -> Result<Made, Stop>
-        requires stand { Stands self.old stand }
+    #[cycle(instances)]
+    fn moved(
+        &mut self,
+        position: Position,
+        steps: &[Step],
+        body: NumberedBody<'_>,
+    ) -> Result<InstanceResult, Stop>
+        requires position { Stands self.old position }
         requires block { IsInBlock (text_of self.old.evaluation.source.now) body }
-        ensures made { Says made_seen self.old self.new stand result (λ unit judge left make here turns leaves.
+        ensures made { Says made_seen self.old self.new position result (λ unit judge left make here turns leaves.
             then_with (body_made left make Union here (body_seen body.entry) turns leaves) (λ turns m. Gives turns (made_moved (moved_by steps.now) m))) }
         ensures stays { OnOk result (Stays self.old self.new) }
     {
-        let Made { design, marked } = self.body(Op::Union, stand, body)?;
+        let InstanceResult { design, marked } = self.body(Op::Union, position, body)?;
         match design.moved_by(self.evaluation.alloc, steps) {
-            Ok(design) => Ok(Made { design, marked }),
+            Ok(design) => Ok(InstanceResult { design, marked }),
             Err(_) => Err(Stop::NoMemory),
         }
     }
 
     /// The hull of the union of a body, as one leaf more. Where the body gives nothing, so does its hull.
-    #[cycle(making)]
-    fn hulled(&mut self, stand: Stand, place: Place, body: NumberedBody<'_>) -> Result<Made, Stop>
-        requires stand { Stands self.old stand }
+    #[cycle(instances)]
+    fn hulled(
+        &mut self,
+        position: Position,
+        place: Place,
+        body: NumberedBody<'_>,
+    ) -> Result<InstanceResult, Stop>
+        requires position { Stands self.old position }
         requires block { IsInBlock (text_of self.old.evaluation.source.now) body }
-        ensures made { Says made_seen self.old self.new stand result (λ unit judge left make here turns leaves.
+        ensures made { Says made_seen self.old self.new position result (λ unit judge left make here turns leaves.
             then_with (body_made left make Union here (body_seen body.entry) turns leaves) (λ turns m. hull_made (judge.hull m.design) place m turns)) }
         ensures stays { OnOk result (Stays self.old self.new) }
     {
-        let made = self.body(Op::Union, stand, body)?;
+        let made = self.body(Op::Union, position, body)?;
         self.hull(place, made)
     }
 
     /// The union of a body inside an extrusion.
-    #[cycle(making)]
+    #[cycle(instances)]
     fn extruded(
         &mut self,
-        stand: Stand,
+        position: Position,
         place: Place,
         through: Extrusion,
         body: NumberedBody<'_>,
-    ) -> Result<Made, Stop>
-        requires stand { Stands self.old stand }
+    ) -> Result<InstanceResult, Stop>
+        requires position { Stands self.old position }
         requires block { IsInBlock (text_of self.old.evaluation.source.now) body }
         requires safe { IsSafe through.height }
-        ensures made { Says made_seen self.old self.new stand result (λ unit judge left make here turns leaves.
+        ensures made { Says made_seen self.old self.new position result (λ unit judge left make here turns leaves.
             checked (judge.height unit through.center through.height) place (body_made left make Union (extruding here through) (body_seen body.entry) turns leaves)) }
         ensures stays { OnOk result (Stays self.old self.new) }
     {
         match size_fault(&[through.height], through.center, self.unit) {
             Some(kind) => Err(fault_at(kind, place)),
-            None => self.body(Op::Union, stand.extruding(through), body),
+            None => self.body(Op::Union, position.extruding(through), body),
         }
     }
 }

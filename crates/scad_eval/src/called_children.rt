@@ -10,64 +10,69 @@ ghost use Rattle.scad_modules.specs.Bounds.{IsSafeChoice};
 ghost use Rattle.scad_modules.specs.View.{chosen_of};
 ghost use Rattle.scad_meaning.specs.Meaning.{children_made as children_at, called_from};
 ghost use Rattle.scad_eval.specs.Seen.{made_seen};
-ghost use Rattle.scad_eval.specs.Makings.{Stands, Stays, Says};
+ghost use Rattle.scad_eval.specs.Keeping.{Stands, Stays, Says};
 
+use crate::evaluator::InstanceEvaluator;
 use crate::joins::{joined, nothing_made};
-use crate::making::Making;
-use crate::stand::{Made, Stand};
+use crate::position::{InstanceResult, Position};
 use csg_tree::Op;
 use scad_modules::Chosen;
 use scad_scope::Call;
 use text_place::{Place, Stop};
 
-impl Making<'_, '_> {
+impl InstanceEvaluator<'_, '_> {
     /// The chosen children of the enclosing call, one call deeper.
-    #[cycle(making)]
+    #[cycle(instances)]
     pub(crate) fn children_called(
         &mut self,
-        stand: Stand,
+        position: Position,
         place: Place,
         chosen: &Chosen,
-    ) -> Result<Made, Stop>
-        requires stand { Stands self.old stand }
+    ) -> Result<InstanceResult, Stop>
+        requires position { Stands self.old position }
         requires safe { IsSafeChoice (chosen_of chosen.now) }
-        ensures made { Says made_seen self.old self.new stand result (λ unit judge left make here turns leaves.
+        ensures made { Says made_seen self.old self.new position result (λ unit judge left make here turns leaves.
             one_call_fewer here.calls place (λ calls. children_at left make (called_from here calls) (call_in here.env) (chosen_of chosen.now) turns leaves)) }
         ensures stays { OnOk result (Stays self.old self.new) }
     {
         self.evaluation.begin_call(place)?;
-        let made = self.children_made(stand, chosen)?;
+        let made = self.children_made(position, chosen)?;
         self.evaluation.end_call();
         Ok(made)
     }
 
     /// The chosen children of the enclosing call, or nothing where none encloses.
-    #[cycle(making)]
-    fn children_made(&mut self, stand: Stand, chosen: &Chosen) -> Result<Made, Stop>
-        requires stand { Stands self.old stand }
+    #[cycle(instances)]
+    fn children_made(&mut self, position: Position, chosen: &Chosen) -> Result<InstanceResult, Stop>
+        requires position { Stands self.old position }
         requires safe { IsSafeChoice (chosen_of chosen.now) }
-        ensures made { Says made_seen self.old self.new stand result (λ unit judge left make here. children_at left make here (call_in here.env) (chosen_of chosen.now)) }
+        ensures made { Says made_seen self.old self.new position result (λ unit judge left make here. children_at left make here (call_in here.env) (chosen_of chosen.now)) }
         ensures stays { OnOk result (Stays self.old self.new) }
     {
-        match self.evaluation.enclosing_call(stand.scope) {
+        match self.evaluation.enclosing_call(position.scope) {
             None => Ok(nothing_made()),
-            Some(call) => self.children_of(stand, call, chosen),
+            Some(call) => self.children_of(position, call, chosen),
         }
     }
 
     /// The chosen children of a call, in a new scope inside its caller's.
-    #[cycle(making)]
-    fn children_of(&mut self, stand: Stand, call: Call, chosen: &Chosen) -> Result<Made, Stop>
-        requires stand { Stands self.old stand }
+    #[cycle(instances)]
+    fn children_of(
+        &mut self,
+        position: Position,
+        call: Call,
+        chosen: &Chosen,
+    ) -> Result<InstanceResult, Stop>
+        requires position { Stands self.old position }
         requires caller { call.caller < scopes_there self.old.evaluation }
         requires safe { IsSafeChoice (chosen_of chosen.now) }
         ensures made { let statements = statements_at (text_of self.old.evaluation.source.now) call.children in
             let env = seen self.old.evaluation.source.now (rows_of self.old.evaluation.scopes.now) call.caller in
-            Says made_seen self.old self.new stand result (λ unit judge left make here. children_at left make here (opened statements env) (chosen_of chosen.now)) }
+            Says made_seen self.old self.new position result (λ unit judge left make here. children_at left make here (opened statements env) (chosen_of chosen.now)) }
         ensures stays { OnOk result (Stays self.old self.new) }
     {
         let scope = self.evaluation.enter_body(call.caller, call.children)?;
-        let members = self.members_in_scope(stand.at(scope), call.children, Some(chosen))?;
+        let members = self.members_in_scope(position.at(scope), call.children, Some(chosen))?;
         self.evaluation.leave(scope);
         Ok(joined(self.evaluation.alloc, Op::Union, members)?)
     }

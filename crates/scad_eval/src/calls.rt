@@ -14,130 +14,130 @@ ghost use Rattle.scad_func.specs.Definitions.{IsBlockOf};
 ghost use Rattle.scad_func.specs.Evaluations.{scopes_there};
 ghost use Rattle.scad_meaning.specs.Meaning.{call_made, module_made as module_at};
 ghost use Rattle.scad_eval.specs.Seen.{made_seen};
-ghost use Rattle.scad_eval.specs.Makings.{Stands, Stays, Says};
+ghost use Rattle.scad_eval.specs.Keeping.{Stands, Stays, Says};
 ghost use Rattle.scad_eval.specs.Steps.{module_filled, module_given};
 ghost use Rattle.scad_eval.specs.Within.{body_seen, IsInBlock};
 
+use crate::evaluator::InstanceEvaluator;
 use crate::joins::joined;
-use crate::making::Making;
-use crate::stand::{Made, NumberedBody, Stand};
+use crate::position::{InstanceResult, NumberedBody, Position};
 use csg_tree::Op;
 use scad_ast::Args;
-use scad_func::{ArgumentValues, Names, with};
-use scad_scope::{Call, Module};
+use scad_func::with;
+use scad_scope::{Call, GivenArguments, Module, Names};
 use scad_value::Value;
 use text_place::{Place, Stop};
 
-impl Making<'_, '_> {
+impl InstanceEvaluator<'_, '_> {
     /// A call of a module: the source's go before built-in ones.
-    #[cycle(making)]
+    #[cycle(instances)]
     pub(crate) fn called(
         &mut self,
-        stand: Stand,
+        position: Position,
         place: Place,
         name: &[u8],
         args: &Args,
         body: NumberedBody<'_>,
-    ) -> Result<Made, Stop>
-        requires stand { Stands self.old stand }
+    ) -> Result<InstanceResult, Stop>
+        requires position { Stands self.old position }
         requires block { IsInBlock (text_of self.old.evaluation.source.now) body }
-        ensures made { Says made_seen self.old self.new stand result (λ unit judge left make here.
+        ensures made { Says made_seen self.old self.new position result (λ unit judge left make here.
             call_made unit judge left make here place name.now (args_of args.now) (body_seen body.entry) (module_in here.env name.now)) }
         ensures stays { OnOk result (Stays self.old self.new) }
     {
-        match self.evaluation.module(stand.scope, name) {
+        match self.evaluation.module(position.scope, name) {
             Some((defined, home)) => {
-                let names = Names::Params(defined.params);
-                let given = self.evaluation.each_argument(stand.scope, names, args)?;
-                self.module_called(stand, place, defined, home, given, body)
+                let names = Names::Params(&defined.params.items);
+                let given = self.evaluation.each_argument(position.scope, names, args)?;
+                self.module_called(position, place, defined, home, given, body)
             }
-            None => self.built_in_called(stand, place, name, args, body),
+            None => self.built_in_called(position, place, name, args, body),
         }
     }
 
     /// A module of the source, one call deeper.
-    #[cycle(making)]
+    #[cycle(instances)]
     fn module_called(
         &mut self,
-        stand: Stand,
+        position: Position,
         place: Place,
         defined: Module<'_>,
         home: u32,
-        given: ArgumentValues<'_>,
+        given: GivenArguments<'_, Value>,
         body: NumberedBody<'_>,
-    ) -> Result<Made, Stop>
-        requires stand { Stands self.old stand }
+    ) -> Result<InstanceResult, Stop>
+        requires position { Stands self.old position }
         requires block { IsInBlock (text_of self.old.evaluation.source.now) body }
         requires home { home < scopes_there self.old.evaluation }
         requires its_block { IsBlockOf (text_of self.old.evaluation.source.now) defined.block (body_of defined.body.now) }
         requires count { length given.slots.items ≡ length (params_of defined.params.now) }
         requires bounded { IsTrue (arguments_bounded (arguments_of given)) }
         ensures made { let env = seen self.old.evaluation.source.now (rows_of self.old.evaluation.scopes.now) home in
-            Says made_seen self.old self.new stand result (λ unit judge left make here.
+            Says made_seen self.old self.new position result (λ unit judge left make here.
             module_at left make here place (module_of defined.entry, env) (arguments_of given.entry) (body_seen body.entry)) }
         ensures stays { OnOk result (Stays self.old self.new) }
     {
         let begun = self.begin_counted_call(place);
         let (given, ()) = with(given, begun)?;
-        let made = self.module_with_specials(stand, defined, home, given, body)?;
+        let made = self.module_with_specials(position, defined, home, given, body)?;
         self.evaluation.end_call();
         Ok(made)
     }
 
     /// A module of the source, with its special arguments on the chain.
-    #[cycle(making)]
+    #[cycle(instances)]
     fn module_with_specials(
         &mut self,
-        stand: Stand,
+        position: Position,
         defined: Module<'_>,
         home: u32,
-        given: ArgumentValues<'_>,
+        given: GivenArguments<'_, Value>,
         body: NumberedBody<'_>,
-    ) -> Result<Made, Stop>
-        requires stand { Stands self.old stand }
+    ) -> Result<InstanceResult, Stop>
+        requires position { Stands self.old position }
         requires block { IsInBlock (text_of self.old.evaluation.source.now) body }
         requires home { home < scopes_there self.old.evaluation }
         requires its_block { IsBlockOf (text_of self.old.evaluation.source.now) defined.block (body_of defined.body.now) }
         requires count { length given.slots.items ≡ length (params_of defined.params.now) }
         requires bounded { IsTrue (arguments_bounded (arguments_of given)) }
         ensures made { let env = seen self.old.evaluation.source.now (rows_of self.old.evaluation.scopes.now) home in
-            Says made_seen self.old self.new stand result (λ unit judge left make.
+            Says made_seen self.old self.new position result (λ unit judge left make.
             module_given left make (module_of defined.entry, env) (arguments_of given.entry) (body_seen body.entry)) }
         ensures stays { OnOk result (Stays self.old self.new) }
     {
-        let ArgumentValues { slots, specials } = given;
+        let GivenArguments { slots, specials } = given;
         let begun = self.evaluation.begin_specials(specials);
         let (slots, length) = with(slots, begun)?;
         let values = self.evaluation.each_parameter(home, defined.params, slots)?;
-        let made = self.module_made(stand, defined, home, values, body)?;
+        let made = self.module_made(position, defined, home, values, body)?;
         self.evaluation.end_specials(length);
         Ok(made)
     }
 
     /// A module's body in a scope of its own, with the values of its parameters and the number of its
     /// call's children.
-    #[cycle(making)]
+    #[cycle(instances)]
     fn module_made(
         &mut self,
-        stand: Stand,
+        position: Position,
         defined: Module<'_>,
         home: u32,
         values: Vec<Value>,
         body: NumberedBody<'_>,
-    ) -> Result<Made, Stop>
-        requires stand { Stands self.old stand }
+    ) -> Result<InstanceResult, Stop>
+        requires position { Stands self.old position }
         requires block { IsInBlock (text_of self.old.evaluation.source.now) body }
         requires home { home < scopes_there self.old.evaluation }
         requires its_block { IsBlockOf (text_of self.old.evaluation.source.now) defined.block (body_of defined.body.now) }
         requires count { length values.items ≡ length defined.params.now.items.items }
         requires bounded { IsTrue (are_bounded (vals_in values.items)) }
         ensures made { let env = seen self.old.evaluation.source.now (rows_of self.old.evaluation.scopes.now) home in
-            Says made_seen self.old self.new stand result (λ unit judge left make.
+            Says made_seen self.old self.new position result (λ unit judge left make.
             module_filled left make (module_of defined.entry, env) (vals_from (vals_in values.items)) (body_seen body.entry)) }
         ensures stays { OnOk result (Stays self.old self.new) }
     {
-        let opened = self.enter_module(stand.scope, defined, home, values, body)?;
-        let members = self.members_in_scope(stand.at(opened), defined.block, None)?;
+        let opened = self.enter_module(position.scope, defined, home, values, body)?;
+        let members = self.members_in_scope(position.at(opened), defined.block, None)?;
         self.evaluation.leave(opened);
         Ok(joined(self.evaluation.alloc, Op::Union, members)?)
     }

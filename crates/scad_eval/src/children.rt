@@ -11,10 +11,10 @@ ghost use Rattle.scad_func.specs.Definitions.{statements_at, IsWhole};
 ghost use Rattle.scad_func.specs.Evaluations.{scopes_there};
 ghost use Rattle.scad_meaning.specs.Bodies.{children_in, is_child as is_child_at};
 ghost use Rattle.scad_pieces.specs.Positions.{term_of_numbered, HasBlocks};
-ghost use Rattle.scad_eval.specs.Makings.{Stays};
+ghost use Rattle.scad_eval.specs.Keeping.{Stays};
 ghost use Rattle.scad_eval.specs.Steps.{chosen_seen, instances_chosen, IsSafeChosen};
 
-use crate::making::Making;
+use crate::evaluator::InstanceEvaluator;
 use scad_ast::{Core, Instance};
 use scad_modules::Chosen;
 use scad_pieces::{NumberedInstance, chosen_among, numbered_instances};
@@ -23,7 +23,7 @@ use text_place::NoMemory;
 // The most children of a call: their number is one of the language's.
 const CHILDREN: usize = (1 << 53) - 1;
 
-impl<'a> Making<'a, '_> {
+impl<'a> InstanceEvaluator<'a, '_> {
     /// Whether an instance of a scope is a child: `echo` and `assert` are none, where the source defines no
     /// module of that name. Takes no memory.
     pub(crate) fn is_child(&self, scope: u32, instance: &Instance) -> bool

@@ -13,16 +13,16 @@ ghost use Rattle.scad_func.specs.View.{text_of, seen};
 ghost use Rattle.scad_func.specs.Definitions.{IsBlockOf, IsWhole};
 ghost use Rattle.scad_func.specs.Evaluations.{scopes_there, CallBegins};
 ghost use Rattle.scad_meaning.specs.Meaning.{module_scope};
-ghost use Rattle.scad_eval.specs.Makings.{Enters, StopsBefore};
+ghost use Rattle.scad_eval.specs.Keeping.{Enters, StopsBefore};
 ghost use Rattle.scad_eval.specs.Within.{body_seen, IsInBlock};
 
-use crate::making::Making;
-use crate::stand::NumberedBody;
+use crate::evaluator::InstanceEvaluator;
+use crate::position::NumberedBody;
 use scad_scope::{Call, Module};
 use scad_value::Value;
 use text_place::{NoMemory, Place, Stop};
 
-impl Making<'_, '_> {
+impl InstanceEvaluator<'_, '_> {
     /// One call deeper, and one turn more. TooDeep goes before TooManyTurns.
     pub(crate) fn begin_counted_call(&mut self, place: Place) -> Result<(), Stop>
         ensures begun { OnOk result (CallBegins self.old.evaluation self.new.evaluation) }

@@ -9,65 +9,74 @@ ghost use Rattle.scad_func.specs.View.{text_of};
 ghost use Rattle.scad_meaning.specs.Meaning.{setting, body_made, made_nothing, each_member, core_of, core_made, instance_made};
 ghost use Rattle.scad_pieces.specs.Positions.{term_of_numbered, HasBlocks};
 ghost use Rattle.scad_eval.specs.Seen.{made_seen, members_seen};
-ghost use Rattle.scad_eval.specs.Makings.{Stands, Stays, Says};
+ghost use Rattle.scad_eval.specs.Keeping.{Stands, Stays, Says};
 ghost use Rattle.scad_eval.specs.Within.{body_seen, IsInBlock};
 
-use crate::joins::{fault_at, no_members, nothing_made, set_apart, with_made};
-use crate::making::Making;
-use crate::stand::{Made, Members, NumberedBody, Stand};
+use crate::evaluator::InstanceEvaluator;
+use crate::joins::{no_members, nothing_made, set_apart, with_made};
+use crate::position::{InstanceResult, MemberResults, NumberedBody, Position};
 use csg_tree::Op;
 use scad_ast::{Core, Expr};
 use scad_pieces::{NumberedInstance, is_marked};
+use scad_scope::fault_at;
 use scad_value::truth;
 use text_place::{FaultKind, Stop};
 
-impl Making<'_, '_> {
+impl InstanceEvaluator<'_, '_> {
     /// What an instance gives, one evaluation deeper.
-    #[cycle(making)]
+    #[cycle(instances)]
     pub(crate) fn instance(
         &mut self,
-        stand: Stand,
+        position: Position,
         instance: NumberedInstance<'_>,
-    ) -> Result<Made, Stop>
-        requires stand { Stands self.old stand }
+    ) -> Result<InstanceResult, Stop>
+        requires position { Stands self.old position }
         requires blocks { HasBlocks (text_of self.old.evaluation.source.now) instance }
-        ensures made { Says made_seen self.old self.new stand result (λ unit judge left make here. make here (term_of_numbered instance.entry)) }
+        ensures made { Says made_seen self.old self.new position result (λ unit judge left make here. make here (term_of_numbered instance.entry)) }
         ensures stays { OnOk result (Stays self.old self.new) }
     {
         self.evaluation.begin_evaluation(instance.instance.place())?;
-        let made = self.marked_or_not(stand, instance)?;
+        let made = self.marked_or_not(position, instance)?;
         self.evaluation.end_evaluation();
         Ok(made)
     }
 
     /// What an instance gives at its own depth. The outermost mark `!` counts, and then what it gives is
     /// no part of the design around it.
-    #[cycle(making)]
-    fn marked_or_not(&mut self, stand: Stand, instance: NumberedInstance<'_>) -> Result<Made, Stop>
-        requires stand { Stands self.old stand }
+    #[cycle(instances)]
+    fn marked_or_not(
+        &mut self,
+        position: Position,
+        instance: NumberedInstance<'_>,
+    ) -> Result<InstanceResult, Stop>
+        requires position { Stands self.old position }
         requires blocks { HasBlocks (text_of self.old.evaluation.source.now) instance }
-        ensures made { Says made_seen self.old self.new stand result (λ unit judge left make here. instance_made unit judge left make here (term_of_numbered instance.entry)) }
+        ensures made { Says made_seen self.old self.new position result (λ unit judge left make here. instance_made unit judge left make here (term_of_numbered instance.entry)) }
         ensures stays { OnOk result (Stays self.old self.new) }
     {
         if !is_marked(instance.instance) {
-            return self.core(stand, instance);
+            return self.core(position, instance);
         }
-        if stand.inside.is_some() {
+        if position.inside.is_some() {
             return Err(fault_at(FaultKind::WrongDimension, instance.instance.core.place()));
         }
-        if stand.under_mark {
-            return self.core(stand, instance);
+        if position.under_mark {
+            return self.core(position, instance);
         }
-        let made = self.core(stand.marked(), instance)?;
+        let made = self.core(position.marked(), instance)?;
         Ok(set_apart(made))
     }
 
     /// What an instance gives, whatever its marks are.
-    #[cycle(making)]
-    fn core(&mut self, stand: Stand, instance: NumberedInstance<'_>) -> Result<Made, Stop>
-        requires stand { Stands self.old stand }
+    #[cycle(instances)]
+    fn core(
+        &mut self,
+        position: Position,
+        instance: NumberedInstance<'_>,
+    ) -> Result<InstanceResult, Stop>
+        requires position { Stands self.old position }
         requires blocks { HasBlocks (text_of self.old.evaluation.source.now) instance }
-        ensures made { Says made_seen self.old self.new stand result (λ unit judge left make here. core_made unit judge left make here (core_of (term_of_numbered instance.entry))) }
+        ensures made { Says made_seen self.old self.new position result (λ unit judge left make here. core_made unit judge left make here (core_of (term_of_numbered instance.entry))) }
         ensures stays { OnOk result (Stays self.old self.new) }
     {
         let NumberedInstance {
@@ -77,19 +86,19 @@ impl Making<'_, '_> {
         } = instance;
         match &instance.core {
             Core::If(_, test, body) => {
-                self.one_or_nothing(stand, test, NumberedBody { body, block })
+                self.one_or_nothing(position, test, NumberedBody { body, block })
             }
             Core::IfElse(_, test, body, behind) => {
                 let behind = NumberedBody {
                     body: behind,
                     block: other,
                 };
-                self.one_or_other(stand, test, NumberedBody { body, block }, behind)
+                self.one_or_other(position, test, NumberedBody { body, block }, behind)
             }
             Core::For(place, binders, body) => {
                 self.looped(
                     Op::Union,
-                    stand,
+                    position,
                     *place,
                     binders,
                     NumberedBody { body, block },
@@ -97,77 +106,77 @@ impl Making<'_, '_> {
             }
             Core::IntersectionFor(place, binders, body) => {
                 let body = NumberedBody { body, block };
-                self.looped(Op::Intersection, stand, *place, binders, body)
+                self.looped(Op::Intersection, position, *place, binders, body)
             }
             Core::Call(place, name, args, body) => {
                 let body = NumberedBody { body, block };
-                self.called(stand, *place, name.items(), args, body)
+                self.called(position, *place, name.items(), args, body)
             }
         }
     }
 
     /// A body, where a test holds.
-    #[cycle(making)]
+    #[cycle(instances)]
     fn one_or_nothing(
         &mut self,
-        stand: Stand,
+        position: Position,
         test: &Expr,
         body: NumberedBody<'_>,
-    ) -> Result<Made, Stop>
-        requires stand { Stands self.old stand }
+    ) -> Result<InstanceResult, Stop>
+        requires position { Stands self.old position }
         requires block { IsInBlock (text_of self.old.evaluation.source.now) body }
-        ensures made { Says made_seen self.old self.new stand result (λ unit judge left make here turns leaves.
+        ensures made { Says made_seen self.old self.new position result (λ unit judge left make here turns leaves.
             then_with (value_at (setting left here) true (term_of test.now) turns) (λ turns v.
             if truth_of v then body_made left make Union here (body_seen body.entry) turns leaves else Gives turns (made_nothing leaves))) }
         ensures stays { OnOk result (Stays self.old self.new) }
     {
-        let value = self.evaluation.expression(stand.scope, test)?;
+        let value = self.evaluation.expression(position.scope, test)?;
         if truth(&value) {
-            return self.body(Op::Union, stand, body);
+            return self.body(Op::Union, position, body);
         }
         Ok(nothing_made())
     }
 
     /// One of two bodies, by a test.
-    #[cycle(making)]
+    #[cycle(instances)]
     fn one_or_other(
         &mut self,
-        stand: Stand,
+        position: Position,
         test: &Expr,
         body: NumberedBody<'_>,
         other: NumberedBody<'_>,
-    ) -> Result<Made, Stop>
-        requires stand { Stands self.old stand }
+    ) -> Result<InstanceResult, Stop>
+        requires position { Stands self.old position }
         requires block { IsInBlock (text_of self.old.evaluation.source.now) body }
         requires other { IsInBlock (text_of self.old.evaluation.source.now) other }
-        ensures made { Says made_seen self.old self.new stand result (λ unit judge left make here turns leaves.
+        ensures made { Says made_seen self.old self.new position result (λ unit judge left make here turns leaves.
             then_with (value_at (setting left here) true (term_of test.now) turns) (λ turns v.
             body_made left make Union here (if truth_of v then body_seen body.entry else body_seen other.entry) turns leaves)) }
         ensures stays { OnOk result (Stays self.old self.new) }
     {
-        let value = self.evaluation.expression(stand.scope, test)?;
+        let value = self.evaluation.expression(position.scope, test)?;
         if truth(&value) {
-            return self.body(Op::Union, stand, body);
+            return self.body(Op::Union, position, body);
         }
-        self.body(Op::Union, stand, other)
+        self.body(Op::Union, position, other)
     }
 
     /// What instances give, from the first on. Those that only say something are no members.
-    #[cycle(making)]
+    #[cycle(instances)]
     pub(crate) fn members(
         &mut self,
-        stand: Stand,
+        position: Position,
         instances: &[NumberedInstance<'_>],
-    ) -> Result<Members, Stop>
-        requires stand { Stands self.old stand }
+    ) -> Result<MemberResults, Stop>
+        requires position { Stands self.old position }
         requires blocks { All (HasBlocks (text_of self.old.evaluation.source.now)) instances.now }
-        ensures members { Says members_seen self.old self.new stand result (λ unit judge left make here. each_member make here (map term_of_numbered instances.now)) }
+        ensures members { Says members_seen self.old self.new position result (λ unit judge left make here. each_member make here (map term_of_numbered instances.now)) }
         ensures stays { OnOk result (Stays self.old self.new) }
     {
         let mut members = no_members(self.evaluation.alloc);
         'each: for instance in instances {
-            let is_member = self.is_child(stand.scope, instance.instance);
-            let next = self.instance(stand, *instance);
+            let is_member = self.is_child(position.scope, instance.instance);
+            let next = self.instance(position, *instance);
             members = with_made(members, is_member, next)?;
         }
         Ok(members)

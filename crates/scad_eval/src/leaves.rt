@@ -4,31 +4,31 @@ ghost use Rattle.std.specs.Prelude.{◌≡◌};
 ghost use Rattle.scad_modules.specs.Bounds.{IsSafeSolid, IsSafeFlat};
 ghost use Rattle.scad_modules.specs.View.{solid_of as solid_call, flat_of as flat_call};
 ghost use Rattle.scad_design.specs.View.{plain_of};
-ghost use Rattle.scad_eval.specs.declared.stand.Stand.{Stand as StandIn};
+ghost use Rattle.scad_eval.specs.declared.position.Position.{Position};
 ghost use Rattle.scad_meaning.specs.Verdicts.{solid_of, extruded};
 ghost use Rattle.scad_meaning.specs.Meaning.{checked, leaf_made, flat_made, hull_made};
 ghost use Rattle.scad_eval.specs.Seen.{made_seen, IsStopAt};
-ghost use Rattle.scad_eval.specs.Makings.{IsThrough, Stands, Stays, Says};
+ghost use Rattle.scad_eval.specs.Keeping.{IsThrough, Stands, Stays, Says};
 
-use crate::joins::fault_at;
-use crate::making::Making;
-use crate::stand::{Made, Stand};
+use crate::evaluator::InstanceEvaluator;
+use crate::position::{InstanceResult, Position};
 use primitives::extrude;
 use scad_design::{Design, Part};
 use scad_meaning::Extrusion;
 use scad_modules::{FlatShape, SolidShape};
 use scad_pieces::{design_hull, flat_shape, is_nothing, solid_shape};
+use scad_scope::fault_at;
 use shape_planes::{Shape, ShapeStop};
 use text_place::{FaultKind, Place, Stop};
 
 // The most leaves of one design.
 const LEAVES: u32 = 1024;
 
-impl Making<'_, '_> {
+impl InstanceEvaluator<'_, '_> {
     /// A solid, as one leaf more.
-    pub(crate) fn solid(&mut self, place: Place, shape: &SolidShape) -> Result<Made, Stop>
+    pub(crate) fn solid(&mut self, place: Place, shape: &SolidShape) -> Result<InstanceResult, Stop>
         requires { IsSafeSolid (solid_call shape.now) }
-        ensures made { (s : StandIn) → Says made_seen self.old self.new s result (λ unit judge left make here turns leaves.
+        ensures made { (s : Position) → Says made_seen self.old self.new s result (λ unit judge left make here turns leaves.
             checked (judge.solid unit (solid_call shape.now)) place (leaf_made place (solid_of unit (solid_call shape.now)) turns leaves)) }
         ensures stays { Stays self.old self.new }
     {
@@ -41,16 +41,16 @@ impl Making<'_, '_> {
     /// A shape in the plane, which stands inside an extrusion, as one leaf more.
     pub(crate) fn flat(
         &mut self,
-        stand: Stand,
+        position: Position,
         place: Place,
         shape: &FlatShape,
-    ) -> Result<Made, Stop>
-        requires stand { Stands self.old stand }
+    ) -> Result<InstanceResult, Stop>
+        requires position { Stands self.old position }
         requires safe { IsSafeFlat (flat_call shape.now) }
-        ensures made { Says made_seen self.old self.new stand result (λ unit judge left make here. flat_made unit judge here.inside place (flat_call shape.now)) }
+        ensures made { Says made_seen self.old self.new position result (λ unit judge left make here. flat_made unit judge here.inside place (flat_call shape.now)) }
         ensures stays { Stays self.old self.new }
     {
-        match stand.inside {
+        match position.inside {
             None => Err(fault_at(FaultKind::WrongDimension, place)),
             Some(through) => self.flat_through(place, through, shape),
         }
@@ -62,10 +62,10 @@ impl Making<'_, '_> {
         place: Place,
         through: Extrusion,
         shape: &FlatShape,
-    ) -> Result<Made, Stop>
+    ) -> Result<InstanceResult, Stop>
         requires through { IsThrough self.old.unit through }
         requires safe { IsSafeFlat (flat_call shape.now) }
-        ensures made { (s : StandIn) → Says made_seen self.old self.new s result (λ unit judge left make here turns leaves.
+        ensures made { (s : Position) → Says made_seen self.old self.new s result (λ unit judge left make here turns leaves.
             checked (judge.flat unit (flat_call shape.now)) place (leaf_made place (extruded unit through (flat_call shape.now)) turns leaves)) }
         ensures stays { Stays self.old self.new }
     {
@@ -81,19 +81,23 @@ impl Making<'_, '_> {
 
     /// The hull of what children give, as one leaf more in place of their design. Where that is
     /// nothing, it stays so.
-    pub(crate) fn hull(&mut self, place: Place, made: Made) -> Result<Made, Stop>
-        ensures made { (s : StandIn) → Says made_seen self.old self.new s result (λ unit judge left make here turns leaves.
+    pub(crate) fn hull(
+        &mut self,
+        place: Place,
+        made: InstanceResult,
+    ) -> Result<InstanceResult, Stop>
+        ensures made { (s : Position) → Says made_seen self.old self.new s result (λ unit judge left make here turns leaves.
             hull_made (judge.hull (plain_of made.design)) place (made_seen leaves made) turns) }
         ensures stays { Stays self.old self.new }
     {
-        let Made { design, marked } = made;
+        let InstanceResult { design, marked } = made;
         if is_nothing(&design) {
-            return Ok(Made { design, marked });
+            return Ok(InstanceResult { design, marked });
         }
         match design_hull(self.evaluation.alloc, &design) {
             Ok(shape) => {
                 let leaf = self.leaf(place, shape)?;
-                Ok(Made {
+                Ok(InstanceResult {
                     design: leaf.design,
                     marked,
                 })
@@ -103,15 +107,15 @@ impl Making<'_, '_> {
     }
 
     /// One leaf more. TooManyParts where it is the 1,025th.
-    fn leaf(&mut self, place: Place, shape: Shape) -> Result<Made, Stop>
-        ensures made { (s : StandIn) → Says made_seen self.old self.new s result (λ unit judge left make here turns leaves. leaf_made place shape turns leaves) }
+    fn leaf(&mut self, place: Place, shape: Shape) -> Result<InstanceResult, Stop>
+        ensures made { (s : Position) → Says made_seen self.old self.new s result (λ unit judge left make here turns leaves. leaf_made place shape turns leaves) }
         ensures stays { Stays self.old self.new }
     {
         if self.leaves == LEAVES {
             return Err(fault_at(FaultKind::TooManyParts, place));
         }
         self.leaves += 1;
-        Ok(Made {
+        Ok(InstanceResult {
             design: Design::Leaf(Part::of(self.evaluation.alloc, shape, place)),
             marked: None,
         })

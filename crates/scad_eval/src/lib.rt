@@ -8,14 +8,14 @@ mod called_children;
 mod calls;
 mod children;
 mod entering;
+mod evaluator;
 mod instances;
 mod items;
 mod joins;
 mod leaves;
 mod loops;
-mod making;
+mod position;
 mod program;
 mod scopes;
-mod stand;
 
 pub use program::evaluate;

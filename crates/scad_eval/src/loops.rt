@@ -9,16 +9,17 @@ ghost use Rattle.scad_func.specs.View.{text_of};
 ghost use Rattle.scad_meaning.specs.Meaning.{loop_made, each_turn, each_step, in_loop};
 ghost use Rattle.scad_eval.specs.Items.{left_in};
 ghost use Rattle.scad_eval.specs.Seen.{made_seen, members_seen};
-ghost use Rattle.scad_eval.specs.Makings.{Stands, Stays, Says};
+ghost use Rattle.scad_eval.specs.Keeping.{Stands, Stays, Says};
 ghost use Rattle.scad_eval.specs.Steps.{one_step};
 ghost use Rattle.scad_eval.specs.Within.{body_seen, IsInBlock};
 
+use crate::evaluator::InstanceEvaluator;
 use crate::items::Items;
-use crate::joins::{fault_at, joined, no_members, with_made, with_members};
-use crate::making::Making;
-use crate::stand::{Made, Members, NumberedBody, Stand};
+use crate::joins::{joined, no_members, with_made, with_members};
+use crate::position::{InstanceResult, MemberResults, NumberedBody, Position};
 use csg_tree::Op;
 use scad_ast::{Binder, Binders};
+use scad_scope::fault_at;
 use scad_value::Value;
 use text_place::{FaultKind, Place, Stop};
 
@@ -26,51 +27,51 @@ use text_place::{FaultKind, Place, Stop};
 // many, so only very many variables of loops in one another come to it: the stack has no room for more.
 const SCOPES: u32 = 2048;
 
-impl Making<'_, '_> {
+impl InstanceEvaluator<'_, '_> {
     /// The members of a loop's turns, joined by an operation.
-    #[cycle(making)]
+    #[cycle(instances)]
     pub(crate) fn looped(
         &mut self,
         op: Op,
-        stand: Stand,
+        position: Position,
         place: Place,
         binders: &Binders,
         body: NumberedBody<'_>,
-    ) -> Result<Made, Stop>
-        requires stand { Stands self.old stand }
+    ) -> Result<InstanceResult, Stop>
+        requires position { Stands self.old position }
         requires block { IsInBlock (text_of self.old.evaluation.source.now) body }
-        ensures made { Says made_seen self.old self.new stand result (λ unit judge left make here. loop_made left make op here place (binders_of binders.now) (body_seen body.entry)) }
+        ensures made { Says made_seen self.old self.new position result (λ unit judge left make here. loop_made left make op here place (binders_of binders.now) (body_seen body.entry)) }
         ensures stays { OnOk result (Stays self.old self.new) }
     {
         // A source has far fewer; the bound is for the proof that evaluation ends.
         if binders.items.len() > u32::MAX as usize {
             return Err(Stop::NoMemory);
         }
-        let members = self.turns(stand, place, &binders.items, body)?;
+        let members = self.turns(position, place, &binders.items, body)?;
         Ok(joined(self.evaluation.alloc, op, members)?)
     }
 
     /// The turns of a loop: one for each choice of a value for every variable, the first one slowest.
-    #[cycle(making)]
+    #[cycle(instances)]
     fn turns(
         &mut self,
-        stand: Stand,
+        position: Position,
         place: Place,
         binders: &[Binder],
         body: NumberedBody<'_>,
-    ) -> Result<Members, Stop>
-        requires stand { Stands self.old stand }
+    ) -> Result<MemberResults, Stop>
+        requires position { Stands self.old position }
         requires block { IsInBlock (text_of self.old.evaluation.source.now) body }
-        ensures members { Says members_seen self.old self.new stand result (λ unit judge left make. each_turn left make place (map binder_of binders.now) (body_seen body.entry)) }
+        ensures members { Says members_seen self.old self.new position result (λ unit judge left make. each_turn left make place (map binder_of binders.now) (body_seen body.entry)) }
         ensures stays { OnOk result (Stays self.old self.new) }
     {
         match binders.split_first() {
-            None => self.one_turn(stand, place, body),
+            None => self.one_turn(position, place, body),
             Some((binder, rest)) => {
-                let value = self.evaluation.expression(stand.scope, &binder.values)?;
+                let value = self.evaluation.expression(position.scope, &binder.values)?;
                 match Items::of(value) {
                     Some(items) => {
-                        self.each_item(stand, place, binder.name.items(), rest, body, items)
+                        self.each_item(position, place, binder.name.items(), rest, body, items)
                     }
                     None => Err(fault_at(FaultKind::TypeMismatch, place)),
                 }
@@ -79,67 +80,67 @@ impl Making<'_, '_> {
     }
 
     /// One turn gives the union of the loop's body.
-    #[cycle(making)]
+    #[cycle(instances)]
     fn one_turn(
         &mut self,
-        stand: Stand,
+        position: Position,
         place: Place,
         body: NumberedBody<'_>,
-    ) -> Result<Members, Stop>
-        requires stand { Stands self.old stand }
+    ) -> Result<MemberResults, Stop>
+        requires position { Stands self.old position }
         requires block { IsInBlock (text_of self.old.evaluation.source.now) body }
-        ensures members { Says members_seen self.old self.new stand result (λ unit judge left make. each_turn left make place [] (body_seen body.entry)) }
+        ensures members { Says members_seen self.old self.new position result (λ unit judge left make. each_turn left make place [] (body_seen body.entry)) }
         ensures stays { OnOk result (Stays self.old self.new) }
     {
         self.evaluation.turn(place)?;
-        let made = self.body(Op::Union, stand, body);
+        let made = self.body(Op::Union, position, body);
         with_made(no_members(self.evaluation.alloc), true, made)
     }
 
     /// The turns of a loop for each value of a variable, with the variables behind it.
-    #[cycle(making)]
+    #[cycle(instances)]
     fn each_item(
         &mut self,
-        stand: Stand,
+        position: Position,
         place: Place,
         name: &[u8],
         rest: &[Binder],
         body: NumberedBody<'_>,
         items: Items,
-    ) -> Result<Members, Stop>
-        requires stand { Stands self.old stand }
+    ) -> Result<MemberResults, Stop>
+        requires position { Stands self.old position }
         requires block { IsInBlock (text_of self.old.evaluation.source.now) body }
-        ensures members { Says members_seen self.old self.new stand result (λ unit judge left make here.
+        ensures members { Says members_seen self.old self.new position result (λ unit judge left make here.
             each_step place (λ item. each_turn left make place (map binder_of rest.now) (body_seen body.entry) (in_loop here name.now item)) (left_in items.left)) }
         ensures stays { OnOk result (Stays self.old self.new) }
     {
         let mut left = items;
         let mut members = no_members(self.evaluation.alloc);
         'each: while let Some(value) = left.next() {
-            let next = self.step(stand, place, name, rest, body, value);
+            let next = self.step(position, place, name, rest, body, value);
             members = with_members(members, next)?;
         }
         Ok(members)
     }
 
     /// The turns of a loop for one value of a variable. Where nothing followed, that counts one turn.
-    #[cycle(making)]
+    #[cycle(instances)]
     fn step(
         &mut self,
-        stand: Stand,
+        position: Position,
         place: Place,
         name: &[u8],
         rest: &[Binder],
         body: NumberedBody<'_>,
         value: Value,
-    ) -> Result<Members, Stop>
-        requires stand { Stands self.old stand }
+    ) -> Result<MemberResults, Stop>
+        requires position { Stands self.old position }
         requires block { IsInBlock (text_of self.old.evaluation.source.now) body }
         requires bounded { IsTrue (is_bounded (val_of value)) }
-        ensures members { Says members_seen self.old self.new stand result (λ unit judge left make. one_step left make place name.now (map binder_of rest.now) (body_seen body.entry) (val_of value)) }
+        ensures members { Says members_seen self.old self.new position result (λ unit judge left make. one_step left make place name.now (map binder_of rest.now) (body_seen body.entry) (val_of value)) }
         ensures stays { OnOk result (Stays self.old self.new) }
     {
-        let members = self.turns_with(stand, place, name, rest, body, value)?;
+        let members = self.turns_with(position, place, name, rest, body, value)?;
         if members.designs.is_empty() {
             self.evaluation.turn(place)?;
         }
@@ -148,28 +149,28 @@ impl Making<'_, '_> {
 
     /// The turns of a loop for one value of a variable, which has a scope of its own. `NoMemory` where too many
     /// scopes stand in one another.
-    #[cycle(making)]
+    #[cycle(instances)]
     fn turns_with(
         &mut self,
-        stand: Stand,
+        position: Position,
         place: Place,
         name: &[u8],
         rest: &[Binder],
         body: NumberedBody<'_>,
         value: Value,
-    ) -> Result<Members, Stop>
-        requires stand { Stands self.old stand }
+    ) -> Result<MemberResults, Stop>
+        requires position { Stands self.old position }
         requires block { IsInBlock (text_of self.old.evaluation.source.now) body }
         requires bounded { IsTrue (is_bounded (val_of value)) }
-        ensures members { Says members_seen self.old self.new stand result (λ unit judge left make here. each_turn left make place (map binder_of rest.now) (body_seen body.entry) (in_loop here name.now (val_of value))) }
+        ensures members { Says members_seen self.old self.new position result (λ unit judge left make here. each_turn left make place (map binder_of rest.now) (body_seen body.entry) (in_loop here name.now (val_of value))) }
         ensures stays { OnOk result (Stays self.old self.new) }
     {
-        let scope = self.evaluation.enter_empty(stand.scope)?;
+        let scope = self.evaluation.enter_empty(position.scope)?;
         if scope > SCOPES {
             return Err(Stop::NoMemory);
         }
         self.evaluation.bind(scope, name, value)?;
-        let members = self.turns(stand.at(scope), place, rest, body)?;
+        let members = self.turns(position.at(scope), place, rest, body)?;
         self.evaluation.leave(scope);
         Ok(members)
     }

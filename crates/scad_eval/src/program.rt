@@ -12,8 +12,8 @@ ghost use Rattle.scad_meaning.specs.Meaning.{or_all};
 ghost use Rattle.scad_meaning.specs.Sources.{IsMeaning, a_tree, IsMeaningStop, HoldsFault};
 ghost use Rattle.scad_eval.specs.Programs.{TellsDesign, IsFirstTable};
 
-use crate::making::Making;
-use crate::stand::{Members, Stand};
+use crate::evaluator::InstanceEvaluator;
+use crate::position::{MemberResults, Position};
 use csg_tree::{CsgTree, Op};
 use plane_predicate::Unit;
 use scad_ast::Program;
@@ -49,7 +49,7 @@ fn design_of(
     requires whole { IsWhole (text_of source.now) }
     ensures { (program : List StatementTerm) → IsTextOf source.now program → TellsDesign unit program result }
 {
-    let mut making = Making {
+    let mut evaluator = InstanceEvaluator {
         evaluation: Evaluation {
             alloc,
             source,
@@ -61,21 +61,21 @@ fn design_of(
         unit,
         leaves: 0,
     };
-    let scope = making.evaluation.enter_body(0, 0)?;
-    let stand = Stand {
+    let scope = evaluator.evaluation.enter_body(0, 0)?;
+    let position = Position {
         scope,
         inside: None,
         under_mark: false,
     };
-    let members = making.members_in_scope(stand, 0, None)?;
+    let members = evaluator.members_in_scope(position, 0, None)?;
     Ok(first_or_all(alloc, members)?)
 }
 
 /// The first design that is marked `!`, or else all.
-fn first_or_all(alloc: Global, members: Members) -> Result<Design, NoMemory>
+fn first_or_all(alloc: Global, members: MemberResults) -> Result<Design, NoMemory>
     ensures { IfOk result (λ design. plain_of design ≡ or_all (option_map plain_of members.marked) (map plain_of members.designs.items)) }
 {
-    let Members { designs, marked } = members;
+    let MemberResults { designs, marked } = members;
     match marked {
         Some(design) => Ok(design),
         None => balanced(alloc, Op::Union, designs),

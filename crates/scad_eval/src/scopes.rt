@@ -6,69 +6,73 @@ ghost use Rattle.scad_func.specs.Definitions.{statements_at};
 ghost use Rattle.scad_func.specs.Evaluations.{scopes_there};
 ghost use Rattle.scad_meaning.specs.Meaning.{each_in_body, body_made};
 ghost use Rattle.scad_eval.specs.Seen.{made_seen, members_seen};
-ghost use Rattle.scad_eval.specs.Makings.{Stands, Stays, Binds, Says};
+ghost use Rattle.scad_eval.specs.Keeping.{Stands, Stays, Binds, Says};
 ghost use Rattle.scad_eval.specs.Steps.{chosen_seen, block_members, IsSafeChosen};
 ghost use Rattle.scad_eval.specs.Within.{body_seen, IsInBlock};
 
+use crate::evaluator::InstanceEvaluator;
 use crate::joins::joined;
-use crate::making::Making;
-use crate::stand::{Made, Members, NumberedBody, Stand};
+use crate::position::{InstanceResult, MemberResults, NumberedBody, Position};
 use csg_tree::Op;
 use scad_modules::Chosen;
 use text_place::Stop;
 
-impl Making<'_, '_> {
+impl InstanceEvaluator<'_, '_> {
     /// A body's members joined by an operation.
-    #[cycle(making)]
+    #[cycle(instances)]
     pub(crate) fn body(
         &mut self,
         op: Op,
-        stand: Stand,
+        position: Position,
         body: NumberedBody<'_>,
-    ) -> Result<Made, Stop>
-        requires stand { Stands self.old stand }
+    ) -> Result<InstanceResult, Stop>
+        requires position { Stands self.old position }
         requires block { IsInBlock (text_of self.old.evaluation.source.now) body }
-        ensures made { Says made_seen self.old self.new stand result (λ unit judge left make here. body_made left make op here (body_seen body.entry)) }
+        ensures made { Says made_seen self.old self.new position result (λ unit judge left make here. body_made left make op here (body_seen body.entry)) }
         ensures stays { OnOk result (Stays self.old self.new) }
     {
-        let members = self.members_of_body(stand, body)?;
+        let members = self.members_of_body(position, body)?;
         Ok(joined(self.evaluation.alloc, op, members)?)
     }
 
     /// A body's members, in a new scope inside where it stands.
-    #[cycle(making)]
-    fn members_of_body(&mut self, stand: Stand, body: NumberedBody<'_>) -> Result<Members, Stop>
-        requires stand { Stands self.old stand }
+    #[cycle(instances)]
+    fn members_of_body(
+        &mut self,
+        position: Position,
+        body: NumberedBody<'_>,
+    ) -> Result<MemberResults, Stop>
+        requires position { Stands self.old position }
         requires block { IsInBlock (text_of self.old.evaluation.source.now) body }
-        ensures members { Says members_seen self.old self.new stand result (λ unit judge left make here. each_in_body left make here (body_seen body.entry)) }
+        ensures members { Says members_seen self.old self.new position result (λ unit judge left make here. each_in_body left make here (body_seen body.entry)) }
         ensures stays { OnOk result (Stays self.old self.new) }
     {
-        let scope = self.evaluation.enter_body(stand.scope, body.block)?;
-        let members = self.members_in_scope(stand.at(scope), body.block, None)?;
+        let scope = self.evaluation.enter_body(position.scope, body.block)?;
+        let members = self.members_in_scope(position.at(scope), body.block, None)?;
         self.evaluation.leave(scope);
         Ok(members)
     }
 
     /// The members of a block whose scope is the newest one: its assignments, then its instances, or of
     /// its children those that are chosen. Its special names are on the chain meanwhile.
-    #[cycle(making)]
+    #[cycle(instances)]
     pub(crate) fn members_in_scope(
         &mut self,
-        stand: Stand,
+        position: Position,
         block: u32,
         chosen: Option<&Chosen>,
-    ) -> Result<Members, Stop>
-        requires stand { Stands self.old stand }
-        requires newest { stand.scope + 1 ≡ scopes_there self.old.evaluation }
+    ) -> Result<MemberResults, Stop>
+        requires position { Stands self.old position }
+        requires newest { position.scope + 1 ≡ scopes_there self.old.evaluation }
         requires safe { IsSafeChosen chosen }
         ensures members { let statements = statements_at (text_of self.old.evaluation.source.now) block in
-            Says members_seen self.old self.new stand result (λ unit judge left make. block_members left make (chosen_seen chosen.entry) statements) }
-        ensures binds { OnOk result (Binds self.old self.new stand.scope) }
+            Says members_seen self.old self.new position result (λ unit judge left make. block_members left make (chosen_seen chosen.entry) statements) }
+        ensures binds { OnOk result (Binds self.old self.new position.scope) }
     {
         let length = self.evaluation.chain_length()?;
-        self.assign_all(stand, block)?;
-        let instances = self.chosen_instances(stand.scope, block, chosen)?;
-        let members = self.members(stand, &instances)?;
+        self.assign_all(position, block)?;
+        let instances = self.chosen_instances(position.scope, block, chosen)?;
+        let members = self.members(position, &instances)?;
         self.evaluation.end_specials(length);
         Ok(members)
     }

@@ -8,7 +8,7 @@ use Rattle.scad_grammar.specs.Faults.{one, fault_of, left_out}
 use Rattle.scad_grammar.specs.Grammar.{given_of}
 use Rattle.scad_grammar.specs.Reading.{Read, after, mapped}
 use Rattle.scad_grammar.specs.Reads.{given, arg_in, expr_read}
-use Rattle.scad_expressions.specs.Views.{gives_value}
+use Rattle.scad_tokens.specs.Views.{gives_value}
 
 both_hold : (b c : Bool) → (b && c) ≡ true → (b ≡ true) × (c ≡ true)
 both_hold true true e = (refl, refl)

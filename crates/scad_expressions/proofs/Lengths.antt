@@ -15,8 +15,8 @@ use Rattle.scad_grammar.proofs.Readers.{Told, IsReader, Opens}
 use Rattle.scad_grammar.proofs.Shrinks.{left, Shrinks, one_shrinks, nothing_shrinks, mapped_shrinks, both_shrinks, choice_shrinks, ahead_shrinks, many_shrinks}
 use Rattle.scad_grammar.proofs.Expressions.{depth_reads}
 use Rattle.scad_grammar.proofs.Statements.{statement_depth_reads, statement_depth_opens}
-use Rattle.scad_expressions.specs.declared.class.Level.{Level}
-use Rattle.scad_expressions.specs.TokenClasses.{operators_at, levels_below}
+use Rattle.scad_tokens.specs.declared.class.Level.{Level}
+use Rattle.scad_tokens.specs.TokenClasses.{operators_at, levels_below}
 use Rattle.scad_expressions.proofs.Loops.{Shorter, Strictly}
 
 shorter : {A : Type 0} (r : Reads A) → Shrinks r → Shorter r

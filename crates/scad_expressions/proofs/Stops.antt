@@ -9,9 +9,9 @@ use Rattle.scad_ast.specs.ExprView.{term_of, terms_of, link_of, suffix_of, arg_o
 use Rattle.scad_ast.specs.StatementView.{param_of, params_of, binder_of, binders_of, mark_of, marks_of, statement_of, statements_of}
 use Rattle.scad_grammar.specs.declared.SyntaxFault.{SyntaxFault}
 use Rattle.scad_grammar.specs.Reading.{Read}
-use Rattle.scad_expressions.specs.declared.next.Stopped.{Stopped}
-use Rattle.scad_expressions.specs.declared.next.Stopped.TheVariants.{Fault, NoMemory}
-use Rattle.scad_expressions.specs.Views.{Gives}
+use Rattle.scad_tokens.specs.declared.next.Stopped.{Stopped}
+use Rattle.scad_tokens.specs.declared.next.Stopped.TheVariants.{Fault, NoMemory}
+use Rattle.scad_tokens.specs.Views.{Gives}
 
 -- a fault of a part is one of the whole
 abbrev GoesOn : {A X : Type 0} → (A → X) → {B Y : Type 0} → (B → Y) → Type 0

@@ -1,3 +1,1 @@
 pub mod Climbing
-pub mod TokenClasses
-pub mod Views

@@ -9,20 +9,19 @@ ghost use Rattle.scad_grammar.specs.Languages.{pair_of, second_of};
 ghost use Rattle.scad_grammar.specs.Reading.{starts, both, mapped, many, trailing, in_front};
 ghost use Rattle.scad_grammar.specs.Reads.{expr_read, operand_read, arg_in, args_read, primary_read, unary_read, postfix_read, suffix_read, chain_read, choice_read, name_read, paren_read, bracket_read, range_read, rest_read, in_parentheses};
 ghost use Rattle.scad_expressions.specs.Climbing.{climb_read};
-ghost use Rattle.scad_expressions.specs.TokenClasses.{operators_at, levels_below, atoms, literals, suffix_signs, unary_signs};
-ghost use Rattle.scad_expressions.specs.Views.{Gives, atom_of};
+ghost use Rattle.scad_tokens.specs.TokenClasses.{operators_at, levels_below, atoms, literals, suffix_signs, unary_signs};
+ghost use Rattle.scad_tokens.specs.Views.{Gives, atom_of};
 
-use crate::class::{Class, Level};
-use crate::next::{
-    Parsed, behind_comma, binary, bytes, is_before, is_comma_before, is_given, list_of, lone_atom,
-    take, take_first, too_deep, unary_operator, with,
-};
 use compact_bytes::CompactBytes;
 use scad_ast::{
     Arg, Args, Call, Chain, Choice, Expr, Exprs, Link, Links, Postfix, Range, SteppedRange, Suffix,
     Suffixes,
 };
 use scad_lexer::{Reserved, Symbol, Token, TokenKind};
+use scad_tokens::{
+    Class, Level, Parsed, behind_comma, binary, bytes, is_before, is_comma_before, is_given,
+    list_of, lone_atom, take, take_first, too_deep, unary_operator, with,
+};
 use std::alloc::{AllocError, Global};
 
 // What is rare stands in functions that are not inlined: the locals of a function are cleared at each call, also

@@ -12,11 +12,15 @@ use Rattle.scad_value.specs.View.{val_of, vals_in}
 use Rattle.scad_builtin.specs.Builtins.{are_bounded}
 use Rattle.scad_ast.specs.Terms.{ArgTerms, ArgTerm}
 use Rattle.std.proofs.lemmas.Bool.{and_parts, and_from}
-use Rattle.scad_scope.specs.Arguments.{positional_after}
-use Rattle.scad_func.specs.Meaning.{Outcome, Gives, Setting, value_at, then_with, Arguments, Taker, to_parameter, to_special, taker_of, with_argument, each_argument}
+use Rattle.scad_scope.specs.Arguments.{positional_after, Taker, to_parameter, to_special, taker_of, with_argument}
+use Rattle.scad_func.specs.Meaning.{Outcome, Gives, Faults, Setting, value_at, then_with, Arguments, each_argument}
+use Rattle.text_place.specs.declared.fault.Place.{Place}
+use Rattle.text_place.specs.declared.fault.FaultKind.TheVariants.{BadArgument}
+use Rattle.scad_scope.specs.ArgumentsView.{IsFault}
 use Rattle.scad_func.specs.Steps.{argument_of}
-use Rattle.scad_func.specs.View.{Tells, TellsAll, TellsArguments, IsLonger, IsGiven, arguments_of, arguments_bounded}
-use Rattle.scad_func.specs.declared.arguments.ArgumentValues.{ArgumentValues}
+use Rattle.scad_func.specs.View.{Tells, TellsAll, TellsArguments, IsLonger, arguments_of, arguments_bounded}
+use Rattle.scad_func.proofs.GivenSeen.{IsHeld}
+use Rattle.scad_scope.specs.declared.parameters.GivenArguments.{GivenArguments}
 use Rattle.scad_func.proofs.Calls.{in_front}
 use Rattle.scad_func.proofs.Outcomes.{front_more, bounded_more, and_arg}
 use Rattle.scad_func.proofs.Steps.{argument_more, argument_fault, bounded_set}
@@ -30,7 +34,7 @@ module _ (start : Outcome Vals) (before : List Value) (now : Outcome Vals) (step
       → Tells r then step → start ≡ in_front (vals_in longer.items) (go then)
   longer_told (Ok v) longer then l t =
       s ∙ ap (in_front (vals_in before)) h
-      ∙ ap (λ o. in_front (vals_in before) (and_then o go)) t
+      ∙ ap (λ o. in_front (vals_in before) (and_then o go)) t.0
       ∙ front_more (vals_in before) (val_of v) (go then)
       ∙ ap (λ vs. in_front vs (go then)) (sym (ap vals_in l ∙ map-append val_of before (v ∷ [])))
   longer_told (Err stop) longer then l t = absurd l
@@ -45,6 +49,11 @@ module _ (start : Outcome Vals) (before : List Value) (now : Outcome Vals) (step
   longer_fault (Ok v) stop m n l t = subst (λ (x : Stop). TellsAll (Err x) n start) (sym l) tt
   longer_fault (Err f) stop m n l t =
       subst (λ (x : Stop). TellsAll (Err x) n start) (sym l) (fault_told f m n t)
+
+-- a value that was told is bounded
+pub told_bounded : (r : Result Value Stop) (turns : ℕ) (out : Outcome Val) → Tells r turns out → IfOk r (λ v. IsTrue (is_bounded (val_of v)))
+told_bounded (Ok v) turns out h = h.1
+told_bounded (Err stop) turns out h = tt
 
 pub longer_bounded : (before : List Value) (r : Result Value Stop) (longer : Vec Value Global)
     → IsLonger before r (Ok longer) → IsTrue (are_bounded (vals_in before))
@@ -69,13 +78,13 @@ longer_length before (Err stop) longer l = absurd l
 pub argument_held : (here : Setting) (names : List (List ℕ)) (positional : ℕ) (start : Outcome Arguments) (args : ArgTerms)
     (before : Arguments) (turns : ℕ)
     → start ≡ each_argument here names positional args before turns
-    → (a : ArgTerm) (rest : ArgTerms) (taker : Taker) (then p : ℕ) (r : Result Value Stop) (after : ArgumentValues)
+    → (a : ArgTerm) (rest : ArgTerms) (taker : Taker) (then p : ℕ) (r : Result Value Stop) (after : GivenArguments Value)
     → args ≡ and_arg a rest → taker_of names positional before a ≡ Some taker
-    → Tells r then (value_at here true (argument_of a) turns) → IsGiven before taker r (Ok after)
+    → Tells r then (value_at here true (argument_of a) turns) → IsHeld before taker r (Ok after)
     → p ≡ positional_after positional a → start ≡ each_argument here names p rest (arguments_of after) then
 argument_held here names positional start args before turns b a rest taker then p (Ok v) after e f t g q =
     argument_more here names positional start args before turns b a rest taker then (val_of v) p
-    (arguments_of after) e f t q g
+    (arguments_of after) e f t.0 q g
 argument_held here names positional start args before turns b a rest taker then p (Err stop) after e f t g q = absurd g
 
 pub argument_stops : (here : Setting) (names : List (List ℕ)) (positional : ℕ) (start : Outcome Arguments) (args : ArgTerms)
@@ -83,13 +92,19 @@ pub argument_stops : (here : Setting) (names : List (List ℕ)) (positional : �
     → start ≡ each_argument here names positional args before turns
     → (a : ArgTerm) (rest : ArgTerms) (taker : Taker) (m n : ℕ) (r : Result Value Stop) (stop : Stop)
     → args ≡ and_arg a rest → taker_of names positional before a ≡ Some taker
-    → Tells r m (value_at here true (argument_of a) turns) → IsGiven before taker r (Err stop)
+    → Tells r m (value_at here true (argument_of a) turns) → IsHeld before taker r (Err stop)
     → TellsArguments (Err stop) n start
 argument_stops here names positional start args before turns b a rest taker m n (Ok v) stop e f t g =
     subst (λ (x : Stop). TellsArguments (Err x) n start) (sym g) tt
 argument_stops here names positional start args before turns b a rest taker m n (Err fault) stop e f t g =
     subst (λ (x : Stop). TellsArguments (Err x) n start) (sym g)
     (argument_fault here names positional start args before turns b a rest taker m n fault e f t)
+
+-- an argument that nothing takes
+pub argument_refused : (stop : Stop) (n : ℕ) (at : Place) (out : Outcome Arguments) → out ≡ Faults BadArgument at
+    → IsFault stop BadArgument at → TellsArguments (Err stop) n out
+argument_refused (Fault fault) n at out e h = e ∙ ap (λ k. Faults k at) (sym h.0) ∙ ap (Faults fault.kind) (sym h.1)
+argument_refused NoMemory n at out e h = absurd h
 
 taker_bounded : (given : Arguments) (taker : Taker) (v : Val) → IsTrue (arguments_bounded given) → IsTrue (is_bounded v)
     → IsTrue (arguments_bounded (with_argument given taker v))
@@ -99,7 +114,7 @@ taker_bounded given (to_special name) v h b =
     let p = and_parts _ _ h in and_from _ _ p.0 (and_from _ _ b p.1)
 
 pub argument_held_bounded : (before : Arguments) (taker : Taker) (r : Result Value Stop)
-    (after : ArgumentValues) → IsGiven before taker r (Ok after) → IsTrue (arguments_bounded before)
+    (after : GivenArguments Value) → IsHeld before taker r (Ok after) → IsTrue (arguments_bounded before)
     → IfOk r (λ v. IsTrue (is_bounded (val_of v))) → IsTrue (arguments_bounded (arguments_of after))
 argument_held_bounded before taker (Ok v) after g h b =
     subst (λ given. IsTrue (arguments_bounded given)) (sym g) (taker_bounded before taker (val_of v) h b)
@@ -110,7 +125,7 @@ taker_length given (to_parameter k) v = length-set given.slots k (Some v)
 taker_length given (to_special name) v = refl
 
 pub argument_held_length : (before : Arguments) (taker : Taker) (r : Result Value Stop)
-    (after : ArgumentValues) → IsGiven before taker r (Ok after)
+    (after : GivenArguments Value) → IsHeld before taker r (Ok after)
     → length (arguments_of after).slots ≡ length before.slots
 argument_held_length before taker (Ok v) after g = ap (λ (given : Arguments). length given.slots) g ∙ taker_length before taker (val_of v)
 argument_held_length before taker (Err stop) after g = absurd g

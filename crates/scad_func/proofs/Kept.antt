@@ -5,9 +5,9 @@ use Rattle.scad_ast.specs.Terms.{ArgTerms}
 use Rattle.scad_value.specs.Values.{Val}
 use Rattle.scad_scope.specs.Names.{Pairs, Row}
 use Rattle.scad_scope.specs.Table.{rows_of, chain_of}
-use Rattle.scad_scope.specs.Arguments.{names_of}
+use Rattle.scad_scope.specs.Arguments.{names_of, nothing_given}
 use Rattle.scad_scope.specs.Blocks.{Function}
-use Rattle.scad_func.specs.Meaning.{Setting, evaluated, each_argument, nothing_given, function_called, called, function_in, then_with}
+use Rattle.scad_func.specs.Meaning.{Setting, evaluated, each_argument, function_called, called, function_in, then_with}
 use Rattle.scad_func.specs.declared.source.Source.{Source}
 use Rattle.scad_func.specs.declared.evaluation.Evaluation.{Evaluation}
 use Rattle.scad_func.specs.View.{deepest, seen}

@@ -12,3 +12,5 @@ pub mod Holding
 pub mod Chains
 pub mod Standing
 pub mod Bodies
+mod FilledAlike
+pub mod GivenSeen

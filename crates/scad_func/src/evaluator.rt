@@ -7,12 +7,13 @@ ghost use Rattle.scad_value.specs.Operators.{made as made_at, unary_of};
 ghost use Rattle.scad_value.specs.View.{val_of, vals_in};
 ghost use Rattle.scad_scope.specs.Names.{env_of};
 ghost use Rattle.scad_scope.specs.Table.{rows_of};
-ghost use Rattle.scad_scope.specs.Arguments.{names_of};
+ghost use Rattle.scad_scope.specs.Arguments.{names_of, nothing_given as nothing_at};
+ghost use Rattle.scad_scope.specs.ArgumentsView.{names_in};
 ghost use Rattle.scad_builtin.specs.Builtins.{are_bounded};
-ghost use Rattle.scad_func.specs.Meaning.{Outcome, Gives, one_call_fewer, turn, then_with, answered, value_at, operand as operand_at, each_value as values_at, each_argument as arguments_at, each_parameter as parameters_at, parameter_value, function_value as function_value_at, function_called, nothing_given as nothing_at, paired, in_scope, Within, no_call, each_suffix, each_link, called, function_in, range_of as range_at, stepped_range_of as stepped_at, counted as counted_at};
+ghost use Rattle.scad_func.specs.Meaning.{Outcome, Gives, one_call_fewer, turn, then_with, answered, value_at, operand as operand_at, each_value as values_at, each_argument as arguments_at, each_parameter as parameters_at, parameter_value, function_value as function_value_at, function_called, paired, in_scope, Within, no_call, each_suffix, each_link, called, function_in, range_of as range_at, stepped_range_of as stepped_at, counted as counted_at};
 ghost use Rattle.scad_func.specs.Steps.{all_values, suffixed, linked};
 ghost use Rattle.scad_scope.specs.TextView.{function_of};
-ghost use Rattle.scad_func.specs.View.{Tells, TellsAll, TellsArguments, function_size, deepest, indexed_val, IsThere, slot_of, slots_in, slots_bounded, slot_is_bounded, arguments_of, arguments_bounded, names_in};
+ghost use Rattle.scad_func.specs.View.{Tells, TellsAll, TellsArguments, function_size, deepest, indexed_val, IsThere, slot_of, slots_in, slots_bounded, slot_is_bounded, arguments_of, arguments_bounded};
 ghost use Rattle.scad_func.specs.Evaluations.{Keeps, scopes_there, setting};
 
 use crate::answer::{
@@ -20,19 +21,20 @@ use crate::answer::{
     operate_with_variable, range_of, special_of, stepped_range_of, text_of, truth_of, variable_of,
     variable_there, wants_right,
 };
-use crate::arguments::{
-    ArgumentValues, Names, after, argument_value, bind_specials, built_in_for, count_of,
-    destination_for, nothing_given, with_next_argument,
-};
+use crate::arguments::{argument_value, bind_specials, built_in_for};
 use crate::bind::bind_all;
 use crate::evaluation::Evaluation;
 use crate::functions::find;
 use crate::held::{with, with_next};
+use crate::limits::{CALLS, EVALUATIONS, TURNS};
 use scad_ast::{Args, Expr, Exprs, Link, Links, Param, Params, Suffix, Suffixes, UnaryOp};
-use scad_scope::Function;
+use scad_scope::{
+    Function, GivenArguments, Names, count_of, destination_for, fault_at, nothing_given,
+    positional_after, with_next_argument,
+};
 use scad_value::Value;
 use std::mem;
-use text_place::{Fault, FaultKind, Place, Stop};
+use text_place::{FaultKind, Place, Stop};
 
 impl Evaluation<'_, '_> {
     /// The value of an expression, whose parts are counted where it is a list.
@@ -44,7 +46,6 @@ impl Evaluation<'_, '_> {
     pub fn expression(&mut self, scope: u32, expr: &Expr) -> Result<Value, Stop>
         requires scope { scope < scopes_there self.old }
         ensures value { Tells result self.new.turns (value_at (setting self.old scope) true (term_of expr.now) self.old.turns) }
-        ensures bounded { IfOk result (λ v. IsTrue (is_bounded (val_of v))) }
         ensures kept { Keeps self.old self.new }
     {
         let value = self.deeper(scope, expr)?;
@@ -56,16 +57,12 @@ impl Evaluation<'_, '_> {
     fn counted(&mut self, value: Value, place: Place) -> Result<Value, Stop>
         requires { IsTrue (is_bounded (val_of value)) }
         ensures value { Tells result self.new.turns (counted_at place (Gives self.old.turns (val_of value))) }
-        ensures bounded { IfOk result (λ v. IsTrue (is_bounded (val_of v))) }
         ensures kept { Keeps self.old self.new }
     {
         if let Value::List(_) = value {
             let turns = self.turns + value.parts();
-            if turns > 100000 {
-                return Err(Stop::Fault(Fault {
-                    kind: FaultKind::TooManyTurns,
-                    place,
-                }));
+            if turns > TURNS {
+                return Err(fault_at(FaultKind::TooManyTurns, place));
             }
             self.turns = turns;
         }
@@ -77,14 +74,10 @@ impl Evaluation<'_, '_> {
     fn deeper(&mut self, scope: u32, expr: &Expr) -> Result<Value, Stop>
         requires scope { scope < scopes_there self.old }
         ensures value { Tells result self.new.turns (value_at (setting self.old scope) false (term_of expr.now) self.old.turns) }
-        ensures bounded { IfOk result (λ v. IsTrue (is_bounded (val_of v))) }
         ensures kept { Keeps self.old self.new }
     {
-        if self.depth == 512 {
-            return Err(Stop::Fault(Fault {
-                kind: FaultKind::TooDeep,
-                place: expr.place(),
-            }));
+        if self.depth == EVALUATIONS {
+            return Err(fault_at(FaultKind::TooDeep, expr.place()));
         }
         self.depth += 1;
         let value = self.operand(scope, expr);
@@ -98,7 +91,6 @@ impl Evaluation<'_, '_> {
     fn operand(&mut self, scope: u32, expr: &Expr) -> Result<Value, Stop>
         requires scope { scope < scopes_there self.old }
         ensures value { Tells result self.new.turns (operand_at (setting self.old scope) (term_of expr.now) self.old.turns) }
-        ensures bounded { IfOk result (λ v. IsTrue (is_bounded (val_of v))) }
         ensures kept { Keeps self.old self.new }
     {
         match expr {
@@ -136,7 +128,6 @@ impl Evaluation<'_, '_> {
         ensures value { Tells result self.new.turns (
             then_with (values_at (setting self.old scope) (terms_from (terms_of items.now)) self.old.turns) (λ turns vs.
             answered (made_at (Ok (ListVal vs))) place turns)) }
-        ensures bounded { IfOk result (λ v. IsTrue (is_bounded (val_of v))) }
         ensures kept { Keeps self.old self.new }
     {
         let values = self.each_value(scope, items)?;
@@ -152,7 +143,6 @@ impl Evaluation<'_, '_> {
         ensures value { Tells result self.new.turns (
             then_with (value_at (setting self.old scope) false (term_of of.now) self.old.turns) (λ turns v.
             answered (unary_of op v) place turns)) }
-        ensures bounded { IfOk result (λ v. IsTrue (is_bounded (val_of v))) }
         ensures kept { Keeps self.old self.new }
     {
         let value = self.deeper(scope, of)?;
@@ -166,7 +156,6 @@ impl Evaluation<'_, '_> {
     fn each_value(&mut self, scope: u32, exprs: &Exprs) -> Result<Vec<Value>, Stop>
         requires scope { scope < scopes_there self.old }
         ensures value { TellsAll result self.new.turns (values_at (setting self.old scope) (terms_from (terms_of exprs.now)) self.old.turns) }
-        ensures bounded { IfOk result (λ vs. IsTrue (are_bounded (vals_in vs.items))) }
         ensures kept { Keeps self.old self.new }
     {
         let mut values = Vec::new(self.alloc);
@@ -188,7 +177,6 @@ impl Evaluation<'_, '_> {
             then_with (value_at here true (term_of from.now) self.old.turns) (λ turns a.
             then_with (value_at here true (term_of upto.now) turns) (λ turns b.
             answered (range_at a b) place turns))) }
-        ensures bounded { IfOk result (λ v. IsTrue (is_bounded (val_of v))) }
         ensures kept { Keeps self.old self.new }
     {
         let a = self.expression(scope, from)?;
@@ -216,7 +204,6 @@ impl Evaluation<'_, '_> {
             then_with (value_at here true (term_of by.now) turns) (λ turns s.
             then_with (value_at here true (term_of upto.now) turns) (λ turns b.
             answered (stepped_at a s b) place turns)))) }
-        ensures bounded { IfOk result (λ v. IsTrue (is_bounded (val_of v))) }
         ensures kept { Keeps self.old self.new }
     {
         let a = self.expression(scope, from)?;
@@ -236,7 +223,6 @@ impl Evaluation<'_, '_> {
         ensures value { let here = setting self.old scope in
             Tells result self.new.turns (then_with (operand_at here (term_of of.now) self.old.turns)
             (λ turns v. each_suffix here v (suffixes_from (suffixes_of rest.now)) turns)) }
-        ensures bounded { IfOk result (λ v. IsTrue (is_bounded (val_of v))) }
         ensures kept { Keeps self.old self.new }
     {
         if let Expr::Name(place, name) = of {
@@ -254,7 +240,6 @@ impl Evaluation<'_, '_> {
         requires scope { scope < scopes_there self.old }
         requires there { IsThere (env_of (rows_of self.old.scopes.now) scope) of }
         ensures value { Tells result self.new.turns (each_suffix (setting self.old scope) (indexed_val (env_of (rows_of self.old.scopes.now) scope) of.entry) (suffixes_from (suffixes_of rest.now)) self.old.turns) }
-        ensures bounded { IfOk result (λ v. IsTrue (is_bounded (val_of v))) }
         ensures kept { Keeps self.old self.new }
     {
         let mut so_far = self.suffix(scope, of, &rest.first)?;
@@ -270,7 +255,6 @@ impl Evaluation<'_, '_> {
         requires scope { scope < scopes_there self.old }
         requires there { IsThere (env_of (rows_of self.old.scopes.now) scope) of }
         ensures value { Tells result self.new.turns (suffixed (setting self.old scope) (indexed_val (env_of (rows_of self.old.scopes.now) scope) of.entry) (suffix_of part.now) self.old.turns) }
-        ensures bounded { IfOk result (λ v. IsTrue (is_bounded (val_of v))) }
         ensures kept { Keeps self.old self.new }
     {
         match part {
@@ -302,7 +286,6 @@ impl Evaluation<'_, '_> {
         ensures value { let here = setting self.old scope in
             Tells result self.new.turns (then_with (operand_at here (term_of first.now) self.old.turns)
             (λ turns v. each_link here v (links_from (links_of rest.now)) turns)) }
-        ensures bounded { IfOk result (λ v. IsTrue (is_bounded (val_of v))) }
         ensures kept { Keeps self.old self.new }
     {
         let left = self.operand(scope, first)?;
@@ -316,7 +299,6 @@ impl Evaluation<'_, '_> {
         requires scope { scope < scopes_there self.old }
         requires left { IsTrue (is_bounded (val_of left)) }
         ensures value { Tells result self.new.turns (each_link (setting self.old scope) (val_of left) (links_from (links_of rest.now)) self.old.turns) }
-        ensures bounded { IfOk result (λ v. IsTrue (is_bounded (val_of v))) }
         ensures kept { Keeps self.old self.new }
     {
         let mut so_far = self.link(scope, left, &rest.first)?;
@@ -332,7 +314,6 @@ impl Evaluation<'_, '_> {
         requires scope { scope < scopes_there self.old }
         requires left { IsTrue (is_bounded (val_of left)) }
         ensures value { Tells result self.new.turns (linked (setting self.old scope) (val_of left) (link_of part.now) self.old.turns) }
-        ensures bounded { IfOk result (λ v. IsTrue (is_bounded (val_of v))) }
         ensures kept { Keeps self.old self.new }
     {
         if !wants_right(part.op, &left) {
@@ -355,7 +336,6 @@ impl Evaluation<'_, '_> {
         ensures value { let here = setting self.old scope in
             Tells result self.new.turns (then_with (operand_at here (term_of test.now) self.old.turns)
             (λ turns v. value_at here true (if truth_at v then term_of yes.now else term_of no.now) turns)) }
-        ensures bounded { IfOk result (λ v. IsTrue (is_bounded (val_of v))) }
         ensures kept { Keeps self.old self.new }
     {
         let value = self.operand(scope, test)?;
@@ -373,13 +353,12 @@ impl Evaluation<'_, '_> {
         requires scope { scope < scopes_there self.old }
         ensures value { let here = setting self.old scope in
             Tells result self.new.turns (called here place name.now (args_from (args_of args.now)) self.old.turns (function_in here.env name.now)) }
-        ensures bounded { IfOk result (λ v. IsTrue (is_bounded (val_of v))) }
         ensures kept { Keeps self.old self.new }
     {
         let source = self.source;
         match find(source, self.scopes, scope, name) {
             Some((function, home)) => {
-                let names = Names::Params(function.params);
+                let names = Names::Params(&function.params.items);
                 let given = self.each_argument(scope, names, args)?;
                 self.function_call(home, function, given, place)
             }
@@ -401,10 +380,10 @@ impl Evaluation<'_, '_> {
         scope: u32,
         names: Names<'_>,
         args: &'b Args,
-    ) -> Result<ArgumentValues<'b>, Stop>
+    ) -> Result<GivenArguments<'b, Value>, Stop>
         requires scope { scope < scopes_there self.old }
         ensures value { TellsArguments result self.new.turns (arguments_at (setting self.old scope) (names_in names.entry) 0 (args_from (args_of args.now)) (nothing_at (length (names_in names.entry))) self.old.turns) }
-        ensures bounded { IfOk result (λ given. (length given.slots.items ≡ length (names_in names.entry)) × IsTrue (arguments_bounded (arguments_of given))) }
+        ensures count { IfOk result (λ given. length given.slots.items ≡ length (names_in names.entry)) }
         ensures kept { Keeps self.old self.new }
     {
         let mut given = nothing_given(self.alloc, count_of(names))?;
@@ -414,7 +393,7 @@ impl Evaluation<'_, '_> {
             let (open, destination) = with(given, free)?;
             let next = self.expression(scope, argument_value(arg));
             given = with_next_argument(open, destination, next)?;
-            positional = after(positional, arg);
+            positional = positional_after(positional, arg);
         }
         Ok(given)
     }
@@ -426,7 +405,7 @@ impl Evaluation<'_, '_> {
         &mut self,
         scope: u32,
         function: Function<'_>,
-        given: ArgumentValues<'_>,
+        given: GivenArguments<'_, Value>,
         place: Place,
     ) -> Result<Value, Stop>
         requires scope { scope < scopes_there self.old }
@@ -434,7 +413,6 @@ impl Evaluation<'_, '_> {
         requires count { length given.slots.items ≡ length (params_of function.params.now) }
         requires bounded { IsTrue (arguments_bounded (arguments_of given)) }
         ensures value { Tells result self.new.turns (function_called (setting self.old scope) place (function_of function.entry) (arguments_of given.entry) self.old.turns) }
-        ensures bounded { IfOk result (λ v. IsTrue (is_bounded (val_of v))) }
         ensures kept { Keeps self.old self.new }
     {
         let (given, ()) = with(given, self.may_call(place))?;
@@ -451,17 +429,11 @@ impl Evaluation<'_, '_> {
         ensures refused { IfErr result (λ stop. (go : ℕ → ℕ → Outcome Val) (n : ℕ) →
             Tells (Err stop) n (one_call_fewer (64 - self.now.calls) place (λ calls. turn place self.now.turns (go calls)))) }
     {
-        if self.calls == 64 {
-            return Err(Stop::Fault(Fault {
-                kind: FaultKind::TooDeep,
-                place,
-            }));
+        if self.calls == CALLS {
+            return Err(fault_at(FaultKind::TooDeep, place));
         }
-        if self.turns == 100000 {
-            return Err(Stop::Fault(Fault {
-                kind: FaultKind::TooManyTurns,
-                place,
-            }));
+        if self.turns == TURNS {
+            return Err(fault_at(FaultKind::TooManyTurns, place));
         }
         Ok(())
     }
@@ -473,16 +445,15 @@ impl Evaluation<'_, '_> {
         &mut self,
         scope: u32,
         function: Function<'_>,
-        given: ArgumentValues<'_>,
+        given: GivenArguments<'_, Value>,
     ) -> Result<Value, Stop>
         requires scope { scope < scopes_there self.old }
         requires count { length given.slots.items ≡ length (params_of function.params.now) }
         requires bounded { IsTrue (arguments_bounded (arguments_of given)) }
         ensures value { Tells result self.new.turns (function_value_at (setting self.old scope) (function_of function.entry) (arguments_of given.entry) self.old.turns) }
-        ensures bounded { IfOk result (λ v. IsTrue (is_bounded (val_of v))) }
         ensures kept { Keeps self.old self.new }
     {
-        let ArgumentValues { slots, specials } = given;
+        let GivenArguments { slots, specials } = given;
         let length = self.scopes.chain_length();
         if length > u32::MAX as usize {
             return Err(Stop::NoMemory);
@@ -512,7 +483,6 @@ impl Evaluation<'_, '_> {
         ensures value { let here = setting self.old scope in let params = params_of function.entry.params.now in
             Tells result self.new.turns (then_with (parameters_at here params (slots_in slots.items) self.old.turns)
             (λ turns vs. value_at (in_scope here (Within (paired (names_of params) vs []) [] [] no_call here.env)) true (term_of function.entry.value.now) turns)) }
-        ensures bounded { IfOk result (λ v. IsTrue (is_bounded (val_of v))) }
         ensures kept { Keeps self.old self.new }
     {
         let values = self.each_parameter(scope, function.params, slots)?;
@@ -534,7 +504,6 @@ impl Evaluation<'_, '_> {
         ensures value { let here = setting self.old scope in
             Tells result self.new.turns (value_at (in_scope here (Within (paired (names_of (params_of function.entry.params.now)) (vals_from (vals_in values.items)) []) [] [] no_call here.env))
             true (term_of function.entry.value.now) self.old.turns) }
-        ensures bounded { IfOk result (λ v. IsTrue (is_bounded (val_of v))) }
         ensures kept { Keeps self.old self.new }
     {
         let inner = self.scopes.enter_empty(self.alloc, scope)?;
@@ -560,7 +529,7 @@ impl Evaluation<'_, '_> {
         requires count { length slots.items ≡ length params.now.items.items }
         requires filled { IsTrue (slots_bounded (slots_in slots.items)) }
         ensures value { TellsAll result self.new.turns (parameters_at (setting self.old scope) (params_of params.now) (slots_in slots.items) self.old.turns) }
-        ensures bounded { IfOk result (λ vs. (length vs.items ≡ length params.now.items.items) × IsTrue (are_bounded (vals_in vs.items))) }
+        ensures count { IfOk result (λ vs. length vs.items ≡ length params.now.items.items) }
         ensures kept { Keeps self.old self.new }
     {
         let mut open = slots;
@@ -582,7 +551,6 @@ impl Evaluation<'_, '_> {
         requires scope { scope < scopes_there self.old }
         requires filled { IsTrue (slot_is_bounded (slot_of given)) }
         ensures value { Tells result self.new.turns (parameter_value (setting self.old scope) (param_of param.now) (slot_of given) self.old.turns) }
-        ensures bounded { IfOk result (λ v. IsTrue (is_bounded (val_of v))) }
         ensures kept { Keeps self.old self.new }
     {
         match given {
@@ -601,7 +569,6 @@ impl Evaluation<'_, '_> {
     fn each_positional(&mut self, scope: u32, args: &Args) -> Result<Vec<Value>, Stop>
         requires scope { scope < scopes_there self.old }
         ensures value { TellsAll result self.new.turns (values_at (setting self.old scope) (all_values (args_from (args_of args.now))) self.old.turns) }
-        ensures bounded { IfOk result (λ vs. IsTrue (are_bounded (vals_in vs.items))) }
         ensures kept { Keeps self.old self.new }
     {
         let mut values = Vec::new(self.alloc);

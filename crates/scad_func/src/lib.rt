@@ -15,11 +15,10 @@ mod scoping;
 mod source;
 mod value;
 
-pub use arguments::{ArgumentValues, Names, SpecialArgument};
 pub use evaluation::Evaluation;
 pub use functions::find_module;
 pub use held::{with, with_next};
-pub use laws::enter_what_stands;
+pub use laws::{arguments_are_evaluated_as_matched, enter_what_stands};
 pub use meter::Meter;
 pub use source::Source;
 pub use value::{value_in, value_of};

@@ -1,18 +1,20 @@
 ghost use Rattle.std.specs.Prelude.{◌≡◌, ◌+◌, ◌<◌, ◌≤◌, length, IsTrue, IfErr, OnOk};
 ghost use Rattle.text_place.specs.declared.fault.FaultKind.TheVariants.{TooDeep, TooManyTurns};
-ghost use Rattle.scad_scope.specs.Names.{have_bounded};
-ghost use Rattle.scad_scope.specs.Table.{chain_of};
-ghost use Rattle.scad_func.specs.View.{IsFault, specials_in};
+ghost use Rattle.scad_scope.specs.ArgumentsView.{IsFault};
 ghost use Rattle.scad_func.specs.Evaluations.{Keeps, CallBegins, EvaluationBegins};
 
 use crate::evaluation::Evaluation;
-use text_place::{Fault, FaultKind, Place, Stop};
+use scad_scope::fault_at;
+use text_place::{FaultKind, Place, Stop};
 
-fn stop_at(kind: FaultKind, place: Place) -> Stop
-    ensures { IsFault result kind place }
-{
-    Stop::Fault(Fault { kind, place })
-}
+/// The most calls in one another.
+pub(crate) const CALLS: u32 = 64;
+
+/// The most evaluations in one another.
+pub(crate) const EVALUATIONS: u32 = 512;
+
+/// The most turns of one run.
+pub(crate) const TURNS: u64 = 100_000;
 
 impl Evaluation<'_, '_> {
     /// One turn more. TooManyTurns at its place where it is the 100,001st.
@@ -21,8 +23,8 @@ impl Evaluation<'_, '_> {
         ensures refused { IfErr result (λ stop. (self.old.turns ≡ 100000) × IsFault stop TooManyTurns place) }
         ensures kept { Keeps self.old self.new }
     {
-        if self.turns == 100000 {
-            return Err(stop_at(FaultKind::TooManyTurns, place));
+        if self.turns == TURNS {
+            return Err(fault_at(FaultKind::TooManyTurns, place));
         }
         self.turns += 1;
         Ok(())
@@ -34,8 +36,8 @@ impl Evaluation<'_, '_> {
         ensures refused { IfErr result (λ stop. (self.old.calls ≡ 64) × IsFault stop TooDeep place) }
         ensures turns { self.new.turns ≡ self.old.turns }
     {
-        if self.calls == 64 {
-            return Err(stop_at(FaultKind::TooDeep, place));
+        if self.calls == CALLS {
+            return Err(fault_at(FaultKind::TooDeep, place));
         }
         self.calls += 1;
         Ok(())
@@ -56,8 +58,8 @@ impl Evaluation<'_, '_> {
         ensures refused { IfErr result (λ stop. (self.old.depth ≡ 512) × IsFault stop TooDeep place) }
         ensures turns { self.new.turns ≡ self.old.turns }
     {
-        if self.depth == 512 {
-            return Err(stop_at(FaultKind::TooDeep, place));
+        if self.depth == EVALUATIONS {
+            return Err(fault_at(FaultKind::TooDeep, place));
         }
         self.depth += 1;
         Ok(())

@@ -13,12 +13,12 @@ ghost use Rattle.scad_func.specs.View.{IsCallFound, IsModuleFound, IsNoMemory, s
 ghost use Rattle.scad_func.specs.Definitions.{statements_at, block_scope, IsBlockOf, IsWhole};
 ghost use Rattle.scad_func.specs.Evaluations.{Keeps, SameSetting, ScopeEnters, SpecialsBegin, scopes_there};
 
-use crate::arguments::{SpecialArgument, bind_specials};
+use crate::arguments::bind_specials;
 use crate::bind::{bind_all, bind_one};
 use crate::evaluation::Evaluation;
 use crate::functions::find_module;
 use scad_ast::Params;
-use scad_scope::{Assignment, Call, Module};
+use scad_scope::{Assignment, Call, Module, SpecialArgument};
 use scad_value::Value;
 use text_place::{NoMemory, Stop};
 
@@ -147,7 +147,7 @@ impl<'a> Evaluation<'a, '_> {
     }
 
     /// Puts special arguments on the chain, and answers its length before. `NoMemory` leaves all as it was.
-    pub fn begin_specials(&mut self, specials: Vec<SpecialArgument<'_>>) -> Result<u32, Stop>
+    pub fn begin_specials(&mut self, specials: Vec<SpecialArgument<'_, Value>>) -> Result<u32, Stop>
         requires { IsTrue (have_bounded (specials_in specials.items)) }
         ensures begun { IfOk result (SpecialsBegin self.old self.new) }
         ensures chain { OnOk result (chain_of self.new.scopes.now ≡ specials_in specials.entry.items ++ chain_of self.old.scopes.now) }

@@ -1,8 +1,6 @@
-ghost use Rattle.std.specs.Prelude.{◌≡◌, ◌-◌, ◌<◌, ◌≤◌, IsTrue, IfOk, OnOk, length, true};
+ghost use Rattle.std.specs.Prelude.{◌≡◌, ◌-◌, ◌<◌, IsTrue, length, true};
 ghost use Rattle.scad_ast.specs.ExprView.{term_of};
 ghost use Rattle.scad_ast.specs.ProgramView.{program_of};
-ghost use Rattle.scad_value.specs.Values.{is_bounded};
-ghost use Rattle.scad_value.specs.View.{val_of};
 ghost use Rattle.scad_scope.specs.Names.{env_of};
 ghost use Rattle.scad_scope.specs.Numbered.{functions_below, modules_below};
 ghost use Rattle.scad_scope.specs.Blocks.{functions_of_program, modules_of_program, numbered_text};
@@ -21,9 +19,9 @@ use std::alloc::Global;
 use text_place::Stop;
 
 /// The value of an expression in a scope, with the special names of the chain, or its first fault.
-/// After Ok the meter's calls and depth are as before, and its turns have grown by those that were
-/// counted; scopes and chain are always as before. TooDeep comes at the 65th call and at the 513th
-/// evaluation in one another, TooManyTurns at turn 100,001.
+/// After Ok the meter's turns have grown by those that were counted, and after a fault too they are
+/// within their limit; the meter's calls and depth, scopes and chain are always as before. TooDeep
+/// comes at the 65th call and at the 513th evaluation in one another, TooManyTurns at turn 100,001.
 ///
 /// It takes less than 4 MiB of the stack, as `Evaluation::expression` says; no contract speaks of that.
 pub fn value_in(
@@ -37,17 +35,12 @@ pub fn value_in(
     requires scope { scope < length (rows_of scopes.old) }
     requires numbered { IsNumbered source.now (rows_of scopes.old) }
     requires modules { IsTrue (modules_below (length (text_of source.now).modules) (rows_of scopes.old)) }
-    requires calls { meter.old.calls ≤ 64 }
-    requires depth { meter.old.depth ≤ 512 }
-    requires turns { meter.old.turns ≤ 100000 }
     ensures value { Tells result meter.new.turns (evaluated (512 - meter.old.depth) true (64 - meter.old.calls)
         (seen source.now (rows_of scopes.old) scope) (chain_of scopes.old) (term_of expr.now) meter.old.turns) }
-    ensures bounded { IfOk result (λ v. IsTrue (is_bounded (val_of v))) }
     ensures scopes { rows_of scopes.new ≡ rows_of scopes.old }
     ensures chain { chain_of scopes.new ≡ chain_of scopes.old }
-    ensures calls { OnOk result (meter.new.calls ≡ meter.old.calls) }
-    ensures depth { OnOk result (meter.new.depth ≡ meter.old.depth) }
-    ensures turns { OnOk result (meter.new.turns ≤ 100000) }
+    ensures calls { meter.new.calls ≡ meter.old.calls }
+    ensures depth { meter.new.depth ≡ meter.old.depth }
 {
     let mut evaluation = Evaluation {
         alloc,
@@ -75,17 +68,12 @@ pub fn value_of(
     requires scope { scope < length (rows_of scopes.old) }
     requires numbered { IsTrue (functions_below (length (functions_of_program (program_of program.now))) (rows_of scopes.old)) }
     requires modules { IsTrue (modules_below (length (modules_of_program (program_of program.now))) (rows_of scopes.old)) }
-    requires calls { meter.old.calls ≤ 64 }
-    requires depth { meter.old.depth ≤ 512 }
-    requires turns { meter.old.turns ≤ 100000 }
     ensures value { Tells result meter.new.turns (evaluated (512 - meter.old.depth) true (64 - meter.old.calls)
         (env_in (numbered_text (program_of program.now)) (env_of (rows_of scopes.old) scope)) (chain_of scopes.old) (term_of expr.now) meter.old.turns) }
-    ensures bounded { IfOk result (λ v. IsTrue (is_bounded (val_of v))) }
     ensures scopes { rows_of scopes.new ≡ rows_of scopes.old }
     ensures chain { chain_of scopes.new ≡ chain_of scopes.old }
-    ensures calls { OnOk result (meter.new.calls ≡ meter.old.calls) }
-    ensures depth { OnOk result (meter.new.depth ≡ meter.old.depth) }
-    ensures turns { OnOk result (meter.new.turns ≤ 100000) }
+    ensures calls { meter.new.calls ≡ meter.old.calls }
+    ensures depth { meter.new.depth ≡ meter.old.depth }
 {
     let source = Source::of(alloc, program)?;
     value_in(alloc, scopes, &source, scope, expr, meter)

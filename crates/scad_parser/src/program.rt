@@ -9,13 +9,13 @@ ghost use Rattle.scad_grammar.specs.declared.SyntaxFault.{SyntaxFault};
 ghost use Rattle.scad_grammar.specs.Grammar.{Program as ProgramAt};
 ghost use Rattle.scad_grammar.specs.FirstFault.{IsFirstFault};
 ghost use Rattle.scad_parser.specs.Parsing.{ends, whole_read, IsStopOf, StandsAtToken, AnswersProgram, AnswersFault, IsRead, kind_of as kind_at, place_at};
-ghost use Rattle.scad_expressions.specs.Views.{Gives};
+ghost use Rattle.scad_tokens.specs.Views.{Gives};
 
 use crate::statement::statements;
 use scad_ast::{Program, Statements};
-use scad_expressions::{Class, Parsed, Stopped, not_expected, take};
 use scad_grammar::SyntaxFault;
 use scad_lexer::Token;
+use scad_tokens::{Class, Parsed, Stopped, not_expected, take};
 use std::alloc::Global;
 use text_place::{Fault, FaultKind, Place, Stop};
 

@@ -9,16 +9,17 @@ ghost use Rattle.scad_grammar.specs.Grammar.{mark_of as mark_at, instance_of as 
 ghost use Rattle.scad_grammar.specs.Reading.{ahead, both, many, mapped, trailing, in_front};
 ghost use Rattle.scad_grammar.specs.Reads.{expr_read, arg_in, in_parentheses};
 ghost use Rattle.scad_grammar.specs.StatementReads.{mark_signs, firsts_of_statement, param_in, params_read, binder_in, binders_read, if_read, loop_read, call_read, core_read, marks_read, instance_in, braces_read, body_read, body_over as body_from, module_read, function_read, ended_read, special_read, definition_read, assigned, statement_over as statement_from, statement_read};
-ghost use Rattle.scad_expressions.specs.Views.{Gives, names_value};
+ghost use Rattle.scad_tokens.specs.Views.{Gives, names_value};
 
 use scad_ast::{
     Binder, Binders, Body, Core, Expr, Instance, Mark, Marks, Param, Params, Statement, Statements,
 };
-use scad_expressions::{
-    Class, Parsed, arguments, behind, behind_comma, bytes, expr, is_comma_and_name, is_named,
-    list_of, modifier, take, too_deep, with,
-};
+use scad_expressions::{arguments, behind, expr};
 use scad_lexer::{Reserved, Symbol, Token};
+use scad_tokens::{
+    Class, Parsed, behind_comma, bytes, is_comma_and_name, is_named, list_of, modifier, take,
+    too_deep, with,
+};
 use std::alloc::Global;
 
 // Each form stands in a function that is not inlined: the locals of a function are cleared at each call, also those

@@ -2,7 +2,6 @@ pub mod Envs
 pub mod Bound
 pub mod Scans
 pub mod Numbered
-pub mod Matched
 pub mod Chain
 pub mod Walks
 pub mod Held

@@ -1,11 +1,12 @@
 -- Which argument each parameter of a call gets.
-use Rattle.std.specs.Prelude.{◌≡◌, ℕ, zero, suc, ◌+◌, List, [], ◌∷◌, ◌++◌, length, map, replicate, Bool, false, ◌||◌, Option, Some, None, is_some, Result, Ok, Err, nat_lt, if◌then◌else◌, slice_index_or, slice_set}
+use Rattle.std.specs.Prelude.{◌≡◌, ℕ, zero, suc, ◌+◌, List, [], ◌∷◌, length, map, replicate, Option, Some, None, is_some, Result, Ok, Err, nat_lt, if◌then◌else◌, slice_index_or, slice_set}
 use Rattle.std.specs.Str.{bytes_eq}
 use Rattle.text_place.specs.declared.fault.Place.{Place}
 use Rattle.text_place.specs.declared.fault.Stop.{Stop}
 use Rattle.text_place.specs.declared.fault.Stop.TheVariants.{Fault, NoMemory}
 use Rattle.text_place.specs.declared.fault.FaultKind.TheVariants.{BadArgument}
 use Rattle.scad_ast.specs.Terms.{place_of, ParamTerm, PlainTerm, DefaultTerm, ArgTerm, NamedTerm, SpecialArgTerm, PositionalTerm}
+use Rattle.scad_scope.specs.Names.{Pairs, find_in}
 
 abbrev pub name_of : ParamTerm → List ℕ
 name_of (PlainTerm at name) = name
@@ -43,65 +44,61 @@ argument_place (PositionalTerm value) = place_of value
 argument_place (NamedTerm at name value) = at
 argument_place (SpecialArgTerm at name value) = at
 
--- for each parameter the number of its argument, or none
-abbrev pub Given : Type 0
-Given = List (Option ℕ)
+-- What the arguments of a call give: to each parameter something or nothing, and something to special names, the newest
+-- first. In an evaluation that is a value, in a matching the argument's number.
+pub record Given (A : Type 0) : Type 0 where
+  pub slots : List (Option A)
+  pub specials : Pairs A
 
--- a parameter that has none yet
-abbrev pub unless_given : Given → Option ℕ → Option ℕ
-unless_given given None = None
-unless_given given (Some k) = if is_some (slice_index_or given k None) then None else Some k
+-- before the first argument of so many parameters
+abbrev pub nothing_given : {A : Type 0} → ℕ → Given A
+nothing_given count = record { slots = replicate count None; specials = [] }
 
-abbrev pub free_at : List (List ℕ) → Given → ℕ → ArgTerm → Option ℕ
-free_at names given positional arg = unless_given given (taken_by names positional arg)
+-- what takes an argument: a parameter by its number, or a special name
+pub data Taker : Type 0 where
+  to_parameter : (number : ℕ) → Taker
+  to_special : (name : List ℕ) → Taker
 
--- whether an argument is the special one of a name, and whether one of these is
-abbrev pub is_special_of : List ℕ → ArgTerm → Bool
-is_special_of name (PositionalTerm value) = false
-is_special_of name (NamedTerm at other value) = false
-is_special_of name (SpecialArgTerm at other value) = bytes_eq other name
+-- a parameter that was given nothing yet
+abbrev pub unless_filled : {A : Type 0} → List (Option A) → Option ℕ → Option Taker
+unless_filled slots None = None
+unless_filled slots (Some k) = if is_some (slice_index_or slots k None) then None else Some (to_parameter k)
 
-abbrev pub has_special : List ArgTerm → List ℕ → Bool
-has_special [] name = false
-has_special (a ∷ args) name = is_special_of name a || has_special args name
-
--- what an argument is given to behind these: a parameter that has none yet, or its own name; or nothing
-abbrev pub Target : Type 0
-Target = Option ℕ
-
-abbrev pub a_parameter : Option ℕ → Option Target
-a_parameter (Some k) = Some (Some k)
-a_parameter None = None
-
-abbrev pub given_to : List (List ℕ) → Given → List ArgTerm → ℕ → ArgTerm → Option Target
-given_to names given before positional (PositionalTerm value) = a_parameter (free_at names given positional (PositionalTerm value))
-given_to names given before positional (NamedTerm at name value) = a_parameter (free_at names given positional (NamedTerm at name value))
-given_to names given before positional (SpecialArgTerm at name value) = if has_special before name then None else Some None
+-- what takes an argument after so many positional ones, among parameters of these names: a surplus, an unknown and a
+-- twice given one have no taker
+abbrev pub taker_of : {A : Type 0} → List (List ℕ) → ℕ → Given A → ArgTerm → Option Taker
+taker_of names positional given (SpecialArgTerm at name value) = if is_some (find_in given.specials name) then None else Some (to_special name)
+taker_of names positional given arg = unless_filled given.slots (taken_by names positional arg)
 
 -- with one argument more
-abbrev pub with_given : Given → Target → ℕ → Given
-with_given given None number = given
-with_given given (Some k) number = slice_set given k (Some number)
+abbrev pub with_argument : {A : Type 0} → Given A → Taker → A → Given A
+with_argument given (to_parameter k) x = record { slots = slice_set given.slots k (Some x); specials = given.specials }
+with_argument given (to_special name) x = record { slots = given.slots; specials = (name, x) ∷ given.specials }
 
 -- goes on, or stops at an argument's place
-abbrev pub go_on : Option Target → Place → (Target → Result Given Place) → Result Given Place
-go_on None place go = Err place
-go_on (Some target) place go = go target
+abbrev pub or_place : Option Taker → Place → (Taker → Result (Given ℕ) Place) → Result (Given ℕ) Place
+or_place None place go = Err place
+or_place (Some taker) place go = go taker
 
--- What the arguments behind these are given to, or the place of the first that has no parameter or was given already.
-abbrev pub matched : List (List ℕ) → Given → List ArgTerm → ℕ → List ArgTerm → Result Given Place
-matched names given before positional [] = Ok given
-matched names given before positional (a ∷ args) =
-    go_on (given_to names given before positional a) (argument_place a) (λ target.
-    matched names (with_given given target (length before)) (before ++ a ∷ []) (positional_after positional a) args)
+-- The numbers of the arguments from this number on, put to what takes them, or the place of the first that nothing takes.
+abbrev pub matched : List (List ℕ) → ℕ → ℕ → List ArgTerm → Given ℕ → Result (Given ℕ) Place
+matched names number positional [] given = Ok given
+matched names number positional (a ∷ args) given =
+    or_place (taker_of names positional given a) (argument_place a) (λ taker.
+    matched names (number + 1) (positional_after positional a) args (with_argument given taker number))
+
+-- for each parameter the number of its argument, or none
+abbrev pub only_slots : Result (Given ℕ) Place → Result (List (Option ℕ)) Place
+only_slots (Ok given) = Ok given.slots
+only_slots (Err at) = Err at
 
 -- a call's arguments, from the first on
-abbrev pub matching_of : List (List ℕ) → List ArgTerm → Result Given Place
-matching_of names args = matched names (replicate (length names) None) [] 0 args
+abbrev pub matching_of : List (List ℕ) → List ArgTerm → Result (List (Option ℕ)) Place
+matching_of names args = only_slots (matched names 0 0 args (nothing_given (length names)))
 
 -- the matching, or a fault at an argument's place, unless memory ran out
-abbrev pub TellsMatching : Result Given Stop → Result Given Place → Type 0
-TellsMatching (Ok given) out = out ≡ Ok given
+abbrev pub TellsMatching : Result (List (Option ℕ)) Stop → Result (List (Option ℕ)) Place → Type 0
+TellsMatching (Ok slots) out = out ≡ Ok slots
 TellsMatching (Err (Fault fault)) out = (fault.kind ≡ BadArgument) × (out ≡ Err fault.place)
 TellsMatching (Err NoMemory) out = Unit {0}
 

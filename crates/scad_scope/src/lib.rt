@@ -3,6 +3,7 @@
 #![tactic(auto)]
 
 mod blocks;
+mod fault;
 mod own;
 mod parameters;
 mod scopes;
@@ -11,7 +12,11 @@ mod text;
 mod walk;
 
 pub use blocks::Blocks;
-pub use parameters::{Matching, arguments, arguments_by_name, taken_by};
+pub use fault::fault_at;
+pub use parameters::{
+    Destination, GivenArguments, Matching, Names, SpecialArgument, arguments, count_of,
+    destination_for, has_special, name_of, nothing_given, positional_after, with_next_argument,
+};
 pub use scopes::Scopes;
 pub use table::{Call, Found};
 pub use text::{Assignment, BlockText, Function, Module};

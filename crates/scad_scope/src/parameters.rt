@@ -1,14 +1,16 @@
-ghost use Rattle.std.specs.Prelude.{◌≡◌, ℕ, ◌+◌, ◌^◌, ◌<◌, ◌≤◌, ◌∷◌, [], ◌++◌, length, map, Some, None, slice_index_or, replicate, IfSome, IfOk, OnOk};
+ghost use Rattle.std.specs.Prelude.{◌≡◌, ℕ, ◌+◌, ◌^◌, ◌<◌, ◌≤◌, length, map, replicate, Some, None, slice_index_or, is_some, if◌then◌else◌, IfSome, IfOk, IfErr};
+ghost use Rattle.text_place.specs.declared.fault.FaultKind.TheVariants.{BadArgument};
 ghost use Rattle.scad_ast.specs.ExprView.{arg_of};
 ghost use Rattle.scad_ast.specs.StatementView.{param_of};
-ghost use Rattle.scad_scope.specs.Arguments.{name_of as name_at, names_of as names_at, first_named as first_of, taken_by as taken_at, argument_place as place_at, positional_after as positional_at, given_to as given_at, has_special as has_special_at, is_special_of as is_special_at, matching_of, free_at, with_given, TellsMatching};
-ghost use Rattle.scad_scope.specs.declared.parameters.Target.TheVariants.{Parameter};
-ghost use Rattle.scad_scope.specs.ArgumentsView.{names_seen, target_of, target_seen};
+ghost use Rattle.scad_scope.specs.Names.{find_in};
+ghost use Rattle.scad_scope.specs.Arguments.{name_of as name_at, names_of, first_named as first_of, taken_by as taken_at, argument_place as place_at, positional_after as positional_at, matching_of, nothing_given as nothing_at, unless_filled, taker_of, to_special, TellsMatching};
+ghost use Rattle.scad_scope.specs.ArgumentsView.{names_seen, names_in, special_pairs, given_of, taker_seen, takers_seen, IsTakerThere, IsGiven, IsFault};
 
+use crate::fault::fault_at;
 use scad_ast::{Arg, Param};
 use std::alloc::Global;
 use std::marker::Model;
-use text_place::{Fault, FaultKind, NoMemory, Place, Stop};
+use text_place::{FaultKind, NoMemory, Place, Stop};
 
 /// For each parameter the number of its argument, from 0, or none.
 #[derive(Drop)]
@@ -41,8 +43,39 @@ impl Matching {
     }
 }
 
-/// Which argument each parameter of a call of a function or module of the source gets, as
-/// `arguments_by_name` says of the parameters' names. The place of the call is that of no such fault.
+/// The names of parameters: those of a definition of the source, or a list of names.
+#[derive(Clone, Copy)]
+pub enum Names<'a> {
+    Params(&'a [Param]),
+    Listed(&'a [&'a [u8]]),
+}
+
+/// A special argument: its name, without its `$`, and what it gives.
+#[derive(Drop)]
+pub struct SpecialArgument<'a, T> {
+    pub name: &'a [u8],
+    pub value: T,
+}
+
+/// What the arguments of a call give: to each parameter something or nothing, and the special arguments, the newest last.
+/// In an evaluation that is a value, in a matching the argument's number.
+#[derive(Drop)]
+pub struct GivenArguments<'a, T> {
+    pub slots: Vec<Option<T>>,
+    pub specials: Vec<SpecialArgument<'a, T>>,
+}
+
+/// What takes an argument: a parameter by its number, or a special name.
+#[derive(Clone, Copy)]
+pub enum Destination<'a> {
+    Parameter(usize),
+    Special(&'a [u8]),
+}
+
+/// Which argument each parameter of a call of a function or module of the source gets: the positional
+/// ones are given to the parameters in order, whatever named ones stand before, and a named one to the
+/// first of its name. A special argument is given to no parameter. BadArgument at the first token of the
+/// first argument that is surplus, unknown or given twice; the place of the call is that of no such fault.
 pub fn arguments(
     alloc: Global,
     params: &[Param],
@@ -50,151 +83,144 @@ pub fn arguments(
     _place: Place,
 ) -> Result<Matching, Stop>
     ensures size { IfOk result (λ m. length m ≡ length params.now) }
-    ensures value { TellsMatching result (matching_of (names_at (map param_of params.now)) (map arg_of args.now)) }
+    ensures value { TellsMatching result (matching_of (names_of (map param_of params.now)) (map arg_of args.now)) }
 {
-    let names = names_of(alloc, params)?;
-    arguments_by_name(alloc, &names, args)
-}
-
-/// The parameters' names, in order.
-fn names_of<'a>(alloc: Global, params: &'a [Param]) -> Result<Vec<&'a [u8]>, NoMemory>
-    ensures { IfOk result (λ names. names_seen names.items ≡ names_at (map param_of params.now)) }
-{
-    let mut names = Vec::new(alloc);
-    for param in params {
-        names.push(name_of(param))?;
-    }
-    Ok(names)
-}
-
-/// Which argument each parameter of a call gets, by the parameters' names: the positional ones are
-/// given to the parameters in order, whatever named ones stand before, and a named one to the first of
-/// its name. A special argument is given to no parameter. BadArgument at the first token of the first
-/// argument that is surplus, unknown or given twice.
-pub fn arguments_by_name(alloc: Global, names: &[&[u8]], args: &[Arg]) -> Result<Matching, Stop>
-    ensures size { IfOk result (λ m. length m ≡ length names.now) }
-    ensures value { TellsMatching result (matching_of (names_seen names.now) (map arg_of args.now)) }
-{
-    let mut given = none_given(alloc, names.len())?;
+    let names = Names::Params(params);
+    let mut given = nothing_given(alloc, params.len())?;
     let mut positional: usize = 0;
     'each: for (number, arg) in args.iter().enumerate() {
-        let Some(target) = given_to(names, &given, &args[..number], positional, arg) else {
-            return Err(Stop::Fault(Fault {
-                kind: FaultKind::BadArgument,
-                place: argument_place(arg),
-            }));
-        };
+        let destination = destination_for(names, &given, positional, arg)?;
         if number > u32::MAX as usize {
             return Err(Stop::NoMemory);
         }
-        give(&mut given, target, number as u32);
+        given = with_next_argument(given, destination, Ok(number as u32))?;
         positional = positional_after(positional, arg);
     }
-    Ok(Matching { given })
+    Ok(Matching { given: given.slots })
 }
 
-/// Gives an argument to its parameter, where it has one.
-fn give(given: &mut [Option<u32>], target: Target, number: u32)
-    requires { (k : ℕ) → target ≡ Parameter k → k < length given.old }
-    ensures { given.new ≡ with_given given.old (target_of target) number }
+/// How many names there are. Takes no memory.
+pub fn count_of(names: Names<'_>) -> usize
+    ensures { result ≡ length (names_in names.entry) }
 {
-    if let Target::Parameter(param) = target {
-        given[param] = Some(number);
+    match names {
+        Names::Params(params) => params.len(),
+        Names::Listed(listed) => listed.len(),
     }
 }
 
-/// How many positional arguments there are with this one.
-fn positional_after(positional: usize, arg: &Arg) -> usize
-    requires { positional + 1 < 2 ^ 64 }
-    ensures value { result ≡ positional_at positional (arg_of arg.now) }
-    ensures within { result ≤ positional + 1 }
+/// Nothing yet, for so many parameters.
+pub fn nothing_given<'a, T: Drop>(
+    alloc: Global,
+    params: usize,
+) -> Result<GivenArguments<'a, T>, NoMemory>
+    ensures { IfOk result (λ given. given_of given ≡ nothing_at params) }
+{
+    let slots = no_slots(alloc, params)?;
+    Ok(GivenArguments {
+        slots,
+        specials: Vec::new(alloc),
+    })
+}
+
+fn no_slots<T: Drop>(alloc: Global, params: usize) -> Result<Vec<Option<T>>, NoMemory>
+    ensures { IfOk result (λ slots. slots.items ≡ replicate params None) }
+{
+    let mut slots = Vec::new(alloc);
+    for _ in 0..params {
+        slots.push(None)?;
+    }
+    Ok(slots)
+}
+
+/// What takes an argument behind others. BadArgument at its first token where nothing does. Takes no memory.
+pub fn destination_for<'a, T>(
+    names: Names<'_>,
+    given: &GivenArguments<'_, T>,
+    positional: usize,
+    arg: &'a Arg,
+) -> Result<Destination<'a>, Stop>
+    requires { length given.now.slots.items ≡ length (names_in names) }
+    ensures free { IfOk result (λ t. taker_of (names_in names.entry) positional (given_of given.now) (arg_of arg.now) ≡ Some (taker_seen t)) }
+    ensures within { IfOk result (IsTakerThere (length given.now.slots.items)) }
+    ensures none { IfErr result (λ stop. (taker_of (names_in names.entry) positional (given_of given.now) (arg_of arg.now) ≡ None)
+        × IsFault stop BadArgument (place_at (arg_of arg.now))) }
+{
+    match free_destination(names, given, positional, arg) {
+        Some(destination) => Ok(destination),
+        None => Err(fault_at(FaultKind::BadArgument, argument_place(arg))),
+    }
+}
+
+/// What takes an argument: a parameter or a special name that was given nothing yet.
+fn free_destination<'a, T>(
+    names: Names<'_>,
+    given: &GivenArguments<'_, T>,
+    positional: usize,
+    arg: &'a Arg,
+) -> Option<Destination<'a>>
+    requires { length given.now.slots.items ≡ length (names_in names) }
+    ensures value { taker_of (names_in names.entry) positional (given_of given.now) (arg_of arg.now) ≡ takers_seen result }
+    ensures within { IfSome result (IsTakerThere (length given.now.slots.items)) }
 {
     match arg {
-        Arg::Positional(_) => positional + 1,
-        Arg::Named(_, _, _) => positional,
-        Arg::Special(_, _, _) => positional,
+        Arg::Special(_, name, _) => free_special(&given.specials, name.items()),
+        Arg::Named(_, _, _) => free_parameter(&given.slots, taken_by(names, positional, arg)),
+        Arg::Positional(_) => free_parameter(&given.slots, taken_by(names, positional, arg)),
     }
 }
 
-fn none_given(alloc: Global, params: usize) -> Result<Vec<Option<u32>>, NoMemory>
-    ensures { IfOk result (λ given. given.items ≡ replicate params None) }
+/// A special name that was given nothing yet.
+fn free_special<'a, T>(
+    specials: &[SpecialArgument<'_, T>],
+    name: &'a [u8],
+) -> Option<Destination<'a>>
+    ensures value { takers_seen result ≡ (if is_some (find_in (special_pairs specials.now) name.now) then None else Some (to_special name.now)) }
+    ensures within { (n : ℕ) → IfSome result (IsTakerThere n) }
 {
-    Ok(vec![in alloc; None; params]?)
-}
-
-/// What an argument is given to: a parameter, or for a special one its own name.
-#[derive(Clone, Copy)]
-pub(crate) enum Target {
-    Parameter(usize),
-    Special,
-}
-
-/// What an argument is given to behind these. None where it has no parameter or was given already.
-fn given_to(
-    names: &[&[u8]],
-    given: &[Option<u32>],
-    before: &[Arg],
-    positional: usize,
-    arg: &Arg,
-) -> Option<Target>
-    requires { length given.now ≡ length names.now }
-    ensures value { target_seen result ≡ given_at (names_seen names.now) given.now (map arg_of before.now) positional (arg_of arg.now) }
-    ensures within { (k : ℕ) → result ≡ Some (Parameter k) → k < length names.now }
-{
-    if let Arg::Special(_, name, _) = arg {
-        if has_special(before, name.items()) {
-            return None;
-        }
-        return Some(Target::Special);
+    if has_special(specials, name) {
+        return None;
     }
-    let param = free_param(names, given, positional, arg)?;
-    Some(Target::Parameter(param))
+    Some(Destination::Special(name))
 }
 
-fn has_special(args: &[Arg], name: &[u8]) -> bool
-    ensures { result ≡ has_special_at (map arg_of args.now) name.now }
+/// Whether one of these is the special argument of a name. Takes no memory.
+pub fn has_special<T>(specials: &[SpecialArgument<'_, T>], name: &[u8]) -> bool
+    ensures { result ≡ is_some (find_in (special_pairs specials.now) name.now) }
 {
-    for arg in args {
-        if is_special_of(name, arg) {
+    let mut n = specials.len();
+    'newest: while n > 0 {
+        n -= 1;
+        if specials[n].name == name {
             return true;
         }
     }
     false
 }
 
-fn is_special_of(name: &[u8], arg: &Arg) -> bool
-    ensures { result ≡ is_special_at name.now (arg_of arg.now) }
+/// A parameter that was given nothing yet.
+fn free_parameter<'a, T>(slots: &[Option<T>], param: Option<usize>) -> Option<Destination<'a>>
+    requires { IfSome param (λ k. k < length slots.now) }
+    ensures value { takers_seen result ≡ unless_filled slots.now param }
+    ensures within { IfSome result (IsTakerThere (length slots.now)) }
 {
-    match arg {
-        Arg::Special(_, other, _) => other.items() == name,
-        _ => false,
-    }
-}
-
-/// The parameter that an argument takes, where it has none yet.
-fn free_param(names: &[&[u8]], given: &[Option<u32>], positional: usize, arg: &Arg) -> Option<usize>
-    requires { length given.now ≡ length names.now }
-    ensures value { result ≡ free_at (names_seen names.now) given.now positional (arg_of arg.now) }
-    ensures within { IfSome result (λ k. k < length names.now) }
-{
-    let param = taken_by(names, positional, arg)?;
-    if given[param].is_some() {
+    let param = param?;
+    if slots[param].is_some() {
         return None;
     }
-    Some(param)
+    Some(Destination::Parameter(param))
 }
 
-/// The parameter, by the parameters' names, that an argument takes after so many positional ones. A
-/// special argument takes none. Takes no memory.
-pub fn taken_by(names: &[&[u8]], positional: usize, arg: &Arg) -> Option<usize>
-    ensures value { result ≡ taken_at (names_seen names.now) positional (arg_of arg.now) }
-    ensures within { IfSome result (λ k. k < length names.now) }
+/// The parameter that an argument takes after so many positional ones. A special argument takes none.
+fn taken_by(names: Names<'_>, positional: usize, arg: &Arg) -> Option<usize>
+    ensures value { result ≡ taken_at (names_in names.entry) positional (arg_of arg.now) }
+    ensures within { IfSome result (λ k. k < length (names_in names.entry)) }
 {
     match arg {
         Arg::Named(_, name, _) => first_named(names, name.items()),
         Arg::Special(_, _, _) => None,
         Arg::Positional(_) => {
-            if positional < names.len() {
+            if positional < count_of(names) {
                 Some(positional)
             } else {
                 None
@@ -203,7 +229,30 @@ pub fn taken_by(names: &[&[u8]], positional: usize, arg: &Arg) -> Option<usize>
     }
 }
 
-fn first_named(names: &[&[u8]], name: &[u8]) -> Option<usize>
+/// The first parameter of a name.
+fn first_named(names: Names<'_>, name: &[u8]) -> Option<usize>
+    ensures value { result ≡ first_of (names_in names.entry) name.now }
+    ensures within { IfSome result (λ k. k < length (names_in names.entry)) }
+{
+    match names {
+        Names::Params(params) => first_param(params, name),
+        Names::Listed(listed) => first_listed(listed, name),
+    }
+}
+
+fn first_param(params: &[Param], name: &[u8]) -> Option<usize>
+    ensures value { result ≡ first_of (names_of (map param_of params.now)) name.now }
+    ensures within { IfSome result (λ k. k < length params.now) }
+{
+    for (i, param) in params.iter().enumerate() {
+        if name_of(param) == name {
+            return Some(i);
+        }
+    }
+    None
+}
+
+fn first_listed(names: &[&[u8]], name: &[u8]) -> Option<usize>
     ensures value { result ≡ first_of (names_seen names.now) name.now }
     ensures within { IfSome result (λ k. k < length names.now) }
 {
@@ -215,7 +264,58 @@ fn first_named(names: &[&[u8]], name: &[u8]) -> Option<usize>
     None
 }
 
-fn name_of(param: &Param) -> &[u8]
+/// Arguments of which one more gives something, where there is something: what was given so far is dropped with
+/// a stop.
+pub fn with_next_argument<'a, T: Drop>(
+    given: GivenArguments<'a, T>,
+    destination: Destination<'a>,
+    next: Result<T, Stop>,
+) -> Result<GivenArguments<'a, T>, Stop>
+    requires { IsTakerThere (length given.slots.items) destination }
+    ensures { IsGiven given.entry destination.entry next result }
+{
+    match next {
+        Ok(value) => with_argument(given, destination, value),
+        Err(stop) => Err(stop),
+    }
+}
+
+fn with_argument<'a, T: Drop>(
+    given: GivenArguments<'a, T>,
+    destination: Destination<'a>,
+    value: T,
+) -> Result<GivenArguments<'a, T>, Stop>
+    requires { IsTakerThere (length given.slots.items) destination }
+    ensures { IsGiven given.entry destination.entry (Ok value) result }
+{
+    let mut more = given;
+    match destination {
+        Destination::Parameter(param) => {
+            more.slots[param] = Some(value);
+            Ok(more)
+        }
+        Destination::Special(name) => match more.specials.push(SpecialArgument { name, value }) {
+            Ok(()) => Ok(more),
+            Err(_) => Err(Stop::NoMemory),
+        },
+    }
+}
+
+/// How many positional arguments there are with this one. Takes no memory.
+pub fn positional_after(positional: usize, arg: &Arg) -> usize
+    requires { positional + 1 < 2 ^ 64 }
+    ensures value { result ≡ positional_at positional (arg_of arg.now) }
+    ensures within { result ≤ positional + 1 }
+{
+    match arg {
+        Arg::Positional(_) => positional + 1,
+        Arg::Named(_, _, _) => positional,
+        Arg::Special(_, _, _) => positional,
+    }
+}
+
+/// The name of a parameter. Takes no memory.
+pub fn name_of(param: &Param) -> &[u8]
     ensures { result.now ≡ name_at (param_of param.now) }
 {
     match param {

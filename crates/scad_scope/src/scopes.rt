@@ -3,6 +3,7 @@ ghost use Rattle.scad_scope.specs.Names.{all_bounded, have_bounded};
 ghost use Rattle.scad_scope.specs.View.{rows_in, variables_of};
 
 use crate::blocks::Blocks;
+use crate::fault::fault;
 use crate::own::{empty, scope_of_block};
 use crate::table::{
     Call, Family, Found, Scope, Variable, call_before, definitions, find_definition, find_variable,
@@ -254,10 +255,7 @@ impl Scopes {
                 return Ok(value);
             }
             if here.outer >= at {
-                return Err(Fault {
-                    kind: FaultKind::UnknownName,
-                    place,
-                });
+                return Err(fault(FaultKind::UnknownName, place));
             }
             at = here.outer;
         }
@@ -295,10 +293,7 @@ impl Scopes {
     {
         match find_variable(&self.chain, name) {
             Some(value) => Ok(value),
-            None => Err(Fault {
-                kind: FaultKind::UnknownName,
-                place,
-            }),
+            None => Err(fault(FaultKind::UnknownName, place)),
         }
     }
 
@@ -328,10 +323,7 @@ impl Scopes {
     {
         match self.definition(Family::Functions, scope, name) {
             Some(found) => Ok(found),
-            None => Err(Fault {
-                kind: FaultKind::UnknownFunction,
-                place,
-            }),
+            None => Err(fault(FaultKind::UnknownFunction, place)),
         }
     }
 
@@ -344,10 +336,7 @@ impl Scopes {
     {
         match self.definition(Family::Modules, scope, name) {
             Some(found) => Ok(found),
-            None => Err(Fault {
-                kind: FaultKind::UnknownModule,
-                place,
-            }),
+            None => Err(fault(FaultKind::UnknownModule, place)),
         }
     }
 

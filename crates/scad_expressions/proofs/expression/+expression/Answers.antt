@@ -7,9 +7,9 @@ use Rattle.scad_grammar.specs.Grammar.{levels}
 use Rattle.scad_grammar.specs.Reading.{with_front}
 use Rattle.scad_grammar.specs.Reads.{expr_read, operand_read, arg_in, suffix_read}
 use Rattle.scad_grammar.proofs.Readers.{loop_more, loop_end, loop_fault}
-use Rattle.scad_expressions.specs.declared.class.Level.TheVariants.{Or}
-use Rattle.scad_expressions.specs.TokenClasses.{operators_at, levels_below, suffix_signs}
-use Rattle.scad_expressions.specs.Views.{has_lone_atom}
+use Rattle.scad_tokens.specs.declared.class.Level.TheVariants.{Or}
+use Rattle.scad_tokens.specs.TokenClasses.{operators_at, levels_below, suffix_signs}
+use Rattle.scad_tokens.specs.Views.{has_lone_atom}
 use Rattle.scad_expressions.proofs.Climbs.{chain_climbs, chain_stops, climb_none, climb_step, climb_step_none, climb_stops, many_none}
 use Rattle.scad_expressions.proofs.Atoms.{atom_is_operand, atom_is_side, atom_is_expression}
 use Rattle.scad_expressions.proofs.Levels.{same_level, looser_step}

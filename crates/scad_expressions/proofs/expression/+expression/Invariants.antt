@@ -6,7 +6,7 @@ use Rattle.scad_grammar.specs.Grammar.{link}
 use Rattle.scad_grammar.specs.Reading.{both, many, trailing, in_front}
 use Rattle.scad_grammar.specs.Reads.{expr_read, operand_read, arg_in, primary_read, unary_read, suffix_read, chain_read}
 use Rattle.scad_expressions.specs.Climbing.{climb_read}
-use Rattle.scad_expressions.specs.TokenClasses.{levels_below, operators_at, suffix_signs, tighter_levels}
+use Rattle.scad_tokens.specs.TokenClasses.{levels_below, operators_at, suffix_signs, tighter_levels}
 use Rattle.scad_expressions.proofs.expression.+expression.Given as goal
 
 abbrev pub decreases-expr : goal.decreases-expr

@@ -21,8 +21,8 @@ returns-clause-called c = λ here turns.
     c.in-Some.function true (sym c.if-not-have_no_names.ensures) taken
 
 pub returns-then-not-have_no_names-clause-refused : goal.returns-then-not-have_no_names-clause-refused
-returns-then-not-have_no_names-clause-refused c = λ here turns k.
-    ap (λ o. built_in here c.args.place c.args.name.now (args_from (args_of c.args.args.now)) turns o)
+returns-then-not-have_no_names-clause-refused c = λ here turns k. rw (c.fault_at-then-not-have_no_names.ensures)
+    (ap (λ o. built_in here c.args.place c.args.name.now (args_from (args_of c.args.args.now)) turns o)
     (sym c.in-Some.ensures) ∙ elim
     c.then-not-have_no_names.branch [
       | then-not-have_no_names-via-then-not-have_no_names w ↦ built_in_named here c.args.place c.args.name.now
@@ -35,4 +35,4 @@ returns-then-not-have_no_names-clause-refused c = λ here turns k.
           arg_of ∙ n) ∙ sym w.if-not-takes.ensures in
           built_in_taken here c.args.place c.args.name.now (args_from (args_of c.args.args.now)) turns
           c.in-Some.function false (sym w.if-not-have_no_names.ensures) taken
-    ]
+    ])

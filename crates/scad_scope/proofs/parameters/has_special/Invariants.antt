@@ -1,7 +1,13 @@
-use Rattle.std.proofs.Common.{◌≡◌, map, drop}
-use Rattle.scad_ast.specs.ExprView.{arg_of}
-use Rattle.scad_scope.specs.Arguments.{has_special}
+use Rattle.std.proofs.Common.{◌≡◌, ◌≤◌, length, take}
+use Rattle.scad_scope.specs.Names.{find_in}
+use Rattle.scad_scope.specs.ArgumentsView.{special_pairs}
 use Rattle.scad_scope.proofs.parameters.has_special.Given as goal
 
-abbrev pub invariant-loop-arg : goal.invariant-loop-arg
-invariant-loop-arg l = has_special (map arg_of (drop l.arg-index l.args)) l.name ≡ has_special (map arg_of l.args) l.name
+abbrev pub invariant-newest : goal.invariant-newest
+invariant-newest g l = record {
+  within : l.n ≤ length l.specials;
+  same : find_in (special_pairs l.specials) l.name ≡ find_in (special_pairs (take l.n l.specials)) l.name;
+}
+
+abbrev pub decreases-newest : goal.decreases-newest
+decreases-newest g l = l.n

@@ -5,7 +5,7 @@ use Rattle.std.specs.declared.alloc.Global.{Global}
 use Rattle.std.proofs.lemmas.Result.{err_from_is_err_and}
 use Rattle.std.proofs.lemmas.List.{length-map, length-replicate, length-set, drop-set-lt}
 use Rattle.text_place.specs.declared.fault.Stop.{Stop}
-use Rattle.text_place.specs.declared.fault.FaultKind.TheVariants.{TooDeep, UnknownName}
+use Rattle.text_place.specs.declared.fault.FaultKind.TheVariants.{TooDeep, UnknownName, BadArgument}
 use Rattle.scad_ast.specs.declared.expression.Expr.{Expr}
 use Rattle.scad_ast.specs.declared.expression.Arg.{Arg}
 use Rattle.scad_ast.specs.declared.expression.Suffix.{Suffix}
@@ -15,25 +15,27 @@ use Rattle.scad_value.specs.Values.{Val}
 use Rattle.scad_value.specs.Operators.{binary_of}
 use Rattle.scad_ast.specs.Terms.{terms_from, args_from, suffixes_from, links_from}
 use Rattle.scad_ast.specs.ExprView.{term_of, args_of, arg_of, suffix_of, suffixes_of, link_of}
-use Rattle.scad_ast.specs.StatementView.{param_of, params_of}
+use Rattle.scad_ast.specs.StatementView.{param_of}
 use Rattle.scad_value.specs.View.{val_of, vals_in}
-use Rattle.scad_scope.specs.Arguments.{name_of}
+use Rattle.scad_scope.specs.Arguments.{name_of, names_of, nothing_given, taker_of, argument_place}
+use Rattle.scad_scope.specs.ArgumentsView.{given_of, names_in, taker_seen, IsGiven, IsFault}
 use Rattle.scad_scope.specs.Names.{env_of, find_in, variable_in as numbered_variable_in}
 use Rattle.scad_scope.specs.Table.{rows_of, chain_of}
 use Rattle.scad_scope.specs.TextView.{function_of}
-use Rattle.scad_func.specs.Meaning.{Outcome, Gives, Faults, value_at, with_calls, one_call_fewer, turn, Arguments, nothing_given, taker_of, each_argument, each_parameter, parameter_value, function_value, operand, each_value, each_suffix, each_link, called, answered, or_fault, or_zero}
+use Rattle.scad_func.specs.Meaning.{Outcome, Gives, Faults, value_at, with_calls, one_call_fewer, turn, Arguments, each_argument, each_parameter, parameter_value, function_value, operand, each_value, each_suffix, each_link, called, answered, or_fault, or_zero}
 use Rattle.scad_func.specs.Steps.{all_values, suffixed, linked, argument_of}
-use Rattle.scad_func.specs.View.{Tells, IsLonger, IsGiven, text_of, slots_in, slot_of, indexed_val, arguments_of, arguments_bounded, names_in, taker_seen}
-use Rattle.scad_func.specs.declared.arguments.ArgumentValues.{ArgumentValues}
-use Rattle.scad_func.specs.declared.arguments.Destination.{Destination}
+use Rattle.scad_func.specs.View.{Tells, TellsArguments, IsLonger, text_of, slots_in, slot_of, indexed_val, arguments_of, arguments_bounded}
+use Rattle.scad_scope.specs.declared.parameters.GivenArguments.{GivenArguments}
+use Rattle.scad_scope.specs.declared.parameters.Destination.{Destination}
 use Rattle.scad_func.specs.Evaluations.{setting}
 use Rattle.scad_func.proofs.Outcomes.{tells_along, evaluated_deeper, evaluated_too_deep, value_counted, fault_counted, values_end, terms_here, terms_end, args_here, args_end, values_of_arg, suffixes_here, suffix_step, links_here, step_more, step_fault, name_then, fault_at, link_wants}
 use Rattle.scad_func.proofs.Environments.{variable_same}
-use Rattle.scad_func.proofs.Steps.{deep_enough, param_deep, params_here, params_end, slots_here, slots_parts, filled_end, fault_of_arguments, few_after}
+use Rattle.scad_func.proofs.Steps.{deep_enough, param_deep, params_here, params_end, slots_here, slots_parts, filled_end, fault_of_arguments, argument_none}
 use Rattle.scad_func.proofs.Forms.{name_form, special_form, count_form, postfix_form, chain_form, choice_form, link_form, member_form, args_form}
 use Rattle.scad_func.proofs.Again.{nothing_bounded}
 use Rattle.scad_func.proofs.Kept.{keeps_same, keeps_trans, call_found, moved, work_falls}
-use Rattle.scad_func.proofs.Holding.{longer_told, longer_bounded, longer_length, argument_held, argument_held_bounded, argument_held_length, if_err_at, if_ok_at}
+use Rattle.scad_func.proofs.GivenSeen.{taker_given, nothing_seen, held_seen}
+use Rattle.scad_func.proofs.Holding.{told_bounded, argument_refused, argument_stops, longer_told, longer_bounded, longer_length, argument_held, argument_held_bounded, argument_held_length, if_err_at, if_ok_at}
 use Rattle.scad_func.proofs.evaluation.Evaluation.+value.Goals as goal
 
 pub expression-returns-in_err-value-clause-value : goal.expression-returns-in_err-value-clause-value
@@ -49,12 +51,12 @@ expression-returns-clause-value t c =
     let here = setting c.args.self.now c.args.scope in
     value_counted c.counted.result (512 - c.args.self.now.depth) c.counted.new.self.turns
     c.args.self.now.turns c.deeper.new.self.turns here.calls here.env here.chain (term_of c.args.expr.now)
-    (val_of c.in_ok-value.value) c.place.result c.place.ensures c.in_ok-value.ensures.value
+    (val_of c.in_ok-value.value) c.place.result c.place.ensures c.in_ok-value.ensures.value.0
     c.counted.ensures.value
 
-pub deeper-returns-then-self-eq512-clause-value : goal.deeper-returns-then-self-eq512-clause-value
-deeper-returns-then-self-eq512-clause-value t c =
-    evaluated_too_deep _ _ _ _ _ _ c.if-self-eq512.true ∙ ap (λ p. Faults TooDeep p) (sym c.place.ensures)
+pub deeper-returns-then-self-eq-EVALUATIONS-clause-value : goal.deeper-returns-then-self-eq-EVALUATIONS-clause-value
+deeper-returns-then-self-eq-EVALUATIONS-clause-value t c =
+    rw (c.fault_at.ensures) (evaluated_too_deep _ _ _ _ _ _ c.if-self-eq-EVALUATIONS.true ∙ ap (λ p. Faults TooDeep p) (sym c.place.ensures))
 
 pub deeper-returns-clause-value : goal.deeper-returns-clause-value
 deeper-returns-clause-value t c =
@@ -135,7 +137,7 @@ each_value-each-preserved t c =
           c.expression-next.new.self.turns c.in_ok-values.ensures
           (tells_along c.expression-next.result _ _ _ (moved (λ s. value_at s true (term_of x) c.each.self.turns) c.args.scope inv.kept) g.value);
       bounded = longer_bounded c.each.values.items c.expression-next.result c.in_ok-values.values
-          c.in_ok-values.ensures inv.bounded g.bounded;
+          c.in_ok-values.ensures inv.bounded (told_bounded c.expression-next.result _ _ g.value);
       kept = keeps_trans inv.kept g.kept;
     }
 
@@ -143,9 +145,11 @@ pub each_value-returns-clause-value : goal.each_value-returns-clause-value
 each_value-returns-clause-value t c =
     let xs = c.args.exprs.now.items.items in
     let i = c.each.expr-index in
-    let le : length xs ≤ i = omega (arith, c.each-test.false, ap length c.deref-expr-items.ensures.value) in
-    values_end (setting c.args.self.now c.args.scope) _ (vals_in c.each.values.items) []
-    (terms_from (map term_of (drop i xs))) c.each.self.turns c.each.invariant.told (terms_end xs i le)
+    let le : length xs ≤ i = omega (arith, c.each-test.false, ap length c.deref-expr-items.ensures.value) in (
+      values_end (setting c.args.self.now c.args.scope) _ (vals_in c.each.values.items) []
+          (terms_from (map term_of (drop i xs))) c.each.self.turns c.each.invariant.told (terms_end xs i le),
+      c.each.invariant.bounded,
+    )
 
 pub each_positional-each-preserved : goal.each_positional-each-preserved
 each_positional-each-preserved t c =
@@ -170,7 +174,7 @@ each_positional-each-preserved t c =
           (sym c.argument_value.ensures.value) ∙ moved (λ s. value_at s true (term_of c.argument_value.result.now) c.each.self.turns)
           c.args.scope inv.kept) g.value);
       bounded = longer_bounded c.each.values.items c.expression-next.result c.in_ok-values.values
-          c.in_ok-values.ensures inv.bounded g.bounded;
+          c.in_ok-values.ensures inv.bounded (told_bounded c.expression-next.result _ _ g.value);
       kept = keeps_trans inv.kept g.kept;
     }
 
@@ -178,10 +182,12 @@ pub each_positional-returns-clause-value : goal.each_positional-returns-clause-v
 each_positional-returns-clause-value t c =
     let xs = c.args.args.now.items.items in
     let i = c.each.arg-index in
-    let le : length xs ≤ i = omega (arith, c.each-test.false, ap length c.deref-arg-items.ensures.value) in
-    values_end (setting c.args.self.now c.args.scope) _ (vals_in c.each.values.items) []
-    (all_values (args_from (map arg_of (drop i xs)))) c.each.self.turns c.each.invariant.told
-    (ap all_values (args_end xs i le))
+    let le : length xs ≤ i = omega (arith, c.each-test.false, ap length c.deref-arg-items.ensures.value) in (
+      values_end (setting c.args.self.now c.args.scope) _ (vals_in c.each.values.items) []
+          (all_values (args_from (map arg_of (drop i xs)))) c.each.self.turns c.each.invariant.told
+          (ap all_values (args_end xs i le)),
+      c.each.invariant.bounded,
+    )
 
 pub postfix-returns-in_err-variable-clause-value : goal.postfix-returns-in_err-variable-clause-value
 postfix-returns-in_err-variable-clause-value t c =
@@ -252,8 +258,8 @@ suffixes-each-preserved t c =
     record {
       told = step_more _ (λ turns y. each_suffix here y rest turns) _ step inv.told apart
           c.suffix-in-each.new.self.turns (val_of c.in_ok-so_far-2.so_far)
-          (moved (λ s. suffixed s v (suffix_of x) c.each.self.turns) c.args.scope inv.kept ∙ g.value);
-      bounded = g.bounded;
+          (moved (λ s. suffixed s v (suffix_of x) c.each.self.turns) c.args.scope inv.kept ∙ g.value.0);
+      bounded = g.value.1;
       kept = keeps_trans inv.kept g.kept;
     }
 
@@ -295,8 +301,8 @@ links-each-preserved t c =
       told = step_more _ (λ turns y. each_link here y rest turns) _ (linked here v (link_of x) c.each.self.turns)
           inv.told (ap (λ ls. each_link here v ls c.each.self.turns) next)
           c.link-in-each.new.self.turns (val_of c.in_ok-so_far-2.so_far)
-          (moved (λ s. linked s v (link_of x) c.each.self.turns) c.args.scope inv.kept ∙ g.value);
-      bounded = g.bounded;
+          (moved (λ s. linked s v (link_of x) c.each.self.turns) c.args.scope inv.kept ∙ g.value.0);
+      bounded = g.value.1;
       kept = keeps_trans inv.kept g.kept;
     }
 
@@ -319,11 +325,15 @@ pub call-returns-in_err-given-in-Some-clause-value : goal.call-returns-in_err-gi
 call-returns-in_err-given-in-Some-clause-value t c =
     let p = err_from_is_err_and c.from_residual.result c.from_residual.ensures.1 in
     let e = c.args.self.now in
+    let args = args_from (args_of c.args.args.now) in
+    let told = subst (λ (l : List Param). TellsArguments (Err c.in_err-given-in-Some.field-0.0) c.each_argument.new.self.turns
+    (each_argument (setting e c.args.scope) (names_of (map param_of l)) 0 args (nothing_given (length (names_of (map param_of l)))) e.turns))
+    c.deref.ensures.value c.in_err-given-in-Some.ensures.value in
     rw (p.1, p.2) (tells_along (Err c.in_err-given-in-Some.field-0.0) c.each_argument.new.self.turns _ _
     (call_found e c.args.scope c.in-Some.home (function_of c.in-Some.function) c.args.place c.args.name.now
     (args_from (args_of c.args.args.now)) e.turns c.in-Some.ensures.found)
     (fault_of_arguments c.in_err-given-in-Some.field-0.0 c.each_argument.new.self.turns
-    c.each_argument.new.self.turns _ _ c.in_err-given-in-Some.ensures.value))
+    c.each_argument.new.self.turns _ _ told))
 
 pub call-function_call-requires : goal.call-function_call-requires
 call-function_call-requires t c =
@@ -333,7 +343,7 @@ call-function_call-requires t c =
         omega (arith, c.in-Some.ensures.there, g.kept.count),
         (
           rw (g.kept.source) (deep_enough _ _ c.in-Some.ensures.among),
-          (g.bounded.0 ∙ length-map (params_of c.in-Some.function.params.now) name_of, g.bounded.1),
+          (g.count ∙ length-map (map param_of c.deref.result.now) name_of ∙ ap (λ (l : List Param). length (map param_of l)) c.deref.ensures.value, g.value.1),
         ),
       ),
     )
@@ -353,7 +363,7 @@ pub each_argument-each-init : goal.each_argument-each-init
 each_argument-each-init t c =
     let form = ap args_from (args_form c.args.args.now) in
     let names = names_in c.args.names in
-    let none = c.in_ok-given.ensures ∙ ap nothing_given c.count_of.ensures in
+    let none = nothing_seen c.in_ok-given.given _ (c.in_ok-given.ensures ∙ ap nothing_given c.count_of.ensures) in
     let here = setting c.args.self.now c.args.scope in
     record {
       told = ap (λ given. each_argument here names 0 (args_from (args_of c.args.args.now)) given
@@ -383,25 +393,78 @@ each_argument-each-preserved t c =
     let names = names_in c.args.names in
     let d = c.in_ok-open.destination in
     let w = c.in_ok-open.ensures.ok in
-    let free = if_ok_at (λ (d : Destination). taker_of names c.each.positional (arguments_of c.each.given) a ≡ Some (taker_seen d))
+    let free = taker_given names c.each.positional c.each.given a
+    ∙ if_ok_at (λ (d : Destination). taker_of names c.each.positional (given_of c.each.given) a ≡ Some (taker_seen d))
     c.destination_for-free.result d w.1 c.destination_for-free.ensures.free in
     let step = tells_along c.expression-next.result _ _ _ (ap (λ e. value_at here true e c.each.self.turns)
     (sym c.argument_value.ensures.value) ∙ moved (λ s. value_at s true (term_of c.argument_value.result.now) c.each.self.turns)
     c.args.scope inv.kept) g.value in
-    let given = subst (λ (v : ArgumentValues). IsGiven (arguments_of v) (taker_seen d) c.expression-next.result (Ok c.in_ok-given-2.given)) w.0
-    c.in_ok-given-2.ensures in
+    let given = held_seen c.each.given d c.expression-next.result (Ok c.in_ok-given-2.given)
+    (subst (λ (v : GivenArguments Value). IsGiven v d c.expression-next.result (Ok c.in_ok-given-2.given)) w.0
+    c.in_ok-given-2.ensures) in
     record {
       told = argument_held here names c.each.positional _ (args_from (map arg_of (drop i xs))) (arguments_of c.each.given) c.each.self.turns
-          inv.told a rest (taker_seen d) c.expression-next.new.self.turns c.after-positional.result c.expression-next.result
-          c.in_ok-given-2.given next free step given c.after-positional.ensures;
+          inv.told a rest (taker_seen d) c.expression-next.new.self.turns c.positional_after-positional.result c.expression-next.result
+          c.in_ok-given-2.given next free step given c.positional_after-positional.ensures.value;
       count = sym (length-map c.in_ok-given-2.given.slots.items slot_of)
           ∙ argument_held_length (arguments_of c.each.given) (taker_seen d) c.expression-next.result c.in_ok-given-2.given given
           ∙ length-map c.each.given.slots.items slot_of ∙ inv.count;
-      few = omega (arith, c.after-positional.ensures, few_after c.each.positional a, inv.few);
+      few = omega (arith, c.positional_after-positional.ensures.within, inv.few);
       filled = argument_held_bounded (arguments_of c.each.given) (taker_seen d) c.expression-next.result c.in_ok-given-2.given given
-          inv.filled g.bounded;
+          inv.filled (told_bounded c.expression-next.result _ _ g.value);
       kept = keeps_trans inv.kept g.kept;
     }
+
+pub each_argument-returns-in_err-open-clause-value : goal.each_argument-returns-in_err-open-clause-value
+each_argument-returns-in_err-open-clause-value t c =
+    let p = err_from_is_err_and c.from_residual-in_err-open.result c.from_residual-in_err-open.ensures.1 in
+    let xs = c.args.args.now.items.items in
+    let i = c.each.arg-index in
+    let h : i < length xs = omega (arith, c.each-test.true, ap length c.deref-arg-items.ensures.value) in
+    let x = c.arg-item.result in
+    let is : x ≡ get_or xs i x = c.arg-item.is ∙ ap (λ (l : List Arg). get_or l i x)
+    c.deref-arg-items.ensures.value in
+    let inv = c.each.invariant in
+    let a = arg_of x in
+    let rest = args_from (map arg_of (drop (i + 1) xs)) in
+    let here = setting c.args.self.now c.args.scope in
+    let names = names_in c.args.names in
+    let stop = c.in_err-open.field-0.0 in
+    let refused = if_err_at (λ (s : Stop). (taker_of names c.each.positional (given_of c.each.given) a ≡ None) × IsFault s BadArgument (argument_place a))
+    c.destination_for-free.result stop c.in_err-open.ensures.err c.destination_for-free.ensures.none in
+    rw (p.1, p.2) (argument_refused stop _ (argument_place a) _
+    (argument_none here names c.each.positional _ (args_from (map arg_of (drop i xs))) (arguments_of c.each.given) c.each.self.turns
+    inv.told a rest (args_here xs i x h is) (taker_given names c.each.positional c.each.given a ∙ refused.0)) refused.1)
+
+pub each_argument-returns-in_err-given-2-clause-value : goal.each_argument-returns-in_err-given-2-clause-value
+each_argument-returns-in_err-given-2-clause-value t c =
+    let p = err_from_is_err_and c.from_residual-in_err-given-2.result c.from_residual-in_err-given-2.ensures.1 in
+    let xs = c.args.args.now.items.items in
+    let i = c.each.arg-index in
+    let h : i < length xs = omega (arith, c.each-test.true, ap length c.deref-arg-items.ensures.value) in
+    let x = c.arg-item.result in
+    let is : x ≡ get_or xs i x = c.arg-item.is ∙ ap (λ (l : List Arg). get_or l i x)
+    c.deref-arg-items.ensures.value in
+    let inv = c.each.invariant in
+    let a = arg_of x in
+    let rest = args_from (map arg_of (drop (i + 1) xs)) in
+    let here = setting c.args.self.now c.args.scope in
+    let names = names_in c.args.names in
+    let g = c.expression-next.ensures in
+    let d = c.in_ok-open.destination in
+    let w = c.in_ok-open.ensures.ok in
+    let free = taker_given names c.each.positional c.each.given a
+    ∙ if_ok_at (λ (d : Destination). taker_of names c.each.positional (given_of c.each.given) a ≡ Some (taker_seen d))
+    c.destination_for-free.result d w.1 c.destination_for-free.ensures.free in
+    let step = tells_along c.expression-next.result _ _ _ (ap (λ e. value_at here true e c.each.self.turns)
+    (sym c.argument_value.ensures.value) ∙ moved (λ s. value_at s true (term_of c.argument_value.result.now) c.each.self.turns)
+    c.args.scope inv.kept) g.value in
+    let stop = c.in_err-given-2.field-0.0 in
+    let held = held_seen c.each.given d c.expression-next.result (Err stop)
+    (subst (λ (v : GivenArguments Value). IsGiven v d c.expression-next.result (Err stop)) w.0 c.in_err-given-2.ensures) in
+    rw (p.1, p.2) (argument_stops here names c.each.positional _ (args_from (map arg_of (drop i xs))) (arguments_of c.each.given) c.each.self.turns
+    inv.told a rest (taker_seen d) c.expression-next.new.self.turns c.expression-next.new.self.turns c.expression-next.result stop
+    (args_here xs i x h is) free step held)
 
 pub each_parameter-parameter-next-requires : goal.each_parameter-parameter-next-requires
 each_parameter-parameter-next-requires t c =
@@ -461,7 +524,7 @@ each_parameter-each-preserved t c =
           (tells_along r _ _ _ (moved (λ h. parameter_value h (param_of x) s c.each.self.turns) c.args.scope inv.kept) g.value);
       count = ap length same ∙ length-set still i dest ∙ inv.count;
       got = longer_length c.each.values.items r values longer ∙ ap (λ n. n + 1) inv.got;
-      bounded = longer_bounded c.each.values.items r values longer inv.bounded g.bounded;
+      bounded = longer_bounded c.each.values.items r values longer inv.bounded (told_bounded r _ _ g.value);
       filled = (slots_parts _ _ _ slots inv.filled).1;
       kept = keeps_trans inv.kept g.kept;
     }
@@ -470,10 +533,12 @@ pub each_parameter-returns-clause-value : goal.each_parameter-returns-clause-val
 each_parameter-returns-clause-value t c =
     let xs = c.args.params.now.items.items in
     let i = c.each.i in
-    let le : length xs ≤ i = omega (arith, c.each-test.false, ap length c.deref-param-items.ensures.value) in
-    filled_end (setting c.args.self.now c.args.scope) _ (vals_in c.each.values.items) []
-    (map param_of (drop i xs)) (slots_in (drop i c.each.open.items)) c.each.self.turns
-    c.each.invariant.told (params_end xs i le)
+    let le : length xs ≤ i = omega (arith, c.each-test.false, ap length c.deref-param-items.ensures.value) in (
+      filled_end (setting c.args.self.now c.args.scope) _ (vals_in c.each.values.items) []
+          (map param_of (drop i xs)) (slots_in (drop i c.each.open.items)) c.each.self.turns
+          c.each.invariant.told (params_end xs i le),
+      c.each.invariant.bounded,
+    )
 
 pub function_call-returns-in_err-given-clause-value : goal.function_call-returns-in_err-given-clause-value
 function_call-returns-in_err-given-clause-value t c =
@@ -494,8 +559,8 @@ function_call-function_value-value-requires t c =
       (
         c.requires.scope,
         (
-          ap (λ (given : ArgumentValues). length given.slots.items) w.0 ∙ c.requires.count,
-          subst (λ (given : ArgumentValues). IsTrue (arguments_bounded (arguments_of given))) (sym w.0) c.requires.bounded,
+          ap (λ (given : GivenArguments Value). length given.slots.items) w.0 ∙ c.requires.count,
+          subst (λ (given : GivenArguments Value). IsTrue (arguments_bounded (arguments_of given))) (sym w.0) c.requires.bounded,
         ),
       ),
     )

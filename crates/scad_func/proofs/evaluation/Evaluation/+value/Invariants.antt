@@ -15,10 +15,12 @@ use Rattle.scad_value.specs.Values.{is_bounded}
 use Rattle.scad_value.specs.View.{val_of, vals_in}
 use Rattle.scad_scope.specs.Names.{env_of}
 use Rattle.scad_scope.specs.Table.{rows_of}
+use Rattle.scad_scope.specs.Arguments.{nothing_given}
+use Rattle.scad_scope.specs.ArgumentsView.{names_in}
 use Rattle.scad_builtin.specs.Builtins.{are_bounded}
-use Rattle.scad_func.specs.Meaning.{each_value, each_argument, each_parameter, nothing_given, each_suffix, each_link}
+use Rattle.scad_func.specs.Meaning.{each_value, each_argument, each_parameter, each_suffix, each_link}
 use Rattle.scad_func.specs.Steps.{all_values}
-use Rattle.scad_func.specs.View.{indexed_val, slots_in, slots_bounded, arguments_of, arguments_bounded, names_in, function_size, param_size, params_size}
+use Rattle.scad_func.specs.View.{indexed_val, slots_in, slots_bounded, arguments_of, arguments_bounded, function_size, param_size, params_size}
 use Rattle.scad_func.specs.Evaluations.{Keeps, work_left, setting}
 use Rattle.scad_func.proofs.Calls.{in_front}
 use Rattle.scad_func.proofs.evaluation.Evaluation.+value.Given as goal

@@ -1,4 +1,4 @@
-use Rattle.std.proofs.Common.{◌≡◌, ◌<◌, ◌∙◌, length, subst, arith}
+use Rattle.std.proofs.Common.{◌≡◌, ◌<◌, length, subst, arith}
 use Rattle.std.specs.Prelude.{OnOk}
 use Rattle.scad_value.specs.View.{val_of}
 use Rattle.scad_scope.specs.Names.{with_variable}

@@ -1,4 +1,5 @@
-use Rattle.std.proofs.Common.{◌<◌, ◌∙◌, List, length, sym, ap, arith, refl}
+use Rattle.text_place.specs.declared.fault.Fault.{Fault}
+use Rattle.std.proofs.Common.{◌<◌, ◌∙◌, List, length, sym, ap, arith}
 use Rattle.scad_scope.specs.declared.table.Variable.{Variable}
 use Rattle.scad_scope.specs.Names.{find_in}
 use Rattle.scad_scope.specs.View.{variables_of}
@@ -28,8 +29,8 @@ returns-then-here-at c =
     record {
       none = c.outward.invariant.same ∙ variable_none ss c.outward.at c.index-here.result.now c.args.name.now
           h c.index-here.ensures f c.if-here-at.true;
-      same_kind = refl;
-      same_place = refl;
+      same_kind = ap (λ (f : Fault). f.kind) c.fault.ensures;
+      same_place = ap (λ (f : Fault). f.place) c.fault.ensures;
     }
 
 pub outward-preserved : goal.outward-preserved

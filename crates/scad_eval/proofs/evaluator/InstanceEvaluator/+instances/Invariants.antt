@@ -1,0 +1,123 @@
+-- The evaluations that are left count first; at one depth each step calls those of a lower rank.
+use Rattle.std.proofs.Common.{◌≡◌, ℕ, ◌+◌, ◌*◌, length, map, drop}
+use Rattle.scad_ast.specs.StatementView.{binder_of}
+use Rattle.scad_meaning.specs.Verdicts.{Judge, IsRight}
+use Rattle.scad_meaning.specs.Meaning.{Members, made_within, each_member, each_step, each_turn, in_loop}
+use Rattle.scad_pieces.specs.Positions.{term_of_numbered}
+use Rattle.scad_value.specs.Values.{Val, count_of}
+use Rattle.scad_func.specs.Meaning.{Outcome}
+use Rattle.scad_eval.specs.Items.{left_in}
+use Rattle.scad_eval.specs.Seen.{members_seen, in_front}
+use Rattle.scad_eval.specs.Keeping.{left_at, stand_at, Stays}
+use Rattle.scad_eval.specs.Within.{body_seen}
+use Rattle.scad_eval.proofs.Work.{work}
+use Rattle.scad_eval.proofs.evaluator.InstanceEvaluator.+instances.Given as goal
+
+abbrev pub decreases-instance : goal.decreases-instance
+decreases-instance l = work l.self.now.evaluation.depth
+
+abbrev pub decreases-members : goal.decreases-members
+decreases-members l = work l.self.now.evaluation.depth + 1
+
+abbrev pub decreases-members_in_scope : goal.decreases-members_in_scope
+decreases-members_in_scope l = work l.self.now.evaluation.depth + 2
+
+abbrev pub decreases-members_of_body : goal.decreases-members_of_body
+decreases-members_of_body l = work l.self.now.evaluation.depth + 3
+
+abbrev pub decreases-body : goal.decreases-body
+decreases-body l = work l.self.now.evaluation.depth + 4
+
+abbrev pub decreases-one_turn : goal.decreases-one_turn
+decreases-one_turn l = work l.self.now.evaluation.depth + 5
+
+abbrev pub decreases-turns : goal.decreases-turns
+decreases-turns l = work l.self.now.evaluation.depth + (4 * length l.binders.now + 6)
+
+abbrev pub decreases-turns_with : goal.decreases-turns_with
+decreases-turns_with l = work l.self.now.evaluation.depth + (4 * length l.rest.now + 7)
+
+abbrev pub decreases-step : goal.decreases-step
+decreases-step l = work l.self.now.evaluation.depth + (4 * length l.rest.now + 8)
+
+abbrev pub decreases-each_item : goal.decreases-each_item
+decreases-each_item l = work l.self.now.evaluation.depth + (4 * length l.rest.now + 9)
+
+abbrev pub decreases-looped : goal.decreases-looped
+decreases-looped l = work l.self.now.evaluation.depth + 1099511627776
+
+abbrev pub decreases-one_or_nothing : goal.decreases-one_or_nothing
+decreases-one_or_nothing l = work l.self.now.evaluation.depth + 5
+
+abbrev pub decreases-one_or_other : goal.decreases-one_or_other
+decreases-one_or_other l = work l.self.now.evaluation.depth + 5
+
+abbrev pub decreases-module_made : goal.decreases-module_made
+decreases-module_made l = work l.self.now.evaluation.depth + 3
+
+abbrev pub decreases-module_with_specials : goal.decreases-module_with_specials
+decreases-module_with_specials l = work l.self.now.evaluation.depth + 4
+
+abbrev pub decreases-module_called : goal.decreases-module_called
+decreases-module_called l = work l.self.now.evaluation.depth + 5
+
+abbrev pub decreases-children_of : goal.decreases-children_of
+decreases-children_of l = work l.self.now.evaluation.depth + 3
+
+abbrev pub decreases-children_made : goal.decreases-children_made
+decreases-children_made l = work l.self.now.evaluation.depth + 4
+
+abbrev pub decreases-children_called : goal.decreases-children_called
+decreases-children_called l = work l.self.now.evaluation.depth + 5
+
+abbrev pub decreases-moved : goal.decreases-moved
+decreases-moved l = work l.self.now.evaluation.depth + 5
+
+abbrev pub decreases-hulled : goal.decreases-hulled
+decreases-hulled l = work l.self.now.evaluation.depth + 5
+
+abbrev pub decreases-extruded : goal.decreases-extruded
+decreases-extruded l = work l.self.now.evaluation.depth + 5
+
+abbrev pub decreases-effect_made : goal.decreases-effect_made
+decreases-effect_made l = work l.self.now.evaluation.depth + 6
+
+abbrev pub decreases-built_in_made : goal.decreases-built_in_made
+decreases-built_in_made l = work l.self.now.evaluation.depth + 7
+
+abbrev pub decreases-built_in_called : goal.decreases-built_in_called
+decreases-built_in_called l = work l.self.now.evaluation.depth + 8
+
+abbrev pub decreases-called : goal.decreases-called
+decreases-called l = work l.self.now.evaluation.depth + 9
+
+abbrev pub decreases-core : goal.decreases-core
+decreases-core l = work l.self.now.evaluation.depth + 1099511627777
+
+abbrev pub decreases-marked_or_not : goal.decreases-marked_or_not
+decreases-marked_or_not l = work l.self.now.evaluation.depth + 1099511627778
+
+abbrev pub invariant-members-each : goal.invariant-members-each
+invariant-members-each l =
+    let old = l.fn.self in
+    record {
+      stays : Stays old l.self;
+      told : (judge : Judge) → IsRight judge →
+          each_member (made_within old.unit judge (left_at old)) (stand_at old l.position) (map term_of_numbered l.instances) old.evaluation.turns old.leaves
+          ≡ in_front (members_seen old.leaves l.members)
+          (each_member (made_within old.unit judge (left_at old)) (stand_at old l.position) (map term_of_numbered (drop l.instance-index l.instances)) l.self.evaluation.turns l.self.leaves);
+    }
+
+abbrev pub invariant-each_item-each : goal.invariant-each_item-each
+invariant-each_item-each l =
+    let old = l.fn.self in
+    record {
+      stays : Stays old l.self;
+      told : (judge : Judge) → IsRight judge →
+          let turned : Val → ℕ → ℕ → Outcome Members = λ item. each_turn (left_at old) (made_within old.unit judge (left_at old)) l.place (map binder_of l.rest) (body_seen l.body) (in_loop (stand_at old l.position) l.name item) in
+          each_step l.place turned (left_in l.fn.items.left) old.evaluation.turns old.leaves
+          ≡ in_front (members_seen old.leaves l.members) (each_step l.place turned (left_in l.left.left) l.self.evaluation.turns l.self.leaves);
+    }
+
+abbrev pub decreases-each_item-each : goal.decreases-each_item-each
+decreases-each_item-each l = count_of (left_in l.left.left)

@@ -1,0 +1,101 @@
+-- Where the evaluation of instances stands, and what its steps keep.
+use Rattle.std.specs.Prelude.{◌≡◌, ℕ, ◌-◌, ◌<◌, [], ◌∷◌, ◌++◌, take, Option, Some, None, Result, Err}
+use Rattle.text_place.specs.declared.fault.Stop.{Stop}
+use Rattle.text_place.specs.declared.fault.Place.{Place}
+use Rattle.plane_predicate.specs.declared.unit.Unit.{Unit as LengthUnit}
+use Rattle.primitives.specs.Sizes.{AreSizes, IsSafe}
+use Rattle.scad_value.specs.Values.{Val}
+use Rattle.scad_scope.specs.Names.{Pairs}
+use Rattle.scad_scope.specs.Table.{rows_of, chain_of}
+use Rattle.scad_func.specs.Meaning.{Outcome, one_call_fewer, turn}
+use Rattle.scad_func.specs.View.{seen, text_of}
+use Rattle.scad_func.specs.Definitions.{IsWhole}
+use Rattle.scad_func.specs.Evaluations.{scopes_there, ScopeEnters}
+use Rattle.scad_func.specs.declared.evaluation.Evaluation.{Evaluation}
+use Rattle.scad_meaning.specs.declared.extrusion.Extrusion.{Extrusion}
+use Rattle.scad_eval.specs.declared.position.Position.{Position}
+use Rattle.scad_eval.specs.declared.evaluator.InstanceEvaluator.{InstanceEvaluator}
+use Rattle.scad_meaning.specs.Verdicts.{Judge, IsRight}
+use Rattle.scad_meaning.specs.Meaning.{Stand, Made, Makes, made_within}
+use Rattle.scad_eval.specs.Seen.{Told, made_seen}
+
+-- how many evaluations in one another are left
+abbrev pub left_at : InstanceEvaluator → ℕ
+left_at m = 512 - m.evaluation.depth
+
+-- where an instance stands
+abbrev pub stand_at : InstanceEvaluator → Position → Stand
+stand_at m s = record {
+  calls = 64 - m.evaluation.calls;
+  env = seen m.evaluation.source.now (rows_of m.evaluation.scopes.now) s.scope;
+  chain = chain_of m.evaluation.scopes.now;
+  inside = s.inside;
+  under_mark = s.under_mark;
+}
+
+-- the height of an extrusion has nothing wrong with it
+pub record IsThrough (unit : LengthUnit) (through : Extrusion) : Type 0 where
+  pub safe : IsSafe through.height
+  pub sizes : AreSizes unit through.center (through.height ∷ [])
+
+abbrev pub IsChecked : LengthUnit → Option Extrusion → Type 0
+IsChecked unit None = Unit {0}
+IsChecked unit (Some through) = IsThrough unit through
+
+-- a stand whose scope is there, inside an extrusion with nothing wrong or inside none
+pub record Stands (m : InstanceEvaluator) (s : Position) : Type 0 where
+  pub whole : IsWhole (text_of m.evaluation.source.now)
+  pub scope : s.scope < scopes_there m.evaluation
+  pub inside : IsChecked m.unit s.inside
+
+-- all but the turns and the leaves is as before
+pub record Stays (old new : InstanceEvaluator) : Type 0 where
+  pub unit : new.unit ≡ old.unit
+  pub source : new.evaluation.source.now ≡ old.evaluation.source.now
+  pub lent : new.evaluation.scopes.ghost_name ≡ old.evaluation.scopes.ghost_name
+  pub rows : rows_of new.evaluation.scopes.now ≡ rows_of old.evaluation.scopes.now
+  pub chain : chain_of new.evaluation.scopes.now ≡ chain_of old.evaluation.scopes.now
+  pub calls : new.evaluation.calls ≡ old.evaluation.calls
+  pub depth : new.evaluation.depth ≡ old.evaluation.depth
+
+-- one scope more, which is the newest: all else but the turns is as before
+pub record Enters (old new : InstanceEvaluator) (scope : ℕ) : Type 0 where
+  pub unit : new.unit ≡ old.unit
+  pub leaves : new.leaves ≡ old.leaves
+  pub evaluation : ScopeEnters old.evaluation new.evaluation scope
+
+-- the newest scope has more variables: all else but the turns and the leaves is as before
+pub record Binds (old new : InstanceEvaluator) (scope : ℕ) : Type 0 where
+  pub unit : new.unit ≡ old.unit
+  pub source : new.evaluation.source.now ≡ old.evaluation.source.now
+  pub lent : new.evaluation.scopes.ghost_name ≡ old.evaluation.scopes.ghost_name
+  pub front : take scope (rows_of new.evaluation.scopes.now) ≡ take scope (rows_of old.evaluation.scopes.now)
+  pub there : scopes_there new.evaluation ≡ scopes_there old.evaluation
+  pub chain : chain_of new.evaluation.scopes.now ≡ chain_of old.evaluation.scopes.now
+  pub calls : new.evaluation.calls ≡ old.evaluation.calls
+  pub depth : new.evaluation.depth ≡ old.evaluation.depth
+
+-- the newest scope and the chain have more variables: all else but the turns and the leaves is as before
+pub record Assigns (old new : InstanceEvaluator) (scope : ℕ) : Type 0 where
+  pub unit : new.unit ≡ old.unit
+  pub source : new.evaluation.source.now ≡ old.evaluation.source.now
+  pub lent : new.evaluation.scopes.ghost_name ≡ old.evaluation.scopes.ghost_name
+  pub front : take scope (rows_of new.evaluation.scopes.now) ≡ take scope (rows_of old.evaluation.scopes.now)
+  pub there : scopes_there new.evaluation ≡ scopes_there old.evaluation
+  pub newer : Pairs Val
+  pub chain : chain_of new.evaluation.scopes.now ≡ newer ++ chain_of old.evaluation.scopes.now
+  pub calls : new.evaluation.calls ≡ old.evaluation.calls
+  pub depth : new.evaluation.depth ≡ old.evaluation.depth
+
+-- what a step gives is what an equation says of where it stands, by whatever is right about shapes
+abbrev pub Equation : Type 0 → Type 0
+Equation B = LengthUnit → Judge → ℕ → Makes → Stand → ℕ → ℕ → Outcome B
+
+pub record Says {A B : Type 0} (see : ℕ → A → B) (old new : InstanceEvaluator) (s : Position) (r : Result A Stop) (equation : Equation B) : Type 0 where
+  pub by : (judge : Judge) → IsRight judge → Told see r new.evaluation.turns new.leaves
+      (equation old.unit judge (left_at old) (made_within old.unit judge (left_at old)) (stand_at old s) old.evaluation.turns old.leaves)
+
+-- what a counted call says that is refused
+abbrev pub StopsBefore : Evaluation → Place → Stop → Type 0
+StopsBefore e at stop = (go : ℕ → ℕ → Outcome Made) (n l : ℕ) → Told made_seen (Err stop) n l
+    (one_call_fewer (64 - e.calls) at (λ calls. turn at e.turns (go calls)))

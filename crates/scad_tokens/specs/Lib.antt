@@ -1,0 +1,2 @@
+pub mod TokenClasses
+pub mod Views
