@@ -1,3 +1,4 @@
 -- The memo behind a lock.
+pub mod Journals
 pub mod Shares
 pub mod Tallies

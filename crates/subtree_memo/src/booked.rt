@@ -1,8 +1,9 @@
-ghost use Rattle.std.specs.Prelude.{◌≡◌, ◌<◌, [], IfOk, OnErr, IfSome};
+ghost use Rattle.std.specs.Prelude.{◌≡◌, ◌<◌, [], ◌∷◌, ◌++◌, IfOk, OnErr, IfSome};
 ghost use Rattle.std.specs.Arc.{arc_value};
 ghost use Rattle.memo_core.specs.Fields.{value_in, is_hit};
-ghost use Rattle.memo_core.specs.Memo.{count_in, hit_by, missed_by, kept_by, heavy_by};
+ghost use Rattle.memo_core.specs.Memo.{item, Probe_said, count_in, hit_by, missed_by, kept_by, heavy_by};
 ghost use Rattle.subtree_memo.specs.Shares.{probe_booked, fill_booked};
+ghost use Rattle.subtree_memo.specs.Journals.{IsFilled};
 
 use crate::ledgers::MemoLedger;
 use crate::share::{Share, dropped_sum};
@@ -72,7 +73,8 @@ impl<F: Fit, N: Namer<F::Key>, H: MemoLedger, M: Ledger, K: Ledger, E: Ledger> B
     K,
     E,
 > {
-    /// A probe that is booked. NoMemory books nothing.
+    /// A probe that is booked, and stands in the journal as the caller's of the share. NoMemory books
+    /// nothing.
     #[tactic(auto, using(crate::proofs::Counts::hits_more, crate::proofs::Counts::misses_more, crate::proofs::Counts::kept_more, crate::proofs::Counts::heavy_more))]
     pub fn probe(
         &mut self,
@@ -83,7 +85,10 @@ impl<F: Fit, N: Namer<F::Key>, H: MemoLedger, M: Ledger, K: Ledger, E: Ledger> B
         requires { 0 < share.old.parts }
         ensures fits { IfOk result (λ p. IfSome (value_in p) (F.fits (arc_value key.now))) }
         ensures booked { IfOk result (λ p. share.new ≡ probe_booked (is_hit p) share.old) }
-        ensures err { OnErr result (share.new ≡ share.old) }
+        ensures journal { IfOk result (λ p. self.new.core.journal ≡ self.old.core.journal
+            ++ item share.old.caller (arc_value key.now) (Probe_said (is_hit p)) ∷ []) }
+        ensures err { OnErr result ((share.new ≡ share.old)
+            × (self.new.core.journal ≡ self.old.core.journal)) }
     {
         let Booked {
             core,
@@ -101,7 +106,8 @@ impl<F: Fit, N: Namer<F::Key>, H: MemoLedger, M: Ledger, K: Ledger, E: Ledger> B
         Ok(found)
     }
 
-    /// A fill that is booked, also where memory runs out.
+    /// A fill that is booked, also where memory runs out. Where it does not, the fill stands in the journal
+    /// as the caller's of the share.
     #[tactic(auto, using(crate::proofs::Counts::hits_more, crate::proofs::Counts::misses_more, crate::proofs::Counts::kept_more, crate::proofs::Counts::heavy_more))]
     pub fn fill(
         &mut self,
@@ -114,7 +120,9 @@ impl<F: Fit, N: Namer<F::Key>, H: MemoLedger, M: Ledger, K: Ledger, E: Ledger> B
         requires parts { 0 < share.old.parts }
         requires fits { F.fits (arc_value key.now) (arc_value value) }
         requires weight { weight ≡ F.weighs (arc_value value) }
-        ensures { share.new ≡ fill_booked result share.old }
+        ensures booked { share.new ≡ fill_booked result share.old }
+        ensures journal { IsFilled share.old.caller (arc_value key.now) weight result
+            self.old.core.journal self.new.core.journal }
     {
         let Booked {
             core,
