@@ -26,7 +26,7 @@ pub fn merge(alloc: Global, op: Op, left: &Solid, right: &Solid) -> Result<Solid
 
 /// The same solid, where its size is at most `most`. `TooBig` comes exactly where it is above, as
 /// soon as that is known: no more than `most` nodes and edges of the result are put together. What a
-/// merge holds besides, both solids over one table and the parts of the right one, may be larger.
+/// merge holds besides, the right solid over the joined table and its parts, may be larger.
 #[tactic(auto, using(crate::proofs::Merged::is_operation))]
 pub fn merge_within(
     alloc: Global,
@@ -53,8 +53,8 @@ fn in_all_memory(built: Result<Solid, BuildStop>) -> Result<Solid, NoMemory>
     }
 }
 
-/// The merge, by the definition: both solids stand over one table, the left one is gone through, and
-/// the right one is divided by its faces.
+/// The merge, by the definition: the left solid is gone through, its faces over the joined table, and the
+/// right one, which stands over that table, is divided by them.
 fn merged_within(
     alloc: Global,
     op: Op,

@@ -34,10 +34,10 @@ slope m v = m.a *ℤ v.x +ℤ m.b *ℤ v.y +ℤ m.c *ℤ v.z
 abbrev pub line_of : Coefficients → Coefficients → Direction
 line_of n e = record { x = minor n.b n.c e.b e.c; y = minor n.c n.a e.c e.a; z = minor n.a n.b e.a e.b }
 
--- the one is the other times a number above 0
+-- neither is 0, and the one is the other times a number above 0
 abbrev pub is_same_way : Direction → Direction → Bool
 is_same_way u v = is_parallel u v && int_lt (pos 0) (dot u v)
 
--- the one is the other times a number below 0
+-- neither is 0, and the one is the other times a number below 0
 abbrev pub is_opposite_way : Direction → Direction → Bool
 is_opposite_way u v = is_parallel u v && int_lt (dot u v) (pos 0)

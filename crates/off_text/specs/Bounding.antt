@@ -19,7 +19,8 @@ pub record IsBoundaryFace (unit : LengthUnit) (f : Formula) (vertices : List Coo
 
 -- the bytes are a 4OFF text whose faces bound the formula: a point on exactly one face plane is covered by exactly one
 -- face facing a side where the formula is solid just behind and empty just ahead, and by none otherwise. And the faces are
--- closed: through a point strictly inside the world box that is no corner, as many of their edges run one way as the opposite way
+-- closed: through a point strictly inside the world box that is no corner of a face, as many of their edges run one
+-- way as the opposite way
 pub record IsBoundary (unit : LengthUnit) (bytes : List ℕ) (f : Formula) : Type 0 where
   pub vertices : List Coordinates
   pub faces : List (List ℕ)

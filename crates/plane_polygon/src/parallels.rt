@@ -21,7 +21,7 @@ pub fn parallel_side(p: &Plane, m: &Plane) -> Option<Side>
     None
 }
 
-/// Whether two planes have one direction.
+/// True only of two planes that have one direction.
 pub fn is_alike(p: &Plane, m: &Plane) -> bool
     ensures { result ≡ true → IsAlike p.now m.now }
 {

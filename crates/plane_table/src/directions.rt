@@ -17,7 +17,8 @@ use text_place::NoMemory;
 pub struct Oriented {
     /// The plane.
     pub plane: Plane,
-    /// The number of a plane with its direction: the first of those that follow one another in the list.
+    /// The number of a plane with its direction. For speed, that is the first of those that follow one
+    /// another in the list.
     pub direction: u32,
 }
 

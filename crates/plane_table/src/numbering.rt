@@ -47,7 +47,7 @@ pub fn face_of(alloc: Global, polygon: &Polygon) -> Result<OwnFace, NoMemory>
 /// Faces over one list of planes, no two of which are equal or opposite.
 #[derive(Drop)]
 pub struct HalfFaces {
-    /// The planes that the faces' numbers name.
+    /// The planes over which the faces' numbers are: those of the world box, and the given ones.
     pub planes: Vec<Plane>,
     /// The faces.
     pub faces: Vec<Face>,

@@ -9,9 +9,10 @@ use std::alloc::Global;
 use std::cmp::Ordering;
 use text_place::NoMemory;
 
-/// The planes of a list in ascending order, each once: of planes that are equal or opposite one.
+/// The planes of a list in ascending order: of planes that are equal or opposite one.
 pub fn in_order(alloc: Global, planes: Vec<Plane>) -> Result<Vec<Plane>, NoMemory>
-    ensures { IfOk result (λ v. HasNoTwoAlike v.items) }
+    ensures ascending { IfOk result (λ v. IsAscending v.items) }
+    ensures apart { IfOk result (λ v. HasNoTwoAlike v.items) }
 {
     let mut sorted = planes;
     sorted.sort_by(compare)?;
@@ -20,7 +21,7 @@ pub fn in_order(alloc: Global, planes: Vec<Plane>) -> Result<Vec<Plane>, NoMemor
 
 /// Those planes of a list that come after all that are taken before them.
 fn rising(alloc: Global, planes: &[Plane]) -> Result<Vec<Plane>, NoMemory>
-    ensures { IfOk result (λ v. HasNoTwoAlike v.items) }
+    ensures { IfOk result (λ v. IsAscending v.items) }
 {
     let mut taken = Vec::with_capacity(alloc, planes.len())?;
     for plane in planes {

@@ -38,8 +38,9 @@ pub struct CornerSides {
 }
 
 /// How a face lies against the plane of a number: On where all its corners are on the plane, Across where
-/// some lie strictly on each side, else the side of those that are off it. Where the planes are parallel,
-/// no corner is looked at; where no other plane has the direction, no edge is.
+/// some lie strictly on each side, else the side of those that are off it. For speed alone, no corner is
+/// looked at where the table knows the planes as parallel, and no edge where it knows no other plane with
+/// the direction.
 pub fn sides(
     alloc: Global,
     table: &PlaneTable,
@@ -178,8 +179,8 @@ fn corner_sides(
     })
 }
 
-/// The side of the plane of a number on which corner `i` lies, if it isn't known by a plane through the
-/// corner that has all its points on that side.
+/// The side of the plane of a number on which corner `i` lies: the known one, else by the meeting of the
+/// planes there.
 fn corner_side(
     table: &PlaneTable,
     face: &Face,
@@ -223,8 +224,8 @@ fn first_known(ends: Option<Side>, begins: Option<Side>) -> Option<Side>
     }
 }
 
-/// The side of the plane of a number on which all points of another plane lie, where it is looked for and
-/// found: no other plane may have its direction.
+/// The side of the plane of a number on which all points of another plane lie, where it is known. It isn't
+/// looked for where `is_lone` says that no other plane has the direction.
 fn known_side(table: &PlaneTable, of: u32, number: u32, is_lone: bool) -> Option<Side>
     requires of { IsNumberIn table.now of }
     requires number { IsNumberIn table.now number }

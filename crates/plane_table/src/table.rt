@@ -59,8 +59,9 @@ impl PlaneTable {
         &self.oriented[number as usize].plane
     }
 
-    /// The number of a plane that has the direction of the one that a number names. Planes of one direction
-    /// that follow one another in the list, or whose opposites do, have the same one.
+    /// The number of a plane that has the direction of the one that a number names. For speed, and no
+    /// promise: planes of one direction that follow one another in the list, or whose opposites do, have the
+    /// same one.
     pub fn direction(&self, number: u32) -> u32
         requires { IsNumberIn self.now number }
         ensures { IsAlike (named self.now result) (named self.now number) }
@@ -68,8 +69,8 @@ impl PlaneTable {
         self.oriented[number as usize].direction
     }
 
-    /// Whether no other plane of the table has the direction of the plane that a number names, as far as
-    /// the table knows.
+    /// Whether the table knows no other plane with the direction of the one that a number names. A hint for
+    /// speed, and no promise.
     pub fn is_lone(&self, number: u32) -> bool
         requires { IsNumberIn self.now number }
     {
