@@ -39,8 +39,7 @@ pub struct CornerSides {
 
 /// How a face lies against the plane of a number: On where all its corners are on the plane, Across where
 /// some lie strictly on each side, else the side of those that are off it. For speed alone, no corner is
-/// looked at where the table knows the planes as parallel, and no edge where it knows no other plane with
-/// the direction.
+/// looked at where the table knows the planes as parallel, and two edges tell those of a rectangle.
 pub fn sides(
     alloc: Global,
     table: &PlaneTable,
@@ -51,14 +50,13 @@ pub fn sides(
     requires number { IsNumberIn table.now number }
     ensures { IfOk result (λ r. AreSidesOf (outline_of table.now face.now) (named table.now number) r) }
 {
-    let is_lone = table.is_lone(number);
-    if let Some(side) = known_side(table, face.plane, number, is_lone) {
+    if let Some(side) = side_of_all(table, face.plane, number) {
         return Ok(CornerSides {
             class: class_on(side),
             corners: SmallVec::new(alloc),
         });
     }
-    if !is_lone && face.edges.len() == 4 {
+    if face.edges.len() == 4 {
         let edges = face.edges.numbers();
         if let Some((first, third)) = both_known(table, edges[0], edges[2], number) {
             return four_sides(alloc, first, third, third, first);
@@ -67,7 +65,7 @@ pub fn sides(
             return four_sides(alloc, second, second, fourth, fourth);
         }
     }
-    corner_sides(alloc, table, face, number, is_lone)
+    corner_sides(alloc, table, face, number)
 }
 
 /// The sides of the plane of a number on which all points of two other planes lie, where both are known.
@@ -152,7 +150,6 @@ fn corner_sides(
     table: &PlaneTable,
     face: &Face,
     number: u32,
-    is_lone: bool,
 ) -> Result<CornerSides, NoMemory>
     requires face { IsFaceOver table.now face.now }
     requires number { IsNumberIn table.now number }
@@ -162,10 +159,10 @@ fn corner_sides(
     let mut corners = SmallVec::new(alloc);
     let mut some_behind = false;
     let mut some_ahead = false;
-    let mut ends = known_side(table, edges[0], number, is_lone);
+    let mut ends = side_of_all(table, edges[0], number);
     for i in 0..edges.len() {
         let next = edges[next_index(i, edges.len())];
-        let begins = known_side(table, next, number, is_lone);
+        let begins = side_of_all(table, next, number);
         let known = first_known(ends, begins);
         let side = corner_side(table, face, i, number, known);
         some_behind = either(some_behind, side.is_behind);
@@ -222,19 +219,6 @@ fn first_known(ends: Option<Side>, begins: Option<Side>) -> Option<Side>
         Some(_) => ends,
         None => begins,
     }
-}
-
-/// The side of the plane of a number on which all points of another plane lie, where it is known. It isn't
-/// looked for where `is_lone` says that no other plane has the direction.
-fn known_side(table: &PlaneTable, of: u32, number: u32, is_lone: bool) -> Option<Side>
-    requires of { IsNumberIn table.now of }
-    requires number { IsNumberIn table.now number }
-    ensures { IfSome result (λ s. HasAllOn (named table.now of) (named table.now number) s) }
-{
-    if is_lone {
-        return None;
-    }
-    side_of_all(table, of, number)
 }
 
 /// The side of the plane of a number on which all points of another plane lie, where the table has one

@@ -69,19 +69,6 @@ impl PlaneTable {
         self.oriented[number as usize].direction
     }
 
-    /// Whether the table knows no other plane with the direction of the one that a number names. A hint for
-    /// speed, and no promise.
-    pub fn is_lone(&self, number: u32) -> bool
-        requires { IsNumberIn self.now number }
-    {
-        let index = number as usize / 2;
-        let direction = self.oriented[2 * index].direction as usize / 2;
-        match self.oriented.get(2 * index + 2) {
-            Some(next) => direction == index && next.direction as usize / 2 != index,
-            None => direction == index,
-        }
-    }
-
     /// Whether two numbers name the same plane.
     pub fn is_same(&self, m: u32, n: u32) -> bool
         requires m { IsNumberIn self.now m }

@@ -12,9 +12,9 @@ pub corner_side-side-requires-clause-known : goal.corner_side-side-requires-clau
 corner_side-side-requires-clause-known c =
     let planes = c.args.table.now in
     let within = rw c.numbers-edges.ensures at c.loop-i-test.true in
-    known_at planes c.args.face.now (named planes c.args.number) c.loop-i.i c.loop-i.ends c.known_side-begins.result c.first_known-known.result
+    known_at planes c.args.face.now (named planes c.args.number) c.loop-i.i c.loop-i.ends c.side_of_all-begins.result c.first_known-known.result
     c.requires.face within (c.loop-i.invariant.ends within)
-    (rw (c.next_index.ensures, c.numbers-edges.ensures) at c.known_side-begins.ensures) c.first_known-known.ensures
+    (rw (c.next_index.ensures, c.numbers-edges.ensures) at c.side_of_all-begins.ensures) c.first_known-known.ensures
 
 pub loop-i-preserved : goal.loop-i-preserved
 loop-i-preserved c =
@@ -23,12 +23,12 @@ loop-i-preserved c =
     let s : Outline = outline_of planes c.args.face.now in
     let m = named planes c.args.number in
     let i = c.loop-i.i in
-    let begins = rw (c.next_index.ensures, c.numbers-edges.ensures) at c.known_side-begins.ensures in
+    let begins = rw (c.next_index.ensures, c.numbers-edges.ensures) at c.side_of_all-begins.ensures in
     record {
       behind = c.either-some_behind.ensures ∙ some_step (is_behind m) (corner s) i c.loop-i.some_behind c.corner_side-side.result.is_behind c.loop-i.invariant.behind (ap (λ (d : CornerSide). d.is_behind) c.corner_side-side.ensures);
       ahead = c.either-some_ahead.ensures ∙ some_step (is_ahead m) (corner s) i c.loop-i.some_ahead c.corner_side-side.result.is_ahead c.loop-i.invariant.ahead (ap (λ (d : CornerSide). d.is_ahead) c.corner_side-side.ensures);
       corners = c.in_ok-push.ensures.ok ∙ map_step (λ k. side_against m (corner s k)) i c.loop-i.corners.items c.corner_side-side.result c.loop-i.invariant.corners c.corner_side-side.ensures;
-      ends = λ l. subst (λ (k : ℕ). IfSome c.known_side-begins.result (HasAllOn (named planes (get_or edges k 0)) m)) (after_next (length edges) i l) begins;
+      ends = λ l. subst (λ (k : ℕ). IfSome c.side_of_all-begins.result (HasAllOn (named planes (get_or edges k 0)) m)) (after_next (length edges) i l) begins;
     }
 
 pub returns : goal.returns
