@@ -2,10 +2,11 @@
 
 ghost use Rattle.plane_predicate.specs.Space.{ComesInReach};
 
+use crate::tables::moved;
 use bsp_tree::{Growing, Link, Solid, add_branch, finish, solid_over};
 use plane_polygon::Polygon;
 use plane_predicate::Plane;
-use plane_table::{PlaneTable, face_of, faces_are_found, half_face, numbers_of, renumber};
+use plane_table::{PlaneTable, face_of, half_face, numbers_of};
 use std::alloc::Global;
 use std::process::Abort;
 
@@ -18,7 +19,6 @@ pub fn node_of(
     behind: &Solid,
     ahead: &Solid,
 ) -> Solid {
-    faces_are_found();
     let own = face_of(alloc, polygon).expect(rt, "memory");
     let (planes, _, behind_root) = behind.parts();
     let of_behind = numbers_of(alloc, Vec::new(alloc), planes).expect(rt, "memory");
@@ -28,7 +28,14 @@ pub fn node_of(
     let table = PlaneTable::of(alloc, of_own.planes).expect(rt, "memory");
     let behind = solid_over(alloc, &table, behind, &of_behind.numbers).expect(rt, "memory");
     let ahead = solid_over(alloc, &table, ahead, &of_ahead.numbers).expect(rt, "memory");
-    let face = renumber(alloc, &own.face, &of_own.numbers).expect(rt, "memory");
+    let face = moved(
+        rt,
+        alloc,
+        &own.face,
+        &own.planes,
+        table.planes(),
+        &of_own.numbers,
+    );
     let mut growing = Growing::new(alloc, &table, u64::MAX);
     let first = add_branch(alloc, &mut growing, &behind, behind_root, false).expect(rt, "memory");
     let second = add_branch(alloc, &mut growing, &ahead, ahead_root, false).expect(rt, "memory");

@@ -30,7 +30,7 @@ fn are_planes(found: &[Plane], wanted: &[[i64; 4]]) -> bool {
 }
 
 // A face over a list in which the planes of its own list have these numbers.
-fn moved(
+pub fn moved(
     rt: &impl Abort,
     alloc: Global,
     face: &Face,
