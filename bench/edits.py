@@ -18,26 +18,28 @@ from typing import NamedTuple
 
 ROUNDS = 5
 
-# The functions that stand for each phase, by their inclusive costs. Of the names in one bracket the first counts that the
-# program has, since the compiler may have put a function into its caller: what is left of it there counts as the rest. The
-# rest is what lies between the phases: threads, freeing, the solids' list, and the reply's way to the output.
+# The functions between the phases: what they call of a phase's functions is that phase's cost.
+FRAME = ("script_server::exporter::export_source", "pair_work::", "parallel_eval::")
+
+# The functions that stand for each phase, by how their names begin; the longest beginning counts. The compiler puts functions
+# into their callers: most of `lex`, and of `intern` and `off_bytes` what isn't a call, stands in `export_source`. That is the
+# rest, with freeing, threads, and the reply's way to the output.
 PHASES = {
-    # words of the source to tokens, and tokens to a program
-    "reading": [["scad_lexer::tokens::lex"], ["scad_parser::program::parse"]],
-    # a program to a design; `evaluate` places it too, which is taken off
-    "evaluating": [["scad_eval::program::evaluate"]],
-    "placing": [["scad_design::placing::place"]],
-    # the distinct subtrees by number, and their keys with the SHA-256 of their bytes
-    "naming": [["csg_tree::store::CsgStore::intern"], ["csg_tree::tree_key::TreeKey::of"]],
-    # what is asked of the memo and offered to it, with the comparison of keys
-    "probing": [["subtree_memo::memo::Memo::probe"], ["subtree_memo::memo::Memo::fill"]],
+    # words of the source to tokens, tokens to a program, and its end
+    "reading": ("scad_lexer::", "scad_parser::", "scad_expressions::", "script_server::scad_ast"),
+    # a program to a design
+    "evaluating": ("scad_eval::", "scad_func::", "scad_scope::", "scad_design::"),
+    # a design to a tree in world position
+    "placing": ("scad_design::placing::",),
+    # the distinct subtrees by number, and their keys, with the SHA-256 of their bytes
+    "naming": ("csg_tree::", "sha2::", "std_collections::btree::", "std_alloc::vec::lodged::"),
+    # what is asked of the memo and offered to it, with the comparison of keys; what isn't a call stands in `join_solid`
+    "probing": ("subtree_memo::", "memo_core::", "lru::", "csg_tree::tree_key::are_same", "core::sync::Mutex::lock"),
     # the solids of leaves, and merges
-    "building": [["bsp_boolean::leaves::leaf_solid"], ["bsp_boolean::merging::merge_within"]],
-    "facets": [["facet_cut::cutting::facets"]],
-    "text": [["off_text::text::off_bytes"]],
+    "building": ("bsp_boolean::", "bsp_partition::", "bsp_tree::", "plane_table::", "plane_polygon::"),
+    "facets": ("facet_cut::",),
+    "text": ("off_text::", "text_place::decimal::"),
 }
-# Whose costs lie in whose.
-INSIDE = {"evaluating": "placing"}
 
 
 class Failed(Exception):
@@ -58,10 +60,10 @@ class Design(NamedTuple):
 
 
 class Costs(NamedTuple):
-    """The instructions of a run: all of them, and those of each function with what it calls."""
+    """The instructions of a run: all of them, and those of each phase."""
 
     total: int
-    functions: dict[str, int]
+    phases: dict[str, int]
 
 
 def with_edits(name: str, head: list[str], each: list[str], foot: list[str], changed: str, added: str) -> Design:
@@ -170,54 +172,50 @@ class Measuring:
         if script not in self.counts:
             file = self.folder / "costs"
             self._run(["valgrind", "--tool=callgrind", f"--callgrind-out-file={file}", *self.command], script)
-            words = ["callgrind_annotate", "--inclusive=yes", "--threshold=100", str(file)]
+            words = ["callgrind_annotate", "--inclusive=yes", "--tree=caller", "--threshold=100", str(file)]
             self.counts[script] = read_costs(self._run(words, "").decode(errors="replace"))
         return self.counts[script]
 
 
+def phase_of(function: str) -> str | None:
+    """The phase that a function stands for."""
+    found = [(len(it), phase) for phase, names in PHASES.items() for it in names if function.startswith(it)]
+    return max(found)[1] if found else None
+
+
 def read_costs(text: str) -> Costs:
-    """The costs in what callgrind_annotate prints. A function that calls itself stands there once more for its inner calls,
-    marked as in branch'2, which the outer ones have in theirs; and one that is generic for each of its types."""
-    total, functions = 0, {}
-    for line in text.splitlines():
-        row = re.match(r"\s*(?P<cost>[\d,]+) (?:\([ \d.]+%\) )?\s*(?P<what>\S.*)", line)
-        if not row:
-            continue
-        cost = int(row["cost"].replace(",", ""))
-        if row["what"] == "PROGRAM TOTALS":
+    """The costs in what callgrind_annotate prints: in front of each function, which is marked `*`, its callers, marked `<`,
+    with what their calls of it cost. Raises Failed where that has another form."""
+    row = re.compile(r"\s*(?P<cost>[\d,]+) (?:\([ \d.]+%\) )?\s*(?:PROGRAM (?P<total>TOTALS)|(?P<mark>[<*]) +[^:]*:(?P<name>.*))")
+    total, phases, calls = 0, dict.fromkeys(PHASES, 0), 0
+    for found in filter(None, map(row.match, text.splitlines())):
+        cost = int(found["cost"].replace(",", ""))
+        if found["total"]:
             total = cost
-            continue
-        name = re.sub(r" \[[^\]]*\]$", "", row["what"].partition(":")[2])
-        if "'" not in name:
-            name = name.partition("::<")[0]
-            functions[name] = functions.get(name, 0) + cost
+        elif found["mark"] == "<":
+            calls += cost if found["name"].startswith(FRAME) else 0
+        else:
+            phase = phase_of(found["name"])
+            if phase:
+                phases[phase] += calls
+            calls = 0
     if not total:
         raise Failed("callgrind_annotate printed no total")
-    return Costs(total, functions)
+    return Costs(total, phases)
 
 
-def functions_of(first: Costs) -> dict[str, list[str]]:
-    """The functions that count for each phase, chosen by an export that goes through all phases. Raises Failed where the
-    program has none of a bracket, so that its cost would be a part of the rest."""
-    chosen: dict[str, list[str]] = {}
-    for phase, brackets in PHASES.items():
-        for names in brackets:
-            there = [it for it in names if it in first.functions]
-            if not there:
-                raise Failed(f"the program has no function {names[0]}, by which {phase} is counted")
-            chosen.setdefault(phase, []).append(there[0])
-    return chosen
+def check_phases(costs: Costs) -> None:
+    """Raises Failed where an export that goes through all phases has a phase without costs: these would be in the rest."""
+    for phase, cost in costs.phases.items():
+        if not cost:
+            raise Failed(f"the program has none of the functions by which {phase} is counted")
 
 
-def shares(chosen: dict[str, list[str]], before: Costs, after: Costs) -> list[str]:
+def shares(before: Costs, after: Costs) -> list[str]:
     """The percent of the difference of two runs that each phase has, and the rest."""
     total = after.total - before.total
-    costs = {
-        phase: sum(after.functions.get(it, 0) - before.functions.get(it, 0) for it in names) for phase, names in chosen.items()
-    }
-    for outer, inner in INSIDE.items():
-        costs[outer] -= costs[inner]
-    return [f"{100 * it / total:.0f}%" for it in [*costs.values(), total - sum(costs.values())]]
+    costs = [after.phases[it] - before.phases[it] for it in PHASES]
+    return [f"{100 * it / total:.0f}%" for it in [*costs, total - sum(costs)]]
 
 
 def say(cells: list[str]) -> None:
@@ -225,8 +223,8 @@ def say(cells: list[str]) -> None:
     print(f"{cells[0]:<22}{cells[1]:<20}" + "".join(f"{it:>11}" for it in cells[2:]), flush=True)
 
 
-def measure(measuring: Measuring, design: Design, chosen: dict[str, list[str]]) -> None:
-    """Prints a design's lines of the table; without functions to count, with times alone."""
+def measure(measuring: Measuring, design: Design, is_counted: bool) -> None:
+    """Prints a design's lines of the table: times, and where they are counted, instructions."""
     exports = {"first": ([], ["export"])}
     if design.edits:
         exports["the same again"] = (["export"], ["export", "export"])
@@ -239,11 +237,11 @@ def measure(measuring: Measuring, design: Design, chosen: dict[str, list[str]]) 
     of_first = 0
     for name, (before, after) in scripts.items():
         cells = [f"{more - less:.1f}" for less, more in zip(measuring.times[before], measuring.times[after])]
-        if chosen:
+        if is_counted:
             costs = measuring.costs(before), measuring.costs(after)
             count = costs[1].total - costs[0].total
             of_first = of_first or count
-            cells += [f"{count / 1e6:.1f}", f"{count / of_first:.2f}", *shares(chosen, *costs)]
+            cells += [f"{count / 1e6:.1f}", f"{count / of_first:.2f}", *shares(*costs)]
         say([design.name if name == "first" else "", name, *cells])
 
 
@@ -272,10 +270,12 @@ def main(command: list[str]) -> int:
         with tempfile.TemporaryDirectory() as folder:
             measuring = Measuring(command, Path(folder))
             designs = [of_parts(100), of_parts(300), plate(), sponge(), long_source()]
-            chosen = {} if missing else functions_of(measuring.costs(designs[0].script("export")))
-            say(["source", "export", "ms", "CPU ms", *(["M instr.", "of first", *PHASES, "rest"] if chosen else [])])
+            measuring.check(designs[0].script("export"))
+            if not missing:
+                check_phases(measuring.costs(designs[0].script("export")))
+            say(["source", "export", "ms", "CPU ms", *([] if missing else ["M instr.", "of first", *PHASES, "rest"])])
             for design in designs:
-                measure(measuring, design, chosen)
+                measure(measuring, design, not missing)
             measure_reading(measuring, designs[-1])
     except Failed as failed:
         print(f"edits: {failed}", file=sys.stderr)
