@@ -2,6 +2,7 @@ pub mod Numbers
 pub mod Corners
 pub mod Cuts
 pub mod Planes
+pub mod Small
 pub mod Orders
 pub mod Oriented
 pub mod Joins

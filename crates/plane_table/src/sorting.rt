@@ -8,6 +8,7 @@ ghost use Rattle.plane_polygon.specs.Parallels.{HasAllOn};
 ghost use Rattle.plane_table.specs.Tables.{named, IsNumberIn};
 ghost use Rattle.plane_table.specs.Faces.{corner_on, outline_of, side_against, AreFourSides, AreSidesOf, IsFaceOver, IsSideAt};
 
+use crate::lining::sides_by_line;
 use crate::{Face, PlaneTable, opposite_number};
 use plane_polygon::{Class, class_from, next_index, side_alike, side_at};
 use plane_predicate::Side;
@@ -39,7 +40,8 @@ pub struct CornerSides {
 
 /// How a face lies against the plane of a number: On where all its corners are on the plane, Across where
 /// some lie strictly on each side, else the side of those that are off it. For speed alone, no corner is
-/// looked at where the table knows the planes as parallel, and two edges tell those of a rectangle.
+/// looked at where the table knows the planes as parallel, two edges tell those of a rectangle, and the
+/// line of the two planes tells them where all planes are small.
 pub fn sides(
     alloc: Global,
     table: &PlaneTable,
@@ -64,6 +66,9 @@ pub fn sides(
         if let Some((second, fourth)) = both_known(table, edges[1], edges[3], number) {
             return four_sides(alloc, second, second, fourth, fourth);
         }
+    }
+    if let Some(found) = sides_by_line(alloc, table, face, number)? {
+        return Ok(found);
     }
     corner_sides(alloc, table, face, number)
 }
@@ -124,7 +129,7 @@ fn some_of_four(a: bool, b: bool, c: bool, d: bool) -> bool
 }
 
 /// A corner on a side.
-fn corner_on(side: Side) -> CornerSide
+pub fn corner_on(side: Side) -> CornerSide
     ensures { result ≡ corner_on side }
 {
     CornerSide {
@@ -240,7 +245,7 @@ fn side_of_all(table: &PlaneTable, of: u32, number: u32) -> Option<Side>
 }
 
 /// Whether one of two holds.
-fn either(a: bool, b: bool) -> bool
+pub fn either(a: bool, b: bool) -> bool
     ensures { result ≡ (a || b) }
 {
     a || b
