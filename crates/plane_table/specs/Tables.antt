@@ -56,3 +56,7 @@ pub record IsTable (planes : List Coefficients) (entries : List Oriented) (is_sm
   pub oriented : AreOriented planes entries
   pub apart : HasNoTwoAlike planes
   pub small : is_small ≡ true → All IsSmall planes
+
+-- each plane that a number names is small
+abbrev pub AreNumbersSmall : List Coefficients → Type 0
+AreNumbersSmall planes = (n : ℕ) → IsNumberIn planes n → IsSmall (named planes n)

@@ -28,14 +28,16 @@ pub struct CornerSide {
     pub is_ahead: bool,
 }
 
+/// The sides of corners in order. Up to eight stand in the value itself, more on the heap.
+pub type CornerList = SmallVec<CornerSide, FEW>;
+
 /// How a face lies against a plane, and, where it is across the plane, the side of each corner.
 #[derive(Drop)]
 pub struct CornerSides {
     /// How the face lies against the plane.
     pub class: Class,
-    /// The sides of the corners of a face that is across, in order. Up to eight stand in the value itself,
-    /// more on the heap.
-    pub corners: SmallVec<CornerSide, FEW>,
+    /// The sides of the corners of a face that is across, in order.
+    pub corners: CornerList,
 }
 
 /// How a face lies against the plane of a number: On where all its corners are on the plane, Across where

@@ -1,10 +1,9 @@
 //! Planes by number.
 
-ghost use Rattle.std.specs.Prelude.{◌≡◌, ℕ, true, IfOk};
+ghost use Rattle.std.specs.Prelude.{◌≡◌, true, IfOk};
 ghost use Rattle.plane_predicate.specs.Space.{opposite_of, is_same};
-ghost use Rattle.plane_line.specs.Lines.{IsSmall};
 ghost use Rattle.plane_polygon.specs.Parallels.{IsAlike};
-ghost use Rattle.plane_table.specs.Tables.{named, opposite_number, HasNoTwoAlike, IsNumberIn};
+ghost use Rattle.plane_table.specs.Tables.{named, opposite_number, AreNumbersSmall, HasNoTwoAlike, IsNumberIn};
 
 use crate::directions::{Oriented, by_number};
 use plane_line::are_small;
@@ -69,7 +68,7 @@ impl PlaneTable {
 
     /// Whether all planes have small numbers, for work in 64 bits. False is no promise.
     pub fn is_small(&self) -> bool
-        ensures { result ≡ true → (n : ℕ) → IsNumberIn self.now n → IsSmall (named self.now n) }
+        ensures { result ≡ true → AreNumbersSmall self.now }
     {
         self.is_small
     }
