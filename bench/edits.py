@@ -36,7 +36,7 @@ PHASES = {
     # what is asked of the memo and offered to it, with the comparison of keys; what isn't a call stands in `join_solid`
     "probing": ("subtree_memo::", "memo_core::", "lru::", "csg_tree::tree_key::are_same", "core::sync::Mutex::lock"),
     # the solids of leaves, and merges
-    "building": ("bsp_boolean::", "bsp_partition::", "bsp_tree::", "plane_table::", "plane_polygon::"),
+    "building": ("bsp_boolean::", "bsp_partition::", "bsp_tree::", "plane_table::", "plane_line::", "plane_polygon::"),
     "facets": ("facet_cut::",),
     "text": ("off_text::", "text_place::decimal::"),
 }

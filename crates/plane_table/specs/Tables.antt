@@ -1,6 +1,7 @@
 -- Planes by number over a list of planes.
-use Rattle.std.specs.Prelude.{◌≡◌, ◌≢◌, ℕ, ◌+◌, ◌-◌, ◌*◌, ◌/◌, ◌%◌, ◌<◌, List, length, get_or, if◌then◌else◌, ◌==◌}
+use Rattle.std.specs.Prelude.{◌≡◌, ◌≢◌, ℕ, ◌+◌, ◌-◌, ◌*◌, ◌/◌, ◌%◌, ◌<◌, List, length, get_or, if◌then◌else◌, ◌==◌, Bool, true, All}
 use Rattle.plane_predicate.specs.Space.{Coefficients, opposite_of}
+use Rattle.plane_line.specs.Lines.{IsSmall}
 use Rattle.plane_polygon.specs.Polygons.{nowhere}
 use Rattle.plane_polygon.specs.Parallels.{IsAlike}
 use Rattle.plane_table.specs.declared.directions.Oriented.{Oriented}
@@ -49,7 +50,13 @@ pub record AreFirstOriented (planes : List Coefficients) (entries : List Oriente
 abbrev pub AreOriented : List Coefficients → List Oriented → Type 0
 AreOriented planes entries = AreFirstOriented planes entries (length planes)
 
--- what a table keeps: the entries are its planes and their opposites by number, and no two planes are equal or opposite
-pub record IsTable (planes : List Coefficients) (entries : List Oriented) : Type 0 where
+-- what a table keeps: the entries are its planes and their opposites by number, no two planes are equal or opposite, and
+-- all are small where it says so
+pub record IsTable (planes : List Coefficients) (entries : List Oriented) (is_small : Bool) : Type 0 where
   pub oriented : AreOriented planes entries
   pub apart : HasNoTwoAlike planes
+  pub small : is_small ≡ true → All IsSmall planes
+
+-- each plane that a number names is small
+abbrev pub AreNumbersSmall : List Coefficients → Type 0
+AreNumbersSmall planes = (n : ℕ) → IsNumberIn planes n → IsSmall (named planes n)

@@ -7,6 +7,7 @@ mod edges;
 mod faces;
 mod joining;
 mod laws;
+mod lining;
 mod numbering;
 mod ordering;
 mod renumbering;

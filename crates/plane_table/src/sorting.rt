@@ -8,6 +8,7 @@ ghost use Rattle.plane_polygon.specs.Parallels.{HasAllOn};
 ghost use Rattle.plane_table.specs.Tables.{named, IsNumberIn};
 ghost use Rattle.plane_table.specs.Faces.{corner_on, outline_of, side_against, AreFourSides, AreSidesOf, IsFaceOver, IsSideAt};
 
+use crate::lining::sides_by_line;
 use crate::{Face, PlaneTable, opposite_number};
 use plane_polygon::{Class, class_from, next_index, side_alike, side_at};
 use plane_predicate::Side;
@@ -27,19 +28,22 @@ pub struct CornerSide {
     pub is_ahead: bool,
 }
 
+/// The sides of corners in order. Up to eight stand in the value itself, more on the heap.
+pub type CornerList = SmallVec<CornerSide, FEW>;
+
 /// How a face lies against a plane, and, where it is across the plane, the side of each corner.
 #[derive(Drop)]
 pub struct CornerSides {
     /// How the face lies against the plane.
     pub class: Class,
-    /// The sides of the corners of a face that is across, in order. Up to eight stand in the value itself,
-    /// more on the heap.
-    pub corners: SmallVec<CornerSide, FEW>,
+    /// The sides of the corners of a face that is across, in order.
+    pub corners: CornerList,
 }
 
 /// How a face lies against the plane of a number: On where all its corners are on the plane, Across where
 /// some lie strictly on each side, else the side of those that are off it. For speed alone, no corner is
-/// looked at where the table knows the planes as parallel, and two edges tell those of a rectangle.
+/// looked at where the table knows the planes as parallel, two edges tell those of a rectangle, and the
+/// line of the two planes tells them where all planes are small.
 pub fn sides(
     alloc: Global,
     table: &PlaneTable,
@@ -64,6 +68,9 @@ pub fn sides(
         if let Some((second, fourth)) = both_known(table, edges[1], edges[3], number) {
             return four_sides(alloc, second, second, fourth, fourth);
         }
+    }
+    if let Some(found) = sides_by_line(alloc, table, face, number)? {
+        return Ok(found);
     }
     corner_sides(alloc, table, face, number)
 }
@@ -124,7 +131,7 @@ fn some_of_four(a: bool, b: bool, c: bool, d: bool) -> bool
 }
 
 /// A corner on a side.
-fn corner_on(side: Side) -> CornerSide
+pub fn corner_on(side: Side) -> CornerSide
     ensures { result ≡ corner_on side }
 {
     CornerSide {
@@ -240,7 +247,7 @@ fn side_of_all(table: &PlaneTable, of: u32, number: u32) -> Option<Side>
 }
 
 /// Whether one of two holds.
-fn either(a: bool, b: bool) -> bool
+pub fn either(a: bool, b: bool) -> bool
     ensures { result ≡ (a || b) }
 {
     a || b

@@ -1,11 +1,12 @@
 //! Planes by number.
 
-ghost use Rattle.std.specs.Prelude.{◌≡◌, IfOk};
+ghost use Rattle.std.specs.Prelude.{◌≡◌, true, IfOk};
 ghost use Rattle.plane_predicate.specs.Space.{opposite_of, is_same};
 ghost use Rattle.plane_polygon.specs.Parallels.{IsAlike};
-ghost use Rattle.plane_table.specs.Tables.{named, opposite_number, HasNoTwoAlike, IsNumberIn};
+ghost use Rattle.plane_table.specs.Tables.{named, opposite_number, AreNumbersSmall, HasNoTwoAlike, IsNumberIn};
 
 use crate::directions::{Oriented, by_number};
+use plane_line::are_small;
 use plane_predicate::Plane;
 use std::alloc::Global;
 use std::marker::Model;
@@ -19,6 +20,7 @@ use text_place::NoMemory;
 pub struct PlaneTable {
     planes: Vec<Plane>,
     oriented: Vec<Oriented>,
+    is_small: bool,
 }
 
 impl Model for PlaneTable {
@@ -30,7 +32,7 @@ impl Model for PlaneTable {
 
     ghost view = { λ t. t.planes.items };
 
-    ghost invariant = { λ t. IsTable t.planes.items t.oriented.items };
+    ghost invariant = { λ t. IsTable t.planes.items t.oriented.items t.is_small };
 }
 
 impl PlaneTable {
@@ -40,7 +42,12 @@ impl PlaneTable {
         ensures { IfOk result (λ t. t ≡ planes.items) }
     {
         let oriented = by_number(alloc, &planes)?;
-        Ok(PlaneTable { planes, oriented })
+        let is_small = are_small(&planes);
+        Ok(PlaneTable {
+            planes,
+            oriented,
+            is_small,
+        })
     }
 
     /// The list of planes, without their opposites. Takes no memory.
@@ -57,6 +64,13 @@ impl PlaneTable {
         ensures { result.now ≡ named self.now number }
     {
         &self.oriented[number as usize].plane
+    }
+
+    /// Whether all planes have small numbers, for work in 64 bits. False is no promise.
+    pub fn is_small(&self) -> bool
+        ensures { result ≡ true → AreNumbersSmall self.now }
+    {
+        self.is_small
     }
 
     /// The number of a plane that has the direction of the one that a number names. For speed, and no

@@ -1,0 +1,103 @@
+//! The sides of a face's corners by the line in which its plane meets another one.
+
+ghost use Rattle.std.specs.Prelude.{◌≡◌, ◌<◌, length, map, get_or, All, IfOk, IfSome};
+ghost use Rattle.plane_predicate.specs.Space.{Coefficients};
+ghost use Rattle.plane_line.specs.Lines.{IsAxisOf, IsPlaceOf};
+ghost use Rattle.plane_polygon.specs.Polygons.{after};
+ghost use Rattle.plane_polygon.specs.Parts.{class_of, corners};
+ghost use Rattle.plane_table.specs.Tables.{named, AreNumbersSmall, IsNumberIn};
+ghost use Rattle.plane_table.specs.Faces.{outline_of, side_against, AreSidesOf, IsFaceOver};
+
+use crate::sorting::{CornerList, corner_on, either};
+use crate::{CornerSides, Face, PlaneTable};
+use plane_line::{Line, Place, line_of, place_on, side_between};
+use plane_polygon::{Class, class_from};
+use smallvec::SmallVec;
+use std::alloc::Global;
+use text_place::NoMemory;
+
+/// How a face lies against the plane of a number, by the places at which its edges meet the line of the
+/// two planes. `None` is no promise: it is where the table isn't small, and where the planes are parallel.
+/// Most faces lie on one side, so that the sides are listed only once the face is known to be across.
+pub fn sides_by_line(
+    alloc: Global,
+    table: &PlaneTable,
+    face: &Face,
+    number: u32,
+) -> Result<Option<CornerSides>, NoMemory>
+    requires face { IsFaceOver table.now face.now }
+    requires number { IsNumberIn table.now number }
+    ensures { IfOk result (λ r. IfSome r (AreSidesOf (outline_of table.now face.now) (named table.now number))) }
+{
+    if !table.is_small() {
+        return Ok(None);
+    }
+    let Some(line) = line_of(table.plane(face.plane), table.plane(number)) else {
+        return Ok(None);
+    };
+    let class = class_along(table, face, &line);
+    let corners = match class {
+        Class::Across => corners_along(alloc, table, face, &line)?,
+        Class::Behind | Class::Ahead | Class::On => SmallVec::new(alloc),
+    };
+    Ok(Some(CornerSides { class, corners }))
+}
+
+/// How a face lies against a plane that meets its own in a line.
+fn class_along(table: &PlaneTable, face: &Face, line: &Line) -> Class
+    requires small { AreNumbersSmall table.now }
+    requires face { IsFaceOver table.now face.now }
+    ensures { (m : Coefficients) → IsAxisOf (named table.now face.now.plane) m line.now → result ≡ class_of (outline_of table.now face.now) m }
+{
+    let edges = face.edges.numbers();
+    let mut some_behind = false;
+    let mut some_ahead = false;
+    let first = place_on(line, table.plane(edges[0]));
+    let mut ends = first;
+    for i in 0..edges.len() {
+        let begins = next_place(table, edges, i, line, first);
+        let side = side_between(ends, begins);
+        some_behind = either(some_behind, side.is_behind());
+        some_ahead = either(some_ahead, side.is_ahead());
+        ends = begins;
+    }
+    class_from(some_behind, some_ahead)
+}
+
+/// The sides of the corners of a face against a plane that meets its own in a line.
+fn corners_along(
+    alloc: Global,
+    table: &PlaneTable,
+    face: &Face,
+    line: &Line,
+) -> Result<CornerList, NoMemory>
+    requires small { AreNumbersSmall table.now }
+    requires face { IsFaceOver table.now face.now }
+    ensures { IfOk result (λ r. (m : Coefficients) → IsAxisOf (named table.now face.now.plane) m line.now → r.items ≡ map (side_against m) (corners (outline_of table.now face.now))) }
+{
+    let edges = face.edges.numbers();
+    let mut found = SmallVec::new(alloc);
+    let first = place_on(line, table.plane(edges[0]));
+    let mut ends = first;
+    for i in 0..edges.len() {
+        let begins = next_place(table, edges, i, line, first);
+        found.push(corner_on(side_between(ends, begins)))?;
+        ends = begins;
+    }
+    Ok(found)
+}
+
+/// The place of the edge after edge `i`, where that of the first one is known.
+fn next_place(table: &PlaneTable, edges: &[u32], i: usize, line: &Line, first: Place) -> Place
+    requires index { i < length edges.now }
+    requires edges { All (IsNumberIn table.now) edges.now }
+    requires small { AreNumbersSmall table.now }
+    requires first { IsPlaceOf (named table.now (get_or edges.now 0 0)) line.now first }
+    ensures { IsPlaceOf (named table.now (get_or edges.now (after (length edges.now) i) 0)) line.now result }
+{
+    if i + 1 == edges.len() {
+        first
+    } else {
+        place_on(line, table.plane(edges[i + 1]))
+    }
+}
