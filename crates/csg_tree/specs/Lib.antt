@@ -10,3 +10,4 @@ pub mod Codes
 pub mod Numberings
 pub mod Levels
 pub mod Nodes
+pub mod Earlier

@@ -4,9 +4,9 @@ ghost use Rattle.std.specs.Prelude.{◌≡◌, ℕ, List, ◌+◌, ◌^◌, ◌<
 ghost use Rattle.std.specs.BTreeMap.{get, is_at};
 ghost use Rattle.csg_tree.specs.declared.interner.NodeKey.{NodeKey};
 ghost use Rattle.csg_tree.specs.Formulas.{Formula};
-ghost use Rattle.csg_tree.specs.Numberings.{distinct};
+ghost use Rattle.csg_tree.specs.Numberings.{distinct, HasNumber};
 ghost use Rattle.csg_tree.specs.Nodes.{node_of, trees_of, tree_over, IsOver};
-ghost use Rattle.csg_tree.specs.Interned.{key_cmp, node_of_key, plane_of_numbers, AreInterned, HasNumber, TheyStay};
+ghost use Rattle.csg_tree.specs.Interned.{key_cmp, node_of_key, plane_of_numbers, AreInterned, TheyStay};
 
 use crate::node::{CsgNode, StoredNode};
 use crate::op::Op;
@@ -88,14 +88,14 @@ impl Interner {
 }
 
 /// The number that is found by a key.
-fn look_up(found: &BTreeMap<NodeKey, u32>, key: &NodeKey) -> Option<u32>
+pub fn look_up(found: &BTreeMap<NodeKey, u32>, key: &NodeKey) -> Option<u32>
     ensures { result ≡ get key_cmp found.now key.now }
 {
     found.get(key).copied()
 }
 
 /// Lets a number be found by a key.
-fn put(found: &mut BTreeMap<NodeKey, u32>, key: NodeKey, number: u32) -> Result<(), NoMemory>
+pub fn put(found: &mut BTreeMap<NodeKey, u32>, key: NodeKey, number: u32) -> Result<(), NoMemory>
     ensures { OnOk result ((other : NodeKey) → get key_cmp found.new other ≡ cond (is_at (key_cmp key) other) (Some number) (get key_cmp found.old other)) }
 {
     found.insert(key, number)?;
@@ -103,7 +103,7 @@ fn put(found: &mut BTreeMap<NodeKey, u32>, key: NodeKey, number: u32) -> Result<
 }
 
 /// The key of a node.
-fn key_of_node(alloc: Global, node: CsgNode<'_>) -> Result<NodeKey, NoMemory>
+pub fn key_of_node(alloc: Global, node: CsgNode<'_>) -> Result<NodeKey, NoMemory>
     ensures { IfOk result (λ key. node_of_key key ≡ node_of node.entry) }
 {
     match node {

@@ -2,11 +2,13 @@
 //! their distinct subtrees as nodes that are linked by number.
 #![tactic(auto)]
 
+mod earlier;
 mod interner;
 mod joining;
 mod key;
 mod laws;
 mod levels;
+mod named_store;
 mod naming;
 mod node;
 mod numbering;
@@ -19,6 +21,7 @@ mod tree_key;
 
 pub use joining::{balanced, join};
 pub use laws::{balanced_by_halves, joins_are_proper, joins_keep_the_meaning};
+pub use named_store::NamedStore;
 pub use node::CsgNode;
 pub use op::Op;
 pub use planes::Planes;

@@ -3,7 +3,7 @@
 ghost use Rattle.std.specs.Prelude.{◌≡◌, IfOk};
 ghost use Rattle.std.specs.Arc.{arc_value};
 ghost use Rattle.csg_tree.specs.Numberings.{is_same_tree, tree_numbered, IsNumberIn};
-ghost use Rattle.csg_tree.specs.TreeKeys.{name_of};
+ghost use Rattle.csg_tree.specs.TreeKeys.{name_of, IsNamed};
 
 use crate::naming::name_of_node;
 use crate::node::CsgNode;
@@ -13,7 +13,7 @@ use std::sync::Arc;
 use text_place::NoMemory;
 
 /// A tree as a key: a shared store with the number of a node, which contracts see as the node's
-/// tree. A key keeps the SHA-256 of the tree's bytes, which is made with the key.
+/// tree. A key keeps the SHA-256 of the tree's bytes.
 #[derive(Drop)]
 pub struct TreeKey {
     store: Arc<CsgStore>,
@@ -39,12 +39,21 @@ impl Model for TreeKey {
 }
 
 impl TreeKey {
-    /// The key of a node of a store. `NoMemory` is a store that cannot be shared once more.
+    /// The key of a node of a store, whose name is made with it. `NoMemory` is a store that cannot be shared
+    /// once more.
     pub fn of(store: &Arc<CsgStore>, number: u32) -> Result<TreeKey, NoMemory>
         requires { IsNumberIn (arc_value store.now) number }
         ensures { IfOk result (λ key. key ≡ tree_numbered (arc_value store.now) number) }
     {
         let name = name_of_node(store, number);
+        TreeKey::named(store, number, name)
+    }
+
+    /// The key of a node of a store with this name. `NoMemory` is a store that cannot be shared once more.
+    pub fn named(store: &Arc<CsgStore>, number: u32, name: [u8; 32]) -> Result<TreeKey, NoMemory>
+        requires { IsNamed (arc_value store.now) number name }
+        ensures { IfOk result (λ key. key ≡ tree_numbered (arc_value store.now) number) }
+    {
         Ok(TreeKey {
             store: Arc::try_clone(store)?,
             number,
