@@ -1,9 +1,10 @@
 //! Phrases that ask what a solid or a list of facets is.
 
 use crate::numbers::point;
-use crate::put::{put_corners, put_facets, put_stroked, unit_of};
+use crate::put::{put_corners, put_facets};
 use bsp_tree::{Link, Solid, holds};
 use case_lines::{CaseStop, found, put, put_number};
+use case_planes::{put_stroked, unit_of};
 use facet_cut::{CutStop, Facet, facets};
 use off_text::{OffStop, off_bytes};
 use plane_predicate::Unit;

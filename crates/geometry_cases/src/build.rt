@@ -2,11 +2,10 @@
 
 use crate::asking::{ask, asking_of, print, printing_of};
 use crate::faces::put_face;
-use crate::laying::{lay, laying_of};
 use crate::polygons::{Polygons, shaping_of};
 use crate::solids::{Solids, building_of};
-use crate::walls::Walls;
 use case_lines::{CaseStop, Follows, Phrase};
+use case_planes::{Walls, lay, laying_of};
 use std::alloc::Global;
 
 /// Planes, polygons with facets, and solids.

@@ -24,33 +24,19 @@
 //! Facets: `facets MOST` asks how many the last solid has, and keeps them. `planes`, `around AT` (the corners of one), `text`,
 //! `text 2` (in half units) and `text UNIT N` (its first N bytes) ask for what is kept, where a stroke `|` stands for each newline
 //! of a text.
-//!
-//! - `tree PHRASES` puts trees together, and asks for what they are: `nothing`, `leaf` of all planes, `box LOW HIGH`,
-//!   `slabs AXIS FROM N`, `copy`, and `+`, `*` and `-` of the last two. `written` asks for the last one in a line, where a leaf
-//!   stands by the last digits of its planes' offsets, `long` how long that line is, `alike` whether those of the last two are the
-//!   same, and `halves` for the union by halves of all. `key` asks for the number of its bytes, `nodes` for the number of its
-//!   nodes, `node N` for one, `same M N` for two keys, `size` for the size of its solid, and `export UNIT` for its text, or the
-//!   limit that is passed, `export UNIT N` for the first N bytes.
 #![tactic(auto)]
 
 mod asking;
 mod build;
 mod faces;
-mod laying;
 mod numbers;
 mod polygons;
-mod proper;
 mod put;
 mod solids;
-mod stores;
-mod trees;
-mod walls;
-mod written;
 
 use crate::build::Bench;
 use crate::faces::put_joined;
 use crate::numbers::{put_meeting, put_point_side, put_sides, put_signs, put_through};
-use crate::trees::Trees;
 use case_lines::{Answers, CaseStop, answers_all, cut, found, phrases_of, put_phrases, unfolded};
 use outside_io::{ReadSource, WriteSink};
 use std::alloc::Global;
@@ -100,8 +86,6 @@ impl Answers for Geometry {
         let (asked, rest) = cut(&text);
         if asked == b"build".as_slice() {
             put_phrases(alloc, out, &mut Bench::new(alloc), rest)
-        } else if asked == b"tree".as_slice() {
-            put_phrases(alloc, out, &mut Trees::new(alloc), rest)
         } else {
             put_about(alloc, out, &text)
         }

@@ -1,9 +1,9 @@
 //! Planes, points and polygons in words.
 
-use case_lines::{CaseStop, put, put_number, put_numbers};
+use case_lines::{put, put_number, put_numbers};
 use facet_cut::Facet;
 use plane_polygon::{Class, Polygon, corners};
-use plane_predicate::{Plane, Point, Side, Unit};
+use plane_predicate::{Plane, Point, Side};
 use std::alloc::Global;
 use text_place::NoMemory;
 
@@ -76,22 +76,5 @@ pub fn put_class(out: &mut Vec<u8>, class: Class) -> Result<(), NoMemory> {
         Class::On => put(out, b"on"),
         Class::Ahead => put(out, b"ahead"),
         Class::Across => put(out, b"across"),
-    }
-}
-
-/// The first bytes of a text in one line: a stroke stands for each newline.
-pub fn put_stroked(out: &mut Vec<u8>, text: &[u8], most: usize) -> Result<(), NoMemory> {
-    for byte in text.iter().take(most) {
-        out.push(if *byte == b'\n' { b'|' } else { *byte })?;
-    }
-    Ok(())
-}
-
-/// Whole units by 1, and half ones by 2.
-pub fn unit_of(number: i64) -> Result<Unit, CaseStop> {
-    match number {
-        1 => Ok(Unit::Whole),
-        2 => Ok(Unit::Half),
-        _ => Err(CaseStop::Unread),
     }
 }

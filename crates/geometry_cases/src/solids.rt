@@ -1,10 +1,10 @@
 //! Phrases that put solids.
 
-use crate::walls::{Walls, box_walls, slab_walls};
 use bsp_boolean::{BuildStop, Builder, PlainBuilder, leaf_solid, merge};
 use bsp_partition::partition;
 use bsp_tree::{Solid, exchange, half};
 use case_lines::{CaseStop, found, put, put_number};
+use case_planes::{Walls, box_walls, slab_walls};
 use csg_tree::Op;
 use plane_polygon::Polygon;
 use std::alloc::Global;

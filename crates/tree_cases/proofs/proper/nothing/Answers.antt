@@ -5,7 +5,7 @@ use Rattle.csg_tree.specs.declared.tree.CsgTree.TheFolds.{fold-roll-CsgTree}
 use Rattle.csg_tree.specs.Formulas.{Formula, nothing}
 use Rattle.csg_tree.specs.Trees.{formula_of, formula_step}
 use Rattle.csg_tree.specs.ProperTrees.{IsProper}
-use Rattle.geometry_cases.proofs.proper.nothing.Goals as goal
+use Rattle.tree_cases.proofs.proper.nothing.Goals as goal
 
 pub returns : goal.returns
 returns c =

@@ -1,11 +1,10 @@
 //! Phrases that put trees, and what is asked of them.
 
-use crate::laying::{lay, laying_of};
 use crate::proper::ProperTree;
 use crate::stores::{ask_tree, tree_asking_of};
-use crate::walls::{Walls, box_walls, slab_walls};
 use crate::written::{put_alike, put_halves};
 use case_lines::{CaseStop, Follows, Phrase, found};
+use case_planes::{Walls, box_walls, lay, laying_of, slab_walls};
 use csg_tree::Op;
 use std::alloc::Global;
 

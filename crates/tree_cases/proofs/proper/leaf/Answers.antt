@@ -6,7 +6,7 @@ use Rattle.csg_tree.specs.Formulas.{Formula, leaf}
 use Rattle.csg_tree.specs.Trees.{formula_of, formula_step}
 use Rattle.csg_tree.specs.ProperTrees.{IsProper, IsLeafPlane}
 use Rattle.std.specs.List.{All}
-use Rattle.geometry_cases.proofs.proper.leaf.Goals as goal
+use Rattle.tree_cases.proofs.proper.leaf.Goals as goal
 
 pub returns : goal.returns
 returns c =

@@ -2,7 +2,7 @@ use Rattle.std.proofs.Common.{◌≡◌, ◌∷◌, ◌++◌, [], subst, rules}
 use Rattle.std.proofs.lemmas.List.Elements.{All-append, All-cons, All-nil}
 use Rattle.plane_predicate.specs.Space.{IsPlane}
 use Rattle.csg_tree.specs.ProperTrees.{IsLeafPlane}
-use Rattle.geometry_cases.proofs.proper.add.Goals as goal
+use Rattle.tree_cases.proofs.proper.add.Goals as goal
 
 pub returns : goal.returns
 returns c =

@@ -1,10 +1,10 @@
 //! Phrases that ask what a tree is: its bytes, its nodes by number, its solid and its export.
 
 use crate::proper::ProperTree;
-use crate::put::{put_stroked, unit_of};
 use crate::written::{put_tree, sign_of};
 use bsp_boolean::{PlainBuilder, TreeStop, tree_solid};
 use case_lines::{CaseStop, found, put, put_number};
+use case_planes::{put_stroked, unit_of};
 use csg_tree::{CsgNode, CsgStore, TreeKey};
 use plane_predicate::Unit;
 use reply_text::Complex;

@@ -1,0 +1,10 @@
+//! What programs that answer cases of solids have in common: planes that phrases put, in reach of the world box, and texts.
+#![tactic(auto)]
+
+mod laying;
+mod told;
+mod walls;
+
+pub use laying::{Laying, lay, laying_of};
+pub use told::{put_stroked, unit_of};
+pub use walls::{Walls, box_walls, high, low, slab_walls, through};

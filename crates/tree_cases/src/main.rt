@@ -1,0 +1,45 @@
+//! Answers cases of trees, in the form of `case_lines`. A case is phrases that put trees together, and ask for what they are:
+//! `nothing`, `leaf` of all planes, `box LOW HIGH`,
+//! `slabs AXIS FROM N`, `copy`, and `+`, `*` and `-` of the last two. `written` asks for the last one in a line, where a leaf
+//! stands by the last digits of its planes' offsets, `long` how long that line is, `alike` whether those of the last two are the
+//! same, and `halves` for the union by halves of all. `key` asks for the number of its bytes, `nodes` for the number of its
+//! nodes, `node N` for one, `same M N` for two keys, `size` for the size of its solid, and `export UNIT` for its text, or the
+//! limit that is passed, `export UNIT N` for the first N bytes.
+#![tactic(auto)]
+
+mod proper;
+mod stores;
+mod trees;
+mod written;
+
+use crate::trees::Trees;
+use case_lines::{Answers, CaseStop, answers_all, cut, put_phrases, unfolded};
+use outside_io::{ReadSource, WriteSink};
+use std::alloc::Global;
+use std::process::ExitCode;
+
+/// The answers of phrases that put trees.
+#[derive(Drop)]
+struct TreeCases {}
+
+impl Answers for TreeCases {
+    fn put_answer(&self, alloc: Global, out: &mut Vec<u8>, case: &[u8]) -> Result<(), CaseStop> {
+        let text = unfolded(alloc, case)?;
+        let (asked, rest) = cut(&text);
+        if asked == b"tree".as_slice() {
+            put_phrases(alloc, out, &mut Trees::new(alloc), rest)
+        } else {
+            Err(CaseStop::Unread)
+        }
+    }
+}
+
+fn main(rt: HostRuntime) -> ExitCode {
+    let mut source = ReadSource::new(rt.stdin());
+    let mut sink = WriteSink::new(rt.stdout());
+    if answers_all(rt.alloc(), &TreeCases {}, &mut source, &mut sink) {
+        ExitCode::SUCCESS
+    } else {
+        ExitCode::FAILURE
+    }
+}
