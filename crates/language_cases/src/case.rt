@@ -1,5 +1,6 @@
 //! One case and its answer.
 
+use crate::places::{put_behind, put_places};
 use crate::program::{put_program, put_reads};
 use crate::tokens::put_tokens;
 use crate::tree::put_meaning;
@@ -27,6 +28,8 @@ fn put_answer(
         put_program(alloc, out, source)
     } else if asked == b"reads".as_slice() {
         put_reads(alloc, out, source)
+    } else if asked == b"places".as_slice() {
+        put_places(alloc, out, source)
     } else if asked == b"value".as_slice() {
         put_value_after(alloc, out, source, 0)
     } else if asked == b"tree".as_slice() {
@@ -54,6 +57,8 @@ pub fn put_case(alloc: Global, out: &mut Vec<u8>, case: &[u8]) -> Result<(), NoM
     let (asked, text) = cut(case);
     if asked == b"turns".as_slice() {
         put_turns(alloc, out, text)
+    } else if asked == b"behind".as_slice() {
+        put_behind(alloc, out, text)
     } else {
         let source = unfolded(alloc, text)?;
         put_answer(alloc, out, asked, &source)

@@ -7,9 +7,13 @@
 //!   N turns were counted before.
 //! - `tree SOURCE` asks for the tree that the source means in whole units, `half SOURCE` in half units, or for
 //!   the first fault.
+//! - `places SOURCE` asks for the column of each statement, and of an `if` with an `else` also for those of the instance, its
+//!   core and its two bodies. `behind SOURCE MORE` asks for whether the tokens of SOURCE with those of MORE behind their end
+//!   are a program; SOURCE has no blank.
 #![tactic(auto)]
 
 mod case;
+mod places;
 mod program;
 mod text;
 mod tokens;

@@ -5,8 +5,6 @@
 #[cfg(test)]
 mod bytes;
 #[cfg(test)]
-mod ends;
-#[cfg(test)]
 mod evaluating;
 #[cfg(test)]
 mod functions;

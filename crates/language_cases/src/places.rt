@@ -1,0 +1,81 @@
+//! Where statements stand, and what stands behind an end.
+
+ghost use Rattle.std.specs.Prelude.{◌≤◌, ◌^◌, length};
+
+use crate::program::read;
+use crate::text::put_stop;
+use case_lines::{cut, put, put_numbers, unfolded};
+use scad_ast::{Core, Program, Statement};
+use scad_lexer::lex;
+use scad_parser::parse;
+use std::alloc::Global;
+use text_place::{NoMemory, Place, Stop};
+
+fn column(place: Place) -> i128 {
+    i128::from(place.column)
+}
+
+/// The column of a statement, and of a choice those of its instance, its core and its two bodies, in parentheses.
+fn put_columns(alloc: Global, out: &mut Vec<u8>, statement: &Statement) -> Result<(), NoMemory> {
+    put_numbers(alloc, out, &[column(statement.place())])?;
+    let Statement::Instantiation(instance) = statement else {
+        return Ok(());
+    };
+    let Core::IfElse(_, _, body, other) = &instance.core else {
+        return Ok(());
+    };
+    let columns = [
+        column(instance.place()),
+        column(instance.core.place()),
+        column(body.place()),
+        column(other.place()),
+    ];
+    put(out, b"(")?;
+    put_numbers(alloc, out, &columns)?;
+    put(out, b")")
+}
+
+fn put_all(alloc: Global, out: &mut Vec<u8>, program: &Program) -> Result<(), NoMemory> {
+    for (i, statement) in program.statements.items.iter().enumerate() {
+        if i > 0 {
+            put(out, b" ")?;
+        }
+        put_columns(alloc, out, statement)?;
+    }
+    Ok(())
+}
+
+/// The columns of a source's statements, or its first fault.
+pub fn put_places(alloc: Global, out: &mut Vec<u8>, source: &[u8]) -> Result<(), NoMemory>
+    requires { length source.now ≤ 2 ^ 20 }
+{
+    match read(alloc, source) {
+        Ok(program) => put_all(alloc, out, &program),
+        Err(stop) => put_stop(alloc, out, stop),
+    }
+}
+
+/// The program of a source's tokens with those of another source behind their end, of at most 100 bytes each.
+fn read_behind(alloc: Global, source: &[u8], more: &[u8]) -> Result<Program, Stop> {
+    if source.len() > 100 || more.len() > 100 {
+        return Err(Stop::NoMemory);
+    }
+    let mut tokens = lex(alloc, source)?;
+    let mut behind = lex(alloc, more)?;
+    if tokens.append(&mut behind).is_err() || tokens.len() > 202 {
+        return Err(Stop::NoMemory);
+    }
+    parse(alloc, &tokens)
+}
+
+/// Whether the tokens of a source, which has no blank, and those of what stands behind the blank are a program, or the first
+/// fault.
+pub fn put_behind(alloc: Global, out: &mut Vec<u8>, text: &[u8]) -> Result<(), NoMemory> {
+    let (source, more) = cut(text);
+    let source = unfolded(alloc, source)?;
+    let more = unfolded(alloc, more)?;
+    match read_behind(alloc, &source, &more) {
+        Ok(_) => put(out, b"a program"),
+        Err(stop) => put_stop(alloc, out, stop),
+    }
+}
