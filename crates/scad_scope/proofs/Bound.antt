@@ -1,20 +1,12 @@
 -- A table with one more variable, and its bounds.
-use Rattle.std.proofs.Common.{◌≡◌, ℕ, zero, suc, ◌<◌, List, [], ◌∷◌, ◌++◌, length, map, take, reverse, Bool, true, false, cond, Option, Some, None, refl, sym, ap, subst, ◌∙◌, arith, get_or, set, Result, Ok, Err}
+use Rattle.std.proofs.Common.{◌≡◌, ℕ, zero, suc, ◌<◌, List, [], ◌∷◌, ◌++◌, length, take, Bool, true, false, cond, Option, Some, None, refl, sym, ap, subst, ◌∙◌, arith, get_or, set, Result, Ok, Err}
 use Rattle.std.specs.Prelude.{IsTrue, OnOk, OnErr}
 use Rattle.std.specs.Str.{bytes_eq}
 use Rattle.std.proofs.lemmas.Bool.{and_parts, and_from}
-use Rattle.std.proofs.lemmas.List.{map-append, reverse-append}
 use Rattle.scad_value.specs.Values.{Val, is_bounded}
 use Rattle.scad_scope.specs.declared.table.Scope.{Scope}
-use Rattle.scad_scope.specs.declared.table.Variable.{Variable}
 use Rattle.scad_scope.specs.Names.{Row, Pairs, find_in, with_variable, bound_in, have_bounded, all_bounded}
-use Rattle.scad_scope.specs.View.{variable_of, variables_of, row_of, rows_in}
-
--- what is pushed behind is the newest
-pub variables_push : (vs : List Variable) (v : Variable) → variables_of (vs ++ v ∷ []) ≡ variable_of v ∷
-    variables_of vs
-variables_push vs v = ap reverse (map-append variable_of vs (v ∷ [])) ∙ reverse-append (map variable_of vs)
-    (variable_of v ∷ [])
+use Rattle.scad_scope.specs.View.{row_of, rows_in}
 
 pub rows_set : (ss : List Scope) (k : ℕ) (s : Scope) (name : List ℕ) (value : Val) (old : Scope) →
     k < length ss → old ≡ get_or ss k old

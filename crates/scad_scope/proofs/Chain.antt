@@ -1,13 +1,16 @@
--- The chain of special variables: what a cut leaves of it.
-use Rattle.std.proofs.Common.{◌≡◌, ℕ, suc, ◌-◌, ◌≤◌, List, [], ◌∷◌, ◌++◌, length, map, take, drop, reverse, refl, sym, ap, subst, ◌∙◌, arith, length-append}
+-- Variables in memory and what they stand for, with the chain of special ones cut to its oldest part.
+use Rattle.std.proofs.Common.{◌≡◌, ℕ, zero, suc, ◌-◌, List, [], ◌∷◌, ◌++◌, Bool, true, false, cond, Option, Some, None, length, map, drop, refl, sym, ap, ◌∙◌, arith, length-append}
 use Rattle.std.specs.Prelude.{IsTrue}
+use Rattle.std.specs.Str.{bytes_eq}
+use Rattle.std.specs.Borrow.{Bor}
+use Rattle.std.specs.Option.{option_map, option_copied}
 use Rattle.std.proofs.lemmas.Bool.{and_parts}
-use Rattle.std.proofs.lemmas.List.{take-append-drop, reverse-append, length-reverse, length-take-le}
 use Rattle.std.proofs.Math.Seq.{drop-append_seam}
 use Rattle.scad_value.specs.Values.{Val}
-use Rattle.scad_scope.specs.declared.table.Variable.{Variable}
-use Rattle.scad_scope.specs.Names.{Pairs, oldest, have_bounded}
-use Rattle.scad_scope.specs.View.{variable_of, variables_of}
+use Rattle.scad_value.specs.View.{val_of}
+use Rattle.scad_value.specs.declared.value.Value.{Value}
+use Rattle.scad_scope.specs.Names.{Pairs, find_in, oldest, have_bounded}
+use Rattle.scad_scope.specs.View.{variable_seen, IsValueFound}
 
 -- the oldest part of a chain is as long as it is said to be
 pub oldest_part : {A : Type 0} (n : ℕ) (newer older : List A) → length older ≡ n → oldest n (newer ++ older) ≡ older
@@ -15,39 +18,40 @@ oldest_part n newer older h =
     let len : length (newer ++ older) - n ≡ length newer = omega (arith, length-append newer older, h) in
     ap (λ k. drop k (newer ++ older)) len ∙ drop-append_seam newer older
 
--- in memory the oldest stand in front
-variables_split : (vs : List Variable) (n : ℕ) → variables_of vs ≡ variables_of (drop n vs) ++ variables_of (take n vs)
-variables_split vs n =
-    ap variables_of (sym (take-append-drop n vs))
-    ∙ ap reverse (map_joined (take n vs) (drop n vs))
-    ∙ reverse-append (map variable_of (take n vs)) (map variable_of (drop n vs))
+mapped_length : {A B : Type 0} (f : A → B) (xs : List A) → length (map f xs) ≡ length xs
+mapped_length f [] = refl
+mapped_length f (x ∷ xs) = ap suc (mapped_length f xs)
+
+mapped_rest : {A B : Type 0} (f : A → B) (n : ℕ) (xs : List A) → map f (drop n xs) ≡ drop n (map f xs)
+mapped_rest f zero xs = refl
+mapped_rest f (suc n) [] = refl
+mapped_rest f (suc n) (x ∷ xs) = mapped_rest f n xs
+
+-- what is left of the pairs is left of the variables
+pub oldest_seen : (n : ℕ) (ps : Pairs Value) → map variable_seen (oldest n ps) ≡ oldest n (map variable_seen ps)
+oldest_seen n ps = mapped_rest variable_seen (length ps - n) ps
+    ∙ ap (λ k. drop (k - n) (map variable_seen ps)) (sym (mapped_length variable_seen ps))
+
+-- what is found among the pairs is found among the variables
+pub seen_found : (ps : Pairs Value) (name : List ℕ) → find_in (map variable_seen ps) name ≡ option_map val_of (find_in ps name)
+seen_found [] name = refl
+seen_found (p ∷ ps) name = by_test (bytes_eq p.0 name) (seen_found ps name)
   where
-    map_joined : (xs ys : List Variable) → map variable_of (xs ++ ys) ≡ map variable_of xs ++ map variable_of ys
-    map_joined [] ys = refl
-    map_joined (x ∷ xs) ys = ap (λ l. variable_of x ∷ l) (map_joined xs ys)
-
-pub variables_length : (vs : List Variable) → length (variables_of vs) ≡ length vs
-variables_length vs = length-reverse (map variable_of vs) ∙ mapped vs
-  where
-    mapped : (vs : List Variable) → length (map variable_of vs) ≡ length vs
-    mapped [] = refl
-    mapped (v ∷ vs) = ap suc (mapped vs)
-
-pub cut_is : (vs : List Variable) (n : ℕ) → n ≤ length (variables_of vs) → variables_of (take n vs) ≡ oldest n (variables_of vs)
-cut_is vs n h =
-    let few : n ≤ length vs = omega (arith, h, variables_length vs) in
-    let len : length (variables_of (take n vs)) ≡ n = variables_length (take n vs) ∙ length-take-le n vs few in
-    sym (ap (oldest n) (variables_split vs n) ∙ oldest_part n (variables_of (drop n vs)) (variables_of (take n vs)) len)
-
-pub cut_back : (vs : List Variable) (n : ℕ) → n ≤ length (variables_of vs) → (newer older : Pairs Val)
-    → variables_of vs ≡ newer ++ older → length older ≡ n → variables_of (take n vs) ≡ older
-cut_back vs n h newer older e len = cut_is vs n h ∙ ap (oldest n) e ∙ oldest_part n newer older len
+    by_test : (t : Bool) → find_in (map variable_seen ps) name ≡ option_map val_of (find_in ps name)
+        → cond t (Some (val_of p.1)) (find_in (map variable_seen ps) name) ≡ option_map val_of (cond t (Some p.1) (find_in ps name))
+    by_test true e = refl
+    by_test false e = e
 
 -- what is left of bounded values
-behind_bounded : (ps qs : Pairs Val) → IsTrue (have_bounded (ps ++ qs)) → IsTrue (have_bounded qs)
-behind_bounded [] qs h = h
-behind_bounded (p ∷ ps) qs h = behind_bounded ps qs (and_parts _ _ h).1
+behind_bounded : (n : ℕ) (ps : Pairs Val) → IsTrue (have_bounded ps) → IsTrue (have_bounded (drop n ps))
+behind_bounded zero ps h = h
+behind_bounded (suc n) [] h = h
+behind_bounded (suc n) (p ∷ ps) h = behind_bounded n ps (and_parts _ _ h).1
 
-pub cut_bounded : (vs : List Variable) (n : ℕ) → IsTrue (have_bounded (variables_of vs)) → IsTrue (have_bounded (variables_of (take n vs)))
-cut_bounded vs n h = behind_bounded (variables_of (drop n vs)) (variables_of (take n vs))
-    (subst (λ ps. IsTrue (have_bounded ps)) (variables_split vs n) h)
+pub oldest_bounded : (n : ℕ) (ps : Pairs Val) → IsTrue (have_bounded ps) → IsTrue (have_bounded (oldest n ps))
+oldest_bounded n ps h = behind_bounded (length ps - n) ps h
+
+pub value_found : (ps : Pairs Value) (name : List ℕ) (found : Option (Bor Value)) → option_copied found ≡ find_in ps name
+    → IsValueFound (find_in (map variable_seen ps) name) found
+value_found ps name None e = seen_found ps name ∙ ap (option_map val_of) (sym e)
+value_found ps name (Some value) e = seen_found ps name ∙ ap (option_map val_of) (sym e)

@@ -5,5 +5,6 @@ pub mod Numbered
 pub mod Chain
 pub mod Walks
 pub mod Held
+pub mod Placed
 pub mod Order
 pub mod Begun

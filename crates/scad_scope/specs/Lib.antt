@@ -8,3 +8,5 @@ pub mod Numbered
 pub mod Walk
 pub mod TextView
 pub mod Tables
+pub mod Places
+pub mod PlacesView

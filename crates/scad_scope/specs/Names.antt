@@ -1,16 +1,7 @@
 -- Scopes as lists of pairs of a name and what it stands for, searched from the newest.
-use Rattle.std.specs.Prelude.{ℕ, zero, suc, ◌-◌, ◌^◌, pos, List, [], ◌∷◌, ◌++◌, length, drop, Bool, true, ◌&&◌, Option, Some, None, slice_index_or, if◌then◌else◌, nat_lt, codes}
-use Rattle.std.specs.Str.{bytes_eq}
+use Rattle.std.specs.Prelude.{ℕ, zero, suc, ◌-◌, ◌^◌, pos, List, [], ◌∷◌, ◌++◌, length, Bool, true, ◌&&◌, Option, Some, None, slice_index_or, if◌then◌else◌, nat_lt, codes}
 use Rattle.scad_value.specs.Values.{Val, NumberVal, is_bounded}
-
--- pairs of a name and what it stands for, the newest first
-abbrev pub Pairs : Type 0 → Type 0
-Pairs A = List (List ℕ × A)
-
--- what the newest pair of a name has
-abbrev pub find_in : {A : Type 0} → Pairs A → List ℕ → Option A
-find_in [] name = None
-find_in (p ∷ ps) name = if bytes_eq p.0 name then Some p.1 else find_in ps name
+pub use Rattle.newest_names.specs.Newest.{Pairs, find_in, oldest}
 
 -- a scope in the table of scopes: its pairs, and the number of the scope outside it
 pub record Row : Type 0 where
@@ -127,7 +118,3 @@ with_pair name value (NumberedWithin number row call outer) = NumberedWithin num
 -- its value, the newest first. It begins with these.
 abbrev pub first_chain : Pairs Val
 first_chain = (codes "fs", NumberVal (pos 2)) ∷ (codes "fa", NumberVal (pos 12)) ∷ (codes "fn", NumberVal (pos 0)) ∷ []
-
--- so many of the oldest pairs, where the newest stands first
-abbrev pub oldest : {A : Type 0} → ℕ → List A → List A
-oldest n xs = drop (length xs - n) xs

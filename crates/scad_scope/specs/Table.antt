@@ -18,7 +18,7 @@ rows_of s = rows_in s.scopes.items
 
 -- the chain of special variables, the newest first
 abbrev pub chain_of : Scopes → Pairs Val
-chain_of s = variables_of s.chain.items
+chain_of s = variables_of s.chain
 
 -- the number of a scope that is there, and of a definition that stands in it
 pub record IsFound (rows : List Row) (wanted : Option (NumberedEnv × ℕ)) (found : Found) : Type 0 where

@@ -1,29 +1,23 @@
 -- What the table of scopes in memory stands for.
-use Rattle.std.specs.Prelude.{◌≡◌, ℕ, List, map, reverse, Option, Some, None}
+use Rattle.std.specs.Prelude.{◌≡◌, ℕ, List, map, Option, Some, None}
 use Rattle.std.specs.Borrow.{Bor}
 use Rattle.scad_value.specs.Values.{Val}
 use Rattle.scad_value.specs.declared.value.Value.{Value}
 use Rattle.scad_value.specs.View.{val_of}
-use Rattle.scad_scope.specs.declared.table.Variable.{Variable}
-use Rattle.scad_scope.specs.declared.table.Definition.{Definition}
+use Rattle.newest_names.specs.declared.list.NameList.{NameList}
+use Rattle.newest_names.specs.Names.{newest_first}
 use Rattle.scad_scope.specs.declared.table.Call.{Call}
 use Rattle.scad_scope.specs.declared.table.Scope.{Scope}
 use Rattle.scad_scope.specs.declared.table.Family.{Family}
 use Rattle.scad_scope.specs.declared.table.Family.TheVariants.{Functions, Modules}
 use Rattle.scad_scope.specs.Names.{Pairs, Row, NumberedEnv, function_in, module_in}
 
-abbrev pub variable_of : Variable → List ℕ × Val
-variable_of v = (v.name, val_of v.value)
+-- variables by what their values are
+abbrev pub variable_seen : List ℕ × Value → List ℕ × Val
+variable_seen p = (p.0, val_of p.1)
 
-abbrev pub definition_of : Definition → List ℕ × ℕ
-definition_of d = (d.name, d.number)
-
--- in memory the newest is the last one
-abbrev pub variables_of : List Variable → Pairs Val
-variables_of vs = reverse (map variable_of vs)
-
-abbrev pub definitions_of : List Definition → Pairs ℕ
-definitions_of ds = reverse (map definition_of ds)
+abbrev pub variables_of : NameList Value → Pairs Val
+variables_of names = map variable_seen (newest_first names)
 
 abbrev pub call_seen : Option Call → Option (ℕ × ℕ)
 call_seen None = None
@@ -31,9 +25,9 @@ call_seen (Some c) = Some (c.children, c.caller)
 
 abbrev pub row_of : Scope → Row
 row_of s = record {
-  variables = variables_of s.variables.items;
-  functions = definitions_of s.functions.items;
-  modules = definitions_of s.modules.items;
+  variables = variables_of s.variables;
+  functions = newest_first s.functions;
+  modules = newest_first s.modules;
   outer = s.outer;
   call = call_seen s.call;
 }

@@ -2,6 +2,7 @@
 //! is given to.
 #![tactic(auto)]
 
+mod assigned;
 mod blocks;
 mod fault;
 mod own;

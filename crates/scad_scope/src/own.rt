@@ -1,13 +1,15 @@
-ghost use Rattle.std.specs.Prelude.{◌≡◌, map, IfOk};
+ghost use Rattle.std.specs.Prelude.{◌≡◌, map, reverse, IfOk};
+ghost use Rattle.newest_names.specs.Names.{newest_first};
 ghost use Rattle.scad_scope.specs.Blocks.{row_of_block, own_row};
 ghost use Rattle.scad_scope.specs.Names.{empty_row};
 ghost use Rattle.scad_scope.specs.Tables.{text_held};
-ghost use Rattle.scad_scope.specs.View.{definition_of, row_of};
+ghost use Rattle.scad_scope.specs.View.{row_of};
 ghost use Rattle.scad_scope.specs.TextView.{named_of, own_of};
 
 use crate::blocks::Blocks;
-use crate::table::{Definition, Scope};
+use crate::table::Scope;
 use crate::text::{Named, Own};
+use newest_names::NameList;
 use std::alloc::Global;
 use text_place::{Bytes, NoMemory};
 
@@ -32,9 +34,9 @@ pub(crate) fn empty(alloc: Global, outer: u32) -> Scope
     ensures { row_of result ≡ empty_row outer }
 {
     Scope {
-        variables: Vec::new(alloc),
-        functions: Vec::new(alloc),
-        modules: Vec::new(alloc),
+        variables: NameList::new(alloc),
+        functions: NameList::new(alloc),
+        modules: NameList::new(alloc),
         outer,
         call: None,
     }
@@ -44,7 +46,7 @@ fn filled(alloc: Global, outer: u32, own: &Own<'_>) -> Result<Scope, NoMemory>
     ensures { IfOk result (λ s. row_of s ≡ own_row outer (own_of own.now)) }
 {
     Ok(Scope {
-        variables: Vec::new(alloc),
+        variables: NameList::new(alloc),
         functions: defined(alloc, &own.functions)?,
         modules: defined(alloc, &own.modules)?,
         outer,
@@ -52,16 +54,13 @@ fn filled(alloc: Global, outer: u32, own: &Own<'_>) -> Result<Scope, NoMemory>
     })
 }
 
-fn defined(alloc: Global, names: &[Named<'_>]) -> Result<Vec<Definition>, NoMemory>
-    ensures { IfOk result (λ ds. map definition_of ds.items ≡ map named_of names.now) }
+fn defined(alloc: Global, names: &[Named<'_>]) -> Result<NameList<u32>, NoMemory>
+    ensures { IfOk result (λ ds. newest_first ds ≡ reverse (map named_of names.now)) }
 {
-    let mut definitions = Vec::new(alloc);
+    let mut definitions = NameList::new(alloc);
     for named in names {
         let name = Bytes::copy_of(alloc, named.name)?;
-        definitions.push(Definition {
-            name,
-            number: named.number,
-        })?;
+        definitions.push(alloc, name, named.number)?;
     }
     Ok(definitions)
 }

@@ -6,9 +6,10 @@ use crate::blocks::Blocks;
 use crate::fault::fault;
 use crate::own::{empty, scope_of_block};
 use crate::table::{
-    Call, Family, Found, Scope, Variable, call_before, definitions, find_definition, find_variable,
-    first,
+    Call, Family, Found, Scope, begun_chain, call_before, definitions, find_definition,
+    find_variable,
 };
+use newest_names::NameList;
 use scad_value::Value;
 use std::alloc::Global;
 use text_place::{Bytes, Fault, FaultKind, NoMemory, Place};
@@ -20,9 +21,9 @@ use text_place::{Bytes, Fault, FaultKind, NoMemory, Place};
 pub struct Scopes {
     pub(crate) scopes: Vec<Scope>,
     /// The chain, the newest last.
-    pub(crate) chain: Vec<Variable>,
+    pub(crate) chain: NameList<Value>,
     ghost bounded: { IsTrue (all_bounded (rows_in scopes.items)) },
-    ghost chain_bounded: { IsTrue (have_bounded (variables_of chain.items)) },
+    ghost chain_bounded: { IsTrue (have_bounded (variables_of chain)) },
 }
 
 impl Scopes {
@@ -46,17 +47,13 @@ impl Scopes {
     {
         let mut scopes = Vec::new(alloc);
         scopes.push(Scope {
-            variables: Vec::new(alloc),
-            functions: Vec::new(alloc),
-            modules: Vec::new(alloc),
+            variables: NameList::new(alloc),
+            functions: NameList::new(alloc),
+            modules: NameList::new(alloc),
             outer: u32::MAX,
             call: None,
         })?;
-        let chain = vec![in alloc;
-            first(alloc, b"fn", 0)?,
-            first(alloc, b"fa", 12)?,
-            first(alloc, b"fs", 2)?,
-        ]?;
+        let chain = begun_chain(alloc)?;
         Ok(Scopes { scopes, chain })
     }
 
@@ -238,7 +235,7 @@ impl Scopes {
         ensures chain { chain_of self.new ≡ chain_of self.old }
     {
         let name = Bytes::copy_of(alloc, name)?;
-        self.scopes[scope as usize].bind(name, value)
+        self.scopes[scope as usize].bind(alloc, name, value)
     }
 
     /// The value of a name, from a scope outward, which is bounded. UnknownName exactly where no
@@ -281,7 +278,7 @@ impl Scopes {
             return Err(NoMemory);
         }
         let name = Bytes::copy_of(alloc, name)?;
-        self.chain.push(Variable { name, value })?;
+        self.chain.push(alloc, name, value)?;
         Ok(before as u32)
     }
 

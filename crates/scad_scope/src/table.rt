@@ -1,27 +1,15 @@
-ghost use Rattle.std.specs.Prelude.{◌≡◌, ◌<◌, ℕ, OnOk, OnErr, IfOk, IfSome};
+ghost use Rattle.std.specs.Prelude.{◌≡◌, ◌<◌, ◌∷◌, ℕ, OnOk, OnErr, IfOk, IfSome};
+ghost use Rattle.newest_names.specs.Names.{newest_first};
 ghost use Rattle.scad_value.specs.Values.{NumberVal};
 ghost use Rattle.scad_value.specs.View.{val_of};
-ghost use Rattle.scad_scope.specs.Names.{find_in, with_variable, NumberedEnv, call_behind, called_row};
+ghost use Rattle.scad_scope.specs.Names.{find_in, with_variable, NumberedEnv, call_behind, called_row, first_chain};
 ghost use Rattle.scad_scope.specs.Table.{call_told};
-ghost use Rattle.scad_scope.specs.View.{variable_of, variables_of, definitions_of, IsValueFound, pairs_of, row_of};
+ghost use Rattle.scad_scope.specs.View.{variables_of, IsValueFound, pairs_of, row_of};
 
+use newest_names::NameList;
 use scad_value::Value;
 use std::alloc::Global;
 use text_place::{Bytes, NoMemory};
-
-/// A name and its value.
-#[derive(Drop)]
-pub(crate) struct Variable {
-    pub(crate) name: Bytes,
-    pub(crate) value: Value,
-}
-
-/// A name and the number of its definition.
-#[derive(Drop)]
-pub(crate) struct Definition {
-    pub(crate) name: Bytes,
-    pub(crate) number: u32,
-}
 
 /// A call of a module of the source.
 #[derive(Clone, Copy, PartialEq, Eq)]
@@ -36,21 +24,20 @@ pub struct Call {
 /// it, and the call whose scope it is, where it is one's.
 #[derive(Drop)]
 pub(crate) struct Scope {
-    pub(crate) variables: Vec<Variable>,
-    pub(crate) functions: Vec<Definition>,
-    pub(crate) modules: Vec<Definition>,
+    pub(crate) variables: NameList<Value>,
+    pub(crate) functions: NameList<u32>,
+    pub(crate) modules: NameList<u32>,
     pub(crate) outer: u32,
     pub(crate) call: Option<Call>,
 }
 
 impl Scope {
     /// Gives a name a value, as the newest of its name. `NoMemory` leaves the scope as it was.
-    pub(crate) fn bind(&mut self, name: Bytes, value: Value) -> Result<(), NoMemory>
+    pub(crate) fn bind(&mut self, alloc: Global, name: Bytes, value: Value) -> Result<(), NoMemory>
         ensures bound { OnOk result (row_of self.new ≡ with_variable name (val_of value) (row_of self.old)) }
         ensures unchanged { OnErr result (row_of self.new ≡ row_of self.old) }
     {
-        self.variables.push(Variable { name, value })?;
-        Ok(())
+        self.variables.push(alloc, name, value)
     }
 
     /// The same as the scope of a call.
@@ -85,38 +72,22 @@ pub struct Found {
 }
 
 /// The newest value of a name.
-pub(crate) fn find_variable<'a>(variables: &'a [Variable], name: &[u8]) -> Option<&'a Value>
+pub(crate) fn find_variable<'a>(variables: &'a NameList<Value>, name: &[u8]) -> Option<&'a Value>
     ensures { IsValueFound (find_in (variables_of variables.now) name.now) result }
 {
-    let mut n = variables.len();
-    'newest: while n > 0 {
-        n -= 1;
-        let variable = &variables[n];
-        if variable.name.items() == name {
-            return Some(&variable.value);
-        }
-    }
-    None
+    variables.find(name)
 }
 
 /// The number of the newest definition of a name.
-pub(crate) fn find_definition(definitions: &[Definition], name: &[u8]) -> Option<u32>
-    ensures { result ≡ find_in (definitions_of definitions.now) name.now }
+pub(crate) fn find_definition(definitions: &NameList<u32>, name: &[u8]) -> Option<u32>
+    ensures { result ≡ find_in (newest_first definitions.now) name.now }
 {
-    let mut n = definitions.len();
-    'newest: while n > 0 {
-        n -= 1;
-        let definition = &definitions[n];
-        if definition.name.items() == name {
-            return Some(definition.number);
-        }
-    }
-    None
+    definitions.find(name).copied()
 }
 
 /// The definitions of one kind in a scope.
-pub(crate) fn definitions(family: Family, scope: &Scope) -> &[Definition]
-    ensures { definitions_of result.now ≡ pairs_of family (row_of scope.now) }
+pub(crate) fn definitions(family: Family, scope: &Scope) -> &NameList<u32>
+    ensures { newest_first result.now ≡ pairs_of family (row_of scope.now) }
 {
     match family {
         Family::Functions => &scope.functions,
@@ -124,15 +95,29 @@ pub(crate) fn definitions(family: Family, scope: &Scope) -> &[Definition]
     }
 }
 
-/// A name and a number as its value.
-pub(crate) fn first(alloc: Global, name: &[u8], number: i64) -> Result<Variable, NoMemory>
-    ensures { IfOk result (λ v. variable_of v ≡ (name.now, NumberVal number)) }
+/// The chain as it begins.
+pub(crate) fn begun_chain(alloc: Global) -> Result<NameList<Value>, NoMemory>
+    ensures { IfOk result (λ chain. variables_of chain ≡ first_chain) }
+{
+    let none = NameList::new(alloc);
+    let one = with_number(alloc, none, b"fn", 0)?;
+    let two = with_number(alloc, one, b"fa", 12)?;
+    with_number(alloc, two, b"fs", 2)
+}
+
+/// A chain with one name more, whose value is a number.
+fn with_number(
+    alloc: Global,
+    chain: NameList<Value>,
+    name: &[u8],
+    number: i64,
+) -> Result<NameList<Value>, NoMemory>
+    ensures { IfOk result (λ after. variables_of after ≡ (name.now, NumberVal number) ∷ variables_of chain) }
 {
     let name = Bytes::copy_of(alloc, name)?;
-    Ok(Variable {
-        name,
-        value: Value::Number(number),
-    })
+    let mut longer = chain;
+    longer.push(alloc, name, Value::Number(number))?;
+    Ok(longer)
 }
 
 /// The call of a scope of this number, where the caller's scope comes before it.

@@ -1,10 +1,10 @@
-ghost use Rattle.std.specs.Prelude.{◌≡◌, ◌<◌, length, map, IfOk, IfSome, OnOk};
-ghost use Rattle.scad_scope.specs.Blocks.{with_assigned, place_in, same_name as same_name_at, no_own};
-ghost use Rattle.scad_scope.specs.TextView.{assigned_of, own_of};
+ghost use Rattle.std.specs.Prelude.{◌≡◌};
+ghost use Rattle.scad_scope.specs.Blocks.{no_own};
+ghost use Rattle.scad_scope.specs.TextView.{own_of};
 
 use scad_ast::{Body, Expr, Instance, Params, Statements};
 use std::alloc::Global;
-use text_place::{NoMemory, Place};
+use text_place::Place;
 
 /// What stands in a block: nothing, statements, or the one instance that a body is.
 #[derive(Clone, Copy)]
@@ -74,52 +74,4 @@ impl<'a> Own<'a> {
             assignments: Vec::new(alloc),
         }
     }
-
-    /// One assignment more. A name that is there keeps its place and gets this expression.
-    pub(crate) fn assign(&mut self, assignment: Assignment<'a>) -> Result<(), NoMemory>
-        ensures functions { self.new.functions ≡ self.old.functions }
-        ensures modules { self.new.modules ≡ self.old.modules }
-        ensures assignments { OnOk result (map assigned_of self.new.assignments.items
-            ≡ with_assigned (map assigned_of self.old.assignments.items) (assigned_of assignment.entry)) }
-    {
-        add_assignment(&mut self.assignments, assignment)
-    }
-}
-
-fn add_assignment<'a>(
-    assignments: &mut Vec<Assignment<'a>>,
-    assignment: Assignment<'a>,
-) -> Result<(), NoMemory>
-    ensures { OnOk result (map assigned_of assignments.new.items
-        ≡ with_assigned (map assigned_of assignments.old.items) (assigned_of assignment.entry)) }
-{
-    match position(assignments, &assignment) {
-        Some(i) => {
-            assignments[i].value = assignment.value;
-            Ok(())
-        }
-        None => {
-            assignments.push(assignment)?;
-            Ok(())
-        }
-    }
-}
-
-/// The number of the assignment that has the same name.
-fn position(assignments: &[Assignment<'_>], sought: &Assignment<'_>) -> Option<usize>
-    ensures value { result ≡ place_in (map assigned_of assignments.now) (assigned_of sought.now) }
-    ensures within { IfSome result (λ k. k < length assignments.now) }
-{
-    for (i, known) in assignments.iter().enumerate() {
-        if same_name(known, sought) {
-            return Some(i);
-        }
-    }
-    None
-}
-
-fn same_name(a: &Assignment<'_>, b: &Assignment<'_>) -> bool
-    ensures { result ≡ same_name_at (assigned_of a.now) (assigned_of b.now) }
-{
-    a.special == b.special && a.name == b.name
 }

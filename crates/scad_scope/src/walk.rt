@@ -6,6 +6,7 @@ ghost use Rattle.scad_scope.specs.Blocks.{marks_of, marks_in, marks_of_core, mar
 ghost use Rattle.scad_scope.specs.Walk.{walked, numbered, after, with_mark, nothing_walked, own_with, own_by, assigned_own, with_text, ended};
 ghost use Rattle.scad_scope.specs.TextView.{own_of, text_of};
 
+use crate::assigned::OwnSoFar;
 use crate::text::{Assignment, BlockText, Entry, Function, Module, Named, Own};
 use compact_bytes::CompactBytes;
 use scad_ast::{Body, Core, Expr, Instance, Params, Program, Statement, Statements};
@@ -45,36 +46,46 @@ impl<'a> Walk<'a> {
 
     /// Goes on through statements of a block whose own definitions and assignments these are.
     #[cycle(walk)]
-    fn statements(&mut self, statements: &'a Statements, own: &mut Own<'a>) -> Result<(), NoMemory>
+    fn statements(
+        &mut self,
+        statements: &'a Statements,
+        so_far: &mut OwnSoFar<'a>,
+    ) -> Result<(), NoMemory>
         requires { numbered (walked self.old) + length (marks_in (statements_from (statements_of statements.now))) < 2 ^ 32 }
         ensures walked { OnOk result (walked self.new ≡ after (walked self.old) (marks_in (statements_from (statements_of statements.now)))) }
-        ensures own { OnOk result (own_of own.new ≡ own_with (own_of own.old) (length (walked self.old).functions)
+        ensures own { OnOk result (own_of so_far.new.own ≡ own_with (own_of so_far.old.own) (length (walked self.old).functions)
             (length (walked self.old).modules) (statements_from (statements_of statements.now))) }
     {
         'each: for statement in &statements.items {
-            self.statement(statement, own)?;
+            self.statement(statement, so_far)?;
         }
         Ok(())
     }
 
     #[cycle(walk)]
     #[tactic(auto, using(crate::proofs::Begun::numbered_mark))]
-    fn statement(&mut self, statement: &'a Statement, own: &mut Own<'a>) -> Result<(), NoMemory>
+    fn statement(
+        &mut self,
+        statement: &'a Statement,
+        so_far: &mut OwnSoFar<'a>,
+    ) -> Result<(), NoMemory>
         requires { numbered (walked self.old) + length (marks_of (statement_of statement.now)) < 2 ^ 32 }
         ensures walked { OnOk result (walked self.new ≡ after (walked self.old) (marks_of (statement_of statement.now))) }
-        ensures own { OnOk result (own_of own.new ≡ own_by (own_of own.old) (length (walked self.old).functions)
+        ensures own { OnOk result (own_of so_far.new.own ≡ own_by (own_of so_far.old.own) (length (walked self.old).functions)
             (length (walked self.old).modules) (statement_of statement.now)) }
     {
         match statement {
             Statement::Empty(_) => Ok(()),
-            Statement::Block(_, statements) => self.statements(statements, own),
-            Statement::Assignment(place, name, value) => { assign(own, *place, false, name, value) }
+            Statement::Block(_, statements) => self.statements(statements, so_far),
+            Statement::Assignment(place, name, value) => {
+                assign(self.alloc, so_far, *place, false, name, value)
+            }
             Statement::SpecialAssignment(place, name, value) => {
-                assign(own, *place, true, name, value)
+                assign(self.alloc, so_far, *place, true, name, value)
             }
             Statement::Module(_, name, _, params, body) => {
                 let number = self.module(params, body)?;
-                own.modules.push(Named {
+                so_far.own.modules.push(Named {
                     name: name.items(),
                     number,
                 })?;
@@ -82,7 +93,7 @@ impl<'a> Walk<'a> {
             }
             Statement::Function(_, name, _, params, value) => {
                 let number = self.function(params, value)?;
-                own.functions.push(Named {
+                so_far.own.functions.push(Named {
                     name: name.items(),
                     number,
                 })?;
@@ -152,8 +163,9 @@ impl<'a> Walk<'a> {
             (a_block (statements_from (statements_of statements.now)) ∷ marks_in (statements_from (statements_of statements.now)))) }
     {
         let number = self.begin(BlockText::Statements(statements))?;
-        let mut own = Own::new(self.alloc);
-        self.statements(statements, &mut own)?;
+        let mut so_far = OwnSoFar::new(self.alloc);
+        self.statements(statements, &mut so_far)?;
+        let OwnSoFar { own, .. } = so_far;
         self.end(number, own);
         Ok(())
     }
@@ -233,19 +245,24 @@ impl<'a> Walk<'a> {
 
 /// One assignment more of a block.
 fn assign<'a>(
-    own: &mut Own<'a>,
+    alloc: Global,
+    so_far: &mut OwnSoFar<'a>,
     place: Place,
     special: bool,
     name: &'a CompactBytes,
     value: &'a Expr,
 ) -> Result<(), NoMemory>
-    ensures { OnOk result (own_of own.new ≡ assigned_own (own_of own.old)
+    ensures { OnOk result (own_of so_far.new.own ≡ assigned_own (own_of so_far.old.own)
         (record { at = place; special = special; name = name.now; value = term_of value.now })) }
 {
-    own.assign(Assignment {
-        place,
-        special,
-        name: name.items(),
-        value,
-    })
+    let name = name.items();
+    so_far.assign(
+        alloc,
+        Assignment {
+            place,
+            special,
+            name,
+            value,
+        },
+    )
 }

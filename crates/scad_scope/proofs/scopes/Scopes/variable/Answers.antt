@@ -1,8 +1,5 @@
 use Rattle.text_place.specs.declared.fault.Fault.{Fault}
-use Rattle.std.proofs.Common.{◌<◌, ◌∙◌, List, length, sym, ap, arith}
-use Rattle.scad_scope.specs.declared.table.Variable.{Variable}
-use Rattle.scad_scope.specs.Names.{find_in}
-use Rattle.scad_scope.specs.View.{variables_of}
+use Rattle.std.proofs.Common.{◌<◌, ◌∙◌, length, ap, arith}
 use Rattle.scad_scope.proofs.Envs.{rows_length, variable_found, variable_none, variable_outer}
 use Rattle.scad_scope.proofs.Bound.{variable_bounded}
 use Rattle.scad_scope.proofs.scopes.Scopes.variable.Goals as goal
@@ -11,8 +8,7 @@ pub returns-in-Some : goal.returns-in-Some
 returns-in-Some c =
     let ss = c.args.self.now.scopes.items in
     let h : c.outward.at < length ss = omega (arith, c.outward.invariant.within, rows_length ss) in
-    let f = ap (λ (vs : List Variable). find_in (variables_of vs) c.args.name.now)
-    (sym c.deref.ensures.value) ∙ c.in-Some.ensures in
+    let f = c.in-Some.ensures in
     record {
       same = c.outward.invariant.same ∙ variable_found ss c.outward.at c.index-here.result.now c.args.name.now
           h c.index-here.ensures _ f;
@@ -24,8 +20,7 @@ pub returns-then-here-at : goal.returns-then-here-at
 returns-then-here-at c =
     let ss = c.args.self.now.scopes.items in
     let h : c.outward.at < length ss = omega (arith, c.outward.invariant.within, rows_length ss) in
-    let f = ap (λ (vs : List Variable). find_in (variables_of vs) c.args.name.now)
-    (sym c.deref.ensures.value) ∙ c.in_default.ensures in
+    let f = c.in_default.ensures in
     record {
       none = c.outward.invariant.same ∙ variable_none ss c.outward.at c.index-here.result.now c.args.name.now
           h c.index-here.ensures f c.if-here-at.true;
@@ -37,8 +32,7 @@ pub outward-preserved : goal.outward-preserved
 outward-preserved c =
     let ss = c.args.self.now.scopes.items in
     let h : c.outward.at < length ss = omega (arith, c.outward.invariant.within, rows_length ss) in
-    let f = ap (λ (vs : List Variable). find_in (variables_of vs) c.args.name.now)
-    (sym c.deref.ensures.value) ∙ c.in_default.ensures in
+    let f = c.in_default.ensures in
     record {
       within = omega (arith, c.outward.invariant.within, c.if-here-at.false);
       same = c.outward.invariant.same ∙ variable_outer ss c.outward.at c.index-here.result.now c.args.name.now

@@ -47,11 +47,11 @@ pub braces-returns : goal.braces-returns
 braces-returns t c =
     let s = statements_from (statements_of c.args.statements.now) in
     ending (walked c.args.self.now) (walked c.statements.new.self) (walked c.end.new.self) c.in_ok-number.number
-    (own_of c.statements.new.own) s (marks_in s) c.end.ensures
+    (own_of c.statements.new.so_far.own) s (marks_in s) c.end.ensures
     (c.in_ok-statements.ensures.walked ∙ ap (λ (w : NumberedText). after w (marks_in s)) c.in_ok-number.ensures.walked)
     c.in_ok-number.ensures.number
     (c.in_ok-statements.ensures.own
-    ∙ ap (λ (o : Own). own_with o (length (walked c.begin.new.self).functions) (length (walked c.begin.new.self).modules) s) c.new-own.ensures
+    ∙ ap (λ (o : Own). own_with o (length (walked c.begin.new.self).functions) (length (walked c.begin.new.self).modules) s) c.new-so_far.ensures
     ∙ ap (λ (w : NumberedText). own_of_block (length w.functions) (length w.modules) s) c.in_ok-number.ensures.walked) refl
 
 pub statements-statement-requires : goal.statements-statement-requires
@@ -84,7 +84,7 @@ statements-each-preserved t c =
     record {
       walked_on = walked_more (walked c.each.self) (walked c.statement.new.self) _ ss i c.statement-item.result h here
           c.in_ok-statement.ensures.walked c.each.invariant.walked_on;
-      owned = own_more (own_of c.each.own) (own_of c.statement.new.own) _ (walked c.each.self) (walked c.statement.new.self) ss i
+      owned = own_more (own_of c.each.so_far.own) (own_of c.statement.new.so_far.own) _ (walked c.each.self) (walked c.statement.new.self) ss i
           c.statement-item.result h here c.in_ok-statement.ensures.walked c.in_ok-statement.ensures.own c.each.invariant.owned;
     }
 

@@ -15,9 +15,9 @@ abbrev pub invariant-statements-each : goal.invariant-statements-each
 invariant-statements-each l = record {
   walked_on : after (walked l.self) (marks_in (statements_from (map statement_of (drop l.statement-index l.statements.items.items))))
       ≡ after (walked l.fn.self) (marks_in (statements_from (statements_of l.statements)));
-  owned : own_with (own_of l.own) (length (walked l.self).functions) (length (walked l.self).modules)
+  owned : own_with (own_of l.so_far.own) (length (walked l.self).functions) (length (walked l.self).modules)
       (statements_from (map statement_of (drop l.statement-index l.statements.items.items)))
-      ≡ own_with (own_of l.fn.own) (length (walked l.fn.self).functions) (length (walked l.fn.self).modules)
+      ≡ own_with (own_of l.fn.so_far.own) (length (walked l.fn.self).functions) (length (walked l.fn.self).modules)
       (statements_from (statements_of l.statements));
 }
 

@@ -1,0 +1,4 @@
+pub mod Index
+pub mod Names
+pub mod Newest
+pub mod View

@@ -1,0 +1,6 @@
+use Rattle.newest_names.specs.Names.{newest_first}
+use Rattle.scad_scope.proofs.Chain.{value_found}
+use Rattle.scad_scope.proofs.table.find_variable.Goals as goal
+
+pub returns : goal.returns
+returns c = value_found (newest_first c.args.variables.now) c.args.name.now c.find.result c.find.ensures
