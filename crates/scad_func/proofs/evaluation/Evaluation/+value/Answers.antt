@@ -1,8 +1,9 @@
-use Rattle.std.proofs.Common.{◌≡◌, ◌+◌, ◌-◌, ◌<◌, ◌≤◌, ℕ, List, [], ◌∷◌, length, map, drop, set, get_or, true, Some, None, Ok, Err, sym, ap, subst, ◌∙◌, arith}
+use Rattle.std.proofs.Common.{◌≡◌, ◌+◌, ◌-◌, ◌<◌, ◌≤◌, ℕ, List, [], ◌∷◌, ◌++◌, length, map, take, drop, set, get_or, true, Some, None, Ok, Err, refl, sym, ap, subst, ◌∙◌, arith, rules}
 use Rattle.std.specs.Prelude.{IsTrue, Option, Result, codes}
 use Rattle.std.specs.declared.vec.Vec.{Vec}
 use Rattle.std.specs.declared.alloc.Global.{Global}
 use Rattle.std.proofs.lemmas.Result.{err_from_is_err_and}
+use Rattle.std.proofs.Math.Seq.{take-append_seam}
 use Rattle.std.proofs.lemmas.List.{length-map, length-replicate, length-set, drop-set-lt}
 use Rattle.text_place.specs.declared.fault.Stop.{Stop}
 use Rattle.text_place.specs.declared.fault.FaultKind.TheVariants.{TooDeep, UnknownName, BadArgument}
@@ -19,7 +20,7 @@ use Rattle.scad_ast.specs.StatementView.{param_of}
 use Rattle.scad_value.specs.View.{val_of, vals_in}
 use Rattle.scad_scope.specs.Arguments.{name_of, names_of, nothing_given, taker_of, argument_place}
 use Rattle.scad_scope.specs.ArgumentsView.{given_of, names_in, taker_seen, IsGiven, IsFault}
-use Rattle.scad_scope.specs.Names.{env_of, find_in, variable_in as numbered_variable_in}
+use Rattle.scad_scope.specs.Names.{env_of, empty_row, find_in, variable_in as numbered_variable_in}
 use Rattle.scad_scope.specs.Table.{rows_of, chain_of}
 use Rattle.scad_scope.specs.TextView.{function_of}
 use Rattle.scad_func.specs.Meaning.{Outcome, Gives, Faults, value_at, with_calls, one_call_fewer, turn, Arguments, each_argument, each_parameter, parameter_value, function_value, operand, each_value, each_suffix, each_link, called, answered, or_fault, or_zero}
@@ -33,9 +34,10 @@ use Rattle.scad_func.proofs.Environments.{variable_same}
 use Rattle.scad_func.proofs.Steps.{deep_enough, param_deep, params_here, params_end, slots_here, slots_parts, filled_end, fault_of_arguments, argument_none}
 use Rattle.scad_func.proofs.Forms.{name_form, special_form, count_form, postfix_form, chain_form, choice_form, link_form, member_form, args_form}
 use Rattle.scad_func.proofs.Again.{nothing_bounded}
-use Rattle.scad_func.proofs.Kept.{keeps_same, keeps_trans, call_found, moved, work_falls}
+use Rattle.scad_func.proofs.Kept.{keeps_from, keeps_same, keeps_trans, call_found, moved, work_falls}
 use Rattle.scad_func.proofs.GivenSeen.{taker_given, nothing_seen, held_seen}
 use Rattle.scad_func.proofs.Holding.{told_bounded, argument_refused, argument_stops, longer_told, longer_bounded, longer_length, argument_held, argument_held_bounded, argument_held_length, if_err_at, if_ok_at}
+use Rattle.scad_func.proofs.evaluation.Evaluation.+value.Goals.{in_new_scope-in-Ok, in_new_scope-in-Err}
 use Rattle.scad_func.proofs.evaluation.Evaluation.+value.Goals as goal
 
 pub expression-returns-in_err-value-clause-value : goal.expression-returns-in_err-value-clause-value
@@ -573,3 +575,22 @@ suffix-returns-in-Member-clause-value t c =
     (ap (λ (x : Suffix). suffixed (setting e c.args.scope) v (suffix_of x) e.turns) c.in-Member.is
     ∙ ap (λ x. suffixed (setting e c.args.scope) v x e.turns) (member_form c.in-Member.place c.in-Member.name c.in-Member.name_place))
     (c.member_item.ensures.value e.turns)
+
+pub in_new_scope-returns-clause-kept : goal.in_new_scope-returns-clause-kept
+in_new_scope-returns-clause-kept t c =
+    let front : take c.in_ok-inner.inner (rows_of c.match-bind_all.self.1.1.1.0.now)
+    ≡ take c.in_ok-inner.inner (rows_of c.bind_all.new.scopes) = elim c.match-bind_all.branch [
+      | in_new_scope-in-Ok w ↦ rw w.self-is (ap (take c.in_ok-inner.inner) w.expression-value.ensures.kept.rows)
+      | in_new_scope-in-Err w ↦ rw w.self-is refl
+    ] in
+    let chain : chain_of c.match-bind_all.self.1.1.1.0.now ≡ chain_of c.bind_all.new.scopes = elim c.match-bind_all.branch [
+      | in_new_scope-in-Ok w ↦ rw w.self-is w.expression-value.ensures.kept.chain
+      | in_new_scope-in-Err w ↦ rw w.self-is refl
+    ] in
+    let before = rows_of c.args.self.now.scopes.now in
+    let seam : take c.in_ok-inner.inner (rows_of c.enter_empty.new.self) ≡ rows_of c.args.self.now.scopes.now =
+    ap (take c.in_ok-inner.inner) c.in_ok-inner.ensures.entered
+    ∙ ap (λ n. take n (before ++ empty_row c.args.scope ∷ [])) c.in_ok-inner.ensures.number
+    ∙ take-append_seam before (empty_row c.args.scope ∷ []) in
+    keeps_from _ _ (search rules) (search rules) (c.leave.ensures.rows ∙ front ∙ c.bind_all.ensures.front ∙ seam)
+    (c.leave.ensures.chain ∙ chain ∙ c.bind_all.ensures.chain ∙ c.in_ok-inner.ensures.chain) (search rules) (search rules)
