@@ -17,7 +17,7 @@ use crate::limits::MOST_OF_ONE;
 use crate::solid_fit::SolidFit;
 use bsp_boolean::{BuildStop, Builder, leaf_solid, one_tree_more};
 use bsp_tree::Solid;
-use csg_tree::{CsgNode, CsgStore, TreeKey};
+use csg_tree::{CsgNode, NamedStore, TreeKey};
 use memo_core::Namer;
 use pair_work::PairWork;
 use plane_predicate::Plane;
@@ -29,7 +29,7 @@ use text_place::NoMemory;
 #[derive(Drop)]
 pub struct RunWork<'a, 'b, N: Namer<TreeKey>, B: Books, G: Gate, R: Wait> {
     pub builds: Builds<'a, N, B, G, R>,
-    pub store: &'a Arc<CsgStore>,
+    pub store: &'a NamedStore,
     pub start: u32,
     pub solids: &'a [Arc<Solid>],
     pub nodes: &'a [CsgNode<'b>],
@@ -37,10 +37,10 @@ pub struct RunWork<'a, 'b, N: Namer<TreeKey>, B: Books, G: Gate, R: Wait> {
 
 impl<'a, 'b, N: Namer<TreeKey>, B: Books, G: Gate, R: Wait, D: Builder> PairWork<D, Lane<B>>
     for RunWork<'a, 'b, N, B, G, R> {
-    ghost ready = { λ w b lane. IsRunWork (arc_value w.store.now) w.start w.solids.now w.nodes.now
+    ghost ready = { λ w b lane. IsRunWork w.store.now w.start w.solids.now w.nodes.now
         × IsLaneReady w.start (length w.nodes.now) (D.builds b) lane };
 
-    ghost worked = { λ w b lane c lane'. IsLaneDone (arc_value w.store.now) lane lane' (D.builds b) (D.builds c) };
+    ghost worked = { λ w b lane c lane'. IsLaneDone w.store.now lane lane' (D.builds b) (D.builds c) };
 
     fn work(&self, builder: &mut D, lane: &mut Lane<B>) {
         self.do_lane(builder, lane)
@@ -51,9 +51,9 @@ impl<'a, 'b, N: Namer<TreeKey>, B: Books, G: Gate, R: Wait> RunWork<'a, 'b, N, B
     // Does the nodes of a lane, one after another. It goes on behind one that is too big, since a lower
     // number may be so in another lane, and ends where memory runs out.
     fn do_lane<D: Builder>(&self, builder: &mut D, lane: &mut Lane<B>)
-        requires run { IsRunWork (arc_value self.now.store.now) self.now.start self.now.solids.now self.now.nodes.now }
+        requires run { IsRunWork self.now.store.now self.now.start self.now.solids.now self.now.nodes.now }
         requires lane { IsLaneReady self.now.start (length self.now.nodes.now) (D.builds builder.old) lane.old }
-        ensures { IsLaneDone (arc_value self.now.store.now) lane.old lane.new (D.builds builder.old) (D.builds builder.new) }
+        ensures { IsLaneDone self.now.store.now lane.old lane.new (D.builds builder.old) (D.builds builder.new) }
     {
         one_tree_more();
         for before in lane.before..lane.last {
@@ -73,12 +73,12 @@ impl<'a, 'b, N: Namer<TreeKey>, B: Books, G: Gate, R: Wait> RunWork<'a, 'b, N, B
         share: &mut Share<B>,
         builder: &mut D,
     ) -> Result<Outcome, NoMemory>
-        requires run { IsRunWork (arc_value self.now.store.now) self.now.start self.now.solids.now self.now.nodes.now }
+        requires run { IsRunWork self.now.store.now self.now.start self.now.solids.now self.now.nodes.now }
         requires number { (self.now.start < number) × (number ≤ self.now.start + length self.now.nodes.now) }
         requires room { HasRoom share.old (D.builds builder.old) }
-        ensures outcome { IfOk result (IsOutcome (arc_value self.now.store.now) number) }
-        ensures asked { AreAsked (HasMade result) (joins_to (arc_value self.now.store.now) (number - 1))
-            (joins_to (arc_value self.now.store.now) number)
+        ensures outcome { IfOk result (IsOutcome self.now.store.now number) }
+        ensures asked { AreAsked (HasMade result) (joins_to self.now.store.now (number - 1))
+            (joins_to self.now.store.now number)
             share.old share.new (D.builds builder.old) (D.builds builder.new) }
     {
         match self.node_solid(number, share, builder) {
@@ -95,12 +95,12 @@ impl<'a, 'b, N: Namer<TreeKey>, B: Books, G: Gate, R: Wait> RunWork<'a, 'b, N, B
         share: &mut Share<B>,
         builder: &mut D,
     ) -> Result<Arc<Solid>, BuildStop>
-        requires run { IsRunWork (arc_value self.now.store.now) self.now.start self.now.solids.now self.now.nodes.now }
+        requires run { IsRunWork self.now.store.now self.now.start self.now.solids.now self.now.nodes.now }
         requires number { (self.now.start < number) × (number ≤ self.now.start + length self.now.nodes.now) }
         requires room { HasRoom share.old (D.builds builder.old) }
-        ensures solid { Gives (solid_of (tree_numbered (arc_value self.now.store.now) number)) result }
-        ensures asked { AreAsked (IsOk result) (joins_to (arc_value self.now.store.now) (number - 1))
-            (joins_to (arc_value self.now.store.now) number)
+        ensures solid { Gives (solid_of (tree_numbered self.now.store.now number)) result }
+        ensures asked { AreAsked (IsOk result) (joins_to self.now.store.now (number - 1))
+            (joins_to self.now.store.now number)
             share.old share.new (D.builds builder.old) (D.builds builder.new) }
     {
         one_tree_more();
@@ -124,18 +124,18 @@ impl<'a, 'b, N: Namer<TreeKey>, B: Books, G: Gate, R: Wait> RunWork<'a, 'b, N, B
 
     // A node of the run.
     fn node(&self, number: u32) -> CsgNode<'b>
-        requires run { IsRunWork (arc_value self.now.store.now) self.now.start self.now.solids.now self.now.nodes.now }
+        requires run { IsRunWork self.now.store.now self.now.start self.now.solids.now self.now.nodes.now }
         requires number { (self.now.start < number) × (number ≤ self.now.start + length self.now.nodes.now) }
-        ensures { IsRunNode (arc_value self.now.store.now) self.now.start number result }
+        ensures { IsRunNode self.now.store.now self.now.start number result }
     {
         self.nodes[(number - 1 - self.start) as usize]
     }
 
     // The solid of a node before the run.
     fn solid(&self, number: u32) -> &Solid
-        requires run { IsRunWork (arc_value self.now.store.now) self.now.start self.now.solids.now self.now.nodes.now }
+        requires run { IsRunWork self.now.store.now self.now.start self.now.solids.now self.now.nodes.now }
         requires number { (1 ≤ number) × (number ≤ self.now.start) }
-        ensures { tree_of result.now ≡ solid_of (tree_numbered (arc_value self.now.store.now) number) }
+        ensures { tree_of result.now ≡ solid_of (tree_numbered self.now.store.now number) }
     {
         one_tree_more();
         &self.solids[number as usize - 1]
@@ -143,10 +143,10 @@ impl<'a, 'b, N: Namer<TreeKey>, B: Books, G: Gate, R: Wait> RunWork<'a, 'b, N, B
 
     // The key of the tree of a node.
     fn key(&self, number: u32) -> Result<Arc<TreeKey>, NoMemory>
-        requires { IsNumberIn (arc_value self.now.store.now) number }
-        ensures { IfOk result (λ key. arc_value key ≡ tree_numbered (arc_value self.now.store.now) number) }
+        requires { IsNumberIn self.now.store.now number }
+        ensures { IfOk result (λ key. arc_value key ≡ tree_numbered self.now.store.now number) }
     {
-        let key = TreeKey::of(self.store, number)?;
+        let key = self.store.key(number)?;
         Ok(Arc::new(self.builds.alloc, key)?)
     }
 

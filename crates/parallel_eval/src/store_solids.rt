@@ -18,7 +18,7 @@ use crate::node_runs::run_nodes;
 use crate::solid_fit::SolidFit;
 use bsp_boolean::{Builder, TreeStop as EvalStop, one_tree_more};
 use bsp_tree::Solid;
-use csg_tree::{CsgStore, TreeKey};
+use csg_tree::{NamedStore, TreeKey};
 use memo_core::Namer;
 use pair_work::work_each;
 use std::alloc::Global;
@@ -110,16 +110,16 @@ fn work_lanes<
     share: &mut Share<Ledgers<H, M, K, E>>,
     builders: &mut [D],
 ) -> Result<Vec<Lane<Ledgers<H, M, K, E>>>, NoMemory>
-    requires run { IsRunWork (arc_value work.now.store.now) work.now.start work.now.solids.now work.now.nodes.now }
-    requires ready { AreReady D.builds (joins_to (arc_value work.now.store.now) work.now.start) share.old builders.old }
-    ensures lanes { IfOk result (λ v. AreLanes (arc_value work.now.store.now) work.now.start
+    requires run { IsRunWork work.now.store.now work.now.start work.now.solids.now work.now.nodes.now }
+    requires ready { AreReady D.builds (joins_to work.now.store.now work.now.start) share.old builders.old }
+    ensures lanes { IfOk result (λ v. AreLanes work.now.store.now work.now.start
         (work.now.start + length work.now.nodes.now) v.items) }
     ensures caller { IfOk result (λ v. AreOfCaller share.new.caller v.items) }
-    ensures asked { IfOk result (λ v. AreAsked (AreComplete v.items) (joins_to (arc_value work.now.store.now) work.now.start)
-        (joins_to (arc_value work.now.store.now) (work.now.start + length work.now.nodes.now))
+    ensures asked { IfOk result (λ v. AreAsked (AreComplete v.items) (joins_to work.now.store.now work.now.start)
+        (joins_to work.now.store.now (work.now.start + length work.now.nodes.now))
         share.old (with_lanes share.new v.items) (sum_by D.builds builders.old) (sum_by D.builds builders.new)) }
     ensures counts { OnOk result (AreAtMost D.builds
-        (2 ^ 46 + joins_to (arc_value work.now.store.now) (work.now.start + length work.now.nodes.now)) builders.new) }
+        (2 ^ 46 + joins_to work.now.store.now (work.now.start + length work.now.nodes.now)) builders.new) }
     ensures many { length builders.new ≡ length builders.old }
     ensures err { OnErr result ((share.new ≡ share.old) × (builders.new ≡ builders.old)) }
 {
@@ -144,25 +144,25 @@ fn run<
     R: Threads + Wait + Sync,
 >(
     builds: &Builds<'_, N, Ledgers<H, M, K, E>, G, R>,
-    store: &Arc<CsgStore>,
+    store: &NamedStore,
     before: u32,
     growth: &mut Growth<'_>,
     share: &mut Share<Ledgers<H, M, K, E>>,
     builders: &mut [D],
 ) -> Result<u32, EvalStop>
-    requires growing { IsGrowing (arc_value store.now) before growth.old × (before < length (arc_value store.now)) }
-    requires ready { AreReady D.builds (joins_to (arc_value store.now) before) share.old builders.old }
-    ensures growing { IfOk result (λ last. IsGrowing (arc_value store.now) last growth.new × (before < last)) }
-    ensures ready { IfOk result (λ last. AreReady D.builds (joins_to (arc_value store.now) last) share.new builders.new) }
-    ensures asked { IfOk result (λ last. AreAsked (IsOk result) (joins_to (arc_value store.now) before)
-        (joins_to (arc_value store.now) last)
+    requires growing { IsGrowing store.now before growth.old × (before < length store.now) }
+    requires ready { AreReady D.builds (joins_to store.now before) share.old builders.old }
+    ensures growing { IfOk result (λ last. IsGrowing store.now last growth.new × (before < last)) }
+    ensures ready { IfOk result (λ last. AreReady D.builds (joins_to store.now last) share.new builders.new) }
+    ensures asked { IfOk result (λ last. AreAsked (IsOk result) (joins_to store.now before)
+        (joins_to store.now last)
         share.old share.new (sum_by D.builds builders.old) (sum_by D.builds builders.new)) }
-    ensures stopped { OnErr result (AreAsked (IsOk result) (joins_to (arc_value store.now) before)
-        (joins (arc_value store.now))
+    ensures stopped { OnErr result (AreAsked (IsOk result) (joins_to store.now before)
+        (joins store.now)
         share.old share.new (sum_by D.builds builders.old) (sum_by D.builds builders.new)) }
-    ensures stop { IfErr result (IsTreeStop (arc_value store.now)) }
+    ensures stop { IfErr result (IsTreeStop store.now) }
 {
-    let nodes = run_nodes(builds.alloc, store, before)?;
+    let nodes = run_nodes(builds.alloc, store.store(), before)?;
     let last = before + nodes.len() as u32;
     let work = RunWork {
         builds: Builds {
@@ -200,21 +200,21 @@ pub fn solid_of<
 >(
     rt: &R,
     alloc: Global,
-    store: &Arc<CsgStore>,
+    store: &NamedStore,
     memo: &Memo<SolidFit, N, Ledgers<H, M, K, E>>,
     share: &mut Share<Ledgers<H, M, K, E>>,
     builders: &mut [D],
     gate: &G,
 ) -> Result<Arc<Solid>, EvalStop>
-    requires some { 0 < length (arc_value store.now) }
+    requires some { 0 < length store.now }
     requires ready { AreReady D.builds 0 share.old builders.old }
     ensures solid { IfOk result (λ s. tree_of (arc_value s) ≡
-        solids.solid_of (tree_numbered (arc_value store.now) (length (arc_value store.now)))) }
-    ensures within { OnOk result (AreWithin (arc_value store.now)) }
-    ensures stop { IfErr result (IsTreeStop (arc_value store.now)) }
-    ensures asked { AreAsked (IsOk result) 0 (joins (arc_value store.now))
+        solids.solid_of (tree_numbered store.now (length store.now))) }
+    ensures within { OnOk result (AreWithin store.now) }
+    ensures stop { IfErr result (IsTreeStop store.now) }
+    ensures asked { AreAsked (IsOk result) 0 (joins store.now)
         share.old share.new (sum_by D.builds builders.old) (sum_by D.builds builders.new) }
-    ensures few { joins (arc_value store.now) < 2 ^ 32 }
+    ensures few { joins store.now < 2 ^ 32 }
 {
     one_tree_more();
     let builds = Builds {
@@ -223,13 +223,14 @@ pub fn solid_of<
         memo,
         gate,
     };
+    let nodes = store.store();
     let mut growth = Growth {
-        store,
+        store: nodes,
         solids: Vec::new(alloc),
         sum: 0,
     };
     let mut done = 0;
-    while done < store.len() {
+    while done < nodes.len() {
         done = run(&builds, store, done, &mut growth, share, builders)?;
     }
     Ok(growth.solids.pop().unwrap())

@@ -7,7 +7,7 @@ use Rattle.parallel_eval.proofs.store_solids.solid_of.Goals as goal
 
 pub returns-in_err-done-clause-few : goal.returns-in_err-done-clause-few
 returns-in_err-done-clause-few g c =
-    let trees = arc_value c.args.store.now in
+    let trees = c.args.store.now in
     let whole : take (length trees) trees ≡ trees = take_all (length trees) trees (omega arith) in
     let few : joins trees ≤ length trees =
     subst (λ (ts : List Formula). joins ts ≤ length trees) whole (c.one_tree_more.ensures.few trees (length trees)) in

@@ -7,7 +7,7 @@ use Rattle.parallel_eval.proofs.store_solids.solid_of.Given as goal
 -- the first nodes have their solids, and their joins were answered
 abbrev pub invariant-loop-done : goal.invariant-loop-done
 invariant-loop-done g l =
-    let trees = arc_value l.fn.store in
+    let trees = l.fn.store in
     let builds = g.D.Builder.builds in record {
       growing : IsGrowing trees l.done l.growth;
       ready : AreReady builds (joins_to trees l.done) l.share l.builders;
@@ -15,4 +15,4 @@ invariant-loop-done g l =
     }
 
 abbrev pub decreases-loop-done : goal.decreases-loop-done
-decreases-loop-done g l = length (arc_value l.fn.store) - l.done
+decreases-loop-done g l = length l.fn.store - l.done

@@ -11,7 +11,7 @@ pub work_each-requires-after_bounds : goal.work_each-requires-after_bounds
 work_each-requires-after_bounds g c κs within =
     let builds = g.D.Builder.builds in
     let work = c.args.work.now in
-    let trees = arc_value work.store.now in
+    let trees = work.store.now in
     let start = work.start in
     let last = start + length work.nodes.now in
     let share = c.args.share.now in
@@ -35,7 +35,7 @@ pub returns-clause-lanes : goal.returns-clause-lanes
 returns-clause-lanes g c =
     let builds = g.D.Builder.builds in
     let work = c.args.work.now in
-    let trees = arc_value work.store.now in
+    let trees = work.store.now in
     let start = work.start in
     let last = start + length work.nodes.now in
     let share = c.args.share.now in
@@ -55,7 +55,7 @@ pub returns-clause-caller : goal.returns-clause-caller
 returns-clause-caller g c =
     let builds = g.D.Builder.builds in
     let work = c.args.work.now in
-    let trees = arc_value work.store.now in
+    let trees = work.store.now in
     let start = work.start in
     let last = start + length work.nodes.now in
     let share = c.args.share.now in
@@ -75,7 +75,7 @@ pub returns-clause-counts : goal.returns-clause-counts
 returns-clause-counts g c =
     let builds = g.D.Builder.builds in
     let work = c.args.work.now in
-    let trees = arc_value work.store.now in
+    let trees = work.store.now in
     let start = work.start in
     let last = start + length work.nodes.now in
     let share = c.args.share.now in
@@ -95,7 +95,7 @@ pub returns-clause-asked : goal.returns-clause-asked
 returns-clause-asked g c =
     let builds = g.D.Builder.builds in
     let work = c.args.work.now in
-    let trees = arc_value work.store.now in
+    let trees = work.store.now in
     let start = work.start in
     let last = start + length work.nodes.now in
     let share = c.args.share.now in

@@ -7,7 +7,7 @@ use Rattle.parallel_eval.proofs.lanes.RunWork.do_lane.Goals as goal
 
 pub returns-in_default : goal.returns-in_default
 returns-in_default g c =
-    let trees = arc_value c.args.self.now.store.now in
+    let trees = c.args.self.now.store.now in
     let k = c.loop-before.before in
     let l = g.D.Builder.builds c.args.builder.now in
     let m = g.D.Builder.builds c.loop-before.builder in
@@ -19,7 +19,7 @@ returns-in_default g c =
 
 pub returns-then-is_err : goal.returns-then-is_err
 returns-then-is_err g c =
-    let trees = arc_value c.args.self.now.store.now in
+    let trees = c.args.self.now.store.now in
     let k = c.loop-before.before in
     let l = g.D.Builder.builds c.args.builder.now in
     let m = g.D.Builder.builds c.loop-before.builder in
@@ -32,7 +32,7 @@ returns-then-is_err g c =
 
 pub loop-before-preserved : goal.loop-before-preserved
 loop-before-preserved g c =
-    let trees = arc_value c.args.self.now.store.now in
+    let trees = c.args.self.now.store.now in
     let k = c.loop-before.before in
     let l = g.D.Builder.builds c.args.builder.now in
     let m = g.D.Builder.builds c.loop-before.builder in

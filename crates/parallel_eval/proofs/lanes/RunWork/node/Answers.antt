@@ -6,7 +6,7 @@ use Rattle.parallel_eval.proofs.lanes.RunWork.node.Goals as goal
 
 pub returns : goal.returns
 returns g c =
-    let trees = arc_value c.args.self.now.store.now in
+    let trees = c.args.self.now.store.now in
     let start = c.args.self.now.start in
     let nodes = c.args.self.now.nodes.now in
     let node = c.index-self-number.result in

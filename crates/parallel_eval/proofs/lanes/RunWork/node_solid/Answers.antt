@@ -12,38 +12,38 @@ use Rattle.parallel_eval.proofs.lanes.RunWork.node_solid.Goals as goal
 
 pub leaf-requires-clause-some : goal.leaf-requires-clause-some
 leaf-requires-clause-some g c =
-    let is = leaf_of_run (arc_value c.args.self.now.store.now) c.args.self.now.start c.args.number c.node.result c.in-Leaf.planes c.node.ensures c.in-Leaf.is in
+    let is = leaf_of_run c.args.self.now.store.now c.args.self.now.start c.args.number c.node.result c.in-Leaf.planes c.node.ensures c.in-Leaf.is in
     is.1
 
 pub leaf-requires-clause-reach : goal.leaf-requires-clause-reach
 leaf-requires-clause-reach g c =
-    let is = leaf_of_run (arc_value c.args.self.now.store.now) c.args.self.now.start c.args.number c.node.result c.in-Leaf.planes c.node.ensures c.in-Leaf.is in
+    let is = leaf_of_run c.args.self.now.store.now c.args.self.now.start c.args.number c.node.result c.in-Leaf.planes c.node.ensures c.in-Leaf.is in
     in_reach c.in-Leaf.planes.now is.2
 
 pub solid-first-requires-clause-number : goal.solid-first-requires-clause-number
 solid-first-requires-clause-number g c =
-    let is = join_of_run (arc_value c.args.self.now.store.now) c.args.self.now.start c.args.number c.node.result c.in-Join.op c.in-Join.left c.in-Join.right c.node.ensures c.in-Join.is in
+    let is = join_of_run c.args.self.now.store.now c.args.self.now.start c.args.number c.node.result c.in-Join.op c.in-Join.left c.in-Join.right c.node.ensures c.in-Join.is in
     (is.0, is.1)
 
 pub solid-second-requires-clause-number : goal.solid-second-requires-clause-number
 solid-second-requires-clause-number g c =
-    let is = join_of_run (arc_value c.args.self.now.store.now) c.args.self.now.start c.args.number c.node.result c.in-Join.op c.in-Join.left c.in-Join.right c.node.ensures c.in-Join.is in
+    let is = join_of_run c.args.self.now.store.now c.args.self.now.start c.args.number c.node.result c.in-Join.op c.in-Join.left c.in-Join.right c.node.ensures c.in-Join.is in
     (is.2, is.3)
 
 pub join_solid-requires-clause-join : goal.join_solid-requires-clause-join
 join_solid-requires-clause-join g c =
-    let trees = arc_value c.args.self.now.store.now in
+    let trees = c.args.self.now.store.now in
     let is = join_of_run trees c.args.self.now.start c.args.number c.node.result c.in-Join.op c.in-Join.left c.in-Join.right c.node.ensures c.in-Join.is in
     (tree_numbered trees c.in-Join.left, tree_numbered trees c.in-Join.right, c.in_ok-key-in-Join.ensures ∙ is.4, c.solid-first.ensures, c.solid-second.ensures)
 
 pub returns-in-Leaf-clause-solid : goal.returns-in-Leaf-clause-solid
 returns-in-Leaf-clause-solid g c =
-    let is = leaf_of_run (arc_value c.args.self.now.store.now) c.args.self.now.start c.args.number c.node.result c.in-Leaf.planes c.node.ensures c.in-Leaf.is in
+    let is = leaf_of_run c.args.self.now.store.now c.args.self.now.start c.args.number c.node.result c.in-Leaf.planes c.node.ensures c.in-Leaf.is in
     subst (λ (t : Formula). Gives (solid_of t) c.leaf.result) (sym is.0) c.leaf.ensures
 
 pub returns-in-Leaf-clause-asked : goal.returns-in-Leaf-clause-asked
 returns-in-Leaf-clause-asked g c =
-    let trees = arc_value c.args.self.now.store.now in
+    let trees = c.args.self.now.store.now in
     let n = c.args.number in
     let is = leaf_of_run trees c.args.self.now.start n c.node.result c.in-Leaf.planes c.node.ensures c.in-Leaf.is in
     let joins : joins_to trees n ≡ joins_to trees (n - 1) + 0 =
@@ -53,7 +53,7 @@ returns-in-Leaf-clause-asked g c =
 
 pub returns-in_ok-key-in-Join-clause-asked : goal.returns-in_ok-key-in-Join-clause-asked
 returns-in_ok-key-in-Join-clause-asked g c =
-    let trees = arc_value c.args.self.now.store.now in
+    let trees = c.args.self.now.store.now in
     let n = c.args.number in
     let is = join_of_run trees c.args.self.now.start n c.node.result c.in-Join.op c.in-Join.left c.in-Join.right c.node.ensures c.in-Join.is in
     let joins : joins_to trees n ≡ joins_to trees (n - 1) + 1 =
