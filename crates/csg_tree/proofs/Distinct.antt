@@ -2,8 +2,7 @@
 use Rattle.std.proofs.Common.{◌≡◌, ℕ, zero, suc, ◌-◌, ◌<◌, Bool, true, false, not, ◌||◌, cond, List, [], ◌∷◌, ◌++◌, length, get_or, refl, sym, ap, subst, ◌∙◌, true≢false, arith}
 use Rattle.std.specs.List.{filter, list_any}
 use Rattle.csg_tree.specs.Formulas.{Formula, nothing}
-use Rattle.csg_tree.specs.Numberings.{is_same_tree, distinct}
-use Rattle.csg_tree.specs.Interned.{HasNumber}
+use Rattle.csg_tree.specs.Numberings.{is_same_tree, distinct, HasNumber}
 use Rattle.csg_tree.proofs.Sameness.{tree_true, tree_itself}
 
 abbrev others : Formula → Formula → Bool

@@ -7,9 +7,9 @@ use Rattle.csg_tree.specs.declared.node.StoredNode.{StoredNode}
 use Rattle.csg_tree.specs.declared.node.StoredNode.TheVariants.{Leaf, Join}
 use Rattle.csg_tree.specs.declared.interner.NodeKey.{NodeKey}
 use Rattle.csg_tree.specs.Formulas.{Formula, nothing, joined}
-use Rattle.csg_tree.specs.Numberings.{tree_numbered, IsNumberIn}
+use Rattle.csg_tree.specs.Numberings.{tree_numbered, IsNumberIn, HaveOneNumber, HasNumber}
 use Rattle.csg_tree.specs.Nodes.{tree_over, IsOver, trees_behind, trees_of, AreLinkedBehind, AreLinked}
-use Rattle.csg_tree.specs.Interned.{key_cmp, node_of_key, is_same_node, number_from, number_in, HaveOneNumber, AreInterned, TheyStay, HasNumber}
+use Rattle.csg_tree.specs.Interned.{key_cmp, node_of_key, is_same_node, number_from, number_in, AreInterned, TheyStay}
 use Rattle.csg_tree.proofs.Sameness.{node_true, node_itself, keys_tell}
 use Rattle.csg_tree.proofs.Linked.{behind_more, linked_more, length_trees, numbered_more}
 
@@ -131,7 +131,7 @@ tree_of_number nodes n d linked within =
     (at.0, ap (λ (k : ℕ). get_or (trees_of nodes) k nothing) (sym place) ∙ at.1)
 
 -- where each tree has one number, a tree is that of one node
-one_node : (ts : List Formula) (a b : StoredNode) → HaveOneNumber ts → IsOver ts a → IsOver ts b → tree_over ts a ≡ tree_over ts b → a ≡ b
+pub one_node : (ts : List Formula) (a b : StoredNode) → HaveOneNumber ts → IsOver ts a → IsOver ts b → tree_over ts a ≡ tree_over ts b → a ≡ b
 one_node ts (Leaf ps) (Leaf qs) once over_a over_b e = let p : ps ≡ qs = cc in ap Leaf p
 one_node ts (Leaf ps) (Join op l r) once over_a over_b e = cc
 one_node ts (Join op l r) (Leaf qs) once over_a over_b e = cc

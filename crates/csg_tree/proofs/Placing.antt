@@ -7,9 +7,9 @@ use Rattle.csg_tree.specs.declared.node.CsgNode.{CsgNode}
 use Rattle.csg_tree.specs.declared.node.StoredNode.{StoredNode}
 use Rattle.csg_tree.specs.declared.node.StoredNode.TheVariants.{Leaf, Join}
 use Rattle.csg_tree.specs.Formulas.{Formula, joined}
-use Rattle.csg_tree.specs.Numberings.{tree_numbered, IsNumberIn}
+use Rattle.csg_tree.specs.Numberings.{tree_numbered, IsNumberIn, HasNumber}
 use Rattle.csg_tree.specs.Nodes.{node_of, tree_over, IsOver, trees_of_lent, AreLinkedLent}
-use Rattle.csg_tree.specs.Interned.{HasNumber, TheyStay, IsPlaced, IsReady, renumbered}
+use Rattle.csg_tree.specs.Interned.{TheyStay, IsPlaced, IsReady, renumbered}
 use Rattle.csg_tree.proofs.Interning.{tree_of_number}
 
 -- the tree of the number of a part

@@ -1,19 +1,34 @@
 -- The nodes of a store among those of an earlier one.
-use Rattle.std.specs.Prelude.{◌≡◌, ℕ, ◌-◌, List, length, get_or, Option, Some, None, IfSome}
+use Rattle.std.specs.Prelude.{◌≡◌, ℕ, ◌-◌, ◌≤◌, List, length, get_or, Option, Some, None}
 use Rattle.std.specs.BTreeMap.{BTreeMap, get}
+use Rattle.csg_tree.specs.declared.node.CsgNode.{CsgNode}
 use Rattle.csg_tree.specs.declared.interner.NodeKey.{NodeKey}
 use Rattle.csg_tree.specs.Formulas.{Formula}
-use Rattle.csg_tree.specs.Numberings.{tree_numbered, IsNumberIn}
-use Rattle.csg_tree.specs.Nodes.{tree_over}
-use Rattle.csg_tree.specs.Interned.{key_cmp, node_of_key, HasNumber}
+use Rattle.csg_tree.specs.Numberings.{tree_numbered, AreNumbered, HasNumber, IsNumberIn}
+use Rattle.csg_tree.specs.Nodes.{node_of, tree_over, IsOver}
+use Rattle.csg_tree.specs.Interned.{key_cmp, node_of_key}
 
--- what is found by the key of a node is a number of its tree
-abbrev pub AreFound : List Formula → BTreeMap NodeKey ℕ → Type 0
-AreFound trees found = (key : NodeKey) (n : ℕ) → get key_cmp found key ≡ Some n → HasNumber trees (tree_over trees (node_of_key key)) n
+-- the first so many of some trees are found by the keys of their nodes
+pub record AreFound (trees : List Formula) (count : ℕ) (found : BTreeMap NodeKey ℕ) : Type 0 where
+  pub numbered : AreNumbered trees
+  pub has : (key : NodeKey) (n : ℕ) → get key_cmp found key ≡ Some n → HasNumber trees (tree_over trees (node_of_key key)) n
+  pub all : (key : NodeKey) (n : ℕ) → IsOver trees (node_of_key key) → HasNumber trees (tree_over trees (node_of_key key)) n →
+      n ≤ count → get key_cmp found key ≡ Some n
 
--- the first of the trees, each with a number that it has among the earlier ones, or none
+-- the number that a tree has among some trees, or none where it is not one of them
+abbrev pub IsNumberOf : List Formula → Formula → Option ℕ → Type 0
+IsNumberOf trees tree (Some n) = HasNumber trees tree n
+IsNumberOf trees tree None = (n : ℕ) → HasNumber trees tree n → ⊥
+
+-- the node over some trees that is this tree, or none where the tree is not one of them
+abbrev pub IsNodeAmong : List Formula → Formula → Option CsgNode → Type 0
+IsNodeAmong trees tree (Some node) = IsOver trees (node_of node) × (tree_over trees (node_of node) ≡ tree)
+IsNodeAmong trees tree None = (n : ℕ) → HasNumber trees tree n → ⊥
+
+-- the numbers of the first trees among earlier ones
 abbrev pub AreNumbersIn : List Formula → List Formula → List (Option ℕ) → Type 0
-AreNumbersIn earlier trees numbers = (n : ℕ) → IsNumberIn numbers n → IfSome (get_or numbers (n - 1) None) (HasNumber earlier (tree_numbered trees n))
+AreNumbersIn earlier trees numbers =
+    (n : ℕ) → IsNumberIn numbers n → IsNumberOf earlier (tree_numbered trees n) (get_or numbers (n - 1) None)
 
 -- the same of all trees
 pub record AreAllNumbersIn (earlier trees : List Formula) (numbers : List (Option ℕ)) : Type 0 where

@@ -15,7 +15,7 @@ use Rattle.csg_tree.specs.declared.interner.PlaneNumbers.{PlaneNumbers}
 use Rattle.csg_tree.specs.declared.interner.NodeKey.{NodeKey}
 use Rattle.csg_tree.specs.declared.interner.NodeKey.TheVariants as keys
 use Rattle.csg_tree.specs.Formulas.{Formula}
-use Rattle.csg_tree.specs.Numberings.{is_same_op, tree_numbered, IsNumberIn}
+use Rattle.csg_tree.specs.Numberings.{is_same_op, tree_numbered, IsNumberIn, HasNumber, HaveOneNumber}
 use Rattle.csg_tree.specs.Nodes.{node_of, trees_of, AreLinked, trees_of_lent}
 
 -- the order of keys: leaves first, by their planes in order, and then joins by operation, left and right number
@@ -62,10 +62,6 @@ number_from n (first ∷ nodes) node = if is_same_node first node then Some n el
 abbrev pub number_in : List StoredNode → StoredNode → Option ℕ
 number_in nodes node = number_from 1 nodes node
 
--- each tree has one number
-abbrev pub HaveOneNumber : List Formula → Type 0
-HaveOneNumber trees = (m n : ℕ) → IsNumberIn trees m → IsNumberIn trees n → tree_numbered trees m ≡ tree_numbered trees n → m ≡ n
-
 -- distinct nodes that are linked, whose numbers are found by their keys
 pub record AreInterned (found : BTreeMap NodeKey ℕ) (nodes : List StoredNode) : Type 0 where
   pub linked : AreLinked nodes
@@ -75,10 +71,6 @@ pub record AreInterned (found : BTreeMap NodeKey ℕ) (nodes : List StoredNode) 
 -- the trees of some numbers stay
 abbrev pub TheyStay : List Formula → List Formula → Type 0
 TheyStay before now = (n : ℕ) → IsNumberIn before n → IsNumberIn now n × (tree_numbered now n ≡ tree_numbered before n)
-
--- the tree has this number
-abbrev pub HasNumber : List Formula → Formula → ℕ → Type 0
-HasNumber trees tree number = IsNumberIn trees number × (tree_numbered trees number ≡ tree)
 
 -- a part has the number of its tree
 abbrev pub IsPlaced : List Formula → List Formula → List ℕ → ℕ → Type 0

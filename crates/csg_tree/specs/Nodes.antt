@@ -6,7 +6,7 @@ use Rattle.csg_tree.specs.declared.node.CsgNode.{CsgNode}
 use Rattle.csg_tree.specs.declared.node.CsgNode.TheVariants as told
 use Rattle.csg_tree.specs.Formulas.{Formula, leaf, joined}
 use Rattle.csg_tree.specs.ProperTrees.{IsProper}
-use Rattle.csg_tree.specs.Numberings.{tree_numbered, IsNumberIn}
+use Rattle.csg_tree.specs.Numberings.{tree_numbered, IsNumberIn, HaveOneNumber}
 
 -- a node that is lent is this node
 abbrev pub node_of : CsgNode → StoredNode
@@ -52,8 +52,10 @@ IsNodeOf trees number (told.Leaf planes) = tree_numbered trees number ≡ leaf p
 IsNodeOf trees number (told.Join op left right) = (1 ≤ left) × (left < number) × (1 ≤ right) × (right < number)
     × (tree_numbered trees number ≡ joined op (tree_numbered trees left) (tree_numbered trees right))
 
--- the nodes of a store: each is over those before it, their trees are proper, and their numbers fit 32 bits
+-- the nodes of a store: each is over those before it, their trees are proper and have one number each, and the numbers
+-- fit 32 bits
 pub record IsStore (nodes : List StoredNode) : Type 0 where
   pub linked : AreLinked nodes
   pub proper : All IsProper (trees_of nodes)
+  pub once : HaveOneNumber (trees_of nodes)
   pub few : length nodes < 2 ^ 32

@@ -1,5 +1,5 @@
 -- The nodes of a tree: its distinct subtrees other than Nothing, by height and then by first appearance.
-use Rattle.std.specs.Prelude.{ℕ, zero, suc, ◌+◌, ◌-◌, ◌≤◌, nat_eq, max, Bool, true, false, not, ◌&&◌, List, [], ◌∷◌, ◌++◌, length, get_or}
+use Rattle.std.specs.Prelude.{◌≡◌, ℕ, zero, suc, ◌+◌, ◌-◌, ◌≤◌, nat_eq, max, Bool, true, false, not, ◌&&◌, List, [], ◌∷◌, ◌++◌, length, get_or}
 use Rattle.std.specs.List.{filter}
 use Rattle.std.specs.Cmp.Lexicographic.{pointwise}
 use Rattle.plane_predicate.specs.Space.{is_same}
@@ -55,3 +55,17 @@ tree_numbered trees number = get_or trees (number - 1) nothing
 -- a number of one of some things, where the first one is 1
 abbrev pub IsNumberIn : {X : Type 0} → List X → ℕ → Type 0
 IsNumberIn things number = (1 ≤ number) × (number ≤ length things)
+
+-- the tree has this number
+abbrev pub HasNumber : List Formula → Formula → ℕ → Type 0
+HasNumber trees tree number = IsNumberIn trees number × (tree_numbered trees number ≡ tree)
+
+-- each tree has one number
+abbrev pub HaveOneNumber : List Formula → Type 0
+HaveOneNumber trees = (m n : ℕ) → IsNumberIn trees m → IsNumberIn trees n → tree_numbered trees m ≡ tree_numbered trees n → m ≡ n
+
+-- trees of which each has one number, and of a join both of its trees have one
+pub record AreNumbered (trees : List Formula) : Type 0 where
+  pub once : HaveOneNumber trees
+  pub parts : (n : ℕ) (op : Op) (left right : Formula) → HasNumber trees (joined op left right) n →
+      ((l : ℕ) × HasNumber trees left l) × ((r : ℕ) × HasNumber trees right r)

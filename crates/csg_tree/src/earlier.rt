@@ -1,10 +1,10 @@
 //! The nodes of a store that an earlier one has as well.
 
-ghost use Rattle.std.specs.Prelude.{◌≡◌, List, IfOk, IfSome};
+ghost use Rattle.std.specs.Prelude.{List, length, IfOk};
 ghost use Rattle.csg_tree.specs.Formulas.{Formula};
+ghost use Rattle.csg_tree.specs.Numberings.{AreNumbered};
 ghost use Rattle.csg_tree.specs.Nodes.{node_of, tree_over, IsOver};
-ghost use Rattle.csg_tree.specs.Interned.{HasNumber};
-ghost use Rattle.csg_tree.specs.Earlier.{AreFound, AreNumbersIn, AreAllNumbersIn};
+ghost use Rattle.csg_tree.specs.Earlier.{AreFound, IsNumberOf, IsNodeAmong, AreNumbersIn, AreAllNumbersIn};
 
 use crate::interner::{NodeKey, key_of_node, look_up, put};
 use crate::node::CsgNode;
@@ -14,8 +14,8 @@ use std::collections::BTreeMap;
 use text_place::NoMemory;
 
 impl CsgStore {
-    /// The numbers that the nodes have in an earlier store, in order of number: that of a node which is the
-    /// same tree, where there is one.
+    /// The numbers that the trees of the nodes have in an earlier store, in order of number, where they are
+    /// trees of that store.
     pub fn numbers_in(
         &self,
         alloc: Global,
@@ -35,7 +35,7 @@ impl CsgStore {
 
 /// The numbers of the nodes of a store by their keys.
 fn numbers_by_key(alloc: Global, store: &CsgStore) -> Result<BTreeMap<NodeKey, u32>, NoMemory>
-    ensures { IfOk result (AreFound store.now) }
+    ensures { IfOk result (AreFound store.now (length store.now)) }
 {
     let mut found = BTreeMap::new(alloc);
     for before in 0..store.len() {
@@ -45,7 +45,7 @@ fn numbers_by_key(alloc: Global, store: &CsgStore) -> Result<BTreeMap<NodeKey, u
     Ok(found)
 }
 
-/// The number of a node among those that are found, where the numbers of its two trees are known.
+/// The number of a node's tree among those that are found, where the numbers of its two trees are known.
 fn number_in(
     alloc: Global,
     node: CsgNode<'_>,
@@ -53,8 +53,8 @@ fn number_in(
     found: &BTreeMap<NodeKey, u32>,
 ) -> Result<Option<u32>, NoMemory>
     requires { IsOver numbers.now (node_of node) }
-    ensures { (earlier trees : List Formula) → AreFound earlier found.now → AreNumbersIn earlier trees numbers.now →
-        IfOk result (λ number. IfSome number (HasNumber earlier (tree_over trees (node_of node.entry)))) }
+    ensures { (earlier trees : List Formula) → AreFound earlier (length earlier) found.now → AreNumbersIn earlier trees numbers.now →
+        IfOk result (IsNumberOf earlier (tree_over trees (node_of node.entry))) }
 {
     match among(node, numbers) {
         Some(other) => {
@@ -68,8 +68,8 @@ fn number_in(
 /// A node with the numbers of its two trees in an earlier store, where they have one.
 fn among<'a>(node: CsgNode<'a>, numbers: &[Option<u32>]) -> Option<CsgNode<'a>>
     requires { IsOver numbers.now (node_of node) }
-    ensures { (earlier trees : List Formula) → AreNumbersIn earlier trees numbers.now →
-        IfSome result (λ other. tree_over earlier (node_of other) ≡ tree_over trees (node_of node.entry)) }
+    ensures { (earlier trees : List Formula) → AreNumbered earlier → AreNumbersIn earlier trees numbers.now →
+        IsNodeAmong earlier (tree_over trees (node_of node.entry)) result }
 {
     match node {
         CsgNode::Leaf(planes) => Some(CsgNode::Leaf(planes)),

@@ -4,9 +4,9 @@ ghost use Rattle.std.specs.Prelude.{◌≡◌, ℕ, List, ◌+◌, ◌^◌, ◌<
 ghost use Rattle.std.specs.BTreeMap.{get, is_at};
 ghost use Rattle.csg_tree.specs.declared.interner.NodeKey.{NodeKey};
 ghost use Rattle.csg_tree.specs.Formulas.{Formula};
-ghost use Rattle.csg_tree.specs.Numberings.{distinct};
+ghost use Rattle.csg_tree.specs.Numberings.{distinct, HasNumber};
 ghost use Rattle.csg_tree.specs.Nodes.{node_of, trees_of, tree_over, IsOver};
-ghost use Rattle.csg_tree.specs.Interned.{key_cmp, node_of_key, plane_of_numbers, AreInterned, HasNumber, TheyStay};
+ghost use Rattle.csg_tree.specs.Interned.{key_cmp, node_of_key, plane_of_numbers, AreInterned, TheyStay};
 
 use crate::node::{CsgNode, StoredNode};
 use crate::op::Op;

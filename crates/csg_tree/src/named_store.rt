@@ -1,11 +1,10 @@
 //! Stores with the names of their joins.
 
-ghost use Rattle.std.specs.Prelude.{◌≡◌, IfOk, IfSome};
+ghost use Rattle.std.specs.Prelude.{◌≡◌, IfOk};
 ghost use Rattle.std.specs.Arc.{arc_value};
 ghost use Rattle.csg_tree.specs.Numberings.{tree_numbered, IsNumberIn};
-ghost use Rattle.csg_tree.specs.Interned.{HasNumber};
 ghost use Rattle.csg_tree.specs.TreeKeys.{name_of_join};
-ghost use Rattle.csg_tree.specs.Earlier.{AreAllNumbersIn};
+ghost use Rattle.csg_tree.specs.Earlier.{IsNumberOf, AreAllNumbersIn};
 
 use crate::naming::name_of_node;
 use crate::node::CsgNode;
@@ -108,7 +107,7 @@ fn name_over(
     found: Option<u32>,
 ) -> Option<[u8; 32]>
     requires number { IsNumberIn store.now number }
-    requires found { IfSome found (HasNumber earlier.now (tree_numbered store.now number)) }
+    requires found { IsNumberOf earlier.now (tree_numbered store.now number) found }
     ensures { result ≡ name_of_join (tree_numbered store.now number) }
 {
     match found {

@@ -3,7 +3,7 @@
 ghost use Rattle.std.specs.Prelude.{◌≡◌, ℕ, List, ◌+◌, ◌-◌, ◌^◌, ◌<◌, ◌≤◌, ◌∷◌, ◌++◌, [], IfOk, OnOk, length, get_or, map};
 ghost use Rattle.csg_tree.specs.declared.node.CsgNode.{CsgNode};
 ghost use Rattle.csg_tree.specs.Formulas.{Formula};
-ghost use Rattle.csg_tree.specs.Numberings.{by_height, distinct, tree_numbered, IsNumberIn};
+ghost use Rattle.csg_tree.specs.Numberings.{by_height, distinct, tree_numbered, HaveOneNumber, IsNumberIn};
 ghost use Rattle.csg_tree.specs.Nodes.{node_of, trees_of, trees_of_lent, AreLinked, AreLinkedLent, IsOver};
 ghost use Rattle.csg_tree.specs.Levels.{level_at, numbers_of_height};
 ghost use Rattle.csg_tree.specs.Interned.{renumbered, AreInterned, AreReady, IsPlaced, IsReady, StayPlaced};
@@ -25,6 +25,7 @@ pub fn nodes_of_levels(
     requires levels { (h : ℕ) → level_at levels.now h ≡ numbers_of_height h (trees_of_lent parts.now) }
     ensures trees { IfOk result (λ nodes. trees_of nodes.items ≡ distinct (by_height (length levels.now) (trees_of_lent parts.now))) }
     ensures linked { IfOk result (λ nodes. AreLinked nodes.items) }
+    ensures once { IfOk result (λ nodes. HaveOneNumber (trees_of nodes.items)) }
 {
     let mut numbers = vec![in alloc; 0; parts.len()]?;
     let mut interner = Interner::new(alloc);

@@ -1,9 +1,9 @@
 use Rattle.std.proofs.Common.{◌≡◌, ◌-◌, ◌<◌, ◌∷◌, ◌++◌, [], ℕ, List, length, get_or, sym, ap, subst, ◌∙◌, arith}
 use Rattle.csg_tree.specs.declared.node.CsgNode.{CsgNode}
 use Rattle.csg_tree.specs.Formulas.{Formula}
-use Rattle.csg_tree.specs.Numberings.{distinct, tree_numbered}
+use Rattle.csg_tree.specs.Numberings.{distinct, tree_numbered, HasNumber}
 use Rattle.csg_tree.specs.Nodes.{node_of, tree_over, trees_of, trees_of_lent}
-use Rattle.csg_tree.specs.Interned.{renumbered, HasNumber, IsReady}
+use Rattle.csg_tree.specs.Interned.{renumbered, IsReady}
 use Rattle.csg_tree.proofs.Linked.{length_lent}
 use Rattle.csg_tree.proofs.ByHeight.{over_same}
 use Rattle.csg_tree.proofs.Placing.{lent_number, ready_tree, placed_set, stay_set}

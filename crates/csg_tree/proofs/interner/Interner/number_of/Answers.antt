@@ -1,8 +1,9 @@
 use Rattle.std.proofs.Common.{◌≡◌, [], List, Some, None, sym, ap, subst, ◌∙◌}
 use Rattle.std.specs.BTreeMap.{get}
+use Rattle.csg_tree.specs.Numberings.{HasNumber}
 use Rattle.csg_tree.specs.declared.node.StoredNode.{StoredNode}
 use Rattle.csg_tree.specs.Nodes.{node_of, tree_over, trees_of}
-use Rattle.csg_tree.specs.Interned.{key_cmp, AreInterned, HasNumber, TheyStay}
+use Rattle.csg_tree.specs.Interned.{key_cmp, AreInterned, TheyStay}
 use Rattle.csg_tree.proofs.Linked.{behind_more}
 use Rattle.csg_tree.proofs.Interning.{known_number, no_number, interned_push, new_number, they_stay}
 use Rattle.csg_tree.proofs.Distinct.{distinct_known, distinct_new}

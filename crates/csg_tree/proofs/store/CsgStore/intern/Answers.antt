@@ -20,6 +20,7 @@ invariant_of-result c =
     c.in_ok-parts.ensures.trees c.deref.ensures.value c.in_ok-levels.ensures c.deref-2.ensures.value c.deref-3.ensures.value c.in_ok-nodes.ensures.trees in
     record {
       linked = c.in_ok-nodes.ensures.linked;
+      once = c.in_ok-nodes.ensures.once;
       proper = subst (All IsProper) (sym all) (nodes_proper f c.requires);
       few = omega (
         arith,

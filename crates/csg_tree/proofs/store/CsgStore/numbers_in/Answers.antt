@@ -1,11 +1,9 @@
 use Rattle.std.proofs.Common.{◌≡◌, ◌+◌, length, sym, ap, subst, ◌∙◌, arith, Option, ℕ, List}
-use Rattle.std.specs.Prelude.{IfSome}
 use Rattle.std.proofs.lemmas.List.{length_push}
 use Rattle.csg_tree.specs.Formulas.{Formula}
 use Rattle.csg_tree.specs.Numberings.{tree_numbered}
 use Rattle.csg_tree.specs.Nodes.{node_of, tree_over, IsOver}
-use Rattle.csg_tree.specs.Interned.{HasNumber}
-use Rattle.csg_tree.specs.Earlier.{AreNumbersIn}
+use Rattle.csg_tree.specs.Earlier.{AreNumbersIn, IsNumberOf}
 use Rattle.csg_tree.proofs.EarlierNumbers.{node_has, node_over, numbers_more}
 use Rattle.csg_tree.proofs.store.CsgStore.numbers_in.Goals as goal
 
@@ -30,5 +28,5 @@ loop-before-preserved c =
     record {
       count = omega (arith, ap length c.in_ok-push.ensures.items, length_push numbers number, c.loop-before.invariant.count);
       same = numbers_more earlier trees numbers c.push.new.self.items number c.loop-before.invariant.same c.in_ok-push.ensures.items
-          (subst (λ (t : Formula). IfSome number (HasNumber earlier t)) is (c.in_ok-number.ensures earlier trees c.in_ok-found.ensures same));
+          (subst (λ (t : Formula). IsNumberOf earlier t number) is (c.in_ok-number.ensures earlier trees c.in_ok-found.ensures same));
     }
