@@ -2,12 +2,11 @@
 //! caller meanwhile.
 
 ghost use Rattle.std.specs.Prelude.{◌≡◌, ◌*◌, ◌^◌, ◌<◌, ◌≤◌, [], length};
-ghost use Rattle.std.specs.Arc.{arc_value};
 ghost use Rattle.subtree_memo.specs.Shares.{IsOf, parts_each};
 
 use crate::stores::{builders, store};
 use crate::trees::two_shells;
-use csg_tree::{CsgStore, TreeKey};
+use csg_tree::{NamedStore, TreeKey};
 use memo_core::MemoCore;
 use parallel_eval::{Gate, ShaNamer, SolidFit, solid_of};
 use std::alloc::Global;
@@ -96,11 +95,11 @@ fn make<
     alloc: Global,
     memo: &'a Memo<SolidFit, ShaNamer, Ledgers<H, M, K, E>>,
     key: &'a Arc<TreeKey>,
-    store: &Arc<CsgStore>,
+    store: &NamedStore,
     mut share: Share<Ledgers<H, M, K, E>>,
     other: Share<Ledgers<H, M, K, E>>,
 ) -> (Share<Ledgers<H, M, K, E>>, Share<Ledgers<H, M, K, E>>)
-    requires some { 0 < length (arc_value store.now) }
+    requires some { 0 < length store.now }
     requires share { (share.parts ≡ parts_each) × (share.dropped ≡ 0) }
     requires other { other.parts ≡ parts_each }
     ensures share { result.0.parts ≡ parts_each }
@@ -138,16 +137,16 @@ fn run<
     alloc: Global,
     core: MemoCore<SolidFit, ShaNamer>,
     blanks: Blanks,
-    store: &Arc<CsgStore>,
+    store: &NamedStore,
 ) -> Tally
     requires empty { core.journal ≡ [] }
     requires limits { (core.budget ≡ H.budget) × (core.share ≡ H.share) × (blanks.callers ≡ H.callers) }
     requires callers { blanks.callers ≡ 2 }
     requires ledgers { IsOf H.name H.parts blanks.hits × IsOf M.name M.parts blanks.misses
         × IsOf K.name K.parts blanks.kept × IsOf E.name E.parts blanks.heavy }
-    requires some { 0 < length (arc_value store.now) }
+    requires some { 0 < length store.now }
 {
-    let last = TreeKey::of(store, store.len()).expect(rt, "memory");
+    let last = store.key(store.store().len()).expect(rt, "memory");
     let key = Arc::new(alloc, last).expect(rt, "memory");
     let (memo, mut shares) = Memo::<SolidFit, ShaNamer, Ledgers<H, M, K, E>>::open(
         alloc, core, blanks,
@@ -162,8 +161,8 @@ fn run<
 }
 
 // The same, for a caller that has no ledgers.
-fn held<R: Abort + Threads + Wait + Sync>(rt: &R, alloc: Global, store: &Arc<CsgStore>) -> Tally {
-    assert!(rt; store.len() > 0);
+fn held<R: Abort + Threads + Wait + Sync>(rt: &R, alloc: Global, store: &NamedStore) -> Tally {
+    assert!(rt; store.store().len() > 0);
     let core = MemoCore::new(alloc, SolidFit, ShaNamer, 500_000, 0).expect(rt, "memory");
     run::<Brand, Brand, Brand, Brand, R>(rt, alloc, core, Blanks::new(2), store)
 }

@@ -1,7 +1,6 @@
 //! Solids of stores, by one or many builders, with memos that keep much or nothing.
 
 ghost use Rattle.std.specs.Prelude.{◌≡◌, ◌*◌, ◌^◌, ◌<◌, ◌≤◌, [], All, IfOk, length, sum};
-ghost use Rattle.std.specs.Arc.{arc_value};
 ghost use Rattle.csg_tree.specs.ProperTrees.{IsProper};
 ghost use Rattle.csg_tree.specs.Trees.{formula_of};
 ghost use Rattle.subtree_memo.specs.Shares.{IsOf};
@@ -9,7 +8,7 @@ ghost use Rattle.subtree_memo.specs.Shares.{IsOf};
 use crate::trees::{combs, cuboids, pairs, plate_with_two_holes, slabs, two_shells};
 use bsp_boolean::{PlainBuilder, TreeStop, tree_solid};
 use bsp_tree::Solid;
-use csg_tree::{CsgStore, CsgTree, TreeKey};
+use csg_tree::{CsgStore, CsgTree, NamedStore, TreeKey};
 use memo_core::{MemoCore, Namer};
 use parallel_eval::{Gate, OpenGate, ShaNamer, SolidFit, solid_of};
 use std::alloc::Global;
@@ -26,12 +25,13 @@ const NUMBERS: [u8; 4] = [1, 2, 8, 64];
 // The budgets of a memo that keeps nothing, little and all.
 const BUDGETS: [u64; 3] = [0, 100, 2_000_000];
 
-// The nodes of a tree, which can be shared.
-pub fn store(rt: &impl Abort, alloc: Global, tree: &CsgTree) -> Arc<CsgStore>
+// The nodes of a tree, with the names of its joins.
+pub fn store(rt: &impl Abort, alloc: Global, tree: &CsgTree) -> NamedStore
     requires { IsProper (formula_of tree.now) }
 {
     let store = CsgStore::intern(alloc, tree).expect(rt, "memory");
-    Arc::new(alloc, store).expect(rt, "memory")
+    let store = Arc::new(alloc, store).expect(rt, "memory");
+    NamedStore::new(alloc, store).expect(rt, "memory")
 }
 
 // So many builders that have built nothing.
@@ -61,7 +61,7 @@ fn run<
     core: MemoCore<SolidFit, N>,
     blanks: Blanks,
     gate: &G,
-    store: &Arc<CsgStore>,
+    store: &NamedStore,
     count: u8,
 ) -> (
     Result<Arc<Solid>, TreeStop>,
@@ -73,7 +73,7 @@ fn run<
     requires callers { blanks.callers ≡ 1 }
     requires ledgers { IsOf H.name H.parts blanks.hits × IsOf M.name M.parts blanks.misses
         × IsOf K.name K.parts blanks.kept × IsOf E.name E.parts blanks.heavy }
-    requires some { 0 < length (arc_value store.now) }
+    requires some { 0 < length store.now }
     requires builders { (1 ≤ count) × (count ≤ 64) }
 {
     let (memo, mut shares) = Memo::<SolidFit, N, Ledgers<H, M, K, E>>::open(
@@ -96,14 +96,14 @@ pub fn made<N: Namer<TreeKey> + Send + Sync, G: Gate + Sync, R: Abort + Threads 
     namer: N,
     budget: u64,
     gate: &G,
-    store: &Arc<CsgStore>,
+    store: &NamedStore,
     count: u8,
 ) -> (
     Result<Arc<Solid>, TreeStop>,
     Result<Arc<Solid>, TreeStop>,
     Tally,
 ) {
-    assert!(rt; store.len() > 0);
+    assert!(rt; store.store().len() > 0);
     assert!(rt; 1 <= count && count <= 64);
     let core = MemoCore::new(alloc, SolidFit, namer, budget, 0).expect(rt, "memory");
     run::<N, Brand, Brand, Brand, Brand, G, R>(rt, alloc, core, Blanks::new(1), gate, store, count)
@@ -192,8 +192,8 @@ fn is_as_without_a_memo<R: Abort + Threads + Wait + Sync>(rt: &R, alloc: Global,
     requires { IsProper (formula_of tree.now) }
 {
     let store = store(rt, alloc, tree);
-    assert!(rt; store.len() > 0);
-    let alone = tree_solid(alloc, &store, &mut PlainBuilder::new());
+    assert!(rt; store.store().len() > 0);
+    let alone = tree_solid(alloc, store.store(), &mut PlainBuilder::new());
     for budget in [0, 500_000] {
         for count in [1, 8] {
             let (once, again, _tally) = made(rt, alloc, ShaNamer, budget, &OpenGate, &store, count);

@@ -1,6 +1,7 @@
 //! Exports of sources by what they mean, with solids that a memo may hold.
 
 ghost use Rattle.std.specs.Prelude.{◌≡◌, ◌+◌, ◌^◌, ◌<◌, ◌≤◌, All, length, IfOk};
+ghost use Rattle.std.specs.Arc.{arc_value};
 ghost use Rattle.csg_tree.specs.ProperTrees.{IsProper};
 ghost use Rattle.csg_tree.specs.Numberings.{nodes_of};
 ghost use Rattle.csg_tree.specs.Trees.{formula_of};
@@ -13,7 +14,7 @@ ghost use Rattle.script_server.specs.Clients.{ClientBooks, AreProbed, ExportsFor
 
 use crate::export::{reply, tree_of};
 use bsp_boolean::PlainBuilder;
-use csg_tree::{CsgTree, TreeKey};
+use csg_tree::{CsgStore, CsgTree, NamedStore, TreeKey};
 use memo_core::Namer;
 use parallel_eval::{Builds, Gate, solid_of};
 use plane_predicate::Unit;
@@ -21,20 +22,21 @@ use reply_text::{Exporting, Reply};
 use script_run::Exporter;
 use std::alloc::Global;
 use std::marker::Model;
-use std::sync::Wait;
 use std::sync::ledger::Ledger;
+use std::sync::{Arc, Wait};
 use std::thread::Threads;
 use subtree_memo::{Books, Ledgers, MemoLedger, Share};
 use text_place::{NoMemory, Stop};
 use tree_export::{Exported, export_made, last_nodes_are_trees, nodes_of_tree, solid_of_nothing};
 
-/// What one client has of its own: its share of the memo's books, how many builders it has, and how often a solid was
-/// asked for.
+/// What one client has of its own: its share of the memo's books, how many builders it has, how often a solid was
+/// asked for, and the store for which it was asked last.
 #[derive(Drop)]
 pub struct Client<B: Books> {
     share: Share<B>,
     workers: u64,
     asked: u32,
+    last: Option<NamedStore>,
 }
 
 impl<B: Books> Model for Client<B> {
@@ -83,6 +85,7 @@ impl<B: Books> Client<B> {
             share,
             workers,
             asked: 0,
+            last: None,
         }
     }
 
@@ -95,6 +98,21 @@ impl<B: Books> Client<B> {
         let Client { share, .. } = self;
         share
     }
+}
+
+// A store with the names of its joins, of which those of the last one are taken over.
+fn named(
+    alloc: Global,
+    last: &Option<NamedStore>,
+    store: Arc<CsgStore>,
+) -> Result<NamedStore, NoMemory>
+    ensures { IfOk result (λ named. named ≡ arc_value store) }
+{
+    let Some(last) = last else {
+        return NamedStore::new(alloc, store);
+    };
+    let numbers = store.numbers_in(alloc, last.store())?;
+    NamedStore::over(alloc, store, last, &numbers)
 }
 
 // The export of a tree for a client.
@@ -125,9 +143,10 @@ fn exported<
     let made = if store.len() == 0 {
         Ok(solid_of_nothing(builds.alloc)?)
     } else {
+        let store = named(builds.alloc, &client.last, store)?;
         let mut builders = builders(builds.alloc, client.workers)?;
         client.asked += 1;
-        solid_of(
+        let made = solid_of(
             builds.rt,
             builds.alloc,
             &store,
@@ -135,7 +154,9 @@ fn exported<
             &mut client.share,
             &mut builders,
             builds.gate,
-        )
+        );
+        client.last = Some(store);
+        made
     };
     export_made(builds.alloc, made, unit)
 }
