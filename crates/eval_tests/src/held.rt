@@ -6,9 +6,9 @@ ghost use Rattle.subtree_memo.specs.Shares.{IsOf, parts_each};
 
 use crate::stores::{builders, store};
 use crate::trees::two_shells;
-use csg_tree::{NamedStore, TreeKey};
+use csg_tree::TreeKey;
 use memo_core::MemoCore;
-use parallel_eval::{Gate, ShaNamer, SolidFit, solid_of};
+use parallel_eval::{Gate, KnownStore, ShaNamer, SolidFit, solid_of};
 use std::alloc::Global;
 use std::marker::Brand;
 use std::process::Abort;
@@ -95,11 +95,11 @@ fn make<
     alloc: Global,
     memo: &'a Memo<SolidFit, ShaNamer, Ledgers<H, M, K, E>>,
     key: &'a Arc<TreeKey>,
-    store: &NamedStore,
+    store: &mut KnownStore,
     mut share: Share<Ledgers<H, M, K, E>>,
     other: Share<Ledgers<H, M, K, E>>,
 ) -> (Share<Ledgers<H, M, K, E>>, Share<Ledgers<H, M, K, E>>)
-    requires some { 0 < length store.now }
+    requires some { 0 < length store.old }
     requires share { (share.parts ≡ parts_each) × (share.dropped ≡ 0) }
     requires other { other.parts ≡ parts_each }
     ensures share { result.0.parts ≡ parts_each }
@@ -137,14 +137,14 @@ fn run<
     alloc: Global,
     core: MemoCore<SolidFit, ShaNamer>,
     blanks: Blanks,
-    store: &NamedStore,
+    store: &mut KnownStore,
 ) -> Tally
     requires empty { core.journal ≡ [] }
     requires limits { (core.budget ≡ H.budget) × (core.share ≡ H.share) × (blanks.callers ≡ H.callers) }
     requires callers { blanks.callers ≡ 2 }
     requires ledgers { IsOf H.name H.parts blanks.hits × IsOf M.name M.parts blanks.misses
         × IsOf K.name K.parts blanks.kept × IsOf E.name E.parts blanks.heavy }
-    requires some { 0 < length store.now }
+    requires some { 0 < length store.old }
 {
     let last = store.key(store.store().len()).expect(rt, "memory");
     let key = Arc::new(alloc, last).expect(rt, "memory");
@@ -161,7 +161,7 @@ fn run<
 }
 
 // The same, for a caller that has no ledgers.
-fn held<R: Abort + Threads + Wait + Sync>(rt: &R, alloc: Global, store: &NamedStore) -> Tally {
+fn held<R: Abort + Threads + Wait + Sync>(rt: &R, alloc: Global, store: &mut KnownStore) -> Tally {
     assert!(rt; store.store().len() > 0);
     let core = MemoCore::new(alloc, SolidFit, ShaNamer, 500_000, 0).expect(rt, "memory");
     run::<Brand, Brand, Brand, Brand, R>(rt, alloc, core, Blanks::new(2), store)
@@ -172,8 +172,8 @@ fn held<R: Abort + Threads + Wait + Sync>(rt: &R, alloc: Global, store: &NamedSt
 #[test]
 fn two_builders_build_at_once(rt: HostRuntime) {
     let alloc = rt.alloc();
-    let store = store(&rt, alloc, &two_shells(&rt, alloc));
-    let tally = held(&rt, alloc, &store);
+    let mut store = store(&rt, alloc, &two_shells(&rt, alloc));
+    let tally = held(&rt, alloc, &mut store);
     assert_eq!(&rt; (tally.probes, tally.hits, tally.misses), (4, 0, 4));
     assert_eq!(&rt; (tally.offered, tally.kept), (3, 3));
 }

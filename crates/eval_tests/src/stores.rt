@@ -8,9 +8,9 @@ ghost use Rattle.subtree_memo.specs.Shares.{IsOf};
 use crate::trees::{combs, cuboids, pairs, plate_with_two_holes, slabs, two_shells};
 use bsp_boolean::{PlainBuilder, TreeStop, tree_solid};
 use bsp_tree::Solid;
-use csg_tree::{CsgStore, CsgTree, NamedStore, TreeKey};
+use csg_tree::{CsgStore, CsgTree, TreeKey};
 use memo_core::{MemoCore, Namer};
-use parallel_eval::{Gate, OpenGate, ShaNamer, SolidFit, solid_of};
+use parallel_eval::{Gate, KnownStore, OpenGate, ShaNamer, SolidFit, solid_of};
 use std::alloc::Global;
 use std::marker::Brand;
 use std::process::Abort;
@@ -25,13 +25,13 @@ const NUMBERS: [u8; 4] = [1, 2, 8, 64];
 // The budgets of a memo that keeps nothing, little and all.
 const BUDGETS: [u64; 3] = [0, 100, 2_000_000];
 
-// The nodes of a tree, with the names of its joins.
-pub fn store(rt: &impl Abort, alloc: Global, tree: &CsgTree) -> NamedStore
+// The nodes of a tree, of which no solid is known.
+pub fn store(rt: &impl Abort, alloc: Global, tree: &CsgTree) -> KnownStore
     requires { IsProper (formula_of tree.now) }
 {
     let store = CsgStore::intern(alloc, tree).expect(rt, "memory");
     let store = Arc::new(alloc, store).expect(rt, "memory");
-    NamedStore::new(alloc, store).expect(rt, "memory")
+    KnownStore::new(alloc, store).expect(rt, "memory")
 }
 
 // So many builders that have built nothing.
@@ -61,7 +61,7 @@ fn run<
     core: MemoCore<SolidFit, N>,
     blanks: Blanks,
     gate: &G,
-    store: &NamedStore,
+    store: &mut KnownStore,
     count: u8,
 ) -> (
     Result<Arc<Solid>, TreeStop>,
@@ -73,7 +73,7 @@ fn run<
     requires callers { blanks.callers ≡ 1 }
     requires ledgers { IsOf H.name H.parts blanks.hits × IsOf M.name M.parts blanks.misses
         × IsOf K.name K.parts blanks.kept × IsOf E.name E.parts blanks.heavy }
-    requires some { 0 < length store.now }
+    requires some { 0 < length store.old }
     requires builders { (1 ≤ count) × (count ≤ 64) }
 {
     let (memo, mut shares) = Memo::<SolidFit, N, Ledgers<H, M, K, E>>::open(
@@ -96,7 +96,7 @@ pub fn made<N: Namer<TreeKey> + Send + Sync, G: Gate + Sync, R: Abort + Threads 
     namer: N,
     budget: u64,
     gate: &G,
-    store: &NamedStore,
+    store: &mut KnownStore,
     count: u8,
 ) -> (
     Result<Arc<Solid>, TreeStop>,
@@ -121,10 +121,10 @@ fn has_size<R: Abort + Threads + Wait + Sync>(
 )
     requires { IsProper (formula_of tree.now) }
 {
-    let store = store(rt, alloc, tree);
+    let mut store = store(rt, alloc, tree);
     for budget in BUDGETS {
         for count in NUMBERS {
-            let (once, again, tally) = made(rt, alloc, ShaNamer, budget, &OpenGate, &store, count);
+            let (once, again, tally) = made(rt, alloc, ShaNamer, budget, &OpenGate, &mut store, count);
             assert_eq!(rt; once.expect(rt, "a solid").count(), size);
             assert_eq!(rt; again.expect(rt, "a solid").count(), size);
             assert_eq!(rt; tally.probes / 2, joins);
@@ -157,10 +157,10 @@ fn stops<R: Abort + Threads + Wait + Sync>(
 )
     requires { IsProper (formula_of tree.now) }
 {
-    let store = store(rt, alloc, tree);
+    let mut store = store(rt, alloc, tree);
     for budget in [0, 2_000_000] {
         for count in NUMBERS {
-            let (once, again, _tally) = made(rt, alloc, ShaNamer, budget, &OpenGate, &store, count);
+            let (once, again, _tally) = made(rt, alloc, ShaNamer, budget, &OpenGate, &mut store, count);
             assert_eq!(rt; stopped(once), wanted);
             assert_eq!(rt; stopped(again), wanted);
         }
@@ -191,12 +191,12 @@ fn end_alike(alone: &Result<Solid, TreeStop>, shared: &Result<Arc<Solid>, TreeSt
 fn is_as_without_a_memo<R: Abort + Threads + Wait + Sync>(rt: &R, alloc: Global, tree: &CsgTree)
     requires { IsProper (formula_of tree.now) }
 {
-    let store = store(rt, alloc, tree);
+    let mut store = store(rt, alloc, tree);
     assert!(rt; store.store().len() > 0);
     let alone = tree_solid(alloc, store.store(), &mut PlainBuilder::new());
     for budget in [0, 500_000] {
         for count in [1, 8] {
-            let (once, again, _tally) = made(rt, alloc, ShaNamer, budget, &OpenGate, &store, count);
+            let (once, again, _tally) = made(rt, alloc, ShaNamer, budget, &OpenGate, &mut store, count);
             assert!(rt; end_alike(&alone, &once));
             assert!(rt; end_alike(&alone, &again));
         }

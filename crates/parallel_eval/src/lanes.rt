@@ -3,6 +3,7 @@
 ghost use Rattle.std.specs.Prelude.{◌≡◌, ◌+◌, ◌-◌, ◌<◌, ◌≤◌, IfOk, IsOk, length, All};
 ghost use Rattle.std.specs.Arc.{arc_value};
 ghost use Rattle.plane_predicate.specs.Space.{ComesInReach};
+ghost use Rattle.csg_tree.specs.Formulas.{leaf};
 ghost use Rattle.csg_tree.specs.Numberings.{tree_numbered, IsNumberIn};
 ghost use Rattle.bsp_tree.specs.Shapes.{tree_of};
 ghost use Rattle.bsp_boolean.specs.Solids.{solid_of, convex};
@@ -12,12 +13,13 @@ ghost use Rattle.parallel_eval.specs.Runs.{joins_to, IsRunWork, IsRunNode, IsOut
 use crate::gate::Gate;
 use crate::growth::Outcome;
 use crate::join_solids::{Builds, JoinNode};
+use crate::known_store::KnownStore;
 use crate::lane::Lane;
 use crate::limits::MOST_OF_ONE;
 use crate::solid_fit::SolidFit;
 use bsp_boolean::{BuildStop, Builder, leaf_solid, one_tree_more};
 use bsp_tree::Solid;
-use csg_tree::{CsgNode, NamedStore, TreeKey};
+use csg_tree::{CsgNode, TreeKey};
 use memo_core::Namer;
 use pair_work::PairWork;
 use plane_predicate::Plane;
@@ -29,7 +31,7 @@ use text_place::NoMemory;
 #[derive(Drop)]
 pub struct RunWork<'a, 'b, N: Namer<TreeKey>, B: Books, G: Gate, R: Wait> {
     pub builds: Builds<'a, N, B, G, R>,
-    pub store: &'a NamedStore,
+    pub store: &'a KnownStore,
     pub start: u32,
     pub solids: &'a [Arc<Solid>],
     pub nodes: &'a [CsgNode<'b>],
@@ -105,7 +107,7 @@ impl<'a, 'b, N: Namer<TreeKey>, B: Books, G: Gate, R: Wait> RunWork<'a, 'b, N, B
     {
         one_tree_more();
         match self.node(number) {
-            CsgNode::Leaf(planes) => self.leaf(planes),
+            CsgNode::Leaf(planes) => self.leaf(number, planes),
             CsgNode::Join(op, left, right) => {
                 let key = self.key(number)?;
                 let first = self.solid(left);
@@ -150,12 +152,17 @@ impl<'a, 'b, N: Namer<TreeKey>, B: Books, G: Gate, R: Wait> RunWork<'a, 'b, N, B
         Ok(Arc::new(self.builds.alloc, key)?)
     }
 
-    // The solid of a leaf.
-    fn leaf(&self, planes: &[Plane]) -> Result<Arc<Solid>, BuildStop>
+    // The solid of a leaf, which may be known.
+    fn leaf(&self, number: u32, planes: &[Plane]) -> Result<Arc<Solid>, BuildStop>
+        requires number { IsNumberIn self.now.store.now number }
+        requires leaf { tree_numbered self.now.store.now number ≡ leaf planes.now }
         requires some { 0 < length planes.now }
         requires reach { All ComesInReach planes.now }
         ensures { Gives (convex planes.now) result }
     {
+        if let Some(known) = self.store.leaf(number)? {
+            return Ok(known);
+        }
         let solid = leaf_solid(self.builds.alloc, planes, MOST_OF_ONE)?;
         Ok(self.to_share(solid)?)
     }

@@ -1,24 +1,25 @@
 //! The solid of a store, in runs of nodes that are divided among builders.
 
-ghost use Rattle.std.specs.Prelude.{◌≡◌, ◌+◌, ◌-◌, ◌^◌, ◌<◌, ◌≤◌, [], length, sum_by, IfOk, IfErr, IsOk, OnOk, OnErr};
+ghost use Rattle.std.specs.Prelude.{◌≡◌, ◌+◌, ◌-◌, ◌^◌, ◌<◌, ◌≤◌, [], length, sum_by, map, IfOk, IfErr, IsOk, OnOk, OnErr};
 ghost use Rattle.std.specs.Arc.{arc_value};
 ghost use Rattle.csg_tree.specs.Numberings.{tree_numbered};
 ghost use Rattle.bsp_tree.specs.Shapes.{tree_of};
 ghost use Rattle.bsp_boolean.specs.Solids as solids;
 ghost use Rattle.bsp_boolean.specs.TreeSolids.{joins, AreWithin, IsTreeStop};
 ghost use Rattle.parallel_eval.specs.Joins.{AreAtMost, AreReady, AreAsked};
-ghost use Rattle.parallel_eval.specs.Runs.{joins_to, IsGrowing, IsRunWork, AreFreshLanes, AreEven, AreLanes, AreComplete, AreOfCaller, with_lanes};
+ghost use Rattle.parallel_eval.specs.Runs.{joins_to, IsGrowing, IsRunWork, AreFreshLanes, AreEven, AreLanes, AreComplete, AreOfCaller, with_lanes, shared_solids};
 
 use crate::gate::Gate;
 use crate::growth::Growth;
 use crate::join_solids::Builds;
+use crate::known_store::KnownStore;
 use crate::lane::Lane;
 use crate::lanes::RunWork;
 use crate::node_runs::run_nodes;
 use crate::solid_fit::SolidFit;
 use bsp_boolean::{Builder, TreeStop as EvalStop, one_tree_more};
 use bsp_tree::Solid;
-use csg_tree::{NamedStore, TreeKey};
+use csg_tree::TreeKey;
 use memo_core::Namer;
 use pair_work::work_each;
 use std::alloc::Global;
@@ -144,7 +145,7 @@ fn run<
     R: Threads + Wait + Sync,
 >(
     builds: &Builds<'_, N, Ledgers<H, M, K, E>, G, R>,
-    store: &NamedStore,
+    store: &KnownStore,
     before: u32,
     growth: &mut Growth<'_>,
     share: &mut Share<Ledgers<H, M, K, E>>,
@@ -183,12 +184,8 @@ fn run<
     Ok(last)
 }
 
-/// The solid of the last node of a store, for 1 to 64 builders. Nodes are done in order of number, in runs
-/// of at most 64 of which none is over another; the nodes of a run are divided evenly among the builders,
-/// which work at the same time. Each join is asked of the memo; where it was missed, it is built and
-/// offered. A leaf is made without the memo. `TooBig` and `SumTooBig` come exactly at the first node that
-/// passes a limit.
-pub fn solid_of<
+// The solids of all nodes of a store, in order of number.
+fn solids_of<
     N: Namer<TreeKey> + Send + Sync,
     H: MemoLedger + Send + Sync,
     M: Ledger + Send + Sync,
@@ -200,16 +197,15 @@ pub fn solid_of<
 >(
     rt: &R,
     alloc: Global,
-    store: &NamedStore,
+    store: &KnownStore,
     memo: &Memo<SolidFit, N, Ledgers<H, M, K, E>>,
     share: &mut Share<Ledgers<H, M, K, E>>,
     builders: &mut [D],
     gate: &G,
-) -> Result<Arc<Solid>, EvalStop>
+) -> Result<Vec<Arc<Solid>>, EvalStop>
     requires some { 0 < length store.now }
     requires ready { AreReady D.builds 0 share.old builders.old }
-    ensures solid { IfOk result (λ s. tree_of (arc_value s) ≡
-        solids.solid_of (tree_numbered store.now (length store.now))) }
+    ensures solids { IfOk result (λ v. shared_solids v.items ≡ map solids.solid_of store.now) }
     ensures within { OnOk result (AreWithin store.now) }
     ensures stop { IfErr result (IsTreeStop store.now) }
     ensures asked { AreAsked (IsOk result) 0 (joins store.now)
@@ -233,5 +229,44 @@ pub fn solid_of<
     while done < nodes.len() {
         done = run(&builds, store, done, &mut growth, share, builders)?;
     }
-    Ok(growth.solids.pop().unwrap())
+    Ok(growth.solids)
+}
+
+/// The solid of the last node of a store, for 1 to 64 builders. Nodes are done in order of number, in runs
+/// of at most 64 of which none is over another; the nodes of a run are divided evenly among the builders,
+/// which work at the same time. Each join is asked of the memo; where it was missed, it is built and
+/// offered. A leaf whose solid the store does not know is made without the memo; afterwards the store knows
+/// the solids of its leaves, as far as 2 MiB go. `TooBig` and `SumTooBig` come exactly at the first node that
+/// passes a limit.
+pub fn solid_of<
+    N: Namer<TreeKey> + Send + Sync,
+    H: MemoLedger + Send + Sync,
+    M: Ledger + Send + Sync,
+    K: Ledger + Send + Sync,
+    E: Ledger + Send + Sync,
+    D: Builder + Send,
+    G: Gate + Sync,
+    R: Threads + Wait + Sync,
+>(
+    rt: &R,
+    alloc: Global,
+    store: &mut KnownStore,
+    memo: &Memo<SolidFit, N, Ledgers<H, M, K, E>>,
+    share: &mut Share<Ledgers<H, M, K, E>>,
+    builders: &mut [D],
+    gate: &G,
+) -> Result<Arc<Solid>, EvalStop>
+    requires some { 0 < length store.old }
+    requires ready { AreReady D.builds 0 share.old builders.old }
+    ensures solid { IfOk result (λ s. tree_of (arc_value s) ≡ solids.solid_of (tree_numbered store.old (length store.old))) }
+    ensures within { OnOk result (AreWithin store.old) }
+    ensures stop { IfErr result (IsTreeStop store.old) }
+    ensures asked { AreAsked (IsOk result) 0 (joins store.old)
+        share.old share.new (sum_by D.builds builders.old) (sum_by D.builds builders.new) }
+    ensures few { joins store.old < 2 ^ 32 }
+    ensures store { store.new ≡ store.old }
+{
+    let mut solids = solids_of(rt, alloc, store, memo, share, builders, gate)?;
+    store.keep(alloc, &solids);
+    Ok(solids.pop().unwrap())
 }

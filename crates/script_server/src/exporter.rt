@@ -14,9 +14,9 @@ ghost use Rattle.script_server.specs.Clients.{ClientBooks, AreProbed, ExportsFor
 
 use crate::export::{reply, tree_of};
 use bsp_boolean::PlainBuilder;
-use csg_tree::{CsgStore, CsgTree, NamedStore, TreeKey};
+use csg_tree::{CsgStore, CsgTree, TreeKey};
 use memo_core::Namer;
-use parallel_eval::{Builds, Gate, solid_of};
+use parallel_eval::{Builds, Gate, KnownStore, solid_of};
 use plane_predicate::Unit;
 use reply_text::{Exporting, Reply};
 use script_run::Exporter;
@@ -36,7 +36,7 @@ pub struct Client<B: Books> {
     share: Share<B>,
     workers: u64,
     asked: u32,
-    last: Option<NamedStore>,
+    last: Option<KnownStore>,
 }
 
 impl<B: Books> Model for Client<B> {
@@ -100,19 +100,18 @@ impl<B: Books> Client<B> {
     }
 }
 
-// A store with the names of its joins, of which those of the last one are taken over.
-fn named(
+// A store with what the last one knows of it.
+fn known(
     alloc: Global,
-    last: &Option<NamedStore>,
+    last: &Option<KnownStore>,
     store: Arc<CsgStore>,
-) -> Result<NamedStore, NoMemory>
-    ensures { IfOk result (λ named. named ≡ arc_value store) }
+) -> Result<KnownStore, NoMemory>
+    ensures { IfOk result (λ known. known ≡ arc_value store) }
 {
-    let Some(last) = last else {
-        return NamedStore::new(alloc, store);
-    };
-    let numbers = store.numbers_in(alloc, last.store())?;
-    NamedStore::over(alloc, store, last, &numbers)
+    match last {
+        Some(last) => KnownStore::over(alloc, store, last),
+        None => KnownStore::new(alloc, store),
+    }
 }
 
 // The export of a tree for a client.
@@ -143,13 +142,13 @@ fn exported<
     let made = if store.len() == 0 {
         Ok(solid_of_nothing(builds.alloc)?)
     } else {
-        let store = named(builds.alloc, &client.last, store)?;
+        let mut store = known(builds.alloc, &client.last, store)?;
         let mut builders = builders(builds.alloc, client.workers)?;
         client.asked += 1;
         let made = solid_of(
             builds.rt,
             builds.alloc,
-            &store,
+            &mut store,
             builds.memo,
             &mut client.share,
             &mut builders,

@@ -2,7 +2,7 @@ use Rattle.std.proofs.Common.{◌-◌, length, sum_by}
 use Rattle.std.specs.Arc.{arc_value}
 use Rattle.parallel_eval.specs.Joins.{AreReady, AreAsked}
 use Rattle.parallel_eval.specs.Runs.{joins_to, IsGrowing}
-use Rattle.parallel_eval.proofs.store_solids.solid_of.Given as goal
+use Rattle.parallel_eval.proofs.store_solids.solids_of.Given as goal
 
 -- the first nodes have their solids, and their joins were answered
 abbrev pub invariant-loop-done : goal.invariant-loop-done
