@@ -13,7 +13,7 @@ use std::sync::Arc;
 use text_place::NoMemory;
 
 /// A tree as a key: a shared store with the number of a node, which contracts see as the node's
-/// tree. A key keeps the SHA-256 of the tree's bytes, which is made with the key.
+/// tree. A key keeps the SHA-256 of the tree's bytes.
 #[derive(Drop)]
 pub struct TreeKey {
     store: Arc<CsgStore>,
@@ -39,7 +39,8 @@ impl Model for TreeKey {
 }
 
 impl TreeKey {
-    /// The key of a node of a store. `NoMemory` is a store that cannot be shared once more.
+    /// The key of a node of a store, whose name is made with it. `NoMemory` is a store that cannot be shared
+    /// once more.
     pub fn of(store: &Arc<CsgStore>, number: u32) -> Result<TreeKey, NoMemory>
         requires { IsNumberIn (arc_value store.now) number }
         ensures { IfOk result (λ key. key ≡ tree_numbered (arc_value store.now) number) }
