@@ -1,12 +1,14 @@
 -- What is known of the trees of a store, one more at a time.
 use Rattle.std.proofs.Common.{◌≡◌, ◌⊎◌, ℕ, ◌+◌, ◌-◌, ◌<◌, ◌≤◌, List, [], ◌∷◌, ◌++◌, length, map, get_or, sym, ap, subst, ◌∙◌, inl, inr, arith, Option, Some, None}
+use Rattle.std.specs.Prelude.{IfSome}
 use Rattle.std.specs.Arc.{arc_value}
 use Rattle.std.specs.declared.sync.Arc.{Arc}
 use Rattle.std.proofs.lemmas.Bool.{cases_lt}
-use Rattle.std.proofs.lemmas.List.{length-map, length_push, get_or_push, get_or_append_left, get_or-map}
+use Rattle.std.proofs.lemmas.List.{length-map, length_push, get_or_push, get_or_append_left, get_or_default, get_or-map}
 use Rattle.std.proofs.lemmas.List.Elements.{All-get_or}
 use Rattle.csg_tree.specs.Formulas.{Formula, nothing}
 use Rattle.csg_tree.specs.Numberings.{tree_numbered, IsNumberIn}
+use Rattle.csg_tree.specs.Earlier.{IsNumberOf, AreAllNumbersIn}
 use Rattle.bsp_tree.specs.Shapes.{SolidParts, tree_of}
 use Rattle.bsp_tree.specs.Trees.{outside}
 use Rattle.bsp_boolean.specs.Solids.{solid_of}
@@ -49,3 +51,17 @@ module _ {Z : Type 0} where
             ∙ ap solid_of tree,
         subst (λ (t : Formula). solid_size t ≤ most_of_one) tree (All-get_or (λ tree. solid_size tree ≤ most_of_one) trees k nothing h within.each),
       )
+
+-- the number that was found for a tree
+pub number_at : (earlier trees : List Formula) (numbers : List (Option ℕ)) (k : ℕ) (number : Option ℕ) → AreAllNumbersIn earlier trees numbers →
+    k < length trees → number ≡ get_or numbers k number → IsNumberOf earlier (tree_numbered trees (k + 1)) number
+number_at earlier trees numbers k number all h e =
+    let many : length numbers ≡ length trees = all.many in
+    let place : k + 1 - 1 ≡ k = omega arith in
+    subst (IsNumberOf earlier (tree_numbered trees (k + 1)))
+    (ap (λ (i : ℕ). get_or numbers i None) place ∙ get_or_default numbers k None number (omega (arith, h, many)) ∙ sym e)
+    (all.same (k + 1) (omega arith, omega (arith, h, many)))
+
+pub number_within : (earlier : List Formula) (tree : Formula) (number : Option ℕ) → IsNumberOf earlier tree number → IfSome number (IsNumberIn earlier)
+number_within earlier tree None is = tt
+number_within earlier tree (Some n) is = is.0

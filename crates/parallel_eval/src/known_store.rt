@@ -1,8 +1,8 @@
 //! Stores with what is known of them from earlier ones.
 
-ghost use Rattle.std.specs.Prelude.{◌≡◌, map, length, IfOk};
+ghost use Rattle.std.specs.Prelude.{◌≡◌, map, Some, IfSome, IfOk};
 ghost use Rattle.std.specs.Arc.{arc_value};
-ghost use Rattle.csg_tree.specs.Earlier.{IsNumberOf, AreAllNumbersIn};
+ghost use Rattle.csg_tree.specs.Earlier.{IsNumberOf};
 ghost use Rattle.csg_tree.specs.Formulas.{Formula};
 ghost use Rattle.csg_tree.specs.Numberings.{tree_numbered, IsNumberIn};
 ghost use Rattle.bsp_boolean.specs.Solids.{solid_of};
@@ -67,8 +67,9 @@ impl KnownStore {
     {
         let numbers = store.numbers_in(alloc, earlier.store())?;
         let mut leaves = Vec::new(alloc);
-        for number in &numbers {
-            leaves.push(earlier.leaf_in(*number)?)?;
+        for before in 0..store.len() {
+            let leaf = earlier.leaf_in(numbers[before as usize])?;
+            leaves.push(leaf)?;
         }
         let named = NamedStore::over(alloc, store, &earlier.named, &numbers)?;
         Ok(KnownStore { named, leaves })
@@ -102,6 +103,7 @@ impl KnownStore {
 
     /// The solid of a tree by its number here, where it has one and the solid is known.
     fn leaf_in(&self, number: Option<u32>) -> Result<Option<Arc<Solid>>, NoMemory>
+        requires { IfSome number (IsNumberIn self.now) }
         ensures { (tree : Formula) → IsNumberOf self.now tree number → IfOk result (IsKnown tree) }
     {
         match number {

@@ -1,5 +1,4 @@
 use Rattle.std.proofs.Common.{◌≡◌, ◌+◌, ◌-◌, ◌*◌, ◌≤◌, ◌<◌, All, length, vec_len, vec_capacity}
-use Rattle.parallel_eval.specs.declared.lane.Lane.{Lane}
 use Rattle.parallel_eval.specs.Runs.{AreFreshLanes}
 use Rattle.parallel_eval.proofs.store_solids.deal.Given as goal
 

@@ -1,5 +1,4 @@
 use Rattle.std.proofs.Common.{◌-◌, length, sum_by}
-use Rattle.std.specs.Arc.{arc_value}
 use Rattle.parallel_eval.specs.Joins.{AreReady, AreAsked}
 use Rattle.parallel_eval.specs.Runs.{joins_to, IsGrowing}
 use Rattle.parallel_eval.proofs.store_solids.solids_of.Given as goal

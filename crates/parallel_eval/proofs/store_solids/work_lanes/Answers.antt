@@ -1,5 +1,4 @@
 use Rattle.std.proofs.Common.{◌≡◌, ◌+◌, ◌^◌, ◌≤◌, ◌++◌, length, sum_by, ap, sym, subst, ◌∙◌, arith}
-use Rattle.std.specs.Arc.{arc_value}
 use Rattle.parallel_eval.specs.Joins.{AreAsked, AreAtMost}
 use Rattle.parallel_eval.specs.Runs.{joins_to, IsRunWork, AreFreshLanes, AreLanes, AreComplete, AreOfCaller, with_lanes}
 use Rattle.parallel_eval.proofs.Dealt.{each_ready}

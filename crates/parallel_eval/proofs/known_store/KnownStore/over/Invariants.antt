@@ -3,8 +3,8 @@ use Rattle.std.specs.Arc.{arc_value}
 use Rattle.parallel_eval.specs.Known.{AreKnown}
 use Rattle.parallel_eval.proofs.known_store.KnownStore.over.Given as goal
 
-abbrev pub invariant-loop-number : goal.invariant-loop-number
-invariant-loop-number l = record {
-  count : length l.leaves.items ≡ l.number-index;
+abbrev pub invariant-loop-before : goal.invariant-loop-before
+invariant-loop-before l = record {
+  count : length l.leaves.items ≡ l.before;
   known : AreKnown (arc_value l.store) l.leaves.items;
 }

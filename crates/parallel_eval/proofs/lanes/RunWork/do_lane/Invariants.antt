@@ -1,4 +1,3 @@
-use Rattle.std.specs.Arc.{arc_value}
 use Rattle.parallel_eval.specs.Runs.{IsLaneAt}
 use Rattle.parallel_eval.proofs.lanes.RunWork.do_lane.Given as goal
 

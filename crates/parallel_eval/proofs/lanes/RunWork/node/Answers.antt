@@ -1,5 +1,4 @@
 use Rattle.std.proofs.Common.{◌≡◌, ◌+◌, ◌-◌, get_or, subst, arith}
-use Rattle.std.specs.Arc.{arc_value}
 use Rattle.parallel_eval.specs.Runs.{IsRunNode}
 use Rattle.parallel_eval.proofs.Running.{run_at}
 use Rattle.parallel_eval.proofs.lanes.RunWork.node.Goals as goal

@@ -1,5 +1,4 @@
 use Rattle.std.proofs.Common.{ap, ◌∙◌}
-use Rattle.std.specs.Arc.{arc_value}
 use Rattle.bsp_tree.specs.Shapes.{tree_of}
 use Rattle.parallel_eval.proofs.Running.{solid_at}
 use Rattle.parallel_eval.proofs.lanes.RunWork.solid.Goals as goal
