@@ -63,11 +63,11 @@ fn sizes<N: Namer<TreeKey> + Send + Sync, R: Abort + Threads + Wait + Sync>(
     entries: u32,
     budget: u64,
 ) -> (Option<u64>, Option<u64>) {
-    let store = store(rt, alloc, &plate_with_two_holes(rt, alloc));
+    let mut store = store(rt, alloc, &plate_with_two_holes(rt, alloc));
     let gate = Refusing {
         left: Mutex::new(entries),
     };
-    let (once, again, _tally) = made(rt, alloc, namer, budget, &gate, &store, 1);
+    let (once, again, _tally) = made(rt, alloc, namer, budget, &gate, &mut store, 1);
     (size_of(rt, once), size_of(rt, again))
 }
 
@@ -78,8 +78,8 @@ fn counted<N: Namer<TreeKey> + Send + Sync, R: Abort + Threads + Wait + Sync>(
     namer: N,
     budget: u64,
 ) -> Tally {
-    let store = store(rt, alloc, &plate_with_two_holes(rt, alloc));
-    let (_once, _again, tally) = made(rt, alloc, namer, budget, &OpenGate, &store, 1);
+    let mut store = store(rt, alloc, &plate_with_two_holes(rt, alloc));
+    let (_once, _again, tally) = made(rt, alloc, namer, budget, &OpenGate, &mut store, 1);
     tally
 }
 

@@ -1,6 +1,7 @@
 mod Books
 mod Dealt
 mod Divided
+mod Knowing
 mod Laned
 mod Running
 mod Steps

@@ -1,11 +1,12 @@
 //! Exports of sources by what they mean, with solids that a memo may hold.
 
 ghost use Rattle.std.specs.Prelude.{◌≡◌, ◌+◌, ◌^◌, ◌<◌, ◌≤◌, All, length, IfOk};
+ghost use Rattle.std.specs.Arc.{arc_value};
 ghost use Rattle.csg_tree.specs.ProperTrees.{IsProper};
 ghost use Rattle.csg_tree.specs.Numberings.{nodes_of};
 ghost use Rattle.csg_tree.specs.Trees.{formula_of};
 ghost use Rattle.bsp_boolean.specs.TreeSolids.{joins};
-ghost use Rattle.subtree_memo.specs.Shares.{parts_each};
+ghost use Rattle.subtree_memo.specs.Shares.{parts_each, offered_of};
 ghost use Rattle.reply_text.specs.Sums.{LacksNoSolid};
 ghost use Rattle.tree_export.specs.Exports.{IsExported, Bounds};
 ghost use Rattle.script_server.specs.Meaning.Exports.{reply_of};
@@ -13,33 +14,34 @@ ghost use Rattle.script_server.specs.Clients.{ClientBooks, AreProbed, ExportsFor
 
 use crate::export::{reply, tree_of};
 use bsp_boolean::PlainBuilder;
-use csg_tree::{CsgTree, TreeKey};
+use csg_tree::{CsgStore, CsgTree, TreeKey};
 use memo_core::Namer;
-use parallel_eval::{Builds, Gate};
+use parallel_eval::{Builds, Gate, KnownStore, solid_of};
 use plane_predicate::Unit;
 use reply_text::{Exporting, Reply};
 use script_run::Exporter;
 use std::alloc::Global;
 use std::marker::Model;
-use std::sync::Wait;
 use std::sync::ledger::Ledger;
+use std::sync::{Arc, Wait};
 use std::thread::Threads;
-use subtree_memo::{MemoLedger, Share};
+use subtree_memo::{Books, Ledgers, MemoLedger, Share};
 use text_place::{NoMemory, Stop};
 use tree_export::{Exported, export_made, last_nodes_are_trees, nodes_of_tree, solid_of_nothing};
 
-/// What one client has of its own: its share of the memo's books, how many builders it has, and how often a solid was
-/// asked for.
+/// What one client has of its own: its share of the memo's books, how many builders it has, how often a solid was
+/// asked for, and the store for which it was asked last.
 #[derive(Drop)]
-pub struct Client<H: Ledger, M: Ledger, K: Ledger, E: Ledger> {
-    share: Share<H, M, K, E>,
+pub struct Client<B: Books> {
+    share: Share<B>,
     workers: u64,
     asked: u32,
+    last: Option<KnownStore>,
 }
 
-impl<H: Ledger, M: Ledger, K: Ledger, E: Ledger> Model for Client<H, M, K, E> {
+impl<B: Books> Model for Client<B> {
     ghost use Rattle.std.specs.Prelude.{◌≡◌, ◌*◌, ◌^◌, ◌≤◌};
-    ghost use Rattle.subtree_memo.specs.Shares.{parts_each};
+    ghost use Rattle.subtree_memo.specs.Shares.{parts_each, offered_of};
     ghost use Rattle.script_server.specs.Clients.{ClientBooks};
 
     ghost Value = { ClientBooks };
@@ -47,7 +49,8 @@ impl<H: Ledger, M: Ledger, K: Ledger, E: Ledger> Model for Client<H, M, K, E> {
     ghost view = { λ c. record { asked = c.asked; share = c.share } };
 
     ghost invariant = { λ c. (1 ≤ c.workers) × (c.workers ≤ 64)
-        × (c.share.parts ≡ parts_each) × (c.share.dropped ≤ c.asked * 2 ^ 32) };
+        × (c.share.parts ≡ parts_each) × (c.share.dropped ≤ c.asked * 2 ^ 32)
+        × (offered_of c.share ≤ c.share.misses) };
 }
 
 /// What counts how often a solid was asked for, and has a share of a memo's books.
@@ -55,7 +58,7 @@ pub trait Booking {
     ghost books: { Self → ClientBooks };
 }
 
-impl<H: Ledger, M: Ledger, K: Ledger, E: Ledger> Booking for Client<H, M, K, E> {
+impl<B: Books> Booking for Client<B> {
     ghost books = { λ client. client };
 }
 
@@ -71,27 +74,43 @@ fn builders(alloc: Global, count: u64) -> Result<Vec<PlainBuilder>, NoMemory>
     Ok(builders)
 }
 
-impl<H: Ledger, M: Ledger, K: Ledger, E: Ledger> Client<H, M, K, E> {
-    /// A client for which no solid was asked yet, with 1 to 64 builders.
-    pub fn new(share: Share<H, M, K, E>, workers: u64) -> Self
+impl<B: Books> Client<B> {
+    /// A client for which no solid was asked yet, with 1 to 64 builders and a share on which no fill is booked.
+    pub fn new(share: Share<B>, workers: u64) -> Self
         requires workers { (1 ≤ workers) × (workers ≤ 64) }
-        requires share { (share.parts ≡ parts_each) × (share.dropped ≡ 0) }
+        requires share { (share.parts ≡ parts_each) × (offered_of share ≡ 0) }
         ensures { result ≡ record { asked = 0; share = share } }
     {
         Client {
             share,
             workers,
             asked: 0,
+            last: None,
         }
     }
 
     /// The client's share of the books.
-    pub fn into_share(self) -> Share<H, M, K, E>
+    pub fn into_share(self) -> Share<B>
         ensures share { result ≡ self.share }
         ensures whole { result.parts ≡ parts_each }
+        ensures offered { offered_of result ≤ result.misses }
     {
         let Client { share, .. } = self;
         share
+    }
+}
+
+// A store with what the last one knows of it.
+fn known(
+    alloc: Global,
+    last: &Option<KnownStore>,
+    store: Arc<CsgStore>,
+) -> Result<KnownStore, NoMemory>
+    ensures { IfOk result (λ known. known ≡ arc_value store) }
+{
+    match last {
+        Some(last) => KnownStore::over(alloc, store, last),
+        None => KnownStore::new(alloc, store),
     }
 }
 
@@ -106,8 +125,8 @@ fn exported<
     G: Gate + Sync,
     R: Threads + Wait + Sync,
 >(
-    builds: &Builds<'a, N, H, M, K, E, G, R>,
-    client: &mut Client<H, M, K, E>,
+    builds: &Builds<'a, N, Ledgers<H, M, K, E>, G, R>,
+    client: &mut Client<Ledgers<H, M, K, E>>,
     unit: Unit,
     tree: &CsgTree,
 ) -> Result<Exported, NoMemory>
@@ -123,9 +142,20 @@ fn exported<
     let made = if store.len() == 0 {
         Ok(solid_of_nothing(builds.alloc)?)
     } else {
+        let mut store = known(builds.alloc, &client.last, store)?;
         let mut builders = builders(builds.alloc, client.workers)?;
         client.asked += 1;
-        builds.solid_of(&store, &mut client.share, &mut builders)
+        let made = solid_of(
+            builds.rt,
+            builds.alloc,
+            &mut store,
+            builds.memo,
+            &mut client.share,
+            &mut builders,
+            builds.gate,
+        );
+        client.last = Some(store);
+        made
     };
     export_made(builds.alloc, made, unit)
 }
@@ -141,8 +171,8 @@ pub fn export_source<
     G: Gate + Sync,
     R: Threads + Wait + Sync,
 >(
-    builds: &Builds<'a, N, H, M, K, E, G, R>,
-    client: &mut Client<H, M, K, E>,
+    builds: &Builds<'a, N, Ledgers<H, M, K, E>, G, R>,
+    client: &mut Client<Ledgers<H, M, K, E>>,
     unit: Unit,
     source: &[u8],
 ) -> Result<Reply, NoMemory>

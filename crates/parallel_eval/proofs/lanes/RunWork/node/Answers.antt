@@ -1,12 +1,11 @@
 use Rattle.std.proofs.Common.{◌≡◌, ◌+◌, ◌-◌, get_or, subst, arith}
-use Rattle.std.specs.Arc.{arc_value}
 use Rattle.parallel_eval.specs.Runs.{IsRunNode}
 use Rattle.parallel_eval.proofs.Running.{run_at}
 use Rattle.parallel_eval.proofs.lanes.RunWork.node.Goals as goal
 
 pub returns : goal.returns
 returns g c =
-    let trees = arc_value c.args.self.now.store.now in
+    let trees = c.args.self.now.store.now in
     let start = c.args.self.now.start in
     let nodes = c.args.self.now.nodes.now in
     let node = c.index-self-number.result in
