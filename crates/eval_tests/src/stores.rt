@@ -140,7 +140,7 @@ fn has_size<R: Abort + Threads + Wait + Sync>(
 }
 
 // The node of the first number that is too big by itself, or else the one up to which all are.
-fn stopped(answer: Result<Arc<Solid>, TreeStop>) -> (u32, u32) {
+fn stopped<T: Drop>(answer: Result<T, TreeStop>) -> (u32, u32) {
     match answer {
         Ok(_) | Err(TreeStop::NoMemory) => (0, 0),
         Err(TreeStop::TooBig(number)) => (number, 0),
@@ -171,10 +171,7 @@ fn stops<R: Abort + Threads + Wait + Sync>(
 fn are_alike(one: &Solid, other: &Solid) -> bool {
     let (planes, forest, root) = one.parts();
     let (others, nodes, first) = other.parts();
-    planes == others
-        && forest.len() == nodes.len()
-        && root == first
-        && one.count() == other.count()
+    planes == others && forest.len() == nodes.len() && root == first && one.count() == other.count()
 }
 
 // Whether a store's solid, or what stops it, is the same as without a memo.
@@ -188,31 +185,34 @@ fn end_alike(alone: &Result<Solid, TreeStop>, shared: &Result<Arc<Solid>, TreeSt
 }
 
 // By any number of builders and any memo, a store has the solid, or the stop, that it has without a memo.
-fn is_as_without_a_memo<R: Abort + Threads + Wait + Sync>(rt: &R, alloc: Global, tree: &CsgTree)
+// Answers that stop.
+fn ends_as_alone<R: Abort + Threads + Wait + Sync>(
+    rt: &R,
+    alloc: Global,
+    tree: &CsgTree,
+) -> (u32, u32)
     requires { IsProper (formula_of tree.now) }
 {
     let mut store = store(rt, alloc, tree);
     assert!(rt; store.store().len() > 0);
     let alone = tree_solid(alloc, store.store(), &mut PlainBuilder::new());
-    for budget in [0, 500_000] {
-        for count in [1, 8] {
-            let (once, again, _tally) = made(rt, alloc, ShaNamer, budget, &OpenGate, &mut store, count);
-            assert!(rt; end_alike(&alone, &once));
-            assert!(rt; end_alike(&alone, &again));
-        }
+    for (budget, count) in [(0, 1), (0, 8), (500_000, 1), (500_000, 8)] {
+        let (once, again, _tally) = made(rt, alloc, ShaNamer, budget, &OpenGate, &mut store, count);
+        assert!(rt; end_alike(&alone, &once));
+        assert!(rt; end_alike(&alone, &again));
     }
+    stopped(alone)
 }
 
 #[test]
 fn solids_are_those_without_a_memo(rt: HostRuntime) {
     let alloc = rt.alloc();
-    is_as_without_a_memo(&rt, alloc, &slabs(&rt, alloc, 0, 1));
-    is_as_without_a_memo(&rt, alloc, &slabs(&rt, alloc, 2, 40));
-    is_as_without_a_memo(&rt, alloc, &slabs(&rt, alloc, 0, 315));
-    is_as_without_a_memo(&rt, alloc, &pairs(&rt, alloc, 1, 70));
-    is_as_without_a_memo(&rt, alloc, &cuboids(&rt, alloc, 10, 9));
-    is_as_without_a_memo(&rt, alloc, &plate_with_two_holes(&rt, alloc));
-    is_as_without_a_memo(&rt, alloc, &two_shells(&rt, alloc));
+    ends_as_alone(&rt, alloc, &slabs(&rt, alloc, 0, 1));
+    ends_as_alone(&rt, alloc, &slabs(&rt, alloc, 2, 40));
+    ends_as_alone(&rt, alloc, &pairs(&rt, alloc, 1, 30));
+    ends_as_alone(&rt, alloc, &cuboids(&rt, alloc, 10, 9));
+    ends_as_alone(&rt, alloc, &plate_with_two_holes(&rt, alloc));
+    ends_as_alone(&rt, alloc, &two_shells(&rt, alloc));
 }
 
 // Combs of 30 slabs each meet in 27,000 cubes, at the last of 90 leaves and 89 joins.
@@ -220,8 +220,7 @@ fn solids_are_those_without_a_memo(rt: HostRuntime) {
 fn combs_stop_as_without_a_memo(rt: HostRuntime) {
     let alloc = rt.alloc();
     let tree = combs(&rt, alloc, 30);
-    stops(&rt, alloc, &tree, (179, 0));
-    is_as_without_a_memo(&rt, alloc, &tree);
+    assert_eq!(&rt; ends_as_alone(&rt, alloc, &tree), (179, 0));
 }
 
 // A union of k slabs is 10 k in size, and has k leaves and k - 1 joins.

@@ -165,7 +165,13 @@ pub fn combs(rt: &impl Abort, alloc: Global, count: u16) -> CsgTree
     let across = slabs(rt, alloc, 0, count);
     let along = slabs(rt, alloc, 1, count);
     let bars = joined(rt, alloc, Op::Intersection, across, along);
-    joined(rt, alloc, Op::Intersection, bars, slabs(rt, alloc, 2, count))
+    joined(
+        rt,
+        alloc,
+        Op::Intersection,
+        bars,
+        slabs(rt, alloc, 2, count),
+    )
 }
 
 // A cuboid along the axes, from its least corner to its greatest.
