@@ -124,7 +124,9 @@ fn has_size<R: Abort + Threads + Wait + Sync>(
     let mut store = store(rt, alloc, tree);
     for budget in BUDGETS {
         for count in NUMBERS {
-            let (once, again, tally) = made(rt, alloc, ShaNamer, budget, &OpenGate, &mut store, count);
+            let (once, again, tally) = made(
+                rt, alloc, ShaNamer, budget, &OpenGate, &mut store, count,
+            );
             assert_eq!(rt; once.expect(rt, "a solid").count(), size);
             assert_eq!(rt; again.expect(rt, "a solid").count(), size);
             assert_eq!(rt; tally.probes / 2, joins);
@@ -160,7 +162,9 @@ fn stops<R: Abort + Threads + Wait + Sync>(
     let mut store = store(rt, alloc, tree);
     for budget in [0, 2_000_000] {
         for count in NUMBERS {
-            let (once, again, _tally) = made(rt, alloc, ShaNamer, budget, &OpenGate, &mut store, count);
+            let (once, again, _tally) = made(
+                rt, alloc, ShaNamer, budget, &OpenGate, &mut store, count,
+            );
             assert_eq!(rt; stopped(once), wanted);
             assert_eq!(rt; stopped(again), wanted);
         }
