@@ -1,11 +1,13 @@
 //! Exports of sources by what they mean, with solids that a memo may hold.
 
-ghost use Rattle.std.specs.Prelude.{◌≡◌, ◌+◌, ◌^◌, ◌<◌, ◌≤◌, All, length, IfOk};
+ghost use Rattle.std.specs.Prelude.{◌≡◌, ◌+◌, ◌^◌, ◌<◌, ◌≤◌, All, length, IfOk, IfErr, OnOk};
 ghost use Rattle.std.specs.Arc.{arc_value};
 ghost use Rattle.csg_tree.specs.ProperTrees.{IsProper};
-ghost use Rattle.csg_tree.specs.Numberings.{nodes_of};
+ghost use Rattle.csg_tree.specs.Numberings.{nodes_of, tree_numbered};
 ghost use Rattle.csg_tree.specs.Trees.{formula_of};
-ghost use Rattle.bsp_boolean.specs.TreeSolids.{joins};
+ghost use Rattle.bsp_tree.specs.Shapes as shapes;
+ghost use Rattle.bsp_boolean.specs.Solids as solids;
+ghost use Rattle.bsp_boolean.specs.TreeSolids.{joins, AreWithin, IsTreeStop};
 ghost use Rattle.subtree_memo.specs.Shares.{parts_each, offered_of};
 ghost use Rattle.reply_text.specs.Sums.{LacksNoSolid};
 ghost use Rattle.tree_export.specs.Exports.{IsExported, Bounds};
@@ -14,9 +16,10 @@ ghost use Rattle.script_server.specs.Clients.{ClientBooks, AreProbed, ExportsFor
 
 use crate::export::{reply, tree_of};
 use bsp_boolean::PlainBuilder;
+use bsp_tree::Solid;
 use csg_tree::{CsgStore, CsgTree, TreeKey};
 use memo_core::Namer;
-use parallel_eval::{Builds, Gate, KnownStore, solid_of};
+use parallel_eval::{Builds, EvalStop, Gate, KnownStore, solid_of};
 use plane_predicate::Unit;
 use reply_text::{Exporting, Reply};
 use script_run::Exporter;
@@ -89,6 +92,13 @@ impl<B: Books> Client<B> {
         }
     }
 
+    // Keeps a store for the next export.
+    fn keep(&mut self, store: KnownStore)
+        ensures { self.new ≡ self.old }
+    {
+        self.last = Some(store);
+    }
+
     /// The client's share of the books.
     pub fn into_share(self) -> Share<B>
         ensures share { result ≡ self.share }
@@ -112,6 +122,46 @@ fn known(
         Some(last) => KnownStore::over(alloc, store, last),
         None => KnownStore::new(alloc, store),
     }
+}
+
+// The solid of a store for a client, which keeps the store for its next one.
+fn solid_for<
+    'a,
+    N: Namer<TreeKey> + Send + Sync,
+    H: MemoLedger + Send + Sync,
+    M: Ledger + Send + Sync,
+    K: Ledger + Send + Sync,
+    E: Ledger + Send + Sync,
+    G: Gate + Sync,
+    R: Threads + Wait + Sync,
+>(
+    builds: &Builds<'a, N, Ledgers<H, M, K, E>, G, R>,
+    client: &mut Client<Ledgers<H, M, K, E>>,
+    store: Arc<CsgStore>,
+) -> Result<Arc<Solid>, EvalStop>
+    requires some { 0 < length (arc_value store) }
+    requires few { client.old.asked < 8192 }
+    ensures solid { IfOk result (λ s. shapes.tree_of (arc_value s) ≡
+        solids.solid_of (tree_numbered (arc_value store) (length (arc_value store)))) }
+    ensures within { OnOk result (AreWithin (arc_value store)) }
+    ensures stop { IfErr result (IsTreeStop (arc_value store)) }
+    ensures probed { OnOk result (AreProbed (joins (arc_value store)) client.old.share client.new.share) }
+    ensures asked { client.new.asked ≤ client.old.asked + 1 }
+{
+    let mut store = known(builds.alloc, &client.last, store)?;
+    let mut builders = builders(builds.alloc, client.workers)?;
+    client.asked += 1;
+    let made = solid_of(
+        builds.rt,
+        builds.alloc,
+        &mut store,
+        builds.memo,
+        &mut client.share,
+        &mut builders,
+        builds.gate,
+    );
+    client.keep(store);
+    made
 }
 
 // The export of a tree for a client.
@@ -142,20 +192,7 @@ fn exported<
     let made = if store.len() == 0 {
         Ok(solid_of_nothing(builds.alloc)?)
     } else {
-        let mut store = known(builds.alloc, &client.last, store)?;
-        let mut builders = builders(builds.alloc, client.workers)?;
-        client.asked += 1;
-        let made = solid_of(
-            builds.rt,
-            builds.alloc,
-            &mut store,
-            builds.memo,
-            &mut client.share,
-            &mut builders,
-            builds.gate,
-        );
-        client.last = Some(store);
-        made
+        solid_for(builds, client, store)
     };
     export_made(builds.alloc, made, unit)
 }
