@@ -1,10 +1,10 @@
 -- What a legal log says of its claims.
-use Rattle.std.proofs.Common.{◌≡◌, ℕ, ◌<◌, ◌≤◌, Bool, true, false, ◌||◌, List, [], ◌∷◌, ◌++◌, All, nat_eq, refl, ap, sym, subst, ◌∙◌, arith, append_assoc, append-nil}
+use Rattle.std.proofs.Common.{◌≡◌, ℕ, zero, suc, ◌<◌, ◌≤◌, Bool, true, false, ◌||◌, List, [], ◌∷◌, ◌++◌, take, All, nat_eq, refl, ap, sym, subst, ◌∙◌, arith, append_assoc, append-nil}
 use Rattle.std.proofs.lemmas.Bool.{eqb-true, ne_eqb}
 use Rattle.std.proofs.lemmas.List.Elements.{All-nil, All-push, All-head, All-tail, All-filter, All-weaker}
 use Rattle.std.proofs.lemmas.List.Kept.{AllPairs-filter}
 use Rattle.std.proofs.lemmas.List.Quantifiers.{all_pairs_push}
-use Rattle.flight_memo.specs.Claims.{Claim, Event, Begun, Ended, MayFollow, IsLegalBehind, IsLegalLog, NoKeyTwice, live_in, has_ended, is_live, is_other, begun_in}
+use Rattle.flight_memo.specs.Claims.{Claim, Event, Begun, Ended, MayFollow, IsLegalBehind, IsLegalLog, NoKeyTwice, IsSingle, live_in, has_ended, is_live, is_other, begun_in}
 use Rattle.flight_memo.proofs.Logs.{begun_more, has_ended_more, live_more, live_less}
 
 either : {P : Type 0} (a b : Bool) → (a || b) ≡ true → (a ≡ true → P) → (b ≡ true → P) → P
@@ -59,3 +59,12 @@ module _ {K : Type 0} where
 
   pub known_of_legal : (log : List (Event K)) → IsLegalLog log → Known log
   known_of_legal log legal = known_behind [] log (record { ahead = λ number far. refl; below = All-nil (λ c. c.number < 0); single = λ i j d lt few. absurd (omega (arith, few)) }) legal
+
+  -- a prefix of a legal log is legal
+  legal_take : (n : ℕ) (before log : List (Event K)) → IsLegalBehind before log → IsLegalBehind before (take n log)
+  legal_take zero before log legal = tt
+  legal_take (suc n) before [] legal = tt
+  legal_take (suc n) before (event ∷ log) legal = (legal.0, legal_take n (before ++ event ∷ []) log legal.1)
+
+  pub single_of_legal : (log : List (Event K)) → IsLegalLog log → IsSingle log
+  single_of_legal log legal = λ n. (known_of_legal (take n log) (legal_take n [] log legal)).single

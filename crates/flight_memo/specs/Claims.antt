@@ -1,5 +1,5 @@
 -- Claims of missing keys, and the log of how they began and ended.
-use Rattle.std.specs.Prelude.{◌≡◌, ℕ, Bool, true, false, not, List, [], ◌∷◌, ◌++◌, filter, flat_map, sum_by, nat_eq, All, if◌then◌else◌}
+use Rattle.std.specs.Prelude.{◌≡◌, ℕ, Bool, true, false, not, List, [], ◌∷◌, ◌++◌, filter, take, flat_map, sum_by, nat_eq, All, if◌then◌else◌}
 use Rattle.std.specs.List.{AllPairs, list_any}
 
 -- a claim: its number, whose it is, and of which key
@@ -8,7 +8,7 @@ pub record Claim (K : Type 0) : Type 0 where
   pub caller : ℕ
   pub key : K
 
--- what the log says: a claim began, or the one of this number ended, and whether with a fill
+-- what the log says: a claim began, or the one of this number ended, and whether by `finish`
 pub data Event (K : Type 0) : Type 0 where
   Begun : Claim K → Event K
   Ended : (number : ℕ) → (filled : Bool) → Event K
@@ -107,11 +107,15 @@ module _ {K : Type 0} where
   abbrev pub ended_log : Bool → ℕ → Bool → List (Event K) → List (Event K)
   ended_log live number filled log = if live then log ++ Ended number filled ∷ [] else log
 
-  -- What the claims of a memo say once it is closed: their log is legal and no key has two live claims, as many claims began
-  -- as there were misses, and so many ended.
+  -- at no moment of a log has a key two live claims
+  abbrev pub IsSingle : List (Event K) → Type 0
+  IsSingle log = (n : ℕ) → NoKeyTwice (live_in (take n log))
+
+  -- What the claims of a memo say once it is closed: their log is legal and no key ever had two live claims, as many claims
+  -- began as there were misses, and so many ended.
   pub record IsClosed (misses ends : ℕ) (view : View K) : Type 0 where
     pub legal : IsLegalLog view.log
     pub live : view.live ≡ live_in view.log
-    pub single : NoKeyTwice view.live
+    pub single : IsSingle view.log
     pub begun : begun_in view.log ≡ misses
     pub ended : ended_in view.log ≡ ends

@@ -1,6 +1,6 @@
 -- What contracts see of a caller's share of the books of a memo and its claims.
 use Rattle.std.specs.Prelude.{◌≡◌, ℕ, ◌+◌, ◌⊎◌, Bool, if◌then◌else◌, List, map, min, sum_by}
-use Rattle.subtree_memo.specs.Shares.{View, probe_booked, fresh, joined, parts_each, dropped_max}
+use Rattle.subtree_memo.specs.Shares.{View, probe_booked, fresh, joined, dropped_max}
 
 -- One caller's share: that of the memo's books, and how many claims ended on it. As many claims began on it as there were
 -- misses.
@@ -31,10 +31,6 @@ joined_flights a b = record { share = joined a.share b.share; ended = a.ended + 
 -- shares of a memo on which nothing is booked, with their claims
 abbrev pub opened_flights : List View → List FlightView
 opened_flights shares = map (λ s. record { share = s; ended = 0 }) shares
-
--- a share of a memo with the parts of one caller and no misses
-abbrev pub IsFreshShare : View → Type 0
-IsFreshShare s = (s.parts ≡ parts_each) × (s.misses ≡ 0)
 
 -- all shares put together: their parts, and what was booked on them
 pub record IsAllOf (shares : List FlightView) (all : FlightView) : Type 0 where

@@ -4,7 +4,7 @@ ghost use Rattle.std.specs.Prelude.{◌≡◌, ◌+◌, ◌≤◌, ◌<◌, [], 
 ghost use Rattle.std.specs.Arc.{arc_value};
 ghost use Rattle.std.specs.Bool.{Decides};
 ghost use Rattle.std.specs.List.{list_any};
-ghost use Rattle.flight_memo.specs.Claims.{Begun, Ended, IsFree, NoKeyTwice, IsLegalLog, live_in, begun_in, is_live, ended_log};
+ghost use Rattle.flight_memo.specs.Claims.{Begun, Ended, IsFree, IsSingle, IsLegalLog, live_in, begun_in, is_live, ended_log};
 ghost use Rattle.flight_memo.specs.Fields.{events_of, is_item, is_other_item};
 
 use memo_core::Fit;
@@ -21,7 +21,7 @@ pub struct LiveClaim<K> {
     pub key: Arc<K>,
 }
 
-/// What the log says: a claim began, or one ended, and whether its key was filled then.
+/// What the log says: a claim began, or one ended, and whether by `finish`, which fills its key where the memo keeps the value.
 #[derive(Drop)]
 pub enum LogItem<K> {
     Begun {
@@ -95,7 +95,7 @@ impl<F: Fit> Model for Claims<F> {
 
 impl<F: Fit> Claims<F> {
     /// No claims, and an empty log.
-    pub fn new(alloc: Global, fit: F) -> Claims<F>
+    pub(crate) fn new(alloc: Global, fit: F) -> Claims<F>
         ensures { (result.live ≡ []) × (result.log ≡ []) }
     {
         Claims {
@@ -106,18 +106,18 @@ impl<F: Fit> Claims<F> {
         }
     }
 
-    /// How claims began and ended so far. Takes no memory.
+    /// How claims began and ended so far: at no moment of it had a key two live claims. Takes no memory.
     pub fn log(&self) -> &[LogItem<F::Key>]
         ensures is { events_of result.now ≡ self.now.log }
         ensures legal { IsLegalLog self.now.log }
         ensures live { self.now.live ≡ live_in self.now.log }
-        ensures single { NoKeyTwice self.now.live }
+        ensures single { IsSingle self.now.log }
     {
         self.log.as_slice()
     }
 
     /// Whether no live claim has a key. Takes no memory.
-    pub fn is_free(&self, key: &F::Key) -> bool
+    pub(crate) fn is_free(&self, key: &F::Key) -> bool
         ensures { Decides result (IsFree key.now self.now.live) }
     {
         for claim in &self.live {
@@ -129,7 +129,7 @@ impl<F: Fit> Claims<F> {
     }
 
     /// Makes room for one claim more, and for its end.
-    pub fn room(&mut self) -> Result<(), NoMemory>
+    pub(crate) fn room(&mut self) -> Result<(), NoMemory>
         ensures room { OnOk result ((0 < self.new.places) × (length self.new.live + 2 ≤ self.new.spare)) }
         ensures live { self.new.live ≡ self.old.live }
         ensures log { self.new.log ≡ self.old.log }
@@ -140,7 +140,7 @@ impl<F: Fit> Claims<F> {
     }
 
     /// Begins a claim of a key that no live claim has, for which there is room.
-    pub fn begin(&mut self, caller: u32, copies: Copies<F::Key>) -> Claim<F::Key>
+    pub(crate) fn begin(&mut self, caller: u32, copies: Copies<F::Key>) -> Claim<F::Key>
         requires free { IsFree (arc_value copies.noted) self.old.live }
         requires room { (0 < self.old.places) × (length self.old.live + 2 ≤ self.old.spare) }
         ensures log { self.new.log ≡ self.old.log ++ Begun (record {
@@ -167,7 +167,7 @@ impl<F: Fit> Claims<F> {
     }
 
     /// Ends the claim of a number where it is live, and says whether it was. Takes no memory.
-    pub fn end(&mut self, number: u64, filled: bool) -> bool
+    pub(crate) fn end(&mut self, number: u64, filled: bool) -> bool
         ensures live { result ≡ is_live number self.old.live }
         ensures log { self.new.log ≡ ended_log result number filled self.old.log }
     {

@@ -26,7 +26,7 @@ pub struct Desk<F: Fit, B: FlightBooks> {
 }
 
 impl<F: Fit, B: FlightBooks> Desk<F, B> {
-    /// Asks the memo for a key that no live claim has, and claims it where it is missed; none where a live claim has the key.
+    /// Asks the memo for a key that no live claim has, and claims it where it is missed; none just where a live claim has the key.
     /// NoMemory books and claims nothing.
     pub fn try_claim<N: Namer<F::Key>, R: Wait>(
         &mut self,
@@ -41,6 +41,7 @@ impl<F: Fit, B: FlightBooks> Desk<F, B> {
         ensures free { IfOk result (λ c. IfSome c (λ d. IsFree (arc_value key.now) self.old.claims.live)) }
         ensures logged { IfOk result (λ c. IfSome c (IsLogged share.old.share.caller (arc_value key.now) self.old.claims.log self.new.claims.log)) }
         ensures none { IfOk result (λ c. IfNone c ((share.new ≡ share.old) × (self.new.claims.log ≡ self.old.claims.log))) }
+        ensures held { IfOk result (λ c. IfNone c (IsFree (arc_value key.now) self.old.claims.live → ⊥)) }
         ensures err { OnErr result ((share.new ≡ share.old) × (self.new.claims.log ≡ self.old.claims.log)) }
     {
         if !self.claims.is_free(&**key) {

@@ -33,8 +33,8 @@ pub struct Flight<F: Fit, N: Namer<F::Key>, B: FlightBooks> {
 }
 
 impl<F: Fit, N: Namer<F::Key>, B: FlightBooks> Flight<F, N, B> {
-    /// A memo with no claims, and its shares with those of the claims, which take nothing off them. The shares are all of this
-    /// memo's, and nothing is booked on any of them.
+    /// A memo with no claims yet, and its shares in their order, each with a share of the books of claims beside it. The shares
+    /// given are all of this memo's, and nothing is booked on any of them; the blanks are for as many callers as the memo has.
     pub fn open(
         alloc: Global,
         fit: F,
@@ -43,6 +43,7 @@ impl<F: Fit, N: Namer<F::Key>, B: FlightBooks> Flight<F, N, B> {
         blanks: FlightBlanks,
     ) -> Result<(Flight<F, N, B>, Vec<FlightShare<B>>), NoMemory>
         requires shares { shares.items ≡ opened blanks.callers }
+        requires callers { blanks.callers ≡ B.Hits.callers }
         requires ledgers { IsOf B.Begun.name B.Begun.parts blanks.begun × IsOf B.Ended.name B.Ended.parts blanks.ended }
         ensures { IfOk result (λ r. r.1.items ≡ opened_flights shares.items) }
     {
@@ -86,8 +87,8 @@ impl<F: Fit, N: Namer<F::Key>, B: FlightBooks> Flight<F, N, B> {
         unreachable!()
     }
 
-    /// Fills the key of a claim, as `Memo::fill`, and then ends the claim, where it is live: at most one end is booked. Who
-    /// waits for an end goes on.
+    /// Fills the key of a claim, as `Memo::fill`, and then ends the claim, where it is live: at most one end is booked.
+    /// Wakes who waits for an end.
     pub fn finish<R: Wait>(
         &self,
         rt: &R,
@@ -111,7 +112,8 @@ impl<F: Fit, N: Namer<F::Key>, B: FlightBooks> Flight<F, N, B> {
         answer
     }
 
-    /// Ends a claim without a fill, where it is live: at most one end is booked. Takes no memory.
+    /// Ends a claim without a fill, where it is live: at most one end is booked. Wakes who waits for an end. Takes no
+    /// memory.
     pub fn give_back<R: Wait>(&self, rt: &R, share: &mut FlightShare<B>, claim: Claim<F::Key>)
         requires { 0 < share.old.share.parts }
         ensures same { share.new.share ≡ share.old.share }
@@ -122,7 +124,7 @@ impl<F: Fit, N: Namer<F::Key>, B: FlightBooks> Flight<F, N, B> {
     }
 
     /// The memo, its tally and the claims, once all shares are back. The tally is that of the memo's journal, and what was booked
-    /// on the shares. The log of the claims is legal, so that no key has two live claims; it has as many beginnings as there were
+    /// on the shares. The log of the claims is legal, so that no key ever had two live claims; it has as many beginnings as there were
     /// misses, and as many ends as were booked.
     pub fn close(self, shares: Vec<FlightShare<B>>) -> (Tally, MemoCore<F, N>, Claims<F>)
         requires whole { (0 < B.Hits.parts) × (sum_by (λ s. s.share.parts) shares.items ≡ B.Hits.parts) }

@@ -17,13 +17,13 @@ pub trait FlightBooks: Books {
     type Ended: Ledger;
 }
 
-/// The books of these six ledgers. Only who opens a memo knows the ledgers one by one.
-pub struct FlightLedgers<H, M, K, E, S, D> {
-    of: PhantomData<(H, M, K, E, S, D)>,
+/// The books of these six ledgers, the last two of claims. Only who opens a memo knows the ledgers one by one.
+pub struct FlightLedgers<H, M, K, E, Begins, Ends> {
+    of: PhantomData<(H, M, K, E, Begins, Ends)>,
 }
 
-impl<H: MemoLedger, M: Ledger, K: Ledger, E: Ledger, S: Ledger, D: Ledger> Books
-    for FlightLedgers<H, M, K, E, S, D> {
+impl<H: MemoLedger, M: Ledger, K: Ledger, E: Ledger, Begins: Ledger, Ends: Ledger> Books
+    for FlightLedgers<H, M, K, E, Begins, Ends> {
     type Hits = H;
 
     type Misses = M;
@@ -33,11 +33,11 @@ impl<H: MemoLedger, M: Ledger, K: Ledger, E: Ledger, S: Ledger, D: Ledger> Books
     type Heavy = E;
 }
 
-impl<H: MemoLedger, M: Ledger, K: Ledger, E: Ledger, S: Ledger, D: Ledger> FlightBooks
-    for FlightLedgers<H, M, K, E, S, D> {
-    type Begun = S;
+impl<H: MemoLedger, M: Ledger, K: Ledger, E: Ledger, Begins: Ledger, Ends: Ledger> FlightBooks
+    for FlightLedgers<H, M, K, E, Begins, Ends> {
+    type Begun = Begins;
 
-    type Ended = D;
+    type Ended = Ends;
 }
 
 /// A fresh pair of the ledgers of claims, which no type stands for yet: each has 128 parts for each of 1 to 64 callers.
@@ -51,7 +51,7 @@ pub struct FlightBlanks {
 }
 
 impl FlightBlanks {
-    /// The ledgers for the callers of a memo's.
+    /// Ledgers of claims for as many callers as those of a memo are for.
     pub fn beside(blanks: &Blanks) -> FlightBlanks
         ensures { result.callers ≡ blanks.now.callers }
     {

@@ -1,6 +1,6 @@
 ghost use Rattle.std.specs.Prelude.{◌≡◌, ◌+◌, ◌*◌, ◌<◌, ◌≤◌, [], IfOk};
 ghost use Rattle.subtree_memo.specs.Shares.{IsOf};
-ghost use Rattle.flight_memo.specs.Claims.{IsLegalLog, NoKeyTwice};
+ghost use Rattle.flight_memo.specs.Claims.{IsLegalLog, IsSingle};
 
 use crate::pieces::{Bytes, Piece, Pieces};
 use flight_memo::{
@@ -104,8 +104,8 @@ fn run<
     M: Ledger + Send + Sync,
     K: Ledger + Send + Sync,
     E: Ledger + Send + Sync,
-    S: Ledger + Send + Sync,
-    D: Ledger + Send + Sync,
+    Begins: Ledger + Send + Sync,
+    Ends: Ledger + Send + Sync,
     R: Threads + Wait + Sync,
 >(
     rt: &R,
@@ -120,11 +120,12 @@ fn run<
     requires callers { (blanks.callers ≡ 2) × (begun_and_ended.callers ≡ 2) }
     requires memo { IsOf H.name H.parts blanks.hits × IsOf M.name M.parts blanks.misses
         × IsOf K.name K.parts blanks.kept × IsOf E.name E.parts blanks.heavy }
-    requires claims { IsOf S.name S.parts begun_and_ended.begun × IsOf D.name D.parts begun_and_ended.ended }
-    ensures { IfOk result (λ r. IsLegalLog r.claims.log × NoKeyTwice r.claims.live) }
+    requires claims { IsOf Begins.name Begins.parts begun_and_ended.begun
+        × IsOf Ends.name Ends.parts begun_and_ended.ended }
+    ensures { IfOk result (λ r. IsLegalLog r.claims.log × IsSingle r.claims.log) }
 {
     let key = Arc::new(alloc, 7)?;
-    let (memo, shares) = Memo::<Pieces, Bytes, FlightLedgers<H, M, K, E, S, D>>::open(
+    let (memo, shares) = Memo::<Pieces, Bytes, FlightLedgers<H, M, K, E, Begins, Ends>>::open(
         alloc, core, blanks,
     )?;
     let (flight, mut shares) = Flight::open(alloc, Pieces, memo, shares, begun_and_ended)?;
@@ -138,11 +139,11 @@ fn run<
     let (shared, asked, go) = (&flight, &key, &start);
     let (first, (found, second)) = thread::join(
         rt,
-        move || -> FlightShare<FlightLedgers<H, M, K, E, S, D>>
+        move || -> FlightShare<FlightLedgers<H, M, K, E, Begins, Ends>>
             requires { 0 < first.share.parts }
             ensures { result.share.parts ≡ first.share.parts }
         { claim_first(rt, alloc, shared, first, asked, go, piece) },
-        move || -> (bool, FlightShare<FlightLedgers<H, M, K, E, S, D>>)
+        move || -> (bool, FlightShare<FlightLedgers<H, M, K, E, Begins, Ends>>)
             requires { 2 ≤ second.share.parts }
             ensures { result.1.share.parts ≡ second.share.parts }
         { ask(rt, alloc, shared, second, asked, go) },
@@ -176,8 +177,8 @@ fn two_callers<R: Threads + Wait + Sync>(
     )
 }
 
-// Whether a log has so many claims, one behind another: those of caller 0 and 1, the first of which is filled or not.
-fn check_log(rt: &impl Abort, log: &[LogItem<u32>], claims: usize, first_filled: bool) {
+// Whether a log has so many claims, one behind another: those of caller 0 and 1, each of which is filled or none.
+fn check_log(rt: &impl Abort, log: &[LogItem<u32>], claims: usize, all_filled: bool) {
     assert_eq!(rt; log.len() / 2, claims);
     assert_eq!(rt; log.len() % 2, 0);
     for (place, item) in log.iter().enumerate() {
@@ -195,7 +196,7 @@ fn check_log(rt: &impl Abort, log: &[LogItem<u32>], claims: usize, first_filled:
             LogItem::Ended { number, filled } => {
                 assert_eq!(rt; place % 2, 1);
                 assert_eq!(rt; *number, place as u64 / 2);
-                assert_eq!(rt; *filled, first_filled);
+                assert_eq!(rt; *filled, all_filled);
             }
         }
     }

@@ -2,8 +2,7 @@ use Rattle.std.proofs.Common.{◌≡◌, ◌∷◌, length, sym, arith}
 use Rattle.std.proofs.lemmas.Grind.{common_steps}
 use Rattle.std.proofs.lemmas.List.Elements.{All-head, All-rest, All-same}
 use Rattle.subtree_memo.specs.Shares.{opened}
-use Rattle.flight_memo.specs.Shares.{IsFreshShare}
-use Rattle.flight_memo.proofs.Opened.{opened_fresh}
+use Rattle.flight_memo.proofs.Opened.{IsFreshShare, opened_fresh}
 use Rattle.flight_memo.proofs.flight_share.flights_of.Goals as goal
 
 pub invariant_of-push_reserved : goal.invariant_of-push_reserved

@@ -1,6 +1,7 @@
 use Rattle.std.proofs.Common.{◌≡◌, ◌+◌, ◌*◌, ◌≤◌, All, length, vec_len, vec_capacity}
 use Rattle.subtree_memo.specs.Shares.{parts_each}
-use Rattle.flight_memo.specs.Shares.{IsFreshShare, opened_flights}
+use Rattle.flight_memo.specs.Shares.{opened_flights}
+use Rattle.flight_memo.proofs.Opened.{IsFreshShare}
 use Rattle.flight_memo.proofs.flight_share.flights_of.Given as goal
 
 -- the shares so far have theirs of the claims, and the parts that are left are for the others

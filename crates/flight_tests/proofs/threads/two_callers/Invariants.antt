@@ -15,8 +15,8 @@ ghosts-run-K-Ledger g a = record { name = a.blanks.kept.name; parts = a.blanks.k
 abbrev pub ghosts-run-E-Ledger : goal.ghosts-run-E-Ledger
 ghosts-run-E-Ledger g a = record { name = a.blanks.heavy.name; parts = a.blanks.heavy.parts }
 
-abbrev pub ghosts-run-S-Ledger : goal.ghosts-run-S-Ledger
-ghosts-run-S-Ledger g a = record { name = a.begun_and_ended.begun.name; parts = a.begun_and_ended.begun.parts }
+abbrev pub ghosts-run-Begins-Ledger : goal.ghosts-run-Begins-Ledger
+ghosts-run-Begins-Ledger g a = record { name = a.begun_and_ended.begun.name; parts = a.begun_and_ended.begun.parts }
 
-abbrev pub ghosts-run-D-Ledger : goal.ghosts-run-D-Ledger
-ghosts-run-D-Ledger g a = record { name = a.begun_and_ended.ended.name; parts = a.begun_and_ended.ended.parts }
+abbrev pub ghosts-run-Ends-Ledger : goal.ghosts-run-Ends-Ledger
+ghosts-run-Ends-Ledger g a = record { name = a.begun_and_ended.ended.name; parts = a.begun_and_ended.ended.parts }
