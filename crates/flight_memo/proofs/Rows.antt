@@ -1,7 +1,8 @@
--- Logs by hand: two callers and one key.
+-- Logs by hand: two callers, and one key or two.
 use Rattle.std.proofs.Common.{◌≡◌, ℕ, true, false, List, [], ◌∷◌, refl, arith}
-use Rattle.std.proofs.lemmas.List.Elements.{All-nil}
-use Rattle.flight_memo.specs.Claims.{Claim, Event, Begun, Ended, IsLegalLog, live_in, begun_in, ended_in}
+use Rattle.std.proofs.lemmas.List.Elements.{All-nil, All-push}
+use Rattle.flight_memo.specs.Claims.{Claim, Event, View, Begun, Ended, IsLegalLog, IsClosed, live_in, begun_in, ended_in}
+use Rattle.flight_memo.proofs.Legal.{single_of_legal}
 
 -- the claim of a number, of the one key
 abbrev claim : ℕ → ℕ → Claim ℕ
@@ -18,8 +19,18 @@ finished = Begun (claim 0 0) ∷ Ended 0 true ∷ []
 finished_is_legal : IsLegalLog finished
 finished_is_legal = ((refl, All-nil _), (refl, tt))
 
-finished_counts : (begun_in finished ≡ 1) × (ended_in finished ≡ 1) × (live_in finished ≡ [])
-finished_counts = (refl, refl, refl)
+-- what claims with no live one say, with a log
+abbrev ended_all : List (Event ℕ) → View ℕ
+ended_all log = record { live = []; log = log; places = 0; spare = 0 }
+
+finished_is_closed : IsClosed 1 1 (ended_all finished)
+finished_is_closed = record {
+  legal = finished_is_legal;
+  live = refl;
+  single = single_of_legal finished finished_is_legal;
+  begun = refl;
+  ended = refl;
+}
 
 -- the first caller gives the claim back, and then the second one claims the key and gives it back
 abbrev given_back : List (Event ℕ)
@@ -28,8 +39,32 @@ given_back = Begun (claim 0 0) ∷ Ended 0 false ∷ Begun (claim 1 1) ∷ Ended
 given_back_is_legal : IsLegalLog given_back
 given_back_is_legal = ((refl, All-nil _), (refl, ((refl, All-nil _), (refl, tt))))
 
-given_back_counts : (begun_in given_back ≡ 2) × (ended_in given_back ≡ 2) × (live_in given_back ≡ [])
-given_back_counts = (refl, refl, refl)
+given_back_is_closed : IsClosed 2 2 (ended_all given_back)
+given_back_is_closed = record {
+  legal = given_back_is_legal;
+  live = refl;
+  single = single_of_legal given_back given_back_is_legal;
+  begun = refl;
+  ended = refl;
+}
+
+-- a log that has not so many beginnings as there were misses is not that of a closed memo
+misses_more : IsClosed 2 1 (ended_all finished) → ⊥
+misses_more closed = absurd (omega (arith, closed.begun))
+
+-- the second caller's claim of another key
+abbrev other : Claim ℕ
+other = record { number = 1; caller = 1; key = 8 }
+
+-- keys that differ are claimed side by side, and both are live until one ends
+two_keys_are_legal : IsLegalLog (Begun (claim 0 0) ∷ Begun other ∷ Ended 1 true ∷ Ended 0 true ∷ [])
+two_keys_are_legal = ((refl, All-nil _), ((refl, All-push (λ (c : Claim ℕ). c.key ≡ 8 → ⊥) [] (claim 0 0) (All-nil _) (λ e. absurd (omega (arith, e)))), (refl, (refl, tt))))
+
+two_are_live : live_in (Begun (claim 0 0) ∷ Begun other ∷ []) ≡ claim 0 0 ∷ other ∷ []
+two_are_live = refl
+
+first_stays : live_in (Begun (claim 0 0) ∷ Begun other ∷ Ended 1 true ∷ []) ≡ claim 0 0 ∷ []
+first_stays = refl
 
 -- a key that is claimed can't be claimed once more
 claimed_twice : IsLegalLog (Begun (claim 0 0) ∷ Begun (claim 1 1) ∷ []) → ⊥
@@ -42,6 +77,9 @@ ended_twice (first, (once, (twice, end))) = absurd (cc twice)
 ended_unbegun : IsLegalLog (Begun (claim 0 0) ∷ Ended 1 true ∷ []) → ⊥
 ended_unbegun (first, (other, end)) = absurd (cc other)
 
--- numbers are given in order
+-- numbers are given in order, each once
+numbered_twice : IsLegalLog (Begun (claim 0 0) ∷ Begun (record { number = 0; caller = 1; key = 8 }) ∷ []) → ⊥
+numbered_twice (first, ((number, free), end)) = absurd (omega (arith, number))
+
 numbered_late : IsLegalLog (Begun (claim 1 0) ∷ []) → ⊥
 numbered_late ((number, free), end) = absurd (omega (arith, number))
