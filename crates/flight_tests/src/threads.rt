@@ -10,6 +10,8 @@ use memo_core::MemoCore;
 use std::alloc::Global;
 use std::marker::Brand;
 use std::process::Abort;
+use std::sync::atomic::AtomicBool;
+use std::sync::atomic::Ordering::SeqCst;
 use std::sync::ledger::Ledger;
 use std::sync::{Arc, Barrier, Wait};
 use std::test::Fail;
@@ -17,6 +19,9 @@ use std::thread;
 use std::thread::Threads;
 use subtree_memo::{Blanks, Memo, MemoLedger, Tally};
 use text_place::NoMemory;
+
+// How many turns the first caller takes at most until the second one is answered.
+const MOST_TURNS: u32 = 10_000_000;
 
 // What became of two callers who asked for one key.
 #[derive(Drop)]
@@ -98,6 +103,17 @@ fn ask<B: FlightBooks, R: Wait>(
     (found, share)
 }
 
+// Takes turns until the other caller is answered, and ends the test where it is not: a claim that never ends leaves it waiting.
+fn await_answer(rt: &impl Abort, answered: &AtomicBool) {
+    for _turn in 0..MOST_TURNS {
+        if answered.load(SeqCst) {
+            return;
+        }
+        thread::yield_now();
+    }
+    assert!(rt; answered.load(SeqCst), "the second caller is answered");
+}
+
 // The first caller claims a key, and ends its claim while the second one asks for the key.
 fn run<
     H: MemoLedger + Send + Sync,
@@ -106,7 +122,7 @@ fn run<
     E: Ledger + Send + Sync,
     Begins: Ledger + Send + Sync,
     Ends: Ledger + Send + Sync,
-    R: Threads + Wait + Sync,
+    R: Threads + Wait + Abort + Sync,
 >(
     rt: &R,
     alloc: Global,
@@ -136,17 +152,26 @@ fn run<
         return Err(NoMemory);
     };
     let start = Barrier::new(2);
-    let (shared, asked, go) = (&flight, &key, &start);
+    let answered = AtomicBool::new(false);
+    let (shared, asked, go, done) = (&flight, &key, &start, &answered);
     let (first, (found, second)) = thread::join(
         rt,
         move || -> FlightShare<FlightLedgers<H, M, K, E, Begins, Ends>>
             requires { 0 < first.share.parts }
             ensures { result.share.parts ≡ first.share.parts }
-        { claim_first(rt, alloc, shared, first, asked, go, piece) },
+        {
+            let share = claim_first(rt, alloc, shared, first, asked, go, piece);
+            await_answer(rt, done);
+            share
+        },
         move || -> (bool, FlightShare<FlightLedgers<H, M, K, E, Begins, Ends>>)
             requires { 2 ≤ second.share.parts }
             ensures { result.1.share.parts ≡ second.share.parts }
-        { ask(rt, alloc, shared, second, asked, go) },
+        {
+            let answer = ask(rt, alloc, shared, second, asked, go);
+            done.store(true, SeqCst);
+            answer
+        },
     );
     shares.push(first)?;
     shares.push(second)?;
@@ -159,7 +184,7 @@ fn run<
 }
 
 // The same, for a caller that has no ledgers, with a memo of budget 10.
-fn two_callers<R: Threads + Wait + Sync>(
+fn two_callers<R: Threads + Wait + Abort + Sync>(
     rt: &R,
     alloc: Global,
     piece: Option<Arc<Piece>>,
