@@ -1,4 +1,4 @@
-ghost use Rattle.std.specs.Prelude.{◌≡◌, ◌<◌, All, sum_by, [], IfOk, OnErr, IfSome};
+ghost use Rattle.std.specs.Prelude.{◌≡◌, ◌<◌, All, sum_by, [], ◌∷◌, IfOk, OnErr, IfSome};
 ghost use Rattle.std.specs.Arc.{arc_value};
 ghost use Rattle.memo_core.specs.Views.{IsSound};
 ghost use Rattle.memo_core.specs.Fields.{value_in, is_hit};
@@ -113,6 +113,22 @@ impl<F: Fit, N: Namer<F::Key>, B: Books> Memo<F, N, B> {
         ensures limits { (result.1.budget ≡ B.Hits.budget) × (result.1.share ≡ B.Hits.share) }
         ensures callers { All (λ i. i.caller < B.Hits.callers) result.1.journal }
     {
+        let Some(all) = all_of(shares) else {
+            unreachable!()
+        };
+        self.close_whole(all)
+    }
+
+    /// As `close`, for all shares put together.
+    pub fn close_whole(self, all: Share<B>) -> (Tally, MemoCore<F, N>)
+        requires whole { all.parts ≡ B.Hits.parts }
+        requires ledgers { (B.Misses.parts ≡ B.Hits.parts) × (B.Kept.parts ≡ B.Hits.parts) × (B.Heavy.parts ≡ B.Hits.parts) }
+        ensures tally { result.0 ≡ tally_of result.1.journal result.0.dropped }
+        ensures booked { AreSums (all ∷ []) result.0 }
+        ensures sound { IsSound F.same_key N.name_of F.fits F.weighs result.1 }
+        ensures limits { (result.1.budget ≡ B.Hits.budget) × (result.1.share ≡ B.Hits.share) }
+        ensures callers { All (λ i. i.caller < B.Hits.callers) result.1.journal }
+    {
         let Memo { lock } = self;
         let Booked {
             core,
@@ -121,15 +137,12 @@ impl<F: Fit, N: Namer<F::Key>, B: Books> Memo<F, N, B> {
             mut kept,
             mut heavy,
         } = lock.into_inner();
-        let mut dropped = 0;
-        if let Some(mut all) = all_of(shares) {
-            hits.audit(&mut all.hits);
-            misses.audit(&mut all.misses);
-            kept.audit(&mut all.kept);
-            heavy.audit(&mut all.heavy);
-            dropped = all.dropped;
-        }
-        let tally = counts_of(core.journal()).tally(core.evicted(), dropped);
+        let mut all = all;
+        hits.audit(&mut all.hits);
+        misses.audit(&mut all.misses);
+        kept.audit(&mut all.kept);
+        heavy.audit(&mut all.heavy);
+        let tally = counts_of(core.journal()).tally(core.evicted(), all.dropped);
         (tally, core)
     }
 }

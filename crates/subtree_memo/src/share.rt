@@ -80,11 +80,11 @@ impl<B: Books> Share<B> {
         requires { other.caller ≡ self.old.caller }
         ensures { self.new ≡ joined self.old other }
     {
-        self.merge(other)
+        self.put_together(other)
     }
 
-    // Adds the parts and numbers of a share. The caller's number stays.
-    fn merge(&mut self, other: Share<B>)
+    /// Adds the parts and numbers of a share, also of another caller, to be closed with. The caller's number stays.
+    pub fn put_together(&mut self, other: Share<B>)
         ensures { self.new ≡ joined self.old other }
     {
         let Share {
@@ -116,7 +116,7 @@ pub fn all_of<B: Books>(mut shares: Vec<Share<B>>) -> Option<Share<B>>
 {
     let mut all = shares.pop()?;
     while let Some(share) = shares.pop() {
-        all.merge(share);
+        all.put_together(share);
     }
     // Its type says that it is at most where the number stops.
     let _dropped = all.dropped;
