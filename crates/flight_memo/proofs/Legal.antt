@@ -1,0 +1,61 @@
+-- What a legal log says of its claims.
+use Rattle.std.proofs.Common.{◌≡◌, ℕ, ◌<◌, ◌≤◌, Bool, true, false, ◌||◌, List, [], ◌∷◌, ◌++◌, All, nat_eq, refl, ap, sym, subst, ◌∙◌, arith, append_assoc, append-nil}
+use Rattle.std.proofs.lemmas.Bool.{eqb-true, ne_eqb}
+use Rattle.std.proofs.lemmas.List.Elements.{All-nil, All-push, All-head, All-tail, All-filter, All-weaker}
+use Rattle.std.proofs.lemmas.List.Kept.{AllPairs-filter}
+use Rattle.std.proofs.lemmas.List.Quantifiers.{all_pairs_push}
+use Rattle.flight_memo.specs.Claims.{Claim, Event, Begun, Ended, MayFollow, IsLegalBehind, IsLegalLog, NoKeyTwice, live_in, has_ended, is_live, is_other, begun_in}
+use Rattle.flight_memo.proofs.Logs.{begun_more, has_ended_more, live_more, live_less}
+
+either : {P : Type 0} (a b : Bool) → (a || b) ≡ true → (a ≡ true → P) → (b ≡ true → P) → P
+either true b is first second = first refl
+either false b is first second = second is
+
+module _ {K : Type 0} where
+  -- a claim of a number is live, so the number is below those that are to come
+  live_below : (number most : ℕ) (live : List (Claim K)) → is_live number live ≡ true → All (λ claim. claim.number < most) live → number < most
+  live_below number most [] is all = absurd (cc is)
+  live_below number most (claim ∷ live) is all =
+      let head : claim.number < most = All-head (λ c. c.number < most) claim live all in
+      either (nat_eq number claim.number) (is_live number live) is
+      (λ e. omega (arith, head, eqb-true number claim.number e))
+      (λ e. live_below number most live e (All-tail (λ c. c.number < most) claim live all))
+
+  -- what is known behind a legal log
+  pub record Known (log : List (Event K)) : Type 0 where
+    -- no claim of a later number has ended
+    pub ahead : (number : ℕ) → begun_in log ≤ number → has_ended number log ≡ false
+    -- live claims have earlier numbers
+    pub below : All (λ claim. claim.number < begun_in log) (live_in log)
+    pub single : NoKeyTwice (live_in log)
+
+  known_more : (log : List (Event K)) (event : Event K) → Known log → MayFollow log event → Known (log ++ event ∷ [])
+  known_more log (Begun claim) known may =
+      let more = begun_more log (Begun claim) in
+      let fresh : has_ended claim.number log ≡ false = known.ahead claim.number (omega (arith, may.0)) in
+      let live = live_more log claim fresh in
+      record {
+        ahead = λ number far. has_ended_more number log (Begun claim) ∙ ap (λ b. b || false) (known.ahead number (omega (arith, far, more)));
+        below = subst (All (λ c. c.number < begun_in (log ++ Begun claim ∷ []))) (sym live) (All-push (λ c. c.number < begun_in (log ++ Begun claim ∷ [])) (live_in log) claim (All-weaker (λ c. c.number < begun_in log) (λ c. c.number < begun_in (log ++ Begun claim ∷ [])) (λ c lt. omega (arith, lt, more)) (live_in log) known.below) (omega (arith, may.0, more)));
+        single = subst NoKeyTwice (sym live) (all_pairs_push (λ a b. a.key ≡ b.key → ⊥) (live_in log) claim known.single may.1);
+      }
+  known_more log (Ended number filled) known may =
+      let more = begun_more log (Ended number filled) in
+      let below : number < begun_in log = live_below number (begun_in log) (live_in log) may known.below in
+      let live = live_less log number filled in
+      record {
+        ahead = λ other far.
+            has_ended_more other log (Ended number filled)
+            ∙ ap (λ b. b || nat_eq number other) (known.ahead other (omega (arith, far, more)))
+            ∙ ne_eqb number other (λ e. omega (arith, e, below, far, more));
+        below = subst (All (λ c. c.number < begun_in (log ++ Ended number filled ∷ []))) (sym live) (All-filter (is_other number) (λ c. c.number < begun_in (log ++ Ended number filled ∷ [])) (live_in log) (All-weaker (λ c. c.number < begun_in log) (λ c. c.number < begun_in (log ++ Ended number filled ∷ [])) (λ c lt. omega (arith, lt, more)) (live_in log) known.below));
+        single = subst NoKeyTwice (sym live) (AllPairs-filter (λ a b. a.key ≡ b.key → ⊥) (is_other number) (live_in log) known.single);
+      }
+
+  known_behind : (before log : List (Event K)) → Known before → IsLegalBehind before log → Known (before ++ log)
+  known_behind before [] known legal = subst Known (sym (append-nil before)) known
+  known_behind before (event ∷ log) known legal =
+      subst Known (append_assoc before (event ∷ []) log) (known_behind (before ++ event ∷ []) log (known_more before event known legal.0) legal.1)
+
+  pub known_of_legal : (log : List (Event K)) → IsLegalLog log → Known log
+  known_of_legal log legal = known_behind [] log (record { ahead = λ number far. refl; below = All-nil (λ c. c.number < 0); single = λ i j d lt few. absurd (omega (arith, few)) }) legal

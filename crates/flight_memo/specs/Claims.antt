@@ -1,0 +1,117 @@
+-- Claims of missing keys, and the log of how they began and ended.
+use Rattle.std.specs.Prelude.{◌≡◌, ℕ, Bool, true, false, not, List, [], ◌∷◌, ◌++◌, filter, flat_map, sum_by, nat_eq, All, if◌then◌else◌}
+use Rattle.std.specs.List.{AllPairs, list_any}
+
+-- a claim: its number, whose it is, and of which key
+pub record Claim (K : Type 0) : Type 0 where
+  pub number : ℕ
+  pub caller : ℕ
+  pub key : K
+
+-- what the log says: a claim began, or the one of this number ended, and whether with a fill
+pub data Event (K : Type 0) : Type 0 where
+  Begun : Claim K → Event K
+  Ended : (number : ℕ) → (filled : Bool) → Event K
+
+-- what contracts see of claims: those that are live, and the log
+pub record View (K : Type 0) : Type 0 where
+  pub live : List (Claim K)
+  pub log : List (Event K)
+  -- for how many more live claims there is room, and for how many more events of the log
+  pub places : ℕ
+  pub spare : ℕ
+
+module _ {K : Type 0} where
+  -- a beginning counts 1
+  abbrev pub begun_by : Event K → ℕ
+  begun_by (Begun claim) = 1
+  begun_by (Ended number filled) = 0
+
+  -- an end counts 1
+  abbrev pub ended_by : Event K → ℕ
+  ended_by (Begun claim) = 0
+  ended_by (Ended number filled) = 1
+
+  -- how many claims have begun
+  abbrev pub begun_in : List (Event K) → ℕ
+  begun_in log = sum_by begun_by log
+
+  -- how many claims have ended
+  abbrev pub ended_in : List (Event K) → ℕ
+  ended_in log = sum_by ended_by log
+
+  -- the claim that an event begins
+  abbrev pub claim_of : Event K → List (Claim K)
+  claim_of (Begun claim) = claim ∷ []
+  claim_of (Ended number filled) = []
+
+  -- the claims that have begun, in their order
+  abbrev pub claims_in : List (Event K) → List (Claim K)
+  claims_in log = flat_map claim_of log
+
+  -- an event ends the claim of a number
+  abbrev pub is_end_of : ℕ → Event K → Bool
+  is_end_of number (Begun claim) = false
+  is_end_of number (Ended ended filled) = nat_eq ended number
+
+  -- the claim of a number has ended
+  abbrev pub has_ended : ℕ → List (Event K) → Bool
+  has_ended number log = list_any (is_end_of number) log
+
+  -- a claim has not ended
+  abbrev pub goes_on : List (Event K) → Claim K → Bool
+  goes_on log claim = not (has_ended claim.number log)
+
+  -- the live claims are those that have begun and haven't ended
+  abbrev pub live_in : List (Event K) → List (Claim K)
+  live_in log = filter (goes_on log) (claims_in log)
+
+  -- a claim has a number
+  abbrev pub is_of : ℕ → Claim K → Bool
+  is_of number claim = nat_eq number claim.number
+
+  -- a claim has another number
+  abbrev pub is_other : ℕ → Claim K → Bool
+  is_other number claim = not (is_of number claim)
+
+  -- a claim of a number is live
+  abbrev pub is_live : ℕ → List (Claim K) → Bool
+  is_live number live = list_any (is_of number) live
+
+  -- no live claim has a key
+  abbrev pub IsFree : K → List (Claim K) → Type 0
+  IsFree key live = All (λ claim. claim.key ≡ key → ⊥) live
+
+  -- no two of some claims have one key
+  abbrev pub NoKeyTwice : List (Claim K) → Type 0
+  NoKeyTwice live = AllPairs (λ a b. a.key ≡ b.key → ⊥) live
+
+  -- An event may follow a log: a claim that begins has the number of those that began before it, and no live claim
+  -- has its key; one that ends is live.
+  abbrev pub MayFollow : List (Event K) → Event K → Type 0
+  MayFollow log (Begun claim) = (claim.number ≡ begun_in log) × IsFree claim.key (live_in log)
+  MayFollow log (Ended number filled) = is_live number (live_in log) ≡ true
+
+  -- behind some events, each event may follow those before it
+  abbrev pub IsLegalBehind : List (Event K) → List (Event K) → Type 0
+  IsLegalBehind before [] = Unit {0}
+  IsLegalBehind before (event ∷ log) = MayFollow before event × IsLegalBehind (before ++ event ∷ []) log
+
+  -- A log is legal where each of its events may follow those before it. So numbers are given from 0 in order,
+  -- each end is of a claim that has begun and hasn't ended, and between two beginnings of one key the first of the
+  -- two claims has ended.
+  abbrev pub IsLegalLog : List (Event K) → Type 0
+  IsLegalLog log = IsLegalBehind [] log
+
+  -- the log once the claim of a number was ended, where it was live
+  abbrev pub ended_log : Bool → ℕ → Bool → List (Event K) → List (Event K)
+  ended_log live number filled log = if live then log ++ Ended number filled ∷ [] else log
+
+  -- What the claims of a memo say once it is closed: their log is legal and no key has two live claims, as many claims began
+  -- as there were misses, and so many ended.
+  pub record IsClosed (misses ends : ℕ) (view : View K) : Type 0 where
+    pub legal : IsLegalLog view.log
+    pub live : view.live ≡ live_in view.log
+    pub single : NoKeyTwice view.live
+    pub begun : begun_in view.log ≡ misses
+    pub ended : ended_in view.log ≡ ends

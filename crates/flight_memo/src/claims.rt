@@ -1,0 +1,196 @@
+//! Claims and their log, as plain calls on a value that is lent.
+
+ghost use Rattle.std.specs.Prelude.{◌≡◌, ◌+◌, ◌≤◌, ◌<◌, [], ◌∷◌, ◌++◌, true, false, length, filter, vec_capacity, IfOk, OnOk};
+ghost use Rattle.std.specs.Arc.{arc_value};
+ghost use Rattle.std.specs.Bool.{Decides};
+ghost use Rattle.std.specs.List.{list_any};
+ghost use Rattle.flight_memo.specs.Claims.{Begun, Ended, IsFree, NoKeyTwice, IsLegalLog, live_in, begun_in, is_live, ended_log};
+ghost use Rattle.flight_memo.specs.Fields.{events_of, is_item, is_other_item};
+
+use memo_core::Fit;
+use std::alloc::Global;
+use std::marker::Model;
+use std::sync::Arc;
+use text_place::NoMemory;
+
+/// A claim that is live: its number, whose it is, and of which key.
+#[derive(Drop)]
+pub struct LiveClaim<K> {
+    pub number: u64,
+    pub caller: u32,
+    pub key: Arc<K>,
+}
+
+/// What the log says: a claim began, or one ended, and whether its key was filled then.
+#[derive(Drop)]
+pub enum LogItem<K> {
+    Begun {
+        number: u64,
+        caller: u32,
+        key: Arc<K>,
+    },
+    Ended {
+        number: u64,
+        filled: bool,
+    },
+}
+
+/// A claim of one's own, which is to be spent: it is not dropped, and only `finish` and `give_back` take it.
+pub struct Claim<K> {
+    pub(crate) number: u64,
+    pub(crate) key: Arc<K>,
+}
+
+/// Three references to one key, for the log, the live claims and the claim itself.
+#[derive(Drop)]
+pub struct Copies<K> {
+    pub noted: Arc<K>,
+    pub held: Arc<K>,
+    pub own: Arc<K>,
+    pub ghost one: { (arc_value held ≡ arc_value noted) × (arc_value own ≡ arc_value noted) },
+}
+
+impl<K: Drop> Copies<K> {
+    pub fn of(key: &Arc<K>) -> Result<Copies<K>, NoMemory>
+        ensures { IfOk result (λ c. arc_value c.noted ≡ arc_value key.now) }
+    {
+        let noted = Arc::try_clone(key)?;
+        let held = Arc::try_clone(key)?;
+        let own = Arc::try_clone(key)?;
+        Ok(Copies { noted, held, own })
+    }
+}
+
+/// The claims of a memo's keys. Contracts see them as the live ones, and the log of how claims began and ended: numbers are
+/// given from 0 in order, each end is of a claim that was live, and no two live claims have one key.
+#[derive(Drop)]
+pub struct Claims<F: Fit> {
+    fit: F,
+    begun: u64,
+    live: Vec<LiveClaim<F::Key>>,
+    log: Vec<LogItem<F::Key>>,
+}
+
+impl<F: Fit> Model for Claims<F> {
+    ghost use Rattle.std.specs.Prelude.{◌-◌, vec_capacity, vec_len};
+    ghost use Rattle.flight_memo.specs.Claims.{View};
+    ghost use Rattle.flight_memo.specs.Fields.{claims_of, events_of, IsKept};
+
+    ghost Value = { View F.Key };
+
+    ghost view = { λ c. record {
+      live = claims_of c.live.items;
+      log = events_of c.log.items;
+      places = vec_capacity c.live - vec_len c.live;
+      spare = vec_capacity c.log - vec_len c.log;
+    } };
+
+    ghost invariant = { λ c. IsKept c.begun (record {
+      live = claims_of c.live.items;
+      log = events_of c.log.items;
+      places = vec_capacity c.live - vec_len c.live;
+      spare = vec_capacity c.log - vec_len c.log;
+    }) };
+}
+
+impl<F: Fit> Claims<F> {
+    /// No claims, and an empty log.
+    pub fn new(alloc: Global, fit: F) -> Claims<F>
+        ensures { (result.live ≡ []) × (result.log ≡ []) }
+    {
+        Claims {
+            fit,
+            begun: 0,
+            live: Vec::new(alloc),
+            log: Vec::new(alloc),
+        }
+    }
+
+    /// How claims began and ended so far. Takes no memory.
+    pub fn log(&self) -> &[LogItem<F::Key>]
+        ensures is { events_of result.now ≡ self.now.log }
+        ensures legal { IsLegalLog self.now.log }
+        ensures live { self.now.live ≡ live_in self.now.log }
+        ensures single { NoKeyTwice self.now.live }
+    {
+        self.log.as_slice()
+    }
+
+    /// Whether no live claim has a key. Takes no memory.
+    pub fn is_free(&self, key: &F::Key) -> bool
+        ensures { Decides result (IsFree key.now self.now.live) }
+    {
+        for claim in &self.live {
+            if self.fit.same(&*claim.key, key) {
+                return false;
+            }
+        }
+        true
+    }
+
+    /// Makes room for one claim more, and for its end.
+    pub fn room(&mut self) -> Result<(), NoMemory>
+        ensures room { OnOk result ((0 < self.new.places) × (length self.new.live + 2 ≤ self.new.spare)) }
+        ensures live { self.new.live ≡ self.old.live }
+        ensures log { self.new.log ≡ self.old.log }
+    {
+        self.live.reserve(1)?;
+        self.log.reserve(self.live.len() + 2)?;
+        Ok(())
+    }
+
+    /// Begins a claim of a key that no live claim has, for which there is room.
+    pub fn begin(&mut self, caller: u32, copies: Copies<F::Key>) -> Claim<F::Key>
+        requires free { IsFree (arc_value copies.noted) self.old.live }
+        requires room { (0 < self.old.places) × (length self.old.live + 2 ≤ self.old.spare) }
+        ensures log { self.new.log ≡ self.old.log ++ Begun (record {
+          number = begun_in self.old.log;
+          caller = caller;
+          key = arc_value copies.noted;
+        }) ∷ [] }
+        ensures claim { (result.number ≡ begun_in self.old.log) × (arc_value result.key ≡ arc_value copies.noted) }
+    {
+        let Copies { noted, held, own } = copies;
+        let number = self.begun;
+        self.log.push_reserved(LogItem::Begun {
+            number,
+            caller,
+            key: noted,
+        });
+        self.live.push_reserved(LiveClaim {
+            number,
+            caller,
+            key: held,
+        });
+        self.begun += 1;
+        Claim { number, key: own }
+    }
+
+    /// Ends the claim of a number where it is live, and says whether it was. Takes no memory.
+    pub fn end(&mut self, number: u64, filled: bool) -> bool
+        ensures live { result ≡ is_live number self.old.live }
+        ensures log { self.new.log ≡ ended_log result number filled self.old.log }
+    {
+        let is_live = has_number(&self.live, number);
+        if is_live {
+            self.log.push_reserved(LogItem::Ended { number, filled });
+            take_out(&mut self.live, number);
+        }
+        is_live
+    }
+}
+
+// Whether one of some claims has a number.
+fn has_number<K>(live: &[LiveClaim<K>], number: u64) -> bool
+    ensures { result ≡ list_any (is_item number) live.now }
+{
+    live.iter().any(|claim| number == claim.number)
+}
+
+// Takes out the claims of a number.
+fn take_out<K: Drop>(live: &mut Vec<LiveClaim<K>>, number: u64)
+    ensures items { live.new.items ≡ filter (is_other_item number) live.old.items }
+    ensures capacity { vec_capacity live.new ≡ vec_capacity live.old }
+{
+    live.retain(|claim| number != claim.number)
+}

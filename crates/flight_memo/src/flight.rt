@@ -1,0 +1,159 @@
+ghost use Rattle.std.specs.Prelude.{◌≡◌, ◌<◌, All, map, sum_by, IfOk, OnErr};
+ghost use Rattle.std.specs.Arc.{arc_value};
+ghost use Rattle.memo_core.specs.Views.{IsSound};
+ghost use Rattle.subtree_memo.specs.Shares.{IsOf, opened, fill_booked};
+ghost use Rattle.subtree_memo.specs.Tallies.{tally_of, AreSums};
+ghost use Rattle.flight_memo.specs.Claims.{IsClosed};
+ghost use Rattle.flight_memo.specs.Shares.{MayEnd, opened_flights};
+ghost use Rattle.flight_memo.specs.Answers.{IsClaimed};
+
+use crate::claims::{Claim, Claims};
+use crate::desk::Desk;
+use crate::flight_share::{FlightShare, all_flights, flights_of};
+use crate::ledgers::{FlightBlanks, FlightBooks};
+use memo_core::{Fill, Fit, MemoCore, Namer};
+use std::alloc::Global;
+use std::sync::{Arc, Condvar, Mutex, Wait};
+use subtree_memo::{Memo, Share, Tally};
+use text_place::NoMemory;
+
+/// The answer to a claim: the value, which the memo held, or a claim of one's own.
+pub enum Claimed<K, V> {
+    Value(Arc<V>),
+    Mine(Claim<K>),
+}
+
+/// A memo whose missing keys are claimed. Whenever its lock is free, the log of the claims is legal: so no key has two live
+/// claims.
+#[derive(Drop)]
+pub struct Flight<F: Fit, N: Namer<F::Key>, B: FlightBooks> {
+    memo: Memo<F, N, B>,
+    desk: Mutex<Desk<F, B>>,
+    ended: Condvar,
+}
+
+impl<F: Fit, N: Namer<F::Key>, B: FlightBooks> Flight<F, N, B> {
+    /// A memo with no claims, and its shares with those of the claims, which take nothing off them. The shares are all of this
+    /// memo's, and nothing is booked on any of them.
+    pub fn open(
+        alloc: Global,
+        fit: F,
+        memo: Memo<F, N, B>,
+        shares: Vec<Share<B>>,
+        blanks: FlightBlanks,
+    ) -> Result<(Flight<F, N, B>, Vec<FlightShare<B>>), NoMemory>
+        requires shares { shares.items ≡ opened blanks.callers }
+        requires ledgers { IsOf B.Begun.name B.Begun.parts blanks.begun × IsOf B.Ended.name B.Ended.parts blanks.ended }
+        ensures { IfOk result (λ r. r.1.items ≡ opened_flights shares.items) }
+    {
+        let (begun, begun_parts) = blanks.begun.open::<B::Begun>();
+        let (ended, ended_parts) = blanks.ended.open::<B::Ended>();
+        let flights = flights_of(alloc, shares, begun_parts, ended_parts)?;
+        let desk = Desk {
+            claims: Claims::new(alloc, fit),
+            begun,
+            ended,
+        };
+        let flight = Flight {
+            memo,
+            desk: Mutex::new(desk),
+            ended: Condvar::new(),
+        };
+        Ok((flight, flights))
+    }
+
+    /// Asks for a key, once no live claim has it: one probe, while none has and the claims' lock is held. The value where it was
+    /// a hit, and where it was a miss a claim of the key, which is one beginning in the log. It may wait. NoMemory books and
+    /// claims nothing.
+    pub fn claim<R: Wait>(
+        &self,
+        rt: &R,
+        alloc: Global,
+        share: &mut FlightShare<B>,
+        key: &Arc<F::Key>,
+    ) -> Result<Claimed<F::Key, F::Value>, NoMemory>
+        requires { 0 < share.old.share.parts }
+        ensures claimed { IfOk result (IsClaimed F.fits (arc_value key.now) share.old share.new) }
+        ensures err { OnErr result (share.new ≡ share.old) }
+    {
+        let mut desk = self.desk.lock(rt);
+        for _ in rt.forever() {
+            match desk.try_claim(rt, alloc, &self.memo, share, key)? {
+                Some(claimed) => return Ok(claimed),
+                None => desk = self.ended.wait(rt, desk),
+            }
+        }
+        unreachable!()
+    }
+
+    /// Fills the key of a claim, as `Memo::fill`, and then ends the claim, where it is live: at most one end is booked. Who
+    /// waits for an end goes on.
+    pub fn finish<R: Wait>(
+        &self,
+        rt: &R,
+        alloc: Global,
+        share: &mut FlightShare<B>,
+        claim: Claim<F::Key>,
+        value: Arc<F::Value>,
+        weight: u64,
+    ) -> Fill
+        requires parts { 0 < share.old.share.parts }
+        requires fits { F.fits (arc_value claim.key) (arc_value value) }
+        requires weight { weight ≡ F.weighs (arc_value value) }
+        ensures filled { share.new.share ≡ fill_booked result share.old.share }
+        ensures ended { MayEnd share.old.ended share.new.ended }
+    {
+        let answer = self
+            .memo
+            .fill(rt, alloc, &mut share.share, &claim.key, value, weight);
+        self.desk.lock(rt).end(share, claim, true);
+        self.ended.notify_all();
+        answer
+    }
+
+    /// Ends a claim without a fill, where it is live: at most one end is booked. Takes no memory.
+    pub fn give_back<R: Wait>(&self, rt: &R, share: &mut FlightShare<B>, claim: Claim<F::Key>)
+        requires { 0 < share.old.share.parts }
+        ensures same { share.new.share ≡ share.old.share }
+        ensures ended { MayEnd share.old.ended share.new.ended }
+    {
+        self.desk.lock(rt).end(share, claim, false);
+        self.ended.notify_all();
+    }
+
+    /// The memo, its tally and the claims, once all shares are back. The tally is that of the memo's journal, and what was booked
+    /// on the shares. The log of the claims is legal, so that no key has two live claims; it has as many beginnings as there were
+    /// misses, and as many ends as were booked.
+    pub fn close(self, shares: Vec<FlightShare<B>>) -> (Tally, MemoCore<F, N>, Claims<F>)
+        requires whole { (0 < B.Hits.parts) × (sum_by (λ s. s.share.parts) shares.items ≡ B.Hits.parts) }
+        requires ledgers { (B.Misses.parts ≡ B.Hits.parts) × (B.Kept.parts ≡ B.Hits.parts) × (B.Heavy.parts ≡ B.Hits.parts)
+            × (B.Begun.parts ≡ B.Hits.parts) × (B.Ended.parts ≡ B.Hits.parts) }
+        ensures tally { result.0 ≡ tally_of result.1.journal result.0.dropped }
+        ensures booked { AreSums (map (λ s. s.share) shares.items) result.0 }
+        ensures claims { IsClosed result.0.misses (sum_by (λ s. s.ended) shares.items) result.2 }
+        ensures sound { IsSound F.same_key N.name_of F.fits F.weighs result.1 }
+        ensures limits { (result.1.budget ≡ B.Hits.budget) × (result.1.share ≡ B.Hits.share) }
+        ensures callers { All (λ i. i.caller < B.Hits.callers) result.1.journal }
+    {
+        let Flight { memo, desk, .. } = self;
+        let Desk {
+            claims,
+            mut begun,
+            mut ended,
+        } = desk.into_inner();
+        let Some(all) = all_flights(shares) else {
+            unreachable!()
+        };
+        let FlightShare {
+            share,
+            begun: mut begun_parts,
+            ended: mut ended_parts,
+        } = all;
+        begun.audit(&mut begun_parts);
+        ended.audit(&mut ended_parts);
+        // Its type says what a log of claims keeps, and which of them are live.
+        let _log = claims.log();
+        let (tally, core) = memo.close_whole(share);
+        (tally, core, claims)
+    }
+}

@@ -1,0 +1,110 @@
+ghost use Rattle.std.specs.Prelude.{◌≡◌, ◌-◌, ◌*◌, ◌≤◌, [], length, IfOk, IfSome, IfNone};
+ghost use Rattle.subtree_memo.specs.Shares.{opened, parts_each};
+ghost use Rattle.flight_memo.specs.Shares.{fresh_flight, joined_flights, opened_flights, IsAllOf};
+
+use crate::ledgers::{FlightBooks, PARTS_EACH};
+use std::alloc::Global;
+use std::marker::Model;
+use std::sync::ledger::Share as Part;
+use subtree_memo::Share;
+use text_place::NoMemory;
+
+/// One caller's share of the books of a memo and of its claims: as many claims began on it as there were misses, and so many
+/// ended.
+#[derive(Drop)]
+pub struct FlightShare<B: FlightBooks> {
+    pub(crate) share: Share<B>,
+    pub(crate) begun: Part<B::Begun>,
+    pub(crate) ended: Part<B::Ended>,
+}
+
+impl<B: FlightBooks> Model for FlightShare<B> {
+    ghost use Rattle.std.specs.Prelude.{◌≡◌};
+    ghost use Rattle.flight_memo.specs.Shares.{FlightView};
+
+    ghost Value = { FlightView };
+
+    ghost view = { λ s. record { share = s.share; ended = s.ended.amount } };
+
+    ghost invariant = { λ s. (s.begun.parts ≡ s.share.parts) × (s.ended.parts ≡ s.share.parts)
+        × (s.begun.amount ≡ s.share.misses) };
+}
+
+impl<B: FlightBooks> FlightShare<B> {
+    /// The caller's number. Takes no memory.
+    pub fn caller(&self) -> u32
+        ensures { result ≡ self.now.share.caller }
+    {
+        self.share.caller()
+    }
+
+    /// A share of the same caller with one of the parts, and nothing booked. Takes no memory.
+    pub fn split(&mut self) -> FlightShare<B>
+        requires { 2 ≤ self.old.share.parts }
+        ensures new { result ≡ fresh_flight self.old.share.caller 1 }
+        ensures rest { self.new ≡ record self.old { share = record self.old.share { parts = self.old.share.parts - 1 } } }
+    {
+        FlightShare {
+            share: self.share.split(),
+            begun: self.begun.split_off(1, 0),
+            ended: self.ended.split_off(1, 0),
+        }
+    }
+
+    /// Adds the parts and numbers of a share of the same caller. Takes no memory.
+    pub fn absorb(&mut self, other: FlightShare<B>)
+        requires { other.share.caller ≡ self.old.share.caller }
+        ensures { self.new ≡ joined_flights self.old other }
+    {
+        self.put_together(other)
+    }
+
+    // Adds the parts and numbers of a share, also of another caller.
+    fn put_together(&mut self, other: FlightShare<B>)
+        ensures { self.new ≡ joined_flights self.old other }
+    {
+        let FlightShare {
+            share,
+            begun,
+            ended,
+        } = other;
+        self.share.put_together(share);
+        self.begun.merge(begun);
+        self.ended.merge(ended);
+    }
+}
+
+/// Shares of a memo with those of its claims, for each caller as many parts of either. Nothing is booked on any.
+pub fn flights_of<B: FlightBooks>(
+    alloc: Global,
+    shares: Vec<Share<B>>,
+    mut begun: Part<B::Begun>,
+    mut ended: Part<B::Ended>,
+) -> Result<Vec<FlightShare<B>>, NoMemory>
+    requires shares { shares.items ≡ opened (length shares.items) }
+    requires begun { (begun.parts ≡ parts_each * length shares.items) × (begun.amount ≡ 0) }
+    requires ended { (ended.parts ≡ parts_each * length shares.items) × (ended.amount ≡ 0) }
+    ensures { IfOk result (λ v. v.items ≡ opened_flights shares.items) }
+{
+    let mut flights = Vec::with_capacity(alloc, shares.len())?;
+    for share in shares {
+        flights.push_reserved(FlightShare {
+            share,
+            begun: begun.split_off(PARTS_EACH, 0),
+            ended: ended.split_off(PARTS_EACH, 0),
+        });
+    }
+    Ok(flights)
+}
+
+/// All shares put together, or none where there are none. Takes no memory.
+pub fn all_flights<B: FlightBooks>(mut flights: Vec<FlightShare<B>>) -> Option<FlightShare<B>>
+    ensures all { IfSome result (λ s. IsAllOf flights.items s) }
+    ensures none { IfNone result (flights.items ≡ []) }
+{
+    let mut all = flights.pop()?;
+    while let Some(flight) = flights.pop() {
+        all.put_together(flight);
+    }
+    Some(all)
+}
