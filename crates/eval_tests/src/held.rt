@@ -3,20 +3,20 @@
 
 ghost use Rattle.std.specs.Prelude.{◌≡◌, ◌*◌, ◌^◌, ◌<◌, ◌≤◌, [], length};
 ghost use Rattle.std.specs.Arc.{arc_value};
-ghost use Rattle.subtree_memo.specs.Shares.{parts_each};
+ghost use Rattle.subtree_memo.specs.Shares.{IsOf, parts_each};
 
 use crate::stores::{builders, store};
 use crate::trees::two_shells;
 use csg_tree::{CsgStore, TreeKey};
 use memo_core::MemoCore;
-use parallel_eval::{Builds, Gate, ShaNamer, SolidFit};
+use parallel_eval::{Gate, ShaNamer, SolidFit, solid_of};
 use std::alloc::Global;
 use std::marker::Brand;
 use std::process::Abort;
 use std::sync::ledger::Ledger;
 use std::sync::{Arc, Mutex, Wait};
 use std::thread::Threads;
-use subtree_memo::{Blanks, Memo, MemoLedger, Share, Tally};
+use subtree_memo::{Blanks, Books, Ledgers, Memo, MemoLedger, Share, Tally};
 use text_place::NoMemory;
 
 // The most turns for which a build is held. A turn takes the gate's lock once.
@@ -24,25 +24,25 @@ const TURNS: u32 = 100_000_000;
 
 // What a gate has seen, and the share of another caller.
 #[derive(Drop)]
-struct Seen<H: MemoLedger, M: Ledger, K: Ledger, E: Ledger> {
+struct Seen<B: Books> {
     entered: u32,
     is_asked: bool,
     gave_up: bool,
-    other: Share<H, M, K, E>,
+    other: Share<B>,
     ghost whole: { other.parts ≡ parts_each },
 }
 
 // Holds the first build until a second one was entered, and until the memo has answered the other caller,
 // who asks for a tree as the second build is entered.
 #[derive(Drop)]
-struct Holding<'a, H: MemoLedger, M: Ledger, K: Ledger, E: Ledger> {
+struct Holding<'a, B: Books> {
     alloc: Global,
-    memo: &'a Memo<SolidFit, ShaNamer, H, M, K, E>,
+    memo: &'a Memo<SolidFit, ShaNamer, B>,
     key: &'a Arc<TreeKey>,
-    seen: Mutex<Seen<H, M, K, E>>,
+    seen: Mutex<Seen<B>>,
 }
 
-impl<'a, H: MemoLedger, M: Ledger, K: Ledger, E: Ledger> Gate for Holding<'a, H, M, K, E> {
+impl<'a, B: Books> Gate for Holding<'a, B> {
     fn enter<R: Wait>(&self, rt: &R, _client: u32, _node: u32) -> Result<(), NoMemory> {
         match self.arrive(rt) {
             1 => self.wait(rt),
@@ -53,7 +53,7 @@ impl<'a, H: MemoLedger, M: Ledger, K: Ledger, E: Ledger> Gate for Holding<'a, H,
     }
 }
 
-impl<'a, H: MemoLedger, M: Ledger, K: Ledger, E: Ledger> Holding<'a, H, M, K, E> {
+impl<'a, B: Books> Holding<'a, B> {
     // How many builds were entered, this one included.
     fn arrive<R: Wait>(&self, rt: &R) -> u32 {
         let mut seen = self.seen.lock(rt);
@@ -94,12 +94,12 @@ fn make<
 >(
     rt: &'a R,
     alloc: Global,
-    memo: &'a Memo<SolidFit, ShaNamer, H, M, K, E>,
+    memo: &'a Memo<SolidFit, ShaNamer, Ledgers<H, M, K, E>>,
     key: &'a Arc<TreeKey>,
     store: &Arc<CsgStore>,
-    mut share: Share<H, M, K, E>,
-    other: Share<H, M, K, E>,
-) -> (Share<H, M, K, E>, Share<H, M, K, E>)
+    mut share: Share<Ledgers<H, M, K, E>>,
+    other: Share<Ledgers<H, M, K, E>>,
+) -> (Share<Ledgers<H, M, K, E>>, Share<Ledgers<H, M, K, E>>)
     requires some { 0 < length (arc_value store.now) }
     requires share { (share.parts ≡ parts_each) × (share.dropped ≡ 0) }
     requires other { other.parts ≡ parts_each }
@@ -117,14 +117,8 @@ fn make<
             other,
         }),
     };
-    let builds = Builds {
-        rt,
-        alloc,
-        memo,
-        gate: &gate,
-    };
     let mut two = builders(rt, alloc, 2);
-    let solid = builds.solid_of(store, &mut share, &mut two);
+    let solid = solid_of(rt, alloc, store, memo, &mut share, &mut two, &gate);
     assert!(rt; solid.is_ok(), "a solid");
     let Holding { seen, .. } = gate;
     let Seen { gave_up, other, .. } = seen.into_inner();
@@ -147,21 +141,17 @@ fn run<
     store: &Arc<CsgStore>,
 ) -> Tally
     requires empty { core.journal ≡ [] }
-    requires limits { (core.budget ≡ H.budget) × (core.share ≡ H.share) }
-    requires hits { (blanks.hits.name ≡ H.name) × (blanks.hits.parts ≡ H.parts)
-        × (H.parts ≡ parts_each * 2) }
-    requires misses { (blanks.misses.name ≡ M.name) × (blanks.misses.parts ≡ M.parts)
-        × (M.parts ≡ parts_each * 2) }
-    requires kept { (blanks.kept.name ≡ K.name) × (blanks.kept.parts ≡ K.parts)
-        × (K.parts ≡ parts_each * 2) }
-    requires heavy { (blanks.heavy.name ≡ E.name) × (blanks.heavy.parts ≡ E.parts)
-        × (E.parts ≡ parts_each * 2) }
+    requires limits { (core.budget ≡ H.budget) × (core.share ≡ H.share) × (blanks.callers ≡ H.callers) }
+    requires callers { blanks.callers ≡ 2 }
+    requires ledgers { IsOf H.name H.parts blanks.hits × IsOf M.name M.parts blanks.misses
+        × IsOf K.name K.parts blanks.kept × IsOf E.name E.parts blanks.heavy }
     requires some { 0 < length (arc_value store.now) }
 {
     let last = TreeKey::of(store, store.len()).expect(rt, "memory");
     let key = Arc::new(alloc, last).expect(rt, "memory");
-    let (memo, mut shares): (Memo<SolidFit, ShaNamer, H, M, K, E>, Vec<Share<H, M, K, E>>) =
-        Memo::open(alloc, core, 2, blanks).expect(rt, "memory");
+    let (memo, mut shares) = Memo::<SolidFit, ShaNamer, Ledgers<H, M, K, E>>::open(
+        alloc, core, blanks,
+    ).expect(rt, "memory");
     let other = shares.pop().expect(rt, "a share");
     let share = shares.pop().expect(rt, "a share");
     let (share, other) = make(rt, alloc, &memo, &key, store, share, other);

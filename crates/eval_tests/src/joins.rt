@@ -5,7 +5,7 @@ ghost use Rattle.csg_tree.specs.Trees.{formula_of};
 ghost use Rattle.csg_tree.specs.Numberings.{IsNumberIn, tree_numbered};
 ghost use Rattle.bsp_tree.specs.Shapes.{tree_of};
 ghost use Rattle.bsp_boolean.specs.Solids.{solid_of};
-ghost use Rattle.subtree_memo.specs.Shares.{parts_each};
+ghost use Rattle.subtree_memo.specs.Shares.{IsOf};
 ghost use Rattle.parallel_eval.specs.Joins.{IsJoinOf};
 ghost use Rattle.std.specs.Arc.{arc_value};
 
@@ -20,7 +20,7 @@ use std::marker::Brand;
 use std::process::Abort;
 use std::sync::ledger::Ledger;
 use std::sync::{Arc, Wait};
-use subtree_memo::{Blanks, Memo, MemoLedger, Share, Tally};
+use subtree_memo::{Blanks, Books, Ledgers, Memo, MemoLedger, Share, Tally};
 use text_place::NoMemory;
 
 // A gate that lets no build through.
@@ -98,10 +98,10 @@ fn solid_of_leaf(rt: &impl Abort, alloc: Global, store: &CsgStore, number: u32) 
 }
 
 // Asks twice for the solid of a join. Answers both sizes.
-fn twice<H: MemoLedger, M: Ledger, K: Ledger, E: Ledger, G: Gate, R: Wait>(
-    builds: &Builds<'_, ShaNamer, H, M, K, E, G, R>,
+fn twice<B: Books, G: Gate, R: Wait>(
+    builds: &Builds<'_, ShaNamer, B, G, R>,
     node: JoinNode<'_>,
-    share: &mut Share<H, M, K, E>,
+    share: &mut Share<B>,
 ) -> Result<(u64, u64), BuildStop>
     requires join { IsJoinOf node.op (tree_of node.left.now) (tree_of node.right.now)
         (arc_value node.key.now) }
@@ -124,15 +124,10 @@ fn run<H: MemoLedger, M: Ledger, K: Ledger, E: Ledger, G: Gate, R: Abort + Wait>
     gate: &G,
 ) -> (bool, Tally)
     requires empty { core.journal ≡ [] }
-    requires limits { (core.budget ≡ H.budget) × (core.share ≡ H.share) }
-    requires hits { (blanks.hits.name ≡ H.name) × (blanks.hits.parts ≡ H.parts)
-        × (H.parts ≡ parts_each * 1) }
-    requires misses { (blanks.misses.name ≡ M.name) × (blanks.misses.parts ≡ M.parts)
-        × (M.parts ≡ parts_each * 1) }
-    requires kept { (blanks.kept.name ≡ K.name) × (blanks.kept.parts ≡ K.parts)
-        × (K.parts ≡ parts_each * 1) }
-    requires heavy { (blanks.heavy.name ≡ E.name) × (blanks.heavy.parts ≡ E.parts)
-        × (E.parts ≡ parts_each * 1) }
+    requires limits { (core.budget ≡ H.budget) × (core.share ≡ H.share) × (blanks.callers ≡ H.callers) }
+    requires callers { blanks.callers ≡ 1 }
+    requires ledgers { IsOf H.name H.parts blanks.hits × IsOf M.name M.parts blanks.misses
+        × IsOf K.name K.parts blanks.kept × IsOf E.name E.parts blanks.heavy }
 {
     let store = union_of_two(rt, alloc);
     assert!(rt; store.len() == 3);
@@ -152,8 +147,9 @@ fn run<H: MemoLedger, M: Ledger, K: Ledger, E: Ledger, G: Gate, R: Abort + Wait>
         left: &left,
         right: &right,
     };
-    let (memo, mut shares): (Memo<SolidFit, ShaNamer, H, M, K, E>, Vec<Share<H, M, K, E>>) =
-        Memo::open(alloc, core, 1, blanks).expect(rt, "memory");
+    let (memo, mut shares) = Memo::<SolidFit, ShaNamer, Ledgers<H, M, K, E>>::open(
+        alloc, core, blanks,
+    ).expect(rt, "memory");
     let mut share = shares.pop().expect(rt, "a share");
     let builds = Builds {
         rt,

@@ -4,21 +4,21 @@ ghost use Rattle.std.specs.Prelude.{◌≡◌, ◌*◌, ◌^◌, ◌<◌, ◌≤
 ghost use Rattle.std.specs.Arc.{arc_value};
 ghost use Rattle.csg_tree.specs.ProperTrees.{IsProper};
 ghost use Rattle.csg_tree.specs.Trees.{formula_of};
-ghost use Rattle.subtree_memo.specs.Shares.{parts_each};
+ghost use Rattle.subtree_memo.specs.Shares.{IsOf};
 
-use crate::trees::{cuboids, pairs, slabs};
-use bsp_boolean::{PlainBuilder, TreeStop};
+use crate::trees::{combs, cuboids, pairs, plate_with_two_holes, slabs, two_shells};
+use bsp_boolean::{PlainBuilder, TreeStop, tree_solid};
 use bsp_tree::Solid;
 use csg_tree::{CsgStore, CsgTree, TreeKey};
 use memo_core::{MemoCore, Namer};
-use parallel_eval::{Builds, Gate, OpenGate, ShaNamer, SolidFit};
+use parallel_eval::{Gate, OpenGate, ShaNamer, SolidFit, solid_of};
 use std::alloc::Global;
 use std::marker::Brand;
 use std::process::Abort;
 use std::sync::ledger::Ledger;
 use std::sync::{Arc, Wait};
 use std::thread::Threads;
-use subtree_memo::{Blanks, Memo, MemoLedger, Share, Tally};
+use subtree_memo::{Blanks, Ledgers, Memo, MemoLedger, Tally};
 
 // How many builders there are at a time.
 const NUMBERS: [u8; 4] = [1, 2, 8, 64];
@@ -69,32 +69,21 @@ fn run<
     Tally,
 )
     requires empty { core.journal ≡ [] }
-    requires limits { (core.budget ≡ H.budget) × (core.share ≡ H.share) }
-    requires hits { (blanks.hits.name ≡ H.name) × (blanks.hits.parts ≡ H.parts)
-        × (H.parts ≡ parts_each * 1) }
-    requires misses { (blanks.misses.name ≡ M.name) × (blanks.misses.parts ≡ M.parts)
-        × (M.parts ≡ parts_each * 1) }
-    requires kept { (blanks.kept.name ≡ K.name) × (blanks.kept.parts ≡ K.parts)
-        × (K.parts ≡ parts_each * 1) }
-    requires heavy { (blanks.heavy.name ≡ E.name) × (blanks.heavy.parts ≡ E.parts)
-        × (E.parts ≡ parts_each * 1) }
+    requires limits { (core.budget ≡ H.budget) × (core.share ≡ H.share) × (blanks.callers ≡ H.callers) }
+    requires callers { blanks.callers ≡ 1 }
+    requires ledgers { IsOf H.name H.parts blanks.hits × IsOf M.name M.parts blanks.misses
+        × IsOf K.name K.parts blanks.kept × IsOf E.name E.parts blanks.heavy }
     requires some { 0 < length (arc_value store.now) }
     requires builders { (1 ≤ count) × (count ≤ 64) }
 {
-    let (memo, mut shares): (Memo<SolidFit, N, H, M, K, E>, Vec<Share<H, M, K, E>>) = Memo::open(
-        alloc, core, 1, blanks,
+    let (memo, mut shares) = Memo::<SolidFit, N, Ledgers<H, M, K, E>>::open(
+        alloc, core, blanks,
     ).expect(rt, "memory");
     let mut share = shares.pop().expect(rt, "a share");
-    let builds = Builds {
-        rt,
-        alloc,
-        memo: &memo,
-        gate,
-    };
     let mut first = builders(rt, alloc, count);
     let mut second = builders(rt, alloc, count);
-    let once = builds.solid_of(store, &mut share, &mut first);
-    let again = builds.solid_of(store, &mut share, &mut second);
+    let once = solid_of(rt, alloc, store, &memo, &mut share, &mut first, gate);
+    let again = solid_of(rt, alloc, store, &memo, &mut share, &mut second, gate);
     shares.push(share).expect(rt, "memory");
     let (tally, _core) = memo.close(shares);
     (once, again, tally)
@@ -151,7 +140,7 @@ fn has_size<R: Abort + Threads + Wait + Sync>(
 }
 
 // The node of the first number that is too big by itself, or else the one up to which all are.
-fn stopped(answer: Result<Arc<Solid>, TreeStop>) -> (u32, u32) {
+fn stopped<T: Drop>(answer: Result<T, TreeStop>) -> (u32, u32) {
     match answer {
         Ok(_) | Err(TreeStop::NoMemory) => (0, 0),
         Err(TreeStop::TooBig(number)) => (number, 0),
@@ -176,6 +165,62 @@ fn stops<R: Abort + Threads + Wait + Sync>(
             assert_eq!(rt; stopped(again), wanted);
         }
     }
+}
+
+// Whether two solids have the same planes, so many nodes, the same size, and begin alike.
+fn are_alike(one: &Solid, other: &Solid) -> bool {
+    let (planes, forest, root) = one.parts();
+    let (others, nodes, first) = other.parts();
+    planes == others && forest.len() == nodes.len() && root == first && one.count() == other.count()
+}
+
+// Whether a store's solid, or what stops it, is the same as without a memo.
+fn end_alike(alone: &Result<Solid, TreeStop>, shared: &Result<Arc<Solid>, TreeStop>) -> bool {
+    match (alone, shared) {
+        (Ok(one), Ok(other)) => are_alike(one, other),
+        (Err(TreeStop::TooBig(one)), Err(TreeStop::TooBig(other))) => one == other,
+        (Err(TreeStop::SumTooBig(one)), Err(TreeStop::SumTooBig(other))) => one == other,
+        _ => false,
+    }
+}
+
+// By any number of builders and any memo, a store has the solid, or the stop, that it has without a memo.
+// Answers that stop.
+fn ends_as_alone<R: Abort + Threads + Wait + Sync>(
+    rt: &R,
+    alloc: Global,
+    tree: &CsgTree,
+) -> (u32, u32)
+    requires { IsProper (formula_of tree.now) }
+{
+    let store = store(rt, alloc, tree);
+    assert!(rt; store.len() > 0);
+    let alone = tree_solid(alloc, &store, &mut PlainBuilder::new());
+    for (budget, count) in [(0, 1), (0, 8), (500_000, 1), (500_000, 8)] {
+        let (once, again, _tally) = made(rt, alloc, ShaNamer, budget, &OpenGate, &store, count);
+        assert!(rt; end_alike(&alone, &once));
+        assert!(rt; end_alike(&alone, &again));
+    }
+    stopped(alone)
+}
+
+#[test]
+fn solids_are_those_without_a_memo(rt: HostRuntime) {
+    let alloc = rt.alloc();
+    ends_as_alone(&rt, alloc, &slabs(&rt, alloc, 0, 1));
+    ends_as_alone(&rt, alloc, &slabs(&rt, alloc, 2, 40));
+    ends_as_alone(&rt, alloc, &pairs(&rt, alloc, 1, 30));
+    ends_as_alone(&rt, alloc, &cuboids(&rt, alloc, 10, 9));
+    ends_as_alone(&rt, alloc, &plate_with_two_holes(&rt, alloc));
+    ends_as_alone(&rt, alloc, &two_shells(&rt, alloc));
+}
+
+// Combs of 30 slabs each meet in 27,000 cubes, at the last of 90 leaves and 89 joins.
+#[test]
+fn combs_stop_as_without_a_memo(rt: HostRuntime) {
+    let alloc = rt.alloc();
+    let tree = combs(&rt, alloc, 30);
+    assert_eq!(&rt; ends_as_alone(&rt, alloc, &tree), (179, 0));
 }
 
 // A union of k slabs is 10 k in size, and has k leaves and k - 1 joins.

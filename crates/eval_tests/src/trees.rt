@@ -158,6 +158,22 @@ pub fn cuboids(rt: &impl Abort, alloc: Global, of_x: u16, of_y: u16) -> CsgTree
     joined(rt, alloc, Op::Intersection, bars, slab(rt, alloc, 2, 0))
 }
 
+// The cubes in which so many slabs of each axis meet.
+pub fn combs(rt: &impl Abort, alloc: Global, count: u16) -> CsgTree
+    ensures { IsProper (formula_of result) }
+{
+    let across = slabs(rt, alloc, 0, count);
+    let along = slabs(rt, alloc, 1, count);
+    let bars = joined(rt, alloc, Op::Intersection, across, along);
+    joined(
+        rt,
+        alloc,
+        Op::Intersection,
+        bars,
+        slabs(rt, alloc, 2, count),
+    )
+}
+
 // A cuboid along the axes, from its least corner to its greatest.
 fn cuboid(rt: &impl Abort, alloc: Global, from: [u16; 3], to: [u16; 3]) -> CsgTree
     ensures { IsProper (formula_of result) }

@@ -4,6 +4,8 @@
 #[cfg(test)]
 mod alike;
 #[cfg(test)]
+mod freed;
+#[cfg(test)]
 mod memos;
 #[cfg(test)]
 mod pieces;

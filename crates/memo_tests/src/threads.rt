@@ -1,6 +1,6 @@
 ghost use Rattle.std.specs.Prelude.{◌≡◌, ◌+◌, ◌*◌, ◌<◌, ◌≤◌, [], IfOk};
 ghost use Rattle.memo_core.specs.Memo.{IsLegal};
-ghost use Rattle.subtree_memo.specs.Shares.{parts_each};
+ghost use Rattle.subtree_memo.specs.Shares.{IsOf};
 ghost use Rattle.subtree_memo.specs.Tallies.{tally_of};
 
 use crate::pieces::{Bytes, Piece, Pieces};
@@ -13,18 +13,18 @@ use std::sync::{Arc, Wait};
 use std::test::Fail;
 use std::thread;
 use std::thread::Threads;
-use subtree_memo::{Blanks, Memo, MemoLedger, Share, Tally};
+use subtree_memo::{Blanks, Books, Ledgers, Memo, MemoLedger, Share, Tally};
 use text_place::NoMemory;
 
 // Each caller asks for the keys below this number.
 const KEYS: u32 = 20;
 
 // Asks for a key, and offers a piece for it where it was missed. That of key 0 is above the budget.
-fn ask<H: MemoLedger, M: Ledger, K: Ledger, E: Ledger, R: Wait>(
+fn ask<B: Books, R: Wait>(
     rt: &R,
     alloc: Global,
-    memo: &Memo<Pieces, Bytes, H, M, K, E>,
-    share: &mut Share<H, M, K, E>,
+    memo: &Memo<Pieces, Bytes, B>,
+    share: &mut Share<B>,
     key: u32,
 ) -> Result<(), NoMemory>
     requires { 0 < share.old.parts }
@@ -41,12 +41,12 @@ fn ask<H: MemoLedger, M: Ledger, K: Ledger, E: Ledger, R: Wait>(
 }
 
 // Asks for all keys, each by a part of the share that is split off and absorbed.
-fn ask_all<H: MemoLedger, M: Ledger, K: Ledger, E: Ledger, R: Wait>(
+fn ask_all<B: Books, R: Wait>(
     rt: &R,
     alloc: Global,
-    memo: &Memo<Pieces, Bytes, H, M, K, E>,
-    mut share: Share<H, M, K, E>,
-) -> Share<H, M, K, E>
+    memo: &Memo<Pieces, Bytes, B>,
+    mut share: Share<B>,
+) -> Share<B>
     requires { 2 ≤ share.parts }
     ensures { result.parts ≡ share.parts }
 {
@@ -72,21 +72,14 @@ fn run<
     blanks: Blanks,
 ) -> Result<(Tally, MemoCore<Pieces, Bytes>), NoMemory>
     requires empty { core.journal ≡ [] }
-    requires limits { (core.budget ≡ H.budget) × (core.share ≡ H.share) }
-    requires hits { (blanks.hits.name ≡ H.name) × (blanks.hits.parts ≡ H.parts)
-        × (H.parts ≡ parts_each * 2) }
-    requires misses { (blanks.misses.name ≡ M.name) × (blanks.misses.parts ≡ M.parts)
-        × (M.parts ≡ parts_each * 2) }
-    requires kept { (blanks.kept.name ≡ K.name) × (blanks.kept.parts ≡ K.parts)
-        × (K.parts ≡ parts_each * 2) }
-    requires heavy { (blanks.heavy.name ≡ E.name) × (blanks.heavy.parts ≡ E.parts)
-        × (E.parts ≡ parts_each * 2) }
+    requires limits { (core.budget ≡ H.budget) × (core.share ≡ H.share) × (blanks.callers ≡ H.callers) }
+    requires callers { blanks.callers ≡ 2 }
+    requires ledgers { IsOf H.name H.parts blanks.hits × IsOf M.name M.parts blanks.misses
+        × IsOf K.name K.parts blanks.kept × IsOf E.name E.parts blanks.heavy }
     ensures tally { IfOk result (λ r. r.0 ≡ tally_of r.1.journal r.0.dropped) }
     ensures limits { IfOk result (λ r. (r.1.budget ≡ H.budget) × (r.1.share ≡ H.share)) }
 {
-    let (memo, mut shares): (Memo<Pieces, Bytes, H, M, K, E>, Vec<Share<H, M, K, E>>) = Memo::open(
-        alloc, core, 2, blanks,
-    )?;
+    let (memo, mut shares) = Memo::<Pieces, Bytes, Ledgers<H, M, K, E>>::open(alloc, core, blanks)?;
     let Some(second) = shares.pop() else {
         return Err(NoMemory);
     };
@@ -96,11 +89,11 @@ fn run<
     let shared = &memo;
     let (first, second) = thread::join(
         rt,
-        move || -> Share<H, M, K, E>
+        move || -> Share<Ledgers<H, M, K, E>>
             requires { 2 ≤ first.parts }
             ensures { result.parts ≡ first.parts }
         { ask_all(rt, alloc, shared, first) },
-        move || -> Share<H, M, K, E>
+        move || -> Share<Ledgers<H, M, K, E>>
             requires { 2 ≤ second.parts }
             ensures { result.parts ≡ second.parts }
         { ask_all(rt, alloc, shared, second) },

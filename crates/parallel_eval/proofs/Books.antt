@@ -1,7 +1,7 @@
 -- What is counted for joins, put together.
-use Rattle.std.proofs.Common.{◌≡◌, ℕ, ◌+◌, ◌≤◌, Result, Ok, Err, OnOk, arith}
+use Rattle.std.proofs.Common.{◌≡◌, ℕ, ◌+◌, ◌≤◌, refl, ◌∙◌, arith}
 use Rattle.subtree_memo.specs.Shares.{View}
-use Rattle.parallel_eval.specs.Joins.{AreAnswered, AreBegun}
+use Rattle.parallel_eval.specs.Joins.{AreAnswered, AreBegun, AreAsked}
 
 pub none_begun : (a b n : ℕ) (s : View) → a ≤ b → AreBegun a b s s n n
 none_begun a b n s h = record {
@@ -83,11 +83,39 @@ few_dropped a b m n s t h = omega (arith, h.hits, h.kept, h.heavy, h.probes, h.o
 pub few_builds : (a b m n : ℕ) (s t : View) → AreBegun a b s t m n → n + a ≤ m + b
 few_builds a b m n s t h = omega (arith, h.hits, h.probes, h.builds)
 
--- what holds in any case holds of an answer
-pub on_ok : {T E : Type 0} (P : Type 0) (r : Result T E) → P → OnOk r P
-on_ok P (Ok x) p = p
-on_ok P (Err e) p = tt
+-- nothing was asked
+pub none_asked : (done : Type 0) (a b n : ℕ) (s : View) → a ≤ b → (done → a ≡ b) → AreAsked done a b s s n n
+none_asked done a b n s h e = record {
+  caller = refl;
+  parts = refl;
+  begun = none_begun a b n s h;
+  answered = λ all. none_answered a b n s (e all);
+}
 
-pub on_ok_more : {T E : Type 0} (P Q : Type 0) (r : Result T E) → (P → Q) → OnOk r P → OnOk r Q
-on_ok_more P Q (Ok x) f p = f p
-on_ok_more P Q (Err e) f p = tt
+-- one join, at the number at which it stands
+pub asked_at : (done : Type 0) (a b m n : ℕ) (s t : View) → b ≡ a + 1 → AreAsked done 0 1 s t m n → AreAsked done a b s t m n
+asked_at done a b m n s t e h = record {
+  caller = h.caller;
+  parts = h.parts;
+  begun = begun_at a b m n s t e h.begun;
+  answered = λ all. answered_at a b m n s t e (h.answered all);
+}
+
+-- some joins and others behind them
+pub asked_behind : (first second both : Type 0) (a b c l m n : ℕ) (s t u : View) → (both → first) → (both → second) →
+    AreAsked first a b s t l m → AreAsked second b c t u m n → AreAsked both a c s u l n
+asked_behind first second both a b c l m n s t u p q h k = record {
+  caller = k.caller ∙ h.caller;
+  parts = k.parts ∙ h.parts;
+  begun = begun_behind a b c l m n s t u h.begun k.begun;
+  answered = λ all. answered_behind a b c l m n s t u (h.answered (p all)) (k.answered (q all));
+}
+
+-- joins that were not all done, as some of more
+pub asked_up_to : (some all : Type 0) (a b c m n : ℕ) (s t : View) → (all → ⊥) → AreAsked some a b s t m n → b ≤ c → AreAsked all a c s t m n
+asked_up_to some all a b c m n s t never h le = record {
+  caller = h.caller;
+  parts = h.parts;
+  begun = begun_up_to a b c m n s t h.begun le;
+  answered = λ done. absurd (never done);
+}

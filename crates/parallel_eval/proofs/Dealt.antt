@@ -1,26 +1,28 @@
 -- Fresh lanes and the builders that get them, and the builders that get none.
-use Rattle.std.proofs.Common.{◌≡◌, ℕ, ◌+◌, ◌^◌, ◌≤◌, List, [], ◌∷◌, length, ap, arith}
-use Rattle.std.proofs.lemmas.List.Elements.{All-head, All-tail}
+use Rattle.std.proofs.Common.{◌≡◌, ℕ, suc, ◌+◌, ◌-◌, ◌*◌, ◌^◌, ◌≤◌, ◌<◌, List, [], ◌∷◌, ◌++◌, All, length, ap, sym, subst, ◌∙◌, arith}
+use Rattle.std.proofs.Math.Nat.{suc-mul}
+use Rattle.std.proofs.lemmas.List.Elements.{All-head, All-tail, All-push}
 use Rattle.pair_work.specs.Pairs.{EachReady}
 use Rattle.subtree_memo.specs.Shares.{View, fresh}
-use Rattle.parallel_eval.specs.declared.lanes.Lane.{Lane}
-use Rattle.parallel_eval.specs.Joins.{AreAnswered, AreBegun}
-use Rattle.parallel_eval.specs.Runs.{IsLaneReady, AreFreshLanes, AreAtMost}
+use Rattle.subtree_memo.specs.declared.ledgers.MemoLedger.{Ghosts}
+use Rattle.parallel_eval.specs.declared.lane.Lane.{Lane}
+use Rattle.parallel_eval.specs.Joins.{AreAnswered, AreBegun, AreAtMost}
+use Rattle.parallel_eval.specs.Runs.{IsLaneReady, AreFreshLanes}
 
-module _ {H M K E : Type 0} where
+module _ {B H M K E : Type 0} {g : Ghosts H} where
   -- fresh lanes end where they say
-  pub fresh_end : (caller before last : ℕ) (lanes : List (Lane H M K E)) → AreFreshLanes caller before last lanes → before ≤ last
+  pub fresh_end : (caller before last : ℕ) (lanes : List (Lane B H M K E g)) → AreFreshLanes caller before last lanes → before ≤ last
   fresh_end caller before last [] e = omega (arith, e)
   fresh_end caller before last (lane ∷ lanes) e =
       let here : before ≤ lane.last = e.2 in
       let rest : lane.last ≤ last = fresh_end caller lane.last last lanes e.4 in
       omega arith
 
-module _ {B H M K E : Type 0} (count : B → ℕ) where
+module _ {D B H M K E : Type 0} {g : Ghosts H} (count : D → ℕ) where
   -- fresh lanes may be worked on, by builders with few builds
-  pub each_ready : (W : Type 0) → W → (start many before last caller most : ℕ) (bs : List B) (ls : List (Lane H M K E)) →
+  pub each_ready : (W : Type 0) → W → (start many before last caller most : ℕ) (bs : List D) (ls : List (Lane B H M K E g)) →
       AreFreshLanes caller before last ls → start ≤ before → last ≤ start + many → AreAtMost count most bs → most ≤ 2 ^ 47 → length bs ≡ length ls →
-      EachReady (λ (b : B) (l : Lane H M K E). W × IsLaneReady start many (count b) l) bs ls
+      EachReady (λ (b : D) (l : Lane B H M K E g). W × IsLaneReady start many (count b) l) bs ls
   each_ready W w start many before last caller most [] [] e low high few enough same = tt
   each_ready W w start many before last caller most [] (l ∷ ls) e low high few enough same = absurd (omega arith)
   each_ready W w start many before last caller most (b ∷ bs) [] e low high few enough same = absurd (omega arith)
@@ -39,7 +41,6 @@ module _ {B H M K E : Type 0} (count : B → ℕ) where
         few = omega arith;
         empty = e.3;
         first = omega arith;
-        order = omega arith;
         last = omega arith;
       } in
       ((w, one), each_ready W w start many l.last last caller most bs ls e.4 (omega arith) high (All-tail (λ x. count x ≤ most) b bs few) enough (omega arith))
@@ -85,3 +86,25 @@ answered_with_parts a b m n k s t h = record {
   builds = h.builds;
   offered = h.offered;
 }
+
+left_of : (next a b least more x y last : ℕ) → a ≡ b + least → more + y ≡ x → next + a + x ≡ last → next + least + more + b + y ≡ last
+left_of next a b least more x y last e f all = omega arith
+
+-- what is left of some nodes behind a lane that has so many, or one more
+pub left_for : (next count index least longer more last : ℕ) → index < count → more + (longer - (index + 1)) ≡ longer - index →
+    next + (count - index) * least + (longer - index) ≡ last → next + least + more + (count - (index + 1)) * least + (longer - (index + 1)) ≡ last
+left_for next count index least longer more last room one all =
+    let here : count - index ≡ suc (count - (index + 1)) = omega arith in
+    let times : (count - index) * least ≡ (count - (index + 1)) * least + least =
+    ap (λ n. n * least) here ∙ suc-mul (count - (index + 1)) least in
+    left_of next ((count - index) * least) ((count - (index + 1)) * least) least more (longer - index) (longer - (index + 1)) last times one all
+
+module _ {B H M K E : Type 0} {g : Ghosts H} where
+  -- a lane more that has so many nodes, or one more
+  pub even_more : (least : ℕ) (lanes new : List (Lane B H M K E g)) (lane : Lane B H M K E g) (next more : ℕ) → new ≡ lanes ++ lane ∷ [] →
+      All (λ l. (l.before + least ≤ l.last) × (l.last ≤ l.before + least + 1)) lanes → lane.before ≡ next → lane.last ≡ next + least + more → more ≤ 1 →
+      All (λ l. (l.before + least ≤ l.last) × (l.last ≤ l.before + least + 1)) new
+  even_more least lanes new lane next more items all first end one =
+      let P : Lane B H M K E g → Type 0 = λ l. (l.before + least ≤ l.last) × (l.last ≤ l.before + least + 1) in
+      let here : P lane = (omega (arith, first, end, one), omega (arith, first, end, one)) in
+      subst (All P) (sym items) (All-push P lanes lane all here)

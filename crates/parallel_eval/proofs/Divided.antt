@@ -6,18 +6,19 @@ use Rattle.std.proofs.lemmas.List.Sums.{sum_by-append}
 use Rattle.csg_tree.specs.Formulas.{Formula}
 use Rattle.pair_work.specs.Pairs.{EachWorked}
 use Rattle.subtree_memo.specs.Shares.{View, dropped_max}
-use Rattle.parallel_eval.specs.declared.lanes.Lane.{Lane}
-use Rattle.parallel_eval.specs.Joins.{AreAnswered, AreBegun}
-use Rattle.parallel_eval.specs.Runs.{joins_to, IsLaneDone, AreFreshLanes, AreLanes, AreComplete, AreOfCaller, AreAtMost, with_lanes}
+use Rattle.subtree_memo.specs.declared.ledgers.MemoLedger.{Ghosts}
+use Rattle.parallel_eval.specs.declared.lane.Lane.{Lane}
+use Rattle.parallel_eval.specs.Joins.{AreAnswered, AreBegun, AreAsked, AreAtMost}
+use Rattle.parallel_eval.specs.Runs.{joins_to, IsLaneDone, AreFreshLanes, AreLanes, AreComplete, AreOfCaller, with_lanes}
 use Rattle.parallel_eval.proofs.Dealt.{begun_beside, answered_beside, begun_with_parts, answered_with_parts}
 use Rattle.parallel_eval.proofs.Worked.{lanes_begun, lanes_answered, lanes_parts, lanes_order, lanes_at_most, lanes_of, lanes_caller, same_lengths}
 
-module _ {B H M K E : Type 0} (count : B → ℕ) (trees : List Formula) (start last : ℕ) (share v : View) (bs idle cs : List B) (ls ms : List (Lane H M K E)) where
+module _ {D B H M K E : Type 0} {g : Ghosts H} (count : D → ℕ) (trees : List Formula) (start last : ℕ) (share v : View) (bs idle cs : List D) (ls ms : List (Lane B H M K E g)) where
   -- what is known of them
   pub record IsDivided : Type 0 where
     pub rest : v ≡ record share { parts = share.parts - length ls }
     pub fresh : AreFreshLanes share.caller start last ls
-    pub worked : EachWorked (λ (b : B) (l : Lane H M K E) (c : B) (m : Lane H M K E). IsLaneDone trees l m (count b) (count c)) bs ls cs ms
+    pub worked : EachWorked (λ (b : D) (l : Lane B H M K E g) (c : D) (m : Lane B H M K E g). IsLaneDone trees l m (count b) (count c)) bs ls cs ms
     pub dropped : share.dropped ≤ 2 ^ 46 + joins_to trees start
     pub few : joins_to trees last ≤ 2 ^ 32
 
@@ -69,19 +70,28 @@ module _ {B H M K E : Type 0} (count : B → ℕ) (trees : List Formula) (start 
   pub divided_lanes : IsDivided → AreLanes trees start last ms
   divided_lanes h = lanes_of count trees start last share.caller bs ls cs ms h.fresh h.worked
 
-  pub divided_caller : IsDivided → (v.caller ≡ share.caller) × AreOfCaller share.caller ms
-  divided_caller h = (ap (λ (s : View). s.caller) h.rest, lanes_caller count trees start last share.caller bs ls cs ms h.fresh h.worked)
+  pub divided_caller : IsDivided → AreOfCaller v.caller ms
+  divided_caller h = subst (λ n. AreOfCaller n ms) (sym (ap (λ (s : View). s.caller) h.rest)) (lanes_caller count trees start last share.caller bs ls cs ms h.fresh h.worked)
+
+  pub divided_asked : IsDivided → length ls ≤ share.parts → (with_lanes v ms).caller ≡ v.caller →
+      AreAsked (AreComplete ms) (joins_to trees start) (joins_to trees last) share (with_lanes v ms) (sum_by count (bs ++ idle)) (sum_by count (cs ++ idle))
+  divided_asked h enough caller = record {
+    caller = caller ∙ ap (λ (s : View). s.caller) h.rest;
+    parts = divided_parts h enough;
+    begun = divided_begun h;
+    answered = divided_answered h;
+  }
 
   pub divided_many : IsDivided → length ms ≡ length ls
   divided_many h = (same_lengths count trees bs ls cs ms h.worked).1
 
-module _ {B H M K E : Type 0} (count : B → ℕ) (trees : List Formula) (start last : ℕ) (share v : View) (bs idle cs : List B) (items ls ms : List (Lane H M K E)) where
+module _ {D B H M K E : Type 0} {g : Ghosts H} (count : D → ℕ) (trees : List Formula) (start last : ℕ) (share v : View) (bs idle cs : List D) (items ls ms : List (Lane B H M K E g)) where
   pub divided_of : v ≡ record share { parts = share.parts - length items } → AreFreshLanes share.caller start last items → ls ≡ items →
-      EachWorked (λ (b : B) (l : Lane H M K E) (c : B) (m : Lane H M K E). IsLaneDone trees l m (count b) (count c)) bs ls cs ms →
+      EachWorked (λ (b : D) (l : Lane B H M K E g) (c : D) (m : Lane B H M K E g). IsLaneDone trees l m (count b) (count c)) bs ls cs ms →
       share.dropped ≤ 2 ^ 46 + joins_to trees start → joins_to trees last ≤ length trees → length trees < 2 ^ 32 →
       IsDivided count trees start last share v bs idle cs ls ms
   divided_of rest fresh same worked dropped some few = record {
-    rest = rest ∙ ap (λ (l : List (Lane H M K E)). record share { parts = share.parts - length l }) (sym same);
+    rest = rest ∙ ap (λ (l : List (Lane B H M K E g)). record share { parts = share.parts - length l }) (sym same);
     fresh = subst (AreFreshLanes share.caller start last) (sym same) fresh;
     worked = worked;
     dropped = dropped;

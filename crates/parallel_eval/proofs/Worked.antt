@@ -5,9 +5,10 @@ use Rattle.std.proofs.lemmas.List.Sums.{sum_by-cons}
 use Rattle.csg_tree.specs.Formulas.{Formula}
 use Rattle.pair_work.specs.Pairs.{EachWorked}
 use Rattle.subtree_memo.specs.Shares.{View, fresh, joined, dropped_max}
-use Rattle.parallel_eval.specs.declared.lanes.Lane.{Lane}
-use Rattle.parallel_eval.specs.Joins.{AreAnswered, AreBegun}
-use Rattle.parallel_eval.specs.Runs.{joins_to, AreOutcomes, IsComplete, IsLaneDone, AreFreshLanes, AreLanes, AreComplete, AreOfCaller, AreAtMost, with_lanes}
+use Rattle.subtree_memo.specs.declared.ledgers.MemoLedger.{Ghosts}
+use Rattle.parallel_eval.specs.declared.lane.Lane.{Lane}
+use Rattle.parallel_eval.specs.Joins.{AreAnswered, AreBegun, AreAtMost}
+use Rattle.parallel_eval.specs.Runs.{joins_to, AreOutcomes, IsComplete, IsLaneDone, AreFreshLanes, AreLanes, AreComplete, AreOfCaller, with_lanes}
 use Rattle.parallel_eval.proofs.Books.{none_begun, none_answered, few_dropped, few_builds}
 
 -- what was counted on a fresh share counts the same on one that it is put to
@@ -56,25 +57,25 @@ both_answered a b c l l' m m' s t u h k = record {
   offered = omega (arith, h.offered, k.offered);
 }
 
-module _ {B H M K E : Type 0} (count : B → ℕ) (trees : List Formula) where
-  abbrev pub Done : B → Lane H M K E → B → Lane H M K E → Type 0
+module _ {D B H M K E : Type 0} {g : Ghosts H} (count : D → ℕ) (trees : List Formula) where
+  abbrev pub Done : D → Lane B H M K E g → D → Lane B H M K E g → Type 0
   Done b l c m = IsLaneDone trees l m (count b) (count c)
 
   -- a lane's own numbers, at the number where the lanes begin
-  one_begun : (before caller : ℕ) (b c : B) (l m : Lane H M K E) → l.share ≡ fresh caller 1 → l.before ≡ before → Done b l c m →
+  one_begun : (before caller : ℕ) (b c : D) (l m : Lane B H M K E g) → l.share ≡ fresh caller 1 → l.before ≡ before → Done b l c m →
       AreBegun (joins_to trees before) (joins_to trees l.last) (fresh caller 1) m.share (count b) (count c)
   one_begun before caller b c l m s e h =
       subst (λ x. AreBegun (joins_to trees x) (joins_to trees l.last) (fresh caller 1) m.share (count b) (count c)) e
-      (subst (λ x. AreBegun (joins_to trees l.before) (joins_to trees l.last) x m.share (count b) (count c)) s h.begun)
+      (subst (λ x. AreBegun (joins_to trees l.before) (joins_to trees l.last) x m.share (count b) (count c)) s h.asked.begun)
 
-  one_answered : (before caller : ℕ) (b c : B) (l m : Lane H M K E) → l.share ≡ fresh caller 1 → l.before ≡ before → Done b l c m →
+  one_answered : (before caller : ℕ) (b c : D) (l m : Lane B H M K E g) → l.share ≡ fresh caller 1 → l.before ≡ before → Done b l c m →
       IsComplete m.before m.last m.made.items → AreAnswered (joins_to trees before) (joins_to trees l.last) (fresh caller 1) m.share (count b) (count c)
   one_answered before caller b c l m s e h all =
       subst (λ x. AreAnswered (joins_to trees x) (joins_to trees l.last) (fresh caller 1) m.share (count b) (count c)) e
       (subst (λ x. AreAnswered (joins_to trees l.before) (joins_to trees l.last) x m.share (count b) (count c)) s
-      (h.answered (subst (λ x. IsComplete x l.last m.made.items) h.before (subst (λ x. IsComplete m.before x m.made.items) h.last all))))
+      (h.asked.answered (subst (λ x. IsComplete x l.last m.made.items) h.before (subst (λ x. IsComplete m.before x m.made.items) h.last all))))
 
-  pub lanes_begun : (before last caller : ℕ) (v : View) (bs : List B) (ls : List (Lane H M K E)) (cs : List B) (ms : List (Lane H M K E)) →
+  pub lanes_begun : (before last caller : ℕ) (v : View) (bs : List D) (ls : List (Lane B H M K E g)) (cs : List D) (ms : List (Lane B H M K E g)) →
       AreFreshLanes caller before last ls → EachWorked Done bs ls cs ms → v.dropped + joins_to trees last ≤ dropped_max + joins_to trees before →
       AreBegun (joins_to trees before) (joins_to trees last) v (with_lanes v ms) (sum_by count bs) (sum_by count cs)
   lanes_begun before last caller v [] [] [] [] e h room =
@@ -90,7 +91,7 @@ module _ {B H M K E : Type 0} (count : B → ℕ) (trees : List Formula) where
       (both_begun (joins_to trees before) (joins_to trees l.last) (joins_to trees last) (count b) (count c) (sum_by count bs) (sum_by count cs) v (with_lanes v ms) (joined (with_lanes v ms) m.share) others here))
   lanes_begun before last caller v bs ls cs ms e h room = absurd h
 
-  pub lanes_answered : (before last caller : ℕ) (v : View) (bs : List B) (ls : List (Lane H M K E)) (cs : List B) (ms : List (Lane H M K E)) →
+  pub lanes_answered : (before last caller : ℕ) (v : View) (bs : List D) (ls : List (Lane B H M K E g)) (cs : List D) (ms : List (Lane B H M K E g)) →
       AreFreshLanes caller before last ls → EachWorked Done bs ls cs ms → v.dropped + joins_to trees last ≤ dropped_max + joins_to trees before → AreComplete ms →
       AreAnswered (joins_to trees before) (joins_to trees last) v (with_lanes v ms) (sum_by count bs) (sum_by count cs)
   lanes_answered before last caller v [] [] [] [] e h room all =
@@ -109,34 +110,33 @@ module _ {B H M K E : Type 0} (count : B → ℕ) (trees : List Formula) where
   lanes_answered before last caller v bs ls cs ms e h room all = absurd h
 
   -- the lanes say what came of all nodes in order
-  pub lanes_of : (before last caller : ℕ) (bs : List B) (ls : List (Lane H M K E)) (cs : List B) (ms : List (Lane H M K E)) →
+  pub lanes_of : (before last caller : ℕ) (bs : List D) (ls : List (Lane B H M K E g)) (cs : List D) (ms : List (Lane B H M K E g)) →
       AreFreshLanes caller before last ls → EachWorked Done bs ls cs ms → AreLanes trees before last ms
   lanes_of before last caller [] [] [] [] e h = e
   lanes_of before last caller (b ∷ bs) (l ∷ ls) (c ∷ cs) (m ∷ ms) e h = (
     h.0.before ∙ e.1,
-    subst (λ x. before + length m.made.items ≤ x) (sym h.0.last) (subst (λ x. x + length m.made.items ≤ l.last) e.1 h.0.most),
     subst (λ x. AreOutcomes trees x m.made.items) e.1 h.0.outcomes,
     subst (λ x. AreLanes trees x last ms) (sym h.0.last) (lanes_of l.last last caller bs ls cs ms e.4 h.1),
   )
   lanes_of before last caller bs ls cs ms e h = absurd h
 
-  pub lanes_caller : (before last caller : ℕ) (bs : List B) (ls : List (Lane H M K E)) (cs : List B) (ms : List (Lane H M K E)) →
+  pub lanes_caller : (before last caller : ℕ) (bs : List D) (ls : List (Lane B H M K E g)) (cs : List D) (ms : List (Lane B H M K E g)) →
       AreFreshLanes caller before last ls → EachWorked Done bs ls cs ms → AreOfCaller caller ms
   lanes_caller before last caller [] [] [] [] e h = tt
   lanes_caller before last caller (b ∷ bs) (l ∷ ls) (c ∷ cs) (m ∷ ms) e h =
-      (h.0.caller ∙ ap (λ s. s.caller) e.0, lanes_caller l.last last caller bs ls cs ms e.4 h.1)
+      (h.0.asked.caller ∙ ap (λ s. s.caller) e.0, lanes_caller l.last last caller bs ls cs ms e.4 h.1)
   lanes_caller before last caller bs ls cs ms e h = absurd h
 
-  pub lanes_parts : (before last caller : ℕ) (v : View) (bs : List B) (ls : List (Lane H M K E)) (cs : List B) (ms : List (Lane H M K E)) →
+  pub lanes_parts : (before last caller : ℕ) (v : View) (bs : List D) (ls : List (Lane B H M K E g)) (cs : List D) (ms : List (Lane B H M K E g)) →
       AreFreshLanes caller before last ls → EachWorked Done bs ls cs ms → (with_lanes v ms).parts ≡ v.parts + length ls
   lanes_parts before last caller v [] [] [] [] e h = omega arith
   lanes_parts before last caller v (b ∷ bs) (l ∷ ls) (c ∷ cs) (m ∷ ms) e h =
-      let one : m.share.parts ≡ 1 = h.0.parts ∙ ap (λ s. s.parts) e.0 in
+      let one : m.share.parts ≡ 1 = h.0.asked.parts ∙ ap (λ s. s.parts) e.0 in
       let others = lanes_parts l.last last caller v bs ls cs ms e.4 h.1 in
       omega (arith, others)
   lanes_parts before last caller v bs ls cs ms e h = absurd h
 
-  pub lanes_order : (before last caller : ℕ) (bs : List B) (ls : List (Lane H M K E)) (cs : List B) (ms : List (Lane H M K E)) →
+  pub lanes_order : (before last caller : ℕ) (bs : List D) (ls : List (Lane B H M K E g)) (cs : List D) (ms : List (Lane B H M K E g)) →
       AreFreshLanes caller before last ls → EachWorked Done bs ls cs ms → joins_to trees before ≤ joins_to trees last
   lanes_order before last caller [] [] [] [] e h = subst (λ x. joins_to trees before ≤ joins_to trees x) e (omega arith)
   lanes_order before last caller (b ∷ bs) (l ∷ ls) (c ∷ cs) (m ∷ ms) e h =
@@ -146,7 +146,7 @@ module _ {B H M K E : Type 0} (count : B → ℕ) (trees : List Formula) where
       omega arith
   lanes_order before last caller bs ls cs ms e h = absurd h
 
-  pub lanes_at_most : (before last caller most most' : ℕ) (bs : List B) (ls : List (Lane H M K E)) (cs : List B) (ms : List (Lane H M K E)) →
+  pub lanes_at_most : (before last caller most most' : ℕ) (bs : List D) (ls : List (Lane B H M K E g)) (cs : List D) (ms : List (Lane B H M K E g)) →
       AreFreshLanes caller before last ls → EachWorked Done bs ls cs ms → AreAtMost count most bs → most + joins_to trees last ≤ most' + joins_to trees before → AreAtMost count most' cs
   lanes_at_most before last caller most most' [] [] [] [] e h all room = All-nil (λ x. count x ≤ most')
   lanes_at_most before last caller most most' (b ∷ bs) (l ∷ ls) (c ∷ cs) (m ∷ ms) e h all room =
@@ -159,7 +159,7 @@ module _ {B H M K E : Type 0} (count : B → ℕ) (trees : List Formula) where
       (lanes_at_most l.last last caller most most' bs ls cs ms e.4 h.1 (All-tail (λ x. count x ≤ most) b bs all) (omega arith))
   lanes_at_most before last caller most most' bs ls cs ms e h all room = absurd h
 
-  pub same_lengths : (bs : List B) (ls : List (Lane H M K E)) (cs : List B) (ms : List (Lane H M K E)) → EachWorked Done bs ls cs ms →
+  pub same_lengths : (bs : List D) (ls : List (Lane B H M K E g)) (cs : List D) (ms : List (Lane B H M K E g)) → EachWorked Done bs ls cs ms →
       (length cs ≡ length bs) × (length ms ≡ length ls)
   same_lengths [] [] [] [] h = (refl, refl)
   same_lengths (b ∷ bs) (l ∷ ls) (c ∷ cs) (m ∷ ms) h = let s = same_lengths bs ls cs ms h.1 in (omega (arith, s.0), omega (arith, s.1))

@@ -1,7 +1,8 @@
 -- The solids of the nodes of a store, made in runs by several builders.
-use Rattle.std.specs.Prelude.{◌≡◌, ℕ, ◌+◌, ◌^◌, ◌≤◌, ◌<◌, List, [], ◌∷◌, map, take, length, All}
+use Rattle.std.specs.Prelude.{◌≡◌, ℕ, ◌+◌, ◌^◌, ◌≤◌, ◌<◌, List, [], ◌∷◌, map, take, length, All, Result, Ok, Err}
 use Rattle.std.specs.Arc.{arc_value}
 use Rattle.std.specs.declared.sync.Arc.{Arc}
+use Rattle.text_place.specs.declared.memory.NoMemory.{NoMemory}
 use Rattle.csg_tree.specs.declared.node.CsgNode.{CsgNode}
 use Rattle.csg_tree.specs.declared.node.CsgNode.TheVariants.{Leaf, Join}
 use Rattle.csg_tree.specs.Formulas.{Formula}
@@ -14,11 +15,12 @@ use Rattle.bsp_tree.specs.Shapes.{tree_of}
 use Rattle.bsp_boolean.specs.Solids.{solid_of}
 use Rattle.bsp_boolean.specs.TreeSolids.{most_of_one, solid_size, total_size, joins, AreWithin}
 use Rattle.subtree_memo.specs.Shares.{View, fresh, joined}
+use Rattle.subtree_memo.specs.declared.ledgers.MemoLedger.{Ghosts}
 use Rattle.parallel_eval.specs.declared.growth.Growth.{Growth}
 use Rattle.parallel_eval.specs.declared.growth.Outcome.{Outcome}
 use Rattle.parallel_eval.specs.declared.growth.Outcome.TheVariants.{Made, TooBig}
-use Rattle.parallel_eval.specs.declared.lanes.Lane.{Lane}
-use Rattle.parallel_eval.specs.Joins.{AreAnswered, AreBegun}
+use Rattle.parallel_eval.specs.declared.lane.Lane.{Lane}
+use Rattle.parallel_eval.specs.Joins.{AreAsked}
 
 -- how many of the first n trees are joins
 abbrev pub joins_to : List Formula → ℕ → ℕ
@@ -34,6 +36,12 @@ pub record IsGrown (trees : List Formula) (n : ℕ) (growth : Growth) : Type 0 w
   pub solids : shared_solids growth.solids.items ≡ map solid_of (take n trees)
   pub sum : growth.sum ≡ total_size (take n trees)
   pub within : AreWithin (take n trees)
+
+-- a growth over these trees has so many solids, which is at most as many as there are trees
+pub record IsGrowing (trees : List Formula) (n : ℕ) (growth : Growth) : Type 0 where
+  pub store : growth.store.now ≡ trees
+  pub grown : IsGrown trees n growth
+  pub within : n ≤ length trees
 
 -- a node has no tree behind the first ones
 abbrev pub IsBelow : ℕ → CsgNode → Type 0
@@ -55,6 +63,7 @@ AreRunNodes trees start before (node ∷ nodes) = IsRunNode trees start (before 
 pub record IsRunWork {Z : Type 0} (trees : List Formula) (start : ℕ) (solids : List (Arc SolidParts Z)) (nodes : List CsgNode) : Type 0 where
   pub over : shared_solids solids ≡ map solid_of (take start trees)
   pub many : length solids ≡ start
+  pub some : 0 < length nodes
   pub run : AreRunNodes trees start start nodes
   pub within : start + length nodes ≤ length trees
   pub few : length trees < 2 ^ 32
@@ -75,6 +84,11 @@ abbrev pub IsMade : Outcome → Type 0
 IsMade (Made solid) = Unit {0}
 IsMade TooBig = ⊥
 
+-- an answer tells that a solid was made
+abbrev pub HasMade : Result Outcome NoMemory → Type 0
+HasMade (Ok outcome) = IsMade outcome
+HasMade (Err none) = ⊥
+
 abbrev pub AreMade : List Outcome → Type 0
 AreMade [] = Unit {0}
 AreMade (outcome ∷ outcomes) = IsMade outcome × AreMade outcomes
@@ -83,68 +97,57 @@ AreMade (outcome ∷ outcomes) = IsMade outcome × AreMade outcomes
 abbrev pub IsComplete : ℕ → ℕ → List Outcome → Type 0
 IsComplete before last outcomes = (before + length outcomes ≡ last) × AreMade outcomes
 
-module _ {H M K E : Type 0} where
+module _ {B H M K E : Type 0} {g : Ghosts H} where
   -- a lane may be worked on, by a builder with this count: its nodes are among so many behind the first ones
-  pub record IsLaneReady (start count built : ℕ) (lane : Lane H M K E) : Type 0 where
+  pub record IsLaneReady (start count built : ℕ) (lane : Lane B H M K E g) : Type 0 where
     pub parts : 0 < lane.share.parts
     pub dropped : lane.share.dropped ≤ 2 ^ 47
     pub few : built ≤ 2 ^ 47
     pub empty : lane.made.items ≡ []
     pub first : start ≤ lane.before
-    pub order : lane.before ≤ lane.last
     pub last : lane.last ≤ start + count
 
   -- lanes of which nothing is done, with the nodes from one number to another
-  abbrev pub AreFreshLanes : ℕ → ℕ → ℕ → List (Lane H M K E) → Type 0
+  abbrev pub AreFreshLanes : ℕ → ℕ → ℕ → List (Lane B H M K E g) → Type 0
   AreFreshLanes caller before last [] = before ≡ last
   AreFreshLanes caller before last (lane ∷ lanes) = (lane.share ≡ fresh caller 1) × (lane.before ≡ before) × (before ≤ lane.last)
       × (lane.made.items ≡ []) × AreFreshLanes caller lane.last last lanes
 
+  -- no lane has two nodes more than another: each has so many, or one more
+  abbrev pub AreEven : List (Lane B H M K E g) → Type 0
+  AreEven lanes = (least : ℕ) × All (λ lane. (lane.before + least ≤ lane.last) × (lane.last ≤ lane.before + least + 1)) lanes
+
   -- a lane was worked on: what came of its nodes, or of the first of them, and what was counted for it
-  pub record IsLaneDone (trees : List Formula) (lane lane' : Lane H M K E) (count count' : ℕ) : Type 0 where
+  pub record IsLaneDone (trees : List Formula) (lane lane' : Lane B H M K E g) (count count' : ℕ) : Type 0 where
     pub before : lane'.before ≡ lane.before
     pub last : lane'.last ≡ lane.last
-    pub parts : lane'.share.parts ≡ lane.share.parts
-    pub caller : lane'.share.caller ≡ lane.share.caller
     pub outcomes : AreOutcomes trees lane.before lane'.made.items
-    pub most : lane.before + length lane'.made.items ≤ lane.last
-    pub begun : AreBegun (joins_to trees lane.before) (joins_to trees lane.last) lane.share lane'.share count count'
-    pub answered : IsComplete lane.before lane.last lane'.made.items →
-        AreAnswered (joins_to trees lane.before) (joins_to trees lane.last) lane.share lane'.share count count'
+    pub asked : AreAsked (IsComplete lane.before lane.last lane'.made.items) (joins_to trees lane.before) (joins_to trees lane.last) lane.share lane'.share count count'
 
   -- a lane is worked on up to the number k, of which each node has an outcome
-  pub record IsLaneAt (trees : List Formula) (k : ℕ) (lane lane' : Lane H M K E) (count count' : ℕ) : Type 0 where
+  pub record IsLaneAt (trees : List Formula) (k : ℕ) (lane lane' : Lane B H M K E g) (count count' : ℕ) : Type 0 where
     pub before : lane'.before ≡ lane.before
     pub last : lane'.last ≡ lane.last
-    pub parts : lane'.share.parts ≡ lane.share.parts
-    pub caller : lane'.share.caller ≡ lane.share.caller
     pub outcomes : AreOutcomes trees lane.before lane'.made.items
     pub many : lane.before + length lane'.made.items ≡ k
-    pub begun : AreBegun (joins_to trees lane.before) (joins_to trees k) lane.share lane'.share count count'
-    pub answered : AreMade lane'.made.items →
-        AreAnswered (joins_to trees lane.before) (joins_to trees k) lane.share lane'.share count count'
+    pub asked : AreAsked (AreMade lane'.made.items) (joins_to trees lane.before) (joins_to trees k) lane.share lane'.share count count'
 
   -- lanes with what came of their nodes, which are those from one number to another
-  abbrev pub AreLanes : List Formula → ℕ → ℕ → List (Lane H M K E) → Type 0
+  abbrev pub AreLanes : List Formula → ℕ → ℕ → List (Lane B H M K E g) → Type 0
   AreLanes trees before last [] = before ≡ last
-  AreLanes trees before last (lane ∷ lanes) = (lane.before ≡ before) × (before + length lane.made.items ≤ lane.last)
-      × AreOutcomes trees before lane.made.items × AreLanes trees lane.last last lanes
+  AreLanes trees before last (lane ∷ lanes) = (lane.before ≡ before) × AreOutcomes trees before lane.made.items × AreLanes trees lane.last last lanes
 
   -- each node of each lane has a solid
-  abbrev pub AreComplete : List (Lane H M K E) → Type 0
+  abbrev pub AreComplete : List (Lane B H M K E g) → Type 0
   AreComplete [] = Unit {0}
   AreComplete (lane ∷ lanes) = IsComplete lane.before lane.last lane.made.items × AreComplete lanes
 
   -- the shares of lanes are one caller's
-  abbrev pub AreOfCaller : ℕ → List (Lane H M K E) → Type 0
+  abbrev pub AreOfCaller : ℕ → List (Lane B H M K E g) → Type 0
   AreOfCaller caller [] = Unit {0}
   AreOfCaller caller (lane ∷ lanes) = (lane.share.caller ≡ caller) × AreOfCaller caller lanes
 
   -- a share with those of the lanes
-  abbrev pub with_lanes : View → List (Lane H M K E) → View
+  abbrev pub with_lanes : View → List (Lane B H M K E g) → View
   with_lanes share [] = share
   with_lanes share (lane ∷ lanes) = joined (with_lanes share lanes) lane.share
-
--- each builder's count is at most so many
-abbrev pub AreAtMost : {B : Type 0} → (B → ℕ) → ℕ → List B → Type 0
-AreAtMost count most bs = All (λ b. count b ≤ most) bs

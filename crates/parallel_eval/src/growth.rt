@@ -5,15 +5,13 @@ ghost use Rattle.csg_tree.specs.Numberings.{IsNumberIn};
 ghost use Rattle.bsp_boolean.specs.TreeSolids.{IsTreeStop};
 ghost use Rattle.parallel_eval.specs.Runs.{IsGrown, IsOutcome, IsMade, AreOutcomes, IsComplete, AreLanes, AreComplete};
 
-use crate::lanes::Lane;
+use crate::lane::Lane;
+use crate::limits::MOST_OF_ALL;
 use bsp_boolean::{TreeStop, one_tree_more};
 use bsp_tree::Solid;
 use csg_tree::CsgStore;
 use std::sync::Arc;
-use std::sync::ledger::Ledger;
-
-/// The most that the sizes of all nodes' solids may be together.
-const MOST_OF_ALL: u64 = 500_000;
+use subtree_memo::Books;
 
 /// What came of one node: its solid, or that it is above the limit of one.
 #[derive(Drop)]
@@ -82,11 +80,11 @@ impl<'a> Growth<'a> {
 
     /// Takes what came of the nodes of all lanes, in order of number. The first one that passes a limit
     /// decides.
-    pub fn take_lanes<H: Ledger, M: Ledger, K: Ledger, E: Ledger>(
+    pub fn take_lanes<B: Books>(
         &mut self,
         before: u32,
         last: u32,
-        lanes: &[Lane<H, M, K, E>],
+        lanes: &[Lane<B>],
     ) -> Result<(), TreeStop>
         requires grown { IsGrown self.old.store.now before self.old }
         requires lanes { AreLanes self.old.store.now before last lanes.now }

@@ -1,19 +1,19 @@
 //! What one builder does for a run of nodes.
 
-ghost use Rattle.std.specs.Prelude.{◌≡◌, ◌+◌, ◌-◌, ◌^◌, ◌<◌, ◌≤◌, IfOk, OnOk, IsErrOf, length, All};
+ghost use Rattle.std.specs.Prelude.{◌≡◌, ◌+◌, ◌-◌, ◌<◌, ◌≤◌, IfOk, IsOk, length, All};
 ghost use Rattle.std.specs.Arc.{arc_value};
 ghost use Rattle.plane_predicate.specs.Space.{ComesInReach};
 ghost use Rattle.csg_tree.specs.Numberings.{tree_numbered, IsNumberIn};
-ghost use Rattle.bsp_tree.specs.Trees.{size};
 ghost use Rattle.bsp_tree.specs.Shapes.{tree_of};
 ghost use Rattle.bsp_boolean.specs.Solids.{solid_of, convex};
-ghost use Rattle.bsp_boolean.specs.TreeSolids.{most_of_one, solid_size};
-ghost use Rattle.parallel_eval.specs.Joins.{AreAnswered, AreBegun};
-ghost use Rattle.parallel_eval.specs.Runs.{joins_to, IsRunWork, IsRunNode, IsOutcome, IsMade, IsLaneReady, IsLaneDone};
+ghost use Rattle.parallel_eval.specs.Joins.{Gives, HasRoom, AreAsked};
+ghost use Rattle.parallel_eval.specs.Runs.{joins_to, IsRunWork, IsRunNode, IsOutcome, HasMade, IsLaneReady, IsLaneDone};
 
 use crate::gate::Gate;
 use crate::growth::Outcome;
 use crate::join_solids::{Builds, JoinNode};
+use crate::lane::Lane;
+use crate::limits::MOST_OF_ONE;
 use crate::solid_fit::SolidFit;
 use bsp_boolean::{BuildStop, Builder, leaf_solid, one_tree_more};
 use bsp_tree::Solid;
@@ -21,83 +21,39 @@ use csg_tree::{CsgNode, CsgStore, TreeKey};
 use memo_core::Namer;
 use pair_work::PairWork;
 use plane_predicate::Plane;
-use std::sync::ledger::Ledger;
 use std::sync::{Arc, Wait};
-use subtree_memo::{MemoLedger, Share};
+use subtree_memo::{Books, Share};
 use text_place::NoMemory;
-
-/// The most that the size of one node's solid may be.
-const MOST_OF_ONE: u64 = 50_000;
-
-/// The part of a run that one builder does: a share of its own, the nodes behind the first `before` ones
-/// up to the number `last`, and what came of them in order. Where that is less, memory ran out.
-#[derive(Drop)]
-pub struct Lane<H: Ledger, M: Ledger, K: Ledger, E: Ledger> {
-    pub share: Share<H, M, K, E>,
-    pub before: u32,
-    pub last: u32,
-    pub made: Vec<Outcome>,
-}
 
 /// A run of nodes of a store, behind the first `start` ones, and over the solids of these.
 #[derive(Drop)]
-pub struct RunWork<
-    'a,
-    'b,
-    N: Namer<TreeKey>,
-    H: MemoLedger,
-    M: Ledger,
-    K: Ledger,
-    E: Ledger,
-    G: Gate,
-    R: Wait,
-> {
-    pub builds: Builds<'a, N, H, M, K, E, G, R>,
+pub struct RunWork<'a, 'b, N: Namer<TreeKey>, B: Books, G: Gate, R: Wait> {
+    pub builds: Builds<'a, N, B, G, R>,
     pub store: &'a Arc<CsgStore>,
     pub start: u32,
     pub solids: &'a [Arc<Solid>],
     pub nodes: &'a [CsgNode<'b>],
 }
 
-impl<
-    'a,
-    'b,
-    N: Namer<TreeKey>,
-    H: MemoLedger,
-    M: Ledger,
-    K: Ledger,
-    E: Ledger,
-    G: Gate,
-    R: Wait,
-    B: Builder,
-> PairWork<B, Lane<H, M, K, E>> for RunWork<'a, 'b, N, H, M, K, E, G, R> {
+impl<'a, 'b, N: Namer<TreeKey>, B: Books, G: Gate, R: Wait, D: Builder> PairWork<D, Lane<B>>
+    for RunWork<'a, 'b, N, B, G, R> {
     ghost ready = { λ w b lane. IsRunWork (arc_value w.store.now) w.start w.solids.now w.nodes.now
-        × IsLaneReady w.start (length w.nodes.now) (B.builds b) lane };
+        × IsLaneReady w.start (length w.nodes.now) (D.builds b) lane };
 
-    ghost worked = { λ w b lane c lane'. IsLaneDone (arc_value w.store.now) lane lane' (B.builds b) (B.builds c) };
+    ghost worked = { λ w b lane c lane'. IsLaneDone (arc_value w.store.now) lane lane' (D.builds b) (D.builds c) };
 
-    fn work(&self, builder: &mut B, lane: &mut Lane<H, M, K, E>) {
+    fn work(&self, builder: &mut D, lane: &mut Lane<B>) {
         self.do_lane(builder, lane)
     }
 }
 
-impl<
-    'a,
-    'b,
-    N: Namer<TreeKey>,
-    H: MemoLedger,
-    M: Ledger,
-    K: Ledger,
-    E: Ledger,
-    G: Gate,
-    R: Wait,
-> RunWork<'a, 'b, N, H, M, K, E, G, R> {
+impl<'a, 'b, N: Namer<TreeKey>, B: Books, G: Gate, R: Wait> RunWork<'a, 'b, N, B, G, R> {
     // Does the nodes of a lane, one after another. It goes on behind one that is too big, since a lower
     // number may be so in another lane, and ends where memory runs out.
-    fn do_lane<B: Builder>(&self, builder: &mut B, lane: &mut Lane<H, M, K, E>)
+    fn do_lane<D: Builder>(&self, builder: &mut D, lane: &mut Lane<B>)
         requires run { IsRunWork (arc_value self.now.store.now) self.now.start self.now.solids.now self.now.nodes.now }
-        requires lane { IsLaneReady self.now.start (length self.now.nodes.now) (B.builds builder.old) lane.old }
-        ensures { IsLaneDone (arc_value self.now.store.now) lane.old lane.new (B.builds builder.old) (B.builds builder.new) }
+        requires lane { IsLaneReady self.now.start (length self.now.nodes.now) (D.builds builder.old) lane.old }
+        ensures { IsLaneDone (arc_value self.now.store.now) lane.old lane.new (D.builds builder.old) (D.builds builder.new) }
     {
         one_tree_more();
         for before in lane.before..lane.last {
@@ -111,24 +67,19 @@ impl<
     }
 
     // What comes of one node.
-    fn outcome<B: Builder>(
+    fn outcome<D: Builder>(
         &self,
         number: u32,
-        share: &mut Share<H, M, K, E>,
-        builder: &mut B,
+        share: &mut Share<B>,
+        builder: &mut D,
     ) -> Result<Outcome, NoMemory>
         requires run { IsRunWork (arc_value self.now.store.now) self.now.start self.now.solids.now self.now.nodes.now }
         requires number { (self.now.start < number) × (number ≤ self.now.start + length self.now.nodes.now) }
-        requires parts { 0 < share.old.parts }
-        requires counts { (B.builds builder.old < 2 ^ 48) × (share.old.dropped < 2 ^ 48) }
+        requires room { HasRoom share.old (D.builds builder.old) }
         ensures outcome { IfOk result (IsOutcome (arc_value self.now.store.now) number) }
-        ensures parts { share.new.parts ≡ share.old.parts }
-        ensures caller { share.new.caller ≡ share.old.caller }
-        ensures begun { AreBegun (joins_to (arc_value self.now.store.now) (number - 1)) (joins_to (arc_value self.now.store.now) number)
-            share.old share.new (B.builds builder.old) (B.builds builder.new) }
-        ensures answered { IfOk result (λ o. IsMade o →
-            AreAnswered (joins_to (arc_value self.now.store.now) (number - 1)) (joins_to (arc_value self.now.store.now) number)
-            share.old share.new (B.builds builder.old) (B.builds builder.new)) }
+        ensures asked { AreAsked (HasMade result) (joins_to (arc_value self.now.store.now) (number - 1))
+            (joins_to (arc_value self.now.store.now) number)
+            share.old share.new (D.builds builder.old) (D.builds builder.new) }
     {
         match self.node_solid(number, share, builder) {
             Ok(solid) => Ok(Outcome::Made(solid)),
@@ -138,27 +89,19 @@ impl<
     }
 
     // The solid of one node: a leaf's by itself, and a join's by the memo or a build.
-    fn node_solid<B: Builder>(
+    fn node_solid<D: Builder>(
         &self,
         number: u32,
-        share: &mut Share<H, M, K, E>,
-        builder: &mut B,
+        share: &mut Share<B>,
+        builder: &mut D,
     ) -> Result<Arc<Solid>, BuildStop>
         requires run { IsRunWork (arc_value self.now.store.now) self.now.start self.now.solids.now self.now.nodes.now }
         requires number { (self.now.start < number) × (number ≤ self.now.start + length self.now.nodes.now) }
-        requires parts { 0 < share.old.parts }
-        requires counts { (B.builds builder.old < 2 ^ 48) × (share.old.dropped < 2 ^ 48) }
-        ensures solid { IfOk result (λ s. tree_of (arc_value s) ≡ solid_of (tree_numbered (arc_value self.now.store.now) number)) }
-        ensures within { OnOk result (solid_size (tree_numbered (arc_value self.now.store.now) number) ≤ most_of_one) }
-        ensures big { IsErrOf result BuildStop.TooBig →
-            most_of_one < solid_size (tree_numbered (arc_value self.now.store.now) number) }
-        ensures parts { share.new.parts ≡ share.old.parts }
-        ensures caller { share.new.caller ≡ share.old.caller }
-        ensures begun { AreBegun (joins_to (arc_value self.now.store.now) (number - 1)) (joins_to (arc_value self.now.store.now) number)
-            share.old share.new (B.builds builder.old) (B.builds builder.new) }
-        ensures answered { OnOk result
-            (AreAnswered (joins_to (arc_value self.now.store.now) (number - 1)) (joins_to (arc_value self.now.store.now) number)
-            share.old share.new (B.builds builder.old) (B.builds builder.new)) }
+        requires room { HasRoom share.old (D.builds builder.old) }
+        ensures solid { Gives (solid_of (tree_numbered (arc_value self.now.store.now) number)) result }
+        ensures asked { AreAsked (IsOk result) (joins_to (arc_value self.now.store.now) (number - 1))
+            (joins_to (arc_value self.now.store.now) number)
+            share.old share.new (D.builds builder.old) (D.builds builder.new) }
     {
         one_tree_more();
         match self.node(number) {
@@ -211,9 +154,7 @@ impl<
     fn leaf(&self, planes: &[Plane]) -> Result<Arc<Solid>, BuildStop>
         requires some { 0 < length planes.now }
         requires reach { All ComesInReach planes.now }
-        ensures solid { IfOk result (λ s. tree_of (arc_value s) ≡ convex planes.now) }
-        ensures within { OnOk result (size (convex planes.now) ≤ most_of_one) }
-        ensures big { IsErrOf result BuildStop.TooBig → most_of_one < size (convex planes.now) }
+        ensures { Gives (convex planes.now) result }
     {
         let solid = leaf_solid(self.builds.alloc, planes, MOST_OF_ONE)?;
         Ok(self.to_share(solid)?)

@@ -5,13 +5,17 @@
 mod gate;
 mod growth;
 mod join_solids;
+mod lane;
 mod lanes;
+mod limits;
 mod node_runs;
 mod solid_fit;
 mod store_solids;
 mod tree_namer;
 
+pub use bsp_boolean::TreeStop as EvalStop;
 pub use gate::{Gate, OpenGate};
 pub use join_solids::{Builds, JoinNode};
 pub use solid_fit::SolidFit;
+pub use store_solids::solid_of;
 pub use tree_namer::ShaNamer;

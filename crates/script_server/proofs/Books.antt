@@ -9,7 +9,7 @@ use Rattle.csg_tree.specs.Formulas.{Formula}
 use Rattle.bsp_tree.specs.Shapes.{SolidParts}
 use Rattle.memo_core.specs.Memo.{Entry, Mark, itself, owned}
 use Rattle.memo_core.specs.Views.{mark_in, marks}
-use Rattle.subtree_memo.specs.Shares.{View, fresh, opened, parts_each}
+use Rattle.subtree_memo.specs.Shares.{View, fresh, opened, parts_each, offered_of}
 use Rattle.script_server.specs.Books.{weights_of}
 
 -- what an owner's entries weigh, by their marks alone
@@ -34,10 +34,10 @@ parts_in_all (s ∷ ss) whole =
     omega (arith, sum_by-cons (λ (x : View). x.parts) s ss, rest, own)
 
 -- what a memo gives its callers at first
-pub all_opened : (n : ℕ) → All (λ s. (s.parts ≡ parts_each) × (s.dropped ≡ 0)) (opened n)
-all_opened zero = All-nil (λ s. (s.parts ≡ parts_each) × (s.dropped ≡ 0))
+pub all_opened : (n : ℕ) → All (λ s. (s.parts ≡ parts_each) × (offered_of s ≡ 0)) (opened n)
+all_opened zero = All-nil (λ s. (s.parts ≡ parts_each) × (offered_of s ≡ 0))
 all_opened (suc n) =
-    let P : View → Type 0 = λ s. (s.parts ≡ parts_each) × (s.dropped ≡ 0) in
+    let P : View → Type 0 = λ s. (s.parts ≡ parts_each) × (offered_of s ≡ 0) in
     All-append P (opened n) (fresh n parts_each ∷ []) (all_opened n) (All-cons P (fresh n parts_each) [] (refl, refl) (All-nil P))
 
 pub opened_many : (n : ℕ) → length (opened n) ≡ n

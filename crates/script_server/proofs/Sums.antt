@@ -1,11 +1,13 @@
 -- The tally of a run adds up.
-use Rattle.std.proofs.Common.{◌≡◌, ◌≢◌, ℕ, zero, suc, ◌+◌, ◌*◌, ◌^◌, ◌<◌, ◌≤◌, min, if◌then◌else◌, List, [], ◌∷◌, map, length, Option, Some, None, ◌⊎◌, ⊎_elim, inl, inr, refl, sym, ap, subst, ◌∙◌, arith}
+use Rattle.std.proofs.Common.{◌≡◌, ◌≢◌, ℕ, zero, suc, ◌+◌, ◌*◌, ◌^◌, ◌<◌, ◌≤◌, min, if◌then◌else◌, List, [], ◌∷◌, map, length, All, Option, Some, None, ◌⊎◌, ⊎_elim, inl, inr, refl, sym, ap, subst, ◌∙◌, arith}
 use Rattle.std.specs.Prelude.{◌==◌, is_some, sum_by, MatchOption}
+use Rattle.std.proofs.Math.Nat.{min-le_left}
 use Rattle.std.proofs.lemmas.List.Sums.{sum_by-cons, sum_by_push}
+use Rattle.std.proofs.lemmas.List.Elements.{All-head, All-tail}
 use Rattle.plane_predicate.specs.declared.unit.Unit.{Unit as LengthUnit}
 use Rattle.memo_core.specs.Memo.{Item, count_in, hit_by, missed_by, kept_by, heavy_by}
 use Rattle.subtree_memo.specs.declared.tally.Tally.{Tally}
-use Rattle.subtree_memo.specs.Tallies.{tally_of}
+use Rattle.subtree_memo.specs.Tallies.{tally_of, AreSums}
 use Rattle.subtree_memo.specs.Shares.{View, fresh, opened, parts_each, dropped_max, probes_of, offered_of}
 use Rattle.script_reader.specs.declared.script.Command.{Command}
 use Rattle.script_reader.specs.declared.script.Command.TheVariants.{Put, Set, Cut, Show, Export, Bad}
@@ -257,9 +259,8 @@ pub record IsTallyOf (shares : List View) (tally : Tally) : Type 0 where
 
 -- what a memo tells when it is closed
 module _ {K : Type 0} (items : List (Item K)) (shares news : List View) (tally : Tally) where
-  pub tally_of_shares : shares ≡ news → tally ≡ tally_of items tally.dropped → tally.hits ≡ sum_by (λ s. s.hits) shares → tally.misses ≡ sum_by (λ s. s.misses) shares →
-      tally.kept ≡ sum_by (λ s. s.kept) shares → tally.heavy ≡ sum_by (λ s. s.heavy) shares → tally.dropped ≡ min (sum_by (λ s. s.dropped) shares) dropped_max → IsTallyOf news tally
-  tally_of_shares same e hits misses kept heavy dropped =
+  pub tally_of_shares : shares ≡ news → tally ≡ tally_of items tally.dropped → AreSums shares tally → IsTallyOf news tally
+  tally_of_shares same e sums =
       let probes_are : tally.probes ≡ count_in hit_by items + count_in missed_by items = ap (λ (t : Tally). t.probes) e in
       let hits_are : tally.hits ≡ count_in hit_by items = ap (λ (t : Tally). t.hits) e in
       let misses_are : tally.misses ≡ count_in missed_by items = ap (λ (t : Tally). t.misses) e in
@@ -268,12 +269,31 @@ module _ {K : Type 0} (items : List (Item K)) (shares news : List View) (tally :
       let heavy_are : tally.heavy ≡ count_in heavy_by items = ap (λ (t : Tally). t.heavy) e in record {
         probes = omega (arith, probes_are, hits_are, misses_are);
         offered = omega (arith, offered_are, kept_are, heavy_are);
-        hits = hits ∙ ap (sum_by (λ (s : View). s.hits)) same;
-        misses = misses ∙ ap (sum_by (λ (s : View). s.misses)) same;
-        kept = kept ∙ ap (sum_by (λ (s : View). s.kept)) same;
-        heavy = heavy ∙ ap (sum_by (λ (s : View). s.heavy)) same;
-        dropped = dropped ∙ ap (λ ss. min (sum_by (λ (s : View). s.dropped) ss) dropped_max) same;
+        hits = sums.hits ∙ ap (sum_by (λ (s : View). s.hits)) same;
+        misses = sums.misses ∙ ap (sum_by (λ (s : View). s.misses)) same;
+        kept = sums.kept ∙ ap (sum_by (λ (s : View). s.kept)) same;
+        heavy = sums.heavy ∙ ap (sum_by (λ (s : View). s.heavy)) same;
+        dropped = sums.dropped ∙ ap (λ ss. min (sum_by (λ (s : View). s.dropped) ss) dropped_max) same;
       }
+
+-- where no share has more offered fills than misses, the tally has not
+misses_most : (shares : List View) → All (λ s. offered_of s ≤ s.misses) shares → sum_by offered_of shares ≤ sum_by (λ s. s.misses) shares
+misses_most [] all = omega arith
+misses_most (s ∷ ss) all =
+    let own : offered_of s ≤ s.misses = All-head (λ x. offered_of x ≤ x.misses) s ss all in
+    let rest = misses_most ss (All-tail (λ x. offered_of x ≤ x.misses) s ss all) in
+    omega (arith, sum_by-cons offered_of s ss, sum_by-cons (λ (v : View). v.misses) s ss, own, rest)
+
+pub offered_most : {K : Type 0} (shares : List View) (tally : Tally) (items : List (Item K)) → tally ≡ tally_of items tally.dropped → AreSums shares tally →
+    All (λ s. offered_of s ≤ s.misses) shares → tally.offered ≤ tally.misses
+offered_most shares tally items e sums all =
+    let offered_are : tally.offered ≡ count_in kept_by items + count_in heavy_by items + tally.dropped = ap (λ (t : Tally). t.offered) e in
+    let kept_are : tally.kept ≡ count_in kept_by items = ap (λ (t : Tally). t.kept) e in
+    let heavy_are : tally.heavy ≡ count_in heavy_by items = ap (λ (t : Tally). t.heavy) e in
+    let most = misses_most shares all in
+    let parted = offered_in_all shares in
+    let m = sums.misses in let k = sums.kept in let h = sums.heavy in let d = sums.dropped in
+    omega (arith, offered_are, kept_are, heavy_are, most, parted, m, k, h, d, min-le_left (sum_by (λ (v : View). v.dropped) shares) dropped_max)
 
 pub adds_up : {X : Type 0} (books : X → ClientBooks) (unit : LengthUnit) (clients : List ClientScript) (replies : List (List Reply)) (xs ys : List X) (callers : ℕ) (tally : Tally) →
     length clients ≤ 16 → shares_of books unit xs ≡ opened callers → AllMove (MovesBooks books unit) clients replies xs ys → IsTallyOf (shares_of books unit ys) tally → AddsUp unit clients replies tally

@@ -89,6 +89,8 @@ output_of_run settings clients replies tally core owned callers ran weights many
         ran.counted,
         weights ∙ ap (λ n. weights_of n (marks core.entries)) (sym many) ∙ ap (λ ms. weights_of (length owned) ms) replayed,
         ran.sums,
+        ran.callers,
+        ran.offered,
       ),
       many ∙ same,
       refl,

@@ -1,5 +1,5 @@
 -- What is told of a memo at the end of a run.
-use Rattle.std.specs.Prelude.{◌≡◌, ℕ, ◌≤◌, zero, suc, List, [], ◌∷◌, ◌++◌, ◌⊎◌, length, All}
+use Rattle.std.specs.Prelude.{◌≡◌, ℕ, ◌≤◌, ◌<◌, max, zero, suc, List, [], ◌∷◌, ◌++◌, ◌⊎◌, length, All}
 use Rattle.text_place.specs.declared.fault.Fault.{Fault}
 use Rattle.plane_predicate.specs.declared.unit.Unit.{Unit as LengthUnit}
 use Rattle.csg_tree.specs.Formulas.{Formula}
@@ -43,14 +43,20 @@ abbrev pub AddsUp : LengthUnit → List ClientScript → List (List Reply) → T
 AddsUp unit clients replies tally =
     AllLackNoSolid clients replies → AllSumTo (HasJoins unit) clients replies tally.probes × (tally.offered ≡ tally.misses)
 
--- A tally and the weights of the callers' entries are those of some journal that the sequential memo of this budget and share
--- keeps, with trees as its keys and the digests of their bytes as names; and the tally adds up.
+-- the callers of a journal are the clients, by their numbers from 0; where there is no client, there is one caller
+abbrev pub IsOfClients : List ClientScript → List (Item Formula) → Type 0
+IsOfClients clients items = All (λ item. item.caller < max (length clients) 1) items
+
+-- A tally and the weights of the callers' entries are those of some journal of the clients that the sequential memo of this budget
+-- and share keeps, with trees as its keys and the digests of their bytes as names; the tally adds up, and no more fills were
+-- offered than there were misses.
 abbrev pub AreBooks : LengthUnit → List ClientScript → List (List Reply) → ℕ → ℕ → Tally → List ℕ → Type 0
 AreBooks unit clients replies budget share tally weights =
     (items : List (Item Formula)) × IsLegal is_same_tree name_of budget share [] items
     × (tally ≡ tally_of items tally.dropped)
     × (weights ≡ weights_of (length weights) (replay is_same_tree name_of budget share [] items))
     × AddsUp unit clients replies tally
+    × IsOfClients clients items × (tally.offered ≤ tally.misses)
 
 -- What came of a run of clients over a memo of this budget and share, whose names are these.
 pub record IsRunOf (unit : LengthUnit) (clients : List ClientScript) (budget share : ℕ) (names : Formula → List ℕ) (replies : List (List Reply)) (tally : Tally) (core : Core Formula SolidParts) : Type 0 where
@@ -61,5 +67,8 @@ pub record IsRunOf (unit : LengthUnit) (clients : List ClientScript) (budget sha
   pub counted : tally ≡ tally_of core.journal tally.dropped
   -- where no export lacked its solid, it adds up to the joins of all exports
   pub sums : AddsUp unit clients replies tally
+  -- whatever the exports lacked, no more fills were offered than there were misses
+  pub offered : tally.offered ≤ tally.misses
   pub sound : IsSolidMemo names core
+  pub callers : IsOfClients clients core.journal
   pub limits : (core.budget ≡ budget) × (core.share ≡ share)

@@ -5,7 +5,7 @@ ghost use Rattle.csg_tree.specs.ProperTrees.{IsProper};
 ghost use Rattle.csg_tree.specs.Numberings.{nodes_of};
 ghost use Rattle.csg_tree.specs.Trees.{formula_of};
 ghost use Rattle.bsp_boolean.specs.TreeSolids.{joins};
-ghost use Rattle.subtree_memo.specs.Shares.{parts_each};
+ghost use Rattle.subtree_memo.specs.Shares.{parts_each, offered_of};
 ghost use Rattle.reply_text.specs.Sums.{LacksNoSolid};
 ghost use Rattle.tree_export.specs.Exports.{IsExported, Bounds};
 ghost use Rattle.script_server.specs.Meaning.Exports.{reply_of};
@@ -15,7 +15,7 @@ use crate::export::{reply, tree_of};
 use bsp_boolean::PlainBuilder;
 use csg_tree::{CsgTree, TreeKey};
 use memo_core::Namer;
-use parallel_eval::{Builds, Gate};
+use parallel_eval::{Builds, Gate, solid_of};
 use plane_predicate::Unit;
 use reply_text::{Exporting, Reply};
 use script_run::Exporter;
@@ -24,22 +24,22 @@ use std::marker::Model;
 use std::sync::Wait;
 use std::sync::ledger::Ledger;
 use std::thread::Threads;
-use subtree_memo::{MemoLedger, Share};
+use subtree_memo::{Books, Ledgers, MemoLedger, Share};
 use text_place::{NoMemory, Stop};
 use tree_export::{Exported, export_made, last_nodes_are_trees, nodes_of_tree, solid_of_nothing};
 
 /// What one client has of its own: its share of the memo's books, how many builders it has, and how often a solid was
 /// asked for.
 #[derive(Drop)]
-pub struct Client<H: Ledger, M: Ledger, K: Ledger, E: Ledger> {
-    share: Share<H, M, K, E>,
+pub struct Client<B: Books> {
+    share: Share<B>,
     workers: u64,
     asked: u32,
 }
 
-impl<H: Ledger, M: Ledger, K: Ledger, E: Ledger> Model for Client<H, M, K, E> {
+impl<B: Books> Model for Client<B> {
     ghost use Rattle.std.specs.Prelude.{◌≡◌, ◌*◌, ◌^◌, ◌≤◌};
-    ghost use Rattle.subtree_memo.specs.Shares.{parts_each};
+    ghost use Rattle.subtree_memo.specs.Shares.{parts_each, offered_of};
     ghost use Rattle.script_server.specs.Clients.{ClientBooks};
 
     ghost Value = { ClientBooks };
@@ -47,7 +47,8 @@ impl<H: Ledger, M: Ledger, K: Ledger, E: Ledger> Model for Client<H, M, K, E> {
     ghost view = { λ c. record { asked = c.asked; share = c.share } };
 
     ghost invariant = { λ c. (1 ≤ c.workers) × (c.workers ≤ 64)
-        × (c.share.parts ≡ parts_each) × (c.share.dropped ≤ c.asked * 2 ^ 32) };
+        × (c.share.parts ≡ parts_each) × (c.share.dropped ≤ c.asked * 2 ^ 32)
+        × (offered_of c.share ≤ c.share.misses) };
 }
 
 /// What counts how often a solid was asked for, and has a share of a memo's books.
@@ -55,7 +56,7 @@ pub trait Booking {
     ghost books: { Self → ClientBooks };
 }
 
-impl<H: Ledger, M: Ledger, K: Ledger, E: Ledger> Booking for Client<H, M, K, E> {
+impl<B: Books> Booking for Client<B> {
     ghost books = { λ client. client };
 }
 
@@ -71,11 +72,11 @@ fn builders(alloc: Global, count: u64) -> Result<Vec<PlainBuilder>, NoMemory>
     Ok(builders)
 }
 
-impl<H: Ledger, M: Ledger, K: Ledger, E: Ledger> Client<H, M, K, E> {
-    /// A client for which no solid was asked yet, with 1 to 64 builders.
-    pub fn new(share: Share<H, M, K, E>, workers: u64) -> Self
+impl<B: Books> Client<B> {
+    /// A client for which no solid was asked yet, with 1 to 64 builders and a share on which no fill is booked.
+    pub fn new(share: Share<B>, workers: u64) -> Self
         requires workers { (1 ≤ workers) × (workers ≤ 64) }
-        requires share { (share.parts ≡ parts_each) × (share.dropped ≡ 0) }
+        requires share { (share.parts ≡ parts_each) × (offered_of share ≡ 0) }
         ensures { result ≡ record { asked = 0; share = share } }
     {
         Client {
@@ -86,9 +87,10 @@ impl<H: Ledger, M: Ledger, K: Ledger, E: Ledger> Client<H, M, K, E> {
     }
 
     /// The client's share of the books.
-    pub fn into_share(self) -> Share<H, M, K, E>
+    pub fn into_share(self) -> Share<B>
         ensures share { result ≡ self.share }
         ensures whole { result.parts ≡ parts_each }
+        ensures offered { offered_of result ≤ result.misses }
     {
         let Client { share, .. } = self;
         share
@@ -106,8 +108,8 @@ fn exported<
     G: Gate + Sync,
     R: Threads + Wait + Sync,
 >(
-    builds: &Builds<'a, N, H, M, K, E, G, R>,
-    client: &mut Client<H, M, K, E>,
+    builds: &Builds<'a, N, Ledgers<H, M, K, E>, G, R>,
+    client: &mut Client<Ledgers<H, M, K, E>>,
     unit: Unit,
     tree: &CsgTree,
 ) -> Result<Exported, NoMemory>
@@ -125,7 +127,15 @@ fn exported<
     } else {
         let mut builders = builders(builds.alloc, client.workers)?;
         client.asked += 1;
-        builds.solid_of(&store, &mut client.share, &mut builders)
+        solid_of(
+            builds.rt,
+            builds.alloc,
+            &store,
+            builds.memo,
+            &mut client.share,
+            &mut builders,
+            builds.gate,
+        )
     };
     export_made(builds.alloc, made, unit)
 }
@@ -141,8 +151,8 @@ pub fn export_source<
     G: Gate + Sync,
     R: Threads + Wait + Sync,
 >(
-    builds: &Builds<'a, N, H, M, K, E, G, R>,
-    client: &mut Client<H, M, K, E>,
+    builds: &Builds<'a, N, Ledgers<H, M, K, E>, G, R>,
+    client: &mut Client<Ledgers<H, M, K, E>>,
     unit: Unit,
     source: &[u8],
 ) -> Result<Reply, NoMemory>

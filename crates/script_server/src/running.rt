@@ -1,14 +1,11 @@
 //! The clients of a script at the same time, over one memo that they share.
 
-ghost use Rattle.std.specs.Prelude.{◌≡◌, ◌+◌, ◌*◌, ◌<◌, ◌≤◌, [], All, length, map, vec_capacity, IfOk};
+ghost use Rattle.std.specs.Prelude.{◌≡◌, ◌<◌, ◌≤◌, max, [], All, length, map, vec_capacity, IfOk};
 ghost use Rattle.csg_tree.specs.TreeKeys.{name_of};
 ghost use Rattle.memo_core.specs.Views.{marks};
-ghost use Rattle.subtree_memo.specs.Shares.{parts_each};
-ghost use Rattle.subtree_memo.specs.Tallies.{tally_of};
+ghost use Rattle.subtree_memo.specs.Shares.{IsOf, opened, offered_of, parts_each};
 ghost use Rattle.script_reader.specs.Limits.{AreWithin};
-ghost use Rattle.reply_text.specs.Answers.{AllFit};
-ghost use Rattle.script_server.specs.Meaning.Exports.{AnswersExport};
-ghost use Rattle.script_server.specs.Books.{AddsUp, IsSolidMemo, weights_of};
+ghost use Rattle.script_server.specs.Books.{IsRunOf, weights_of};
 ghost use Rattle.script_server.specs.Clients.{ExportsFor};
 
 use crate::exporter::{Client, ClientExporter, export_source};
@@ -23,7 +20,7 @@ use std::marker::Brand;
 use std::sync::Wait;
 use std::sync::ledger::Ledger;
 use std::thread::Threads;
-use subtree_memo::{Blanks, Memo, MemoLedger, Share, Tally};
+use subtree_memo::{Blanks, Books, Ledgers, Memo, MemoLedger, Share, Tally};
 use text_place::NoMemory;
 
 /// What came of a script: the replies to the commands of each client, in the clients' order, and the memo at the end with
@@ -51,14 +48,15 @@ pub fn weights(
     Ok(weights)
 }
 
-// The clients of callers with these shares, in their order.
-fn clients_of<H: Ledger, M: Ledger, K: Ledger, E: Ledger>(
+// The clients of callers with these fresh shares, in the order of their numbers.
+fn clients_of<B: Books>(
     alloc: Global,
     workers: u64,
-    shares: Vec<Share<H, M, K, E>>,
-) -> Result<Vec<Client<H, M, K, E>>, NoMemory>
+    shares: Vec<Share<B>>,
+) -> Result<Vec<Client<B>>, NoMemory>
     requires workers { (1 ≤ workers) × (workers ≤ 64) }
-    requires shares { All (λ s. (s.parts ≡ parts_each) × (s.dropped ≡ 0)) shares.items }
+    requires fresh { All (λ s. (s.parts ≡ parts_each) × (offered_of s ≡ 0)) shares.items }
+    requires order { shares.items ≡ opened (length shares.items) }
     ensures shares { IfOk result (λ v. map (λ c. c.share) v.items ≡ shares.items) }
     ensures unasked { IfOk result (λ v. All (λ c. c.asked ≡ 0) v.items) }
 {
@@ -70,11 +68,11 @@ fn clients_of<H: Ledger, M: Ledger, K: Ledger, E: Ledger>(
 }
 
 // The exporters of clients, which all export so.
-fn exporters_of<H: Ledger, M: Ledger, K: Ledger, E: Ledger, F: Copy + Drop>(
+fn exporters_of<B: Books, F: Copy + Drop>(
     alloc: Global,
-    clients: Vec<Client<H, M, K, E>>,
+    clients: Vec<Client<B>>,
     export: F,
-) -> Result<Vec<ClientExporter<Client<H, M, K, E>, F>>, NoMemory>
+) -> Result<Vec<ClientExporter<Client<B>, F>>, NoMemory>
     requires { All (λ c. c.asked ≡ 0) clients.items }
     ensures clients { IfOk result (λ v. map (λ e. e.client) v.items ≡ clients.items) }
     ensures alike { IfOk result (λ v. All (λ e. (e.client.asked ≡ 0) × (e.export ≡ export)) v.items) }
@@ -87,14 +85,14 @@ fn exporters_of<H: Ledger, M: Ledger, K: Ledger, E: Ledger, F: Copy + Drop>(
 }
 
 // The shares of exporters, in room that is given for them.
-fn shares_of<H: Ledger, M: Ledger, K: Ledger, E: Ledger, F: Drop>(
-    exporters: Vec<ClientExporter<Client<H, M, K, E>, F>>,
-    room: Vec<Share<H, M, K, E>>,
-) -> Vec<Share<H, M, K, E>>
+fn shares_of<B: Books, F: Drop>(
+    exporters: Vec<ClientExporter<Client<B>, F>>,
+    room: Vec<Share<B>>,
+) -> Vec<Share<B>>
     requires empty { room.items ≡ [] }
     requires room { length exporters.items ≤ vec_capacity room }
     ensures shares { result.items ≡ map (λ e. e.client.share) exporters.items }
-    ensures whole { All (λ s. s.parts ≡ parts_each) result.items }
+    ensures whole { All (λ s. (s.parts ≡ parts_each) × (offered_of s ≤ s.misses)) result.items }
 {
     let mut shares = room;
     for exporter in exporters {
@@ -118,7 +116,6 @@ fn run_over<
     alloc: Global,
     core: MemoCore<SolidFit, N>,
     blanks: Blanks,
-    callers: u32,
     gate: &G,
     workers: u64,
     unit: Unit,
@@ -126,27 +123,15 @@ fn run_over<
 ) -> Result<Ran<N>, NoMemory>
     requires within { AreWithin script.now.clients }
     requires workers { (1 ≤ workers) × (workers ≤ 64) }
-    requires callers { (1 ≤ callers) × (callers ≤ 64) × (length script.now.clients ≤ callers) }
+    requires callers { blanks.callers ≡ max (length script.now.clients) 1 }
     requires empty { core.journal ≡ [] }
-    requires limits { (core.budget ≡ H.budget) × (core.share ≡ H.share) }
-    requires hits { (blanks.hits.name ≡ H.name) × (blanks.hits.parts ≡ H.parts)
-        × (H.parts ≡ parts_each * callers) }
-    requires misses { (blanks.misses.name ≡ M.name) × (blanks.misses.parts ≡ M.parts)
-        × (M.parts ≡ parts_each * callers) }
-    requires kept { (blanks.kept.name ≡ K.name) × (blanks.kept.parts ≡ K.parts)
-        × (K.parts ≡ parts_each * callers) }
-    requires heavy { (blanks.heavy.name ≡ E.name) × (blanks.heavy.parts ≡ E.parts)
-        × (E.parts ≡ parts_each * callers) }
-    ensures fits { IfOk result (λ f. AllFit (AnswersExport unit) script.now.clients f.replies.items) }
-    ensures few { IfOk result (λ f. All (λ rs. length rs ≤ 8192) f.replies.items) }
-    ensures tally { IfOk result (λ f. f.tally ≡ tally_of f.core.journal f.tally.dropped) }
-    ensures sums { IfOk result (λ f. AddsUp unit script.now.clients f.replies.items f.tally) }
-    ensures sound { IfOk result (λ f. IsSolidMemo N.name_of f.core) }
-    ensures limits { IfOk result (λ f. (f.core.budget ≡ core.budget) × (f.core.share ≡ core.share)) }
+    requires limits { (core.budget ≡ H.budget) × (core.share ≡ H.share) × (blanks.callers ≡ H.callers) }
+    requires ledgers { IsOf H.name H.parts blanks.hits × IsOf M.name M.parts blanks.misses
+        × IsOf K.name K.parts blanks.kept × IsOf E.name E.parts blanks.heavy }
+    ensures { IfOk result (λ ran. IsRunOf unit script.now.clients core.budget core.share N.name_of
+        ran.replies.items ran.tally ran.core) }
 {
-    let (memo, shares): (Memo<SolidFit, N, H, M, K, E>, Vec<Share<H, M, K, E>>) = Memo::open(
-        alloc, core, callers, blanks,
-    )?;
+    let (memo, shares) = Memo::<SolidFit, N, Ledgers<H, M, K, E>>::open(alloc, core, blanks)?;
     let room = Vec::with_capacity(alloc, shares.len())?;
     let clients = clients_of(alloc, workers, shares)?;
     let builds = Builds {
@@ -156,7 +141,7 @@ fn run_over<
         gate,
     };
     let lent = &builds;
-    let export = |client: &mut Client<H, M, K, E>, unit: Unit, source: &[u8]| -> Result<
+    let export = |client: &mut Client<Ledgers<H, M, K, E>>, unit: Unit, source: &[u8],| -> Result<
         Reply,
         NoMemory,
     >
@@ -190,22 +175,21 @@ pub fn run_named<N: Namer<TreeKey> + Send + Sync, G: Gate + Sync, R: Threads + W
 ) -> Result<Ran<N>, NoMemory>
     requires within { AreWithin script.now.clients }
     requires workers { (1 ≤ workers) × (workers ≤ 64) }
-    // Each client's replies are those that its own commands define, whatever the others do at the same time.
-    ensures fits { IfOk result (λ f. AllFit (AnswersExport unit) script.now.clients f.replies.items) }
-    ensures few { IfOk result (λ f. All (λ rs. length rs ≤ 8192) f.replies.items) }
-    // The tally is that of the memo's journal, which is one of the sequential memo of the budget and share.
-    ensures tally { IfOk result (λ f. f.tally ≡ tally_of f.core.journal f.tally.dropped) }
-    // Where no export lacked its solid, it adds up to the joins of all exports.
-    ensures sums { IfOk result (λ f. AddsUp unit script.now.clients f.replies.items f.tally) }
-    ensures sound { IfOk result (λ f. IsSolidMemo N.name_of f.core) }
-    ensures limits { IfOk result (λ f. (f.core.budget ≡ memo) × (f.core.share ≡ share)) }
+    ensures { IfOk result (λ ran. IsRunOf unit script.now.clients memo share N.name_of
+        ran.replies.items ran.tally ran.core) }
 {
     // A memo has at least one caller.
     let callers = script.clients.items().len().max(1) as u32;
     let core = MemoCore::new(alloc, SolidFit, namer, memo, share)?;
-    let blanks = Blanks::new(callers);
     run_over::<N, Brand, Brand, Brand, Brand, G, R>(
-        rt, alloc, core, blanks, callers, gate, workers, unit, script,
+        rt,
+        alloc,
+        core,
+        Blanks::new(callers),
+        gate,
+        workers,
+        unit,
+        script,
     )
 }
 
@@ -222,12 +206,8 @@ pub fn run_gated<G: Gate + Sync, R: Threads + Wait + Sync>(
 ) -> Result<Ran<ShaNamer>, NoMemory>
     requires within { AreWithin script.now.clients }
     requires workers { (1 ≤ workers) × (workers ≤ 64) }
-    ensures fits { IfOk result (λ f. AllFit (AnswersExport unit) script.now.clients f.replies.items) }
-    ensures few { IfOk result (λ f. All (λ rs. length rs ≤ 8192) f.replies.items) }
-    ensures tally { IfOk result (λ f. f.tally ≡ tally_of f.core.journal f.tally.dropped) }
-    ensures sums { IfOk result (λ f. AddsUp unit script.now.clients f.replies.items f.tally) }
-    ensures sound { IfOk result (λ f. IsSolidMemo name_of f.core) }
-    ensures limits { IfOk result (λ f. (f.core.budget ≡ memo) × (f.core.share ≡ share)) }
+    ensures { IfOk result (λ ran. IsRunOf unit script.now.clients memo share name_of
+        ran.replies.items ran.tally ran.core) }
 {
     run_named(
         rt, alloc, script, workers, memo, share, unit, gate, ShaNamer,
@@ -246,12 +226,8 @@ pub fn run_script<R: Threads + Wait + Sync>(
 ) -> Result<Ran<ShaNamer>, NoMemory>
     requires within { AreWithin script.now.clients }
     requires workers { (1 ≤ workers) × (workers ≤ 64) }
-    ensures fits { IfOk result (λ f. AllFit (AnswersExport unit) script.now.clients f.replies.items) }
-    ensures few { IfOk result (λ f. All (λ rs. length rs ≤ 8192) f.replies.items) }
-    ensures tally { IfOk result (λ f. f.tally ≡ tally_of f.core.journal f.tally.dropped) }
-    ensures sums { IfOk result (λ f. AddsUp unit script.now.clients f.replies.items f.tally) }
-    ensures sound { IfOk result (λ f. IsSolidMemo name_of f.core) }
-    ensures limits { IfOk result (λ f. (f.core.budget ≡ memo) × (f.core.share ≡ share)) }
+    ensures { IfOk result (λ ran. IsRunOf unit script.now.clients memo share name_of
+        ran.replies.items ran.tally ran.core) }
 {
     run_gated(rt, alloc, script, workers, memo, share, unit, &OpenGate)
 }

@@ -1,18 +1,15 @@
 //! The call that does all that the program does.
 
-ghost use Rattle.std.specs.Prelude.{◌≡◌, ◌≢◌, ◌≤◌, ◌⊎◌, All, length, map, string_bytes, IfSome, IfOk};
+ghost use Rattle.std.specs.Prelude.{◌≡◌, ◌≢◌, ◌≤◌, ◌⊎◌, length, map, string_bytes, IfSome, IfOk};
 ghost use Rattle.outside_io.specs.Counts.{Rose};
 ghost use Rattle.csg_tree.specs.TreeKeys.{name_of};
 ghost use Rattle.run_words.specs.declared.settings.Settings.{Settings};
 ghost use Rattle.run_words.specs.Words.{Chooses, AreInRange};
-ghost use Rattle.subtree_memo.specs.Tallies.{tally_of};
 ghost use Rattle.script_reader.specs.Limits.{AreWithin};
-ghost use Rattle.reply_text.specs.Answers.{AllFit};
 ghost use Rattle.script_service.specs.declared.status.Status.TheVariants as Status;
 ghost use Rattle.script_service.specs.Streams.{stream, streams};
 ghost use Rattle.script_service.specs.Units.{unit_of, memo_of, share_of};
-ghost use Rattle.script_server.specs.Meaning.Exports.{AnswersExport};
-ghost use Rattle.script_server.specs.Books.{AddsUp, IsSolidMemo, IsRunOf};
+ghost use Rattle.script_server.specs.Books.{IsRunOf};
 ghost use Rattle.script_server.specs.Serving.{Tells, WritesOutput, AskForRun, AskForNoInput, IsScriptOf, IsNoScript};
 
 use crate::running::{Ran, run_script, weights};
@@ -36,12 +33,8 @@ fn run_clients<R: Threads + Wait + Sync>(
 ) -> Result<Ran<ShaNamer>, NoMemory>
     requires within { AreWithin script.now.clients }
     requires range { AreInRange settings }
-    ensures fits { IfOk result (λ f. AllFit (AnswersExport (unit_of settings)) script.now.clients f.replies.items) }
-    ensures few { IfOk result (λ f. All (λ rs. length rs ≤ 8192) f.replies.items) }
-    ensures tally { IfOk result (λ f. f.tally ≡ tally_of f.core.journal f.tally.dropped) }
-    ensures sums { IfOk result (λ f. AddsUp (unit_of settings) script.now.clients f.replies.items f.tally) }
-    ensures sound { IfOk result (λ f. IsSolidMemo name_of f.core) }
-    ensures limits { IfOk result (λ f. (f.core.budget ≡ memo_of settings) × (f.core.share ≡ share_of settings)) }
+    ensures { IfOk result (λ ran. IsRunOf (unit_of settings) script.now.clients (memo_of settings) (share_of settings) name_of
+        ran.replies.items ran.tally ran.core) }
 {
     match settings {
         Settings::Run {

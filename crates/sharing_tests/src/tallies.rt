@@ -63,13 +63,14 @@ fn an_export_that_is_done_again_is_held_if_it_has_room(rt: HostRuntime) {
 fn an_export_of_which_a_build_is_refused_has_no_memory(rt: HostRuntime) {
     let alloc = rt.alloc();
     let script = script_of(&rt, alloc, &["a"], &PLATE, 2);
-    // Builds that are let through, the budget, and whether each export is a solid.
-    for (most, memo, first, second) in [
-        (0, 500_000, false, false),
-        (1, 500_000, false, false),
-        (2, 500_000, true, true),
-        (2, 0, true, false),
-        (4, 0, true, true),
+    // Builds that are let through, the budget, whether each export is a solid, and the tally: a join whose build is
+    // refused was missed, and nothing is offered for it.
+    for (most, memo, first, second, counts) in [
+        (0, 500_000, false, false, [2, 0, 2, 0, 0, 0, 0, 0]),
+        (1, 500_000, false, false, [4, 1, 3, 1, 1, 0, 0, 0]),
+        (2, 500_000, true, true, [4, 2, 2, 2, 2, 0, 0, 0]),
+        (2, 0, true, false, [3, 0, 3, 2, 0, 2, 0, 0]),
+        (4, 0, true, true, [4, 0, 4, 4, 0, 4, 0, 0]),
     ] {
         let gate = Refusing::new(most);
         let finished = run(&rt, alloc, ShaNamer, &gate, sizes(1, memo, 0), &script);
@@ -78,6 +79,7 @@ fn an_export_of_which_a_build_is_refused_has_no_memory(rt: HostRuntime) {
             assert_eq!(&rt; told.starts_with(PLATE_COUNTS), is_solid);
             assert_eq!(&rt; told == b"nomem".as_slice(), !is_solid);
         }
+        assert_eq!(&rt; numbers(finished.tally), counts);
     }
 }
 

@@ -1,7 +1,8 @@
 -- A journal with one item more.
-use Rattle.std.proofs.Common.{◌≡◌, ℕ, ◌+◌, ◌<◌, ◌∙◌, ap, sym, List, [], ◌∷◌, ◌++◌, length, take, get_or}
+use Rattle.std.proofs.Common.{◌≡◌, ℕ, ◌+◌, ◌<◌, ◌∙◌, ap, sym, List, [], ◌∷◌, ◌++◌, All, length, take, get_or}
 use Rattle.std.specs.Arc.{arc_value}
 use Rattle.std.proofs.lemmas.List.{map-append, take_more}
+use Rattle.std.proofs.lemmas.List.Elements.{All-push}
 use Rattle.std.proofs.lemmas.List.Sums.{sum_by_push}
 use Rattle.memo_core.specs.Memo.{Item, Said, item, count_in, hit_by, missed_by, kept_by, heavy_by}
 use Rattle.memo_core.specs.Fields.{item_of, items_of, said_of}
@@ -22,6 +23,10 @@ module _ {K : Type 0} where
 
   pub heavy_more : (is : List (Item K)) (caller : ℕ) (key : K) (said : Said) → count_in heavy_by (is ++ item caller key said ∷ []) ≡ count_in heavy_by is + heavy_by said
   heavy_more is caller key said = count_more heavy_by is caller key said
+
+  -- the callers of a journal with one item more
+  pub callers_more : (is : List (Item K)) (caller : ℕ) (key : K) (said : Said) (most : ℕ) → All (λ i. i.caller < most) is → caller < most → All (λ i. i.caller < most) (is ++ item caller key said ∷ [])
+  callers_more is caller key said most all here = All-push (λ i. i.caller < most) is (item caller key said) all here
 
   -- the items up to a place and the one there
   pub count_take : (by : Said → ℕ) (xs : List (JournalItem K)) (i : ℕ) (x : JournalItem K) → i < length xs → x ≡ get_or xs i x → count_in by (items_of (take (i + 1) xs)) ≡ count_in by (items_of (take i xs)) + by (said_of x.did)

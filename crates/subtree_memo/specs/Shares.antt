@@ -1,5 +1,6 @@
 -- What contracts see of a caller's share of the books.
-use Rattle.std.specs.Prelude.{ℕ, zero, suc, ◌+◌, ◌^◌, min, Bool, true, false, List, [], ◌∷◌, ◌++◌}
+use Rattle.std.specs.Prelude.{◌≡◌, ℕ, zero, suc, ◌+◌, ◌^◌, min, Bool, true, false, List, [], ◌∷◌, ◌++◌}
+use Rattle.std.specs.declared.sync.ledger.Blank.{Blank}
 use Rattle.memo_core.specs.declared.memo.Fill.{Fill}
 use Rattle.memo_core.specs.declared.memo.Fill.TheVariants.{Kept, TooHeavy, NoMemory}
 
@@ -18,6 +19,10 @@ pub record View : Type 0 where
 -- the parts that a caller gets
 abbrev pub parts_each : ℕ
 parts_each = 128
+
+-- a fresh ledger is the one of this name and so many parts
+abbrev pub IsOf : ℕ → ℕ → Blank → Type 0
+IsOf name parts blank = (blank.name ≡ name) × (blank.parts ≡ parts)
 
 -- where the number of dropped fills stops
 abbrev pub dropped_max : ℕ

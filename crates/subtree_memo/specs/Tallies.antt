@@ -1,6 +1,7 @@
 -- The counts of a journal.
-use Rattle.std.specs.Prelude.{◌≡◌, ℕ, ◌+◌, List}
+use Rattle.std.specs.Prelude.{◌≡◌, ℕ, ◌+◌, min, sum_by, List}
 use Rattle.memo_core.specs.Memo.{Item, count_in, hit_by, missed_by, kept_by, heavy_by, evicted_in}
+use Rattle.subtree_memo.specs.Shares.{View, dropped_max}
 use Rattle.subtree_memo.specs.declared.tally.Counts.{Counts}
 use Rattle.subtree_memo.specs.declared.tally.Tally.{Tally}
 
@@ -25,3 +26,11 @@ module _ {K : Type 0} where
     dropped = dropped;
     evicted = evicted_in items;
   }
+
+-- a tally has what was booked on all shares, where the number of dropped fills stops at its most
+pub record AreSums (shares : List View) (tally : Tally) : Type 0 where
+  pub hits : tally.hits ≡ sum_by (λ s. s.hits) shares
+  pub misses : tally.misses ≡ sum_by (λ s. s.misses) shares
+  pub kept : tally.kept ≡ sum_by (λ s. s.kept) shares
+  pub heavy : tally.heavy ≡ sum_by (λ s. s.heavy) shares
+  pub dropped : tally.dropped ≡ min (sum_by (λ s. s.dropped) shares) dropped_max

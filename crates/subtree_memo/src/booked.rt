@@ -1,11 +1,11 @@
-ghost use Rattle.std.specs.Prelude.{◌≡◌, ◌<◌, [], ◌∷◌, ◌++◌, IfOk, OnErr, IfSome};
+ghost use Rattle.std.specs.Prelude.{◌≡◌, ◌<◌, [], ◌∷◌, ◌++◌, All, IfOk, OnErr, IfSome};
 ghost use Rattle.std.specs.Arc.{arc_value};
 ghost use Rattle.memo_core.specs.Fields.{value_in, is_hit};
 ghost use Rattle.memo_core.specs.Memo.{item, Probe_said, count_in, hit_by, missed_by, kept_by, heavy_by};
 ghost use Rattle.subtree_memo.specs.Shares.{probe_booked, fill_booked};
 ghost use Rattle.subtree_memo.specs.Journals.{IsFilled};
 
-use crate::ledgers::MemoLedger;
+use crate::ledgers::Books;
 use crate::share::{Share, dropped_sum};
 use memo_core::{Dropped, Fill, Fit, MemoCore, Namer, Probe};
 use std::alloc::Global;
@@ -15,27 +15,28 @@ use text_place::NoMemory;
 
 /// A memo, and beside it the books of its journal's counts.
 #[derive(Drop)]
-pub struct Booked<F: Fit, N: Namer<F::Key>, H: MemoLedger, M: Ledger, K: Ledger, E: Ledger> {
+pub struct Booked<F: Fit, N: Namer<F::Key>, B: Books> {
     pub core: MemoCore<F, N>,
-    pub hits: Book<H>,
-    pub misses: Book<M>,
-    pub kept: Book<K>,
-    pub heavy: Book<E>,
+    pub hits: Book<B::Hits>,
+    pub misses: Book<B::Misses>,
+    pub kept: Book<B::Kept>,
+    pub heavy: Book<B::Heavy>,
     pub ghost hits_are: { hits.total ≡ count_in hit_by core.journal },
     pub ghost misses_are: { misses.total ≡ count_in missed_by core.journal },
     pub ghost kept_are: { kept.total ≡ count_in kept_by core.journal },
     pub ghost heavy_are: { heavy.total ≡ count_in heavy_by core.journal },
-    pub ghost budget_is: { core.budget ≡ H.budget },
-    pub ghost share_is: { core.share ≡ H.share },
+    pub ghost budget_is: { core.budget ≡ B.Hits.budget },
+    pub ghost share_is: { core.share ≡ B.Hits.share },
+    pub ghost callers_are: { All (λ i. i.caller < B.Hits.callers) core.journal },
 }
 
 /// The books of a memo, on which nothing is booked.
 #[derive(Drop)]
-pub struct Books<H: Ledger, M: Ledger, K: Ledger, E: Ledger> {
-    pub hits: Book<H>,
-    pub misses: Book<M>,
-    pub kept: Book<K>,
-    pub heavy: Book<E>,
+pub struct EmptyBooks<B: Books> {
+    pub hits: Book<B::Hits>,
+    pub misses: Book<B::Misses>,
+    pub kept: Book<B::Kept>,
+    pub heavy: Book<B::Heavy>,
     pub ghost no_hits: { hits.total ≡ 0 },
     pub ghost no_misses: { misses.total ≡ 0 },
     pub ghost none_kept: { kept.total ≡ 0 },
@@ -43,14 +44,14 @@ pub struct Books<H: Ledger, M: Ledger, K: Ledger, E: Ledger> {
 }
 
 /// A memo whose journal is empty, with its books.
-pub fn first_booked<F: Fit, N: Namer<F::Key>, H: MemoLedger, M: Ledger, K: Ledger, E: Ledger>(
+pub fn first_booked<F: Fit, N: Namer<F::Key>, B: Books>(
     core: MemoCore<F, N>,
-    books: Books<H, M, K, E>,
-) -> Booked<F, N, H, M, K, E>
+    books: EmptyBooks<B>,
+) -> Booked<F, N, B>
     requires empty { core.journal ≡ [] }
-    requires limits { (core.budget ≡ H.budget) × (core.share ≡ H.share) }
+    requires limits { (core.budget ≡ B.Hits.budget) × (core.share ≡ B.Hits.share) }
 {
-    let Books {
+    let EmptyBooks {
         hits,
         misses,
         kept,
@@ -65,21 +66,14 @@ pub fn first_booked<F: Fit, N: Namer<F::Key>, H: MemoLedger, M: Ledger, K: Ledge
     }
 }
 
-impl<F: Fit, N: Namer<F::Key>, H: MemoLedger, M: Ledger, K: Ledger, E: Ledger> Booked<
-    F,
-    N,
-    H,
-    M,
-    K,
-    E,
-> {
+impl<F: Fit, N: Namer<F::Key>, B: Books> Booked<F, N, B> {
     /// A probe that is booked, and stands in the journal as the caller's of the share. NoMemory books
     /// nothing.
-    #[tactic(auto, using(crate::proofs::Counts::hits_more, crate::proofs::Counts::misses_more, crate::proofs::Counts::kept_more, crate::proofs::Counts::heavy_more))]
+    #[tactic(auto, using(crate::proofs::Counts::hits_more, crate::proofs::Counts::misses_more, crate::proofs::Counts::kept_more, crate::proofs::Counts::heavy_more, crate::proofs::Counts::callers_more))]
     pub fn probe(
         &mut self,
         alloc: Global,
-        share: &mut Share<H, M, K, E>,
+        share: &mut Share<B>,
         key: &Arc<F::Key>,
     ) -> Result<Probe<F::Value>, NoMemory>
         requires { 0 < share.old.parts }
@@ -108,11 +102,11 @@ impl<F: Fit, N: Namer<F::Key>, H: MemoLedger, M: Ledger, K: Ledger, E: Ledger> B
 
     /// A fill that is booked, also where memory runs out. Where it does not, the fill stands in the journal
     /// as the caller's of the share.
-    #[tactic(auto, using(crate::proofs::Counts::hits_more, crate::proofs::Counts::misses_more, crate::proofs::Counts::kept_more, crate::proofs::Counts::heavy_more))]
+    #[tactic(auto, using(crate::proofs::Counts::hits_more, crate::proofs::Counts::misses_more, crate::proofs::Counts::kept_more, crate::proofs::Counts::heavy_more, crate::proofs::Counts::callers_more))]
     pub fn fill(
         &mut self,
         alloc: Global,
-        share: &mut Share<H, M, K, E>,
+        share: &mut Share<B>,
         key: &Arc<F::Key>,
         value: Arc<F::Value>,
         weight: u64,

@@ -1,12 +1,12 @@
-ghost use Rattle.std.specs.Prelude.{◌≡◌, ◌+◌, ◌*◌, ◌<◌, ◌≤◌, min, sum_by, [], IfOk, OnErr, IfSome};
+ghost use Rattle.std.specs.Prelude.{◌≡◌, ◌<◌, All, sum_by, [], ◌∷◌, IfOk, OnErr, IfSome};
 ghost use Rattle.std.specs.Arc.{arc_value};
 ghost use Rattle.memo_core.specs.Views.{IsSound};
 ghost use Rattle.memo_core.specs.Fields.{value_in, is_hit};
-ghost use Rattle.subtree_memo.specs.Shares.{probe_booked, fill_booked, opened, parts_each, dropped_max};
-ghost use Rattle.subtree_memo.specs.Tallies.{tally_of};
+ghost use Rattle.subtree_memo.specs.Shares.{probe_booked, fill_booked, opened, IsOf};
+ghost use Rattle.subtree_memo.specs.Tallies.{tally_of, AreSums};
 
-use crate::booked::{Booked, Books, first_booked};
-use crate::ledgers::{Blanks, MemoLedger};
+use crate::booked::{Booked, EmptyBooks, first_booked};
+use crate::ledgers::{Blanks, Books};
 use crate::share::{Parts, Share, all_of, shares_of};
 use crate::tally::{Tally, counts_of};
 use memo_core::{Fill, Fit, MemoCore, Namer, Probe};
@@ -18,43 +18,32 @@ use text_place::NoMemory;
 /// A memo that threads share. Whenever its lock is free, the journal behind it is one of the sequential
 /// memo, and the books are the journal's counts.
 #[derive(Drop)]
-pub struct Memo<F: Fit, N: Namer<F::Key>, H: MemoLedger, M: Ledger, K: Ledger, E: Ledger> {
-    lock: Mutex<Booked<F, N, H, M, K, E>>,
+pub struct Memo<F: Fit, N: Namer<F::Key>, B: Books> {
+    lock: Mutex<Booked<F, N, B>>,
 }
 
-impl<F: Fit, N: Namer<F::Key>, H: MemoLedger, M: Ledger, K: Ledger, E: Ledger> Memo<
-    F,
-    N,
-    H,
-    M,
-    K,
-    E,
-> {
-    /// Puts a memo whose journal is empty behind a lock. Each of 1 to 64 callers, numbered from 0, gets a
+impl<F: Fit, N: Namer<F::Key>, B: Books> Memo<F, N, B> {
+    /// Puts a memo whose journal is empty behind a lock. Each caller of the ledgers, numbered from 0, gets a
     /// share with 128 parts of the books.
     pub fn open(
         alloc: Global,
         core: MemoCore<F, N>,
-        callers: u32,
         blanks: Blanks,
-    ) -> Result<(Memo<F, N, H, M, K, E>, Vec<Share<H, M, K, E>>), NoMemory>
+    ) -> Result<(Memo<F, N, B>, Vec<Share<B>>), NoMemory>
         requires empty { core.journal ≡ [] }
-        requires limits { (core.budget ≡ H.budget) × (core.share ≡ H.share) }
-        requires callers { (1 ≤ callers) × (callers ≤ 64) }
-        requires hits { (blanks.hits.name ≡ H.name) × (blanks.hits.parts ≡ H.parts)
-            × (H.parts ≡ parts_each * callers) }
-        requires misses { (blanks.misses.name ≡ M.name) × (blanks.misses.parts ≡ M.parts)
-            × (M.parts ≡ parts_each * callers) }
-        requires kept { (blanks.kept.name ≡ K.name) × (blanks.kept.parts ≡ K.parts)
-            × (K.parts ≡ parts_each * callers) }
-        requires heavy { (blanks.heavy.name ≡ E.name) × (blanks.heavy.parts ≡ E.parts)
-            × (E.parts ≡ parts_each * callers) }
-        ensures { IfOk result (λ r. r.1.items ≡ opened callers) }
+        requires limits { (core.budget ≡ B.Hits.budget) × (core.share ≡ B.Hits.share)
+            × (blanks.callers ≡ B.Hits.callers) }
+        requires ledgers { IsOf B.Hits.name B.Hits.parts blanks.hits
+            × IsOf B.Misses.name B.Misses.parts blanks.misses
+            × IsOf B.Kept.name B.Kept.parts blanks.kept
+            × IsOf B.Heavy.name B.Heavy.parts blanks.heavy }
+        ensures { IfOk result (λ r. r.1.items ≡ opened blanks.callers) }
     {
-        let (hits, hit_parts) = blanks.hits.open::<H>();
-        let (misses, missed_parts) = blanks.misses.open::<M>();
-        let (kept, kept_parts) = blanks.kept.open::<K>();
-        let (heavy, heavy_parts) = blanks.heavy.open::<E>();
+        let callers = blanks.callers;
+        let (hits, hit_parts) = blanks.hits.open::<B::Hits>();
+        let (misses, missed_parts) = blanks.misses.open::<B::Misses>();
+        let (kept, kept_parts) = blanks.kept.open::<B::Kept>();
+        let (heavy, heavy_parts) = blanks.heavy.open::<B::Heavy>();
         let parts = Parts {
             hits: hit_parts,
             misses: missed_parts,
@@ -62,7 +51,7 @@ impl<F: Fit, N: Namer<F::Key>, H: MemoLedger, M: Ledger, K: Ledger, E: Ledger> M
             heavy: heavy_parts,
         };
         let shares = shares_of(alloc, callers, parts)?;
-        let books = Books {
+        let books = EmptyBooks {
             hits,
             misses,
             kept,
@@ -78,7 +67,7 @@ impl<F: Fit, N: Namer<F::Key>, H: MemoLedger, M: Ledger, K: Ledger, E: Ledger> M
         &self,
         rt: &R,
         alloc: Global,
-        share: &mut Share<H, M, K, E>,
+        share: &mut Share<B>,
         key: &Arc<F::Key>,
     ) -> Result<Probe<F::Value>, NoMemory>
         requires { 0 < share.old.parts }
@@ -95,7 +84,7 @@ impl<F: Fit, N: Namer<F::Key>, H: MemoLedger, M: Ledger, K: Ledger, E: Ledger> M
         &self,
         rt: &R,
         alloc: Global,
-        share: &mut Share<H, M, K, E>,
+        share: &mut Share<B>,
         key: &Arc<F::Key>,
         value: Arc<F::Value>,
         weight: u64,
@@ -113,19 +102,32 @@ impl<F: Fit, N: Namer<F::Key>, H: MemoLedger, M: Ledger, K: Ledger, E: Ledger> M
     }
 
     /// The memo and its tally, once all shares are back: the tally is that of the memo's journal, and
-    /// what was booked on the shares. The memo keeps to the budget and the share that it was opened with.
-    pub fn close(self, shares: Vec<Share<H, M, K, E>>) -> (Tally, MemoCore<F, N>)
-        requires whole { (0 < H.parts) × (sum_by (λ s. s.parts) shares.items ≡ H.parts) }
-        requires ledgers { (M.parts ≡ H.parts) × (K.parts ≡ H.parts) × (E.parts ≡ H.parts) }
+    /// what was booked on the shares. The memo keeps to the budget and the share that it was opened with, and
+    /// its journal has no other callers than those.
+    pub fn close(self, shares: Vec<Share<B>>) -> (Tally, MemoCore<F, N>)
+        requires whole { (0 < B.Hits.parts) × (sum_by (λ s. s.parts) shares.items ≡ B.Hits.parts) }
+        requires ledgers { (B.Misses.parts ≡ B.Hits.parts) × (B.Kept.parts ≡ B.Hits.parts) × (B.Heavy.parts ≡ B.Hits.parts) }
         ensures tally { result.0 ≡ tally_of result.1.journal result.0.dropped }
-        ensures hits { result.0.hits ≡ sum_by (λ s. s.hits) shares.items }
-        ensures misses { result.0.misses ≡ sum_by (λ s. s.misses) shares.items }
-        ensures kept { result.0.kept ≡ sum_by (λ s. s.kept) shares.items }
-        ensures heavy { result.0.heavy ≡ sum_by (λ s. s.heavy) shares.items }
-        ensures dropped { result.0.dropped ≡
-            min (sum_by (λ s. s.dropped) shares.items) dropped_max }
+        ensures booked { AreSums shares.items result.0 }
         ensures sound { IsSound F.same_key N.name_of F.fits F.weighs result.1 }
-        ensures limits { (result.1.budget ≡ H.budget) × (result.1.share ≡ H.share) }
+        ensures limits { (result.1.budget ≡ B.Hits.budget) × (result.1.share ≡ B.Hits.share) }
+        ensures callers { All (λ i. i.caller < B.Hits.callers) result.1.journal }
+    {
+        let Some(all) = all_of(shares) else {
+            unreachable!()
+        };
+        self.close_whole(all)
+    }
+
+    /// As `close`, for all shares put together.
+    pub fn close_whole(self, all: Share<B>) -> (Tally, MemoCore<F, N>)
+        requires whole { all.parts ≡ B.Hits.parts }
+        requires ledgers { (B.Misses.parts ≡ B.Hits.parts) × (B.Kept.parts ≡ B.Hits.parts) × (B.Heavy.parts ≡ B.Hits.parts) }
+        ensures tally { result.0 ≡ tally_of result.1.journal result.0.dropped }
+        ensures booked { AreSums (all ∷ []) result.0 }
+        ensures sound { IsSound F.same_key N.name_of F.fits F.weighs result.1 }
+        ensures limits { (result.1.budget ≡ B.Hits.budget) × (result.1.share ≡ B.Hits.share) }
+        ensures callers { All (λ i. i.caller < B.Hits.callers) result.1.journal }
     {
         let Memo { lock } = self;
         let Booked {
@@ -135,15 +137,12 @@ impl<F: Fit, N: Namer<F::Key>, H: MemoLedger, M: Ledger, K: Ledger, E: Ledger> M
             mut kept,
             mut heavy,
         } = lock.into_inner();
-        let mut dropped = 0;
-        if let Some(mut all) = all_of(shares) {
-            hits.audit(&mut all.hits);
-            misses.audit(&mut all.misses);
-            kept.audit(&mut all.kept);
-            heavy.audit(&mut all.heavy);
-            dropped = all.dropped;
-        }
-        let tally = counts_of(core.journal()).tally(core.evicted(), dropped);
+        let mut all = all;
+        hits.audit(&mut all.hits);
+        misses.audit(&mut all.misses);
+        kept.audit(&mut all.kept);
+        heavy.audit(&mut all.heavy);
+        let tally = counts_of(core.journal()).tally(core.evicted(), all.dropped);
         (tally, core)
     }
 }

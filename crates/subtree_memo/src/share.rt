@@ -1,7 +1,7 @@
-ghost use Rattle.std.specs.Prelude.{◌≡◌, ◌+◌, ◌-◌, ◌*◌, ◌≤◌, min, sum_by, [], IfOk, IfSome, IfNone};
+ghost use Rattle.std.specs.Prelude.{◌≡◌, ◌+◌, ◌-◌, ◌*◌, ◌≤◌, ◌<◌, min, sum_by, [], IfOk, IfSome, IfNone};
 ghost use Rattle.subtree_memo.specs.Shares.{fresh, joined, opened, parts_each, dropped_max};
 
-use crate::ledgers::PARTS_EACH;
+use crate::ledgers::{Books, PARTS_EACH};
 use std::alloc::Global;
 use std::marker::Model;
 use std::sync::ledger::{Ledger, Share as Part};
@@ -11,17 +11,17 @@ use text_place::NoMemory;
 /// kept and fills that were too heavy, and a number of its own for fills that were dropped for want of
 /// memory, which stops at 2^48. Contracts see it as these numbers.
 #[derive(Drop)]
-pub struct Share<H: Ledger, M: Ledger, K: Ledger, E: Ledger> {
+pub struct Share<B: Books> {
     pub(crate) caller: u32,
     pub(crate) dropped: u64,
-    pub(crate) hits: Part<H>,
-    pub(crate) misses: Part<M>,
-    pub(crate) kept: Part<K>,
-    pub(crate) heavy: Part<E>,
+    pub(crate) hits: Part<B::Hits>,
+    pub(crate) misses: Part<B::Misses>,
+    pub(crate) kept: Part<B::Kept>,
+    pub(crate) heavy: Part<B::Heavy>,
 }
 
-impl<H: Ledger, M: Ledger, K: Ledger, E: Ledger> Model for Share<H, M, K, E> {
-    ghost use Rattle.std.specs.Prelude.{◌≡◌, ◌≤◌};
+impl<B: Books> Model for Share<B> {
+    ghost use Rattle.std.specs.Prelude.{◌≡◌, ◌<◌, ◌≤◌};
     ghost use Rattle.subtree_memo.specs.Shares.{View, dropped_max};
 
     ghost Value = { View };
@@ -36,7 +36,7 @@ impl<H: Ledger, M: Ledger, K: Ledger, E: Ledger> Model for Share<H, M, K, E> {
       dropped = s.dropped;
     } };
 
-    ghost invariant = { λ s. (s.misses.parts ≡ s.hits.parts) × (s.kept.parts ≡ s.hits.parts)
+    ghost invariant = { λ s. (s.caller < B.Hits.callers) × (s.misses.parts ≡ s.hits.parts) × (s.kept.parts ≡ s.hits.parts)
         × (s.heavy.parts ≡ s.hits.parts) × (s.dropped ≤ dropped_max) };
 }
 
@@ -51,7 +51,7 @@ pub fn dropped_sum(some: u64, more: u64) -> u64
     (some + more).min(DROPPED_MAX)
 }
 
-impl<H: Ledger, M: Ledger, K: Ledger, E: Ledger> Share<H, M, K, E> {
+impl<B: Books> Share<B> {
     /// The caller's number. Takes no memory.
     pub fn caller(&self) -> u32
         ensures { result ≡ self.now.caller }
@@ -60,7 +60,7 @@ impl<H: Ledger, M: Ledger, K: Ledger, E: Ledger> Share<H, M, K, E> {
     }
 
     /// A share of the same caller with one of the parts, and nothing booked.
-    pub fn split(&mut self) -> Share<H, M, K, E>
+    pub fn split(&mut self) -> Share<B>
         requires { 2 ≤ self.old.parts }
         ensures new { result ≡ fresh self.old.caller 1 }
         ensures rest { self.new ≡ record self.old { parts = self.old.parts - 1 } }
@@ -76,15 +76,15 @@ impl<H: Ledger, M: Ledger, K: Ledger, E: Ledger> Share<H, M, K, E> {
     }
 
     /// Adds the parts and numbers of a share of the same caller.
-    pub fn absorb(&mut self, other: Share<H, M, K, E>)
+    pub fn absorb(&mut self, other: Share<B>)
         requires { other.caller ≡ self.old.caller }
         ensures { self.new ≡ joined self.old other }
     {
-        self.merge(other)
+        self.put_together(other)
     }
 
-    // Adds the parts and numbers of a share. The caller's number stays.
-    fn merge(&mut self, other: Share<H, M, K, E>)
+    /// Adds the parts and numbers of a share, also of another caller, to be closed with. The caller's number stays.
+    pub fn put_together(&mut self, other: Share<B>)
         ensures { self.new ≡ joined self.old other }
     {
         let Share {
@@ -104,9 +104,7 @@ impl<H: Ledger, M: Ledger, K: Ledger, E: Ledger> Share<H, M, K, E> {
 }
 
 /// All shares put together, or none where there are none.
-pub fn all_of<H: Ledger, M: Ledger, K: Ledger, E: Ledger>(
-    mut shares: Vec<Share<H, M, K, E>>,
-) -> Option<Share<H, M, K, E>>
+pub fn all_of<B: Books>(mut shares: Vec<Share<B>>) -> Option<Share<B>>
     ensures parts { IfSome result (λ s. s.parts ≡ sum_by (λ x. x.parts) shares.items) }
     ensures hits { IfSome result (λ s. s.hits ≡ sum_by (λ x. x.hits) shares.items) }
     ensures misses { IfSome result (λ s. s.misses ≡ sum_by (λ x. x.misses) shares.items) }
@@ -118,7 +116,7 @@ pub fn all_of<H: Ledger, M: Ledger, K: Ledger, E: Ledger>(
 {
     let mut all = shares.pop()?;
     while let Some(share) = shares.pop() {
-        all.merge(share);
+        all.put_together(share);
     }
     // Its type says that it is at most where the number stops.
     let _dropped = all.dropped;
@@ -127,18 +125,16 @@ pub fn all_of<H: Ledger, M: Ledger, K: Ledger, E: Ledger>(
 
 /// The first parts of each book.
 #[derive(Drop)]
-pub struct Parts<H: Ledger, M: Ledger, K: Ledger, E: Ledger> {
-    pub hits: Part<H>,
-    pub misses: Part<M>,
-    pub kept: Part<K>,
-    pub heavy: Part<E>,
+pub struct Parts<B: Books> {
+    pub hits: Part<B::Hits>,
+    pub misses: Part<B::Misses>,
+    pub kept: Part<B::Kept>,
+    pub heavy: Part<B::Heavy>,
 }
 
 // The share of a caller, with these parts of the books.
-fn share_of<H: Ledger, M: Ledger, K: Ledger, E: Ledger>(
-    caller: u32,
-    parts: Parts<H, M, K, E>,
-) -> Share<H, M, K, E>
+fn share_of<B: Books>(caller: u32, parts: Parts<B>) -> Share<B>
+    requires caller { caller < B.Hits.callers }
     requires hits { (parts.hits.parts ≡ parts_each) × (parts.hits.amount ≡ 0) }
     requires misses { (parts.misses.parts ≡ parts_each) × (parts.misses.amount ≡ 0) }
     requires kept { (parts.kept.parts ≡ parts_each) × (parts.kept.amount ≡ 0) }
@@ -163,11 +159,12 @@ fn share_of<H: Ledger, M: Ledger, K: Ledger, E: Ledger>(
 
 /// The shares of so many callers, with all parts of the books.
 #[tactic(auto, using(crate::proofs::Opened::opened_more))]
-pub fn shares_of<H: Ledger, M: Ledger, K: Ledger, E: Ledger>(
+pub fn shares_of<B: Books>(
     alloc: Global,
     callers: u32,
-    mut all: Parts<H, M, K, E>,
-) -> Result<Vec<Share<H, M, K, E>>, NoMemory>
+    mut all: Parts<B>,
+) -> Result<Vec<Share<B>>, NoMemory>
+    requires callers { callers ≡ B.Hits.callers }
     requires hits { (all.hits.parts ≡ parts_each * callers) × (all.hits.amount ≡ 0) }
     requires misses { (all.misses.parts ≡ parts_each * callers) × (all.misses.amount ≡ 0) }
     requires kept { (all.kept.parts ≡ parts_each * callers) × (all.kept.amount ≡ 0) }

@@ -4,7 +4,7 @@ abbrev pub ghosts-run-H-Ledger : goal.ghosts-run-H-Ledger
 ghosts-run-H-Ledger g a = record { name = a.blanks.hits.name; parts = a.blanks.hits.parts }
 
 abbrev pub ghosts-run-H-MemoLedger : goal.ghosts-run-H-MemoLedger
-ghosts-run-H-MemoLedger g a = record { budget = a.core.budget; share = a.core.share }
+ghosts-run-H-MemoLedger g a = record { budget = a.core.budget; share = a.core.share; callers = a.blanks.callers }
 
 abbrev pub ghosts-run-M-Ledger : goal.ghosts-run-M-Ledger
 ghosts-run-M-Ledger g a = record { name = a.blanks.misses.name; parts = a.blanks.misses.parts }

@@ -5,7 +5,7 @@ abbrev pub ghosts-run_over-H-Ledger : goal.ghosts-run_over-H-Ledger
 ghosts-run_over-H-Ledger g a = record { name = a.blanks.hits.name; parts = a.blanks.hits.parts }
 
 abbrev pub ghosts-run_over-H-MemoLedger : goal.ghosts-run_over-H-MemoLedger
-ghosts-run_over-H-MemoLedger g a = record { budget = a.core.budget; share = a.core.share }
+ghosts-run_over-H-MemoLedger g a = record { budget = a.core.budget; share = a.core.share; callers = a.blanks.callers }
 
 abbrev pub ghosts-run_over-M-Ledger : goal.ghosts-run_over-M-Ledger
 ghosts-run_over-M-Ledger g a = record { name = a.blanks.misses.name; parts = a.blanks.misses.parts }

@@ -1,13 +1,12 @@
-use Rattle.std.proofs.Common.{◌≡◌, ◌+◌, ◌-◌, ◌≤◌, ◌<◌, IfOk, OnOk, ap, sym, subst, ◌∙◌, arith}
+use Rattle.std.proofs.Common.{◌≡◌, ◌+◌, ◌-◌, IsOk, ap, sym, subst, ◌∙◌, arith}
 use Rattle.std.specs.Arc.{arc_value}
 use Rattle.csg_tree.specs.Formulas.{Formula}
 use Rattle.csg_tree.specs.Numberings.{tree_numbered}
-use Rattle.bsp_tree.specs.Shapes.{tree_of}
 use Rattle.bsp_boolean.specs.Solids.{solid_of}
-use Rattle.bsp_boolean.specs.TreeSolids.{most_of_one, solid_size, is_join}
-use Rattle.parallel_eval.specs.Joins.{AreAnswered}
+use Rattle.bsp_boolean.specs.TreeSolids.{is_join}
+use Rattle.parallel_eval.specs.Joins.{Gives}
 use Rattle.parallel_eval.specs.Runs.{joins_to}
-use Rattle.parallel_eval.proofs.Books.{begun_at, answered_at, none_answered, on_ok, on_ok_more}
+use Rattle.parallel_eval.proofs.Books.{none_asked, asked_at}
 use Rattle.parallel_eval.proofs.Running.{leaf_of_run, join_of_run, in_reach}
 use Rattle.parallel_eval.proofs.lanes.RunWork.node_solid.Goals as goal
 
@@ -40,49 +39,24 @@ join_solid-requires-clause-join g c =
 pub returns-in-Leaf-clause-solid : goal.returns-in-Leaf-clause-solid
 returns-in-Leaf-clause-solid g c =
     let is = leaf_of_run (arc_value c.args.self.now.store.now) c.args.self.now.start c.args.number c.node.result c.in-Leaf.planes c.node.ensures c.in-Leaf.is in
-    subst (λ (t : Formula). IfOk c.leaf.result (λ s. tree_of (arc_value s) ≡ solid_of t)) (sym is.0) c.leaf.ensures.solid
+    subst (λ (t : Formula). Gives (solid_of t) c.leaf.result) (sym is.0) c.leaf.ensures
 
-pub returns-in-Leaf-clause-within : goal.returns-in-Leaf-clause-within
-returns-in-Leaf-clause-within g c =
-    let is = leaf_of_run (arc_value c.args.self.now.store.now) c.args.self.now.start c.args.number c.node.result c.in-Leaf.planes c.node.ensures c.in-Leaf.is in
-    subst (λ (t : Formula). OnOk c.leaf.result (solid_size t ≤ most_of_one)) (sym is.0) c.leaf.ensures.within
-
-pub returns-in-Leaf-clause-big : goal.returns-in-Leaf-clause-big
-returns-in-Leaf-clause-big g c =
-    let is = leaf_of_run (arc_value c.args.self.now.store.now) c.args.self.now.start c.args.number c.node.result c.in-Leaf.planes c.node.ensures c.in-Leaf.is in
-    λ stop. subst (λ (t : Formula). most_of_one < solid_size t) (sym is.0) (c.leaf.ensures.big stop)
-
-pub returns-in-Leaf-clause-answered : goal.returns-in-Leaf-clause-answered
-returns-in-Leaf-clause-answered g c =
+pub returns-in-Leaf-clause-asked : goal.returns-in-Leaf-clause-asked
+returns-in-Leaf-clause-asked g c =
     let trees = arc_value c.args.self.now.store.now in
     let n = c.args.number in
     let is = leaf_of_run trees c.args.self.now.start n c.node.result c.in-Leaf.planes c.node.ensures c.in-Leaf.is in
     let joins : joins_to trees n ≡ joins_to trees (n - 1) + 0 =
     c.one_tree_more.ensures.joins trees n (omega arith, omega arith) ∙ ap (λ (t : Formula). joins_to trees (n - 1) + is_join t) is.0 in
-    let count = g.B.Builder.builds c.args.builder.now in
-    on_ok (AreAnswered (joins_to trees (n - 1)) (joins_to trees n) c.args.share.now c.args.share.now count count) c.leaf.result
-    (none_answered (joins_to trees (n - 1)) (joins_to trees n) count c.args.share.now (omega (arith, joins)))
+    none_asked (IsOk c.leaf.result) (joins_to trees (n - 1)) (joins_to trees n) (g.D.Builder.builds c.args.builder.now) c.args.share.now
+    (omega (arith, joins)) (λ ok. omega (arith, joins))
 
-pub returns-in_ok-key-in-Join-clause-begun : goal.returns-in_ok-key-in-Join-clause-begun
-returns-in_ok-key-in-Join-clause-begun g c =
+pub returns-in_ok-key-in-Join-clause-asked : goal.returns-in_ok-key-in-Join-clause-asked
+returns-in_ok-key-in-Join-clause-asked g c =
     let trees = arc_value c.args.self.now.store.now in
     let n = c.args.number in
     let is = join_of_run trees c.args.self.now.start n c.node.result c.in-Join.op c.in-Join.left c.in-Join.right c.node.ensures c.in-Join.is in
     let joins : joins_to trees n ≡ joins_to trees (n - 1) + 1 =
     c.one_tree_more.ensures.joins trees n (omega arith, omega arith) ∙ ap (λ (t : Formula). joins_to trees (n - 1) + is_join t) is.4 in
-    begun_at (joins_to trees (n - 1)) (joins_to trees n) (g.B.Builder.builds c.args.builder.now) (g.B.Builder.builds c.join_solid.new.builder)
-    c.args.share.now c.join_solid.new.share joins c.join_solid.ensures.begun
-
-pub returns-in_ok-key-in-Join-clause-answered : goal.returns-in_ok-key-in-Join-clause-answered
-returns-in_ok-key-in-Join-clause-answered g c =
-    let trees = arc_value c.args.self.now.store.now in
-    let n = c.args.number in
-    let is = join_of_run trees c.args.self.now.start n c.node.result c.in-Join.op c.in-Join.left c.in-Join.right c.node.ensures c.in-Join.is in
-    let joins : joins_to trees n ≡ joins_to trees (n - 1) + 1 =
-    c.one_tree_more.ensures.joins trees n (omega arith, omega arith) ∙ ap (λ (t : Formula). joins_to trees (n - 1) + is_join t) is.4 in
-    let m = g.B.Builder.builds c.args.builder.now in
-    let k = g.B.Builder.builds c.join_solid.new.builder in
-    let s = c.args.share.now in
-    let t = c.join_solid.new.share in
-    on_ok_more (AreAnswered 0 1 s t m k) (AreAnswered (joins_to trees (n - 1)) (joins_to trees n) s t m k) c.join_solid.result
-    (answered_at (joins_to trees (n - 1)) (joins_to trees n) m k s t joins) c.join_solid.ensures.answered
+    asked_at (IsOk c.join_solid.result) (joins_to trees (n - 1)) (joins_to trees n) (g.D.Builder.builds c.args.builder.now) (g.D.Builder.builds c.join_solid.new.builder)
+    c.args.share.now c.join_solid.new.share joins c.join_solid.ensures.asked

@@ -3,7 +3,7 @@ use Rattle.std.proofs.lemmas.List.{take_all}
 use Rattle.std.specs.Arc.{arc_value}
 use Rattle.csg_tree.specs.Formulas.{Formula}
 use Rattle.bsp_boolean.specs.TreeSolids.{joins}
-use Rattle.parallel_eval.proofs.join_solids.Builds.solid_of.Goals as goal
+use Rattle.parallel_eval.proofs.store_solids.solid_of.Goals as goal
 
 pub returns-in_err-done-clause-few : goal.returns-in_err-done-clause-few
 returns-in_err-done-clause-few g c =

@@ -1,0 +1,15 @@
+ghost use Rattle.std.specs.Prelude.{◌+◌, ◌≤◌, length};
+
+use crate::growth::Outcome;
+use subtree_memo::{Books, Share};
+
+/// The part of a run that one builder does: a share of its own, the nodes behind the first `before` ones
+/// up to the number `last`, and what came of them in order. Where that is less, memory ran out.
+#[derive(Drop)]
+pub struct Lane<B: Books> {
+    pub share: Share<B>,
+    pub before: u32,
+    pub last: u32,
+    pub made: Vec<Outcome>,
+    pub ghost order: { before + length made.items ≤ last },
+}
