@@ -23,7 +23,7 @@ returns-clause-inside c =
     module_inside (text_of e.source.now) c.args.defined.block c.args.body.block (module_of c.args.defined) (body_seen c.args.body)
     (vals_from (vals_in c.args.values.items)) (seen e.source.now (rows_of e.scopes.now) c.args.caller) (seen e.source.now (rows_of e.scopes.now) c.args.home)
     (seen a.source.now (rows_of a.scopes.now) scope) (seen b.source.now (rows_of b.scopes.now) scope) (seen d.source.now (rows_of d.scopes.now) scope)
-    c.in_ok-count.count c.requires.whole c.requires.its_block c.requires.block
+    c.in_ok-count.count c.requires.called.whole c.requires.called.its_block c.requires.called.block
     (c.in_ok-opened.ensures.inside ∙ call_scope_same e.source.now mid.source.now (rows_of e.scopes.now) (rows_of mid.scopes.now)
     c.args.defined.block c.args.body.block c.args.caller c.args.home stays.source stays.rows)
     c.in_ok-bind_parameters.ensures.bound
