@@ -1,7 +1,8 @@
 //! The facets on the faces of a forest.
 
-ghost use Rattle.std.specs.Prelude.{◌≤◌, length};
+ghost use Rattle.std.specs.Prelude.{◌≡◌, ◌≤◌, length, IfSome};
 ghost use Rattle.link_forest.specs.Forests.{IsLinkOf};
+ghost use Rattle.plane_polygon.specs.Parts.{corners};
 ghost use Rattle.plane_table.specs.Tables.{named};
 ghost use Rattle.plane_table.specs.Faces.{outline_of, IsFaceOver};
 ghost use Rattle.plane_table.specs.Cuts.{part_in, IsCrossing};
@@ -12,8 +13,9 @@ ghost use Rattle.facet_cut.specs.Adding.{Adds};
 use crate::adding::push_facing;
 use crate::{CutStop, Facet};
 use bsp_tree::{Face, Forest, Link, is_same_leaf};
+use kept_corners::{Corner, corners_of, sides_by_corners};
 use plane_polygon::Class;
-use plane_table::{Crossing, Half, PlaneTable, cut, polygon_of, sides};
+use plane_table::{Crossing, Half, PlaneTable, cut, polygon_of};
 use std::alloc::Global;
 
 /// The nodes of a solid, between whose leaves its faces are cut.
@@ -43,7 +45,8 @@ impl<'a> Walls<'a> {
             Link::End(_) => Ok(()),
             Link::To(id) => {
                 let (face, behind, ahead) = self.forest.at(id);
-                self.push_between(alloc, behind, ahead, face, most, found)?;
+                let kept = corners_of(alloc, self.table, face)?;
+                self.push_between(alloc, behind, ahead, face, &kept, most, found)?;
                 self.push_facets(alloc, behind, most, found)?;
                 self.push_facets(alloc, ahead, most, found)
             }
@@ -57,6 +60,7 @@ impl<'a> Walls<'a> {
         behind: Link,
         ahead: Link,
         face: &Face,
+        kept: &Option<Vec<Corner>>,
         most: u64,
         found: &mut Vec<Facet>,
     ) -> Result<(), CutStop>
@@ -64,19 +68,22 @@ impl<'a> Walls<'a> {
         requires behind { IsLinkOf self.now.forest.now.nodes behind }
         requires ahead { IsLinkOf self.now.forest.now.nodes ahead }
         requires face { IsFaceOver self.now.table.now face.now }
+        requires kept { IfSome kept.now (λ v. v.items ≡ corners (outline_of self.now.table.now face.now)) }
         requires within { length found.old.items ≤ most }
         ensures { Adds (facets_between (tree_over self.now.table.now self.now.forest.now.nodes behind) (tree_over self.now.table.now self.now.forest.now.nodes ahead) (outline_of self.now.table.now face.now)) most found.old.items found.new.items result }
     {
         match behind {
-            Link::End(is_inside) => { self.push_ahead(alloc, is_inside, ahead, face, most, found) }
+            Link::End(is_inside) => {
+                self.push_ahead(alloc, is_inside, ahead, face, kept, most, found)
+            }
             Link::To(id) => {
                 let (own, low, high) = self.forest.at(id);
-                let of_face = sides(alloc, self.table, face, own.plane)?;
+                let of_face = sides_by_corners(alloc, self.table, face, kept, own.plane)?;
                 match of_face.class {
                     Class::Behind | Class::On => {
-                        self.push_between(alloc, low, ahead, face, most, found)
+                        self.push_between(alloc, low, ahead, face, kept, most, found)
                     }
-                    Class::Ahead => self.push_between(alloc, high, ahead, face, most, found),
+                    Class::Ahead => self.push_between(alloc, high, ahead, face, kept, most, found),
                     Class::Across => {
                         let crossing = Crossing {
                             face,
@@ -84,9 +91,11 @@ impl<'a> Walls<'a> {
                             sides: &of_face,
                         };
                         let part = cut(alloc, self.table, crossing, Half::Behind)?;
-                        self.push_between(alloc, low, ahead, &part, most, found)?;
+                        let kept = corners_of(alloc, self.table, &part)?;
+                        self.push_between(alloc, low, ahead, &part, &kept, most, found)?;
                         let part = cut(alloc, self.table, crossing, Half::Ahead)?;
-                        self.push_between(alloc, high, ahead, &part, most, found)
+                        let kept = corners_of(alloc, self.table, &part)?;
+                        self.push_between(alloc, high, ahead, &part, &kept, most, found)
                     }
                 }
             }
@@ -101,12 +110,14 @@ impl<'a> Walls<'a> {
         is_inside: bool,
         ahead: Link,
         face: &Face,
+        kept: &Option<Vec<Corner>>,
         most: u64,
         found: &mut Vec<Facet>,
     ) -> Result<(), CutStop>
         requires faces { AreFacesOver self.now.table.now self.now.forest.now.nodes }
         requires ahead { IsLinkOf self.now.forest.now.nodes ahead }
         requires face { IsFaceOver self.now.table.now face.now }
+        requires kept { IfSome kept.now (λ v. v.items ≡ corners (outline_of self.now.table.now face.now)) }
         requires within { length found.old.items ≤ most }
         ensures { Adds (facets_ahead is_inside (tree_over self.now.table.now self.now.forest.now.nodes ahead) (outline_of self.now.table.now face.now)) most found.old.items found.new.items result }
     {
@@ -116,12 +127,14 @@ impl<'a> Walls<'a> {
             }
             Link::To(id) => {
                 let (own, low, high) = self.forest.at(id);
-                let of_face = sides(alloc, self.table, face, own.plane)?;
+                let of_face = sides_by_corners(alloc, self.table, face, kept, own.plane)?;
                 match of_face.class {
                     Class::Behind | Class::On => {
-                        self.push_ahead(alloc, is_inside, low, face, most, found)
+                        self.push_ahead(alloc, is_inside, low, face, kept, most, found)
                     }
-                    Class::Ahead => self.push_ahead(alloc, is_inside, high, face, most, found),
+                    Class::Ahead => self.push_ahead(
+                        alloc, is_inside, high, face, kept, most, found,
+                    ),
                     Class::Across => {
                         let crossing = Crossing {
                             face,
@@ -159,7 +172,8 @@ impl<'a> Walls<'a> {
             return Ok(());
         }
         let part = cut(alloc, self.table, crossing, half)?;
-        self.push_ahead(alloc, is_inside, ahead, &part, most, found)
+        let kept = corners_of(alloc, self.table, &part)?;
+        self.push_ahead(alloc, is_inside, ahead, &part, &kept, most, found)
     }
 
     /// Adds the facet on a face between two leaves, if there is one.

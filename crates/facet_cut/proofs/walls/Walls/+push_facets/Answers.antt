@@ -11,3 +11,6 @@ returns-in-End t c =
     let w = c.args.self.now in
     rw (c.in-End.is, end_facets w.table.now w.forest.now.nodes c.in-End.field-0)
     (sym (append-nil c.args.found.now.items), c.requires.within)
+
+pub corners_of-requires : goal.corners_of-requires
+corners_of-requires t c = c.requires.faces.each _ _ c.at-behind.ensures.node
