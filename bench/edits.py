@@ -37,7 +37,7 @@ PHASES = {
     "probing": ("subtree_memo::", "memo_core::", "lru::", "csg_tree::tree_key::are_same", "core::sync::Mutex::lock"),
     # the solids of leaves, and merges
     "building": ("bsp_boolean::", "bsp_partition::", "bsp_tree::", "plane_table::", "plane_line::", "plane_polygon::"),
-    "facets": ("facet_cut::",),
+    "facets": ("facet_cut::", "kept_corners::"),
     "text": ("off_text::", "text_place::decimal::"),
 }
 
