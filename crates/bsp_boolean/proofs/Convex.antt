@@ -20,7 +20,7 @@ halved s inside = refl
 halved s outside = refl
 halved s (node t c d) = refl
 
-all_is_convex : (planes : List Coefficients) → behind_all (map box_outline planes) ≡ convex planes
+pub all_is_convex : (planes : List Coefficients) → behind_all (map box_outline planes) ≡ convex planes
 all_is_convex [] = refl
 all_is_convex (m ∷ []) = refl
 all_is_convex (m ∷ n ∷ planes) =

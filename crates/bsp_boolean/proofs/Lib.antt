@@ -6,3 +6,7 @@ pub mod Convex
 pub mod FaceChains
 mod Examples
 pub mod TreeSolids
+pub mod Rectangles
+pub mod BoxRows
+pub mod BoxLeaves
+pub mod BoxPairs

@@ -3,3 +3,4 @@ pub mod Branches
 pub mod Chains
 pub mod Solids
 pub mod TreeSolids
+pub mod UprightBoxes

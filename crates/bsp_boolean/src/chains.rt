@@ -174,7 +174,11 @@ fn grow_chain(
 }
 
 /// Adds the solid of faces one behind another to what grows.
-fn grow_faces(alloc: Global, growing: &mut Growing<'_>, faces: &[Face]) -> Result<Link, GrowStop>
+pub fn grow_faces(
+    alloc: Global,
+    growing: &mut Growing<'_>,
+    faces: &[Face],
+) -> Result<Link, GrowStop>
     requires { All (IsFaceOver growing.old.sheet.planes) faces.now }
     ensures { GrowsBy growing.old growing.new (chained (outlines_of growing.old.sheet.planes faces.now) inside) result }
 {

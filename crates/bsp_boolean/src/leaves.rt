@@ -8,9 +8,11 @@ ghost use Rattle.bsp_tree.specs.Shapes.{tree_of};
 ghost use Rattle.bsp_boolean.specs.Branches.{behind_all};
 ghost use Rattle.bsp_boolean.specs.Solids.{convex, IsBuilt, IsSolidOf};
 
+use crate::boxes::{box_solid, is_box};
 use crate::building::BuildStop;
 use crate::chains::grow_behind;
 use bsp_tree::{Face, Growing, Solid, finish};
+use plane_polygon::world_planes;
 use plane_predicate::Plane;
 use plane_table::{HalfFaces, PlaneTable, half_faces};
 use std::alloc::Global;
@@ -21,6 +23,20 @@ use text_place::NoMemory;
 /// where the solid's size is above `most`.
 pub fn leaf_solid(alloc: Global, planes: &[Plane], most: u64) -> Result<Solid, BuildStop>
     requires some { 0 < length planes.now }
+    requires reach { All ComesInReach planes.now }
+    ensures built { IsBuilt (convex planes.now) most result }
+    ensures solid { IfOk result (λ s. IsSolidOf (leaf planes.now) (tree_of s)) }
+{
+    let world = world_planes(alloc)?;
+    if is_box(planes, &world) {
+        box_solid(alloc, planes, &world, most)
+    } else {
+        chain_solid(alloc, planes, most)
+    }
+}
+
+/// The solid of a leaf, face by face.
+fn chain_solid(alloc: Global, planes: &[Plane], most: u64) -> Result<Solid, BuildStop>
     requires reach { All ComesInReach planes.now }
     ensures built { IsBuilt (convex planes.now) most result }
     ensures solid { IfOk result (λ s. IsSolidOf (leaf planes.now) (tree_of s)) }

@@ -1,6 +1,7 @@
 //! Booleans of solids, by merging their BSP trees (Bernstein and Fussell).
 #![tactic(auto)]
 
+mod boxes;
 mod branches;
 mod building;
 mod chains;

@@ -64,13 +64,14 @@ fn merged_within(
 ) -> Result<Solid, BuildStop>
     ensures { IsBuilt (merged op (tree_of left.now) (tree_of right.now)) most result }
 {
-    let (left_planes, _, left_root) = left.parts();
-    let (right_planes, _, right_root) = right.parts();
+    let (left_planes, left_forest, left_root) = left.parts();
+    let (right_planes, right_forest, right_root) = right.parts();
     let joined = join(alloc, left_planes, right_planes)?;
     let table = PlaneTable::of(alloc, joined.planes)?;
     let left_nodes = MovedNodes::of(&table, left, &joined.left);
     let mut right_nodes = solid_over(alloc, &table, right, &joined.right)?;
     let mut growing = Growing::new(alloc, &table, most);
+    growing.reserve(left_forest.len().saturating_add(right_forest.len()))?;
     let merge = Merge {
         left: &left_nodes,
         in_decides: is_union(op),

@@ -66,6 +66,13 @@ impl<'t> Growing<'t> {
         }
     }
 
+    /// Makes room for `n` more nodes.
+    pub fn reserve(&mut self, n: usize) -> Result<(), NoMemory>
+        ensures { self.new ≡ self.old }
+    {
+        self.nodes.reserve(n)
+    }
+
     /// Adds a node over a tree behind its face, and one ahead that was added after that. `TooBig` comes
     /// exactly where the size would be above the limit.
     pub fn add(&mut self, face: Face, behind: Link, ahead: Link) -> Result<Link, GrowStop>

@@ -77,6 +77,13 @@ impl<'t> Nodes<'t> {
         self.forest.add(face, behind, ahead)
     }
 
+    /// Makes room for `n` more nodes.
+    pub fn reserve(&mut self, n: usize) -> Result<(), NoMemory>
+        ensures { self.new ≡ self.old }
+    {
+        self.forest.reserve(n)
+    }
+
     /// Keeps the first `len` nodes. Takes no memory.
     pub fn cut_back(&mut self, len: usize)
         ensures planes { self.new.planes ≡ self.old.planes }

@@ -67,6 +67,17 @@ impl Polygon {
         })
     }
 
+    /// The same of edges that are given away. Takes no memory.
+    pub fn of_edges(plane: &Plane, edges: Vec<Plane>) -> Polygon
+        requires { IsPolygon (record { plane = plane.now; edges = edges.items }) }
+        ensures { result ≡ record { plane = plane.now; edges = edges.items } }
+    {
+        Polygon {
+            plane: *plane,
+            edges,
+        }
+    }
+
     /// An equal polygon.
     pub fn copy(&self, alloc: Global) -> Result<Polygon, NoMemory>
         ensures { IfOk result (λ s. s ≡ self.now) }
@@ -86,5 +97,12 @@ impl Polygon {
         ensures { result.now ≡ self.now.edges }
     {
         &self.edges
+    }
+
+    /// The same, given away. Takes no memory.
+    pub fn into_edges(self) -> Vec<Plane>
+        ensures { result.items ≡ self.edges }
+    {
+        self.edges
     }
 }

@@ -46,5 +46,5 @@ pub fn polygon_of(alloc: Global, table: &PlaneTable, face: &Face) -> Result<Poly
     for number in face.edges.numbers() {
         edges.push(*table.plane(*number))?;
     }
-    Ok(Polygon::of(alloc, table.plane(face.plane), &edges)?)
+    Ok(Polygon::of_edges(table.plane(face.plane), edges))
 }

@@ -5,10 +5,10 @@ use Rattle.plane_table.specs.Tables.{named}
 use Rattle.plane_table.proofs.Cuts.{same_outline}
 use Rattle.plane_table.proofs.faces.polygon_of.Goals as goal
 
-pub of-requires : goal.of-requires
-of-requires c =
+pub of_edges-requires : goal.of_edges-requires
+of_edges-requires c =
     let planes = c.args.table.now in
     let face = c.args.face.now in
     let n = ap length c.numbers-number-items.ensures in
-    let e = c.deref.ensures.value ∙ c.loop-number.invariant ∙ ap (map (named planes)) (take_all c.loop-number.number-index face.edges (omega arith)) in
-    subst IsPolygon (sym (same_outline c.plane-2.result.now (named planes face.plane) c.deref.result.now (map (named planes) face.edges) c.plane-2.ensures e)) c.requires.polygon
+    let e = c.loop-number.invariant ∙ ap (map (named planes)) (take_all c.loop-number.number-index face.edges (omega arith)) in
+    subst IsPolygon (sym (same_outline c.plane-2.result.now (named planes face.plane) c.loop-number.edges.items (map (named planes) face.edges) c.plane-2.ensures e)) c.requires.polygon

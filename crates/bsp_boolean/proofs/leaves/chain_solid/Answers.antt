@@ -3,7 +3,7 @@ use Rattle.plane_predicate.specs.Space.{Coefficients}
 use Rattle.plane_table.specs.declared.faces.Face.{Face}
 use Rattle.plane_table.specs.Faces.{outline_of}
 use Rattle.bsp_boolean.proofs.Convex.{leaf_built, built_is_solid}
-use Rattle.bsp_boolean.proofs.leaves.leaf_solid.Goals as goal
+use Rattle.bsp_boolean.proofs.leaves.chain_solid.Goals as goal
 
 pub returns-clause-built : goal.returns-clause-built
 returns-clause-built c =
