@@ -34,7 +34,9 @@ PHASES = {
     # the distinct subtrees by number, and their keys, with the SHA-256 of their bytes
     "naming": ("csg_tree::", "sha2::", "std_collections::btree::", "std_alloc::vec::lodged::"),
     # what is asked of the memo and offered to it, with the comparison of keys; what isn't a call stands in `join_solid`
-    "probing": ("subtree_memo::", "memo_core::", "lru::", "csg_tree::tree_key::are_same", "core::sync::Mutex::lock"),
+    "probing": (
+        "flight_memo::", "subtree_memo::", "memo_core::", "lru::", "csg_tree::tree_key::are_same", "core::sync::Mutex::lock",
+    ),
     # the solids of leaves, and merges
     "building": ("bsp_boolean::", "bsp_partition::", "bsp_tree::", "plane_table::", "plane_line::", "plane_polygon::"),
     "facets": ("facet_cut::",),

@@ -1,12 +1,13 @@
-//! A gate that holds a build until another one is under way, and until the memo has answered another
-//! caller meanwhile.
+//! A gate that holds a build until another one is under way, and until a claim of another caller was
+//! answered meanwhile.
 
 ghost use Rattle.std.specs.Prelude.{◌≡◌, ◌*◌, ◌^◌, ◌<◌, ◌≤◌, [], length};
 ghost use Rattle.subtree_memo.specs.Shares.{IsOf, parts_each};
 
 use crate::stores::{builders, store};
-use crate::trees::two_shells;
+use crate::trees::{slabs, two_shells};
 use csg_tree::TreeKey;
+use flight_memo::{Claimed, Flight, FlightBlanks, FlightBooks, FlightLedgers, FlightShare};
 use memo_core::MemoCore;
 use parallel_eval::{Gate, KnownStore, ShaNamer, SolidFit, solid_of};
 use std::alloc::Global;
@@ -15,7 +16,7 @@ use std::process::Abort;
 use std::sync::ledger::Ledger;
 use std::sync::{Arc, Mutex, Wait};
 use std::thread::Threads;
-use subtree_memo::{Blanks, Books, Ledgers, Memo, MemoLedger, Share, Tally};
+use subtree_memo::{Blanks, Memo, MemoLedger, Tally};
 use text_place::NoMemory;
 
 // The most turns for which a build is held. A turn takes the gate's lock once.
@@ -23,25 +24,25 @@ const TURNS: u32 = 100_000_000;
 
 // What a gate has seen, and the share of another caller.
 #[derive(Drop)]
-struct Seen<B: Books> {
+struct Seen<B: FlightBooks> {
     entered: u32,
     is_asked: bool,
     gave_up: bool,
-    other: Share<B>,
-    ghost whole: { other.parts ≡ parts_each },
+    other: FlightShare<B>,
+    ghost whole: { other.share.parts ≡ parts_each },
 }
 
 // Holds the first build until a second one was entered, and until the memo has answered the other caller,
 // who asks for a tree as the second build is entered.
 #[derive(Drop)]
-struct Holding<'a, B: Books> {
+struct Holding<'a, B: FlightBooks> {
     alloc: Global,
-    memo: &'a Memo<SolidFit, ShaNamer, B>,
+    flight: &'a Flight<SolidFit, ShaNamer, B>,
     key: &'a Arc<TreeKey>,
     seen: Mutex<Seen<B>>,
 }
 
-impl<'a, B: Books> Gate for Holding<'a, B> {
+impl<'a, B: FlightBooks> Gate for Holding<'a, B> {
     fn enter<R: Wait>(&self, rt: &R, _client: u32, _node: u32) -> Result<(), NoMemory> {
         match self.arrive(rt) {
             1 => self.wait(rt),
@@ -52,7 +53,7 @@ impl<'a, B: Books> Gate for Holding<'a, B> {
     }
 }
 
-impl<'a, B: Books> Holding<'a, B> {
+impl<'a, B: FlightBooks> Holding<'a, B> {
     // How many builds were entered, this one included.
     fn arrive<R: Wait>(&self, rt: &R) -> u32 {
         let mut seen = self.seen.lock(rt);
@@ -63,8 +64,7 @@ impl<'a, B: Books> Holding<'a, B> {
     // Asks for the tree.
     fn ask<R: Wait>(&self, rt: &R) {
         let mut seen = self.seen.lock(rt);
-        let answer = self.memo.probe(rt, self.alloc, &mut seen.other, self.key);
-        seen.is_asked = answer.is_ok();
+        seen.is_asked = claim_and_give_back(rt, self.alloc, self.flight, &mut seen.other, self.key);
     }
 
     // Waits until the tree was asked for, or gives up.
@@ -82,6 +82,27 @@ impl<'a, B: Books> Holding<'a, B> {
     }
 }
 
+// Claims a key that nobody else claims, and gives it back. Whether that was answered.
+fn claim_and_give_back<B: FlightBooks, R: Wait>(
+    rt: &R,
+    alloc: Global,
+    flight: &Flight<SolidFit, ShaNamer, B>,
+    share: &mut FlightShare<B>,
+    key: &Arc<TreeKey>,
+) -> bool
+    requires { 0 < share.old.share.parts }
+    ensures { share.new.share.parts ≡ share.old.share.parts }
+{
+    match flight.claim(rt, alloc, share, key) {
+        Ok(Claimed::Mine(claim)) => {
+            flight.give_back(rt, share, claim);
+            true
+        }
+        Ok(Claimed::Value(_solid)) => true,
+        Err(NoMemory) => false,
+    }
+}
+
 // One caller makes the solid of a store by two builders, while the other one asks for a tree.
 fn make<
     'a,
@@ -89,25 +110,30 @@ fn make<
     M: Ledger + Send + Sync,
     K: Ledger + Send + Sync,
     E: Ledger + Send + Sync,
+    S: Ledger + Send + Sync,
+    T: Ledger + Send + Sync,
     R: Abort + Threads + Wait + Sync,
 >(
     rt: &'a R,
     alloc: Global,
-    memo: &'a Memo<SolidFit, ShaNamer, Ledgers<H, M, K, E>>,
+    flight: &'a Flight<SolidFit, ShaNamer, FlightLedgers<H, M, K, E, S, T>>,
     key: &'a Arc<TreeKey>,
     store: &mut KnownStore,
-    mut share: Share<Ledgers<H, M, K, E>>,
-    other: Share<Ledgers<H, M, K, E>>,
-) -> (Share<Ledgers<H, M, K, E>>, Share<Ledgers<H, M, K, E>>)
+    mut share: FlightShare<FlightLedgers<H, M, K, E, S, T>>,
+    other: FlightShare<FlightLedgers<H, M, K, E, S, T>>,
+) -> (
+    FlightShare<FlightLedgers<H, M, K, E, S, T>>,
+    FlightShare<FlightLedgers<H, M, K, E, S, T>>,
+)
     requires some { 0 < length store.old }
-    requires share { (share.parts ≡ parts_each) × (share.dropped ≡ 0) }
-    requires other { other.parts ≡ parts_each }
-    ensures share { result.0.parts ≡ parts_each }
-    ensures other { result.1.parts ≡ parts_each }
+    requires share { (share.share.parts ≡ parts_each) × (share.share.dropped ≡ 0) }
+    requires other { other.share.parts ≡ parts_each }
+    ensures share { result.0.share.parts ≡ parts_each }
+    ensures other { result.1.share.parts ≡ parts_each }
 {
     let gate = Holding {
         alloc,
-        memo,
+        flight,
         key,
         seen: Mutex::new(Seen {
             entered: 0,
@@ -117,7 +143,7 @@ fn make<
         }),
     };
     let mut two = builders(rt, alloc, 2);
-    let solid = solid_of(rt, alloc, store, memo, &mut share, &mut two, &gate);
+    let solid = solid_of(rt, alloc, store, flight, &mut share, &mut two, &gate);
     assert!(rt; solid.is_ok(), "a solid");
     let Holding { seen, .. } = gate;
     let Seen { gave_up, other, .. } = seen.into_inner();
@@ -125,55 +151,75 @@ fn make<
     (share, other)
 }
 
-// The same with a new memo, for the last tree.
+// The same with a new memo, for the last tree of another store.
 fn run<
     H: MemoLedger + Send + Sync,
     M: Ledger + Send + Sync,
     K: Ledger + Send + Sync,
     E: Ledger + Send + Sync,
+    S: Ledger + Send + Sync,
+    T: Ledger + Send + Sync,
     R: Abort + Threads + Wait + Sync,
 >(
     rt: &R,
     alloc: Global,
     core: MemoCore<SolidFit, ShaNamer>,
     blanks: Blanks,
+    claims: FlightBlanks,
     store: &mut KnownStore,
+    foreign: &KnownStore,
 ) -> Tally
     requires empty { core.journal ≡ [] }
     requires limits { (core.budget ≡ H.budget) × (core.share ≡ H.share) × (blanks.callers ≡ H.callers) }
-    requires callers { blanks.callers ≡ 2 }
+    requires callers { (blanks.callers ≡ 2) × (claims.callers ≡ 2) }
     requires ledgers { IsOf H.name H.parts blanks.hits × IsOf M.name M.parts blanks.misses
         × IsOf K.name K.parts blanks.kept × IsOf E.name E.parts blanks.heavy }
-    requires some { 0 < length store.old }
+    requires claims { IsOf S.name S.parts claims.begun × IsOf T.name T.parts claims.ended }
+    requires some { (0 < length store.old) × (0 < length foreign.now) }
 {
-    let last = store.key(store.store().len()).expect(rt, "memory");
+    let last = foreign.key(foreign.store().len()).expect(rt, "memory");
     let key = Arc::new(alloc, last).expect(rt, "memory");
-    let (memo, mut shares) = Memo::<SolidFit, ShaNamer, Ledgers<H, M, K, E>>::open(
+    let (memo, shares) = Memo::<SolidFit, ShaNamer, FlightLedgers<H, M, K, E, S, T>>::open(
         alloc, core, blanks,
     ).expect(rt, "memory");
+    let (flight, mut shares) = Flight::open(alloc, SolidFit, memo, shares, claims).expect(
+        rt, "memory",
+    );
     let other = shares.pop().expect(rt, "a share");
     let share = shares.pop().expect(rt, "a share");
-    let (share, other) = make(rt, alloc, &memo, &key, store, share, other);
+    let (share, other) = make(rt, alloc, &flight, &key, store, share, other);
     shares.push(share).expect(rt, "memory");
     shares.push(other).expect(rt, "memory");
-    let (tally, _core) = memo.close(shares);
+    let (tally, _core, _claims) = flight.close(shares);
     tally
 }
 
 // The same, for a caller that has no ledgers.
-fn held<R: Abort + Threads + Wait + Sync>(rt: &R, alloc: Global, store: &mut KnownStore) -> Tally {
+fn held<R: Abort + Threads + Wait + Sync>(
+    rt: &R,
+    alloc: Global,
+    store: &mut KnownStore,
+    foreign: &KnownStore,
+) -> Tally {
     assert!(rt; store.store().len() > 0);
+    assert!(rt; foreign.store().len() > 0);
     let core = MemoCore::new(alloc, SolidFit, ShaNamer, 500_000, 0).expect(rt, "memory");
-    run::<Brand, Brand, Brand, Brand, R>(rt, alloc, core, Blanks::new(2), store)
+    let blanks = Blanks::new(2);
+    let claims = FlightBlanks::beside(&blanks);
+    run::<Brand, Brand, Brand, Brand, Brand, Brand, R>(
+        rt, alloc, core, blanks, claims, store, foreign,
+    )
 }
 
 // Two differences are of one height, so they are built at the same time by two builders, and the memo
-// answers another caller while both are under way. There are three joins, and one probe more.
+// answers another caller, who claims a key that the store doesn't have and gives it back, while both are under
+// way. There are three joins, and one probe more.
 #[test]
 fn two_builders_build_at_once(rt: HostRuntime) {
     let alloc = rt.alloc();
-    let mut store = store(&rt, alloc, &two_shells(&rt, alloc));
-    let tally = held(&rt, alloc, &mut store);
+    let mut shells = store(&rt, alloc, &two_shells(&rt, alloc));
+    let foreign = store(&rt, alloc, &slabs(&rt, alloc, 0, 2));
+    let tally = held(&rt, alloc, &mut shells, &foreign);
     assert_eq!(&rt; (tally.probes, tally.hits, tally.misses), (4, 0, 4));
     assert_eq!(&rt; (tally.offered, tally.kept), (3, 3));
 }

@@ -12,6 +12,7 @@ ghost use Rattle.std.specs.Arc.{arc_value};
 use bsp_boolean::{BuildStop, PlainBuilder, leaf_solid, tree_solid};
 use bsp_tree::Solid;
 use csg_tree::{CsgNode, CsgStore, CsgTree, Op, Planes, TreeKey, join, joins_are_proper};
+use flight_memo::{Flight, FlightBlanks, FlightBooks, FlightLedgers, FlightShare};
 use memo_core::MemoCore;
 use parallel_eval::{Builds, Gate, JoinNode, OpenGate, ShaNamer, SolidFit};
 use plane_predicate::{Plane, plane_through};
@@ -20,7 +21,7 @@ use std::marker::Brand;
 use std::process::Abort;
 use std::sync::ledger::Ledger;
 use std::sync::{Arc, Wait};
-use subtree_memo::{Blanks, Books, Ledgers, Memo, MemoLedger, Share, Tally};
+use subtree_memo::{Blanks, Memo, MemoLedger, Tally};
 use text_place::NoMemory;
 
 // A gate that lets no build through.
@@ -98,16 +99,16 @@ fn solid_of_leaf(rt: &impl Abort, alloc: Global, store: &CsgStore, number: u32) 
 }
 
 // Asks twice for the solid of a join. Answers both sizes.
-fn twice<B: Books, G: Gate, R: Wait>(
+fn twice<B: FlightBooks, G: Gate, R: Wait>(
     builds: &Builds<'_, ShaNamer, B, G, R>,
     node: JoinNode<'_>,
-    share: &mut Share<B>,
+    share: &mut FlightShare<B>,
 ) -> Result<(u64, u64), BuildStop>
     requires join { IsJoinOf node.op (tree_of node.left.now) (tree_of node.right.now)
         (arc_value node.key.now) }
-    requires fresh { (0 < share.old.parts) × (share.old.dropped ≡ 0) × (share.old.kept ≡ 0)
-        × (share.old.heavy ≡ 0) × (share.old.hits ≡ 0) × (share.old.misses ≡ 0) }
-    ensures { share.new.parts ≡ share.old.parts }
+    requires fresh { (0 < share.old.share.parts) × (share.old.share.dropped ≡ 0) × (share.old.share.kept ≡ 0)
+        × (share.old.share.heavy ≡ 0) × (share.old.share.hits ≡ 0) × (share.old.share.misses ≡ 0) }
+    ensures { share.new.share.parts ≡ share.old.share.parts }
 {
     let mut builder = PlainBuilder::new();
     let first = builds.join_solid(node, share, &mut builder)?;
@@ -116,18 +117,29 @@ fn twice<B: Books, G: Gate, R: Wait>(
 }
 
 // Asks a new memo twice for the solid of a union of two, whose size without a memo is compared.
-fn run<H: MemoLedger, M: Ledger, K: Ledger, E: Ledger, G: Gate, R: Abort + Wait>(
+fn run<
+    H: MemoLedger,
+    M: Ledger,
+    K: Ledger,
+    E: Ledger,
+    S: Ledger,
+    T: Ledger,
+    G: Gate,
+    R: Abort + Wait,
+>(
     rt: &R,
     alloc: Global,
     core: MemoCore<SolidFit, ShaNamer>,
     blanks: Blanks,
+    claims: FlightBlanks,
     gate: &G,
 ) -> (bool, Tally)
     requires empty { core.journal ≡ [] }
     requires limits { (core.budget ≡ H.budget) × (core.share ≡ H.share) × (blanks.callers ≡ H.callers) }
-    requires callers { blanks.callers ≡ 1 }
+    requires callers { (blanks.callers ≡ 1) × (claims.callers ≡ 1) }
     requires ledgers { IsOf H.name H.parts blanks.hits × IsOf M.name M.parts blanks.misses
         × IsOf K.name K.parts blanks.kept × IsOf E.name E.parts blanks.heavy }
+    requires claims { IsOf S.name S.parts claims.begun × IsOf T.name T.parts claims.ended }
 {
     let store = union_of_two(rt, alloc);
     assert!(rt; store.len() == 3);
@@ -147,14 +159,17 @@ fn run<H: MemoLedger, M: Ledger, K: Ledger, E: Ledger, G: Gate, R: Abort + Wait>
         left: &left,
         right: &right,
     };
-    let (memo, mut shares) = Memo::<SolidFit, ShaNamer, Ledgers<H, M, K, E>>::open(
+    let (memo, shares) = Memo::<SolidFit, ShaNamer, FlightLedgers<H, M, K, E, S, T>>::open(
         alloc, core, blanks,
     ).expect(rt, "memory");
+    let (flight, mut shares) = Flight::open(alloc, SolidFit, memo, shares, claims).expect(
+        rt, "memory",
+    );
     let mut share = shares.pop().expect(rt, "a share");
     let builds = Builds {
         rt,
         alloc,
-        memo: &memo,
+        flight: &flight,
         gate,
     };
     let sizes = twice(&builds, node, &mut share);
@@ -167,14 +182,16 @@ fn run<H: MemoLedger, M: Ledger, K: Ledger, E: Ledger, G: Gate, R: Abort + Wait>
         Err(_) => false,
     };
     shares.push(share).expect(rt, "memory");
-    let (tally, _core) = memo.close(shares);
+    let (tally, _core, _claims) = flight.close(shares);
     (is_solid, tally)
 }
 
 // The same with a memo of this budget, for a caller that has no ledgers.
 fn asked<G: Gate, R: Abort + Wait>(rt: &R, alloc: Global, budget: u64, gate: &G) -> (bool, Tally) {
     let core = MemoCore::new(alloc, SolidFit, ShaNamer, budget, 0).expect(rt, "memory");
-    run::<Brand, Brand, Brand, Brand, G, R>(rt, alloc, core, Blanks::new(1), gate)
+    let blanks = Blanks::new(1);
+    let claims = FlightBlanks::beside(&blanks);
+    run::<Brand, Brand, Brand, Brand, Brand, Brand, G, R>(rt, alloc, core, blanks, claims, gate)
 }
 
 #[test]

@@ -11,3 +11,5 @@ mod joins;
 mod stores;
 #[cfg(test)]
 mod trees;
+#[cfg(test)]
+mod woken;

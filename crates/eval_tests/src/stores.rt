@@ -9,6 +9,7 @@ use crate::trees::{combs, cuboids, pairs, plate_with_two_holes, slabs, two_shell
 use bsp_boolean::{PlainBuilder, TreeStop, tree_solid};
 use bsp_tree::Solid;
 use csg_tree::{CsgStore, CsgTree, TreeKey};
+use flight_memo::{Flight, FlightBlanks, FlightLedgers};
 use memo_core::{MemoCore, Namer};
 use parallel_eval::{Gate, KnownStore, OpenGate, ShaNamer, SolidFit, solid_of};
 use std::alloc::Global;
@@ -17,7 +18,7 @@ use std::process::Abort;
 use std::sync::ledger::Ledger;
 use std::sync::{Arc, Wait};
 use std::thread::Threads;
-use subtree_memo::{Blanks, Ledgers, Memo, MemoLedger, Tally};
+use subtree_memo::{Blanks, Memo, MemoLedger, Tally};
 
 // How many builders there are at a time.
 const NUMBERS: [u8; 4] = [1, 2, 8, 64];
@@ -53,6 +54,8 @@ fn run<
     M: Ledger + Send + Sync,
     K: Ledger + Send + Sync,
     E: Ledger + Send + Sync,
+    S: Ledger + Send + Sync,
+    T: Ledger + Send + Sync,
     G: Gate + Sync,
     R: Abort + Threads + Wait + Sync,
 >(
@@ -60,6 +63,7 @@ fn run<
     alloc: Global,
     core: MemoCore<SolidFit, N>,
     blanks: Blanks,
+    claims: FlightBlanks,
     gate: &G,
     store: &mut KnownStore,
     count: u8,
@@ -70,22 +74,26 @@ fn run<
 )
     requires empty { core.journal ≡ [] }
     requires limits { (core.budget ≡ H.budget) × (core.share ≡ H.share) × (blanks.callers ≡ H.callers) }
-    requires callers { blanks.callers ≡ 1 }
+    requires callers { (blanks.callers ≡ 1) × (claims.callers ≡ 1) }
     requires ledgers { IsOf H.name H.parts blanks.hits × IsOf M.name M.parts blanks.misses
         × IsOf K.name K.parts blanks.kept × IsOf E.name E.parts blanks.heavy }
+    requires claims { IsOf S.name S.parts claims.begun × IsOf T.name T.parts claims.ended }
     requires some { 0 < length store.old }
     requires builders { (1 ≤ count) × (count ≤ 64) }
 {
-    let (memo, mut shares) = Memo::<SolidFit, N, Ledgers<H, M, K, E>>::open(
+    let (memo, shares) = Memo::<SolidFit, N, FlightLedgers<H, M, K, E, S, T>>::open(
         alloc, core, blanks,
     ).expect(rt, "memory");
+    let (flight, mut shares) = Flight::open(alloc, SolidFit, memo, shares, claims).expect(
+        rt, "memory",
+    );
     let mut share = shares.pop().expect(rt, "a share");
     let mut first = builders(rt, alloc, count);
     let mut second = builders(rt, alloc, count);
-    let once = solid_of(rt, alloc, store, &memo, &mut share, &mut first, gate);
-    let again = solid_of(rt, alloc, store, &memo, &mut share, &mut second, gate);
+    let once = solid_of(rt, alloc, store, &flight, &mut share, &mut first, gate);
+    let again = solid_of(rt, alloc, store, &flight, &mut share, &mut second, gate);
     shares.push(share).expect(rt, "memory");
-    let (tally, _core) = memo.close(shares);
+    let (tally, _core, _claims) = flight.close(shares);
     (once, again, tally)
 }
 
@@ -106,7 +114,11 @@ pub fn made<N: Namer<TreeKey> + Send + Sync, G: Gate + Sync, R: Abort + Threads 
     assert!(rt; store.store().len() > 0);
     assert!(rt; 1 <= count && count <= 64);
     let core = MemoCore::new(alloc, SolidFit, namer, budget, 0).expect(rt, "memory");
-    run::<N, Brand, Brand, Brand, Brand, G, R>(rt, alloc, core, Blanks::new(1), gate, store, count)
+    let blanks = Blanks::new(1);
+    let claims = FlightBlanks::beside(&blanks);
+    run::<N, Brand, Brand, Brand, Brand, Brand, Brand, G, R>(
+        rt, alloc, core, blanks, claims, gate, store, count,
+    )
 }
 
 // By any number of builders and any memo, a tree has a solid of this size, and each of its joins is

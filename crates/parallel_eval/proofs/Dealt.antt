@@ -9,27 +9,27 @@ use Rattle.parallel_eval.specs.declared.lane.Lane.{Lane}
 use Rattle.parallel_eval.specs.Joins.{AreAnswered, AreBegun, AreAtMost}
 use Rattle.parallel_eval.specs.Runs.{IsLaneReady, AreFreshLanes}
 
-module _ {B H M K E : Type 0} {g : Ghosts H} where
+module _ {B S T H M K E : Type 0} {g : Ghosts H} where
   -- fresh lanes end where they say
-  pub fresh_end : (caller before last : ℕ) (lanes : List (Lane B H M K E g)) → AreFreshLanes caller before last lanes → before ≤ last
+  pub fresh_end : (caller before last : ℕ) (lanes : List (Lane B S T H M K E g)) → AreFreshLanes caller before last lanes → before ≤ last
   fresh_end caller before last [] e = omega (arith, e)
   fresh_end caller before last (lane ∷ lanes) e =
       let here : before ≤ lane.last = e.2 in
       let rest : lane.last ≤ last = fresh_end caller lane.last last lanes e.4 in
       omega arith
 
-module _ {D B H M K E : Type 0} {g : Ghosts H} (count : D → ℕ) where
+module _ {D B S T H M K E : Type 0} {g : Ghosts H} (count : D → ℕ) where
   -- fresh lanes may be worked on, by builders with few builds
-  pub each_ready : (W : Type 0) → W → (start many before last caller most : ℕ) (bs : List D) (ls : List (Lane B H M K E g)) →
+  pub each_ready : (W : Type 0) → W → (start many before last caller most : ℕ) (bs : List D) (ls : List (Lane B S T H M K E g)) →
       AreFreshLanes caller before last ls → start ≤ before → last ≤ start + many → AreAtMost count most bs → most ≤ 2 ^ 47 → length bs ≡ length ls →
-      EachReady (λ (b : D) (l : Lane B H M K E g). W × IsLaneReady start many (count b) l) bs ls
+      EachReady (λ (b : D) (l : Lane B S T H M K E g). W × IsLaneReady start many (count b) l) bs ls
   each_ready W w start many before last caller most [] [] e low high few enough same = tt
   each_ready W w start many before last caller most [] (l ∷ ls) e low high few enough same = absurd (omega arith)
   each_ready W w start many before last caller most (b ∷ bs) [] e low high few enough same = absurd (omega arith)
   each_ready W w start many before last caller most (b ∷ bs) (l ∷ ls) e low high few enough same =
-      let share : l.share ≡ fresh caller 1 = e.0 in
-      let parts : l.share.parts ≡ 1 = ap (λ s. s.parts) share in
-      let none : l.share.dropped ≡ 0 = ap (λ s. s.dropped) share in
+      let share : l.share.share ≡ fresh caller 1 = e.0 in
+      let parts : l.share.share.parts ≡ 1 = ap (λ s. s.parts) share in
+      let none : l.share.share.dropped ≡ 0 = ap (λ s. s.dropped) share in
       let first : l.before ≡ before = e.1 in
       let order : before ≤ l.last = e.2 in
       let end : l.last ≤ last = fresh_end caller l.last last ls e.4 in
@@ -99,12 +99,12 @@ left_for next count index least longer more last room one all =
     ap (λ n. n * least) here ∙ suc-mul (count - (index + 1)) least in
     left_of next ((count - index) * least) ((count - (index + 1)) * least) least more (longer - index) (longer - (index + 1)) last times one all
 
-module _ {B H M K E : Type 0} {g : Ghosts H} where
+module _ {B S T H M K E : Type 0} {g : Ghosts H} where
   -- a lane more that has so many nodes, or one more
-  pub even_more : (least : ℕ) (lanes new : List (Lane B H M K E g)) (lane : Lane B H M K E g) (next more : ℕ) → new ≡ lanes ++ lane ∷ [] →
+  pub even_more : (least : ℕ) (lanes new : List (Lane B S T H M K E g)) (lane : Lane B S T H M K E g) (next more : ℕ) → new ≡ lanes ++ lane ∷ [] →
       All (λ l. (l.before + least ≤ l.last) × (l.last ≤ l.before + least + 1)) lanes → lane.before ≡ next → lane.last ≡ next + least + more → more ≤ 1 →
       All (λ l. (l.before + least ≤ l.last) × (l.last ≤ l.before + least + 1)) new
   even_more least lanes new lane next more items all first end one =
-      let P : Lane B H M K E g → Type 0 = λ l. (l.before + least ≤ l.last) × (l.last ≤ l.before + least + 1) in
+      let P : Lane B S T H M K E g → Type 0 = λ l. (l.before + least ≤ l.last) × (l.last ≤ l.before + least + 1) in
       let here : P lane = (omega (arith, first, end, one), omega (arith, first, end, one)) in
       subst (All P) (sym items) (All-push P lanes lane all here)

@@ -13,12 +13,12 @@ use Rattle.parallel_eval.specs.Runs.{joins_to, IsLaneDone, AreFreshLanes, AreLan
 use Rattle.parallel_eval.proofs.Dealt.{begun_beside, answered_beside, begun_with_parts, answered_with_parts}
 use Rattle.parallel_eval.proofs.Worked.{lanes_begun, lanes_answered, lanes_parts, lanes_order, lanes_at_most, lanes_of, lanes_caller, same_lengths}
 
-module _ {D B H M K E : Type 0} {g : Ghosts H} (count : D → ℕ) (trees : List Formula) (start last : ℕ) (share v : View) (bs idle cs : List D) (ls ms : List (Lane B H M K E g)) where
+module _ {D B S T H M K E : Type 0} {g : Ghosts H} (count : D → ℕ) (trees : List Formula) (start last : ℕ) (share v : View) (bs idle cs : List D) (ls ms : List (Lane B S T H M K E g)) where
   -- what is known of them
   pub record IsDivided : Type 0 where
     pub rest : v ≡ record share { parts = share.parts - length ls }
     pub fresh : AreFreshLanes share.caller start last ls
-    pub worked : EachWorked (λ (b : D) (l : Lane B H M K E g) (c : D) (m : Lane B H M K E g). IsLaneDone trees l m (count b) (count c)) bs ls cs ms
+    pub worked : EachWorked (λ (b : D) (l : Lane B S T H M K E g) (c : D) (m : Lane B S T H M K E g). IsLaneDone trees l m (count b) (count c)) bs ls cs ms
     pub dropped : share.dropped ≤ 2 ^ 46 + joins_to trees start
     pub few : joins_to trees last ≤ 2 ^ 32
 
@@ -85,13 +85,13 @@ module _ {D B H M K E : Type 0} {g : Ghosts H} (count : D → ℕ) (trees : List
   pub divided_many : IsDivided → length ms ≡ length ls
   divided_many h = (same_lengths count trees bs ls cs ms h.worked).1
 
-module _ {D B H M K E : Type 0} {g : Ghosts H} (count : D → ℕ) (trees : List Formula) (start last : ℕ) (share v : View) (bs idle cs : List D) (items ls ms : List (Lane B H M K E g)) where
+module _ {D B S T H M K E : Type 0} {g : Ghosts H} (count : D → ℕ) (trees : List Formula) (start last : ℕ) (share v : View) (bs idle cs : List D) (items ls ms : List (Lane B S T H M K E g)) where
   pub divided_of : v ≡ record share { parts = share.parts - length items } → AreFreshLanes share.caller start last items → ls ≡ items →
-      EachWorked (λ (b : D) (l : Lane B H M K E g) (c : D) (m : Lane B H M K E g). IsLaneDone trees l m (count b) (count c)) bs ls cs ms →
+      EachWorked (λ (b : D) (l : Lane B S T H M K E g) (c : D) (m : Lane B S T H M K E g). IsLaneDone trees l m (count b) (count c)) bs ls cs ms →
       share.dropped ≤ 2 ^ 46 + joins_to trees start → joins_to trees last ≤ length trees → length trees < 2 ^ 32 →
       IsDivided count trees start last share v bs idle cs ls ms
   divided_of rest fresh same worked dropped some few = record {
-    rest = rest ∙ ap (λ (l : List (Lane B H M K E g)). record share { parts = share.parts - length l }) (sym same);
+    rest = rest ∙ ap (λ (l : List (Lane B S T H M K E g)). record share { parts = share.parts - length l }) (sym same);
     fresh = subst (AreFreshLanes share.caller start last) (sym same) fresh;
     worked = worked;
     dropped = dropped;

@@ -22,10 +22,10 @@ more_joins (tree ∷ trees) (suc m) (suc n) h =
     let rest : joins_to trees m ≤ joins_to trees n = more_joins trees m n (omega arith) in
     omega (arith, fewer, more, rest)
 
-module _ {B H M K E : Type 0} {g : Ghosts H} (trees : List Formula) where
-  pub lane_steps : (k l m n : ℕ) (first old new : Lane B H M K E g) (outcome : Outcome) (done : Type 0) → IsLaneAt trees k first old l m →
+module _ {B S T H M K E : Type 0} {g : Ghosts H} (trees : List Formula) where
+  pub lane_steps : (k l m n : ℕ) (first old new : Lane B S T H M K E g) (outcome : Outcome) (done : Type 0) → IsLaneAt trees k first old l m →
       new.before ≡ old.before → new.last ≡ old.last → new.made.items ≡ old.made.items ++ outcome ∷ [] → IsOutcome trees (k + 1) outcome →
-      (IsMade outcome → done) → AreAsked done (joins_to trees k) (joins_to trees (k + 1)) old.share new.share m n →
+      (IsMade outcome → done) → AreAsked done (joins_to trees k) (joins_to trees (k + 1)) old.share.share new.share.share m n →
       IsLaneAt trees (k + 1) first new l n
   lane_steps k l m n first old new outcome done at before last items came told asked =
       let many = at.many in record {
@@ -33,32 +33,32 @@ module _ {B H M K E : Type 0} {g : Ghosts H} (trees : List Formula) where
         last = last ∙ at.last;
         outcomes = subst (AreOutcomes trees first.before) (sym items) (outcomes_more trees first.before (k + 1) old.made.items outcome at.outcomes (omega (arith, many)) came);
         many = let more : length new.made.items ≡ length (old.made.items ++ outcome ∷ []) = ap length items in omega (arith, many, more, length-append old.made.items (outcome ∷ []));
-        asked = asked_behind (AreMade old.made.items) done (AreMade new.made.items) (joins_to trees first.before) (joins_to trees k) (joins_to trees (k + 1)) l m n first.share old.share new.share
+        asked = asked_behind (AreMade old.made.items) done (AreMade new.made.items) (joins_to trees first.before) (joins_to trees k) (joins_to trees (k + 1)) l m n first.share.share old.share.share new.share.share
             (λ all. (made_but_last old.made.items outcome (subst AreMade items all)).0)
             (λ all. told (made_but_last old.made.items outcome (subst AreMade items all)).1)
             at.asked asked;
       }
 
-  pub lane_breaks : (k l m n : ℕ) (first old new : Lane B H M K E g) (done : Type 0) → IsLaneAt trees k first old l m → k < first.last →
+  pub lane_breaks : (k l m n : ℕ) (first old new : Lane B S T H M K E g) (done : Type 0) → IsLaneAt trees k first old l m → k < first.last →
       new.before ≡ old.before → new.last ≡ old.last → new.made.items ≡ old.made.items →
-      AreAsked done (joins_to trees k) (joins_to trees (k + 1)) old.share new.share m n → IsLaneDone trees first new l n
+      AreAsked done (joins_to trees k) (joins_to trees (k + 1)) old.share.share new.share.share m n → IsLaneDone trees first new l n
   lane_breaks k l m n first old new done at room before last items asked =
       let many : first.before + length new.made.items ≡ k = ap (λ x. first.before + length x) items ∙ at.many in
-      let whole = asked_behind (AreMade old.made.items) done ⊥ (joins_to trees first.before) (joins_to trees k) (joins_to trees (k + 1)) l m n first.share old.share new.share
+      let whole = asked_behind (AreMade old.made.items) done ⊥ (joins_to trees first.before) (joins_to trees k) (joins_to trees (k + 1)) l m n first.share.share old.share.share new.share.share
       (λ x. absurd x) (λ x. absurd x) at.asked asked in record {
         before = before ∙ at.before;
         last = last ∙ at.last;
         outcomes = subst (AreOutcomes trees first.before) (sym items) at.outcomes;
-        asked = asked_up_to ⊥ (IsComplete first.before first.last new.made.items) (joins_to trees first.before) (joins_to trees (k + 1)) (joins_to trees first.last) l n first.share new.share
+        asked = asked_up_to ⊥ (IsComplete first.before first.last new.made.items) (joins_to trees first.before) (joins_to trees (k + 1)) (joins_to trees first.last) l n first.share.share new.share.share
             (λ all. let full = all.0 in omega arith) whole (more_joins trees (k + 1) first.last (omega arith));
       }
 
   -- a lane of which all nodes have an outcome is done
-  pub lane_ends : (k l n : ℕ) (first new : Lane B H M K E g) → IsLaneAt trees k first new l n → k ≡ first.last → IsLaneDone trees first new l n
+  pub lane_ends : (k l n : ℕ) (first new : Lane B S T H M K E g) → IsLaneAt trees k first new l n → k ≡ first.last → IsLaneDone trees first new l n
   lane_ends k l n first new at end = record {
     before = at.before;
     last = at.last;
     outcomes = at.outcomes;
-    asked = subst (λ x. AreAsked (IsComplete first.before first.last new.made.items) (joins_to trees first.before) (joins_to trees x) first.share new.share l n) end
+    asked = subst (λ x. AreAsked (IsComplete first.before first.last new.made.items) (joins_to trees first.before) (joins_to trees x) first.share.share new.share.share l n) end
         (record { caller = at.asked.caller; parts = at.asked.parts; begun = at.asked.begun; answered = λ all. at.asked.answered all.1 });
   }

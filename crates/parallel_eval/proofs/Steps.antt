@@ -18,25 +18,25 @@ pub made_but_last : (outcomes : List Outcome) (outcome : Outcome) → AreMade (o
 made_but_last [] outcome all = (tt, all.0)
 made_but_last (first ∷ outcomes) outcome all = let h = made_but_last outcomes outcome all.1 in ((all.0, h.0), h.1)
 
-module _ {B H M K E : Type 0} {g : Ghosts H} where
-  pub fresh_more : (caller before next last : ℕ) (lanes : List (Lane B H M K E g)) (lane : Lane B H M K E g) → AreFreshLanes caller before next lanes →
-      lane.share ≡ fresh caller 1 → lane.before ≡ next → next ≤ lane.last → lane.made.items ≡ [] → lane.last ≡ last →
+module _ {B S T H M K E : Type 0} {g : Ghosts H} where
+  pub fresh_more : (caller before next last : ℕ) (lanes : List (Lane B S T H M K E g)) (lane : Lane B S T H M K E g) → AreFreshLanes caller before next lanes →
+      lane.share.share ≡ fresh caller 1 → lane.before ≡ next → next ≤ lane.last → lane.made.items ≡ [] → lane.last ≡ last →
       AreFreshLanes caller before last (lanes ++ lane ∷ [])
   fresh_more caller before next last [] lane e share first order empty end =
       (share, first ∙ sym e, omega arith, empty, end)
   fresh_more caller before next last (l ∷ lanes) lane e share first order empty end =
       (e.0, e.1, e.2, e.3, fresh_more caller l.last next last lanes lane e.4 share first order empty end)
 
-  pub with_more : (share : View) (lanes : List (Lane B H M K E g)) (lane : Lane B H M K E g) → with_lanes share (lanes ++ lane ∷ []) ≡ with_lanes (joined share lane.share) lanes
+  pub with_more : (share : View) (lanes : List (Lane B S T H M K E g)) (lane : Lane B S T H M K E g) → with_lanes share (lanes ++ lane ∷ []) ≡ with_lanes (joined share lane.share.share) lanes
   with_more share [] lane = refl
-  with_more share (l ∷ lanes) lane = ap (λ s. joined s l.share) (with_more share lanes lane)
+  with_more share (l ∷ lanes) lane = ap (λ s. joined s l.share.share) (with_more share lanes lane)
 
-  pub caller_but_last : (caller : ℕ) (lanes : List (Lane B H M K E g)) (lane : Lane B H M K E g) → AreOfCaller caller (lanes ++ lane ∷ []) → AreOfCaller caller lanes × (lane.share.caller ≡ caller)
+  pub caller_but_last : (caller : ℕ) (lanes : List (Lane B S T H M K E g)) (lane : Lane B S T H M K E g) → AreOfCaller caller (lanes ++ lane ∷ []) → AreOfCaller caller lanes × (lane.share.share.caller ≡ caller)
   caller_but_last caller [] lane all = (tt, all.0)
   caller_but_last caller (l ∷ lanes) lane all = let h = caller_but_last caller lanes lane all.1 in ((all.0, h.0), h.1)
 
-module _ {B H M K E : Type 0} {g : Ghosts H} where
-  pub lanes_first : (trees : List Formula) (before last : ℕ) (lanes : List (Lane B H M K E g)) (lane : Lane B H M K E g) → 0 < length lanes → lane ≡ get_or lanes 0 lane →
+module _ {B S T H M K E : Type 0} {g : Ghosts H} where
+  pub lanes_first : (trees : List Formula) (before last : ℕ) (lanes : List (Lane B S T H M K E g)) (lane : Lane B S T H M K E g) → 0 < length lanes → lane ≡ get_or lanes 0 lane →
       AreLanes trees before last lanes → (lane.before ≡ before)
       × AreOutcomes trees before lane.made.items × AreLanes trees lane.last last (take (length lanes - 1) (drop 1 lanes))
   lanes_first trees before last [] lane some e all = absurd (omega arith)
@@ -46,10 +46,10 @@ module _ {B H M K E : Type 0} {g : Ghosts H} where
       (all.0, all.1, subst (AreLanes trees l.last last) (sym (take_rest (l ∷ lanes) 1)) all.2)
 
   -- the lanes end where they say
-  pub lanes_end : (trees : List Formula) (before last : ℕ) (lanes : List (Lane B H M K E g)) → AreLanes trees before last lanes → before ≤ last
+  pub lanes_end : (trees : List Formula) (before last : ℕ) (lanes : List (Lane B S T H M K E g)) → AreLanes trees before last lanes → before ≤ last
   lanes_end trees before last [] all = omega arith
   lanes_end trees before last (l ∷ lanes) all = let rest = lanes_end trees l.last last lanes all.2 in let here = all.0 in omega (arith, rest, l.order)
 
-  pub with_caller : (share : View) (lanes : List (Lane B H M K E g)) → (with_lanes share lanes).caller ≡ share.caller
+  pub with_caller : (share : View) (lanes : List (Lane B S T H M K E g)) → (with_lanes share lanes).caller ≡ share.caller
   with_caller share [] = refl
   with_caller share (lane ∷ lanes) = with_caller share lanes

@@ -57,25 +57,25 @@ both_answered a b c l l' m m' s t u h k = record {
   offered = omega (arith, h.offered, k.offered);
 }
 
-module _ {D B H M K E : Type 0} {g : Ghosts H} (count : D → ℕ) (trees : List Formula) where
-  abbrev pub Done : D → Lane B H M K E g → D → Lane B H M K E g → Type 0
+module _ {D B S T H M K E : Type 0} {g : Ghosts H} (count : D → ℕ) (trees : List Formula) where
+  abbrev pub Done : D → Lane B S T H M K E g → D → Lane B S T H M K E g → Type 0
   Done b l c m = IsLaneDone trees l m (count b) (count c)
 
   -- a lane's own numbers, at the number where the lanes begin
-  one_begun : (before caller : ℕ) (b c : D) (l m : Lane B H M K E g) → l.share ≡ fresh caller 1 → l.before ≡ before → Done b l c m →
-      AreBegun (joins_to trees before) (joins_to trees l.last) (fresh caller 1) m.share (count b) (count c)
+  one_begun : (before caller : ℕ) (b c : D) (l m : Lane B S T H M K E g) → l.share.share ≡ fresh caller 1 → l.before ≡ before → Done b l c m →
+      AreBegun (joins_to trees before) (joins_to trees l.last) (fresh caller 1) m.share.share (count b) (count c)
   one_begun before caller b c l m s e h =
-      subst (λ x. AreBegun (joins_to trees x) (joins_to trees l.last) (fresh caller 1) m.share (count b) (count c)) e
-      (subst (λ x. AreBegun (joins_to trees l.before) (joins_to trees l.last) x m.share (count b) (count c)) s h.asked.begun)
+      subst (λ x. AreBegun (joins_to trees x) (joins_to trees l.last) (fresh caller 1) m.share.share (count b) (count c)) e
+      (subst (λ x. AreBegun (joins_to trees l.before) (joins_to trees l.last) x m.share.share (count b) (count c)) s h.asked.begun)
 
-  one_answered : (before caller : ℕ) (b c : D) (l m : Lane B H M K E g) → l.share ≡ fresh caller 1 → l.before ≡ before → Done b l c m →
-      IsComplete m.before m.last m.made.items → AreAnswered (joins_to trees before) (joins_to trees l.last) (fresh caller 1) m.share (count b) (count c)
+  one_answered : (before caller : ℕ) (b c : D) (l m : Lane B S T H M K E g) → l.share.share ≡ fresh caller 1 → l.before ≡ before → Done b l c m →
+      IsComplete m.before m.last m.made.items → AreAnswered (joins_to trees before) (joins_to trees l.last) (fresh caller 1) m.share.share (count b) (count c)
   one_answered before caller b c l m s e h all =
-      subst (λ x. AreAnswered (joins_to trees x) (joins_to trees l.last) (fresh caller 1) m.share (count b) (count c)) e
-      (subst (λ x. AreAnswered (joins_to trees l.before) (joins_to trees l.last) x m.share (count b) (count c)) s
+      subst (λ x. AreAnswered (joins_to trees x) (joins_to trees l.last) (fresh caller 1) m.share.share (count b) (count c)) e
+      (subst (λ x. AreAnswered (joins_to trees l.before) (joins_to trees l.last) x m.share.share (count b) (count c)) s
       (h.asked.answered (subst (λ x. IsComplete x l.last m.made.items) h.before (subst (λ x. IsComplete m.before x m.made.items) h.last all))))
 
-  pub lanes_begun : (before last caller : ℕ) (v : View) (bs : List D) (ls : List (Lane B H M K E g)) (cs : List D) (ms : List (Lane B H M K E g)) →
+  pub lanes_begun : (before last caller : ℕ) (v : View) (bs : List D) (ls : List (Lane B S T H M K E g)) (cs : List D) (ms : List (Lane B S T H M K E g)) →
       AreFreshLanes caller before last ls → EachWorked Done bs ls cs ms → v.dropped + joins_to trees last ≤ dropped_max + joins_to trees before →
       AreBegun (joins_to trees before) (joins_to trees last) v (with_lanes v ms) (sum_by count bs) (sum_by count cs)
   lanes_begun before last caller v [] [] [] [] e h room =
@@ -85,13 +85,13 @@ module _ {D B H M K E : Type 0} {g : Ghosts H} (count : D → ℕ) (trees : List
       let order : joins_to trees before ≤ joins_to trees l.last = one.order in
       let others = lanes_begun l.last last caller v bs ls cs ms e.4 h.1 (omega arith) in
       let few : (with_lanes v ms).dropped + joins_to trees l.last ≤ v.dropped + joins_to trees last = few_dropped (joins_to trees l.last) (joins_to trees last) (sum_by count bs) (sum_by count cs) v (with_lanes v ms) others in
-      let here = joined_begun (joins_to trees before) (joins_to trees l.last) caller (count b) (count c) (with_lanes v ms) m.share one (omega arith) in
+      let here = joined_begun (joins_to trees before) (joins_to trees l.last) caller (count b) (count c) (with_lanes v ms) m.share.share one (omega arith) in
       subst (λ x. AreBegun (joins_to trees before) (joins_to trees last) v (with_lanes v (m ∷ ms)) x (sum_by count (c ∷ cs))) (sym (sum_by-cons count b bs))
       (subst (λ x. AreBegun (joins_to trees before) (joins_to trees last) v (with_lanes v (m ∷ ms)) (count b + sum_by count bs) x) (sym (sum_by-cons count c cs))
-      (both_begun (joins_to trees before) (joins_to trees l.last) (joins_to trees last) (count b) (count c) (sum_by count bs) (sum_by count cs) v (with_lanes v ms) (joined (with_lanes v ms) m.share) others here))
+      (both_begun (joins_to trees before) (joins_to trees l.last) (joins_to trees last) (count b) (count c) (sum_by count bs) (sum_by count cs) v (with_lanes v ms) (joined (with_lanes v ms) m.share.share) others here))
   lanes_begun before last caller v bs ls cs ms e h room = absurd h
 
-  pub lanes_answered : (before last caller : ℕ) (v : View) (bs : List D) (ls : List (Lane B H M K E g)) (cs : List D) (ms : List (Lane B H M K E g)) →
+  pub lanes_answered : (before last caller : ℕ) (v : View) (bs : List D) (ls : List (Lane B S T H M K E g)) (cs : List D) (ms : List (Lane B S T H M K E g)) →
       AreFreshLanes caller before last ls → EachWorked Done bs ls cs ms → v.dropped + joins_to trees last ≤ dropped_max + joins_to trees before → AreComplete ms →
       AreAnswered (joins_to trees before) (joins_to trees last) v (with_lanes v ms) (sum_by count bs) (sum_by count cs)
   lanes_answered before last caller v [] [] [] [] e h room all =
@@ -101,16 +101,16 @@ module _ {D B H M K E : Type 0} {g : Ghosts H} (count : D → ℕ) (trees : List
       let order : joins_to trees before ≤ joins_to trees l.last = one.order in
       let others = lanes_begun l.last last caller v bs ls cs ms e.4 h.1 (omega arith) in
       let few : (with_lanes v ms).dropped + joins_to trees l.last ≤ v.dropped + joins_to trees last = few_dropped (joins_to trees l.last) (joins_to trees last) (sum_by count bs) (sum_by count cs) v (with_lanes v ms) others in
-      let here = joined_answered (joins_to trees before) (joins_to trees l.last) caller (count b) (count c) (with_lanes v ms) m.share one
+      let here = joined_answered (joins_to trees before) (joins_to trees l.last) caller (count b) (count c) (with_lanes v ms) m.share.share one
       (one_answered before caller b c l m e.0 e.1 h.0 all.0) (omega arith) in
       subst (λ x. AreAnswered (joins_to trees before) (joins_to trees last) v (with_lanes v (m ∷ ms)) x (sum_by count (c ∷ cs))) (sym (sum_by-cons count b bs))
       (subst (λ x. AreAnswered (joins_to trees before) (joins_to trees last) v (with_lanes v (m ∷ ms)) (count b + sum_by count bs) x) (sym (sum_by-cons count c cs))
-      (both_answered (joins_to trees before) (joins_to trees l.last) (joins_to trees last) (count b) (count c) (sum_by count bs) (sum_by count cs) v (with_lanes v ms) (joined (with_lanes v ms) m.share)
+      (both_answered (joins_to trees before) (joins_to trees l.last) (joins_to trees last) (count b) (count c) (sum_by count bs) (sum_by count cs) v (with_lanes v ms) (joined (with_lanes v ms) m.share.share)
       (lanes_answered l.last last caller v bs ls cs ms e.4 h.1 (omega arith) all.1) here))
   lanes_answered before last caller v bs ls cs ms e h room all = absurd h
 
   -- the lanes say what came of all nodes in order
-  pub lanes_of : (before last caller : ℕ) (bs : List D) (ls : List (Lane B H M K E g)) (cs : List D) (ms : List (Lane B H M K E g)) →
+  pub lanes_of : (before last caller : ℕ) (bs : List D) (ls : List (Lane B S T H M K E g)) (cs : List D) (ms : List (Lane B S T H M K E g)) →
       AreFreshLanes caller before last ls → EachWorked Done bs ls cs ms → AreLanes trees before last ms
   lanes_of before last caller [] [] [] [] e h = e
   lanes_of before last caller (b ∷ bs) (l ∷ ls) (c ∷ cs) (m ∷ ms) e h = (
@@ -120,23 +120,23 @@ module _ {D B H M K E : Type 0} {g : Ghosts H} (count : D → ℕ) (trees : List
   )
   lanes_of before last caller bs ls cs ms e h = absurd h
 
-  pub lanes_caller : (before last caller : ℕ) (bs : List D) (ls : List (Lane B H M K E g)) (cs : List D) (ms : List (Lane B H M K E g)) →
+  pub lanes_caller : (before last caller : ℕ) (bs : List D) (ls : List (Lane B S T H M K E g)) (cs : List D) (ms : List (Lane B S T H M K E g)) →
       AreFreshLanes caller before last ls → EachWorked Done bs ls cs ms → AreOfCaller caller ms
   lanes_caller before last caller [] [] [] [] e h = tt
   lanes_caller before last caller (b ∷ bs) (l ∷ ls) (c ∷ cs) (m ∷ ms) e h =
       (h.0.asked.caller ∙ ap (λ s. s.caller) e.0, lanes_caller l.last last caller bs ls cs ms e.4 h.1)
   lanes_caller before last caller bs ls cs ms e h = absurd h
 
-  pub lanes_parts : (before last caller : ℕ) (v : View) (bs : List D) (ls : List (Lane B H M K E g)) (cs : List D) (ms : List (Lane B H M K E g)) →
+  pub lanes_parts : (before last caller : ℕ) (v : View) (bs : List D) (ls : List (Lane B S T H M K E g)) (cs : List D) (ms : List (Lane B S T H M K E g)) →
       AreFreshLanes caller before last ls → EachWorked Done bs ls cs ms → (with_lanes v ms).parts ≡ v.parts + length ls
   lanes_parts before last caller v [] [] [] [] e h = omega arith
   lanes_parts before last caller v (b ∷ bs) (l ∷ ls) (c ∷ cs) (m ∷ ms) e h =
-      let one : m.share.parts ≡ 1 = h.0.asked.parts ∙ ap (λ s. s.parts) e.0 in
+      let one : m.share.share.parts ≡ 1 = h.0.asked.parts ∙ ap (λ s. s.parts) e.0 in
       let others = lanes_parts l.last last caller v bs ls cs ms e.4 h.1 in
       omega (arith, others)
   lanes_parts before last caller v bs ls cs ms e h = absurd h
 
-  pub lanes_order : (before last caller : ℕ) (bs : List D) (ls : List (Lane B H M K E g)) (cs : List D) (ms : List (Lane B H M K E g)) →
+  pub lanes_order : (before last caller : ℕ) (bs : List D) (ls : List (Lane B S T H M K E g)) (cs : List D) (ms : List (Lane B S T H M K E g)) →
       AreFreshLanes caller before last ls → EachWorked Done bs ls cs ms → joins_to trees before ≤ joins_to trees last
   lanes_order before last caller [] [] [] [] e h = subst (λ x. joins_to trees before ≤ joins_to trees x) e (omega arith)
   lanes_order before last caller (b ∷ bs) (l ∷ ls) (c ∷ cs) (m ∷ ms) e h =
@@ -146,12 +146,12 @@ module _ {D B H M K E : Type 0} {g : Ghosts H} (count : D → ℕ) (trees : List
       omega arith
   lanes_order before last caller bs ls cs ms e h = absurd h
 
-  pub lanes_at_most : (before last caller most most' : ℕ) (bs : List D) (ls : List (Lane B H M K E g)) (cs : List D) (ms : List (Lane B H M K E g)) →
+  pub lanes_at_most : (before last caller most most' : ℕ) (bs : List D) (ls : List (Lane B S T H M K E g)) (cs : List D) (ms : List (Lane B S T H M K E g)) →
       AreFreshLanes caller before last ls → EachWorked Done bs ls cs ms → AreAtMost count most bs → most + joins_to trees last ≤ most' + joins_to trees before → AreAtMost count most' cs
   lanes_at_most before last caller most most' [] [] [] [] e h all room = All-nil (λ x. count x ≤ most')
   lanes_at_most before last caller most most' (b ∷ bs) (l ∷ ls) (c ∷ cs) (m ∷ ms) e h all room =
       let one = one_begun before caller b c l m e.0 e.1 h.0 in
-      let few : count c + joins_to trees before ≤ count b + joins_to trees l.last = few_builds (joins_to trees before) (joins_to trees l.last) (count b) (count c) (fresh caller 1) m.share one in
+      let few : count c + joins_to trees before ≤ count b + joins_to trees l.last = few_builds (joins_to trees before) (joins_to trees l.last) (count b) (count c) (fresh caller 1) m.share.share one in
       let first : count b ≤ most = All-head (λ x. count x ≤ most) b bs all in
       let order : joins_to trees before ≤ joins_to trees l.last = one.order in
       let behind : joins_to trees l.last ≤ joins_to trees last = lanes_order l.last last caller bs ls cs ms e.4 h.1 in
@@ -159,7 +159,7 @@ module _ {D B H M K E : Type 0} {g : Ghosts H} (count : D → ℕ) (trees : List
       (lanes_at_most l.last last caller most most' bs ls cs ms e.4 h.1 (All-tail (λ x. count x ≤ most) b bs all) (omega arith))
   lanes_at_most before last caller most most' bs ls cs ms e h all room = absurd h
 
-  pub same_lengths : (bs : List D) (ls : List (Lane B H M K E g)) (cs : List D) (ms : List (Lane B H M K E g)) → EachWorked Done bs ls cs ms →
+  pub same_lengths : (bs : List D) (ls : List (Lane B S T H M K E g)) (cs : List D) (ms : List (Lane B S T H M K E g)) → EachWorked Done bs ls cs ms →
       (length cs ≡ length bs) × (length ms ≡ length ls)
   same_lengths [] [] [] [] h = (refl, refl)
   same_lengths (b ∷ bs) (l ∷ ls) (c ∷ cs) (m ∷ ms) h = let s = same_lengths bs ls cs ms h.1 in (omega (arith, s.0), omega (arith, s.1))

@@ -24,6 +24,13 @@ module _ {Z : Type 0} where
   Gives wanted (Err TooBig) = most_of_one < size wanted
   Gives wanted (Err NoMemory) = Unit {0}
 
+-- what is given where a solid is built for two holders
+module _ {Z : Type 0} where
+  abbrev pub AreBuilt : Tree → Result (Arc SolidParts Z × Arc SolidParts Z) BuildStop → Type 0
+  AreBuilt wanted (Ok made) = (tree_of (arc_value made.0) ≡ wanted) × (arc_value made.1 ≡ arc_value made.0) × (size wanted ≤ most_of_one)
+  AreBuilt wanted (Err TooBig) = most_of_one < size wanted
+  AreBuilt wanted (Err NoMemory) = Unit {0}
+
 -- a share and a builder with this count may take up one join more
 pub record HasRoom (share : View) (count : ℕ) : Type 0 where
   pub parts : 0 < share.parts

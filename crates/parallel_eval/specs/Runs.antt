@@ -97,57 +97,57 @@ AreMade (outcome ∷ outcomes) = IsMade outcome × AreMade outcomes
 abbrev pub IsComplete : ℕ → ℕ → List Outcome → Type 0
 IsComplete before last outcomes = (before + length outcomes ≡ last) × AreMade outcomes
 
-module _ {B H M K E : Type 0} {g : Ghosts H} where
+module _ {B S T H M K E : Type 0} {g : Ghosts H} where
   -- a lane may be worked on, by a builder with this count: its nodes are among so many behind the first ones
-  pub record IsLaneReady (start count built : ℕ) (lane : Lane B H M K E g) : Type 0 where
-    pub parts : 0 < lane.share.parts
-    pub dropped : lane.share.dropped ≤ 2 ^ 47
+  pub record IsLaneReady (start count built : ℕ) (lane : Lane B S T H M K E g) : Type 0 where
+    pub parts : 0 < lane.share.share.parts
+    pub dropped : lane.share.share.dropped ≤ 2 ^ 47
     pub few : built ≤ 2 ^ 47
     pub empty : lane.made.items ≡ []
     pub first : start ≤ lane.before
     pub last : lane.last ≤ start + count
 
   -- lanes of which nothing is done, with the nodes from one number to another
-  abbrev pub AreFreshLanes : ℕ → ℕ → ℕ → List (Lane B H M K E g) → Type 0
+  abbrev pub AreFreshLanes : ℕ → ℕ → ℕ → List (Lane B S T H M K E g) → Type 0
   AreFreshLanes caller before last [] = before ≡ last
-  AreFreshLanes caller before last (lane ∷ lanes) = (lane.share ≡ fresh caller 1) × (lane.before ≡ before) × (before ≤ lane.last)
+  AreFreshLanes caller before last (lane ∷ lanes) = (lane.share.share ≡ fresh caller 1) × (lane.before ≡ before) × (before ≤ lane.last)
       × (lane.made.items ≡ []) × AreFreshLanes caller lane.last last lanes
 
   -- no lane has two nodes more than another: each has so many, or one more
-  abbrev pub AreEven : List (Lane B H M K E g) → Type 0
+  abbrev pub AreEven : List (Lane B S T H M K E g) → Type 0
   AreEven lanes = (least : ℕ) × All (λ lane. (lane.before + least ≤ lane.last) × (lane.last ≤ lane.before + least + 1)) lanes
 
   -- a lane was worked on: what came of its nodes, or of the first of them, and what was counted for it
-  pub record IsLaneDone (trees : List Formula) (lane lane' : Lane B H M K E g) (count count' : ℕ) : Type 0 where
+  pub record IsLaneDone (trees : List Formula) (lane lane' : Lane B S T H M K E g) (count count' : ℕ) : Type 0 where
     pub before : lane'.before ≡ lane.before
     pub last : lane'.last ≡ lane.last
     pub outcomes : AreOutcomes trees lane.before lane'.made.items
-    pub asked : AreAsked (IsComplete lane.before lane.last lane'.made.items) (joins_to trees lane.before) (joins_to trees lane.last) lane.share lane'.share count count'
+    pub asked : AreAsked (IsComplete lane.before lane.last lane'.made.items) (joins_to trees lane.before) (joins_to trees lane.last) lane.share.share lane'.share.share count count'
 
   -- a lane is worked on up to the number k, of which each node has an outcome
-  pub record IsLaneAt (trees : List Formula) (k : ℕ) (lane lane' : Lane B H M K E g) (count count' : ℕ) : Type 0 where
+  pub record IsLaneAt (trees : List Formula) (k : ℕ) (lane lane' : Lane B S T H M K E g) (count count' : ℕ) : Type 0 where
     pub before : lane'.before ≡ lane.before
     pub last : lane'.last ≡ lane.last
     pub outcomes : AreOutcomes trees lane.before lane'.made.items
     pub many : lane.before + length lane'.made.items ≡ k
-    pub asked : AreAsked (AreMade lane'.made.items) (joins_to trees lane.before) (joins_to trees k) lane.share lane'.share count count'
+    pub asked : AreAsked (AreMade lane'.made.items) (joins_to trees lane.before) (joins_to trees k) lane.share.share lane'.share.share count count'
 
   -- lanes with what came of their nodes, which are those from one number to another
-  abbrev pub AreLanes : List Formula → ℕ → ℕ → List (Lane B H M K E g) → Type 0
+  abbrev pub AreLanes : List Formula → ℕ → ℕ → List (Lane B S T H M K E g) → Type 0
   AreLanes trees before last [] = before ≡ last
   AreLanes trees before last (lane ∷ lanes) = (lane.before ≡ before) × AreOutcomes trees before lane.made.items × AreLanes trees lane.last last lanes
 
   -- each node of each lane has a solid
-  abbrev pub AreComplete : List (Lane B H M K E g) → Type 0
+  abbrev pub AreComplete : List (Lane B S T H M K E g) → Type 0
   AreComplete [] = Unit {0}
   AreComplete (lane ∷ lanes) = IsComplete lane.before lane.last lane.made.items × AreComplete lanes
 
   -- the shares of lanes are one caller's
-  abbrev pub AreOfCaller : ℕ → List (Lane B H M K E g) → Type 0
+  abbrev pub AreOfCaller : ℕ → List (Lane B S T H M K E g) → Type 0
   AreOfCaller caller [] = Unit {0}
-  AreOfCaller caller (lane ∷ lanes) = (lane.share.caller ≡ caller) × AreOfCaller caller lanes
+  AreOfCaller caller (lane ∷ lanes) = (lane.share.share.caller ≡ caller) × AreOfCaller caller lanes
 
   -- a share with those of the lanes
-  abbrev pub with_lanes : View → List (Lane B H M K E g) → View
+  abbrev pub with_lanes : View → List (Lane B S T H M K E g) → View
   with_lanes share [] = share
-  with_lanes share (lane ∷ lanes) = joined (with_lanes share lanes) lane.share
+  with_lanes share (lane ∷ lanes) = joined (with_lanes share lanes) lane.share.share

@@ -10,8 +10,8 @@ use crate::limits::MOST_OF_ALL;
 use bsp_boolean::{TreeStop, one_tree_more};
 use bsp_tree::Solid;
 use csg_tree::CsgStore;
+use flight_memo::FlightBooks;
 use std::sync::Arc;
-use subtree_memo::Books;
 
 /// What came of one node: its solid, or that it is above the limit of one.
 #[derive(Drop)]
@@ -80,7 +80,7 @@ impl<'a> Growth<'a> {
 
     /// Takes what came of the nodes of all lanes, in order of number. The first one that passes a limit
     /// decides.
-    pub fn take_lanes<B: Books>(
+    pub fn take_lanes<B: FlightBooks>(
         &mut self,
         before: u32,
         last: u32,

@@ -4,7 +4,7 @@ ghost use Rattle.bsp_tree.specs.Shapes.{tree_of};
 ghost use Rattle.bsp_boolean.specs.Merges.{merged};
 ghost use Rattle.bsp_boolean.specs.Solids.{solid_of, IsBuilt};
 ghost use Rattle.bsp_boolean.specs.TreeSolids.{most_of_one};
-ghost use Rattle.parallel_eval.specs.Joins.{IsJoinOf, Gives, HasRoom, AreAsked};
+ghost use Rattle.parallel_eval.specs.Joins.{IsJoinOf, Gives, AreBuilt, HasRoom, AreAsked};
 
 use crate::gate::Gate;
 use crate::limits::MOST_OF_ONE;
@@ -12,19 +12,19 @@ use crate::solid_fit::SolidFit;
 use bsp_boolean::{BuildStop, Builder};
 use bsp_tree::Solid;
 use csg_tree::{Op, TreeKey};
-use memo_core::{Namer, Probe};
+use flight_memo::{Claimed, Flight, FlightBooks, FlightShare};
+use memo_core::Namer;
 use std::alloc::Global;
 use std::sync::{Arc, Wait};
-use subtree_memo::{Books, Memo, Share};
 use text_place::NoMemory;
 
-/// What the builders of a tree's solids have in common: the memo that they ask, and the gate that each
+/// What the builders of a tree's solids have in common: the memo whose joins they claim, and the gate that each
 /// build enters.
 #[derive(Drop)]
-pub struct Builds<'a, N: Namer<TreeKey>, B: Books, G: Gate, R: Wait> {
+pub struct Builds<'a, N: Namer<TreeKey>, B: FlightBooks, G: Gate, R: Wait> {
     pub rt: &'a R,
     pub alloc: Global,
-    pub memo: &'a Memo<SolidFit, N, B>,
+    pub flight: &'a Flight<SolidFit, N, B>,
     pub gate: &'a G,
 }
 
@@ -38,30 +38,52 @@ pub struct JoinNode<'a> {
     pub right: &'a Solid,
 }
 
-impl<'a, N: Namer<TreeKey>, B: Books, G: Gate, R: Wait> Builds<'a, N, B, G, R> {
-    /// The solid of a join. It is asked of the memo; where it was missed, it is built and offered. `TooBig`
-    /// comes only where its size is above 50,000, and a solid only where it is not.
+impl<'a, N: Namer<TreeKey>, B: FlightBooks, G: Gate, R: Wait> Builds<'a, N, B, G, R> {
+    /// The solid of a join. It is claimed; where it was missed, it is built and offered, and the claim is finished, or given back
+    /// where there is no solid. `TooBig` comes only where its size is above 50,000, and a solid only where it is not.
     pub fn join_solid<D: Builder>(
         &self,
         node: JoinNode<'_>,
-        share: &mut Share<B>,
+        share: &mut FlightShare<B>,
         builder: &mut D,
     ) -> Result<Arc<Solid>, BuildStop>
         requires join { IsJoinOf node.op (tree_of node.left.now) (tree_of node.right.now)
             (arc_value node.key.now) }
-        requires room { HasRoom share.old (D.builds builder.old) }
+        requires room { HasRoom share.old.share (D.builds builder.old) }
         ensures solid { Gives (solid_of (arc_value node.entry.key.now)) result }
-        ensures asked { AreAsked (IsOk result) 0 1 share.old share.new (D.builds builder.old) (D.builds builder.new) }
+        ensures asked { AreAsked (IsOk result) 0 1 share.old.share share.new.share (D.builds builder.old) (D.builds builder.new) }
     {
-        if let Probe::Hit(solid) = self.memo.probe(self.rt, self.alloc, share, node.key)? {
-            return within(solid);
-        }
-        let solid = self.built(node, share.caller(), builder)?;
-        let weight = solid.count();
-        let (kept, given) = shared(self.alloc, solid)?;
-        self.memo
-            .fill(self.rt, self.alloc, share, node.key, given, weight);
+        let claim = match self.flight.claim(self.rt, self.alloc, share, node.key)? {
+            Claimed::Value(solid) => return within(solid),
+            Claimed::Mine(claim) => claim,
+        };
+        let (kept, given) = match self.built_twice(node, share.caller(), builder) {
+            Ok(made) => made,
+            Err(stop) => {
+                self.flight.give_back(self.rt, share, claim);
+                return Err(stop);
+            }
+        };
+        let weight = kept.count();
+        self.flight
+            .finish(self.rt, self.alloc, share, claim, given, weight);
         Ok(kept)
+    }
+
+    // Builds a join that was missed, once the gate lets it through, and shares it.
+    fn built_twice<D: Builder>(
+        &self,
+        node: JoinNode<'_>,
+        client: u32,
+        builder: &mut D,
+    ) -> Result<(Arc<Solid>, Arc<Solid>), BuildStop>
+        requires { D.builds builder.old < 2 ^ 48 }
+        ensures built { AreBuilt (merged node.entry.op (tree_of node.entry.left.now) (tree_of node.entry.right.now)) result }
+        ensures counted { OnOk result (D.builds builder.new ≡ D.builds builder.old + 1) }
+        ensures bounded { D.builds builder.new ≤ D.builds builder.old + 1 }
+    {
+        let solid = self.built(node, client, builder)?;
+        Ok(shared(self.alloc, solid)?)
     }
 
     // Builds a join that was missed, once the gate lets it through.

@@ -1,13 +1,13 @@
 ghost use Rattle.std.specs.Prelude.{◌+◌, ◌≤◌, length};
 
 use crate::growth::Outcome;
-use subtree_memo::{Books, Share};
+use flight_memo::{FlightBooks, FlightShare};
 
 /// The part of a run that one builder does: a share of its own, the nodes behind the first `before` ones
 /// up to the number `last`, and what came of them in order. Where that is less, memory ran out.
 #[derive(Drop)]
-pub struct Lane<B: Books> {
-    pub share: Share<B>,
+pub struct Lane<B: FlightBooks> {
+    pub share: FlightShare<B>,
     pub before: u32,
     pub last: u32,
     pub made: Vec<Outcome>,

@@ -20,16 +20,16 @@ use crate::solid_fit::SolidFit;
 use bsp_boolean::{BuildStop, Builder, leaf_solid, one_tree_more};
 use bsp_tree::Solid;
 use csg_tree::{CsgNode, TreeKey};
+use flight_memo::{FlightBooks, FlightShare};
 use memo_core::Namer;
 use pair_work::PairWork;
 use plane_predicate::Plane;
 use std::sync::{Arc, Wait};
-use subtree_memo::{Books, Share};
 use text_place::NoMemory;
 
 /// A run of nodes of a store, behind the first `start` ones, and over the solids of these.
 #[derive(Drop)]
-pub struct RunWork<'a, 'b, N: Namer<TreeKey>, B: Books, G: Gate, R: Wait> {
+pub struct RunWork<'a, 'b, N: Namer<TreeKey>, B: FlightBooks, G: Gate, R: Wait> {
     pub builds: Builds<'a, N, B, G, R>,
     pub store: &'a KnownStore,
     pub start: u32,
@@ -37,7 +37,7 @@ pub struct RunWork<'a, 'b, N: Namer<TreeKey>, B: Books, G: Gate, R: Wait> {
     pub nodes: &'a [CsgNode<'b>],
 }
 
-impl<'a, 'b, N: Namer<TreeKey>, B: Books, G: Gate, R: Wait, D: Builder> PairWork<D, Lane<B>>
+impl<'a, 'b, N: Namer<TreeKey>, B: FlightBooks, G: Gate, R: Wait, D: Builder> PairWork<D, Lane<B>>
     for RunWork<'a, 'b, N, B, G, R> {
     ghost ready = { λ w b lane. IsRunWork w.store.now w.start w.solids.now w.nodes.now
         × IsLaneReady w.start (length w.nodes.now) (D.builds b) lane };
@@ -49,7 +49,7 @@ impl<'a, 'b, N: Namer<TreeKey>, B: Books, G: Gate, R: Wait, D: Builder> PairWork
     }
 }
 
-impl<'a, 'b, N: Namer<TreeKey>, B: Books, G: Gate, R: Wait> RunWork<'a, 'b, N, B, G, R> {
+impl<'a, 'b, N: Namer<TreeKey>, B: FlightBooks, G: Gate, R: Wait> RunWork<'a, 'b, N, B, G, R> {
     // Does the nodes of a lane, one after another. It goes on behind one that is too big, since a lower
     // number may be so in another lane, and ends where memory runs out.
     fn do_lane<D: Builder>(&self, builder: &mut D, lane: &mut Lane<B>)
@@ -72,16 +72,16 @@ impl<'a, 'b, N: Namer<TreeKey>, B: Books, G: Gate, R: Wait> RunWork<'a, 'b, N, B
     fn outcome<D: Builder>(
         &self,
         number: u32,
-        share: &mut Share<B>,
+        share: &mut FlightShare<B>,
         builder: &mut D,
     ) -> Result<Outcome, NoMemory>
         requires run { IsRunWork self.now.store.now self.now.start self.now.solids.now self.now.nodes.now }
         requires number { (self.now.start < number) × (number ≤ self.now.start + length self.now.nodes.now) }
-        requires room { HasRoom share.old (D.builds builder.old) }
+        requires room { HasRoom share.old.share (D.builds builder.old) }
         ensures outcome { IfOk result (IsOutcome self.now.store.now number) }
         ensures asked { AreAsked (HasMade result) (joins_to self.now.store.now (number - 1))
             (joins_to self.now.store.now number)
-            share.old share.new (D.builds builder.old) (D.builds builder.new) }
+            share.old.share share.new.share (D.builds builder.old) (D.builds builder.new) }
     {
         match self.node_solid(number, share, builder) {
             Ok(solid) => Ok(Outcome::Made(solid)),
@@ -94,16 +94,16 @@ impl<'a, 'b, N: Namer<TreeKey>, B: Books, G: Gate, R: Wait> RunWork<'a, 'b, N, B
     fn node_solid<D: Builder>(
         &self,
         number: u32,
-        share: &mut Share<B>,
+        share: &mut FlightShare<B>,
         builder: &mut D,
     ) -> Result<Arc<Solid>, BuildStop>
         requires run { IsRunWork self.now.store.now self.now.start self.now.solids.now self.now.nodes.now }
         requires number { (self.now.start < number) × (number ≤ self.now.start + length self.now.nodes.now) }
-        requires room { HasRoom share.old (D.builds builder.old) }
+        requires room { HasRoom share.old.share (D.builds builder.old) }
         ensures solid { Gives (solid_of (tree_numbered self.now.store.now number)) result }
         ensures asked { AreAsked (IsOk result) (joins_to self.now.store.now (number - 1))
             (joins_to self.now.store.now number)
-            share.old share.new (D.builds builder.old) (D.builds builder.new) }
+            share.old.share share.new.share (D.builds builder.old) (D.builds builder.new) }
     {
         one_tree_more();
         match self.node(number) {

@@ -20,31 +20,32 @@ use crate::solid_fit::SolidFit;
 use bsp_boolean::{Builder, TreeStop as EvalStop, one_tree_more};
 use bsp_tree::Solid;
 use csg_tree::TreeKey;
+use flight_memo::{Flight, FlightBooks, FlightLedgers, FlightShare};
 use memo_core::Namer;
 use pair_work::work_each;
 use std::alloc::Global;
 use std::sync::ledger::Ledger;
 use std::sync::{Arc, Wait};
 use std::thread::Threads;
-use subtree_memo::{Books, Ledgers, Memo, MemoLedger, Share};
+use subtree_memo::MemoLedger;
 use text_place::NoMemory;
 
 // Divides the nodes behind the first `before` ones, up to the number `last`, evenly among at most so many
 // lanes. Each lane has a node at least. Where memory runs out, the share is as it was.
-fn deal<B: Books>(
+fn deal<B: FlightBooks>(
     alloc: Global,
-    share: &mut Share<B>,
+    share: &mut FlightShare<B>,
     before: u32,
     last: u32,
     builders: usize,
 ) -> Result<Vec<Lane<B>>, NoMemory>
     requires range { before < last }
     requires builders { (1 ≤ builders) × (builders ≤ 64) }
-    requires parts { builders < share.old.parts }
-    ensures lanes { IfOk result (λ v. AreFreshLanes share.old.caller before last v.items) }
+    requires parts { builders < share.old.share.parts }
+    ensures lanes { IfOk result (λ v. AreFreshLanes share.old.share.caller before last v.items) }
     ensures even { IfOk result (λ v. AreEven v.items) }
     ensures many { IfOk result (λ v. length v.items ≤ builders) }
-    ensures rest { IfOk result (λ v. share.new ≡ record share.old { parts = share.old.parts - length v.items }) }
+    ensures rest { IfOk result (λ v. share.new ≡ record share.old { share = record share.old.share { parts = share.old.share.parts - length v.items } }) }
     ensures err { OnErr result (share.new ≡ share.old) }
 {
     let nodes = last - before;
@@ -71,7 +72,12 @@ fn one_more(index: u32, longer: u32) -> u32
 }
 
 // A lane of which nothing is done.
-fn fresh_lane<B: Books>(alloc: Global, share: Share<B>, before: u32, last: u32) -> Lane<B>
+fn fresh_lane<B: FlightBooks>(
+    alloc: Global,
+    share: FlightShare<B>,
+    before: u32,
+    last: u32,
+) -> Lane<B>
     requires { before ≤ last }
     ensures share { result.share ≡ share }
     ensures range { (result.before ≡ before) × (result.last ≡ last) }
@@ -86,9 +92,9 @@ fn fresh_lane<B: Books>(alloc: Global, share: Share<B>, before: u32, last: u32) 
 }
 
 // Puts the shares of the lanes back.
-fn take_back<B: Books>(share: &mut Share<B>, mut lanes: Vec<Lane<B>>)
-    requires { AreOfCaller share.old.caller lanes.items }
-    ensures { share.new ≡ with_lanes share.old lanes.items }
+fn take_back<B: FlightBooks>(share: &mut FlightShare<B>, mut lanes: Vec<Lane<B>>)
+    requires { AreOfCaller share.old.share.caller lanes.items }
+    ensures { share.new.share ≡ with_lanes share.old.share lanes.items }
 {
     while let Some(lane) = lanes.pop() {
         let Lane { share: part, .. } = lane;
@@ -103,22 +109,24 @@ fn work_lanes<
     M: Ledger + Send + Sync,
     K: Ledger + Send + Sync,
     E: Ledger + Send + Sync,
+    S: Ledger + Send + Sync,
+    T: Ledger + Send + Sync,
     D: Builder + Send,
     G: Gate + Sync,
     R: Threads + Wait + Sync,
 >(
-    work: &RunWork<'_, '_, N, Ledgers<H, M, K, E>, G, R>,
-    share: &mut Share<Ledgers<H, M, K, E>>,
+    work: &RunWork<'_, '_, N, FlightLedgers<H, M, K, E, S, T>, G, R>,
+    share: &mut FlightShare<FlightLedgers<H, M, K, E, S, T>>,
     builders: &mut [D],
-) -> Result<Vec<Lane<Ledgers<H, M, K, E>>>, NoMemory>
+) -> Result<Vec<Lane<FlightLedgers<H, M, K, E, S, T>>>, NoMemory>
     requires run { IsRunWork work.now.store.now work.now.start work.now.solids.now work.now.nodes.now }
-    requires ready { AreReady D.builds (joins_to work.now.store.now work.now.start) share.old builders.old }
+    requires ready { AreReady D.builds (joins_to work.now.store.now work.now.start) share.old.share builders.old }
     ensures lanes { IfOk result (λ v. AreLanes work.now.store.now work.now.start
         (work.now.start + length work.now.nodes.now) v.items) }
-    ensures caller { IfOk result (λ v. AreOfCaller share.new.caller v.items) }
+    ensures caller { IfOk result (λ v. AreOfCaller share.new.share.caller v.items) }
     ensures asked { IfOk result (λ v. AreAsked (AreComplete v.items) (joins_to work.now.store.now work.now.start)
         (joins_to work.now.store.now (work.now.start + length work.now.nodes.now))
-        share.old (with_lanes share.new v.items) (sum_by D.builds builders.old) (sum_by D.builds builders.new)) }
+        share.old.share (with_lanes share.new.share v.items) (sum_by D.builds builders.old) (sum_by D.builds builders.new)) }
     ensures counts { OnOk result (AreAtMost D.builds
         (2 ^ 46 + joins_to work.now.store.now (work.now.start + length work.now.nodes.now)) builders.new) }
     ensures many { length builders.new ≡ length builders.old }
@@ -140,27 +148,29 @@ fn run<
     M: Ledger + Send + Sync,
     K: Ledger + Send + Sync,
     E: Ledger + Send + Sync,
+    S: Ledger + Send + Sync,
+    T: Ledger + Send + Sync,
     D: Builder + Send,
     G: Gate + Sync,
     R: Threads + Wait + Sync,
 >(
-    builds: &Builds<'_, N, Ledgers<H, M, K, E>, G, R>,
+    builds: &Builds<'_, N, FlightLedgers<H, M, K, E, S, T>, G, R>,
     store: &KnownStore,
     before: u32,
     growth: &mut Growth<'_>,
-    share: &mut Share<Ledgers<H, M, K, E>>,
+    share: &mut FlightShare<FlightLedgers<H, M, K, E, S, T>>,
     builders: &mut [D],
 ) -> Result<u32, EvalStop>
     requires growing { IsGrowing store.now before growth.old × (before < length store.now) }
-    requires ready { AreReady D.builds (joins_to store.now before) share.old builders.old }
+    requires ready { AreReady D.builds (joins_to store.now before) share.old.share builders.old }
     ensures growing { IfOk result (λ last. IsGrowing store.now last growth.new × (before < last)) }
-    ensures ready { IfOk result (λ last. AreReady D.builds (joins_to store.now last) share.new builders.new) }
+    ensures ready { IfOk result (λ last. AreReady D.builds (joins_to store.now last) share.new.share builders.new) }
     ensures asked { IfOk result (λ last. AreAsked (IsOk result) (joins_to store.now before)
         (joins_to store.now last)
-        share.old share.new (sum_by D.builds builders.old) (sum_by D.builds builders.new)) }
+        share.old.share share.new.share (sum_by D.builds builders.old) (sum_by D.builds builders.new)) }
     ensures stopped { OnErr result (AreAsked (IsOk result) (joins_to store.now before)
         (joins store.now)
-        share.old share.new (sum_by D.builds builders.old) (sum_by D.builds builders.new)) }
+        share.old.share share.new.share (sum_by D.builds builders.old) (sum_by D.builds builders.new)) }
     ensures stop { IfErr result (IsTreeStop store.now) }
 {
     let nodes = run_nodes(builds.alloc, store.store(), before)?;
@@ -169,7 +179,7 @@ fn run<
         builds: Builds {
             rt: builds.rt,
             alloc: builds.alloc,
-            memo: builds.memo,
+            flight: builds.flight,
             gate: builds.gate,
         },
         store,
@@ -191,6 +201,8 @@ fn solids_of<
     M: Ledger + Send + Sync,
     K: Ledger + Send + Sync,
     E: Ledger + Send + Sync,
+    S: Ledger + Send + Sync,
+    T: Ledger + Send + Sync,
     D: Builder + Send,
     G: Gate + Sync,
     R: Threads + Wait + Sync,
@@ -198,25 +210,25 @@ fn solids_of<
     rt: &R,
     alloc: Global,
     store: &KnownStore,
-    memo: &Memo<SolidFit, N, Ledgers<H, M, K, E>>,
-    share: &mut Share<Ledgers<H, M, K, E>>,
+    flight: &Flight<SolidFit, N, FlightLedgers<H, M, K, E, S, T>>,
+    share: &mut FlightShare<FlightLedgers<H, M, K, E, S, T>>,
     builders: &mut [D],
     gate: &G,
 ) -> Result<Vec<Arc<Solid>>, EvalStop>
     requires some { 0 < length store.now }
-    requires ready { AreReady D.builds 0 share.old builders.old }
+    requires ready { AreReady D.builds 0 share.old.share builders.old }
     ensures solids { IfOk result (λ v. shared_solids v.items ≡ map solids.solid_of store.now) }
     ensures within { OnOk result (AreWithin store.now) }
     ensures stop { IfErr result (IsTreeStop store.now) }
     ensures asked { AreAsked (IsOk result) 0 (joins store.now)
-        share.old share.new (sum_by D.builds builders.old) (sum_by D.builds builders.new) }
+        share.old.share share.new.share (sum_by D.builds builders.old) (sum_by D.builds builders.new) }
     ensures few { joins store.now < 2 ^ 32 }
 {
     one_tree_more();
     let builds = Builds {
         rt,
         alloc,
-        memo,
+        flight,
         gate,
     };
     let nodes = store.store();
@@ -234,7 +246,7 @@ fn solids_of<
 
 /// The solid of the last node of a store, for 1 to 64 builders. Nodes are done in order of number, in runs
 /// of at most 64 of which none is over another; the nodes of a run are divided evenly among the builders,
-/// which work at the same time. Each join is asked of the memo; where it was missed, it is built and
+/// which work at the same time. Each join is claimed; where it was missed, it is built and
 /// offered. A leaf whose solid the store does not know is made without the memo; afterwards the store knows
 /// the solids of its leaves, as far as 2 MiB go. `TooBig` and `SumTooBig` come exactly at the first node that
 /// passes a limit.
@@ -244,6 +256,8 @@ pub fn solid_of<
     M: Ledger + Send + Sync,
     K: Ledger + Send + Sync,
     E: Ledger + Send + Sync,
+    S: Ledger + Send + Sync,
+    T: Ledger + Send + Sync,
     D: Builder + Send,
     G: Gate + Sync,
     R: Threads + Wait + Sync,
@@ -251,22 +265,22 @@ pub fn solid_of<
     rt: &R,
     alloc: Global,
     store: &mut KnownStore,
-    memo: &Memo<SolidFit, N, Ledgers<H, M, K, E>>,
-    share: &mut Share<Ledgers<H, M, K, E>>,
+    flight: &Flight<SolidFit, N, FlightLedgers<H, M, K, E, S, T>>,
+    share: &mut FlightShare<FlightLedgers<H, M, K, E, S, T>>,
     builders: &mut [D],
     gate: &G,
 ) -> Result<Arc<Solid>, EvalStop>
     requires some { 0 < length store.old }
-    requires ready { AreReady D.builds 0 share.old builders.old }
+    requires ready { AreReady D.builds 0 share.old.share builders.old }
     ensures solid { IfOk result (λ s. tree_of (arc_value s) ≡ solids.solid_of (tree_numbered store.old (length store.old))) }
     ensures within { OnOk result (AreWithin store.old) }
     ensures stop { IfErr result (IsTreeStop store.old) }
     ensures asked { AreAsked (IsOk result) 0 (joins store.old)
-        share.old share.new (sum_by D.builds builders.old) (sum_by D.builds builders.new) }
+        share.old.share share.new.share (sum_by D.builds builders.old) (sum_by D.builds builders.new) }
     ensures few { joins store.old < 2 ^ 32 }
     ensures store { store.new ≡ store.old }
 {
-    let mut solids = solids_of(rt, alloc, store, memo, share, builders, gate)?;
+    let mut solids = solids_of(rt, alloc, store, flight, share, builders, gate)?;
     store.keep(alloc, &solids);
     Ok(solids.pop().unwrap())
 }

@@ -10,6 +10,7 @@ use Rattle.bsp_tree.specs.Shapes.{SolidParts}
 use Rattle.memo_core.specs.Memo.{Entry, Mark, itself, owned}
 use Rattle.memo_core.specs.Views.{mark_in, marks}
 use Rattle.subtree_memo.specs.Shares.{View, fresh, opened, parts_each, offered_of}
+use Rattle.flight_memo.specs.Shares.{FlightView, opened_flights}
 use Rattle.script_server.specs.Books.{weights_of}
 
 -- what an owner's entries weigh, by their marks alone
@@ -26,12 +27,12 @@ one_weight_more n weight es weights before next =
     rw add-one (ap (λ ws. ws ++ weight ∷ []) before ∙ ap (λ w. weights_of n (marks es) ++ w ∷ []) (next ∙ sym (owned_marks n es)))
 
 -- shares with all parts that a caller is given
-pub parts_in_all : (shares : List View) → All (λ s. s.parts ≡ parts_each) shares → sum_by (λ s. s.parts) shares ≡ parts_each * length shares
+pub parts_in_all : (shares : List FlightView) → All (λ s. s.share.parts ≡ parts_each) shares → sum_by (λ s. s.share.parts) shares ≡ parts_each * length shares
 parts_in_all [] whole = refl
 parts_in_all (s ∷ ss) whole =
-    let rest = parts_in_all ss (All-tail (λ x. x.parts ≡ parts_each) s ss whole) in
-    let own = All-head (λ x. x.parts ≡ parts_each) s ss whole in
-    omega (arith, sum_by-cons (λ (x : View). x.parts) s ss, rest, own)
+    let rest = parts_in_all ss (All-tail (λ (x : FlightView). x.share.parts ≡ parts_each) s ss whole) in
+    let own = All-head (λ (x : FlightView). x.share.parts ≡ parts_each) s ss whole in
+    omega (arith, sum_by-cons (λ (x : FlightView). x.share.parts) s ss, rest, own)
 
 -- what a memo gives its callers at first
 pub all_opened : (n : ℕ) → All (λ s. (s.parts ≡ parts_each) × (offered_of s ≡ 0)) (opened n)
@@ -44,6 +45,15 @@ pub opened_many : (n : ℕ) → length (opened n) ≡ n
 opened_many zero = refl
 opened_many (suc n) = omega (arith, length-append (opened n) (fresh n parts_each ∷ []), opened_many n)
 
+-- the memo's part of shares that are opened with their claims
+memo_shares_of : (shares : List View) → map (λ (s : FlightView). s.share) (opened_flights shares) ≡ shares
+memo_shares_of [] = refl
+memo_shares_of (s ∷ ss) = ap (λ rest. s ∷ rest) (memo_shares_of ss)
+
+pub memo_opened : (n : ℕ) (shares : List View) (flights : List FlightView) → shares ≡ opened n → flights ≡ opened_flights shares →
+    map (λ (s : FlightView). s.share) flights ≡ opened n
+memo_opened n shares flights first all = ap (map (λ (s : FlightView). s.share)) all ∙ memo_shares_of shares ∙ first
+
 -- all that is left where all were written over
 pub written_over : {A : Type 0} (n : ℕ) (new old : List A) → n ≡ length new → take n (new ++ drop (length new) old) ≡ new
 written_over n new old same = ap (λ k. take k (new ++ drop (length new) old)) same ∙ take-append_seam new (drop (length new) old)
@@ -51,6 +61,9 @@ written_over n new old same = ap (λ k. take k (new ++ drop (length new) old)) s
 -- lists that are read item by item
 pub mapped_many : {A B : Type 0} (f : A → B) (xs : List A) (ys : List B) → map f xs ≡ ys → length xs ≡ length ys
 mapped_many f xs ys e = sym (length-map xs f) ∙ ap length e
+
+pub mapped_same : {A B C : Type 0} (f : A → B) (g : C → B) (xs : List A) (ys : List C) → map f xs ≡ map g ys → length xs ≡ length ys
+mapped_same f g xs ys e = mapped_many f xs (map g ys) e ∙ length-map ys g
 
 composed : {A B C : Type 0} (f : A → B) (g : B → C) (xs : List A) → map (λ x. g (f x)) xs ≡ map g (map f xs)
 composed f g [] = refl
@@ -62,6 +75,16 @@ mapped_twice f g xs ys zs e h = composed f g xs ∙ ap (map g) e ∙ h
 -- a list that is read item by item, with one item more
 pub mapped_push : {A B : Type 0} (f : A → B) (xs : List A) (x : A) (ys : List B) (y : B) → map f xs ≡ ys → f x ≡ y → map f (xs ++ x ∷ []) ≡ ys ++ y ∷ []
 mapped_push f xs x ys y e h = map-append f xs (x ∷ []) ∙ ap (λ l. l ++ f x ∷ []) e ∙ ap (λ z. ys ++ z ∷ []) h
+
+-- two lists that are read item by item to one, with one item more each
+pub mapped_alike : {A B C : Type 0} (f : A → B) (g : C → B) (xs : List A) (x : A) (ys : List C) (y : C) → map f xs ≡ map g ys → f x ≡ g y →
+    map f (xs ++ x ∷ []) ≡ map g (ys ++ y ∷ [])
+mapped_alike f g xs x ys y e h = mapped_push f xs x (map g ys) (g y) e h ∙ sym (map-append g ys (y ∷ []))
+
+-- what holds of all that is read of a list
+pub all_read : {A B : Type 0} (f : A → B) (P : B → Type 0) (xs : List A) → All P (map f xs) → All (λ x. P (f x)) xs
+all_read f P [] all = All-nil (λ x. P (f x))
+all_read f P (x ∷ xs) all = All-cons (λ y. P (f y)) x xs (All-head P (f x) (map f xs) all) (all_read f P xs (All-tail P (f x) (map f xs) all))
 
 pub All_push : {A : Type 0} (P : A → Type 0) (xs : List A) (x : A) → All P xs → P x → All P (xs ++ x ∷ [])
 All_push P xs x all here = All-append P xs (x ∷ []) all (All-cons P x [] here (All-nil P))

@@ -18,6 +18,7 @@ use crate::export::{reply, tree_of};
 use bsp_boolean::PlainBuilder;
 use bsp_tree::Solid;
 use csg_tree::{CsgStore, CsgTree, TreeKey};
+use flight_memo::{FlightBooks, FlightLedgers, FlightShare};
 use memo_core::Namer;
 use parallel_eval::{Builds, EvalStop, Gate, KnownStore, solid_of};
 use plane_predicate::Unit;
@@ -28,32 +29,32 @@ use std::marker::Model;
 use std::sync::ledger::Ledger;
 use std::sync::{Arc, Wait};
 use std::thread::Threads;
-use subtree_memo::{Books, Ledgers, MemoLedger, Share};
+use subtree_memo::MemoLedger;
 use text_place::{NoMemory, Stop};
 use tree_export::{Exported, export_made, last_nodes_are_trees, nodes_of_tree, solid_of_nothing};
 
-/// What one client has of its own: its share of the memo's books, how many builders it has, how often a solid was
-/// asked for, and the store for which it was asked last.
+/// What one client has of its own: its share of the books of the memo and its claims, how many builders it has, how often a
+/// solid was asked for, and the store for which it was asked last.
 #[derive(Drop)]
-pub struct Client<B: Books> {
-    share: Share<B>,
+pub struct Client<B: FlightBooks> {
+    share: FlightShare<B>,
     workers: u64,
     asked: u32,
     last: Option<KnownStore>,
 }
 
-impl<B: Books> Model for Client<B> {
+impl<B: FlightBooks> Model for Client<B> {
     ghost use Rattle.std.specs.Prelude.{◌≡◌, ◌*◌, ◌^◌, ◌≤◌};
     ghost use Rattle.subtree_memo.specs.Shares.{parts_each, offered_of};
     ghost use Rattle.script_server.specs.Clients.{ClientBooks};
 
     ghost Value = { ClientBooks };
 
-    ghost view = { λ c. record { asked = c.asked; share = c.share } };
+    ghost view = { λ c. record { asked = c.asked; share = c.share.share } };
 
     ghost invariant = { λ c. (1 ≤ c.workers) × (c.workers ≤ 64)
-        × (c.share.parts ≡ parts_each) × (c.share.dropped ≤ c.asked * 2 ^ 32)
-        × (offered_of c.share ≤ c.share.misses) };
+        × (c.share.share.parts ≡ parts_each) × (c.share.share.dropped ≤ c.asked * 2 ^ 32)
+        × (offered_of c.share.share ≤ c.share.share.misses) };
 }
 
 /// What counts how often a solid was asked for, and has a share of a memo's books.
@@ -61,7 +62,7 @@ pub trait Booking {
     ghost books: { Self → ClientBooks };
 }
 
-impl<B: Books> Booking for Client<B> {
+impl<B: FlightBooks> Booking for Client<B> {
     ghost books = { λ client. client };
 }
 
@@ -77,12 +78,12 @@ fn builders(alloc: Global, count: u64) -> Result<Vec<PlainBuilder>, NoMemory>
     Ok(builders)
 }
 
-impl<B: Books> Client<B> {
+impl<B: FlightBooks> Client<B> {
     /// A client for which no solid was asked yet, with 1 to 64 builders and a share on which no fill is booked.
-    pub fn new(share: Share<B>, workers: u64) -> Self
+    pub fn new(share: FlightShare<B>, workers: u64) -> Self
         requires workers { (1 ≤ workers) × (workers ≤ 64) }
-        requires share { (share.parts ≡ parts_each) × (offered_of share ≡ 0) }
-        ensures { result ≡ record { asked = 0; share = share } }
+        requires share { (share.share.parts ≡ parts_each) × (offered_of share.share ≡ 0) }
+        ensures { result ≡ record { asked = 0; share = share.share } }
     {
         Client {
             share,
@@ -100,10 +101,10 @@ impl<B: Books> Client<B> {
     }
 
     /// The client's share of the books.
-    pub fn into_share(self) -> Share<B>
-        ensures share { result ≡ self.share }
-        ensures whole { result.parts ≡ parts_each }
-        ensures offered { offered_of result ≤ result.misses }
+    pub fn into_share(self) -> FlightShare<B>
+        ensures share { result.share ≡ self.share }
+        ensures whole { result.share.parts ≡ parts_each }
+        ensures offered { offered_of result.share ≤ result.share.misses }
     {
         let Client { share, .. } = self;
         share
@@ -132,11 +133,13 @@ fn solid_for<
     M: Ledger + Send + Sync,
     K: Ledger + Send + Sync,
     E: Ledger + Send + Sync,
+    S: Ledger + Send + Sync,
+    T: Ledger + Send + Sync,
     G: Gate + Sync,
     R: Threads + Wait + Sync,
 >(
-    builds: &Builds<'a, N, Ledgers<H, M, K, E>, G, R>,
-    client: &mut Client<Ledgers<H, M, K, E>>,
+    builds: &Builds<'a, N, FlightLedgers<H, M, K, E, S, T>, G, R>,
+    client: &mut Client<FlightLedgers<H, M, K, E, S, T>>,
     store: Arc<CsgStore>,
 ) -> Result<Arc<Solid>, EvalStop>
     requires some { 0 < length (arc_value store) }
@@ -155,7 +158,7 @@ fn solid_for<
         builds.rt,
         builds.alloc,
         &mut store,
-        builds.memo,
+        builds.flight,
         &mut client.share,
         &mut builders,
         builds.gate,
@@ -172,11 +175,13 @@ fn exported<
     M: Ledger + Send + Sync,
     K: Ledger + Send + Sync,
     E: Ledger + Send + Sync,
+    S: Ledger + Send + Sync,
+    T: Ledger + Send + Sync,
     G: Gate + Sync,
     R: Threads + Wait + Sync,
 >(
-    builds: &Builds<'a, N, Ledgers<H, M, K, E>, G, R>,
-    client: &mut Client<Ledgers<H, M, K, E>>,
+    builds: &Builds<'a, N, FlightLedgers<H, M, K, E, S, T>, G, R>,
+    client: &mut Client<FlightLedgers<H, M, K, E, S, T>>,
     unit: Unit,
     tree: &CsgTree,
 ) -> Result<Exported, NoMemory>
@@ -205,11 +210,13 @@ pub fn export_source<
     M: Ledger + Send + Sync,
     K: Ledger + Send + Sync,
     E: Ledger + Send + Sync,
+    S: Ledger + Send + Sync,
+    T: Ledger + Send + Sync,
     G: Gate + Sync,
     R: Threads + Wait + Sync,
 >(
-    builds: &Builds<'a, N, Ledgers<H, M, K, E>, G, R>,
-    client: &mut Client<Ledgers<H, M, K, E>>,
+    builds: &Builds<'a, N, FlightLedgers<H, M, K, E, S, T>, G, R>,
+    client: &mut Client<FlightLedgers<H, M, K, E, S, T>>,
     unit: Unit,
     source: &[u8],
 ) -> Result<Reply, NoMemory>

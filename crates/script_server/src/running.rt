@@ -1,4 +1,4 @@
-//! The clients of a script at the same time, over one memo that they share.
+//! The clients of a script at the same time, over one memo that they share, whose missing keys they claim.
 
 ghost use Rattle.std.specs.Prelude.{◌≡◌, ◌<◌, ◌≤◌, max, [], All, length, map, vec_capacity, IfOk};
 ghost use Rattle.csg_tree.specs.TreeKeys.{name_of};
@@ -10,6 +10,7 @@ ghost use Rattle.script_server.specs.Clients.{ExportsFor};
 
 use crate::exporter::{Client, ClientExporter, export_source};
 use csg_tree::TreeKey;
+use flight_memo::{Flight, FlightBlanks, FlightBooks, FlightLedgers, FlightShare};
 use memo_core::{MemoCore, Namer};
 use parallel_eval::{Builds, Gate, OpenGate, ShaNamer, SolidFit};
 use plane_predicate::Unit;
@@ -20,7 +21,7 @@ use std::marker::Brand;
 use std::sync::Wait;
 use std::sync::ledger::Ledger;
 use std::thread::Threads;
-use subtree_memo::{Blanks, Books, Ledgers, Memo, MemoLedger, Share, Tally};
+use subtree_memo::{Blanks, Memo, MemoLedger, Tally};
 use text_place::NoMemory;
 
 /// What came of a script: the replies to the commands of each client, in the clients' order, and the memo at the end with
@@ -49,15 +50,15 @@ pub fn weights(
 }
 
 // The clients of callers with these fresh shares, in the order of their numbers.
-fn clients_of<B: Books>(
+fn clients_of<B: FlightBooks>(
     alloc: Global,
     workers: u64,
-    shares: Vec<Share<B>>,
+    shares: Vec<FlightShare<B>>,
 ) -> Result<Vec<Client<B>>, NoMemory>
     requires workers { (1 ≤ workers) × (workers ≤ 64) }
-    requires fresh { All (λ s. (s.parts ≡ parts_each) × (offered_of s ≡ 0)) shares.items }
-    requires order { shares.items ≡ opened (length shares.items) }
-    ensures shares { IfOk result (λ v. map (λ c. c.share) v.items ≡ shares.items) }
+    requires fresh { All (λ s. (s.share.parts ≡ parts_each) × (offered_of s.share ≡ 0)) shares.items }
+    requires order { map (λ s. s.share) shares.items ≡ opened (length shares.items) }
+    ensures shares { IfOk result (λ v. map (λ c. c.share) v.items ≡ map (λ s. s.share) shares.items) }
     ensures unasked { IfOk result (λ v. All (λ c. c.asked ≡ 0) v.items) }
 {
     let mut clients = Vec::with_capacity(alloc, shares.len())?;
@@ -68,7 +69,7 @@ fn clients_of<B: Books>(
 }
 
 // The exporters of clients, which all export so.
-fn exporters_of<B: Books, F: Copy + Drop>(
+fn exporters_of<B: FlightBooks, F: Copy + Drop>(
     alloc: Global,
     clients: Vec<Client<B>>,
     export: F,
@@ -85,14 +86,14 @@ fn exporters_of<B: Books, F: Copy + Drop>(
 }
 
 // The shares of exporters, in room that is given for them.
-fn shares_of<B: Books, F: Drop>(
+fn shares_of<B: FlightBooks, F: Drop>(
     exporters: Vec<ClientExporter<Client<B>, F>>,
-    room: Vec<Share<B>>,
-) -> Vec<Share<B>>
+    room: Vec<FlightShare<B>>,
+) -> Vec<FlightShare<B>>
     requires empty { room.items ≡ [] }
     requires room { length exporters.items ≤ vec_capacity room }
-    ensures shares { result.items ≡ map (λ e. e.client.share) exporters.items }
-    ensures whole { All (λ s. (s.parts ≡ parts_each) × (offered_of s ≤ s.misses)) result.items }
+    ensures shares { map (λ s. s.share) result.items ≡ map (λ e. e.client.share) exporters.items }
+    ensures whole { All (λ s. (s.share.parts ≡ parts_each) × (offered_of s.share ≤ s.share.misses)) result.items }
 {
     let mut shares = room;
     for exporter in exporters {
@@ -109,6 +110,8 @@ fn run_over<
     M: Ledger + Send + Sync,
     K: Ledger + Send + Sync,
     E: Ledger + Send + Sync,
+    S: Ledger + Send + Sync,
+    T: Ledger + Send + Sync,
     G: Gate + Sync,
     R: Threads + Wait + Sync,
 >(
@@ -116,6 +119,7 @@ fn run_over<
     alloc: Global,
     core: MemoCore<SolidFit, N>,
     blanks: Blanks,
+    claims: FlightBlanks,
     gate: &G,
     workers: u64,
     unit: Unit,
@@ -123,35 +127,38 @@ fn run_over<
 ) -> Result<Ran<N>, NoMemory>
     requires within { AreWithin script.now.clients }
     requires workers { (1 ≤ workers) × (workers ≤ 64) }
-    requires callers { blanks.callers ≡ max (length script.now.clients) 1 }
+    requires callers { (blanks.callers ≡ max (length script.now.clients) 1) × (claims.callers ≡ blanks.callers) }
     requires empty { core.journal ≡ [] }
     requires limits { (core.budget ≡ H.budget) × (core.share ≡ H.share) × (blanks.callers ≡ H.callers) }
     requires ledgers { IsOf H.name H.parts blanks.hits × IsOf M.name M.parts blanks.misses
         × IsOf K.name K.parts blanks.kept × IsOf E.name E.parts blanks.heavy }
+    requires claims { IsOf S.name S.parts claims.begun × IsOf T.name T.parts claims.ended }
     ensures { IfOk result (λ ran. IsRunOf unit script.now.clients core.budget core.share N.name_of
         ran.replies.items ran.tally ran.core) }
 {
-    let (memo, shares) = Memo::<SolidFit, N, Ledgers<H, M, K, E>>::open(alloc, core, blanks)?;
+    let (memo, shares) = Memo::<SolidFit, N, FlightLedgers<H, M, K, E, S, T>>::open(
+        alloc, core, blanks,
+    )?;
+    let (flight, shares) = Flight::open(alloc, SolidFit, memo, shares, claims)?;
     let room = Vec::with_capacity(alloc, shares.len())?;
     let clients = clients_of(alloc, workers, shares)?;
     let builds = Builds {
         rt,
         alloc,
-        memo: &memo,
+        flight: &flight,
         gate,
     };
     let lent = &builds;
-    let export = |client: &mut Client<Ledgers<H, M, K, E>>, unit: Unit, source: &[u8],| -> Result<
-        Reply,
-        NoMemory,
-    >
+    let export = |client: &mut Client<
+        FlightLedgers<H, M, K, E, S, T>,
+    >, unit: Unit, source: &[u8],| -> Result<Reply, NoMemory>
         requires { (length source.now ≤ 4198400) × (client.now.asked < 8192) }
         ensures { ExportsFor unit source.now result client.entry.now client.exit.now }
     { export_source(lent, client, unit, source) };
     let mut exporters = exporters_of(alloc, clients, export)?;
     let replies = script_run::run_script(rt, alloc, &mut exporters, unit, script)?;
     let shares = shares_of(exporters, room);
-    let (tally, core) = memo.close(shares);
+    let (tally, core, _claims) = flight.close(shares);
     Ok(Ran {
         replies,
         tally,
@@ -181,15 +188,10 @@ pub fn run_named<N: Namer<TreeKey> + Send + Sync, G: Gate + Sync, R: Threads + W
     // A memo has at least one caller.
     let callers = script.clients.items().len().max(1) as u32;
     let core = MemoCore::new(alloc, SolidFit, namer, memo, share)?;
-    run_over::<N, Brand, Brand, Brand, Brand, G, R>(
-        rt,
-        alloc,
-        core,
-        Blanks::new(callers),
-        gate,
-        workers,
-        unit,
-        script,
+    let blanks = Blanks::new(callers);
+    let claims = FlightBlanks::beside(&blanks);
+    run_over::<N, Brand, Brand, Brand, Brand, Brand, Brand, G, R>(
+        rt, alloc, core, blanks, claims, gate, workers, unit, script,
     )
 }
 

@@ -86,6 +86,17 @@ fn each_share_is_its_clients(rt: HostRuntime) {
     assert!(&rt; ends(&rt, alloc, line, &script, end));
 }
 
+// Two clients have one plate: what one of them misses and builds, the other one finds.
+#[test]
+fn a_join_of_two_clients_is_built_once(rt: HostRuntime) {
+    let alloc = rt.alloc();
+    let script = script_of(&rt, alloc, &["a", "b"], &PLATE, 1);
+    let end = "\ntally probes 4 hits 2 misses 2 offered 2 kept 2 heavy 0 dropped 0 evicted 0\n";
+    for line in ["run --workers 1 --tally", "run --workers 8 --tally"] {
+        assert!(&rt; ends(&rt, alloc, line, &script, end), "at {line}");
+    }
+}
+
 // Combs of 30 boxes each of three directions, which meet in 27,000 cubes.
 const COMBS: [&str; 5] = [
     "intersection() {",

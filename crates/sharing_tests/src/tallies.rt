@@ -183,15 +183,17 @@ fn clients_are_told_the_same_whatever_the_memo(rt: HostRuntime) {
     }
 }
 
-// Sixteen clients with one source of 300 joins each.
+const SIXTEEN: [&str; 16] = [
+    "a", "b", "c", "d", "e", "f", "g", "h", "i", "j", "k", "l", "m", "n", "o", "p",
+];
+
+// Sixteen clients with one source of 300 joins each. A join is missed by who asks for it first, and the others wait for
+// that build.
 #[test]
 fn equal_clients_share_what_one_of_them_built(rt: HostRuntime) {
     let alloc = rt.alloc();
-    let names = [
-        "a", "b", "c", "d", "e", "f", "g", "h", "i", "j", "k", "l", "m", "n", "o", "p",
-    ];
     let line = "for (i=[1:301]) translate([2*i,0,0]) cube(1);";
-    let script = script_of(&rt, alloc, &names, &[line], 1);
+    let script = script_of(&rt, alloc, &SIXTEEN, &[line], 1);
     let finished = run(
         &rt,
         alloc,
@@ -200,11 +202,34 @@ fn equal_clients_share_what_one_of_them_built(rt: HostRuntime) {
         sizes(4, 500_000, 0),
         &script,
     );
-    assert_eq!(&rt; finished.tally.probes, 4800);
-    assert!(&rt; finished.tally.misses < 4800);
+    assert_eq!(&rt;
+        numbers(finished.tally),
+        [4800, 4500, 300, 300, 300, 0, 0, 0]
+    );
     let text = last_told(&rt, &finished, 0, 0);
     assert!(&rt; text.starts_with(b"4OFF\n2408 1806 0\n".as_slice()));
     for client in 1..16 {
         assert_eq!(&rt; last_told(&rt, &finished, client, 0), text);
+    }
+}
+
+// Sixteen clients with one join. Where its one build is let through, it is there for all; where none is, each in turn claims the
+// join, is refused and gives it back.
+#[test]
+fn clients_that_wait_for_a_build_are_answered(rt: HostRuntime) {
+    let alloc = rt.alloc();
+    let script = script_of(&rt, alloc, &SIXTEEN, &[FIRST], 1);
+    for (most, is_solid, counts) in [
+        (1, true, [16, 15, 1, 1, 1, 0, 0, 0]),
+        (0, false, [16, 0, 16, 0, 0, 0, 0, 0]),
+    ] {
+        let gate = Refusing::new(most);
+        let finished = run(&rt, alloc, ShaNamer, &gate, sizes(1, 500_000, 0), &script);
+        for client in 0..16 {
+            let told = last_told(&rt, &finished, client, 0);
+            assert_eq!(&rt; told.starts_with(b"4OFF\n16 12 0\n".as_slice()), is_solid);
+            assert_eq!(&rt; told == b"nomem".as_slice(), !is_solid);
+        }
+        assert_eq!(&rt; numbers(finished.tally), counts);
     }
 }

@@ -14,3 +14,9 @@ ghosts-run-K-Ledger g a = record { name = a.blanks.kept.name; parts = a.blanks.k
 
 abbrev pub ghosts-run-E-Ledger : goal.ghosts-run-E-Ledger
 ghosts-run-E-Ledger g a = record { name = a.blanks.heavy.name; parts = a.blanks.heavy.parts }
+
+abbrev pub ghosts-run-S-Ledger : goal.ghosts-run-S-Ledger
+ghosts-run-S-Ledger g a = record { name = a.claims.begun.name; parts = a.claims.begun.parts }
+
+abbrev pub ghosts-run-T-Ledger : goal.ghosts-run-T-Ledger
+ghosts-run-T-Ledger g a = record { name = a.claims.ended.name; parts = a.claims.ended.parts }

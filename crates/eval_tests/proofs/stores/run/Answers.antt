@@ -6,8 +6,8 @@ pub solid_of-again-requires-clause-ready : goal.solid_of-again-requires-clause-r
 solid_of-again-requires-clause-ready g c κs within =
     let asked = c.solid_of-once.ensures.asked in
     let b = asked.begun in
-    let none : c.expect-share.result.dropped ≡ 0 = search rules in
-    let whole : c.expect-share.result.parts ≡ 128 = search rules in
+    let none : c.expect-share.result.share.dropped ≡ 0 = search rules in
+    let whole : c.expect-share.result.share.parts ≡ 128 = search rules in
     let few = c.solid_of-once.ensures.few in
     let lent = c.deref_mut-2.ensures.value in
     let count = c.builders-second.ensures.many in record {

@@ -9,8 +9,8 @@ invariant-loop-done g l =
     let trees = l.fn.store in
     let builds = g.D.Builder.builds in record {
       growing : IsGrowing trees l.done l.growth;
-      ready : AreReady builds (joins_to trees l.done) l.share l.builders;
-      asked : AreAsked (Unit {0}) 0 (joins_to trees l.done) l.fn.share l.share (sum_by builds l.fn.builders) (sum_by builds l.builders);
+      ready : AreReady builds (joins_to trees l.done) l.share.share l.builders;
+      asked : AreAsked (Unit {0}) 0 (joins_to trees l.done) l.fn.share.share l.share.share (sum_by builds l.fn.builders) (sum_by builds l.builders);
     }
 
 abbrev pub decreases-loop-done : goal.decreases-loop-done

@@ -4,8 +4,8 @@ use Rattle.parallel_eval.proofs.store_solids.take_back.Given as goal
 
 abbrev pub invariant-loop-lane : goal.invariant-loop-lane
 invariant-loop-lane g l =
-    (with_lanes l.share l.lanes.items ≡ with_lanes l.fn.share l.fn.lanes.items)
-    × AreOfCaller l.share.caller l.lanes.items
+    (with_lanes l.share.share l.lanes.items ≡ with_lanes l.fn.share.share l.fn.lanes.items)
+    × AreOfCaller l.share.share.caller l.lanes.items
 
 abbrev pub decreases-loop-lane : goal.decreases-loop-lane
 decreases-loop-lane g l = goal.left-loop-lane g l

@@ -1,4 +1,5 @@
 use Rattle.std.proofs.Common.{◌≡◌, ◌+◌, ◌^◌, ◌≤◌, ◌++◌, length, sum_by, ap, sym, subst, ◌∙◌, arith}
+use Rattle.flight_memo.specs.Shares.{FlightView}
 use Rattle.parallel_eval.specs.Joins.{AreAsked, AreAtMost}
 use Rattle.parallel_eval.specs.Runs.{joins_to, IsRunWork, AreFreshLanes, AreLanes, AreComplete, AreOfCaller, with_lanes}
 use Rattle.parallel_eval.proofs.Dealt.{each_ready}
@@ -13,7 +14,7 @@ work_each-requires-after_bounds g c κs within =
     let trees = work.store.now in
     let start = work.start in
     let last = start + length work.nodes.now in
-    let share = c.args.share.now in
+    let share = c.args.share.now.share in
     let busy = c.split_at_mut-busy.result.0.now in
     let idle = c.split_at_mut-busy.result.1.now in
     let items = c.in_ok-lanes.lanes.items in
@@ -37,18 +38,18 @@ returns-clause-lanes g c =
     let trees = work.store.now in
     let start = work.start in
     let last = start + length work.nodes.now in
-    let share = c.args.share.now in
+    let share = c.args.share.now.share in
     let busy = c.split_at_mut-busy.result.0.now in
     let idle = c.split_at_mut-busy.result.1.now in
     let items = c.in_ok-lanes.lanes.items in
     let ls = c.deref_mut.result.now in
     let same : ls ≡ items = cc c.deref_mut.ensures.value in
     let some = c.one_tree_more.ensures.few trees last in
-    let all = divided_of builds trees start last share c.deal.new.share busy idle c.work_each.new.first items ls c.work_each.new.second
-    c.in_ok-lanes.ensures.rest c.in_ok-lanes.ensures.lanes same c.work_each.ensures c.requires.ready.dropped some c.requires.run.few in
-    let many : length c.work_each.new.second ≡ length items = divided_many builds trees start last share c.deal.new.share busy idle c.work_each.new.first ls c.work_each.new.second all ∙ ap length same in
+    let all = divided_of builds trees start last share c.deal.new.share.share busy idle c.work_each.new.first items ls c.work_each.new.second
+    (ap (λ (s : FlightView). s.share) c.in_ok-lanes.ensures.rest) c.in_ok-lanes.ensures.lanes same c.work_each.ensures c.requires.ready.dropped some c.requires.run.few in
+    let many : length c.work_each.new.second ≡ length items = divided_many builds trees start last share c.deal.new.share.share busy idle c.work_each.new.first ls c.work_each.new.second all ∙ ap length same in
     let after = written c.in_ok-lanes.lanes.len c.work_each.new.second items many (omega (arith, c.in_ok-lanes.lanes.ok.0)) in
-    subst (AreLanes trees start last) (sym after) (divided_lanes builds trees start last share c.deal.new.share busy idle c.work_each.new.first ls c.work_each.new.second all)
+    subst (AreLanes trees start last) (sym after) (divided_lanes builds trees start last share c.deal.new.share.share busy idle c.work_each.new.first ls c.work_each.new.second all)
 
 pub returns-clause-caller : goal.returns-clause-caller
 returns-clause-caller g c =
@@ -57,18 +58,18 @@ returns-clause-caller g c =
     let trees = work.store.now in
     let start = work.start in
     let last = start + length work.nodes.now in
-    let share = c.args.share.now in
+    let share = c.args.share.now.share in
     let busy = c.split_at_mut-busy.result.0.now in
     let idle = c.split_at_mut-busy.result.1.now in
     let items = c.in_ok-lanes.lanes.items in
     let ls = c.deref_mut.result.now in
     let same : ls ≡ items = cc c.deref_mut.ensures.value in
     let some = c.one_tree_more.ensures.few trees last in
-    let all = divided_of builds trees start last share c.deal.new.share busy idle c.work_each.new.first items ls c.work_each.new.second
-    c.in_ok-lanes.ensures.rest c.in_ok-lanes.ensures.lanes same c.work_each.ensures c.requires.ready.dropped some c.requires.run.few in
-    let many : length c.work_each.new.second ≡ length items = divided_many builds trees start last share c.deal.new.share busy idle c.work_each.new.first ls c.work_each.new.second all ∙ ap length same in
+    let all = divided_of builds trees start last share c.deal.new.share.share busy idle c.work_each.new.first items ls c.work_each.new.second
+    (ap (λ (s : FlightView). s.share) c.in_ok-lanes.ensures.rest) c.in_ok-lanes.ensures.lanes same c.work_each.ensures c.requires.ready.dropped some c.requires.run.few in
+    let many : length c.work_each.new.second ≡ length items = divided_many builds trees start last share c.deal.new.share.share busy idle c.work_each.new.first ls c.work_each.new.second all ∙ ap length same in
     let after = written c.in_ok-lanes.lanes.len c.work_each.new.second items many (omega (arith, c.in_ok-lanes.lanes.ok.0)) in
-    subst (AreOfCaller c.deal.new.share.caller) (sym after) (divided_caller builds trees start last share c.deal.new.share busy idle c.work_each.new.first ls c.work_each.new.second all)
+    subst (AreOfCaller c.deal.new.share.share.caller) (sym after) (divided_caller builds trees start last share c.deal.new.share.share busy idle c.work_each.new.first ls c.work_each.new.second all)
 
 pub returns-clause-counts : goal.returns-clause-counts
 returns-clause-counts g c =
@@ -77,18 +78,18 @@ returns-clause-counts g c =
     let trees = work.store.now in
     let start = work.start in
     let last = start + length work.nodes.now in
-    let share = c.args.share.now in
+    let share = c.args.share.now.share in
     let busy = c.split_at_mut-busy.result.0.now in
     let idle = c.split_at_mut-busy.result.1.now in
     let items = c.in_ok-lanes.lanes.items in
     let ls = c.deref_mut.result.now in
     let same : ls ≡ items = cc c.deref_mut.ensures.value in
     let some = c.one_tree_more.ensures.few trees last in
-    let all = divided_of builds trees start last share c.deal.new.share busy idle c.work_each.new.first items ls c.work_each.new.second
-    c.in_ok-lanes.ensures.rest c.in_ok-lanes.ensures.lanes same c.work_each.ensures c.requires.ready.dropped some c.requires.run.few in
+    let all = divided_of builds trees start last share c.deal.new.share.share busy idle c.work_each.new.first items ls c.work_each.new.second
+    (ap (λ (s : FlightView). s.share) c.in_ok-lanes.ensures.rest) c.in_ok-lanes.ensures.lanes same c.work_each.ensures c.requires.ready.dropped some c.requires.run.few in
     let most = 2 ^ 46 + joins_to trees start in
     let counts = subst (AreAtMost builds most) c.split_at_mut-busy.ensures.value c.requires.ready.counts in
-    divided_counts builds trees start last share c.deal.new.share busy idle c.work_each.new.first ls c.work_each.new.second all (all_front (λ b. builds b ≤ most) busy idle counts) (all_behind (λ b. builds b ≤ most) busy idle counts)
+    divided_counts builds trees start last share c.deal.new.share.share busy idle c.work_each.new.first ls c.work_each.new.second all (all_front (λ b. builds b ≤ most) busy idle counts) (all_behind (λ b. builds b ≤ most) busy idle counts)
 
 pub returns-clause-asked : goal.returns-clause-asked
 returns-clause-asked g c =
@@ -97,21 +98,21 @@ returns-clause-asked g c =
     let trees = work.store.now in
     let start = work.start in
     let last = start + length work.nodes.now in
-    let share = c.args.share.now in
+    let share = c.args.share.now.share in
     let busy = c.split_at_mut-busy.result.0.now in
     let idle = c.split_at_mut-busy.result.1.now in
     let items = c.in_ok-lanes.lanes.items in
     let ls = c.deref_mut.result.now in
     let same : ls ≡ items = cc c.deref_mut.ensures.value in
     let some = c.one_tree_more.ensures.few trees last in
-    let all = divided_of builds trees start last share c.deal.new.share busy idle c.work_each.new.first items ls c.work_each.new.second
-    c.in_ok-lanes.ensures.rest c.in_ok-lanes.ensures.lanes same c.work_each.ensures c.requires.ready.dropped some c.requires.run.few in
-    let many : length c.work_each.new.second ≡ length items = divided_many builds trees start last share c.deal.new.share busy idle c.work_each.new.first ls c.work_each.new.second all ∙ ap length same in
+    let all = divided_of builds trees start last share c.deal.new.share.share busy idle c.work_each.new.first items ls c.work_each.new.second
+    (ap (λ (s : FlightView). s.share) c.in_ok-lanes.ensures.rest) c.in_ok-lanes.ensures.lanes same c.work_each.ensures c.requires.ready.dropped some c.requires.run.few in
+    let many : length c.work_each.new.second ≡ length items = divided_many builds trees start last share c.deal.new.share.share busy idle c.work_each.new.first ls c.work_each.new.second all ∙ ap length same in
     let after = written c.in_ok-lanes.lanes.len c.work_each.new.second items many (omega (arith, c.in_ok-lanes.lanes.ok.0)) in
     let count = sum_by builds (c.work_each.new.first ++ idle) in
     let fewer = c.in_ok-lanes.ensures.many in
     let parts = c.requires.ready.parts in
     let whole = ap length same in
-    subst (λ ms. AreAsked (AreComplete ms) (joins_to trees start) (joins_to trees last) share (with_lanes c.deal.new.share ms) (sum_by builds c.args.builders.now) count) (sym after)
-    (subst (λ bs. AreAsked (AreComplete c.work_each.new.second) (joins_to trees start) (joins_to trees last) share (with_lanes c.deal.new.share c.work_each.new.second) (sum_by builds bs) count) (sym c.split_at_mut-busy.ensures.value)
-    (divided_asked builds trees start last share c.deal.new.share busy idle c.work_each.new.first ls c.work_each.new.second all (omega (arith, fewer, parts, whole)) (with_caller c.deal.new.share c.work_each.new.second)))
+    subst (λ ms. AreAsked (AreComplete ms) (joins_to trees start) (joins_to trees last) share (with_lanes c.deal.new.share.share ms) (sum_by builds c.args.builders.now) count) (sym after)
+    (subst (λ bs. AreAsked (AreComplete c.work_each.new.second) (joins_to trees start) (joins_to trees last) share (with_lanes c.deal.new.share.share c.work_each.new.second) (sum_by builds bs) count) (sym c.split_at_mut-busy.ensures.value)
+    (divided_asked builds trees start last share c.deal.new.share.share busy idle c.work_each.new.first ls c.work_each.new.second all (omega (arith, fewer, parts, whole)) (with_caller c.deal.new.share.share c.work_each.new.second)))

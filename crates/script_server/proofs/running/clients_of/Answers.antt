@@ -1,6 +1,7 @@
 use Rattle.std.proofs.Common.{◌≡◌, ◌∙◌, All, ap, map, sym, subst}
+use Rattle.flight_memo.specs.Shares.{FlightView}
 use Rattle.script_server.specs.Clients.{ClientBooks}
-use Rattle.script_server.proofs.Books.{mapped_push, All_push}
+use Rattle.script_server.proofs.Books.{mapped_alike, All_push}
 use Rattle.script_server.proofs.running.clients_of.Goals as goal
 
 pub loop-share-preserved : goal.loop-share-preserved
@@ -11,5 +12,5 @@ loop-share-preserved g c =
       subst (All (λ (b : ClientBooks). b.asked ≡ 0)) (sym pushed)
           (All_push (λ (b : ClientBooks). b.asked ≡ 0) clients client c.loop-share.invariant.0 (ap (λ (b : ClientBooks). b.asked) c.new.ensures)),
       ap (map (λ (b : ClientBooks). b.share)) pushed
-          ∙ mapped_push (λ (b : ClientBooks). b.share) clients client c.loop-share.yielded c.in-Some.share c.loop-share.invariant.1 (ap (λ (b : ClientBooks). b.share) c.new.ensures),
+          ∙ mapped_alike (λ (b : ClientBooks). b.share) (λ (s : FlightView). s.share) clients client c.loop-share.yielded c.in-Some.share c.loop-share.invariant.1 (ap (λ (b : ClientBooks). b.share) c.new.ensures),
     )

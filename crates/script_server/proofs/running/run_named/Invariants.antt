@@ -15,3 +15,9 @@ ghosts-run_over-K-Ledger g a = record { name = a.blanks.kept.name; parts = a.bla
 
 abbrev pub ghosts-run_over-E-Ledger : goal.ghosts-run_over-E-Ledger
 ghosts-run_over-E-Ledger g a = record { name = a.blanks.heavy.name; parts = a.blanks.heavy.parts }
+
+abbrev pub ghosts-run_over-S-Ledger : goal.ghosts-run_over-S-Ledger
+ghosts-run_over-S-Ledger g a = record { name = a.claims.begun.name; parts = a.claims.begun.parts }
+
+abbrev pub ghosts-run_over-T-Ledger : goal.ghosts-run_over-T-Ledger
+ghosts-run_over-T-Ledger g a = record { name = a.claims.ended.name; parts = a.claims.ended.parts }

@@ -14,7 +14,7 @@ returns-in_default g c =
     let old = c.loop-before.lane in
     let here : k + 1 - 1 ≡ k = omega arith in
     lane_breaks trees k l m n c.args.lane.now old _ (HasMade c.outcome.result) c.loop-before.invariant c.loop-before-test.true refl refl refl
-    (subst (λ x. AreAsked (HasMade c.outcome.result) (joins_to trees x) (joins_to trees (k + 1)) old.share c.outcome.new.share m n) here c.outcome.ensures.asked)
+    (subst (λ x. AreAsked (HasMade c.outcome.result) (joins_to trees x) (joins_to trees (k + 1)) old.share.share c.outcome.new.share.share m n) here c.outcome.ensures.asked)
 
 pub returns-then-is_err : goal.returns-then-is_err
 returns-then-is_err g c =
@@ -27,7 +27,7 @@ returns-then-is_err g c =
     let here : k + 1 - 1 ≡ k = omega arith in
     lane_breaks trees k l m n c.args.lane.now old _ (HasMade c.outcome.result) c.loop-before.invariant c.loop-before-test.true refl refl
     (c.push.ensures.items ∙ ap (λ b. if b then old.made.items ++ c.in-Ok.outcome ∷ [] else old.made.items) c.if-is_err.ensures.negation)
-    (subst (λ x. AreAsked (HasMade c.outcome.result) (joins_to trees x) (joins_to trees (k + 1)) old.share c.outcome.new.share m n) here c.outcome.ensures.asked)
+    (subst (λ x. AreAsked (HasMade c.outcome.result) (joins_to trees x) (joins_to trees (k + 1)) old.share.share c.outcome.new.share.share m n) here c.outcome.ensures.asked)
 
 pub loop-before-preserved : goal.loop-before-preserved
 loop-before-preserved g c =
@@ -42,4 +42,4 @@ loop-before-preserved g c =
     (c.push.ensures.items ∙ ap (λ b. if b then old.made.items ++ c.in-Ok.outcome ∷ [] else old.made.items) c.if-is_err.ensures.negation)
     c.in-Ok.ensures.outcome
     (λ made. subst HasMade (sym c.in-Ok.is) made)
-    (subst (λ x. AreAsked (HasMade c.outcome.result) (joins_to trees x) (joins_to trees (k + 1)) old.share c.outcome.new.share m n) here c.outcome.ensures.asked)
+    (subst (λ x. AreAsked (HasMade c.outcome.result) (joins_to trees x) (joins_to trees (k + 1)) old.share.share c.outcome.new.share.share m n) here c.outcome.ensures.asked)

@@ -47,7 +47,7 @@ returns-in-Leaf-clause-asked g c =
     let is = leaf_of_run trees c.args.self.now.start n c.node.result c.in-Leaf.planes c.node.ensures c.in-Leaf.is in
     let joins : joins_to trees n ≡ joins_to trees (n - 1) + 0 =
     c.one_tree_more.ensures.joins trees n (omega arith, omega arith) ∙ ap (λ (t : Formula). joins_to trees (n - 1) + is_join t) is.0 in
-    none_asked (IsOk c.leaf.result) (joins_to trees (n - 1)) (joins_to trees n) (g.D.Builder.builds c.args.builder.now) c.args.share.now
+    none_asked (IsOk c.leaf.result) (joins_to trees (n - 1)) (joins_to trees n) (g.D.Builder.builds c.args.builder.now) c.args.share.now.share
     (omega (arith, joins)) (λ ok. omega (arith, joins))
 
 pub returns-in_ok-key-in-Join-clause-asked : goal.returns-in_ok-key-in-Join-clause-asked
@@ -58,4 +58,4 @@ returns-in_ok-key-in-Join-clause-asked g c =
     let joins : joins_to trees n ≡ joins_to trees (n - 1) + 1 =
     c.one_tree_more.ensures.joins trees n (omega arith, omega arith) ∙ ap (λ (t : Formula). joins_to trees (n - 1) + is_join t) is.4 in
     asked_at (IsOk c.join_solid.result) (joins_to trees (n - 1)) (joins_to trees n) (g.D.Builder.builds c.args.builder.now) (g.D.Builder.builds c.join_solid.new.builder)
-    c.args.share.now c.join_solid.new.share joins c.join_solid.ensures.asked
+    c.args.share.now.share c.join_solid.new.share.share joins c.join_solid.ensures.asked
