@@ -6,3 +6,4 @@ pub mod SomeReply
 pub mod Sums
 pub mod Told
 mod Rows
+mod WholeOutput
