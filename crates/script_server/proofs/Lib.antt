@@ -2,6 +2,7 @@ pub mod OneSource
 pub mod OneReply
 pub mod Refusing
 pub mod Books
+mod Kept
 pub mod SomeReply
 pub mod Sums
 pub mod Told
