@@ -19,7 +19,14 @@ from typing import NamedTuple
 ROUNDS = 5
 
 # The functions between the phases: what they call of a phase's functions is that phase's cost.
-FRAME = ("script_run::client::obey", "script_server::exporter::", "pair_work::", "parallel_eval::")
+FRAME = (
+    "script_run::client::obey",
+    "script_server::exporter::",
+    "script_server::kept_export::",
+    "tree_export::",
+    "pair_work::",
+    "parallel_eval::",
+)
 
 # The functions that stand for each phase, by how their names begin; the longest beginning counts. The compiler puts functions
 # into their callers: most of `lex`, and of `intern` and `off_bytes` what isn't a call, stands in the functions between. That is the

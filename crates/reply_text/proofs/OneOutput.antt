@@ -73,14 +73,18 @@ client_texts name rs qs x y e =
     append_cancel_left head (replies_text 1 rs ++ x) (replies_text 1 qs ++ y)
     (sym (append_assoc head (replies_text 1 rs) x) ∙ e ∙ append_assoc head (replies_text 1 qs) y)
 
-pub same_output : (E : List ℕ → Reply → Type 0) → IsExport E → (clients : List ClientScript) (rs qs : List (List Reply)) →
-    AllFit E clients rs → AllFit E clients qs → output clients rs ≡ output clients qs → rs ≡ qs
-same_output E i [] [] [] h g e = refl
-same_output E i [] [] (q ∷ qs) h g e = absurd g
-same_output E i [] (r ∷ rs) qs h g e = absurd h
-same_output E i (client ∷ clients) [] qs h g e = absurd h
-same_output E i (client ∷ clients) (r ∷ rs) [] h g e = absurd g
-same_output E i (client ∷ clients) (r ∷ rs) (q ∷ qs) h g e =
-    let one = same_replies E i 1 start client.commands r q (output clients rs) (output clients qs) h.0 g.0
-    (client_texts client.name r q (output clients rs) (output clients qs) e) in
-    heads_and_tails r q rs qs one.0 (same_output E i clients rs qs h.1 g.1 one.1)
+pub same_output : (E : List ℕ → Reply → Type 0) → IsExport E → (clients : List ClientScript) (rs qs : List (List Reply)) (x y : List ℕ) →
+    AllFit E clients rs → AllFit E clients qs → output clients rs ++ x ≡ output clients qs ++ y → (rs ≡ qs) × (x ≡ y)
+same_output E i [] [] [] x y h g e = (refl, e)
+same_output E i [] [] (q ∷ qs) x y h g e = absurd g
+same_output E i [] (r ∷ rs) qs x y h g e = absurd h
+same_output E i (client ∷ clients) [] qs x y h g e = absurd h
+same_output E i (client ∷ clients) (r ∷ rs) [] x y h g e = absurd g
+same_output E i (client ∷ clients) (r ∷ rs) (q ∷ qs) x y h g e =
+    let behind = output clients rs ++ x in
+    let after = output clients qs ++ y in
+    let one = same_replies E i 1 start client.commands r q behind after h.0 g.0
+    (client_texts client.name r q behind after
+    (sym (append_assoc (client_text client.name r) (output clients rs) x) ∙ e ∙ append_assoc (client_text client.name q) (output clients qs) y)) in
+    let more = same_output E i clients rs qs x y h.1 g.1 one.1 in
+    (heads_and_tails r q rs qs one.0 more.0, more.1)

@@ -2,7 +2,9 @@ pub mod OneSource
 pub mod OneReply
 pub mod Refusing
 pub mod Books
+mod Kept
 pub mod SomeReply
 pub mod Sums
 pub mod Told
 mod Rows
+mod WholeOutput

@@ -1,9 +1,10 @@
 -- What a call of the server does with its words, its source and its sink: the table of statuses.
-use Rattle.std.specs.Prelude.{◌≡◌, ℕ, List, ◌⊎◌, length}
+use Rattle.std.specs.Prelude.{◌≡◌, ◌<◌, ℕ, true, false, List, ◌⊎◌, length}
 use Rattle.std.specs.Io.KnownBytes.{Appends}
 use Rattle.outside_io.specs.Counts.{Rose}
 use Rattle.outside_io.specs.Moves.{AppendsProperPrefix}
 use Rattle.run_words.specs.declared.settings.Settings.{Settings}
+use Rattle.run_words.specs.declared.settings.Settings.TheVariants.{Run, Demo}
 use Rattle.run_words.specs.Words.{Chooses, AreOutside}
 use Rattle.subtree_memo.specs.declared.tally.Tally.{Tally}
 use Rattle.script_reader.specs.declared.script.ClientScript.{ClientScript}
@@ -35,6 +36,12 @@ IsOutputFor settings clients out =
 abbrev pub WritesOutput : Settings → List ClientScript → Stream → Status → Type 0
 WritesOutput settings clients sink status =
     ((out : List ℕ) × IsOutputFor settings clients out × Prints settings sink out status) ⊎ ((status ≡ NoMemory) × sink.same)
+
+-- with the tally, two runs were told the same one, and with a share above 0 the same weights of the clients' entries
+abbrev pub TellsAlike : Settings → Tally → Tally → List ℕ → List ℕ → Type 0
+TellsAlike (Run workers memo share half true) s t v w = (s ≡ t) × (0 < share → v ≡ w)
+TellsAlike (Run workers memo share half false) s t v w = Unit {0}
+TellsAlike (Demo n) s t v w = Unit {0}
 
 -- what is written for bytes that are a script
 abbrev pub IsOutput : Settings → List ℕ → List ℕ → Type 0

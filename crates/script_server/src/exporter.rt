@@ -2,6 +2,7 @@
 
 ghost use Rattle.std.specs.Prelude.{◌≡◌, ◌+◌, ◌^◌, ◌<◌, ◌≤◌, All, length, IfOk, IfErr, OnOk};
 ghost use Rattle.std.specs.Arc.{arc_value};
+ghost use Rattle.csg_tree.specs.Formulas.{Formula};
 ghost use Rattle.csg_tree.specs.ProperTrees.{IsProper};
 ghost use Rattle.csg_tree.specs.Numberings.{nodes_of, tree_numbered};
 ghost use Rattle.csg_tree.specs.Trees.{formula_of};
@@ -15,6 +16,7 @@ ghost use Rattle.script_server.specs.Meaning.Exports.{reply_of};
 ghost use Rattle.script_server.specs.Clients.{ClientBooks, AreProbed, ExportsFor};
 
 use crate::export::{reply, tree_of};
+use crate::kept_export::{KeptExport, export_kept};
 use bsp_boolean::PlainBuilder;
 use bsp_tree::Solid;
 use csg_tree::{CsgStore, CsgTree, TreeKey};
@@ -34,13 +36,14 @@ use text_place::{NoMemory, Stop};
 use tree_export::{Exported, export_made, last_nodes_are_trees, nodes_of_tree, solid_of_nothing};
 
 /// What one client has of its own: its share of the books of the memo and its claims, how many builders it has, how often a
-/// solid was asked for, and the store for which it was asked last.
+/// solid was asked for, the store for which it was asked last, and the text that was made of it.
 #[derive(Drop)]
 pub struct Client<B: FlightBooks> {
     share: FlightShare<B>,
     workers: u64,
     asked: u32,
     last: Option<KnownStore>,
+    kept: Option<KeptExport>,
 }
 
 impl<B: FlightBooks> Model for Client<B> {
@@ -90,6 +93,7 @@ impl<B: FlightBooks> Client<B> {
             workers,
             asked: 0,
             last: None,
+            kept: None,
         }
     }
 
@@ -125,6 +129,15 @@ fn known(
     }
 }
 
+// The key of the tree of which a store has the nodes. `NoMemory` is a store that cannot be shared once more.
+fn key_of(store: &KnownStore) -> Result<TreeKey, NoMemory>
+    requires { 0 < length store.now }
+    ensures { (tree : Formula) → store.now ≡ nodes_of tree → IfOk result (λ key. key ≡ tree) }
+{
+    last_nodes_are_trees();
+    store.key(store.store().len())
+}
+
 // The solid of a store for a client, which keeps the store for its next one.
 fn solid_for<
     'a,
@@ -140,18 +153,16 @@ fn solid_for<
 >(
     builds: &Builds<'a, N, FlightLedgers<H, M, K, E, S, T>, G, R>,
     client: &mut Client<FlightLedgers<H, M, K, E, S, T>>,
-    store: Arc<CsgStore>,
+    mut store: KnownStore,
 ) -> Result<Arc<Solid>, EvalStop>
-    requires some { 0 < length (arc_value store) }
+    requires some { 0 < length store }
     requires few { client.old.asked < 8192 }
-    ensures solid { IfOk result (λ s. shapes.tree_of (arc_value s) ≡
-        solids.solid_of (tree_numbered (arc_value store) (length (arc_value store)))) }
-    ensures within { OnOk result (AreWithin (arc_value store)) }
-    ensures stop { IfErr result (IsTreeStop (arc_value store)) }
-    ensures probed { OnOk result (AreProbed (joins (arc_value store)) client.old.share client.new.share) }
+    ensures solid { IfOk result (λ s. shapes.tree_of (arc_value s) ≡ solids.solid_of (tree_numbered store (length store))) }
+    ensures within { OnOk result (AreWithin store) }
+    ensures stop { IfErr result (IsTreeStop store) }
+    ensures probed { OnOk result (AreProbed (joins store) client.old.share client.new.share) }
     ensures asked { client.new.asked ≤ client.old.asked + 1 }
 {
-    let mut store = known(builds.alloc, &client.last, store)?;
     let mut builders = builders(builds.alloc, client.workers)?;
     client.asked += 1;
     let made = solid_of(
@@ -194,12 +205,14 @@ fn exported<
 {
     last_nodes_are_trees();
     let store = nodes_of_tree(builds.alloc, tree)?;
-    let made = if store.len() == 0 {
-        Ok(solid_of_nothing(builds.alloc)?)
-    } else {
-        solid_for(builds, client, store)
-    };
-    export_made(builds.alloc, made, unit)
+    if store.len() == 0 {
+        let solid = solid_of_nothing(builds.alloc)?;
+        return export_made(builds.alloc, Ok(solid), unit);
+    }
+    let store = known(builds.alloc, &client.last, store)?;
+    let key = key_of(&store)?;
+    let made = solid_for(builds, client, store);
+    export_kept(builds.alloc, &mut client.kept, unit, key, made)
 }
 
 /// The reply to the export of a client's source.

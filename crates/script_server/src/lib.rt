@@ -3,6 +3,7 @@
 
 mod export;
 mod exporter;
+mod kept_export;
 mod meaning;
 mod program;
 mod running;

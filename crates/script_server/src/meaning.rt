@@ -1,11 +1,14 @@
 //! Laws of what an export means (`specs/Meaning`): its words leave nothing open. They are proved, and do nothing when they
 //! run.
 
-ghost use Rattle.std.specs.Prelude.{◌≡◌, ◌↔◌, ◌⊎◌, ℕ, List};
+ghost use Rattle.std.specs.Prelude.{◌≡◌, ◌↔◌, ◌⊎◌, ℕ, List, length};
 ghost use Rattle.text_place.specs.declared.fault.Fault.{Fault};
 ghost use Rattle.plane_predicate.specs.declared.unit.Unit.{Unit as LengthUnit};
 ghost use Rattle.script_reader.specs.declared.script.Command.{Command};
+ghost use Rattle.script_reader.specs.declared.script.ClientScript.{ClientScript};
 ghost use Rattle.script_reader.specs.declared.script.Script.{Script};
+ghost use Rattle.run_words.specs.declared.settings.Settings.{Settings};
+ghost use Rattle.subtree_memo.specs.declared.tally.Tally.{Tally};
 ghost use Rattle.csg_tree.specs.Formulas.{Formula};
 ghost use Rattle.edit_session.specs.Sessions.{State};
 ghost use Rattle.reply_text.specs.declared.reply.Reply.{Reply};
@@ -14,12 +17,16 @@ ghost use Rattle.reply_text.specs.Texts.{output};
 ghost use Rattle.reply_text.specs.Answers.{Fits, AllFit, SameWants};
 ghost use Rattle.tree_export.specs.Exports.{PassesNoLimit};
 ghost use Rattle.script_server.specs.Meaning.Sources.{Means, HasFault};
+ghost use Rattle.script_service.specs.Units.{unit_of};
+ghost use Rattle.script_service.specs.Serving.{IsRun, printed};
 ghost use Rattle.script_server.specs.Meaning.Exports.{Exports, AnswersExport};
+ghost use Rattle.script_server.specs.Serving.{TellsAlike};
 
 use reply_text::Exporting;
 use scad_grammar::{no_program_has_a_fault, one_fault_each, one_program_each, program_or_fault};
 use scad_lexer::{one_outcome, some_outcome};
 use scad_meaning::programs_mean_proper_trees;
+use script_service::one_ending;
 use tree_export::{one_export, some_export, texts_pass_no_limit};
 
 // The exports of this server, of which the laws of replies are asked.
@@ -89,12 +96,18 @@ pub fn own_replies()
 }
 
 /// For one script, replies that its clients' own commands define and that print the same bytes are
-/// equal: so the printed output tells at which places memory ran out.
+/// equal: so the printed output tells at which places memory ran out. The whole output of a run tells also
+/// the tally, and with a share above 0 what each client's entries weigh.
 pub fn one_output()
-    ensures { (unit : LengthUnit) (script : Script) (rs qs : List (List Reply)) →
+    ensures replies { (unit : LengthUnit) (script : Script) (rs qs : List (List Reply)) →
         AllFit (AnswersExport unit) script.clients rs → AllFit (AnswersExport unit) script.clients qs →
         output script.clients rs ≡ output script.clients qs → rs ≡ qs }
+    ensures whole { (settings : Settings) (clients : List ClientScript) (rs qs : List (List Reply)) (s t : Tally) (v w : List ℕ) → IsRun settings →
+        AllFit (AnswersExport (unit_of settings)) clients rs → AllFit (AnswersExport (unit_of settings)) clients qs →
+        length v ≡ length clients → length w ≡ length clients →
+        printed settings clients rs s v ≡ printed settings clients qs t w → (rs ≡ qs) × TellsAlike settings s t v w }
 {
     one_reply();
     reply_text::one_output::<ServerExports>();
+    one_ending();
 }

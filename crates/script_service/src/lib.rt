@@ -5,9 +5,11 @@
 mod demo;
 mod ending;
 mod input;
+mod laws;
 mod outcome;
 mod status;
 
 pub use input::{InputEnd, read_input};
+pub use laws::one_ending;
 pub use outcome::{refuse_input, refuse_words, write_outcome};
 pub use status::Status;

@@ -20,7 +20,7 @@ no_solid tree none = ap solid_of (sym (without_nodes tree none))
 pub nothing_within : (tree : Formula) → length (nodes_of tree) ≡ 0 → AreWithin (nodes_of tree)
 nothing_within tree none = subst (λ f. AreWithin (nodes_of f)) (sym (without_nodes tree none)) no_trees
 
-last_tree : (tree : Formula) → 0 < length (nodes_of tree) → tree_numbered (nodes_of tree) (length (nodes_of tree)) ≡ tree
+pub last_tree : (tree : Formula) → 0 < length (nodes_of tree) → tree_numbered (nodes_of tree) (length (nodes_of tree)) ≡ tree
 last_tree nothing some = absurd (omega (arith, some))
 last_tree (leaf planes) some = last_node (leaf planes) tt
 last_tree (joined op left right) some = last_node (joined op left right) tt

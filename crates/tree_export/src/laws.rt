@@ -49,8 +49,9 @@ pub fn small_leaves_are_texts()
     ensures { (unit : LengthUnit) (planes : List Coefficients) (out : Exported) → length planes ≤ 8 → IsExported unit (leaf planes) out → IsText out }
 {}
 
-/// The solid of a tree's last node is that of the tree, and a tree without nodes has the empty solid.
+/// A tree's last node is the tree, and so has its solid; a tree without nodes has the empty solid.
 pub fn last_nodes_are_trees()
+    ensures same { (tree : Formula) → 0 < length (nodes_of tree) → tree_numbered (nodes_of tree) (length (nodes_of tree)) ≡ tree }
     ensures last { (tree : Formula) → 0 < length (nodes_of tree) → solid_of (tree_numbered (nodes_of tree) (length (nodes_of tree))) ≡ solid_of tree }
     ensures none { (tree : Formula) → length (nodes_of tree) ≡ 0 → outside ≡ solid_of tree }
     ensures within { (tree : Formula) → length (nodes_of tree) ≡ 0 → AreWithin (nodes_of tree) }
