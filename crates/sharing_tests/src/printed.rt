@@ -86,6 +86,30 @@ fn each_share_is_its_clients(rt: HostRuntime) {
     assert!(&rt; ends(&rt, alloc, line, &script, end));
 }
 
+// Sixteen cubes in a row have joins of 60, 120, 240 and 480 in size, 1,920 together, in a memo of 960. What is kept of them beside
+// the 60 of each other client, which are reserved, is the last one and one of 240, whoever comes first.
+#[test]
+fn clients_under_pressure_keep_their_shares(rt: HostRuntime) {
+    let alloc = rt.alloc();
+    let row = "for (i=[1:16]) translate([2*i,0,0]) cube(1);";
+    let mut script = script_of(&rt, alloc, &["a"], &[row], 1);
+    for (name, source) in [
+        ("b", "cube(2); translate([3,0,0]) cube(2);"),
+        ("c", "cube(3); translate([4,0,0]) cube(3);"),
+    ] {
+        let other = script_of(&rt, alloc, &[name], &[source], 1);
+        script.extend_from_slice(&other).expect(&rt, "memory");
+    }
+    let end =
+        "\ntally probes 17 hits 0 misses 17 offered 17 kept 17 heavy 0 dropped 0 evicted 13\nshare a 720\nshare b 60\nshare c 60\n";
+    for line in [
+        "run --workers 1 --tally --memo 960 --share 60",
+        "run --workers 8 --tally --memo 960 --share 60",
+    ] {
+        assert!(&rt; ends(&rt, alloc, line, &script, end), "at {line}");
+    }
+}
+
 // Two clients have one plate: what one of them misses and builds, the other one finds.
 #[test]
 fn a_join_of_two_clients_is_built_once(rt: HostRuntime) {
