@@ -1,5 +1,5 @@
-ghost use Rattle.std.specs.Prelude.{◌≡◌, ◌<◌, ℕ, length, IfOk, IsTrue};
-ghost use Rattle.scad_scope.specs.Numbered.{functions_below, modules_below};
+ghost use Rattle.std.specs.Prelude.{◌≡◌, ◌<◌, length, IfOk};
+ghost use Rattle.scad_scope.specs.Numbered.{StaysNumbered};
 ghost use Rattle.scad_scope.specs.Table.{rows_of};
 
 use crate::reading::{at, read};
@@ -42,8 +42,7 @@ pub fn bind(
 ) -> Result<(), NoMemory>
     requires { scope < length (rows_of scopes.old) }
     ensures count { length (rows_of scopes.new) ≡ length (rows_of scopes.old) }
-    ensures functions { (n : ℕ) → IsTrue (functions_below n (rows_of scopes.old)) → IsTrue (functions_below n (rows_of scopes.new)) }
-    ensures modules { (n : ℕ) → IsTrue (modules_below n (rows_of scopes.old)) → IsTrue (modules_below n (rows_of scopes.new)) }
+    ensures numbered { StaysNumbered (rows_of scopes.old) (rows_of scopes.new) }
 {
     let value = Value::Number(n);
     assert!(rt; value.is_bounded());

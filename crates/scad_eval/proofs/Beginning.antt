@@ -7,7 +7,7 @@ use Rattle.scad_func.specs.View.{text_of}
 use Rattle.scad_func.specs.Definitions.{IsWhole}
 use Rattle.scad_func.specs.Evaluations.{CallBegins, EvaluationBegins, SpecialsBegin}
 use Rattle.scad_func.specs.declared.source.Source.{Source}
-use Rattle.scad_eval.specs.declared.position.Position.{Position}
+use Rattle.scad_pieces.specs.declared.position.Position.{Position}
 use Rattle.scad_eval.specs.declared.evaluator.InstanceEvaluator.{InstanceEvaluator}
 use Rattle.scad_meaning.specs.Meaning.{called_from, chained}
 use Rattle.scad_eval.specs.Keeping.{left_at, stand_at, Stands}

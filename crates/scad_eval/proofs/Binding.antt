@@ -9,7 +9,7 @@ use Rattle.scad_func.specs.Meaning.{Outcome, Gives, Faults, then_with}
 use Rattle.scad_func.specs.Evaluations.{Keeps, EvaluationBegins}
 use Rattle.scad_func.specs.declared.evaluation.Evaluation.{Evaluation}
 use Rattle.scad_meaning.specs.Meaning.{Stand, assigned_value, assigned, each_assigned}
-use Rattle.scad_eval.specs.Seen.{Told}
+use Rattle.scad_pieces.specs.Seen.{Told}
 
 -- one assignment behind another
 assigned_then : (left : ℕ) (here : Stand) (a : Assigned) (as_ : List Assigned) (out : Outcome Val)

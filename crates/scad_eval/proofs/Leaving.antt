@@ -14,7 +14,7 @@ use Rattle.scad_meaning.specs.Verdicts.{Verdict}
 use Rattle.scad_func.specs.Meaning.{Outcome, Gives, then_with}
 use Rattle.scad_meaning.specs.Hulls.{is_nothing, hull_mesh}
 use Rattle.scad_meaning.specs.Meaning.{Made, checked, leaf_made, hulled, hull_made}
-use Rattle.scad_eval.specs.Seen.{IsStopAt}
+use Rattle.scad_pieces.specs.Seen.{IsStopAt}
 use Rattle.scad_eval.specs.Keeping.{IsThrough}
 use Rattle.scad_meaning.proofs.Verdicts.{one_height_verdict}
 

@@ -1,4 +1,3 @@
-mod BoundedItems
 mod Counting
 mod Evaluating
 mod Leaving
@@ -8,8 +7,6 @@ mod Standing
 mod Beginning
 mod Saying
 mod Binding
-mod KeptChildren
-mod Slots
 mod ModuleScopes
 mod Programs
 pub mod Work

@@ -9,12 +9,12 @@ use Rattle.scad_ast.specs.Terms.{InstanceTerm, AnInstance}
 use Rattle.std.specs.Prelude.{Option}
 use Rattle.scad_design.specs.Designs.{Design}
 use Rattle.scad_func.specs.Meaning.{Outcome, Gives, Faults, Env, then_with}
-use Rattle.scad_eval.specs.declared.position.InstanceResult.{InstanceResult}
+use Rattle.scad_pieces.specs.declared.position.InstanceResult.{InstanceResult}
 use Rattle.scad_pieces.specs.declared.numbered.NumberedInstance.{NumberedInstance}
 use Rattle.scad_meaning.specs.Bodies.{says_only, is_child}
 use Rattle.scad_meaning.specs.Meaning.{Made, Members, as_member, and_members, after_step, core_of}
 use Rattle.scad_pieces.specs.Positions.{term_of_numbered}
-use Rattle.scad_eval.specs.Seen.{TellsAs, Told, made_seen, member_seen, in_front}
+use Rattle.scad_pieces.specs.Seen.{TellsAs, Told, made_seen, member_seen, in_front}
 
 flipped : (b : Bool) → (if b then false else true) ≡ not b
 flipped true = refl

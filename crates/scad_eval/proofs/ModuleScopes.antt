@@ -1,7 +1,6 @@
 -- The scope of a module's body, once it is entered.
-use Rattle.std.proofs.Common.{◌≡◌, ℕ, ℤ, pos, List, [], ◌∷◌, length, map, sym, ap, ◌∙◌}
+use Rattle.std.proofs.Common.{◌≡◌, ℕ, ℤ, pos, List, [], ◌∷◌, length, sym, ap, ◌∙◌}
 use Rattle.std.specs.Prelude.{codes}
-use Rattle.std.proofs.lemmas.List.{length-map}
 use Rattle.scad_ast.specs.Terms.{StatementTerms, BodyTerm}
 use Rattle.scad_value.specs.declared.value.Value.{Number}
 use Rattle.scad_value.specs.declared.value.Value.TheVariants.{rolls-Number}
@@ -16,10 +15,8 @@ use Rattle.scad_func.specs.Meaning.{Env, Within, no_call, opened, functions_stan
 use Rattle.scad_func.specs.View.{seen, text_of}
 use Rattle.scad_func.specs.Definitions.{statements_at, block_scope, IsBlockOf, IsWhole}
 use Rattle.scad_func.specs.declared.source.Source.{Source}
-use Rattle.scad_pieces.specs.declared.numbered.NumberedInstance.{NumberedInstance}
 use Rattle.scad_meaning.specs.Bodies.{children_in}
 use Rattle.scad_meaning.specs.Meaning.{module_scope}
-use Rattle.scad_pieces.specs.Positions.{term_of_numbered}
 
 -- the scope of a module's body, by what it depends on
 abbrev scope_by : ℤ → List (List ℕ) → Vals → StatementTerms → StatementTerms → Env → Env → Env
@@ -47,15 +44,6 @@ pub call_scope_same : (old new : Source) (before after : List Row) (block childr
 call_scope_same old new before after block children caller home source rows =
     ap (λ (x : Source). block_scope (text_of x) block (opened (statements_at (text_of x) children) (seen x after caller)) (seen x after home)) source
     ∙ ap (λ (l : List Row). block_scope (text_of old) block (opened (statements_at (text_of old) children) (seen old l caller)) (seen old l home)) rows
-
--- how many children there are
-pub children_counted : (old new : Source) (block : ℕ) (env inner : Env) (found : List NumberedInstance) → IsWhole (text_of old) → new ≡ old
-    → inner ≡ block_scope (text_of old) block no_call env → map term_of_numbered found ≡ children_in inner (statements_at (text_of new) block)
-    → length found ≡ length (children_in (entered_scope (statements_at (text_of old) block) no_call env) (statements_at (text_of old) block))
-children_counted old new block env inner found whole same is e =
-    sym (length-map found term_of_numbered) ∙ ap length e
-    ∙ ap (λ (x : Source). length (children_in inner (statements_at (text_of x) block))) same
-    ∙ ap (λ (x : Env). length (children_in x (statements_at (text_of old) block))) (is ∙ whole.scopes block no_call env)
 
 -- a number in memory
 pub number_form : (n : ℤ) → val_of (Number n) ≡ NumberVal n

@@ -23,12 +23,12 @@ use Rattle.scad_design.specs.Designs.{Design}
 use Rattle.scad_design.specs.Trees.{IsPlacedAs, IsStopOf}
 use Rattle.scad_design.specs.View.{plain_of}
 use Rattle.scad_design.specs.declared.design.Design.{Design as DesignIn}
-use Rattle.scad_eval.specs.declared.position.Position.{Position}
-use Rattle.scad_eval.specs.declared.position.MemberResults.{MemberResults}
+use Rattle.scad_pieces.specs.declared.position.Position.{Position}
+use Rattle.scad_pieces.specs.declared.position.MemberResults.{MemberResults}
 use Rattle.scad_eval.specs.declared.evaluator.InstanceEvaluator.{InstanceEvaluator}
 use Rattle.scad_meaning.specs.Verdicts.{Judge, IsRight}
 use Rattle.scad_meaning.specs.Meaning.{Stand, made_within, each_in_scope, program_stand, or_all, design_of}
-use Rattle.scad_eval.specs.Seen.{Told, members_seen}
+use Rattle.scad_pieces.specs.Seen.{Told, members_seen}
 use Rattle.scad_eval.specs.Steps.{block_members}
 use Rattle.scad_eval.specs.Keeping.{stand_at, Says}
 use Rattle.scad_meaning.specs.Sources.{a_tree, a_fault, IsMeaning, IsMeaningOfDesign, IsMeaningStop, HoldsFault}

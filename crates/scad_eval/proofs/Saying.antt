@@ -22,15 +22,15 @@ use Rattle.scad_func.specs.Evaluations.{CallBegins, EvaluationBegins, SpecialsBe
 use Rattle.scad_func.specs.Evaluations as there
 use Rattle.scad_func.specs.declared.source.Source.{Source}
 use Rattle.scad_modules.specs.Effects.{ChosenCall}
-use Rattle.scad_eval.specs.declared.position.Position.{Position}
-use Rattle.scad_eval.specs.declared.position.InstanceResult.{InstanceResult}
-use Rattle.scad_eval.specs.declared.position.MemberResults.{MemberResults}
+use Rattle.scad_pieces.specs.declared.position.Position.{Position}
+use Rattle.scad_pieces.specs.declared.position.InstanceResult.{InstanceResult}
+use Rattle.scad_pieces.specs.declared.position.MemberResults.{MemberResults}
 use Rattle.scad_eval.specs.declared.evaluator.InstanceEvaluator.{InstanceEvaluator}
 use Rattle.scad_meaning.specs.Verdicts.{Judge, IsRight}
 use Rattle.scad_meaning.specs.Bodies.{children_in, is_marked}
 use Rattle.scad_meaning.specs.Loops.{chosen_among}
 use Rattle.scad_meaning.specs.Meaning.{Stand, Made, Members, Makes, standing, chained, called_from, marked_from, setting, made_within, instance_made, core_made, core_of, made_of, each_assigned, each_member, children_made, no_members, and_members}
-use Rattle.scad_eval.specs.Seen.{TellsAs, Told, made_seen, members_seen, member_seen, apart, IsLengthened, in_front}
+use Rattle.scad_pieces.specs.Seen.{TellsAs, Told, made_seen, members_seen, member_seen, apart, IsLengthened, in_front}
 use Rattle.scad_eval.specs.Keeping.{left_at, stand_at, Stays, Enters, Equation, Says}
 use Rattle.scad_eval.specs.Steps.{block_members}
 use Rattle.scad_eval.proofs.Telling.{along, then_told, then_then, front_of_none, no_memory}

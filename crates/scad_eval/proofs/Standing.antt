@@ -10,11 +10,11 @@ use Rattle.scad_func.specs.View.{seen}
 use Rattle.scad_func.specs.Evaluations.{Keeps}
 use Rattle.scad_func.specs.declared.source.Source.{Source}
 use Rattle.scad_meaning.specs.declared.extrusion.Extrusion.{Extrusion}
-use Rattle.scad_eval.specs.declared.position.Position.{Position}
+use Rattle.scad_pieces.specs.declared.position.Position.{Position}
 use Rattle.scad_eval.specs.declared.evaluator.InstanceEvaluator.{InstanceEvaluator}
 use Rattle.scad_meaning.specs.Verdicts.{Judge, IsRight}
 use Rattle.scad_meaning.specs.Meaning.{Stand, made_within}
-use Rattle.scad_eval.specs.Seen.{Told}
+use Rattle.scad_pieces.specs.Seen.{Told}
 use Rattle.scad_eval.specs.Keeping.{left_at, stand_at, IsChecked, Stays, Enters, Assigns, Equation, Says}
 use Rattle.scad_eval.proofs.Telling.{along}
 

@@ -8,9 +8,9 @@ use Rattle.scad_value.specs.View.{val_of}
 use Rattle.scad_design.specs.Designs.{Design}
 use Rattle.scad_func.specs.Meaning.{Outcome, Gives, Faults, then_with}
 use Rattle.scad_func.specs.View.{Tells}
-use Rattle.scad_eval.specs.declared.position.MemberResults.{MemberResults}
+use Rattle.scad_pieces.specs.declared.position.MemberResults.{MemberResults}
 use Rattle.scad_meaning.specs.Meaning.{Members, no_members, and_members, first_marked}
-use Rattle.scad_eval.specs.Seen.{TellsAs, Told, members_seen, IsLengthened, in_front}
+use Rattle.scad_pieces.specs.Seen.{TellsAs, Told, members_seen, IsLengthened, in_front}
 
 -- what was told of an outcome is told of an equal one
 pub along : {A B : Type 0} {see : ℕ → A → B} {r : Result A Stop} {turns leaves : ℕ} {a b : Outcome B}

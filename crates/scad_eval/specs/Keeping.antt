@@ -13,11 +13,11 @@ use Rattle.scad_func.specs.Definitions.{IsWhole}
 use Rattle.scad_func.specs.Evaluations.{scopes_there, ScopeEnters}
 use Rattle.scad_func.specs.declared.evaluation.Evaluation.{Evaluation}
 use Rattle.scad_meaning.specs.declared.extrusion.Extrusion.{Extrusion}
-use Rattle.scad_eval.specs.declared.position.Position.{Position}
+use Rattle.scad_pieces.specs.declared.position.Position.{Position}
 use Rattle.scad_eval.specs.declared.evaluator.InstanceEvaluator.{InstanceEvaluator}
 use Rattle.scad_meaning.specs.Verdicts.{Judge, IsRight}
 use Rattle.scad_meaning.specs.Meaning.{Stand, Made, Makes, made_within}
-use Rattle.scad_eval.specs.Seen.{Told, made_seen}
+use Rattle.scad_pieces.specs.Seen.{Told, made_seen}
 
 -- how many evaluations in one another are left
 abbrev pub left_at : InstanceEvaluator → ℕ

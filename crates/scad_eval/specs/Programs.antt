@@ -10,7 +10,7 @@ use Rattle.scad_design.specs.declared.design.Design.{Design as DesignIn}
 use Rattle.scad_design.specs.View.{plain_of}
 use Rattle.scad_meaning.specs.Verdicts.{Judge, IsRight}
 use Rattle.scad_meaning.specs.Meaning.{design_of}
-use Rattle.scad_eval.specs.Seen.{Told}
+use Rattle.scad_pieces.specs.Seen.{Told}
 
 -- the design of a program, or its fault, unless memory ran out
 abbrev pub TellsDesign : LengthUnit → List StatementTerm → Result DesignIn Stop → Type 0

@@ -11,7 +11,7 @@ ghost use Rattle.scad_meaning.specs.Meaning.{assigned_value, assigned, each_assi
 ghost use Rattle.scad_eval.specs.Keeping.{stand_at, Stands, Assigns, Says};
 
 use crate::evaluator::InstanceEvaluator;
-use crate::position::Position;
+use scad_pieces::Position;
 use scad_scope::Assignment;
 use text_place::Stop;
 

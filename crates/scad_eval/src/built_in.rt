@@ -1,6 +1,6 @@
 //! Calls of built-in modules.
 
-ghost use Rattle.std.specs.Prelude.{◌≡◌, IsTrue, OnOk, if◌then◌else◌};
+ghost use Rattle.std.specs.Prelude.{IsTrue, OnOk};
 ghost use Rattle.csg_tree.specs.declared.op.Op.TheVariants.{Union};
 ghost use Rattle.primitives.specs.Sizes.{IsSafe};
 ghost use Rattle.scad_ast.specs.ExprView.{args_of};
@@ -11,14 +11,12 @@ ghost use Rattle.scad_modules.specs.Table.{module_named};
 ghost use Rattle.scad_modules.specs.View.{call_of};
 ghost use Rattle.scad_design.specs.Designs.{moved_by};
 ghost use Rattle.scad_meaning.specs.Meaning.{built_in_made as built_in_at, effect_made as effect_at, body_made, made_moved, hull_made, checked, extruding};
-ghost use Rattle.scad_eval.specs.Seen.{made_seen};
+ghost use Rattle.scad_pieces.specs.Seen.{made_seen};
 ghost use Rattle.scad_eval.specs.Keeping.{Stands, Stays, Says};
 ghost use Rattle.scad_eval.specs.Steps.{built_in_given};
 ghost use Rattle.scad_eval.specs.Within.{body_seen, IsInBlock};
 
-use crate::arguments::{silent, unknown};
 use crate::evaluator::InstanceEvaluator;
-use crate::position::{InstanceResult, NumberedBody, Position};
 use csg_tree::Op;
 use int_transform::Step;
 use primitives::size_fault;
@@ -26,6 +24,9 @@ use scad_ast::Args;
 use scad_func::with;
 use scad_meaning::Extrusion;
 use scad_modules::{BuiltinModule, Effect, builtin_module};
+use scad_pieces::{
+    InstanceResult, NumberedBody, Position, arguments_for, effect_of, silent, unknown,
+};
 use scad_scope::{GivenArguments, fault_at};
 use scad_value::Value;
 use text_place::{Place, Stop};
@@ -50,7 +51,7 @@ impl InstanceEvaluator<'_, '_> {
         match builtin_module(name) {
             None => Err(fault_at(unknown(name), place)),
             Some(built_in) => {
-                let given = self.arguments_for(position.scope, built_in, args)?;
+                let given = arguments_for(&mut self.evaluation, position.scope, built_in, args)?;
                 self.built_in_made(position, place, built_in, given, body)
             }
         }
@@ -76,7 +77,14 @@ impl InstanceEvaluator<'_, '_> {
         let GivenArguments { slots, specials } = given;
         let begun = self.evaluation.begin_specials(specials);
         let (slots, length) = with(slots, begun)?;
-        let effect = self.effect_of(position, place, built_in, slots)?;
+        let effect = effect_of(
+            &self.evaluation,
+            self.unit,
+            position,
+            place,
+            built_in,
+            slots,
+        )?;
         let made = self.effect_made(position, place, effect, body)?;
         self.evaluation.end_specials(length);
         Ok(made)

@@ -1,6 +1,6 @@
 //! Calls of children.
 
-ghost use Rattle.std.specs.Prelude.{◌≡◌, ◌<◌, OnOk};
+ghost use Rattle.std.specs.Prelude.{◌<◌, OnOk};
 ghost use Rattle.scad_scope.specs.Table.{rows_of};
 ghost use Rattle.scad_func.specs.Meaning.{opened, call_in, one_call_fewer};
 ghost use Rattle.scad_func.specs.View.{text_of, seen};
@@ -9,14 +9,13 @@ ghost use Rattle.scad_func.specs.Evaluations.{scopes_there};
 ghost use Rattle.scad_modules.specs.Bounds.{IsSafeChoice};
 ghost use Rattle.scad_modules.specs.View.{chosen_of};
 ghost use Rattle.scad_meaning.specs.Meaning.{children_made as children_at, called_from};
-ghost use Rattle.scad_eval.specs.Seen.{made_seen};
+ghost use Rattle.scad_pieces.specs.Seen.{made_seen};
 ghost use Rattle.scad_eval.specs.Keeping.{Stands, Stays, Says};
 
 use crate::evaluator::InstanceEvaluator;
-use crate::joins::{joined, nothing_made};
-use crate::position::{InstanceResult, Position};
 use csg_tree::Op;
 use scad_modules::Chosen;
+use scad_pieces::{InstanceResult, Position, joined, nothing_made};
 use scad_scope::Call;
 use text_place::{Place, Stop};
 

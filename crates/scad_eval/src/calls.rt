@@ -1,6 +1,6 @@
 //! Calls of modules of the source.
 
-ghost use Rattle.std.specs.Prelude.{◌≡◌, ◌<◌, IsTrue, IfOk, OnOk, length};
+ghost use Rattle.std.specs.Prelude.{◌≡◌, ◌<◌, IsTrue, OnOk, length};
 ghost use Rattle.scad_ast.specs.ExprView.{args_of};
 ghost use Rattle.scad_ast.specs.StatementView.{params_of, body_of};
 ghost use Rattle.scad_value.specs.Values.{vals_from};
@@ -13,17 +13,16 @@ ghost use Rattle.scad_func.specs.View.{text_of, seen, arguments_of, arguments_bo
 ghost use Rattle.scad_func.specs.Definitions.{IsBlockOf};
 ghost use Rattle.scad_func.specs.Evaluations.{scopes_there};
 ghost use Rattle.scad_meaning.specs.Meaning.{call_made, module_made as module_at};
-ghost use Rattle.scad_eval.specs.Seen.{made_seen};
+ghost use Rattle.scad_pieces.specs.Seen.{made_seen};
 ghost use Rattle.scad_eval.specs.Keeping.{Stands, Stays, Says};
 ghost use Rattle.scad_eval.specs.Steps.{module_filled, module_given};
 ghost use Rattle.scad_eval.specs.Within.{body_seen, IsInBlock};
 
 use crate::evaluator::InstanceEvaluator;
-use crate::joins::joined;
-use crate::position::{InstanceResult, NumberedBody, Position};
 use csg_tree::Op;
 use scad_ast::Args;
 use scad_func::with;
+use scad_pieces::{InstanceResult, NumberedBody, Position, joined};
 use scad_scope::{Call, GivenArguments, Module, Names};
 use scad_value::Value;
 use text_place::{Place, Stop};

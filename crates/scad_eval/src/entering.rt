@@ -1,8 +1,6 @@
 //! Calls that are counted, and the scopes of modules.
 
-ghost use Rattle.std.specs.Prelude.{◌≡◌, ◌+◌, ◌<◌, ◌≤◌, ℕ, IfOk, IfErr, OnOk, IsTrue, length};
-ghost use Rattle.text_place.specs.declared.fault.FaultKind.TheVariants.{TooDeep, TooManyTurns};
-ghost use Rattle.scad_ast.specs.StatementView.{body_of};
+ghost use Rattle.std.specs.Prelude.{◌≡◌, ◌+◌, ◌<◌, IfOk, IfErr, OnOk, IsTrue, length};
 ghost use Rattle.scad_value.specs.Values.{vals_from};
 ghost use Rattle.scad_value.specs.View.{vals_in};
 ghost use Rattle.scad_builtin.specs.Builtins.{are_bounded};
@@ -10,14 +8,13 @@ ghost use Rattle.scad_scope.specs.Table.{rows_of};
 ghost use Rattle.scad_scope.specs.Blocks.{statements_of_body};
 ghost use Rattle.scad_scope.specs.TextView.{module_of};
 ghost use Rattle.scad_func.specs.View.{text_of, seen};
-ghost use Rattle.scad_func.specs.Definitions.{IsBlockOf, IsWhole};
 ghost use Rattle.scad_func.specs.Evaluations.{scopes_there, CallBegins};
 ghost use Rattle.scad_meaning.specs.Meaning.{module_scope};
 ghost use Rattle.scad_eval.specs.Keeping.{Enters, StopsBefore};
-ghost use Rattle.scad_eval.specs.Within.{body_seen, IsInBlock};
+ghost use Rattle.scad_eval.specs.Within.{body_seen, IsCallOf};
 
 use crate::evaluator::InstanceEvaluator;
-use crate::position::NumberedBody;
+use scad_pieces::{NumberedBody, count_children};
 use scad_scope::{Call, Module};
 use scad_value::Value;
 use text_place::{NoMemory, Place, Stop};
@@ -45,11 +42,9 @@ impl InstanceEvaluator<'_, '_> {
         values: Vec<Value>,
         body: NumberedBody<'_>,
     ) -> Result<u32, NoMemory>
-        requires whole { IsWhole (text_of self.old.evaluation.source.now) }
+        requires called { IsCallOf (text_of self.old.evaluation.source.now) defined body }
         requires caller { caller < scopes_there self.old.evaluation }
-        requires block { IsInBlock (text_of self.old.evaluation.source.now) body }
         requires home { home < scopes_there self.old.evaluation }
-        requires its_block { IsBlockOf (text_of self.old.evaluation.source.now) defined.block (body_of defined.body.now) }
         requires count { length values.items ≡ length defined.params.now.items.items }
         requires bounded { IsTrue (are_bounded (vals_in values.items)) }
         ensures entered { IfOk result (Enters self.old self.new) }
@@ -59,7 +54,7 @@ impl InstanceEvaluator<'_, '_> {
             ≡ module_scope env (module_of defined.entry) (vals_from (vals_in values.items)) (statements_of_body (body_seen body.entry)) outside) }
         ensures turns { self.new.evaluation.turns ≡ self.old.evaluation.turns }
     {
-        let count = self.count_children(caller, body.block)?;
+        let count = count_children(&mut self.evaluation, caller, body.block)?;
         let call = Call {
             children: body.block,
             caller,

@@ -1,6 +1,6 @@
 //! Instances and their marks.
 
-ghost use Rattle.std.specs.Prelude.{◌≡◌, All, true, map, OnOk, if◌then◌else◌};
+ghost use Rattle.std.specs.Prelude.{All, true, map, OnOk, if◌then◌else◌};
 ghost use Rattle.csg_tree.specs.declared.op.Op.TheVariants.{Union};
 ghost use Rattle.scad_ast.specs.ExprView.{term_of};
 ghost use Rattle.scad_value.specs.Values.{truth_of};
@@ -8,16 +8,17 @@ ghost use Rattle.scad_func.specs.Meaning.{Gives, then_with, value_at};
 ghost use Rattle.scad_func.specs.View.{text_of};
 ghost use Rattle.scad_meaning.specs.Meaning.{setting, body_made, made_nothing, each_member, core_of, core_made, instance_made};
 ghost use Rattle.scad_pieces.specs.Positions.{term_of_numbered, HasBlocks};
-ghost use Rattle.scad_eval.specs.Seen.{made_seen, members_seen};
+ghost use Rattle.scad_pieces.specs.Seen.{made_seen, members_seen};
 ghost use Rattle.scad_eval.specs.Keeping.{Stands, Stays, Says};
 ghost use Rattle.scad_eval.specs.Within.{body_seen, IsInBlock};
 
 use crate::evaluator::InstanceEvaluator;
-use crate::joins::{no_members, nothing_made, set_apart, with_made};
-use crate::position::{InstanceResult, MemberResults, NumberedBody, Position};
 use csg_tree::Op;
 use scad_ast::{Core, Expr};
-use scad_pieces::{NumberedInstance, is_marked};
+use scad_pieces::{
+    InstanceResult, MemberResults, NumberedBody, NumberedInstance, Position, is_child, is_marked,
+    no_members, nothing_made, set_apart, with_made,
+};
 use scad_scope::fault_at;
 use scad_value::truth;
 use text_place::{FaultKind, Stop};
@@ -175,7 +176,7 @@ impl InstanceEvaluator<'_, '_> {
     {
         let mut members = no_members(self.evaluation.alloc);
         'each: for instance in instances {
-            let is_member = self.is_child(position.scope, instance.instance);
+            let is_member = is_child(&self.evaluation, position.scope, instance.instance);
             let next = self.instance(position, *instance);
             members = with_made(members, is_member, next)?;
         }

@@ -1,22 +1,20 @@
 //! Shapes, as the leaves of designs.
 
-ghost use Rattle.std.specs.Prelude.{◌≡◌};
 ghost use Rattle.scad_modules.specs.Bounds.{IsSafeSolid, IsSafeFlat};
 ghost use Rattle.scad_modules.specs.View.{solid_of as solid_call, flat_of as flat_call};
 ghost use Rattle.scad_design.specs.View.{plain_of};
-ghost use Rattle.scad_eval.specs.declared.position.Position.{Position};
+ghost use Rattle.scad_pieces.specs.declared.position.Position.{Position};
 ghost use Rattle.scad_meaning.specs.Verdicts.{solid_of, extruded};
 ghost use Rattle.scad_meaning.specs.Meaning.{checked, leaf_made, flat_made, hull_made};
-ghost use Rattle.scad_eval.specs.Seen.{made_seen, IsStopAt};
+ghost use Rattle.scad_pieces.specs.Seen.{made_seen, IsStopAt};
 ghost use Rattle.scad_eval.specs.Keeping.{IsThrough, Stands, Stays, Says};
 
 use crate::evaluator::InstanceEvaluator;
-use crate::position::{InstanceResult, Position};
 use primitives::extrude;
 use scad_design::{Design, Part};
 use scad_meaning::Extrusion;
 use scad_modules::{FlatShape, SolidShape};
-use scad_pieces::{design_hull, flat_shape, is_nothing, solid_shape};
+use scad_pieces::{InstanceResult, Position, design_hull, flat_shape, is_nothing, solid_shape};
 use scad_scope::fault_at;
 use shape_planes::{Shape, ShapeStop};
 use text_place::{FaultKind, Place, Stop};

@@ -1,24 +1,25 @@
 //! Loops.
 
-ghost use Rattle.std.specs.Prelude.{◌≡◌, ◌∷◌, [], map, IsTrue, OnOk};
+ghost use Rattle.std.specs.Prelude.{[], map, IsTrue, OnOk};
 ghost use Rattle.csg_tree.specs.declared.op.Op.TheVariants.{Union};
 ghost use Rattle.scad_ast.specs.StatementView.{binder_of, binders_of};
 ghost use Rattle.scad_value.specs.Values.{is_bounded};
 ghost use Rattle.scad_value.specs.View.{val_of};
 ghost use Rattle.scad_func.specs.View.{text_of};
 ghost use Rattle.scad_meaning.specs.Meaning.{loop_made, each_turn, each_step, in_loop};
-ghost use Rattle.scad_eval.specs.Items.{left_in};
-ghost use Rattle.scad_eval.specs.Seen.{made_seen, members_seen};
+ghost use Rattle.scad_pieces.specs.Items.{left_in};
+ghost use Rattle.scad_pieces.specs.Seen.{made_seen, members_seen};
 ghost use Rattle.scad_eval.specs.Keeping.{Stands, Stays, Says};
 ghost use Rattle.scad_eval.specs.Steps.{one_step};
 ghost use Rattle.scad_eval.specs.Within.{body_seen, IsInBlock};
 
 use crate::evaluator::InstanceEvaluator;
-use crate::items::Items;
-use crate::joins::{joined, no_members, with_made, with_members};
-use crate::position::{InstanceResult, MemberResults, NumberedBody, Position};
 use csg_tree::Op;
 use scad_ast::{Binder, Binders};
+use scad_pieces::{
+    InstanceResult, Items, MemberResults, NumberedBody, Position, joined, no_members, with_made,
+    with_members,
+};
 use scad_scope::fault_at;
 use scad_value::Value;
 use text_place::{FaultKind, Place, Stop};

@@ -13,13 +13,13 @@ ghost use Rattle.scad_meaning.specs.Sources.{IsMeaning, a_tree, IsMeaningStop, H
 ghost use Rattle.scad_eval.specs.Programs.{TellsDesign, IsFirstTable};
 
 use crate::evaluator::InstanceEvaluator;
-use crate::position::{MemberResults, Position};
 use csg_tree::{CsgTree, Op};
 use plane_predicate::Unit;
 use scad_ast::Program;
 use scad_design::{Design, balanced, place};
 use scad_func::{Evaluation, Source};
 use scad_meaning::programs_mean_proper_trees;
+use scad_pieces::{MemberResults, Position};
 use scad_scope::Scopes;
 use std::alloc::Global;
 use text_place::{NoMemory, Stop};

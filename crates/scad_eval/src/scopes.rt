@@ -5,16 +5,18 @@ ghost use Rattle.scad_func.specs.View.{text_of};
 ghost use Rattle.scad_func.specs.Definitions.{statements_at};
 ghost use Rattle.scad_func.specs.Evaluations.{scopes_there};
 ghost use Rattle.scad_meaning.specs.Meaning.{each_in_body, body_made};
-ghost use Rattle.scad_eval.specs.Seen.{made_seen, members_seen};
+ghost use Rattle.scad_pieces.specs.Seen.{made_seen, members_seen};
 ghost use Rattle.scad_eval.specs.Keeping.{Stands, Stays, Binds, Says};
-ghost use Rattle.scad_eval.specs.Steps.{chosen_seen, block_members, IsSafeChosen};
+ghost use Rattle.scad_pieces.specs.Calls.{chosen_seen, IsSafeChosen};
+ghost use Rattle.scad_eval.specs.Steps.{block_members};
 ghost use Rattle.scad_eval.specs.Within.{body_seen, IsInBlock};
 
 use crate::evaluator::InstanceEvaluator;
-use crate::joins::joined;
-use crate::position::{InstanceResult, MemberResults, NumberedBody, Position};
 use csg_tree::Op;
 use scad_modules::Chosen;
+use scad_pieces::{
+    InstanceResult, MemberResults, NumberedBody, Position, chosen_instances, joined,
+};
 use text_place::Stop;
 
 impl InstanceEvaluator<'_, '_> {
@@ -71,7 +73,7 @@ impl InstanceEvaluator<'_, '_> {
     {
         let length = self.evaluation.chain_length()?;
         self.assign_all(position, block)?;
-        let instances = self.chosen_instances(position.scope, block, chosen)?;
+        let instances = chosen_instances(&self.evaluation, position.scope, block, chosen)?;
         let members = self.members(position, &instances)?;
         self.evaluation.end_specials(length);
         Ok(members)

@@ -83,3 +83,12 @@ pub record SpecialsBegin (old new : Evaluation) (count : ℕ) : Type 0 where
   pub number : count ≡ length (chain_of old.scopes.now)
   pub calls : new.calls ≡ old.calls
   pub depth : new.depth ≡ old.depth
+
+-- a binding in the newest scope: all else is as before, and where the scope was entered it still is
+pub record BindsIn (old new : Evaluation) (scope : ℕ) : Type 0 where
+  pub same : SameSetting old new
+  pub front : take scope (rows_of new.scopes.now) ≡ take scope (rows_of old.scopes.now)
+  pub there : scopes_there new ≡ scopes_there old
+  pub chain : chain_of new.scopes.now ≡ chain_of old.scopes.now
+  pub turns : new.turns ≡ old.turns
+  pub entered : (first : Evaluation) → ScopeEnters first old scope → ScopeEnters first new scope

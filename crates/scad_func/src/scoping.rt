@@ -1,9 +1,9 @@
-ghost use Rattle.std.specs.Prelude.{◌≡◌, ◌<◌, ◌≤◌, ◌+◌, [], ◌∷◌, ◌++◌, ℕ, length, map, take, IsTrue, IfOk, IfErr, IfSome, OnOk, OnErr};
+ghost use Rattle.std.specs.Prelude.{◌≡◌, ◌<◌, ◌≤◌, ◌+◌, [], ◌∷◌, ◌++◌, length, map, take, IsTrue, IfOk, IfErr, IfSome, OnOk, OnErr};
 ghost use Rattle.scad_ast.specs.StatementView.{params_of, body_of};
 ghost use Rattle.scad_value.specs.Values.{is_bounded, vals_from};
 ghost use Rattle.scad_value.specs.View.{val_of, vals_in};
 ghost use Rattle.scad_builtin.specs.Builtins.{are_bounded};
-ghost use Rattle.scad_scope.specs.Names.{have_bounded, oldest, find_in};
+ghost use Rattle.scad_scope.specs.Names.{have_bounded, oldest};
 ghost use Rattle.scad_scope.specs.Arguments.{names_of};
 ghost use Rattle.scad_scope.specs.Table.{rows_of, chain_of};
 ghost use Rattle.scad_scope.specs.Blocks.{assignments_of};
@@ -11,7 +11,7 @@ ghost use Rattle.scad_scope.specs.TextView.{assigned_of};
 ghost use Rattle.scad_func.specs.Meaning.{Within, call_in, module_in, no_call, opened, with_variable, with_values};
 ghost use Rattle.scad_func.specs.View.{IsCallFound, IsModuleFound, IsNoMemory, specials_in, seen, text_of};
 ghost use Rattle.scad_func.specs.Definitions.{statements_at, block_scope, IsBlockOf, IsWhole};
-ghost use Rattle.scad_func.specs.Evaluations.{Keeps, SameSetting, ScopeEnters, SpecialsBegin, scopes_there};
+ghost use Rattle.scad_func.specs.Evaluations.{Keeps, SameSetting, ScopeEnters, SpecialsBegin, BindsIn, scopes_there};
 
 use crate::arguments::bind_specials;
 use crate::bind::{bind_all, bind_one};
@@ -113,13 +113,8 @@ impl<'a> Evaluation<'a, '_> {
         requires bounded { IsTrue (is_bounded (val_of value)) }
         ensures bound { OnOk result (seen self.new.source.now (rows_of self.new.scopes.now) scope
             ≡ with_variable name.now (val_of value) (seen self.old.source.now (rows_of self.old.scopes.now) scope)) }
-        ensures entered { (first : Evaluation) → ScopeEnters first self.old scope → ScopeEnters first self.new scope }
+        ensures binds { BindsIn self.old self.new scope }
         ensures kept { OnErr result (Keeps self.old self.new) }
-        ensures same { SameSetting self.old self.new }
-        ensures front { take scope (rows_of self.new.scopes.now) ≡ take scope (rows_of self.old.scopes.now) }
-        ensures there { scopes_there self.new ≡ scopes_there self.old }
-        ensures chain { chain_of self.new.scopes.now ≡ chain_of self.old.scopes.now }
-        ensures turns { self.new.turns ≡ self.old.turns }
     {
         bind_one(self.alloc, self.scopes, scope, name, value)
     }
@@ -136,12 +131,7 @@ impl<'a> Evaluation<'a, '_> {
         requires bounded { IsTrue (are_bounded (vals_in values.items)) }
         ensures bound { OnOk result (seen self.new.source.now (rows_of self.new.scopes.now) scope
             ≡ with_values (names_of (params_of params.now)) (vals_from (vals_in values.items)) (seen self.old.source.now (rows_of self.old.scopes.now) scope)) }
-        ensures entered { (first : Evaluation) → ScopeEnters first self.old scope → ScopeEnters first self.new scope }
-        ensures same { SameSetting self.old self.new }
-        ensures front { take scope (rows_of self.new.scopes.now) ≡ take scope (rows_of self.old.scopes.now) }
-        ensures there { scopes_there self.new ≡ scopes_there self.old }
-        ensures chain { chain_of self.new.scopes.now ≡ chain_of self.old.scopes.now }
-        ensures turns { self.new.turns ≡ self.old.turns }
+        ensures binds { BindsIn self.old self.new scope }
     {
         bind_all(self.alloc, self.scopes, scope, params, values)
     }

@@ -1,3 +1,7 @@
 pub mod Answers
+pub mod BoundedItems
+pub mod Calls
 pub mod Choosing
+pub mod Items
 pub mod Positions
+pub mod Seen

@@ -1,10 +1,8 @@
 //! Shapes by what is known of them, or the first check that they fail.
 
-ghost use Rattle.std.specs.Prelude.{◌≡◌, None};
 ghost use Rattle.scad_modules.specs.Bounds.{IsSafeSolid, IsSafeFlat};
-ghost use Rattle.primitives.specs.Sizes.{IsSafe};
 ghost use Rattle.scad_modules.specs.View.{solid_of as solid_call, flat_of as flat_call};
-ghost use Rattle.scad_meaning.specs.Verdicts.{Judge, IsRight, solid_of, outline_of, extruded};
+ghost use Rattle.scad_meaning.specs.Verdicts.{Judge, IsRight, solid_of, outline_of};
 ghost use Rattle.scad_pieces.specs.Answers.{TellsShape, TellsFlat};
 
 use plane_predicate::Unit;

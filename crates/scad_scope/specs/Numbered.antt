@@ -1,5 +1,6 @@
 -- Tables in which each definition's number is one of so many.
 use Rattle.std.specs.Prelude.{ℕ, List, [], ◌∷◌, length, Bool, true, ◌&&◌, nat_lt}
+use Rattle.std.specs.Bool.{IsTrue}
 use Rattle.scad_scope.specs.Names.{Pairs, Row}
 use Rattle.scad_ast.specs.Terms.{StatementTerm}
 use Rattle.scad_scope.specs.Blocks.{Entry, functions_of_program, modules_of_program}
@@ -20,6 +21,16 @@ functions_below n = each_row (λ r. numbers_below n r.functions)
 -- each module of a table's scopes is one of so many
 abbrev pub modules_below : ℕ → List Row → Bool
 modules_below n = each_row (λ r. numbers_below n r.modules)
+
+-- after a change each function and each module of a table's scopes is one of so many, where it was so before
+pub record StaysBelow (count_of_functions count_of_modules : ℕ) (before after : List Row) : Type 0 where
+  pub functions : IsTrue (functions_below count_of_functions before) → IsTrue (functions_below count_of_functions after)
+  pub modules : IsTrue (modules_below count_of_modules before) → IsTrue (modules_below count_of_modules after)
+
+-- so it is for any number
+pub record StaysNumbered (before after : List Row) : Type 0 where
+  pub functions : (n : ℕ) → IsTrue (functions_below n before) → IsTrue (functions_below n after)
+  pub modules : (n : ℕ) → IsTrue (modules_below n before) → IsTrue (modules_below n after)
 
 -- the numbers of each block's own functions and modules are below these
 abbrev pub entries_below : ℕ → ℕ → List Entry → Bool

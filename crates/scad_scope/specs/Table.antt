@@ -41,3 +41,8 @@ pub record IsVariable (wanted : Option Val) (value : Value) : Type 0 where
 abbrev pub call_told : (ℕ → NumberedEnv) → Option Call → NumberedCall
 call_told scope None = no_numbered_call
 call_told scope (Some call) = numbered_call call.children (scope call.caller)
+
+-- each scope that was there, and the chain, is as before
+pub record KeepsScopes (before after : Scopes) : Type 0 where
+  pub scopes : (k : ℕ) → k < length (rows_of before) → env_of (rows_of after) k ≡ env_of (rows_of before) k
+  pub chain : chain_of after ≡ chain_of before

@@ -27,16 +27,16 @@ pub struct Scopes {
 }
 
 impl Scopes {
-    ghost use Rattle.std.specs.Prelude.{◌≡◌, ◌<◌, ℕ, List, [], ◌∷◌, ◌++◌, length, take, IfOk, IfErr, OnOk, OnErr, MatchResult, IsTrue, MatchOption, Some, None, IfSome, ◌≤◌, ◌-◌};
+    ghost use Rattle.std.specs.Prelude.{◌≡◌, ◌<◌, ℕ, List, [], ◌∷◌, ◌++◌, length, take, IfOk, OnOk, OnErr, MatchResult, IsTrue, MatchOption, Some, None, IfSome, ◌≤◌, ◌-◌};
     ghost use Rattle.text_place.specs.declared.fault.FaultKind.TheVariants.{UnknownName, UnknownFunction, UnknownModule};
     ghost use Rattle.scad_value.specs.Values.{Val, is_bounded};
     ghost use Rattle.scad_value.specs.View.{val_of};
     ghost use Rattle.scad_scope.specs.Names.{Pairs, find_in, env_of, variable_in, function_in, module_in, have_bounded, first_row, empty_row, bound_in, with_pair, NumberedWithin, no_numbered_call, numbered_call, enclosing_call, called_row, first_chain, oldest, Row};
     ghost use Rattle.scad_scope.specs.Blocks.{row_of_block};
     ghost use Rattle.scad_scope.specs.Tables.{text_held, functions_held, modules_held};
-    ghost use Rattle.scad_scope.specs.Numbered.{functions_below, modules_below};
+    ghost use Rattle.scad_scope.specs.Numbered.{functions_below, modules_below, StaysBelow, StaysNumbered};
     ghost use Rattle.scad_scope.specs.View.{definition_in, row_of};
-    ghost use Rattle.scad_scope.specs.Table.{rows_of, chain_of, call_told, IsFound, IsMissing, IsVariable};
+    ghost use Rattle.scad_scope.specs.Table.{rows_of, chain_of, call_told, IsFound, IsMissing, IsVariable, KeepsScopes};
 
     /// One empty scope, number 0, outside all others, and the chain with `$fn` 0, `$fa` 12 and `$fs` 2.
     pub fn new(alloc: Global) -> Result<Scopes, NoMemory>
@@ -77,12 +77,8 @@ impl Scopes {
         ensures unchanged { OnErr result (rows_of self.new ≡ rows_of self.old) }
         ensures inside { IfOk result (λ n. env_of (rows_of self.new) n ≡
             NumberedWithin n (row_of_block outer (text_held blocks.now) block) no_numbered_call (env_of (rows_of self.old) outer)) }
-        ensures kept { (k : ℕ) → k < length (rows_of self.old) → env_of (rows_of self.new) k ≡ env_of (rows_of self.old) k }
-        ensures chain { chain_of self.new ≡ chain_of self.old }
-        ensures functions { let n = length (functions_held blocks.now) in
-            IsTrue (functions_below n (rows_of self.old)) → IsTrue (functions_below n (rows_of self.new)) }
-        ensures modules { let n = length (modules_held blocks.now) in
-            IsTrue (modules_below n (rows_of self.old)) → IsTrue (modules_below n (rows_of self.new)) }
+        ensures kept { KeepsScopes self.old self.new }
+        ensures numbered { StaysBelow (length (functions_held blocks.now)) (length (modules_held blocks.now)) (rows_of self.old) (rows_of self.new) }
     {
         let scope = scope_of_block(alloc, outer, blocks, block)?;
         self.add(scope)
@@ -107,12 +103,8 @@ impl Scopes {
         ensures inside { IfOk result (λ n. env_of (rows_of self.new) n ≡ NumberedWithin n
             (called_row call.children call.caller (row_of_block outer (text_held blocks.now) block))
             (numbered_call call.children (env_of (rows_of self.old) call.caller)) (env_of (rows_of self.old) outer)) }
-        ensures kept { (k : ℕ) → k < length (rows_of self.old) → env_of (rows_of self.new) k ≡ env_of (rows_of self.old) k }
-        ensures chain { chain_of self.new ≡ chain_of self.old }
-        ensures functions { let n = length (functions_held blocks.now) in
-            IsTrue (functions_below n (rows_of self.old)) → IsTrue (functions_below n (rows_of self.new)) }
-        ensures modules { let n = length (modules_held blocks.now) in
-            IsTrue (modules_below n (rows_of self.old)) → IsTrue (modules_below n (rows_of self.new)) }
+        ensures kept { KeepsScopes self.old self.new }
+        ensures numbered { StaysBelow (length (functions_held blocks.now)) (length (modules_held blocks.now)) (rows_of self.old) (rows_of self.new) }
     {
         let entered = scope_of_block(alloc, outer, blocks, block)?;
         self.add(entered.of_call(call))
@@ -128,12 +120,8 @@ impl Scopes {
         ensures unchanged { OnErr result (rows_of self.new ≡ rows_of self.old) }
         ensures inside { IfOk result (λ n. env_of (rows_of self.new) n ≡
             NumberedWithin n (empty_row outer) no_numbered_call (env_of (rows_of self.old) outer)) }
-        ensures kept { (k : ℕ) → k < length (rows_of self.old) → env_of (rows_of self.new) k ≡ env_of (rows_of self.old) k }
-        ensures chain { chain_of self.new ≡ chain_of self.old }
-        ensures functions { (n : ℕ) →
-            IsTrue (functions_below n (rows_of self.old)) → IsTrue (functions_below n (rows_of self.new)) }
-        ensures modules { (n : ℕ) →
-            IsTrue (modules_below n (rows_of self.old)) → IsTrue (modules_below n (rows_of self.new)) }
+        ensures kept { KeepsScopes self.old self.new }
+        ensures numbered { StaysNumbered (rows_of self.old) (rows_of self.new) }
     {
         self.add(empty(alloc, outer))
     }
@@ -161,10 +149,7 @@ impl Scopes {
         ensures back { (front behind : List Row) → rows_of self.old ≡ front ++ behind → length front ≡ to → rows_of self.new ≡ front }
         ensures kept { (k : ℕ) → k < to → env_of (rows_of self.new) k ≡ env_of (rows_of self.old) k }
         ensures chain { chain_of self.new ≡ chain_of self.old }
-        ensures functions { (n : ℕ) →
-            IsTrue (functions_below n (rows_of self.old)) → IsTrue (functions_below n (rows_of self.new)) }
-        ensures modules { (n : ℕ) →
-            IsTrue (modules_below n (rows_of self.old)) → IsTrue (modules_below n (rows_of self.new)) }
+        ensures numbered { StaysNumbered (rows_of self.old) (rows_of self.new) }
     {
         self.scopes.truncate(to as usize);
     }
@@ -213,10 +198,7 @@ impl Scopes {
             with_pair name.now (val_of value) (env_of (rows_of self.old) scope)) }
         ensures kept { (k : ℕ) → k < scope → env_of (rows_of self.new) k ≡ env_of (rows_of self.old) k }
         ensures chain { chain_of self.new ≡ chain_of self.old }
-        ensures functions { (n : ℕ) →
-            IsTrue (functions_below n (rows_of self.old)) → IsTrue (functions_below n (rows_of self.new)) }
-        ensures modules { (n : ℕ) →
-            IsTrue (modules_below n (rows_of self.old)) → IsTrue (modules_below n (rows_of self.new)) }
+        ensures numbered { StaysNumbered (rows_of self.old) (rows_of self.new) }
     {
         self.add_variable(alloc, scope, name, value)
     }

@@ -22,11 +22,11 @@ use Rattle.scad_func.specs.View.{seen, text_of, arguments_of, slots_in, specials
 use Rattle.scad_func.specs.Definitions.{statements_at}
 use Rattle.scad_func.specs.declared.source.Source.{Source}
 use Rattle.scad_scope.specs.declared.parameters.GivenArguments.{GivenArguments}
-use Rattle.scad_eval.specs.declared.position.Position.{Position}
-use Rattle.scad_eval.specs.Items.{left_in}
+use Rattle.scad_pieces.specs.declared.position.Position.{Position}
+use Rattle.scad_pieces.specs.Items.{left_in}
 use Rattle.scad_meaning.specs.Meaning.{Stand, Members, Made, Makes, made_within, made_of, made_nothing, as_member, and_members, body_made, hull_made, children_made as children_at, effect_made as effect_at, each_member, each_step, each_turn, in_loop, module_scope, called_from, chained, standing, setting}
 use Rattle.scad_pieces.specs.Positions.{term_of_numbered, HasBlocks}
-use Rattle.scad_eval.specs.Seen.{members_seen, member_seen, apart}
+use Rattle.scad_pieces.specs.Seen.{members_seen, member_seen, apart}
 use Rattle.scad_eval.specs.declared.evaluator.InstanceEvaluator.{InstanceEvaluator}
 use Rattle.scad_func.specs.Evaluations.{CallBegins, SpecialsBegin}
 use Rattle.scad_meaning.specs.Bodies.{is_child}

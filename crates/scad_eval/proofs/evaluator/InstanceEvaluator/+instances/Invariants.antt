@@ -6,8 +6,8 @@ use Rattle.scad_meaning.specs.Meaning.{Members, made_within, each_member, each_s
 use Rattle.scad_pieces.specs.Positions.{term_of_numbered}
 use Rattle.scad_value.specs.Values.{Val, count_of}
 use Rattle.scad_func.specs.Meaning.{Outcome}
-use Rattle.scad_eval.specs.Items.{left_in}
-use Rattle.scad_eval.specs.Seen.{members_seen, in_front}
+use Rattle.scad_pieces.specs.Items.{left_in}
+use Rattle.scad_pieces.specs.Seen.{members_seen, in_front}
 use Rattle.scad_eval.specs.Keeping.{left_at, stand_at, Stays}
 use Rattle.scad_eval.specs.Within.{body_seen}
 use Rattle.scad_eval.proofs.Work.{work}

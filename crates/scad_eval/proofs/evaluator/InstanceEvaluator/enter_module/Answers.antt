@@ -12,20 +12,20 @@ use Rattle.scad_eval.proofs.evaluator.InstanceEvaluator.enter_module.Goals as go
 pub returns-clause-inside : goal.returns-clause-inside
 returns-clause-inside c =
     let e = c.args.self.now.evaluation in
-    let mid = c.count_children.new.self.evaluation in
+    let mid = c.count_children.new.evaluation in
     let a = c.enter_call.new.self in
     let b = c.bind_parameters.new.self in
     let d = c.bind.new.self in
     let scope = c.in_ok-opened.opened in
-    let stays = c.in_ok-count.ensures.stays in
+    let kept = c.in_ok-count.ensures.kept in
     let fits : FitsSigned w64 c.in_ok-count.count = search rules in
     let bound = simp to_z-of_z at c.in_ok-bind.ensures.bound in
     module_inside (text_of e.source.now) c.args.defined.block c.args.body.block (module_of c.args.defined) (body_seen c.args.body)
     (vals_from (vals_in c.args.values.items)) (seen e.source.now (rows_of e.scopes.now) c.args.caller) (seen e.source.now (rows_of e.scopes.now) c.args.home)
     (seen a.source.now (rows_of a.scopes.now) scope) (seen b.source.now (rows_of b.scopes.now) scope) (seen d.source.now (rows_of d.scopes.now) scope)
-    c.in_ok-count.count c.requires.whole c.requires.its_block c.requires.block
+    c.in_ok-count.count c.requires.called.whole c.requires.called.its_block c.requires.called.block
     (c.in_ok-opened.ensures.inside ∙ call_scope_same e.source.now mid.source.now (rows_of e.scopes.now) (rows_of mid.scopes.now)
-    c.args.defined.block c.args.body.block c.args.caller c.args.home stays.source stays.rows)
+    c.args.defined.block c.args.body.block c.args.caller c.args.home kept.source kept.rows)
     c.in_ok-bind_parameters.ensures.bound
     (bound ∙ ap (λ (v : Val). with_variable (codes "$children") v (seen b.source.now (rows_of b.scopes.now) scope)) (number_form c.in_ok-count.count))
     c.in_ok-count.ensures.count

@@ -2,7 +2,7 @@ use Rattle.std.proofs.Common.{refl}
 use Rattle.std.proofs.lemmas.Result.{err_from_is_err_and}
 use Rattle.scad_func.specs.Meaning.{Gives}
 use Rattle.scad_meaning.specs.Meaning.{hulled}
-use Rattle.scad_eval.specs.Seen.{made_seen}
+use Rattle.scad_pieces.specs.Seen.{made_seen}
 use Rattle.scad_eval.proofs.Telling.{along, stop_told, then_told}
 use Rattle.scad_eval.proofs.Leaving.{hull_checked}
 use Rattle.scad_eval.proofs.evaluator.InstanceEvaluator.hull.Goals as goal

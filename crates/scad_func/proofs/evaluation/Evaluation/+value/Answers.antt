@@ -593,4 +593,4 @@ in_new_scope-returns-clause-kept t c =
     ∙ ap (λ n. take n (before ++ empty_row c.args.scope ∷ [])) c.in_ok-inner.ensures.number
     ∙ take-append_seam before (empty_row c.args.scope ∷ []) in
     keeps_from _ _ (search rules) (search rules) (c.leave.ensures.rows ∙ front ∙ c.bind_all.ensures.front ∙ seam)
-    (c.leave.ensures.chain ∙ chain ∙ c.bind_all.ensures.chain ∙ c.in_ok-inner.ensures.chain) (search rules) (search rules)
+    (c.leave.ensures.chain ∙ chain ∙ c.bind_all.ensures.chain ∙ c.in_ok-inner.ensures.kept.chain) (search rules) (search rules)

@@ -15,13 +15,13 @@ returns-clause-kept c = binding_keeps (rows_of c.args.self.now) (rows_of c.add_v
     c.args.name.now (val_of c.args.value) c.add_variable.result c.add_variable.ensures.bound
     c.add_variable.ensures.unchanged
 
-pub returns-clause-functions : goal.returns-clause-functions
-returns-clause-functions c = λ n h. binding_passes (λ r. numbers_below n r.functions)
-    (rows_of c.args.self.now)
-    (rows_of c.add_variable.new.self) c.args.scope c.args.name.now (val_of c.args.value) (λ r. refl)
-    c.add_variable.result c.add_variable.ensures.bound c.add_variable.ensures.unchanged h
-
-pub returns-clause-modules : goal.returns-clause-modules
-returns-clause-modules c = λ n h. binding_passes (λ r. numbers_below n r.modules) (rows_of c.args.self.now)
-    (rows_of c.add_variable.new.self) c.args.scope c.args.name.now (val_of c.args.value) (λ r. refl)
-    c.add_variable.result c.add_variable.ensures.bound c.add_variable.ensures.unchanged h
+pub returns-clause-numbered : goal.returns-clause-numbered
+returns-clause-numbered c = record {
+  functions = λ n h. binding_passes (λ r. numbers_below n r.functions)
+      (rows_of c.args.self.now)
+      (rows_of c.add_variable.new.self) c.args.scope c.args.name.now (val_of c.args.value) (λ r. refl)
+      c.add_variable.result c.add_variable.ensures.bound c.add_variable.ensures.unchanged h;
+  modules = λ n h. binding_passes (λ r. numbers_below n r.modules) (rows_of c.args.self.now)
+      (rows_of c.add_variable.new.self) c.args.scope c.args.name.now (val_of c.args.value) (λ r. refl)
+      c.add_variable.result c.add_variable.ensures.bound c.add_variable.ensures.unchanged h;
+}

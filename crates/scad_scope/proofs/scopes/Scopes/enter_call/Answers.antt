@@ -30,19 +30,21 @@ returns-clause-inside c = entering_told (rows_of c.args.self.now)
     c.add.ensures.number (added c)
 
 pub returns-clause-kept : goal.returns-clause-kept
-returns-clause-kept c = entering_kept (rows_of c.args.self.now) (rows_of c.add.new.self) c.args.outer (row c)
-    c.add.result (added c) c.add.ensures.unchanged
+returns-clause-kept c = record {
+  scopes = entering_kept (rows_of c.args.self.now) (rows_of c.add.new.self) c.args.outer (row c)
+      c.add.result (added c) c.add.ensures.unchanged;
+  chain = c.add.ensures.chain;
+}
 
-pub returns-clause-functions : goal.returns-clause-functions
+pub returns-clause-numbered : goal.returns-clause-numbered
 unfolding row
-returns-clause-functions c = entering_passes
-    (λ r. numbers_below (length (functions_held c.args.blocks.now)) r.functions)
-    (rows_of c.args.self.now) (rows_of c.add.new.self) (row c) c.add.result (added c) c.add.ensures.unchanged
-    (entered_below c.args.outer c.args.blocks.now c.args.block).0
-
-pub returns-clause-modules : goal.returns-clause-modules
-unfolding row
-returns-clause-modules c = entering_passes
-    (λ r. numbers_below (length (modules_held c.args.blocks.now)) r.modules)
-    (rows_of c.args.self.now) (rows_of c.add.new.self) (row c) c.add.result (added c) c.add.ensures.unchanged
-    (entered_below c.args.outer c.args.blocks.now c.args.block).1
+returns-clause-numbered c = record {
+  functions = entering_passes
+      (λ r. numbers_below (length (functions_held c.args.blocks.now)) r.functions)
+      (rows_of c.args.self.now) (rows_of c.add.new.self) (row c) c.add.result (added c) c.add.ensures.unchanged
+      (entered_below c.args.outer c.args.blocks.now c.args.block).0;
+  modules = entering_passes
+      (λ r. numbers_below (length (modules_held c.args.blocks.now)) r.modules)
+      (rows_of c.args.self.now) (rows_of c.add.new.self) (row c) c.add.result (added c) c.add.ensures.unchanged
+      (entered_below c.args.outer c.args.blocks.now c.args.block).1;
+}

@@ -17,14 +17,17 @@ returns-clause-inside c = entering_told (rows_of c.args.self.now) (rows_of c.add
     (empty_row c.args.outer) c.add.result no_numbered_call refl refl c.add.ensures.number (added c)
 
 pub returns-clause-kept : goal.returns-clause-kept
-returns-clause-kept c = entering_kept (rows_of c.args.self.now) (rows_of c.add.new.self) c.args.outer
-    (empty_row c.args.outer) c.add.result (added c) c.add.ensures.unchanged
+returns-clause-kept c = record {
+  scopes = entering_kept (rows_of c.args.self.now) (rows_of c.add.new.self) c.args.outer
+      (empty_row c.args.outer) c.add.result (added c) c.add.ensures.unchanged;
+  chain = c.add.ensures.chain;
+}
 
-pub returns-clause-functions : goal.returns-clause-functions
-returns-clause-functions c = λ n h. entering_passes (λ r. numbers_below n r.functions)
-    (rows_of c.args.self.now)
-    (rows_of c.add.new.self) (empty_row c.args.outer) c.add.result (added c) c.add.ensures.unchanged refl h
-
-pub returns-clause-modules : goal.returns-clause-modules
-returns-clause-modules c = λ n h. entering_passes (λ r. numbers_below n r.modules) (rows_of c.args.self.now)
-    (rows_of c.add.new.self) (empty_row c.args.outer) c.add.result (added c) c.add.ensures.unchanged refl h
+pub returns-clause-numbered : goal.returns-clause-numbered
+returns-clause-numbered c = record {
+  functions = λ n h. entering_passes (λ r. numbers_below n r.functions)
+      (rows_of c.args.self.now)
+      (rows_of c.add.new.self) (empty_row c.args.outer) c.add.result (added c) c.add.ensures.unchanged refl h;
+  modules = λ n h. entering_passes (λ r. numbers_below n r.modules) (rows_of c.args.self.now)
+      (rows_of c.add.new.self) (empty_row c.args.outer) c.add.result (added c) c.add.ensures.unchanged refl h;
+}

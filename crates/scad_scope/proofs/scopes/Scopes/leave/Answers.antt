@@ -28,10 +28,10 @@ returns-clause-back c = λ front behind e len. cut _ _ c.args.to c.truncate.ensu
 pub returns-clause-kept : goal.returns-clause-kept
 returns-clause-kept c = λ k h. ap (λ rs. env_of rs k) (cut _ _ c.args.to c.truncate.ensures.items) ∙ cut_kept (rows_of c.args.self.now) c.args.to k c.requires.there h
 
-pub returns-clause-functions : goal.returns-clause-functions
-returns-clause-functions c = λ n h. subst (λ rs. IsTrue (each_row (λ r. numbers_below n r.functions) rs)) (sym (cut _ _ c.args.to c.truncate.ensures.items))
-    (cut_passes (λ r. numbers_below n r.functions) c.args.to (rows_of c.args.self.now) h)
-
-pub returns-clause-modules : goal.returns-clause-modules
-returns-clause-modules c = λ n h. subst (λ rs. IsTrue (each_row (λ r. numbers_below n r.modules) rs)) (sym (cut _ _ c.args.to c.truncate.ensures.items))
-    (cut_passes (λ r. numbers_below n r.modules) c.args.to (rows_of c.args.self.now) h)
+pub returns-clause-numbered : goal.returns-clause-numbered
+returns-clause-numbered c = record {
+  functions = λ n h. subst (λ rs. IsTrue (each_row (λ r. numbers_below n r.functions) rs)) (sym (cut _ _ c.args.to c.truncate.ensures.items))
+      (cut_passes (λ r. numbers_below n r.functions) c.args.to (rows_of c.args.self.now) h);
+  modules = λ n h. subst (λ rs. IsTrue (each_row (λ r. numbers_below n r.modules) rs)) (sym (cut _ _ c.args.to c.truncate.ensures.items))
+      (cut_passes (λ r. numbers_below n r.modules) c.args.to (rows_of c.args.self.now) h);
+}

@@ -1,0 +1,157 @@
+//! The arguments of built-in modules, and their effects.
+
+ghost use Rattle.std.specs.Prelude.{◌≡◌, ◌<◌, IsTrue, IfOk, is_some, codes, if◌then◌else◌};
+ghost use Rattle.text_place.specs.declared.fault.FaultKind.TheVariants.{NotInProfile, UnknownModule};
+ghost use Rattle.scad_ast.specs.Terms.{args_from};
+ghost use Rattle.scad_ast.specs.ExprView.{arg_of, args_of};
+ghost use Rattle.scad_ast.specs.StatementView.{body_of};
+ghost use Rattle.scad_scope.specs.Names.{find_in, have_bounded};
+ghost use Rattle.scad_scope.specs.Table.{chain_of};
+ghost use Rattle.scad_scope.specs.Arguments.{nothing_given};
+ghost use Rattle.scad_func.specs.View.{TellsArguments, slots_in, slots_bounded, specials_in};
+ghost use Rattle.scad_func.specs.Evaluations.{Keeps, scopes_there, setting};
+ghost use Rattle.scad_modules.specs.Bounds.{IsSafeCall};
+ghost use Rattle.scad_modules.specs.Calls.{effect_of as effect_at};
+ghost use Rattle.scad_modules.specs.Table.{is_left_out as leaves_out};
+ghost use Rattle.scad_modules.specs.View.{call_of};
+ghost use Rattle.scad_meaning.specs.Meaning.{arguments_for as arguments_at, each_said};
+ghost use Rattle.scad_pieces.specs.Seen.{TellsSilence};
+ghost use Rattle.scad_pieces.specs.Calls.{TellsEffectAt, said_once, TellsSpecials};
+
+use crate::bodies::is_bare;
+use crate::joins::nothing_made;
+use crate::position::{InstanceResult, Position};
+use plane_predicate::Unit;
+use scad_ast::{Arg, Args, Body};
+use scad_func::Evaluation;
+use scad_modules::{BuiltinModule, Effect, effect, is_left_out};
+use scad_scope::{GivenArguments, Names, SpecialArgument, fault_at, has_special};
+use scad_value::{Value, ValueStop};
+use text_place::{FaultKind, Place, Stop};
+
+/// The effect of a call of a built-in module, in a unit. Its faults stand at the module's name.
+pub fn effect_of(
+    evaluation: &Evaluation<'_, '_>,
+    unit: Unit,
+    position: Position,
+    place: Place,
+    built_in: BuiltinModule,
+    slots: Vec<Option<Value>>,
+) -> Result<Effect, Stop>
+    requires { IsTrue (slots_bounded (slots_in slots.items)) }
+    ensures effect { TellsEffectAt result place (effect_at unit (is_some position.inside)
+        (find_in (chain_of evaluation.now.scopes.now) (codes "fn")) built_in (slots_in slots.items)) }
+    ensures safe { IfOk result (λ effect. IsSafeCall (call_of effect)) }
+{
+    let fragments = match evaluation.scopes.special(b"fn", place) {
+        Ok(value) => Some(value),
+        Err(_) => None,
+    };
+    let inside = position.inside.is_some();
+    match effect(evaluation.alloc, unit, inside, fragments, built_in, &slots) {
+        Ok(effect) => Ok(effect),
+        Err(ValueStop::Kind(kind)) => Err(fault_at(kind, place)),
+        Err(ValueStop::NoMemory) => Err(Stop::NoMemory),
+    }
+}
+
+/// The arguments of a call of a built-in module, from the first on. Those of `echo` may be any.
+pub fn arguments_for<'b>(
+    evaluation: &mut Evaluation<'_, '_>,
+    scope: u32,
+    built_in: BuiltinModule,
+    args: &'b Args,
+) -> Result<GivenArguments<'b, Value>, Stop>
+    requires { scope < scopes_there evaluation.old }
+    ensures value { TellsArguments result evaluation.new.turns
+        (arguments_at built_in (setting evaluation.old scope) (args_from (args_of args.now)) evaluation.old.turns) }
+    ensures kept { Keeps evaluation.old evaluation.new }
+{
+    if built_in == BuiltinModule::Echo {
+        return said(evaluation, scope, args);
+    }
+    let names = Names::Listed(built_in.parameters());
+    evaluation.each_argument(scope, names, args)
+}
+
+/// The arguments of `echo`, from the first on: a name may come twice, a special name may not.
+fn said<'b>(
+    evaluation: &mut Evaluation<'_, '_>,
+    scope: u32,
+    args: &'b Args,
+) -> Result<GivenArguments<'b, Value>, Stop>
+    requires { scope < scopes_there evaluation.old }
+    ensures value { TellsArguments result evaluation.new.turns
+        (each_said (setting evaluation.old scope) (args_from (args_of args.now)) (nothing_given 0) evaluation.old.turns) }
+    ensures kept { Keeps evaluation.old evaluation.new }
+{
+    let alloc = evaluation.alloc;
+    let mut specials = Vec::new(alloc);
+    'each: for arg in &args.items {
+        specials = say(evaluation, scope, specials, arg)?;
+    }
+    Ok(GivenArguments {
+        slots: Vec::new(alloc),
+        specials,
+    })
+}
+
+/// The special arguments of `echo` with one argument more.
+fn say<'b>(
+    evaluation: &mut Evaluation<'_, '_>,
+    scope: u32,
+    specials: Vec<SpecialArgument<'b, Value>>,
+    arg: &'b Arg,
+) -> Result<Vec<SpecialArgument<'b, Value>>, Stop>
+    requires scope { scope < scopes_there evaluation.old }
+    requires bounded { IsTrue (have_bounded (specials_in specials.items)) }
+    ensures value { TellsSpecials result evaluation.new.turns
+        (said_once (setting evaluation.old scope) (arg_of arg.now) (specials_in specials.entry.items) evaluation.old.turns) }
+    ensures kept { Keeps evaluation.old evaluation.new }
+{
+    match arg {
+        Arg::Special(place, name, value) => {
+            if is_given(&specials, name.items()) {
+                return Err(fault_at(FaultKind::BadArgument, *place));
+            }
+            let value = evaluation.expression(scope, value)?;
+            let mut more = specials;
+            let name = name.items();
+            match more.push(SpecialArgument { name, value }) {
+                Ok(()) => Ok(more),
+                Err(_) => Err(Stop::NoMemory),
+            }
+        }
+        Arg::Named(_, _, value) | Arg::Positional(value) => {
+            evaluation.expression(scope, value)?;
+            Ok(specials)
+        }
+    }
+}
+
+/// Whether a special name was given a value.
+fn is_given(specials: &[SpecialArgument<'_, Value>], name: &[u8]) -> bool
+    ensures { result ≡ is_some (find_in (specials_in specials.now) name.now) }
+{
+    has_special(specials, name)
+}
+
+/// The kind of fault of a name that no module has.
+pub fn unknown(name: &[u8]) -> FaultKind
+    ensures { result ≡ if leaves_out name.now then NotInProfile else UnknownModule }
+{
+    if is_left_out(name) {
+        return FaultKind::NotInProfile;
+    }
+    FaultKind::UnknownModule
+}
+
+/// A call that only says something has no body.
+pub fn silent(place: Place, body: &Body) -> Result<InstanceResult, Stop>
+    ensures { TellsSilence result place (body_of body.now) }
+{
+    if is_bare(body) {
+        return Ok(nothing_made());
+    }
+    Err(fault_at(FaultKind::NotInProfile, place))
+}

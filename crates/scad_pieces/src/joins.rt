@@ -1,0 +1,98 @@
+//! Designs that instances give, one after another.
+
+ghost use Rattle.std.specs.Prelude.{◌≡◌, ℕ, option_map, IfOk};
+ghost use Rattle.scad_design.specs.View.{plain_of};
+ghost use Rattle.scad_meaning.specs.Meaning.{first_marked as first_of, made_nothing, made_of, no_members as none_of};
+ghost use Rattle.scad_pieces.specs.Seen.{made_seen, members_seen, member_seen, apart, IsLengthened};
+
+use crate::position::{InstanceResult, MemberResults};
+use csg_tree::Op;
+use scad_design::{Design, grouped};
+use std::alloc::Global;
+use text_place::{NoMemory, Stop};
+
+/// What an instance without a design gives.
+pub fn nothing_made() -> InstanceResult
+    ensures { (leaves : ℕ) → made_seen leaves result ≡ made_nothing leaves }
+{
+    InstanceResult {
+        design: Design::Empty,
+        marked: None,
+    }
+}
+
+/// What no instances give.
+pub fn no_members(alloc: Global) -> MemberResults
+    ensures { (leaves : ℕ) → members_seen leaves result ≡ none_of leaves }
+{
+    MemberResults {
+        designs: Vec::new(alloc),
+        marked: None,
+    }
+}
+
+/// The first of two designs that are marked.
+fn first_marked(earlier: Option<Design>, later: Option<Design>) -> Option<Design>
+    ensures { option_map plain_of result ≡ first_of (option_map plain_of earlier) (option_map plain_of later) }
+{
+    match earlier {
+        Some(design) => Some(design),
+        None => later,
+    }
+}
+
+/// What an instance that is marked `!` gives: its design is no part of the one around it.
+pub fn set_apart(made: InstanceResult) -> InstanceResult
+    ensures { (leaves : ℕ) → made_seen leaves result ≡ apart (made_seen leaves made) }
+{
+    InstanceResult {
+        design: Design::Empty,
+        marked: Some(made.design),
+    }
+}
+
+/// Members joined by an operation.
+pub fn joined(alloc: Global, op: Op, members: MemberResults) -> Result<InstanceResult, NoMemory>
+    ensures { IfOk result (λ made. (leaves : ℕ) → made_seen leaves made ≡ made_of op (members_seen leaves members)) }
+{
+    let MemberResults { designs, marked } = members;
+    let design = grouped(alloc, op, designs)?;
+    Ok(InstanceResult { design, marked })
+}
+
+/// Members with what one more instance gives. Where it is no member, its design is dropped.
+pub fn with_made(
+    members: MemberResults,
+    is_member: bool,
+    next: Result<InstanceResult, Stop>,
+) -> Result<MemberResults, Stop>
+    ensures { IsLengthened (member_seen is_member) members next result }
+{
+    let InstanceResult { design, marked } = next?;
+    let mut designs = members.designs;
+    if is_member && designs.push(design).is_err() {
+        return Err(Stop::NoMemory);
+    }
+    Ok(MemberResults {
+        designs,
+        marked: first_marked(members.marked, marked),
+    })
+}
+
+/// Members with those behind them.
+pub fn with_members(
+    members: MemberResults,
+    next: Result<MemberResults, Stop>,
+) -> Result<MemberResults, Stop>
+    ensures { IsLengthened members_seen members next result }
+{
+    let mut later = next?;
+    let mut designs = members.designs;
+    if designs.append(&mut later.designs).is_err() {
+        return Err(Stop::NoMemory);
+    }
+    Ok(MemberResults {
+        designs,
+        marked: first_marked(members.marked, later.marked),
+    })
+}

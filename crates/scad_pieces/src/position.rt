@@ -1,0 +1,72 @@
+//! Where an instance stands, and what it gives.
+
+ghost use Rattle.std.specs.Prelude.{◌≡◌, true};
+
+use scad_ast::Body;
+use scad_design::Design;
+use scad_meaning::Extrusion;
+
+/// Where an instance stands: the number of its scope, the extrusion that it is inside of, and whether
+/// it is inside an instance that is marked `!`.
+#[derive(Clone, Copy)]
+pub struct Position {
+    pub scope: u32,
+    pub inside: Option<Extrusion>,
+    pub under_mark: bool,
+}
+
+/// A body and the number of its block.
+#[derive(Clone, Copy)]
+pub struct NumberedBody<'a> {
+    pub body: &'a Body,
+    pub block: u32,
+}
+
+/// What an instance gives: its design, and the first of the designs in it that is marked `!`.
+#[derive(Drop)]
+pub struct InstanceResult {
+    pub design: Design,
+    pub marked: Option<Design>,
+}
+
+/// What the instances of a body give, from the first on.
+#[derive(Drop)]
+pub struct MemberResults {
+    pub designs: Vec<Design>,
+    pub marked: Option<Design>,
+}
+
+impl Position {
+    /// In another scope.
+    pub fn at(self, scope: u32) -> Position
+        ensures { result ≡ record { scope = scope; inside = self.inside; under_mark = self.under_mark } }
+    {
+        Position {
+            scope,
+            inside: self.inside,
+            under_mark: self.under_mark,
+        }
+    }
+
+    /// Inside an instance that is marked `!`.
+    pub fn marked(self) -> Position
+        ensures { result ≡ record { scope = self.scope; inside = self.inside; under_mark = true } }
+    {
+        Position {
+            scope: self.scope,
+            inside: self.inside,
+            under_mark: true,
+        }
+    }
+
+    /// Inside an extrusion.
+    pub fn extruding(self, through: Extrusion) -> Position
+        ensures { result ≡ record { scope = self.scope; inside = Some through; under_mark = self.under_mark } }
+    {
+        Position {
+            scope: self.scope,
+            inside: Some(through),
+            under_mark: self.under_mark,
+        }
+    }
+}
