@@ -7,3 +7,4 @@ pub mod Grids
 pub mod PrismLists
 pub mod SidePlanes
 pub mod PrismBodies
+pub mod PrismPlanes

@@ -1,7 +1,8 @@
 -- Extruded polygons.
-use Rattle.std.specs.Prelude.{ℕ, ◌+◌, ℤ, Bool, ◌&&◌, List, [], ◌∷◌, ◌++◌, length, map, cond, flat_map}
+use Rattle.std.specs.Prelude.{ℕ, ◌+◌, ℤ, pos, ◌≤ℤ◌, Bool, ◌&&◌, List, [], ◌∷◌, ◌++◌, length, map, cond, flat_map, All}
 use Rattle.std.specs.List.{range_with_len}
 use Rattle.std.specs.Ordering.{int_eq}
+use Rattle.plane_predicate.specs.Space.{Coefficients, point_at, value}
 use Rattle.plane_predicate.specs.declared.unit.Unit.{Unit as LengthUnit}
 use Rattle.shape_planes.specs.Shapes.{Mesh}
 use Rattle.primitives.specs.Sizes.{low_end, high_end}
@@ -41,3 +42,7 @@ prism_of points low high = record { points = prism_points points low high; faces
 -- a polygon moved along z through a height (User Manual, linear_extrude)
 abbrev pub extrusion_of : LengthUnit → Bool → List (List ℤ) → ℤ → Mesh
 extrusion_of unit center points height = prism_of points (low_end unit center height) (high_end unit center height)
+
+-- each point is behind or on each plane
+abbrev pub AreBehindOrOn : List (List ℤ) → List Coefficients → Type 0
+AreBehindOrOn points planes = All (λ m. All (λ p. value m (point_at p) ≤ℤ pos 0) points) planes

@@ -8,7 +8,8 @@ use Rattle.shape_planes.specs.Shapes.{Mesh, IsFacePlane}
 use Rattle.shape_planes.specs.Placing.{moved, ArePlanesOf}
 use Rattle.shape_planes.proofs.Distinct.{all_of_distinct}
 use Rattle.shape_planes.proofs.Lists.{zip_second}
-use Rattle.round_four.specs.Cylinders.{cylinder_between, AreBehindOrOn}
+use Rattle.primitives.specs.Prisms.{AreBehindOrOn}
+use Rattle.round_four.specs.Cylinders.{cylinder_between}
 use Rattle.round_four.proofs.Cylinders.{by_apexes}
 
 abbrev AreBehind : Mesh → Coefficients → Type 0

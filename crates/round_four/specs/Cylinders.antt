@@ -1,10 +1,9 @@
 -- Cylinders with four fragments.
-use Rattle.std.specs.Prelude.{◌≡◌, ℕ, ◌%◌, ◌≤◌, cond, ℤ, pos, ◌≤ℤ◌, unsigned_abs, Bool, true, false, List, [], ◌∷◌, ◌++◌, map, All, ⊤}
+use Rattle.std.specs.Prelude.{◌≡◌, ℕ, ◌%◌, ◌≤◌, cond, ℤ, pos, ◌≤ℤ◌, unsigned_abs, Bool, true, false, List, [], ◌∷◌, ◌++◌, map, ⊤}
 use Rattle.std.specs.Ordering.{int_eq}
 use Rattle.text_place.specs.declared.fault.FaultKind.{FaultKind}
 use Rattle.text_place.specs.declared.fault.FaultKind.TheVariants.{BadSize, NotOnGrid, OutOfRange}
 use Rattle.plane_predicate.specs.declared.unit.Unit.{Unit as LengthUnit}
-use Rattle.plane_predicate.specs.Space.{Coefficients, point_at, value}
 use Rattle.shape_planes.specs.Shapes.{Mesh}
 use Rattle.shape_planes.specs.declared.stop.ShapeStop.{ShapeStop}
 use Rattle.shape_planes.specs.declared.stop.ShapeStop.TheVariants.{Kind, NoMemory}
@@ -102,7 +101,3 @@ IsCylinderFault unit center height low high kind = ⊥
 abbrev pub IsCylinderStop : LengthUnit → Bool → ℤ → ℤ → ℤ → ShapeStop → Type 0
 IsCylinderStop unit center height low high (Kind kind) = IsCylinderFault unit center height low high kind
 IsCylinderStop unit center height low high NoMemory = ⊤
-
--- each point is behind or on each plane
-abbrev pub AreBehindOrOn : List (List ℤ) → List Coefficients → Type 0
-AreBehindOrOn points planes = All (λ m. All (λ p. value m (point_at p) ≤ℤ pos 0) points) planes

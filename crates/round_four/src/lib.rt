@@ -8,4 +8,6 @@ mod sizes;
 
 pub use circle::circle_flat;
 pub use cylinder::cylinder_shape;
-pub use laws::corners_are_behind_or_on_planes;
+pub use laws::{
+    corners_are_behind_or_on_planes, corners_of_extruded_circles_are_behind_or_on_planes,
+};
