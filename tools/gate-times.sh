@@ -53,7 +53,9 @@ def main():
     seen, began = {}, time.time()
     top, *files = sys.argv[1:]
     said = open(files[0], "w") if files else sys.stderr
-    gate = subprocess.Popen(["rt", "ci", "--anew"], cwd=top, stdout=said, stderr=said, stdin=subprocess.DEVNULL)
+    # (a kit that keeps nothing from one gate to the next has no such word)
+    keeps = "--anew" in subprocess.run(["rt", "help"], capture_output=True, text=True).stderr
+    gate = subprocess.Popen(["rt", "ci", *["--anew"] * keeps], cwd=top, stdout=said, stderr=said, stdin=subprocess.DEVNULL)
     while gate.poll() is None:
         look(seen)
         time.sleep(0.2)

@@ -11,6 +11,7 @@ from scadserve import BadScript, Fault, Ok, Script, Solid, Text, printed, read, 
 from tests.calls import PROGRAM, TOP, Calls, needs_program
 
 MIB = 1_048_576
+USAGE = b"usage: scadserve run [--workers N] [--memo W] [--share S] [--half] [--tally] | demo N\n"
 
 
 class Raw:
@@ -64,6 +65,17 @@ class Program(Calls):
                     self.assertEqual((status, out), (1, b""))
                     place = f"{path}:{last.line}:{last.column}: error: {last.word}: "
                     self.assertTrue(error.decode().startswith(place), error)
+
+    def test_each_build_of_the_program_ends_with_its_status(self):
+        box = os.path.join(TOP, "examples", "box")
+        for words, script, status, output in (
+            (["run"], self.bytes_of(f"{box}.script"), 0, self.bytes_of(f"{box}.output")),
+            (["run", "--tally"], b"a show\n\nb show\n", 3, b"script 2 NoName\n"),
+            (["run", b"\xff"], b"", 2, USAGE),
+        ):
+            for program in filter(os.path.isfile, (PROGRAM, f"{PROGRAM}.by-rattle")):
+                with self.subTest(program=program, words=words):
+                    self.assertEqual(self.call(*words, stdin=script, tool=program), (status, output, b""))
 
     def test_a_script_that_is_full_is_a_script_and_a_larger_one_is_not(self):
         lines = [b"//" + b"x" * 1_014] * 1_022

@@ -1,8 +1,10 @@
-//! Tests of the memo, of clients that share one, and of threads that do.
+//! Tests of the memo, of clients that share one, of threads that do, and of claims of missing keys.
 #![tactic(auto)]
 
 #[cfg(test)]
 mod alike;
+#[cfg(test)]
+mod claims;
 #[cfg(test)]
 mod freed;
 #[cfg(test)]

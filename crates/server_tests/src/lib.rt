@@ -12,6 +12,4 @@ mod outside;
 #[cfg(test)]
 mod replies;
 #[cfg(test)]
-mod serving;
-#[cfg(test)]
 mod words;

@@ -1,4 +1,4 @@
-use Rattle.flight_tests.proofs.threads.two_callers.Given as goal
+use Rattle.memo_tests.proofs.claims.two_callers.Given as goal
 
 abbrev pub ghosts-run-H-Ledger : goal.ghosts-run-H-Ledger
 ghosts-run-H-Ledger g a = record { name = a.blanks.hits.name; parts = a.blanks.hits.parts }
