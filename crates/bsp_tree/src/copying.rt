@@ -56,6 +56,7 @@ pub fn nodes_over<'t>(
     ensures copied { IfOk result (AreCopied planes.now forest.now.nodes (length forest.now.nodes)) }
 {
     let mut nodes = Nodes::new(alloc, table);
+    nodes.reserve(forest.len())?;
     for index in 0..forest.len() {
         let (face, behind, ahead) = forest.at(NodeId { index });
         nodes.add(renumber(alloc, face, numbers)?, behind, ahead)?;

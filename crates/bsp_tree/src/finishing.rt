@@ -48,14 +48,16 @@ pub fn finish(alloc: Global, growing: Growing<'_>, root: Link) -> Result<Solid, 
     whole(alloc, nodes, root, size)
 }
 
-/// The solid with all planes of its table.
+/// The solid with all planes of its table. Room for more nodes is given back, since a solid never grows.
 fn whole(alloc: Global, nodes: Nodes<'_>, root: Link, size: u64) -> Result<Solid, NoMemory>
     requires { HasGrownWhole nodes root size }
     ensures { IfOk result (λ s. tree_of s ≡ tree_on nodes.entry root) }
 {
     let mut planes = Vec::new(alloc);
     planes.extend_from_slice(nodes.table().planes())?;
-    Ok(Solid::grown(planes, nodes.into_forest(), root, size))
+    let mut forest = nodes.into_forest();
+    forest.shrink_to_fit();
+    Ok(Solid::grown(planes, forest, root, size))
 }
 
 /// The solid with those planes that are used.

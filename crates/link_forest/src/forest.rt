@@ -130,4 +130,12 @@ impl<T: Drop> Forest<T> {
     {
         self.entries.truncate(len);
     }
+
+    /// Gives back the room that no node takes. Takes no memory.
+    pub fn shrink_to_fit(&mut self)
+        ensures nodes { self.new.nodes ≡ self.old.nodes }
+        ensures spare { self.new.spare ≤ self.old.spare }
+    {
+        self.entries.shrink_to_fit();
+    }
 }

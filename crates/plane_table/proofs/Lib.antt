@@ -1,5 +1,6 @@
 pub mod Numbers
 pub mod Corners
+mod OwnEdges
 pub mod Cuts
 pub mod Planes
 pub mod Small

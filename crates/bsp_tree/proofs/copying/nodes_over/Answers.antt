@@ -3,7 +3,7 @@ use Rattle.bsp_tree.proofs.CopiedNodes.{none_copied, copied_more}
 use Rattle.bsp_tree.proofs.copying.nodes_over.Goals as goal
 
 pub loop-index-init : goal.loop-index-init
-loop-index-init c = rw c.new-nodes.ensures (record { planes = refl; copied = none_copied _ _ _ refl })
+loop-index-init c = rw (c.in_ok-reserve.ensures ∙ c.new-nodes.ensures) (record { planes = refl; copied = none_copied _ _ _ refl })
 
 pub renumber-requires-clause-plane : goal.renumber-requires-clause-plane
 renumber-requires-clause-plane c =
