@@ -1,15 +1,13 @@
 -- Variables in memory and what they stand for, with the chain of special ones cut to its oldest part.
 use Rattle.std.proofs.Common.{◌≡◌, ℕ, zero, suc, ◌-◌, List, [], ◌∷◌, ◌++◌, Bool, true, false, cond, Option, Some, None, length, map, drop, refl, sym, ap, ◌∙◌, arith, length-append}
-use Rattle.std.specs.Prelude.{IsTrue}
 use Rattle.std.specs.Str.{bytes_eq}
 use Rattle.std.specs.Borrow.{Bor}
 use Rattle.std.specs.Option.{option_map, option_copied}
-use Rattle.std.proofs.lemmas.Bool.{and_parts}
 use Rattle.std.proofs.Math.Seq.{drop-append_seam}
 use Rattle.scad_value.specs.Values.{Val}
 use Rattle.scad_value.specs.View.{val_of}
-use Rattle.scad_value.specs.declared.value.Value.{Value}
-use Rattle.scad_scope.specs.Names.{Pairs, find_in, oldest, have_bounded}
+use Rattle.scad_scope.specs.declared.bounded.BoundedValue.{BoundedValue}
+use Rattle.scad_scope.specs.Names.{Pairs, find_in, oldest}
 use Rattle.scad_scope.specs.View.{variable_seen, IsValueFound}
 
 -- the oldest part of a chain is as long as it is said to be
@@ -28,30 +26,25 @@ mapped_rest f (suc n) [] = refl
 mapped_rest f (suc n) (x ∷ xs) = mapped_rest f n xs
 
 -- what is left of the pairs is left of the variables
-pub oldest_seen : (n : ℕ) (ps : Pairs Value) → map variable_seen (oldest n ps) ≡ oldest n (map variable_seen ps)
+pub oldest_seen : (n : ℕ) (ps : Pairs BoundedValue) → map variable_seen (oldest n ps) ≡ oldest n (map variable_seen ps)
 oldest_seen n ps = mapped_rest variable_seen (length ps - n) ps
     ∙ ap (λ k. drop (k - n) (map variable_seen ps)) (sym (mapped_length variable_seen ps))
 
+-- what a bounded value is
+abbrev held : BoundedValue → Val
+held b = val_of b.value
+
 -- what is found among the pairs is found among the variables
-pub seen_found : (ps : Pairs Value) (name : List ℕ) → find_in (map variable_seen ps) name ≡ option_map val_of (find_in ps name)
+pub seen_found : (ps : Pairs BoundedValue) (name : List ℕ) → find_in (map variable_seen ps) name ≡ option_map held (find_in ps name)
 seen_found [] name = refl
 seen_found (p ∷ ps) name = by_test (bytes_eq p.0 name) (seen_found ps name)
   where
-    by_test : (t : Bool) → find_in (map variable_seen ps) name ≡ option_map val_of (find_in ps name)
-        → cond t (Some (val_of p.1)) (find_in (map variable_seen ps) name) ≡ option_map val_of (cond t (Some p.1) (find_in ps name))
+    by_test : (t : Bool) → find_in (map variable_seen ps) name ≡ option_map held (find_in ps name)
+        → cond t (Some (held p.1)) (find_in (map variable_seen ps) name) ≡ option_map held (cond t (Some p.1) (find_in ps name))
     by_test true e = refl
     by_test false e = e
 
--- what is left of bounded values
-behind_bounded : (n : ℕ) (ps : Pairs Val) → IsTrue (have_bounded ps) → IsTrue (have_bounded (drop n ps))
-behind_bounded zero ps h = h
-behind_bounded (suc n) [] h = h
-behind_bounded (suc n) (p ∷ ps) h = behind_bounded n ps (and_parts _ _ h).1
-
-pub oldest_bounded : (n : ℕ) (ps : Pairs Val) → IsTrue (have_bounded ps) → IsTrue (have_bounded (oldest n ps))
-oldest_bounded n ps h = behind_bounded (length ps - n) ps h
-
-pub value_found : (ps : Pairs Value) (name : List ℕ) (found : Option (Bor Value)) → option_copied found ≡ find_in ps name
+pub value_found : (ps : Pairs BoundedValue) (name : List ℕ) (found : Option (Bor BoundedValue)) → option_copied found ≡ find_in ps name
     → IsValueFound (find_in (map variable_seen ps) name) found
-value_found ps name None e = seen_found ps name ∙ ap (option_map val_of) (sym e)
-value_found ps name (Some value) e = seen_found ps name ∙ ap (option_map val_of) (sym e)
+value_found ps name None e = seen_found ps name ∙ ap (option_map held) (sym e)
+value_found ps name (Some value) e = seen_found ps name ∙ ap (option_map held) (sym e)

@@ -105,10 +105,6 @@ abbrev pub have_bounded : Pairs Val → Bool
 have_bounded [] = true
 have_bounded (p ∷ ps) = is_bounded p.1 && have_bounded ps
 
-abbrev pub all_bounded : List Row → Bool
-all_bounded [] = true
-all_bounded (r ∷ rs) = have_bounded r.variables && all_bounded rs
-
 -- a scope with one more variable, inside the same scopes
 abbrev pub with_pair : List ℕ → Val → NumberedEnv → NumberedEnv
 with_pair name value NumberedOutermost = NumberedOutermost

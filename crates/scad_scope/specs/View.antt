@@ -2,10 +2,10 @@
 use Rattle.std.specs.Prelude.{◌≡◌, ℕ, List, map, Option, Some, None}
 use Rattle.std.specs.Borrow.{Bor}
 use Rattle.scad_value.specs.Values.{Val}
-use Rattle.scad_value.specs.declared.value.Value.{Value}
 use Rattle.scad_value.specs.View.{val_of}
 use Rattle.newest_names.specs.declared.list.NameList.{NameList}
 use Rattle.newest_names.specs.Names.{newest_first}
+use Rattle.scad_scope.specs.declared.bounded.BoundedValue.{BoundedValue}
 use Rattle.scad_scope.specs.declared.table.Call.{Call}
 use Rattle.scad_scope.specs.declared.table.Scope.{Scope}
 use Rattle.scad_scope.specs.declared.table.Family.{Family}
@@ -13,10 +13,10 @@ use Rattle.scad_scope.specs.declared.table.Family.TheVariants.{Functions, Module
 use Rattle.scad_scope.specs.Names.{Pairs, Row, NumberedEnv, function_in, module_in}
 
 -- variables by what their values are
-abbrev pub variable_seen : List ℕ × Value → List ℕ × Val
-variable_seen p = (p.0, val_of p.1)
+abbrev pub variable_seen : List ℕ × BoundedValue → List ℕ × Val
+variable_seen p = (p.0, val_of p.1.value)
 
-abbrev pub variables_of : NameList Value → Pairs Val
+abbrev pub variables_of : NameList BoundedValue → Pairs Val
 variables_of names = map variable_seen (newest_first names)
 
 abbrev pub call_seen : Option Call → Option (ℕ × ℕ)
@@ -45,6 +45,6 @@ definition_in Functions env name = function_in env name
 definition_in Modules env name = module_in env name
 
 -- the value that was found, if there is one
-abbrev pub IsValueFound : Option Val → Option (Bor Value) → Type 0
-IsValueFound wanted (Some value) = wanted ≡ Some (val_of value.now)
+abbrev pub IsValueFound : Option Val → Option (Bor BoundedValue) → Type 0
+IsValueFound wanted (Some found) = wanted ≡ Some (val_of found.now.value)
 IsValueFound wanted None = wanted ≡ None

@@ -4,6 +4,7 @@
 
 mod assigned;
 mod blocks;
+mod bounded;
 mod fault;
 mod own;
 mod parameters;

@@ -1,8 +1,5 @@
-ghost use Rattle.std.specs.Prelude.{IsTrue};
-ghost use Rattle.scad_scope.specs.Names.{all_bounded, have_bounded};
-ghost use Rattle.scad_scope.specs.View.{rows_in, variables_of};
-
 use crate::blocks::Blocks;
+use crate::bounded::BoundedValue;
 use crate::fault::fault;
 use crate::own::{empty, scope_of_block};
 use crate::table::{
@@ -16,14 +13,12 @@ use text_place::{Bytes, Fault, FaultKind, NoMemory, Place};
 
 /// Scopes by number. The first one, 0, is outside all others; each other one is entered inside one
 /// that is there. Beside them stands the chain of special variables, which belong to no scope: a name
-/// stands for its newest value. Each value in them is bounded, which the type keeps.
+/// stands for its newest value. Each value in them is bounded, which its own type keeps.
 #[derive(Drop)]
 pub struct Scopes {
     pub(crate) scopes: Vec<Scope>,
     /// The chain, the newest last.
-    pub(crate) chain: NameList<Value>,
-    ghost bounded: { IsTrue (all_bounded (rows_in scopes.items)) },
-    ghost chain_bounded: { IsTrue (have_bounded (variables_of chain)) },
+    pub(crate) chain: NameList<BoundedValue>,
 }
 
 impl Scopes {
@@ -31,7 +26,7 @@ impl Scopes {
     ghost use Rattle.text_place.specs.declared.fault.FaultKind.TheVariants.{UnknownName, UnknownFunction, UnknownModule};
     ghost use Rattle.scad_value.specs.Values.{Val, is_bounded};
     ghost use Rattle.scad_value.specs.View.{val_of};
-    ghost use Rattle.scad_scope.specs.Names.{Pairs, find_in, env_of, variable_in, function_in, module_in, have_bounded, first_row, empty_row, bound_in, with_pair, NumberedWithin, no_numbered_call, numbered_call, enclosing_call, called_row, first_chain, oldest, Row};
+    ghost use Rattle.scad_scope.specs.Names.{Pairs, find_in, env_of, variable_in, function_in, module_in, first_row, empty_row, bound_in, with_pair, NumberedWithin, no_numbered_call, numbered_call, enclosing_call, called_row, first_chain, oldest, Row};
     ghost use Rattle.scad_scope.specs.Blocks.{row_of_block};
     ghost use Rattle.scad_scope.specs.Tables.{text_held, functions_held, modules_held};
     ghost use Rattle.scad_scope.specs.Numbered.{functions_below, modules_below, StaysBelow, StaysNumbered};
@@ -127,7 +122,6 @@ impl Scopes {
     }
 
     fn add(&mut self, scope: Scope) -> Result<u32, NoMemory>
-        requires { IsTrue (have_bounded (row_of scope).variables) }
         ensures number { IfOk result (λ n. n ≡ length (rows_of self.old)) }
         ensures added { OnOk result (rows_of self.new ≡ rows_of self.old ++ row_of scope ∷ []) }
         ensures unchanged { OnErr result (rows_of self.new ≡ rows_of self.old) }
@@ -200,7 +194,7 @@ impl Scopes {
         ensures chain { chain_of self.new ≡ chain_of self.old }
         ensures numbered { StaysNumbered (rows_of self.old) (rows_of self.new) }
     {
-        self.add_variable(alloc, scope, name, value)
+        self.add_variable(alloc, scope, name, BoundedValue { value })
     }
 
     fn add_variable(
@@ -208,11 +202,10 @@ impl Scopes {
         alloc: Global,
         scope: u32,
         name: &[u8],
-        value: Value,
+        value: BoundedValue,
     ) -> Result<(), NoMemory>
-        requires scope { scope < length (rows_of self.old) }
-        requires bounded { IsTrue (is_bounded (val_of value)) }
-        ensures bound { OnOk result (rows_of self.new ≡ bound_in (rows_of self.old) scope name.now (val_of value)) }
+        requires { scope < length (rows_of self.old) }
+        ensures bound { OnOk result (rows_of self.new ≡ bound_in (rows_of self.old) scope name.now (val_of value.value)) }
         ensures unchanged { OnErr result (rows_of self.new ≡ rows_of self.old) }
         ensures chain { chain_of self.new ≡ chain_of self.old }
     {
@@ -230,8 +223,8 @@ impl Scopes {
         let mut at = scope;
         'outward: loop {
             let here = &self.scopes[at as usize];
-            if let Some(value) = find_variable(&here.variables, name) {
-                return Ok(value);
+            if let Some(found) = find_variable(&here.variables, name) {
+                return Ok(&found.value);
             }
             if here.outer >= at {
                 return Err(fault(FaultKind::UnknownName, place));
@@ -260,7 +253,7 @@ impl Scopes {
             return Err(NoMemory);
         }
         let name = Bytes::copy_of(alloc, name)?;
-        self.chain.push(alloc, name, value)?;
+        self.chain.push(alloc, name, BoundedValue { value })?;
         Ok(before as u32)
     }
 
@@ -271,7 +264,7 @@ impl Scopes {
             (IsMissing UnknownName place (find_in (chain_of self.now) name.now)) }
     {
         match find_variable(&self.chain, name) {
-            Some(value) => Ok(value),
+            Some(found) => Ok(&found.value),
             None => Err(fault(FaultKind::UnknownName, place)),
         }
     }

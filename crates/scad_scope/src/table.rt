@@ -1,11 +1,12 @@
-ghost use Rattle.std.specs.Prelude.{◌≡◌, ◌<◌, ◌∷◌, ℕ, OnOk, OnErr, IfOk, IfSome};
+ghost use Rattle.std.specs.Prelude.{◌≡◌, ◌<◌, ◌∷◌, ℕ, IsTrue, OnOk, OnErr, IfOk, IfSome};
 ghost use Rattle.newest_names.specs.Names.{newest_first};
-ghost use Rattle.scad_value.specs.Values.{NumberVal};
+ghost use Rattle.scad_value.specs.Values.{NumberVal, is_bounded};
 ghost use Rattle.scad_value.specs.View.{val_of};
 ghost use Rattle.scad_scope.specs.Names.{find_in, with_variable, NumberedEnv, call_behind, called_row, first_chain};
 ghost use Rattle.scad_scope.specs.Table.{call_told};
 ghost use Rattle.scad_scope.specs.View.{variables_of, IsValueFound, pairs_of, row_of};
 
+use crate::bounded::BoundedValue;
 use newest_names::NameList;
 use scad_value::Value;
 use std::alloc::Global;
@@ -24,7 +25,7 @@ pub struct Call {
 /// it, and the call whose scope it is, where it is one's.
 #[derive(Drop)]
 pub(crate) struct Scope {
-    pub(crate) variables: NameList<Value>,
+    pub(crate) variables: NameList<BoundedValue>,
     pub(crate) functions: NameList<u32>,
     pub(crate) modules: NameList<u32>,
     pub(crate) outer: u32,
@@ -33,8 +34,8 @@ pub(crate) struct Scope {
 
 impl Scope {
     /// Gives a name a value, as the newest of its name. `NoMemory` leaves the scope as it was.
-    pub(crate) fn bind(&mut self, alloc: Global, name: Bytes, value: Value) -> Result<(), NoMemory>
-        ensures bound { OnOk result (row_of self.new ≡ with_variable name (val_of value) (row_of self.old)) }
+    pub(crate) fn bind(&mut self, alloc: Global, name: Bytes, value: BoundedValue) -> Result<(), NoMemory>
+        ensures bound { OnOk result (row_of self.new ≡ with_variable name (val_of value.value) (row_of self.old)) }
         ensures unchanged { OnErr result (row_of self.new ≡ row_of self.old) }
     {
         self.variables.push(alloc, name, value)
@@ -72,7 +73,10 @@ pub struct Found {
 }
 
 /// The newest value of a name.
-pub(crate) fn find_variable<'a>(variables: &'a NameList<Value>, name: &[u8]) -> Option<&'a Value>
+pub(crate) fn find_variable<'a>(
+    variables: &'a NameList<BoundedValue>,
+    name: &[u8],
+) -> Option<&'a BoundedValue>
     ensures { IsValueFound (find_in (variables_of variables.now) name.now) result }
 {
     variables.find(name)
@@ -96,7 +100,7 @@ pub(crate) fn definitions(family: Family, scope: &Scope) -> &NameList<u32>
 }
 
 /// The chain as it begins.
-pub(crate) fn begun_chain(alloc: Global) -> Result<NameList<Value>, NoMemory>
+pub(crate) fn begun_chain(alloc: Global) -> Result<NameList<BoundedValue>, NoMemory>
     ensures { IfOk result (λ chain. variables_of chain ≡ first_chain) }
 {
     let none = NameList::new(alloc);
@@ -108,15 +112,17 @@ pub(crate) fn begun_chain(alloc: Global) -> Result<NameList<Value>, NoMemory>
 /// A chain with one name more, whose value is a number.
 fn with_number(
     alloc: Global,
-    chain: NameList<Value>,
+    chain: NameList<BoundedValue>,
     name: &[u8],
     number: i64,
-) -> Result<NameList<Value>, NoMemory>
+) -> Result<NameList<BoundedValue>, NoMemory>
+    requires { IsTrue (is_bounded (NumberVal number)) }
     ensures { IfOk result (λ after. variables_of after ≡ (name.now, NumberVal number) ∷ variables_of chain) }
 {
     let name = Bytes::copy_of(alloc, name)?;
     let mut longer = chain;
-    longer.push(alloc, name, Value::Number(number))?;
+    let value = Value::Number(number);
+    longer.push(alloc, name, BoundedValue { value })?;
     Ok(longer)
 }
 

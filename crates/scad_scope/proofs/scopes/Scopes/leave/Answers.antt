@@ -3,21 +3,16 @@ use Rattle.std.specs.Prelude.{IsTrue}
 use Rattle.std.proofs.lemmas.List.{take-map}
 use Rattle.std.proofs.Math.Seq.{take-append_seam}
 use Rattle.scad_scope.specs.declared.table.Scope.{Scope}
-use Rattle.scad_scope.specs.Names.{all_bounded, env_of}
+use Rattle.scad_scope.specs.Names.{env_of}
 use Rattle.scad_scope.specs.Numbered.{numbers_below, each_row}
 use Rattle.scad_scope.specs.Table.{rows_of}
 use Rattle.scad_scope.specs.View.{row_of, rows_in}
-use Rattle.scad_scope.proofs.Bound.{cut_bounded}
 use Rattle.scad_scope.proofs.Envs.{cut_kept}
 use Rattle.scad_scope.proofs.Numbered.{cut_passes}
 use Rattle.scad_scope.proofs.scopes.Scopes.leave.Goals as goal
 
 cut : (ss new : List Scope) (n : ℕ) → new ≡ take n ss → rows_in new ≡ take n (rows_in ss)
 cut ss new n e = ap rows_in e ∙ sym (take-map row_of n ss)
-
-pub invariant_of-self-clause-bounded : goal.invariant_of-self-clause-bounded
-invariant_of-self-clause-bounded c = subst (λ rs. IsTrue (all_bounded rs)) (sym (cut _ _ c.args.to c.truncate.ensures.items))
-    (cut_bounded c.args.to (rows_of c.args.self.now) c.args.self.now.bounded)
 
 pub returns-clause-rows : goal.returns-clause-rows
 returns-clause-rows c = cut _ _ c.args.to c.truncate.ensures.items

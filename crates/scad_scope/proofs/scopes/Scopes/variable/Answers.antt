@@ -1,7 +1,6 @@
 use Rattle.text_place.specs.declared.fault.Fault.{Fault}
 use Rattle.std.proofs.Common.{◌<◌, ◌∙◌, length, ap, arith}
 use Rattle.scad_scope.proofs.Envs.{rows_length, variable_found, variable_none, variable_outer}
-use Rattle.scad_scope.proofs.Bound.{variable_bounded}
 use Rattle.scad_scope.proofs.scopes.Scopes.variable.Goals as goal
 
 pub returns-in-Some : goal.returns-in-Some
@@ -12,8 +11,7 @@ returns-in-Some c =
     record {
       same = c.outward.invariant.same ∙ variable_found ss c.outward.at c.index-here.result.now c.args.name.now
           h c.index-here.ensures _ f;
-      bounded = variable_bounded ss c.outward.at c.index-here.result.now c.args.name.now _ h
-          c.index-here.ensures c.args.self.now.bounded f;
+      bounded = c.in-Some.found.now.bounded;
     }
 
 pub returns-then-here-at : goal.returns-then-here-at
