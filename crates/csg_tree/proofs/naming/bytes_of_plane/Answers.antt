@@ -8,6 +8,15 @@ returns c =
     let b : FitsSigned w64 c.plane.inside.b = search rules in
     let e : FitsSigned w64 c.plane.inside.c = search rules in
     let d : FitsSigned w64 c.plane.inside.d = search rules in
-    rw (c.to_be_bytes-a.ensures, c.to_be_bytes-b.ensures, c.to_be_bytes-c.ensures, c.to_be_bytes-d.ensures, ← c.plane.view_is,
-        to_z-of_z a, to_z-of_z b, to_z-of_z e, to_z-of_z d)
+    rw (
+      c.to_be_bytes-a.ensures,
+      c.to_be_bytes-b.ensures,
+      c.to_be_bytes-c.ensures,
+      c.to_be_bytes-d.ensures,
+      ← c.plane.view_is,
+      to_z-of_z a,
+      to_z-of_z b,
+      to_z-of_z e,
+      to_z-of_z d,
+    )
     refl
