@@ -1,18 +1,22 @@
 //! The names of trees, whose bytes are fed to a hash piece by piece.
 
-ghost use Rattle.std.specs.Prelude.{◌≡◌, ℕ, List, ◌∷◌, ◌++◌};
+ghost use Rattle.std.specs.Prelude.{◌≡◌, ℕ, List, ◌∷◌, ◌++◌, IfOk};
 ghost use Rattle.std.specs.Int.{w64, to_be_bytes};
 ghost use Rattle.std.specs.List.{flat_map};
+ghost use Rattle.sha2.specs.Hashers.{Holds256};
+ghost use Rattle.sha2.specs.Sha256.{sha256};
 ghost use Rattle.csg_tree.specs.Formulas.{leaf};
-ghost use Rattle.csg_tree.specs.Keys.{key_of, plane_bytes};
+ghost use Rattle.csg_tree.specs.Keys.{key_of, op_byte, plane_bytes};
 ghost use Rattle.csg_tree.specs.Numberings.{tree_numbered, IsNumberIn};
 ghost use Rattle.csg_tree.specs.TreeKeys.{name_of};
 
 use crate::key::byte_of;
 use crate::node::CsgNode;
+use crate::op::Op;
 use crate::store::CsgStore;
 use plane_predicate::Plane;
 use sha2::{Digest, Sha256};
+use text_place::NoMemory;
 
 /// The SHA-256 of the bytes of a node's tree. Takes no memory.
 pub fn name_of_node(store: &CsgStore, number: u32) -> [u8; 32]
@@ -22,6 +26,27 @@ pub fn name_of_node(store: &CsgStore, number: u32) -> [u8; 32]
     let mut hasher = Sha256::new();
     feed(store, number, &mut hasher);
     hasher.finalize()
+}
+
+/// A hash that was fed with the bytes of a join in front of those of its second tree.
+pub fn begin(store: &CsgStore, op: Op, left: u32) -> Sha256
+    requires { IsNumberIn store.now left }
+    ensures { Holds256 result (op_byte op ∷ key_of (tree_numbered store.now left)) }
+{
+    let mut hasher = Sha256::new();
+    hasher.update(&[byte_of(op)]);
+    feed(store, left, &mut hasher);
+    hasher
+}
+
+/// The SHA-256 of what a hash holds and the bytes of a node's tree behind it.
+pub fn end(begun: &Sha256, store: &CsgStore, right: u32) -> Result<[u8; 32], NoMemory>
+    requires { IsNumberIn store.now right }
+    ensures { (m : List ℕ) → Holds256 begun.now m → IfOk result (λ name. name ≡ sha256 (m ++ key_of (tree_numbered store.now right))) }
+{
+    let mut hasher = begun.clone()?;
+    feed(store, right, &mut hasher);
+    Ok(hasher.finalize())
 }
 
 /// Feeds the bytes of a node's tree.
