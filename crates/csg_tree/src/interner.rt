@@ -116,7 +116,7 @@ pub fn key_of_node(alloc: Global, node: CsgNode<'_>) -> Result<NodeKey, NoMemory
 fn plane_numbers(alloc: Global, planes: &[Plane]) -> Result<Vec<PlaneNumbers>, NoMemory>
     ensures { IfOk result (λ numbers. map plane_of_numbers numbers.items ≡ planes.now) }
 {
-    let mut numbers = Vec::new(alloc);
+    let mut numbers = Vec::with_capacity(alloc, planes.len())?;
     for plane in planes {
         numbers.push(numbers_of(plane))?;
     }

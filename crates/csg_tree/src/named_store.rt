@@ -1,26 +1,34 @@
 //! Stores with the names of their joins.
 
-ghost use Rattle.std.specs.Prelude.{◌≡◌, IfOk};
+ghost use Rattle.std.specs.Prelude.{◌≡◌, ◌≤◌, ◌∷◌, length, All, IfOk, IfSome};
 ghost use Rattle.std.specs.Arc.{arc_value};
+ghost use Rattle.sha2.specs.Hashers.{Holds256};
+ghost use Rattle.csg_tree.specs.Begun.{MayBeBegun};
+ghost use Rattle.csg_tree.specs.Formulas.{Formula};
+ghost use Rattle.csg_tree.specs.Keys.{key_of, op_byte};
 ghost use Rattle.csg_tree.specs.Numberings.{tree_numbered, IsNumberIn};
 ghost use Rattle.csg_tree.specs.TreeKeys.{name_of_join};
 ghost use Rattle.csg_tree.specs.Earlier.{IsNumberOf, AreAllNumbersIn};
 
-use crate::naming::name_of_node;
+use crate::naming::{begin, end, name_of_node};
 use crate::node::CsgNode;
+use crate::op::Op;
 use crate::store::CsgStore;
 use crate::tree_key::TreeKey;
+use sha2::Sha256;
 use std::alloc::Global;
 use std::marker::Model;
 use std::sync::Arc;
 use text_place::NoMemory;
 
 /// A shared store with the SHA-256 of the bytes of each of its joins, which contracts see as the store is
-/// seen.
+/// seen. It also keeps each hash as it was before the bytes of the join's second tree: where a later store has another
+/// join over the same first tree, that one is named from there.
 #[derive(Drop)]
 pub struct NamedStore {
     store: Arc<CsgStore>,
     names: Vec<Option<[u8; 32]>>,
+    begun: Vec<Option<Sha256>>,
 }
 
 impl Model for NamedStore {
@@ -36,10 +44,11 @@ impl Model for NamedStore {
     ghost use Rattle.std.specs.Prelude.{◌≡◌, map};
     ghost use Rattle.std.specs.Arc.{arc_value};
     ghost use Rattle.csg_tree.specs.TreeKeys.{name_of_join};
+    ghost use Rattle.csg_tree.specs.Begun.{AreBegun};
 
     ghost view = { λ s. arc_value s.store };
 
-    ghost invariant = { λ s. s.names.items ≡ map name_of_join (arc_value s.store) };
+    ghost invariant = { λ s. (s.names.items ≡ map name_of_join (arc_value s.store)) × AreBegun (arc_value s.store) s.begun.items };
 }
 
 impl NamedStore {
@@ -48,10 +57,17 @@ impl NamedStore {
         ensures { IfOk result (λ named. named ≡ arc_value store) }
     {
         let mut names = Vec::new(alloc);
+        let mut begun = Vec::new(alloc);
         for before in 0..store.len() {
-            names.push(name_made(&store, before + 1))?;
+            let hasher = begun_made(&store, before + 1);
+            names.push(name_made(&store, before + 1, &hasher)?)?;
+            begun.push(hasher)?;
         }
-        Ok(NamedStore { store, names })
+        Ok(NamedStore {
+            store,
+            names,
+            begun,
+        })
     }
 
     /// A store with the names of its joins, of which those that an earlier store has are taken from it.
@@ -64,12 +80,20 @@ impl NamedStore {
         requires { AreAllNumbersIn earlier.now (arc_value store) numbers.now }
         ensures { IfOk result (λ named. named ≡ arc_value store) }
     {
+        let joins = joins_by_left(alloc, earlier.store())?;
         let mut names = Vec::new(alloc);
+        let mut begun = Vec::new(alloc);
         for before in 0..store.len() {
-            let name = name_over(&store, before + 1, earlier, numbers[before as usize]);
-            names.push(name)?;
+            let hasher = begun_over(&store, before + 1, earlier, numbers, &joins)?;
+            let found = numbers[before as usize];
+            names.push(name_over(&store, before + 1, earlier, found, &hasher)?)?;
+            begun.push(hasher)?;
         }
-        Ok(NamedStore { store, names })
+        Ok(NamedStore {
+            store,
+            names,
+            begun,
+        })
     }
 
     /// The store. Takes no memory.
@@ -97,6 +121,95 @@ impl NamedStore {
     {
         self.names[number as usize - 1]
     }
+
+    /// The hash of a join before the bytes of its second tree, where it is kept.
+    fn begun(&self, number: u32) -> Result<Option<Sha256>, NoMemory>
+        requires { IsNumberIn self.now number }
+        ensures { IfOk result (MayBeBegun (tree_numbered self.now number)) }
+    {
+        match self.begun.get(number as usize - 1) {
+            Some(Some(hasher)) => Ok(Some(hasher.clone()?)),
+            _ => Ok(None),
+        }
+    }
+
+    /// The hash of a join of this operation over a tree of this number, where one is kept.
+    fn begun_with(
+        &self,
+        joins: &[u32],
+        op: Op,
+        left: Option<u32>,
+    ) -> Result<Option<Sha256>, NoMemory>
+        requires left { IfSome left (IsNumberIn self.now) }
+        requires joins { (length joins.now ≡ length self.now) × All (λ n. n ≤ length self.now) joins.now }
+        ensures { (tree : Formula) → IsNumberOf self.now tree left →
+            IfOk result (λ begun. IfSome begun (λ hasher. Holds256 hasher (op_byte op ∷ key_of tree))) }
+    {
+        let Some(left) = left else {
+            return Ok(None);
+        };
+        let join = joins[left as usize - 1];
+        if join == 0 {
+            return Ok(None);
+        }
+        match self.store.node(join) {
+            CsgNode::Join(by, first, _) if by == op && first == left => self.begun(join),
+            _ => Ok(None),
+        }
+    }
+}
+
+/// The number of a join by the number of its first tree, for each number, or 0.
+fn joins_by_left(alloc: Global, store: &CsgStore) -> Result<Vec<u32>, NoMemory>
+    ensures many { IfOk result (λ v. length v.items ≡ length store.now) }
+    ensures within { IfOk result (λ v. All (λ n. n ≤ length store.now) v.items) }
+{
+    let mut joins = vec![in alloc; 0; store.len() as usize]?;
+    for before in 0..store.len() {
+        if let CsgNode::Join(_, left, _) = store.node(before + 1) {
+            joins[left as usize - 1] = before + 1;
+        }
+    }
+    Ok(joins)
+}
+
+/// The hash of a node that is a join, before the bytes of its second tree.
+fn begun_made(store: &CsgStore, number: u32) -> Option<Sha256>
+    requires { IsNumberIn store.now number }
+    ensures { MayBeBegun (tree_numbered store.now number) result }
+{
+    match store.node(number) {
+        CsgNode::Leaf(_) => None,
+        CsgNode::Join(op, left, _) => Some(begin(store, op, left)),
+    }
+}
+
+/// The same, taken from an earlier store where that has the join, or one of the same operation over the same first tree.
+fn begun_over(
+    store: &CsgStore,
+    number: u32,
+    earlier: &NamedStore,
+    numbers: &[Option<u32>],
+    joins: &[u32],
+) -> Result<Option<Sha256>, NoMemory>
+    requires number { IsNumberIn store.now number }
+    requires numbers { AreAllNumbersIn earlier.now store.now numbers.now }
+    requires joins { (length joins.now ≡ length earlier.now) × All (λ n. n ≤ length earlier.now) joins.now }
+    ensures { IfOk result (MayBeBegun (tree_numbered store.now number)) }
+{
+    if let Some(known) = numbers[number as usize - 1] {
+        return earlier.begun(known);
+    }
+    match store.node(number) {
+        CsgNode::Leaf(_) => Ok(None),
+        CsgNode::Join(op, left, _) => {
+            let kept = earlier.begun_with(joins, op, numbers[left as usize - 1])?;
+            match kept {
+                Some(hasher) => Ok(Some(hasher)),
+                None => Ok(Some(begin(store, op, left))),
+            }
+        }
+    }
 }
 
 /// The name of a node that is a join: that of its number in an earlier store, where it has one.
@@ -105,24 +218,33 @@ fn name_over(
     number: u32,
     earlier: &NamedStore,
     found: Option<u32>,
-) -> Option<[u8; 32]>
+    begun: &Option<Sha256>,
+) -> Result<Option<[u8; 32]>, NoMemory>
     requires number { IsNumberIn store.now number }
     requires found { IsNumberOf earlier.now (tree_numbered store.now number) found }
-    ensures { result ≡ name_of_join (tree_numbered store.now number) }
+    requires begun { MayBeBegun (tree_numbered store.now number) begun.now }
+    ensures { IfOk result (λ name. name ≡ name_of_join (tree_numbered store.now number)) }
 {
-    match found {
+    let name = match found {
         Some(known) => earlier.name(known),
-        None => name_made(store, number),
-    }
+        None => name_made(store, number, begun)?,
+    };
+    Ok(name)
 }
 
-/// The name of a node that is a join, made of the bytes of its tree.
-fn name_made(store: &CsgStore, number: u32) -> Option<[u8; 32]>
-    requires { IsNumberIn store.now number }
-    ensures { result ≡ name_of_join (tree_numbered store.now number) }
+/// The name of a node that is a join, made of the bytes of its tree, from where its hash was begun.
+fn name_made(
+    store: &CsgStore,
+    number: u32,
+    begun: &Option<Sha256>,
+) -> Result<Option<[u8; 32]>, NoMemory>
+    requires number { IsNumberIn store.now number }
+    requires begun { MayBeBegun (tree_numbered store.now number) begun.now }
+    ensures { IfOk result (λ name. name ≡ name_of_join (tree_numbered store.now number)) }
 {
-    match store.node(number) {
-        CsgNode::Leaf(_) => None,
-        CsgNode::Join(_, _, _) => Some(name_of_node(store, number)),
+    match (store.node(number), begun) {
+        (CsgNode::Leaf(_), _) => Ok(None),
+        (CsgNode::Join(_, _, right), Some(hasher)) => Ok(Some(end(hasher, store, right)?)),
+        (CsgNode::Join(_, _, _), None) => Ok(Some(name_of_node(store, number))),
     }
 }

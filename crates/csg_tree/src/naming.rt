@@ -1,17 +1,22 @@
 //! The names of trees, whose bytes are fed to a hash piece by piece.
 
-ghost use Rattle.std.specs.Prelude.{◌≡◌, ℕ, List, ◌++◌};
+ghost use Rattle.std.specs.Prelude.{◌≡◌, ℕ, List, ◌∷◌, ◌++◌, IfOk};
+ghost use Rattle.std.specs.Int.{w64, to_be_bytes};
 ghost use Rattle.std.specs.List.{flat_map};
+ghost use Rattle.sha2.specs.Hashers.{Holds256};
+ghost use Rattle.sha2.specs.Sha256.{sha256};
 ghost use Rattle.csg_tree.specs.Formulas.{leaf};
-ghost use Rattle.csg_tree.specs.Keys.{key_of, number_bytes, plane_bytes};
+ghost use Rattle.csg_tree.specs.Keys.{key_of, op_byte, plane_bytes};
 ghost use Rattle.csg_tree.specs.Numberings.{tree_numbered, IsNumberIn};
 ghost use Rattle.csg_tree.specs.TreeKeys.{name_of};
 
 use crate::key::byte_of;
 use crate::node::CsgNode;
+use crate::op::Op;
 use crate::store::CsgStore;
 use plane_predicate::Plane;
 use sha2::{Digest, Sha256};
+use text_place::NoMemory;
 
 /// The SHA-256 of the bytes of a node's tree. Takes no memory.
 pub fn name_of_node(store: &CsgStore, number: u32) -> [u8; 32]
@@ -21,6 +26,27 @@ pub fn name_of_node(store: &CsgStore, number: u32) -> [u8; 32]
     let mut hasher = Sha256::new();
     feed(store, number, &mut hasher);
     hasher.finalize()
+}
+
+/// A hash that was fed with the bytes of a join in front of those of its second tree.
+pub fn begin(store: &CsgStore, op: Op, left: u32) -> Sha256
+    requires { IsNumberIn store.now left }
+    ensures { Holds256 result (op_byte op ∷ key_of (tree_numbered store.now left)) }
+{
+    let mut hasher = Sha256::new();
+    hasher.update(&[byte_of(op)]);
+    feed(store, left, &mut hasher);
+    hasher
+}
+
+/// The SHA-256 of what a hash holds and the bytes of a node's tree behind it.
+pub fn end(begun: &Sha256, store: &CsgStore, right: u32) -> Result<[u8; 32], NoMemory>
+    requires { IsNumberIn store.now right }
+    ensures { (m : List ℕ) → Holds256 begun.now m → IfOk result (λ name. name ≡ sha256 (m ++ key_of (tree_numbered store.now right))) }
+{
+    let mut hasher = begun.clone()?;
+    feed(store, right, &mut hasher);
+    Ok(hasher.finalize())
 }
 
 /// Feeds the bytes of a node's tree.
@@ -42,9 +68,16 @@ fn feed<D: Digest>(store: &CsgStore, number: u32, hasher: &mut D)
 fn feed_leaf<D: Digest>(planes: &[Plane], hasher: &mut D)
     ensures { (m : List ℕ) → D.holds hasher.old m → D.holds hasher.new (m ++ key_of (leaf planes.now)) }
 {
-    hasher.update(&[1]);
-    hasher.update(&(planes.len() as u64).to_be_bytes());
+    hasher.update(&leaf_head(planes.len() as u64));
     feed_planes(planes, hasher);
+}
+
+/// The bytes of a leaf in front of its planes, which are so many.
+fn leaf_head(count: u64) -> [u8; 9]
+    ensures { result ≡ 1 ∷ to_be_bytes w64 count }
+{
+    let n = count.to_be_bytes();
+    [1, n[0], n[1], n[2], n[3], n[4], n[5], n[6], n[7]]
 }
 
 /// Feeds the four numbers of each plane.
@@ -56,20 +89,24 @@ fn feed_planes<D: Digest>(planes: &[Plane], hasher: &mut D)
     }
 }
 
-/// Feeds the four numbers of a plane.
+/// Feeds the four numbers of a plane, in one piece: a piece costs the hash as much as a few bytes do.
 fn feed_plane<D: Digest>(plane: &Plane, hasher: &mut D)
     ensures { (m : List ℕ) → D.holds hasher.old m → D.holds hasher.new (m ++ plane_bytes plane.now) }
 {
-    feed_number(plane.a, hasher);
-    feed_number(plane.b, hasher);
-    feed_number(plane.c, hasher);
-    feed_number(plane.d, hasher);
+    hasher.update(&bytes_of_plane(plane));
 }
 
-/// Feeds a number in eight bytes.
-#[tactic(auto, unfolding(crate::specs::Keys::number_bytes))]
-fn feed_number<D: Digest>(number: i64, hasher: &mut D)
-    ensures { (m : List ℕ) → D.holds hasher.old m → D.holds hasher.new (m ++ number_bytes number) }
+/// The bytes of the four numbers of a plane.
+fn bytes_of_plane(plane: &Plane) -> [u8; 32]
+    ensures { result ≡ plane_bytes plane.now }
 {
-    hasher.update(&number.to_be_bytes());
+    let a = plane.a.to_be_bytes();
+    let b = plane.b.to_be_bytes();
+    let c = plane.c.to_be_bytes();
+    let d = plane.d.to_be_bytes();
+    [
+        a[0], a[1], a[2], a[3], a[4], a[5], a[6], a[7], b[0], b[1], b[2], b[3], b[4], b[5], b[6],
+        b[7], c[0], c[1], c[2], c[3], c[4], c[5], c[6], c[7], d[0], d[1], d[2], d[3], d[4], d[5],
+        d[6], d[7],
+    ]
 }

@@ -1,3 +1,4 @@
+mod NoneAhead
 pub mod Distinct
 pub mod FacePlanes
 pub mod Lists

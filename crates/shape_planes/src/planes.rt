@@ -23,7 +23,7 @@ pub fn planes_of(
     requires faces_are { All (IsFace (record { points = points.now; faces = faces.now })) faces.now }
     ensures { IfOk result (λ v. ArePlanesOf (record { points = points.now; faces = faces.now }) faces.now v.items) }
 {
-    let mut planes = Vec::new(alloc);
+    let mut planes = Vec::with_capacity(alloc, faces.len())?;
     for face in faces {
         let plane = face_plane(points, faces, face.items());
         if !holds(&planes, &plane) {

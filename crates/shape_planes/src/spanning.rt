@@ -1,6 +1,7 @@
 //! Three corners of a face that are not on one line, and the plane through them.
 
 ghost use Rattle.std.specs.Prelude.{◌<◌, All, IfSome, IsNone, get_or, length};
+ghost use Rattle.std.specs.Bool.{OnTrue};
 ghost use Rattle.plane_predicate.specs.Space.{point_at, AreCollinear, IsInReach};
 ghost use Rattle.shape_planes.specs.Shapes.{corner, HasTriangle};
 ghost use Rattle.shape_planes.specs.Sizes.{IsOnGrid};
@@ -19,6 +20,39 @@ pub struct Triangle {
 
 /// Three corners of a face that are not on one line. `None` where all corners are on one line.
 pub fn find_triangle(points: &[[i64; 3]], face: &[u32]) -> Option<Triangle>
+    requires grid { All (λ p. IsOnGrid (point_at p)) points.now }
+    requires there { All (λ i. i < length points.now) face.now }
+    ensures some { IfSome result (IsTriangle points.now face.now) }
+    ensures none { IsNone result → HasTriangle points.now face.now → ⊥ }
+{
+    // In most faces the first three corners are such ones.
+    if begins_with_triangle(points, face) {
+        return Some(Triangle {
+            first: 0,
+            second: 1,
+            third: 2,
+        });
+    }
+    search_triangle(points, face)
+}
+
+/// Whether a face has three corners in front that are not on one line.
+fn begins_with_triangle(points: &[[i64; 3]], face: &[u32]) -> bool
+    requires grid { All (λ p. IsOnGrid (point_at p)) points.now }
+    requires there { All (λ i. i < length points.now) face.now }
+    ensures { OnTrue result (IsTriangle points.now face.now (record { first = 0; second = 1; third = 2 })) }
+{
+    if face.len() < 3 {
+        return false;
+    }
+    let p = points[face[0] as usize];
+    let q = points[face[1] as usize];
+    let r = points[face[2] as usize];
+    has_direction(&plane_through(p, q, r))
+}
+
+/// Three corners of a face that are not on one line, of which one is the first. `None` where all corners are on one line.
+fn search_triangle(points: &[[i64; 3]], face: &[u32]) -> Option<Triangle>
     requires grid { All (λ p. IsOnGrid (point_at p)) points.now }
     requires there { All (λ i. i < length points.now) face.now }
     ensures some { IfSome result (IsTriangle points.now face.now) }

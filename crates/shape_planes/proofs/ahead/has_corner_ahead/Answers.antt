@@ -1,7 +1,7 @@
 use Rattle.std.proofs.Common.{ℕ, List, pos, ◌≤ℤ◌, arith, ◌∙◌, subst, All}
 use Rattle.shape_planes.specs.Shapes.{value_at}
 use Rattle.shape_planes.proofs.Lists.{all_done, all_next}
-use Rattle.shape_planes.proofs.ahead.has_ahead.Goals as goal
+use Rattle.shape_planes.proofs.ahead.has_corner_ahead.Goals as goal
 
 pub loop-face-preserved : goal.loop-face-preserved
 loop-face-preserved c =

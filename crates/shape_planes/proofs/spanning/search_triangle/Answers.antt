@@ -3,7 +3,7 @@ use Rattle.plane_predicate.specs.Space.{AreCollinear}
 use Rattle.shape_planes.specs.Shapes.{corner}
 use Rattle.shape_planes.proofs.Lists.{all_done, all_next}
 use Rattle.shape_planes.proofs.Triangles.{no_lines}
-use Rattle.shape_planes.proofs.spanning.find_triangle.Goals as goal
+use Rattle.shape_planes.proofs.spanning.search_triangle.Goals as goal
 
 pub loop-second-preserved : goal.loop-second-preserved
 loop-second-preserved c =
