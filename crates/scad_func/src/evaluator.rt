@@ -28,10 +28,7 @@ use crate::functions::find;
 use crate::held::{with, with_next};
 use crate::limits::{CALLS, EVALUATIONS, TURNS};
 use scad_ast::{Args, Expr, Exprs, Link, Links, Param, Params, Suffix, Suffixes, UnaryOp};
-use scad_scope::{
-    Function, GivenArguments, Names, count_of, destination_for, fault_at, nothing_given,
-    positional_after, with_next_argument,
-};
+use scad_scope::{ArgumentsSoFar, Function, GivenArguments, Names, fault_at, positional_after};
 use scad_value::Value;
 use std::mem;
 use text_place::{FaultKind, Place, Stop};
@@ -386,15 +383,16 @@ impl Evaluation<'_, '_> {
         ensures count { IfOk result (λ given. length given.slots.items ≡ length (names_in names.entry)) }
         ensures kept { Keeps self.old self.new }
     {
-        let mut given = nothing_given(self.alloc, count_of(names))?;
+        let mut so_far = ArgumentsSoFar::of(self.alloc, names, &args.items)?;
         let mut positional: usize = 0;
         'each: for arg in &args.items {
-            let free = destination_for(names, &given, positional, arg);
-            let (open, destination) = with(given, free)?;
+            let free = so_far.destination_for(positional, arg);
+            let (held, destination) = with(so_far, free)?;
             let next = self.expression(scope, argument_value(arg));
-            given = with_next_argument(open, destination, next)?;
+            so_far = held.with_next(self.alloc, destination, next)?;
             positional = positional_after(positional, arg);
         }
+        let ArgumentsSoFar { given, .. } = so_far;
         Ok(given)
     }
 

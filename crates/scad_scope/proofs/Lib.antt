@@ -8,3 +8,4 @@ pub mod Held
 pub mod Placed
 pub mod Order
 pub mod Begun
+pub mod Looking

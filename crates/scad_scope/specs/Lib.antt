@@ -10,3 +10,5 @@ pub mod TextView
 pub mod Tables
 pub mod Places
 pub mod PlacesView
+pub mod Lookup
+pub mod SoFarView

@@ -6,9 +6,11 @@ mod assigned;
 mod blocks;
 mod bounded;
 mod fault;
+mod lookup;
 mod own;
 mod parameters;
 mod scopes;
+mod so_far;
 mod table;
 mod text;
 mod walk;
@@ -16,9 +18,10 @@ mod walk;
 pub use blocks::Blocks;
 pub use fault::fault_at;
 pub use parameters::{
-    Destination, GivenArguments, Matching, Names, SpecialArgument, arguments, count_of,
-    destination_for, has_special, name_of, nothing_given, positional_after, with_next_argument,
+    Destination, GivenArguments, Matching, Names, SpecialArgument, arguments, has_special, name_of,
+    positional_after,
 };
 pub use scopes::Scopes;
+pub use so_far::ArgumentsSoFar;
 pub use table::{Call, Found};
 pub use text::{Assignment, BlockText, Function, Module};

@@ -1,4 +1,4 @@
-ghost use Rattle.std.specs.Prelude.{◌≡◌, ℕ, ◌+◌, ◌^◌, ◌<◌, ◌≤◌, length, map, replicate, Some, None, slice_index_or, is_some, if◌then◌else◌, IfSome, IfOk, IfErr};
+ghost use Rattle.std.specs.Prelude.{◌≡◌, ℕ, ◌+◌, ◌^◌, ◌<◌, ◌≤◌, length, map, replicate, Some, None, slice_index_or, [], is_some, if◌then◌else◌, IfSome, IfOk, IfErr};
 ghost use Rattle.text_place.specs.declared.fault.FaultKind.TheVariants.{BadArgument};
 ghost use Rattle.scad_ast.specs.ExprView.{arg_of};
 ghost use Rattle.scad_ast.specs.StatementView.{param_of};
@@ -6,11 +6,11 @@ ghost use Rattle.scad_scope.specs.Names.{find_in};
 ghost use Rattle.scad_scope.specs.Arguments.{name_of as name_at, names_of, first_named as first_of, taken_by as taken_at, argument_place as place_at, positional_after as positional_at, matching_of, nothing_given as nothing_at, unless_filled, taker_of, to_special, TellsMatching};
 ghost use Rattle.scad_scope.specs.ArgumentsView.{names_seen, names_in, special_pairs, given_of, taker_seen, takers_seen, IsTakerThere, IsGiven, IsFault};
 
-use crate::fault::fault_at;
+use crate::so_far::ArgumentsSoFar;
 use scad_ast::{Arg, Param};
 use std::alloc::Global;
 use std::marker::Model;
-use text_place::{FaultKind, NoMemory, Place, Stop};
+use text_place::{NoMemory, Place, Stop};
 
 /// For each parameter the number of its argument, from 0, or none.
 #[derive(Drop)]
@@ -85,22 +85,22 @@ pub fn arguments(
     ensures size { IfOk result (λ m. length m ≡ length params.now) }
     ensures value { TellsMatching result (matching_of (names_of (map param_of params.now)) (map arg_of args.now)) }
 {
-    let names = Names::Params(params);
-    let mut given = nothing_given(alloc, params.len())?;
+    let mut so_far = ArgumentsSoFar::of(alloc, Names::Params(params), args)?;
     let mut positional: usize = 0;
     'each: for (number, arg) in args.iter().enumerate() {
-        let destination = destination_for(names, &given, positional, arg)?;
+        let destination = so_far.destination_for(positional, arg)?;
         if number > u32::MAX as usize {
             return Err(Stop::NoMemory);
         }
-        given = with_next_argument(given, destination, Ok(number as u32))?;
+        so_far = so_far.with_next(alloc, destination, Ok(number as u32))?;
         positional = positional_after(positional, arg);
     }
+    let ArgumentsSoFar { given, .. } = so_far;
     Ok(Matching { given: given.slots })
 }
 
 /// How many names there are. Takes no memory.
-pub fn count_of(names: Names<'_>) -> usize
+pub(crate) fn count_of(names: Names<'_>) -> usize
     ensures { result ≡ length (names_in names.entry) }
 {
     match names {
@@ -110,7 +110,7 @@ pub fn count_of(names: Names<'_>) -> usize
 }
 
 /// Nothing yet, for so many parameters.
-pub fn nothing_given<'a, T: Drop>(
+pub(crate) fn nothing_given<'a, T: Drop>(
     alloc: Global,
     params: usize,
 ) -> Result<GivenArguments<'a, T>, NoMemory>
@@ -133,57 +133,6 @@ fn no_slots<T: Drop>(alloc: Global, params: usize) -> Result<Vec<Option<T>>, NoM
     Ok(slots)
 }
 
-/// What takes an argument behind others. BadArgument at its first token where nothing does. Takes no memory.
-pub fn destination_for<'a, T>(
-    names: Names<'_>,
-    given: &GivenArguments<'_, T>,
-    positional: usize,
-    arg: &'a Arg,
-) -> Result<Destination<'a>, Stop>
-    requires { length given.now.slots.items ≡ length (names_in names) }
-    ensures free { IfOk result (λ t. taker_of (names_in names.entry) positional (given_of given.now) (arg_of arg.now) ≡ Some (taker_seen t)) }
-    ensures within { IfOk result (IsTakerThere (length given.now.slots.items)) }
-    ensures none { IfErr result (λ stop. (taker_of (names_in names.entry) positional (given_of given.now) (arg_of arg.now) ≡ None)
-        × IsFault stop BadArgument (place_at (arg_of arg.now))) }
-{
-    match free_destination(names, given, positional, arg) {
-        Some(destination) => Ok(destination),
-        None => Err(fault_at(FaultKind::BadArgument, argument_place(arg))),
-    }
-}
-
-/// What takes an argument: a parameter or a special name that was given nothing yet.
-fn free_destination<'a, T>(
-    names: Names<'_>,
-    given: &GivenArguments<'_, T>,
-    positional: usize,
-    arg: &'a Arg,
-) -> Option<Destination<'a>>
-    requires { length given.now.slots.items ≡ length (names_in names) }
-    ensures value { taker_of (names_in names.entry) positional (given_of given.now) (arg_of arg.now) ≡ takers_seen result }
-    ensures within { IfSome result (IsTakerThere (length given.now.slots.items)) }
-{
-    match arg {
-        Arg::Special(_, name, _) => free_special(&given.specials, name.items()),
-        Arg::Named(_, _, _) => free_parameter(&given.slots, taken_by(names, positional, arg)),
-        Arg::Positional(_) => free_parameter(&given.slots, taken_by(names, positional, arg)),
-    }
-}
-
-/// A special name that was given nothing yet.
-fn free_special<'a, T>(
-    specials: &[SpecialArgument<'_, T>],
-    name: &'a [u8],
-) -> Option<Destination<'a>>
-    ensures value { takers_seen result ≡ (if is_some (find_in (special_pairs specials.now) name.now) then None else Some (to_special name.now)) }
-    ensures within { (n : ℕ) → IfSome result (IsTakerThere n) }
-{
-    if has_special(specials, name) {
-        return None;
-    }
-    Some(Destination::Special(name))
-}
-
 /// Whether one of these is the special argument of a name. Takes no memory.
 pub fn has_special<T>(specials: &[SpecialArgument<'_, T>], name: &[u8]) -> bool
     ensures { result ≡ is_some (find_in (special_pairs specials.now) name.now) }
@@ -199,7 +148,10 @@ pub fn has_special<T>(specials: &[SpecialArgument<'_, T>], name: &[u8]) -> bool
 }
 
 /// A parameter that was given nothing yet.
-fn free_parameter<'a, T>(slots: &[Option<T>], param: Option<usize>) -> Option<Destination<'a>>
+pub(crate) fn free_parameter<'a, T>(
+    slots: &[Option<T>],
+    param: Option<usize>,
+) -> Option<Destination<'a>>
     requires { IfSome param (λ k. k < length slots.now) }
     ensures value { takers_seen result ≡ unless_filled slots.now param }
     ensures within { IfSome result (IsTakerThere (length slots.now)) }
@@ -211,26 +163,8 @@ fn free_parameter<'a, T>(slots: &[Option<T>], param: Option<usize>) -> Option<De
     Some(Destination::Parameter(param))
 }
 
-/// The parameter that an argument takes after so many positional ones. A special argument takes none.
-fn taken_by(names: Names<'_>, positional: usize, arg: &Arg) -> Option<usize>
-    ensures value { result ≡ taken_at (names_in names.entry) positional (arg_of arg.now) }
-    ensures within { IfSome result (λ k. k < length (names_in names.entry)) }
-{
-    match arg {
-        Arg::Named(_, name, _) => first_named(names, name.items()),
-        Arg::Special(_, _, _) => None,
-        Arg::Positional(_) => {
-            if positional < count_of(names) {
-                Some(positional)
-            } else {
-                None
-            }
-        }
-    }
-}
-
 /// The first parameter of a name.
-fn first_named(names: Names<'_>, name: &[u8]) -> Option<usize>
+pub(crate) fn first_named(names: Names<'_>, name: &[u8]) -> Option<usize>
     ensures value { result ≡ first_of (names_in names.entry) name.now }
     ensures within { IfSome result (λ k. k < length (names_in names.entry)) }
 {
@@ -264,23 +198,8 @@ fn first_listed(names: &[&[u8]], name: &[u8]) -> Option<usize>
     None
 }
 
-/// Arguments of which one more gives something, where there is something: what was given so far is dropped with
-/// a stop.
-pub fn with_next_argument<'a, T: Drop>(
-    given: GivenArguments<'a, T>,
-    destination: Destination<'a>,
-    next: Result<T, Stop>,
-) -> Result<GivenArguments<'a, T>, Stop>
-    requires { IsTakerThere (length given.slots.items) destination }
-    ensures { IsGiven given.entry destination.entry next result }
-{
-    match next {
-        Ok(value) => with_argument(given, destination, value),
-        Err(stop) => Err(stop),
-    }
-}
-
-fn with_argument<'a, T: Drop>(
+/// Arguments of which one more gives something.
+pub(crate) fn with_argument<'a, T: Drop>(
     given: GivenArguments<'a, T>,
     destination: Destination<'a>,
     value: T,
@@ -314,6 +233,17 @@ pub fn positional_after(positional: usize, arg: &Arg) -> usize
     }
 }
 
+/// The name of a number.
+pub(crate) fn name_at<'a>(names: Names<'a>, number: usize) -> &'a [u8]
+    requires { number < length (names_in names) }
+    ensures { result.now ≡ slice_index_or (names_in names.entry) number [] }
+{
+    match names {
+        Names::Params(params) => name_of(&params[number]),
+        Names::Listed(listed) => listed[number],
+    }
+}
+
 /// The name of a parameter. Takes no memory.
 pub fn name_of(param: &Param) -> &[u8]
     ensures { result.now ≡ name_at (param_of param.now) }
@@ -324,7 +254,8 @@ pub fn name_of(param: &Param) -> &[u8]
     }
 }
 
-fn argument_place(arg: &Arg) -> Place
+/// The place of an argument's first token.
+pub(crate) fn argument_place(arg: &Arg) -> Place
     ensures { result ≡ place_at (arg_of arg.now) }
 {
     match arg {

@@ -34,7 +34,12 @@ pub(crate) struct Scope {
 
 impl Scope {
     /// Gives a name a value, as the newest of its name. `NoMemory` leaves the scope as it was.
-    pub(crate) fn bind(&mut self, alloc: Global, name: Bytes, value: BoundedValue) -> Result<(), NoMemory>
+    pub(crate) fn bind(
+        &mut self,
+        alloc: Global,
+        name: Bytes,
+        value: BoundedValue,
+    ) -> Result<(), NoMemory>
         ensures bound { OnOk result (row_of self.new ≡ with_variable name (val_of value.value) (row_of self.old)) }
         ensures unchanged { OnErr result (row_of self.new ≡ row_of self.old) }
     {

@@ -27,6 +27,8 @@ use Rattle.scad_func.specs.Meaning.{Outcome, Gives, Faults, value_at, with_calls
 use Rattle.scad_func.specs.Steps.{all_values, suffixed, linked, argument_of}
 use Rattle.scad_func.specs.View.{Tells, TellsArguments, IsLonger, text_of, slots_in, slot_of, indexed_val, arguments_of, arguments_bounded}
 use Rattle.scad_scope.specs.declared.parameters.GivenArguments.{GivenArguments}
+use Rattle.scad_scope.specs.declared.parameters.Names.{Names}
+use Rattle.scad_scope.specs.declared.so_far.ArgumentsSoFar.{ArgumentsSoFar}
 use Rattle.scad_scope.specs.declared.parameters.Destination.{Destination}
 use Rattle.scad_func.specs.Evaluations.{setting}
 use Rattle.scad_func.proofs.Outcomes.{tells_along, evaluated_deeper, evaluated_too_deep, value_counted, fault_counted, values_end, terms_here, terms_end, args_here, args_end, values_of_arg, suffixes_here, suffix_step, links_here, step_more, step_fault, name_then, fault_at, link_wants}
@@ -365,14 +367,14 @@ pub each_argument-each-init : goal.each_argument-each-init
 each_argument-each-init t c =
     let form = ap args_from (args_form c.args.args.now) in
     let names = names_in c.args.names in
-    let none = nothing_seen c.in_ok-given.given _ (c.in_ok-given.ensures ∙ ap nothing_given c.count_of.ensures) in
+    let so_far = c.in_ok-so_far.so_far in
+    let none = nothing_seen so_far.given _ c.in_ok-so_far.ensures.given in
     let here = setting c.args.self.now c.args.scope in
     record {
       told = ap (λ given. each_argument here names 0 (args_from (args_of c.args.args.now)) given
           c.args.self.now.turns) (sym none)
-          ∙ ap (λ l. each_argument here names 0 l (arguments_of c.in_ok-given.given) c.args.self.now.turns) form;
-      count = sym (length-map c.in_ok-given.given.slots.items slot_of) ∙ ap (λ (given : Arguments). length given.slots) none
-          ∙ length-replicate (length names) None;
+          ∙ ap (λ l. each_argument here names 0 l (arguments_of so_far.given) c.args.self.now.turns) form;
+      names = c.in_ok-so_far.ensures.names;
       few = omega arith;
       filled = subst (λ given. IsTrue (arguments_bounded given)) (sym none) (nothing_bounded (length names));
       kept = keeps_same _;
@@ -393,33 +395,34 @@ each_argument-each-preserved t c =
     let rest = args_from (map arg_of (drop (i + 1) xs)) in
     let here = setting c.args.self.now c.args.scope in
     let names = names_in c.args.names in
-    let d = c.in_ok-open.destination in
-    let w = c.in_ok-open.ensures.ok in
-    let free = taker_given names c.each.positional c.each.given a
-    ∙ if_ok_at (λ (d : Destination). taker_of names c.each.positional (given_of c.each.given) a ≡ Some (taker_seen d))
+    let before = c.each.so_far.given in
+    let after = c.in_ok-so_far-2.so_far in
+    let d = c.in_ok-held.destination in
+    let w = c.in_ok-held.ensures.ok in
+    let free = ap (λ (ns : Names). taker_of (names_in ns) c.each.positional (arguments_of before) a) (sym inv.names)
+    ∙ taker_given (names_in c.each.so_far.names) c.each.positional before a
+    ∙ if_ok_at (λ (d : Destination). taker_of (names_in c.each.so_far.names) c.each.positional (given_of before) a ≡ Some (taker_seen d))
     c.destination_for-free.result d w.1 c.destination_for-free.ensures.free in
     let step = tells_along c.expression-next.result _ _ _ (ap (λ e. value_at here true e c.each.self.turns)
     (sym c.argument_value.ensures.value) ∙ moved (λ s. value_at s true (term_of c.argument_value.result.now) c.each.self.turns)
     c.args.scope inv.kept) g.value in
-    let given = held_seen c.each.given d c.expression-next.result (Ok c.in_ok-given-2.given)
-    (subst (λ (v : GivenArguments Value). IsGiven v d c.expression-next.result (Ok c.in_ok-given-2.given)) w.0
-    c.in_ok-given-2.ensures) in
+    let given = held_seen before d c.expression-next.result (Ok after.given)
+    (subst (λ (v : ArgumentsSoFar Value). IsGiven v.given d c.expression-next.result (Ok after.given)) w.0
+    c.in_ok-so_far-2.ensures.given) in
     record {
-      told = argument_held here names c.each.positional _ (args_from (map arg_of (drop i xs))) (arguments_of c.each.given) c.each.self.turns
+      told = argument_held here names c.each.positional _ (args_from (map arg_of (drop i xs))) (arguments_of before) c.each.self.turns
           inv.told a rest (taker_seen d) c.expression-next.new.self.turns c.positional_after-positional.result c.expression-next.result
-          c.in_ok-given-2.given next free step given c.positional_after-positional.ensures.value;
-      count = sym (length-map c.in_ok-given-2.given.slots.items slot_of)
-          ∙ argument_held_length (arguments_of c.each.given) (taker_seen d) c.expression-next.result c.in_ok-given-2.given given
-          ∙ length-map c.each.given.slots.items slot_of ∙ inv.count;
+          after.given next free step given c.positional_after-positional.ensures.value;
+      names = c.in_ok-so_far-2.ensures.names ∙ ap (λ (v : ArgumentsSoFar Value). v.names) w.0 ∙ inv.names;
       few = omega (arith, c.positional_after-positional.ensures.within, inv.few);
-      filled = argument_held_bounded (arguments_of c.each.given) (taker_seen d) c.expression-next.result c.in_ok-given-2.given given
+      filled = argument_held_bounded (arguments_of before) (taker_seen d) c.expression-next.result after.given given
           inv.filled (told_bounded c.expression-next.result _ _ g.value);
       kept = keeps_trans inv.kept g.kept;
     }
 
-pub each_argument-returns-in_err-open-clause-value : goal.each_argument-returns-in_err-open-clause-value
-each_argument-returns-in_err-open-clause-value t c =
-    let p = err_from_is_err_and c.from_residual-in_err-open.result c.from_residual-in_err-open.ensures.1 in
+pub each_argument-returns-in_err-held-clause-value : goal.each_argument-returns-in_err-held-clause-value
+each_argument-returns-in_err-held-clause-value t c =
+    let p = err_from_is_err_and c.from_residual-in_err-held.result c.from_residual-in_err-held.ensures.1 in
     let xs = c.args.args.now.items.items in
     let i = c.each.arg-index in
     let h : i < length xs = omega (arith, c.each-test.true, ap length c.deref-arg-items.ensures.value) in
@@ -431,16 +434,19 @@ each_argument-returns-in_err-open-clause-value t c =
     let rest = args_from (map arg_of (drop (i + 1) xs)) in
     let here = setting c.args.self.now c.args.scope in
     let names = names_in c.args.names in
-    let stop = c.in_err-open.field-0.0 in
-    let refused = if_err_at (λ (s : Stop). (taker_of names c.each.positional (given_of c.each.given) a ≡ None) × IsFault s BadArgument (argument_place a))
-    c.destination_for-free.result stop c.in_err-open.ensures.err c.destination_for-free.ensures.none in
+    let before = c.each.so_far.given in
+    let stop = c.in_err-held.field-0.0 in
+    let refused = if_err_at (λ (s : Stop). (taker_of (names_in c.each.so_far.names) c.each.positional (given_of before) a ≡ None) × IsFault s BadArgument (argument_place a))
+    c.destination_for-free.result stop c.in_err-held.ensures.err c.destination_for-free.ensures.none in
     rw (p.1, p.2) (argument_refused stop _ (argument_place a) _
-    (argument_none here names c.each.positional _ (args_from (map arg_of (drop i xs))) (arguments_of c.each.given) c.each.self.turns
-    inv.told a rest (args_here xs i x h is) (taker_given names c.each.positional c.each.given a ∙ refused.0)) refused.1)
+    (argument_none here names c.each.positional _ (args_from (map arg_of (drop i xs))) (arguments_of before) c.each.self.turns
+    inv.told a rest (args_here xs i x h is)
+    (ap (λ (ns : Names). taker_of (names_in ns) c.each.positional (arguments_of before) a) (sym inv.names)
+    ∙ taker_given (names_in c.each.so_far.names) c.each.positional before a ∙ refused.0)) refused.1)
 
-pub each_argument-returns-in_err-given-2-clause-value : goal.each_argument-returns-in_err-given-2-clause-value
-each_argument-returns-in_err-given-2-clause-value t c =
-    let p = err_from_is_err_and c.from_residual-in_err-given-2.result c.from_residual-in_err-given-2.ensures.1 in
+pub each_argument-returns-in_err-so_far-2-clause-value : goal.each_argument-returns-in_err-so_far-2-clause-value
+each_argument-returns-in_err-so_far-2-clause-value t c =
+    let p = err_from_is_err_and c.from_residual-in_err-so_far-2.result c.from_residual-in_err-so_far-2.ensures.1 in
     let xs = c.args.args.now.items.items in
     let i = c.each.arg-index in
     let h : i < length xs = omega (arith, c.each-test.true, ap length c.deref-arg-items.ensures.value) in
@@ -453,18 +459,20 @@ each_argument-returns-in_err-given-2-clause-value t c =
     let here = setting c.args.self.now c.args.scope in
     let names = names_in c.args.names in
     let g = c.expression-next.ensures in
-    let d = c.in_ok-open.destination in
-    let w = c.in_ok-open.ensures.ok in
-    let free = taker_given names c.each.positional c.each.given a
-    ∙ if_ok_at (λ (d : Destination). taker_of names c.each.positional (given_of c.each.given) a ≡ Some (taker_seen d))
+    let before = c.each.so_far.given in
+    let d = c.in_ok-held.destination in
+    let w = c.in_ok-held.ensures.ok in
+    let free = ap (λ (ns : Names). taker_of (names_in ns) c.each.positional (arguments_of before) a) (sym inv.names)
+    ∙ taker_given (names_in c.each.so_far.names) c.each.positional before a
+    ∙ if_ok_at (λ (d : Destination). taker_of (names_in c.each.so_far.names) c.each.positional (given_of before) a ≡ Some (taker_seen d))
     c.destination_for-free.result d w.1 c.destination_for-free.ensures.free in
     let step = tells_along c.expression-next.result _ _ _ (ap (λ e. value_at here true e c.each.self.turns)
     (sym c.argument_value.ensures.value) ∙ moved (λ s. value_at s true (term_of c.argument_value.result.now) c.each.self.turns)
     c.args.scope inv.kept) g.value in
-    let stop = c.in_err-given-2.field-0.0 in
-    let held = held_seen c.each.given d c.expression-next.result (Err stop)
-    (subst (λ (v : GivenArguments Value). IsGiven v d c.expression-next.result (Err stop)) w.0 c.in_err-given-2.ensures) in
-    rw (p.1, p.2) (argument_stops here names c.each.positional _ (args_from (map arg_of (drop i xs))) (arguments_of c.each.given) c.each.self.turns
+    let stop = c.in_err-so_far-2.field-0.0 in
+    let held = held_seen before d c.expression-next.result (Err stop)
+    (subst (λ (v : ArgumentsSoFar Value). IsGiven v.given d c.expression-next.result (Err stop)) w.0 c.in_err-so_far-2.ensures.given) in
+    rw (p.1, p.2) (argument_stops here names c.each.positional _ (args_from (map arg_of (drop i xs))) (arguments_of before) c.each.self.turns
     inv.told a rest (taker_seen d) c.expression-next.new.self.turns c.expression-next.new.self.turns c.expression-next.result stop
     (args_here xs i x h is) free step held)
 

@@ -154,10 +154,10 @@ invariant-each_argument-each l =
       told : each_argument here (names_in l.names) 0 (args_from (args_of l.args))
           (nothing_given (length (names_in l.names))) l.fn.self.turns
           ≡ each_argument here (names_in l.names) l.positional
-          (args_from (map arg_of (drop l.arg-index l.args.items.items))) (arguments_of l.given) l.self.turns;
-      count : length l.given.slots.items ≡ length (names_in l.names);
+          (args_from (map arg_of (drop l.arg-index l.args.items.items))) (arguments_of l.so_far.given) l.self.turns;
+      names : l.so_far.names ≡ l.names;
       few : l.positional ≤ l.arg-index;
-      filled : IsTrue (arguments_bounded (arguments_of l.given));
+      filled : IsTrue (arguments_bounded (arguments_of l.so_far.given));
       kept : Keeps l.fn.self l.self;
     }
 

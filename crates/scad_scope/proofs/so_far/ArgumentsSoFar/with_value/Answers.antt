@@ -1,0 +1,46 @@
+use Rattle.std.proofs.Common.{◌≡◌, ◌∙◌, Option, Some, None, length, sym, ap}
+use Rattle.std.specs.declared.boxed.Box.{Box}
+use Rattle.std.specs.declared.alloc.Global.{Global}
+use Rattle.newest_names.specs.Names.{newest_first}
+use Rattle.scad_scope.specs.declared.lookup.NameIndex.{NameIndex}
+use Rattle.scad_scope.specs.Arguments.{Given}
+use Rattle.scad_scope.specs.ArgumentsView.{given_of}
+use Rattle.scad_scope.specs.Lookup.{names_told, taken_after}
+use Rattle.scad_scope.proofs.Looking.{names_taken, slots_kept}
+use Rattle.scad_scope.proofs.so_far.ArgumentsSoFar.with_value.Goals.{in-Some+in_ok-note-in-Some, in-None}
+use Rattle.scad_scope.proofs.so_far.ArgumentsSoFar.with_value.Goals as goal
+
+none_some : (o : Option (Box NameIndex Global)) (x : Box NameIndex Global) → o ≡ None → o ≡ Some x → ⊥
+none_some o x n s = cc
+
+held_same : (o : Option (Box NameIndex Global)) (y x : Box NameIndex Global) → o ≡ Some y → o ≡ Some x → y ≡ x
+held_same o y x n s = cc
+
+pub invariant_of-result-clause-counted : goal.invariant_of-result-clause-counted
+invariant_of-result-clause-counted g c =
+    ap (λ (given : Given g.row.T.Denot). length given.slots) c.in_ok-given.ensures
+    ∙ slots_kept (given_of c.args.self.given) c.args.destination c.args.value ∙ c.args.self.counted
+
+pub invariant_of-result-clause-numbered : goal.invariant_of-result-clause-numbered
+invariant_of-result-clause-numbered g c = λ x e. elim c.match-index.branch [
+  | in-Some+in_ok-note-in-Some w ↦
+      let same = held_same _ _ x w.index-is e in
+      sym (ap (λ (b : Box NameIndex Global). newest_first b.value.parameters) same)
+      ∙ ap newest_first w.note.ensures.numbered
+      ∙ ap (λ (i : NameIndex). newest_first i.parameters) w.deref_mut.ensures.value
+      ∙ c.args.self.numbered w.in-Some.held w.in-Some.is
+  | in-None w ↦ absurd (none_some _ x w.index-is e)
+]
+
+pub invariant_of-result-clause-told : goal.invariant_of-result-clause-told
+invariant_of-result-clause-told g c = λ x e. elim c.match-index.branch [
+  | in-Some+in_ok-note-in-Some w ↦
+      let same = held_same _ _ x w.index-is e in
+      sym (ap (λ (b : Box NameIndex Global). names_told (newest_first b.value.specials)) same)
+      ∙ w.in_ok-note-in-Some.ensures.told
+      ∙ ap (λ (i : NameIndex). taken_after (names_told (newest_first i.specials)) c.args.destination) w.deref_mut.ensures.value
+      ∙ ap (λ ns. taken_after ns c.args.destination) (c.args.self.told w.in-Some.held w.in-Some.is)
+      ∙ sym (names_taken (given_of c.args.self.given) c.args.destination c.args.value)
+      ∙ sym (ap (λ (given : Given g.row.T.Denot). names_told given.specials) c.in_ok-given.ensures)
+  | in-None w ↦ absurd (none_some _ x w.index-is e)
+]
