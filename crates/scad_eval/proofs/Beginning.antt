@@ -9,45 +9,45 @@ use Rattle.scad_func.specs.Evaluations.{CallBegins, EvaluationBegins, SpecialsBe
 use Rattle.scad_func.specs.declared.source.Source.{Source}
 use Rattle.scad_pieces.specs.declared.position.Position.{Position}
 use Rattle.scad_eval.specs.declared.evaluator.InstanceEvaluator.{InstanceEvaluator}
-use Rattle.scad_meaning.specs.Meaning.{called_from, chained}
-use Rattle.scad_eval.specs.Keeping.{left_at, stand_at, Stands}
-use Rattle.scad_eval.proofs.Standing.{stand_by, stand_from, checked_still}
+use Rattle.scad_meaning.specs.Meaning.{with_calls_left, with_chain}
+use Rattle.scad_eval.specs.Keeping.{evaluations_left, context_at, IsPosition}
+use Rattle.scad_eval.proofs.Contexts.{context_by, context_from, checked_still}
 
 -- one evaluation deeper
-pub deeper_stand : (old new : InstanceEvaluator) (s : Position) → EvaluationBegins old.evaluation new.evaluation → stand_at new s ≡ stand_at old s
-deeper_stand old new s b = stand_from old new s b.calls b.source b.rows b.chain
+pub deeper_context : (old new : InstanceEvaluator) (s : Position) → EvaluationBegins old.evaluation new.evaluation → context_at new s ≡ context_at old s
+deeper_context old new s b = context_from old new s b.calls b.source b.rows b.chain
 
-pub deeper_left : (old new : InstanceEvaluator) → EvaluationBegins old.evaluation new.evaluation → left_at new ≡ 512 - (old.evaluation.depth + 1)
-deeper_left old new b = ap (λ n. 512 - n) b.depth
+pub deeper_evaluations : (old new : InstanceEvaluator) → EvaluationBegins old.evaluation new.evaluation → evaluations_left new ≡ 512 - (old.evaluation.depth + 1)
+deeper_evaluations old new b = ap (λ n. 512 - n) b.depth
 
-pub deeper_stands : (old new : InstanceEvaluator) (s : Position) → new.unit ≡ old.unit → EvaluationBegins old.evaluation new.evaluation → Stands old s → Stands new s
-deeper_stands old new s u b h = record {
+pub deeper_position : (old new : InstanceEvaluator) (s : Position) → new.unit ≡ old.unit → EvaluationBegins old.evaluation new.evaluation → IsPosition old s → IsPosition new s
+deeper_position old new s u b h = record {
   whole = subst (λ (x : Source). IsWhole (text_of x)) (sym b.source) h.whole;
   scope = subst (λ rows. s.scope < length rows) (sym b.rows) h.scope;
   inside = checked_still old.unit new.unit s.inside u h.inside;
 }
 
 -- one call deeper
-pub call_stand : (old new : InstanceEvaluator) (s : Position) → CallBegins old.evaluation new.evaluation
-    → stand_at new s ≡ called_from (stand_at old s) (64 - (old.evaluation.calls + 1))
-call_stand old new s b =
-    ap (λ n. stand_by n new.evaluation.source.now (rows_of new.evaluation.scopes.now) s.scope (chain_of new.evaluation.scopes.now) s) b.calls
-    ∙ ap (λ (x : Source). stand_by (old.evaluation.calls + 1) x (rows_of new.evaluation.scopes.now) s.scope (chain_of new.evaluation.scopes.now) s) b.source
-    ∙ ap (λ l. stand_by (old.evaluation.calls + 1) old.evaluation.source.now l s.scope (chain_of new.evaluation.scopes.now) s) b.rows
-    ∙ ap (λ c. stand_by (old.evaluation.calls + 1) old.evaluation.source.now (rows_of old.evaluation.scopes.now) s.scope c s) b.chain
+pub call_context : (old new : InstanceEvaluator) (s : Position) → CallBegins old.evaluation new.evaluation
+    → context_at new s ≡ with_calls_left (context_at old s) (64 - (old.evaluation.calls + 1))
+call_context old new s b =
+    ap (λ n. context_by n new.evaluation.source.now (rows_of new.evaluation.scopes.now) s.scope (chain_of new.evaluation.scopes.now) s) b.calls
+    ∙ ap (λ (x : Source). context_by (old.evaluation.calls + 1) x (rows_of new.evaluation.scopes.now) s.scope (chain_of new.evaluation.scopes.now) s) b.source
+    ∙ ap (λ l. context_by (old.evaluation.calls + 1) old.evaluation.source.now l s.scope (chain_of new.evaluation.scopes.now) s) b.rows
+    ∙ ap (λ c. context_by (old.evaluation.calls + 1) old.evaluation.source.now (rows_of old.evaluation.scopes.now) s.scope c s) b.chain
 
-pub call_left : (old new : InstanceEvaluator) → CallBegins old.evaluation new.evaluation → left_at new ≡ left_at old
-call_left old new b = ap (λ n. 512 - n) b.depth
+pub call_evaluations : (old new : InstanceEvaluator) → CallBegins old.evaluation new.evaluation → evaluations_left new ≡ evaluations_left old
+call_evaluations old new b = ap (λ n. 512 - n) b.depth
 
 -- special arguments on the chain
-pub specials_stand : (old new : InstanceEvaluator) (s : Position) (count : ℕ) (specials : Pairs Val) → SpecialsBegin old.evaluation new.evaluation count
+pub specials_context : (old new : InstanceEvaluator) (s : Position) (count : ℕ) (specials : Pairs Val) → SpecialsBegin old.evaluation new.evaluation count
     → chain_of new.evaluation.scopes.now ≡ specials ++ chain_of old.evaluation.scopes.now
-    → stand_at new s ≡ chained (stand_at old s) (specials ++ chain_of old.evaluation.scopes.now)
-specials_stand old new s count specials b e =
-    ap (λ n. stand_by n new.evaluation.source.now (rows_of new.evaluation.scopes.now) s.scope (chain_of new.evaluation.scopes.now) s) b.calls
-    ∙ ap (λ (x : Source). stand_by old.evaluation.calls x (rows_of new.evaluation.scopes.now) s.scope (chain_of new.evaluation.scopes.now) s) b.source
-    ∙ ap (λ l. stand_by old.evaluation.calls old.evaluation.source.now l s.scope (chain_of new.evaluation.scopes.now) s) b.rows
-    ∙ ap (λ c. stand_by old.evaluation.calls old.evaluation.source.now (rows_of old.evaluation.scopes.now) s.scope c s) e
+    → context_at new s ≡ with_chain (context_at old s) (specials ++ chain_of old.evaluation.scopes.now)
+specials_context old new s count specials b e =
+    ap (λ n. context_by n new.evaluation.source.now (rows_of new.evaluation.scopes.now) s.scope (chain_of new.evaluation.scopes.now) s) b.calls
+    ∙ ap (λ (x : Source). context_by old.evaluation.calls x (rows_of new.evaluation.scopes.now) s.scope (chain_of new.evaluation.scopes.now) s) b.source
+    ∙ ap (λ l. context_by old.evaluation.calls old.evaluation.source.now l s.scope (chain_of new.evaluation.scopes.now) s) b.rows
+    ∙ ap (λ c. context_by old.evaluation.calls old.evaluation.source.now (rows_of old.evaluation.scopes.now) s.scope c s) e
 
-pub specials_left : (old new : InstanceEvaluator) (count : ℕ) → SpecialsBegin old.evaluation new.evaluation count → left_at new ≡ left_at old
-specials_left old new count b = ap (λ n. 512 - n) b.depth
+pub specials_evaluations : (old new : InstanceEvaluator) (count : ℕ) → SpecialsBegin old.evaluation new.evaluation count → evaluations_left new ≡ evaluations_left old
+specials_evaluations old new count b = ap (λ n. 512 - n) b.depth

@@ -8,30 +8,30 @@ use Rattle.scad_scope.specs.TextView.{assigned_of}
 use Rattle.scad_func.specs.Meaning.{Outcome, Gives, Faults, then_with}
 use Rattle.scad_func.specs.Evaluations.{Keeps, EvaluationBegins}
 use Rattle.scad_func.specs.declared.evaluation.Evaluation.{Evaluation}
-use Rattle.scad_meaning.specs.Meaning.{Stand, assigned_value, assigned, each_assigned}
-use Rattle.scad_pieces.specs.Seen.{Told}
+use Rattle.scad_meaning.specs.Meaning.{Context, assigned_value, assigned, each_assigned}
+use Rattle.scad_pieces.specs.Seen.{HasOutcome}
 
 -- one assignment behind another
-assigned_then : (left : ℕ) (here : Stand) (a : Assigned) (as_ : List Assigned) (out : Outcome Val)
-    → then_with out (λ turns v. each_assigned left (assigned a v here) as_ turns)
-    ≡ then_with (then_with out (λ turns v. Gives turns (assigned a v here))) (λ turns there. each_assigned left there as_ turns)
-assigned_then left here a as_ (Gives turns v) = refl
-assigned_then left here a as_ (Faults kind at) = refl
+assigned_then : (evaluations : ℕ) (here : Context) (a : Assigned) (as_ : List Assigned) (out : Outcome Val)
+    → then_with out (λ turns v. each_assigned evaluations (assigned a v here) as_ turns)
+    ≡ then_with (then_with out (λ turns v. Gives turns (assigned a v here))) (λ turns there. each_assigned evaluations there as_ turns)
+assigned_then evaluations here a as_ (Gives turns v) = refl
+assigned_then evaluations here a as_ (Faults kind at) = refl
 
-module _ (start : Outcome Stand) (left left_here : ℕ) (here : Stand) (xs : List Assignment) (i : ℕ) (x : Assignment) (turns : ℕ)
-    (s : start ≡ each_assigned left here (map assigned_of (drop i xs)) turns) (same : left_here ≡ left) (h : i < length xs) (is : x ≡ get_or xs i x) where
-  next : start ≡ then_with (then_with (assigned_value left_here here (assigned_of x) turns) (λ turns v. Gives turns (assigned (assigned_of x) v here)))
-      (λ turns there. each_assigned left there (map assigned_of (drop (i + 1) xs)) turns)
-  next = s ∙ ap (λ l. each_assigned left here l turns)
+module _ (start : Outcome Context) (evaluations evaluations_here : ℕ) (here : Context) (xs : List Assignment) (i : ℕ) (x : Assignment) (turns : ℕ)
+    (s : start ≡ each_assigned evaluations here (map assigned_of (drop i xs)) turns) (same : evaluations_here ≡ evaluations) (h : i < length xs) (is : x ≡ get_or xs i x) where
+  next : start ≡ then_with (then_with (assigned_value evaluations_here here (assigned_of x) turns) (λ turns v. Gives turns (assigned (assigned_of x) v here)))
+      (λ turns there. each_assigned evaluations there (map assigned_of (drop (i + 1) xs)) turns)
+  next = s ∙ ap (λ l. each_assigned evaluations here l turns)
       (at_drop_more (map assigned_of) xs i x h ∙ ap (λ (y : Assignment). assigned_of y ∷ map assigned_of (drop (i + 1) xs)) (sym is))
-      ∙ assigned_then left here (assigned_of x) (map assigned_of (drop (i + 1) xs)) (assigned_value left here (assigned_of x) turns)
+      ∙ assigned_then evaluations here (assigned_of x) (map assigned_of (drop (i + 1) xs)) (assigned_value evaluations here (assigned_of x) turns)
       ∙ ap (λ n. then_with (then_with (assigned_value n here (assigned_of x) turns) (λ turns v. Gives turns (assigned (assigned_of x) v here)))
-      (λ turns there. each_assigned left there (map assigned_of (drop (i + 1) xs)) turns)) (sym same)
+      (λ turns there. each_assigned evaluations there (map assigned_of (drop (i + 1) xs)) turns)) (sym same)
 
-  pub assigned_next : {A : Type 0} {see : ℕ → A → Stand} {r : A} (n l : ℕ)
-      → Told see (Ok r) n l (then_with (assigned_value left_here here (assigned_of x) turns) (λ turns v. Gives turns (assigned (assigned_of x) v here)))
-      → start ≡ each_assigned left (see l r) (map assigned_of (drop (i + 1) xs)) n
-  assigned_next n l t = next ∙ ap (λ o. then_with o (λ turns there. each_assigned left there (map assigned_of (drop (i + 1) xs)) turns)) t.is
+  pub assigned_next : {A : Type 0} {see : ℕ → A → Context} {r : A} (n l : ℕ)
+      → HasOutcome see (Ok r) n l (then_with (assigned_value evaluations_here here (assigned_of x) turns) (λ turns v. Gives turns (assigned (assigned_of x) v here)))
+      → start ≡ each_assigned evaluations (see l r) (map assigned_of (drop (i + 1) xs)) n
+  assigned_next n l t = next ∙ ap (λ o. then_with o (λ turns there. each_assigned evaluations there (map assigned_of (drop (i + 1) xs)) turns)) t.is
 
 -- an evaluation that began is still one deeper
 pub begun_kept : {first old new : Evaluation} → EvaluationBegins first old → Keeps old new → EvaluationBegins first new

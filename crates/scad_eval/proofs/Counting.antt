@@ -7,22 +7,22 @@ use Rattle.plane_predicate.specs.declared.unit.Unit.{Unit as LengthUnit}
 use Rattle.scad_ast.specs.Terms.{InstanceTerm, place_of_instance}
 use Rattle.scad_func.specs.Meaning.{Outcome, Faults, one_call_fewer, turn}
 use Rattle.scad_meaning.specs.Verdicts.{Judge}
-use Rattle.scad_meaning.specs.Meaning.{Stand, made_within, instance_made}
+use Rattle.scad_meaning.specs.Meaning.{Context, design_within, evaluator_with, instance_design}
 
 one_less : (d : ℕ) → d < 512 → 512 - d ≡ suc (512 - (d + 1))
 one_less d h = omega arith
 
-pub made_deeper : (unit : LengthUnit) (judge : Judge) (d : ℕ) (here : Stand) (i : InstanceTerm) (turns leaves : ℕ) → d < 512
-    → made_within unit judge (512 - d) here i turns leaves
-    ≡ instance_made unit judge (512 - (d + 1)) (made_within unit judge (512 - (d + 1))) here i turns leaves
-unfolding made_within
-made_deeper unit judge d here i turns leaves h = ap (λ n. made_within unit judge n here i turns leaves) (one_less d h)
+pub design_deeper : (unit : LengthUnit) (judge : Judge) (d : ℕ) (here : Context) (i : InstanceTerm) (turns leaves : ℕ) → d < 512
+    → design_within unit judge (512 - d) here i turns leaves
+    ≡ instance_design (evaluator_with unit judge (512 - (d + 1))) here i turns leaves
+unfolding design_within
+design_deeper unit judge d here i turns leaves h = ap (λ n. design_within unit judge n here i turns leaves) (one_less d h)
 
-pub made_too_deep : (unit : LengthUnit) (judge : Judge) (d : ℕ) (here : Stand) (i : InstanceTerm) (turns leaves : ℕ) → d ≡ 512
-    → made_within unit judge (512 - d) here i turns leaves ≡ Faults TooDeep (place_of_instance i)
-unfolding made_within
-made_too_deep unit judge d here i turns leaves h =
-    let k : 512 - d ≡ zero = omega arith in ap (λ n. made_within unit judge n here i turns leaves) k
+pub design_too_deep : (unit : LengthUnit) (judge : Judge) (d : ℕ) (here : Context) (i : InstanceTerm) (turns leaves : ℕ) → d ≡ 512
+    → design_within unit judge (512 - d) here i turns leaves ≡ Faults TooDeep (place_of_instance i)
+unfolding design_within
+design_too_deep unit judge d here i turns leaves h =
+    let k : 512 - d ≡ zero = omega arith in ap (λ n. design_within unit judge n here i turns leaves) k
 
 pub call_counted : {A : Type 0} (calls : ℕ) (at : Place) (go : ℕ → Outcome A) → calls < 64
     → one_call_fewer (64 - calls) at go ≡ go (64 - (calls + 1))

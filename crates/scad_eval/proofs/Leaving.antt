@@ -13,16 +13,16 @@ use Rattle.shape_planes.specs.Shapes.{Mesh}
 use Rattle.scad_meaning.specs.Verdicts.{Verdict}
 use Rattle.scad_func.specs.Meaning.{Outcome, Gives, then_with}
 use Rattle.scad_meaning.specs.Hulls.{is_nothing, hull_mesh}
-use Rattle.scad_meaning.specs.Meaning.{Made, checked, leaf_made, hulled, hull_made}
+use Rattle.scad_meaning.specs.Meaning.{InstanceDesign, checked, leaf_design, hulled, hull_design}
 use Rattle.scad_pieces.specs.Seen.{IsStopAt}
 use Rattle.scad_eval.specs.Keeping.{IsThrough}
 use Rattle.scad_meaning.proofs.Verdicts.{one_height_verdict}
 
 pub shape_checked : (v : Verdict) (at : Place) (mesh shape : Mesh) (turns leaves : ℕ) → v ≡ None → shape ≡ mesh
-    → checked v at (leaf_made at mesh turns leaves) ≡ leaf_made at shape turns leaves
+    → checked v at (leaf_design at mesh turns leaves) ≡ leaf_design at shape turns leaves
 shape_checked v at mesh shape turns leaves none same =
-    ap (λ (x : Verdict). checked x at (leaf_made at mesh turns leaves)) none
-    ∙ ap (λ (m : Mesh). leaf_made at m turns leaves) (sym same)
+    ap (λ (x : Verdict). checked x at (leaf_design at mesh turns leaves)) none
+    ∙ ap (λ (m : Mesh). leaf_design at m turns leaves) (sym same)
 
 -- nothing is wrong with a height that was checked, so only memory can run out
 pub height_stops : (unit : LengthUnit) (through : Extrusion) (at : Place) (stop : ShapeStop) (result : Stop) → IsThrough unit through
@@ -35,14 +35,14 @@ height_stops unit through at (shapes.Kind kind) result known fault is =
 height_stops unit through at shapes.NoMemory result known fault is = is
 
 -- a hull with nothing wrong is a leaf, where there is something
-abbrev hull_or_not : Verdict → Place → Made → ℕ → Bool → Outcome Made
+abbrev hull_or_not : Verdict → Place → InstanceDesign → ℕ → Bool → Outcome InstanceDesign
 hull_or_not v at m turns nothing =
     if nothing then Gives turns m
-    else checked v at (then_with (leaf_made at (hull_mesh m.design) turns m.leaves) (λ turns leaf. Gives turns (hulled m leaf)))
+    else checked v at (then_with (leaf_design at (hull_mesh m.design) turns m.leaves) (λ turns leaf. Gives turns (hulled m leaf)))
 
-pub hull_checked : (v : Verdict) (at : Place) (m : Made) (shape : Mesh) (turns : ℕ) (b : Bool) → b ≡ is_nothing m.design → b ≡ false → v ≡ None → shape ≡ hull_mesh m.design
-    → hull_made v at m turns ≡ then_with (leaf_made at shape turns m.leaves) (λ turns leaf. Gives turns (hulled m leaf))
+pub hull_checked : (v : Verdict) (at : Place) (m : InstanceDesign) (shape : Mesh) (turns : ℕ) (b : Bool) → b ≡ is_nothing m.design → b ≡ false → v ≡ None → shape ≡ hull_mesh m.design
+    → hull_design v at m turns ≡ then_with (leaf_design at shape turns m.leaves) (λ turns leaf. Gives turns (hulled m leaf))
 hull_checked v at m shape turns b is e none same =
     ap (hull_or_not v at m turns) (sym is ∙ e)
-    ∙ ap (λ (x : Verdict). checked x at (then_with (leaf_made at (hull_mesh m.design) turns m.leaves) (λ turns leaf. Gives turns (hulled m leaf)))) none
-    ∙ ap (λ (mesh : Mesh). then_with (leaf_made at mesh turns m.leaves) (λ turns leaf. Gives turns (hulled m leaf))) (sym same)
+    ∙ ap (λ (x : Verdict). checked x at (then_with (leaf_design at (hull_mesh m.design) turns m.leaves) (λ turns leaf. Gives turns (hulled m leaf)))) none
+    ∙ ap (λ (mesh : Mesh). then_with (leaf_design at mesh turns m.leaves) (λ turns leaf. Gives turns (hulled m leaf))) (sym same)

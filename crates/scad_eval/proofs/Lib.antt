@@ -2,10 +2,10 @@ mod Counting
 mod Evaluating
 mod Leaving
 mod Membership
-mod Telling
-mod Standing
+mod Outcomes
+mod Contexts
 mod Beginning
-mod Saying
+mod Equations
 mod Binding
 mod ModuleScopes
 mod Programs

@@ -12,9 +12,9 @@ use Rattle.scad_func.specs.Meaning.{Outcome, Gives, Faults, Env, then_with}
 use Rattle.scad_pieces.specs.declared.position.InstanceResult.{InstanceResult}
 use Rattle.scad_pieces.specs.declared.numbered.NumberedInstance.{NumberedInstance}
 use Rattle.scad_meaning.specs.Bodies.{says_only, is_child}
-use Rattle.scad_meaning.specs.Meaning.{Made, Members, as_member, and_members, after_step, core_of}
+use Rattle.scad_meaning.specs.Meaning.{InstanceDesign, MemberDesigns, as_member, and_members, after_step, core_of}
 use Rattle.scad_pieces.specs.Positions.{term_of_numbered}
-use Rattle.scad_pieces.specs.Seen.{TellsAs, Told, made_seen, member_seen, in_front}
+use Rattle.scad_pieces.specs.Seen.{AgreesWith, HasOutcome, instance_design_of, one_member_of, in_front}
 
 flipped : (b : Bool) → (if b then false else true) ≡ not b
 flipped true = refl
@@ -25,36 +25,36 @@ pub child_is_member : (env : Env) (i : InstanceTerm) → (if says_only env (core
 child_is_member env (AnInstance at marks core) = flipped (says_only env core)
 
 -- an instance's design, as a member
-as_tells : (b : Bool) (r : Result InstanceResult Stop) (m l : ℕ) (out : Outcome Made) → TellsAs made_seen r m l out
-    → TellsAs (member_seen b) r m l (then_with out (λ turns x. Gives turns (as_member b x)))
-as_tells b (Ok made) m l out h = ap (λ o. then_with o (λ turns x. Gives turns (as_member b x))) h
-as_tells b (Err (Fault fault)) m l out h = ap (λ o. then_with o (λ turns x. Gives turns (as_member b x))) h
-as_tells b (Err NoMemory) m l out h = tt
+as_member_agrees : (b : Bool) (r : Result InstanceResult Stop) (m l : ℕ) (out : Outcome InstanceDesign) → AgreesWith instance_design_of r m l out
+    → AgreesWith (one_member_of b) r m l (then_with out (λ turns x. Gives turns (as_member b x)))
+as_member_agrees b (Ok made) m l out h = ap (λ o. then_with o (λ turns x. Gives turns (as_member b x))) h
+as_member_agrees b (Err (Fault fault)) m l out h = ap (λ o. then_with o (λ turns x. Gives turns (as_member b x))) h
+as_member_agrees b (Err NoMemory) m l out h = tt
 
-pub as_told : (b : Bool) {r : Result InstanceResult Stop} {m l : ℕ} {out : Outcome Made} → Told made_seen r m l out
-    → Told (member_seen b) r m l (then_with out (λ turns x. Gives turns (as_member b x)))
-as_told b {r = r} {m = m} {l = l} {out = out} h = record { is = as_tells b r m l out h.is }
+pub as_member_outcome : (b : Bool) {r : Result InstanceResult Stop} {m l : ℕ} {out : Outcome InstanceDesign} → HasOutcome instance_design_of r m l out
+    → HasOutcome (one_member_of b) r m l (then_with out (λ turns x. Gives turns (as_member b x)))
+as_member_outcome b {r = r} {m = m} {l = l} {out = out} h = record { is = as_member_agrees b r m l out h.is }
 
-pub member_step : (b : Bool) (out : Outcome Made) (go : ℕ → ℕ → Outcome Members)
+pub member_step : (b : Bool) (out : Outcome InstanceDesign) (go : ℕ → ℕ → Outcome MemberDesigns)
     → then_with out (λ turns m. then_with (go turns m.leaves) (λ turns ms. Gives turns (and_members (as_member b m) ms)))
     ≡ then_with (then_with out (λ turns m. Gives turns (as_member b m))) (λ turns ms. in_front ms (go turns ms.leaves))
 member_step b (Gives turns m) go = refl
 member_step b (Faults kind at) go = refl
 
 -- a step of a loop counts a turn more, or none
-turned : (at : Place) (b : Bool) (turns : ℕ) (ms : Members) (go : ℕ → ℕ → Outcome Members)
+turned : (at : Place) (b : Bool) (turns : ℕ) (ms : MemberDesigns) (go : ℕ → ℕ → Outcome MemberDesigns)
     → (if b then then_with (go (turns + 1) ms.leaves) (λ turns more. Gives turns (and_members ms more)) else Faults TooManyTurns at)
     ≡ then_with (if b then Gives (turns + 1) ms else Faults TooManyTurns at) (λ turns ms. in_front ms (go turns ms.leaves))
 turned at true turns ms go = refl
 turned at false turns ms go = refl
 
-stepped : (at : Place) (turns leaves : ℕ) (designs : List Design) (marked : Option Design) (go : ℕ → ℕ → Outcome Members)
+stepped : (at : Place) (turns leaves : ℕ) (designs : List Design) (marked : Option Design) (go : ℕ → ℕ → Outcome MemberDesigns)
     → after_step at designs turns (λ turns. then_with (go turns leaves) (λ turns more. Gives turns (and_members (record { leaves = leaves; designs = designs; marked = marked }) more)))
     ≡ then_with (after_step at designs turns (λ turns. Gives turns (record { leaves = leaves; designs = designs; marked = marked }))) (λ turns ms. in_front ms (go turns ms.leaves))
 stepped at turns leaves [] marked go = turned at (nat_lt turns 100000) turns (record { leaves = leaves; designs = []; marked = marked }) go
 stepped at turns leaves (d ∷ ds) marked go = refl
 
-pub loop_step : (at : Place) (out : Outcome Members) (go : ℕ → ℕ → Outcome Members)
+pub loop_step : (at : Place) (out : Outcome MemberDesigns) (go : ℕ → ℕ → Outcome MemberDesigns)
     → then_with out (λ turns ms. after_step at ms.designs turns (λ turns. then_with (go turns ms.leaves) (λ turns more. Gives turns (and_members ms more))))
     ≡ then_with (then_with out (λ turns ms. after_step at ms.designs turns (λ turns. Gives turns ms))) (λ turns ms. in_front ms (go turns ms.leaves))
 loop_step at (Gives turns ms) go = stepped at turns ms.leaves ms.designs ms.marked go

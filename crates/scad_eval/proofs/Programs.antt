@@ -27,22 +27,22 @@ use Rattle.scad_pieces.specs.declared.position.Position.{Position}
 use Rattle.scad_pieces.specs.declared.position.MemberResults.{MemberResults}
 use Rattle.scad_eval.specs.declared.evaluator.InstanceEvaluator.{InstanceEvaluator}
 use Rattle.scad_meaning.specs.Verdicts.{Judge, IsRight}
-use Rattle.scad_meaning.specs.Meaning.{Stand, made_within, each_in_scope, program_stand, or_all, design_of}
-use Rattle.scad_pieces.specs.Seen.{Told, members_seen}
+use Rattle.scad_meaning.specs.Meaning.{Context, evaluator_with, each_in_scope, program_context, or_all, design_of}
+use Rattle.scad_pieces.specs.Seen.{HasOutcome, member_designs_of}
 use Rattle.scad_eval.specs.Steps.{block_members}
-use Rattle.scad_eval.specs.Keeping.{stand_at, Says}
+use Rattle.scad_eval.specs.Keeping.{context_at, Meets}
 use Rattle.scad_meaning.specs.Sources.{a_tree, a_fault, IsMeaning, IsMeaningOfDesign, IsMeaningStop, HoldsFault}
 use Rattle.scad_meaning.proofs.ProgramPlaces.{stop_held}
 use Rattle.scad_eval.specs.Programs.{TellsDesign}
 use Rattle.scad_eval.proofs.Evaluating.{tree_meant, placing_stops}
-use Rattle.scad_eval.proofs.Telling.{along, stop_told}
+use Rattle.scad_eval.proofs.Outcomes.{along, stop_outcome}
 
 -- the scope outside all others
 first_env : (source : Source) (rows : List Row) → rows ≡ first_row ∷ [] → seen source rows 0 ≡ Within [] [] [] no_call Outermost
 unfolding env_of
 first_env source rows e = ap (λ l. seen source l 0) e
 
--- where a program's block stands
+-- the scope of a program's block
 program_scope : (source : Source) (rows : List Row) (program : List StatementTerm) (env : Env) → IsWhole (text_of source)
     → text_of source ≡ numbered_text program → rows ≡ first_row ∷ []
     → env ≡ block_scope (text_of source) 0 no_call (seen source rows 0)
@@ -52,34 +52,34 @@ program_scope source rows program env whole text first is =
     ∙ ap (λ (t : NumberedText). entered_scope (statements_at t 0) no_call (seen source rows 0)) text
     ∙ ap (λ (outer : Env). entered_scope (statements_from program) no_call outer) (first_env source rows first)
 
-abbrev pub stand_of : ℕ → Env → Pairs Val → Stand
-stand_of calls env chain = record { calls = 64 - calls; env = env; chain = chain; inside = None; under_mark = false }
+abbrev pub context_of : ℕ → Env → Pairs Val → Context
+context_of calls env chain = record { calls = 64 - calls; env = env; chain = chain; inside = None; under_mark = false }
 
 pub program_begins : {old new : Evaluation} {scope : ℕ} → ScopeEnters old new scope → (program : List StatementTerm)
     → IsWhole (text_of old.source.now) → text_of old.source.now ≡ numbered_text program → rows_of old.scopes.now ≡ first_row ∷ []
     → chain_of old.scopes.now ≡ first_chain → old.calls ≡ 0
     → seen new.source.now (rows_of new.scopes.now) scope ≡ block_scope (text_of old.source.now) 0 no_call (seen old.source.now (rows_of old.scopes.now) 0)
-    → stand_of new.calls (seen new.source.now (rows_of new.scopes.now) scope) (chain_of new.scopes.now) ≡ program_stand first_chain (statements_from program)
+    → context_of new.calls (seen new.source.now (rows_of new.scopes.now) scope) (chain_of new.scopes.now) ≡ program_context first_chain (statements_from program)
 program_begins {old = old} {new = new} {scope = scope} e program whole text rows chain none is =
-    ap (λ n. stand_of n (seen new.source.now (rows_of new.scopes.now) scope) (chain_of new.scopes.now)) (e.calls ∙ none)
-    ∙ ap (λ (x : Env). stand_of 0 x (chain_of new.scopes.now))
+    ap (λ n. context_of n (seen new.source.now (rows_of new.scopes.now) scope) (chain_of new.scopes.now)) (e.calls ∙ none)
+    ∙ ap (λ (x : Env). context_of 0 x (chain_of new.scopes.now))
     (program_scope old.source.now (rows_of old.scopes.now) program (seen new.source.now (rows_of new.scopes.now) scope) whole text rows is)
-    ∙ ap (λ (c : Pairs Val). stand_of 0 (entered_scope (statements_from program) no_call (Within [] [] [] no_call Outermost)) c) (e.chain ∙ chain)
+    ∙ ap (λ (c : Pairs Val). context_of 0 (entered_scope (statements_from program) no_call (Within [] [] [] no_call Outermost)) c) (e.chain ∙ chain)
 
--- what the members of the block say
-pub program_says : {old new : InstanceEvaluator} {s : Position} {r : Result MemberResults Stop} (statements : StatementTerms)
-    → Says members_seen old new s r (λ unit judge left make. block_members left make None statements)
-    → (program : List StatementTerm) → stand_at old s ≡ program_stand first_chain (statements_from program)
+-- the members of the block
+pub program_members : {old new : InstanceEvaluator} {s : Position} {r : Result MemberResults Stop} (statements : StatementTerms)
+    → Meets member_designs_of old new s r (λ evaluator. block_members evaluator None statements)
+    → (program : List StatementTerm) → context_at old s ≡ program_context first_chain (statements_from program)
     → statements ≡ statements_from program → old.evaluation.depth ≡ 0 → old.evaluation.turns ≡ 0 → old.leaves ≡ 0
-    → (judge : Judge) → IsRight judge → Told members_seen r new.evaluation.turns new.leaves
-    (each_in_scope 512 (made_within old.unit judge 512) (program_stand first_chain (statements_from program)) (statements_from program) 0 0)
-program_says {old = old} {s = s} statements h program here same depth turns leaves judge right =
+    → (judge : Judge) → IsRight judge → HasOutcome member_designs_of r new.evaluation.turns new.leaves
+    (each_in_scope (evaluator_with old.unit judge 512) (program_context first_chain (statements_from program)) (statements_from program) 0 0)
+program_members {old = old} {s = s} statements h program here same depth turns leaves judge right =
     along (sym (
-    ap (λ d. block_members (512 - d) (made_within old.unit judge (512 - d)) None statements (stand_at old s) old.evaluation.turns old.leaves) depth
-    ∙ ap (λ x. block_members 512 (made_within old.unit judge 512) None statements x old.evaluation.turns old.leaves) here
-    ∙ ap (λ st. block_members 512 (made_within old.unit judge 512) None st (program_stand first_chain (statements_from program)) old.evaluation.turns old.leaves) same
-    ∙ ap (λ n. block_members 512 (made_within old.unit judge 512) None (statements_from program) (program_stand first_chain (statements_from program)) n old.leaves) turns
-    ∙ ap (λ n. block_members 512 (made_within old.unit judge 512) None (statements_from program) (program_stand first_chain (statements_from program)) 0 n) leaves))
+    ap (λ d. block_members (evaluator_with old.unit judge (512 - d)) None statements (context_at old s) old.evaluation.turns old.leaves) depth
+    ∙ ap (λ x. block_members (evaluator_with old.unit judge 512) None statements x old.evaluation.turns old.leaves) here
+    ∙ ap (λ st. block_members (evaluator_with old.unit judge 512) None st (program_context first_chain (statements_from program)) old.evaluation.turns old.leaves) same
+    ∙ ap (λ n. block_members (evaluator_with old.unit judge 512) None (statements_from program) (program_context first_chain (statements_from program)) n old.leaves) turns
+    ∙ ap (λ n. block_members (evaluator_with old.unit judge 512) None (statements_from program) (program_context first_chain (statements_from program)) 0 n) leaves))
     (h.by judge right)
 
 pub program_statements : (old new : Source) (program : List StatementTerm) → new ≡ old → text_of old ≡ numbered_text program
@@ -88,20 +88,20 @@ program_statements old new program same e = ap (λ (x : Source). statements_at (
 
 -- the design
 module _ (unit : LengthUnit) (judge : Judge) (chain : Pairs Val) (statements : StatementTerms) where
-  pub design_told : (ms : MemberResults) (design : DesignIn) (m l : ℕ)
-      → Told members_seen (Ok ms) m l (each_in_scope 512 (made_within unit judge 512) (program_stand chain statements) statements 0 0)
+  pub design_outcome : (ms : MemberResults) (design : DesignIn) (m l : ℕ)
+      → HasOutcome member_designs_of (Ok ms) m l (each_in_scope (evaluator_with unit judge 512) (program_context chain statements) statements 0 0)
       → plain_of design ≡ or_all (option_map plain_of ms.marked) (map plain_of ms.designs.items)
-      → Told (λ leaves. plain_of) (Ok design) m 0 (design_of unit judge chain statements)
+      → HasOutcome (λ leaves. plain_of) (Ok design) m 0 (design_of unit judge chain statements)
   unfolding design_of
-  design_told ms design m l t e = record {
+  design_outcome ms design m l t e = record {
     is = ap (λ o. then_with o (λ turns ms. Gives turns (or_all ms.marked ms.designs))) t.is ∙ ap (λ d. Gives m d) (sym e);
   }
 
   pub design_stops : (stop : Stop) (m l n : ℕ)
-      → Told members_seen (Err stop) m l (each_in_scope 512 (made_within unit judge 512) (program_stand chain statements) statements 0 0)
-      → Told (λ leaves. plain_of) (Err stop) n 0 (design_of unit judge chain statements)
+      → HasOutcome member_designs_of (Err stop) m l (each_in_scope (evaluator_with unit judge 512) (program_context chain statements) statements 0 0)
+      → HasOutcome (λ leaves. plain_of) (Err stop) n 0 (design_of unit judge chain statements)
   unfolding design_of
-  design_stops stop m l n t = stop_told (λ turns ms. Gives turns (or_all ms.marked ms.designs)) t
+  design_stops stop m l n t = stop_outcome (λ turns ms. Gives turns (or_all ms.marked ms.designs)) t
 
 -- the tree of a design
 module _ (unit : LengthUnit) (program : List StatementTerm) (design : DesignIn) (told : TellsDesign unit program (Ok design)) where

@@ -16,16 +16,20 @@ use Rattle.scad_meaning.specs.declared.extrusion.Extrusion.{Extrusion}
 use Rattle.scad_pieces.specs.declared.position.Position.{Position}
 use Rattle.scad_eval.specs.declared.evaluator.InstanceEvaluator.{InstanceEvaluator}
 use Rattle.scad_meaning.specs.Verdicts.{Judge, IsRight}
-use Rattle.scad_meaning.specs.Meaning.{Stand, Made, Makes, made_within}
-use Rattle.scad_pieces.specs.Seen.{Told, made_seen}
+use Rattle.scad_meaning.specs.Meaning.{Context, InstanceDesign, Evaluator, evaluator_with}
+use Rattle.scad_pieces.specs.Seen.{HasOutcome, instance_design_of}
 
 -- how many evaluations in one another are left
-abbrev pub left_at : InstanceEvaluator → ℕ
-left_at m = 512 - m.evaluation.depth
+abbrev pub evaluations_left : InstanceEvaluator → ℕ
+evaluations_left m = 512 - m.evaluation.depth
 
--- where an instance stands
-abbrev pub stand_at : InstanceEvaluator → Position → Stand
-stand_at m s = record {
+-- what evaluates instances at this depth, by a judge of shapes
+abbrev pub evaluator_at : InstanceEvaluator → Judge → Evaluator
+evaluator_at m judge = evaluator_with m.unit judge (evaluations_left m)
+
+-- the context of an instance
+abbrev pub context_at : InstanceEvaluator → Position → Context
+context_at m s = record {
   calls = 64 - m.evaluation.calls;
   env = seen m.evaluation.source.now (rows_of m.evaluation.scopes.now) s.scope;
   chain = chain_of m.evaluation.scopes.now;
@@ -42,8 +46,8 @@ abbrev pub IsChecked : LengthUnit → Option Extrusion → Type 0
 IsChecked unit None = Unit {0}
 IsChecked unit (Some through) = IsThrough unit through
 
--- a stand whose scope is there, inside an extrusion with nothing wrong or inside none
-pub record Stands (m : InstanceEvaluator) (s : Position) : Type 0 where
+-- a position whose scope is there, inside an extrusion with nothing wrong or inside none
+pub record IsPosition (m : InstanceEvaluator) (s : Position) : Type 0 where
   pub whole : IsWhole (text_of m.evaluation.source.now)
   pub scope : s.scope < scopes_there m.evaluation
   pub inside : IsChecked m.unit s.inside
@@ -89,13 +93,13 @@ pub record Assigns (old new : InstanceEvaluator) (scope : ℕ) : Type 0 where
 
 -- what a step gives is what an equation says of where it stands, by whatever is right about shapes
 abbrev pub Equation : Type 0 → Type 0
-Equation B = LengthUnit → Judge → ℕ → Makes → Stand → ℕ → ℕ → Outcome B
+Equation B = Evaluator → Context → ℕ → ℕ → Outcome B
 
-pub record Says {A B : Type 0} (see : ℕ → A → B) (old new : InstanceEvaluator) (s : Position) (r : Result A Stop) (equation : Equation B) : Type 0 where
-  pub by : (judge : Judge) → IsRight judge → Told see r new.evaluation.turns new.leaves
-      (equation old.unit judge (left_at old) (made_within old.unit judge (left_at old)) (stand_at old s) old.evaluation.turns old.leaves)
+pub record Meets {A B : Type 0} (see : ℕ → A → B) (old new : InstanceEvaluator) (s : Position) (r : Result A Stop) (equation : Equation B) : Type 0 where
+  pub by : (judge : Judge) → IsRight judge → HasOutcome see r new.evaluation.turns new.leaves
+      (equation (evaluator_at old judge) (context_at old s) old.evaluation.turns old.leaves)
 
 -- what a counted call says that is refused
 abbrev pub StopsBefore : Evaluation → Place → Stop → Type 0
-StopsBefore e at stop = (go : ℕ → ℕ → Outcome Made) (n l : ℕ) → Told made_seen (Err stop) n l
+StopsBefore e at stop = (go : ℕ → ℕ → Outcome InstanceDesign) (n l : ℕ) → HasOutcome instance_design_of (Err stop) n l
     (one_call_fewer (64 - e.calls) at (λ calls. turn at e.turns (go calls)))

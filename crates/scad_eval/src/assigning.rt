@@ -8,7 +8,7 @@ ghost use Rattle.scad_func.specs.View.{text_of};
 ghost use Rattle.scad_func.specs.Definitions.{statements_at};
 ghost use Rattle.scad_func.specs.Evaluations.{scopes_there};
 ghost use Rattle.scad_meaning.specs.Meaning.{assigned_value, assigned, each_assigned};
-ghost use Rattle.scad_eval.specs.Keeping.{stand_at, Stands, Assigns, Says};
+ghost use Rattle.scad_eval.specs.Keeping.{context_at, IsPosition, Assigns, Meets};
 
 use crate::evaluator::InstanceEvaluator;
 use scad_pieces::Position;
@@ -16,12 +16,12 @@ use scad_scope::Assignment;
 use text_place::Stop;
 
 impl InstanceEvaluator<'_, '_> {
-    /// Gives the names of a block's assignments their values, from the first on.
+    // Gives the names of a block's assignments their values, from the first on.
     pub(crate) fn assign_all(&mut self, position: Position, block: u32) -> Result<(), Stop>
-        requires position { Stands self.old position }
+        requires position { IsPosition self.old position }
         requires newest { position.scope + 1 ≡ scopes_there self.old.evaluation }
         ensures assigned { let statements = statements_at (text_of self.old.evaluation.source.now) block in
-            Says (λ leaves x. stand_at self.new position) self.old self.new position result (λ unit judge left make here turns leaves. each_assigned left here (assignments_of statements) turns) }
+            Meets (λ leaves x. context_at self.new position) self.old self.new position result (λ evaluator here turns leaves. each_assigned evaluator.evaluations here (assignments_of statements) turns) }
         ensures assigns { OnOk result (Assigns self.old self.new position.scope) }
         ensures leaves { self.new.leaves ≡ self.old.leaves }
     {
@@ -32,12 +32,12 @@ impl InstanceEvaluator<'_, '_> {
         Ok(())
     }
 
-    /// Gives a name its value: its statement is one evaluation deeper, and its expression one more.
+    // Gives a name its value: its statement is one evaluation deeper, and its expression one more.
     fn assign(&mut self, position: Position, assignment: &Assignment<'_>) -> Result<(), Stop>
-        requires position { Stands self.old position }
+        requires position { IsPosition self.old position }
         requires newest { position.scope + 1 ≡ scopes_there self.old.evaluation }
-        ensures assigned { Says (λ leaves x. stand_at self.new position) self.old self.new position result (λ unit judge left make here turns leaves.
-            then_with (assigned_value left here (assigned_of assignment.now) turns) (λ turns v. Gives turns (assigned (assigned_of assignment.now) v here))) }
+        ensures assigned { Meets (λ leaves x. context_at self.new position) self.old self.new position result (λ evaluator here turns leaves.
+            then_with (assigned_value evaluator.evaluations here (assigned_of assignment.now) turns) (λ turns v. Gives turns (assigned (assigned_of assignment.now) v here))) }
         ensures assigns { OnOk result (Assigns self.old self.new position.scope) }
         ensures leaves { self.new.leaves ≡ self.old.leaves }
     {

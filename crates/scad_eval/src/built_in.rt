@@ -10,9 +10,9 @@ ghost use Rattle.scad_modules.specs.Bounds.{IsSafeCall};
 ghost use Rattle.scad_modules.specs.Table.{module_named};
 ghost use Rattle.scad_modules.specs.View.{call_of};
 ghost use Rattle.scad_design.specs.Designs.{moved_by};
-ghost use Rattle.scad_meaning.specs.Meaning.{built_in_made as built_in_at, effect_made as effect_at, body_made, made_moved, hull_made, checked, extruding};
-ghost use Rattle.scad_pieces.specs.Seen.{made_seen};
-ghost use Rattle.scad_eval.specs.Keeping.{Stands, Stays, Says};
+ghost use Rattle.scad_meaning.specs.Meaning.{built_in_design, effect_design, body_design, moved_design, hull_design, checked, inside_extrusion};
+ghost use Rattle.scad_pieces.specs.Seen.{instance_design_of};
+ghost use Rattle.scad_eval.specs.Keeping.{IsPosition, Stays, Meets};
 ghost use Rattle.scad_eval.specs.Steps.{built_in_given};
 ghost use Rattle.scad_eval.specs.Within.{body_seen, IsInBlock};
 
@@ -32,7 +32,7 @@ use scad_value::Value;
 use text_place::{Place, Stop};
 
 impl InstanceEvaluator<'_, '_> {
-    /// A call of a built-in module.
+    // A call of a built-in module.
     #[cycle(instances)]
     pub(crate) fn built_in_called(
         &mut self,
@@ -42,10 +42,10 @@ impl InstanceEvaluator<'_, '_> {
         args: &Args,
         body: NumberedBody<'_>,
     ) -> Result<InstanceResult, Stop>
-        requires position { Stands self.old position }
+        requires position { IsPosition self.old position }
         requires block { IsInBlock (text_of self.old.evaluation.source.now) body }
-        ensures made { Says made_seen self.old self.new position result (λ unit judge left make here.
-            built_in_at unit judge left make here place name.now (args_of args.now) (body_seen body.entry) (module_named name.now)) }
+        ensures made { Meets instance_design_of self.old self.new position result (λ evaluator here.
+            built_in_design evaluator here place name.now (args_of args.now) (body_seen body.entry) (module_named name.now)) }
         ensures stays { OnOk result (Stays self.old self.new) }
     {
         match builtin_module(name) {
@@ -57,7 +57,7 @@ impl InstanceEvaluator<'_, '_> {
         }
     }
 
-    /// What a call of a built-in module does, with its special arguments on the chain.
+    // What a call of a built-in module does, with its special arguments on the chain.
     #[cycle(instances)]
     fn built_in_made(
         &mut self,
@@ -67,11 +67,11 @@ impl InstanceEvaluator<'_, '_> {
         given: GivenArguments<'_, Value>,
         body: NumberedBody<'_>,
     ) -> Result<InstanceResult, Stop>
-        requires position { Stands self.old position }
+        requires position { IsPosition self.old position }
         requires block { IsInBlock (text_of self.old.evaluation.source.now) body }
         requires bounded { IsTrue (arguments_bounded (arguments_of given)) }
-        ensures made { Says made_seen self.old self.new position result (λ unit judge left make.
-            built_in_given unit judge left make place built_in (arguments_of given.entry) (body_seen body.entry)) }
+        ensures made { Meets instance_design_of self.old self.new position result (λ evaluator.
+            built_in_given evaluator place built_in (arguments_of given.entry) (body_seen body.entry)) }
         ensures stays { OnOk result (Stays self.old self.new) }
     {
         let GivenArguments { slots, specials } = given;
@@ -90,7 +90,7 @@ impl InstanceEvaluator<'_, '_> {
         Ok(made)
     }
 
-    /// What an effect gives.
+    // What an effect gives.
     #[cycle(instances)]
     fn effect_made(
         &mut self,
@@ -99,11 +99,11 @@ impl InstanceEvaluator<'_, '_> {
         effect: Effect,
         body: NumberedBody<'_>,
     ) -> Result<InstanceResult, Stop>
-        requires position { Stands self.old position }
+        requires position { IsPosition self.old position }
         requires block { IsInBlock (text_of self.old.evaluation.source.now) body }
         requires safe { IsSafeCall (call_of effect) }
-        ensures made { Says made_seen self.old self.new position result (λ unit judge left make here.
-            effect_at unit judge left make here place (call_of effect) (body_seen body.entry)) }
+        ensures made { Meets instance_design_of self.old self.new position result (λ evaluator here.
+            effect_design evaluator here place (call_of effect) (body_seen body.entry)) }
         ensures stays { OnOk result (Stays self.old self.new) }
     {
         match effect {
@@ -120,7 +120,7 @@ impl InstanceEvaluator<'_, '_> {
         }
     }
 
-    /// The union of a body, moved by steps.
+    // The union of a body, moved by steps.
     #[cycle(instances)]
     fn moved(
         &mut self,
@@ -128,10 +128,10 @@ impl InstanceEvaluator<'_, '_> {
         steps: &[Step],
         body: NumberedBody<'_>,
     ) -> Result<InstanceResult, Stop>
-        requires position { Stands self.old position }
+        requires position { IsPosition self.old position }
         requires block { IsInBlock (text_of self.old.evaluation.source.now) body }
-        ensures made { Says made_seen self.old self.new position result (λ unit judge left make here turns leaves.
-            then_with (body_made left make Union here (body_seen body.entry) turns leaves) (λ turns m. Gives turns (made_moved (moved_by steps.now) m))) }
+        ensures made { Meets instance_design_of self.old self.new position result (λ evaluator here turns leaves.
+            then_with (body_design evaluator Union here (body_seen body.entry) turns leaves) (λ turns m. Gives turns (moved_design (moved_by steps.now) m))) }
         ensures stays { OnOk result (Stays self.old self.new) }
     {
         let InstanceResult { design, marked } = self.body(Op::Union, position, body)?;
@@ -141,7 +141,7 @@ impl InstanceEvaluator<'_, '_> {
         }
     }
 
-    /// The hull of the union of a body, as one leaf more. Where the body gives nothing, so does its hull.
+    // The hull of the union of a body, as one leaf more. Where the body gives nothing, so does its hull.
     #[cycle(instances)]
     fn hulled(
         &mut self,
@@ -149,17 +149,17 @@ impl InstanceEvaluator<'_, '_> {
         place: Place,
         body: NumberedBody<'_>,
     ) -> Result<InstanceResult, Stop>
-        requires position { Stands self.old position }
+        requires position { IsPosition self.old position }
         requires block { IsInBlock (text_of self.old.evaluation.source.now) body }
-        ensures made { Says made_seen self.old self.new position result (λ unit judge left make here turns leaves.
-            then_with (body_made left make Union here (body_seen body.entry) turns leaves) (λ turns m. hull_made (judge.hull m.design) place m turns)) }
+        ensures made { Meets instance_design_of self.old self.new position result (λ evaluator here turns leaves.
+            then_with (body_design evaluator Union here (body_seen body.entry) turns leaves) (λ turns m. hull_design (evaluator.judge.hull m.design) place m turns)) }
         ensures stays { OnOk result (Stays self.old self.new) }
     {
         let made = self.body(Op::Union, position, body)?;
         self.hull(place, made)
     }
 
-    /// The union of a body inside an extrusion.
+    // The union of a body inside an extrusion.
     #[cycle(instances)]
     fn extruded(
         &mut self,
@@ -168,16 +168,16 @@ impl InstanceEvaluator<'_, '_> {
         through: Extrusion,
         body: NumberedBody<'_>,
     ) -> Result<InstanceResult, Stop>
-        requires position { Stands self.old position }
+        requires position { IsPosition self.old position }
         requires block { IsInBlock (text_of self.old.evaluation.source.now) body }
         requires safe { IsSafe through.height }
-        ensures made { Says made_seen self.old self.new position result (λ unit judge left make here turns leaves.
-            checked (judge.height unit through.center through.height) place (body_made left make Union (extruding here through) (body_seen body.entry) turns leaves)) }
+        ensures made { Meets instance_design_of self.old self.new position result (λ evaluator here turns leaves.
+            checked (evaluator.judge.height evaluator.unit through.center through.height) place (body_design evaluator Union (inside_extrusion here through) (body_seen body.entry) turns leaves)) }
         ensures stays { OnOk result (Stays self.old self.new) }
     {
         match size_fault(&[through.height], through.center, self.unit) {
             Some(kind) => Err(fault_at(kind, place)),
-            None => self.body(Op::Union, position.extruding(through), body),
+            None => self.body(Op::Union, position.inside_extrusion(through), body),
         }
     }
 }

@@ -12,9 +12,9 @@ ghost use Rattle.scad_func.specs.Meaning.{module_in};
 ghost use Rattle.scad_func.specs.View.{text_of, seen, arguments_of, arguments_bounded};
 ghost use Rattle.scad_func.specs.Definitions.{IsBlockOf};
 ghost use Rattle.scad_func.specs.Evaluations.{scopes_there};
-ghost use Rattle.scad_meaning.specs.Meaning.{call_made, module_made as module_at};
-ghost use Rattle.scad_pieces.specs.Seen.{made_seen};
-ghost use Rattle.scad_eval.specs.Keeping.{Stands, Stays, Says};
+ghost use Rattle.scad_meaning.specs.Meaning.{call_design, module_design};
+ghost use Rattle.scad_pieces.specs.Seen.{instance_design_of};
+ghost use Rattle.scad_eval.specs.Keeping.{IsPosition, Stays, Meets};
 ghost use Rattle.scad_eval.specs.Steps.{module_filled, module_given};
 ghost use Rattle.scad_eval.specs.Within.{body_seen, IsInBlock};
 
@@ -28,7 +28,7 @@ use scad_value::Value;
 use text_place::{Place, Stop};
 
 impl InstanceEvaluator<'_, '_> {
-    /// A call of a module: the source's go before built-in ones.
+    // A call of a module: the source's go before built-in ones.
     #[cycle(instances)]
     pub(crate) fn called(
         &mut self,
@@ -38,10 +38,10 @@ impl InstanceEvaluator<'_, '_> {
         args: &Args,
         body: NumberedBody<'_>,
     ) -> Result<InstanceResult, Stop>
-        requires position { Stands self.old position }
+        requires position { IsPosition self.old position }
         requires block { IsInBlock (text_of self.old.evaluation.source.now) body }
-        ensures made { Says made_seen self.old self.new position result (λ unit judge left make here.
-            call_made unit judge left make here place name.now (args_of args.now) (body_seen body.entry) (module_in here.env name.now)) }
+        ensures made { Meets instance_design_of self.old self.new position result (λ evaluator here.
+            call_design evaluator here place name.now (args_of args.now) (body_seen body.entry) (module_in here.env name.now)) }
         ensures stays { OnOk result (Stays self.old self.new) }
     {
         match self.evaluation.module(position.scope, name) {
@@ -54,7 +54,7 @@ impl InstanceEvaluator<'_, '_> {
         }
     }
 
-    /// A module of the source, one call deeper.
+    // A module of the source, one call deeper.
     #[cycle(instances)]
     fn module_called(
         &mut self,
@@ -65,15 +65,15 @@ impl InstanceEvaluator<'_, '_> {
         given: GivenArguments<'_, Value>,
         body: NumberedBody<'_>,
     ) -> Result<InstanceResult, Stop>
-        requires position { Stands self.old position }
+        requires position { IsPosition self.old position }
         requires block { IsInBlock (text_of self.old.evaluation.source.now) body }
         requires home { home < scopes_there self.old.evaluation }
         requires its_block { IsBlockOf (text_of self.old.evaluation.source.now) defined.block (body_of defined.body.now) }
         requires count { length given.slots.items ≡ length (params_of defined.params.now) }
         requires bounded { IsTrue (arguments_bounded (arguments_of given)) }
         ensures made { let env = seen self.old.evaluation.source.now (rows_of self.old.evaluation.scopes.now) home in
-            Says made_seen self.old self.new position result (λ unit judge left make here.
-            module_at left make here place (module_of defined.entry, env) (arguments_of given.entry) (body_seen body.entry)) }
+            Meets instance_design_of self.old self.new position result (λ evaluator here.
+            module_design evaluator here place (module_of defined.entry, env) (arguments_of given.entry) (body_seen body.entry)) }
         ensures stays { OnOk result (Stays self.old self.new) }
     {
         let begun = self.begin_counted_call(place);
@@ -83,7 +83,7 @@ impl InstanceEvaluator<'_, '_> {
         Ok(made)
     }
 
-    /// A module of the source, with its special arguments on the chain.
+    // A module of the source, with its special arguments on the chain.
     #[cycle(instances)]
     fn module_with_specials(
         &mut self,
@@ -93,15 +93,15 @@ impl InstanceEvaluator<'_, '_> {
         given: GivenArguments<'_, Value>,
         body: NumberedBody<'_>,
     ) -> Result<InstanceResult, Stop>
-        requires position { Stands self.old position }
+        requires position { IsPosition self.old position }
         requires block { IsInBlock (text_of self.old.evaluation.source.now) body }
         requires home { home < scopes_there self.old.evaluation }
         requires its_block { IsBlockOf (text_of self.old.evaluation.source.now) defined.block (body_of defined.body.now) }
         requires count { length given.slots.items ≡ length (params_of defined.params.now) }
         requires bounded { IsTrue (arguments_bounded (arguments_of given)) }
         ensures made { let env = seen self.old.evaluation.source.now (rows_of self.old.evaluation.scopes.now) home in
-            Says made_seen self.old self.new position result (λ unit judge left make.
-            module_given left make (module_of defined.entry, env) (arguments_of given.entry) (body_seen body.entry)) }
+            Meets instance_design_of self.old self.new position result (λ evaluator.
+            module_given evaluator (module_of defined.entry, env) (arguments_of given.entry) (body_seen body.entry)) }
         ensures stays { OnOk result (Stays self.old self.new) }
     {
         let GivenArguments { slots, specials } = given;
@@ -113,8 +113,8 @@ impl InstanceEvaluator<'_, '_> {
         Ok(made)
     }
 
-    /// A module's body in a scope of its own, with the values of its parameters and the number of its
-    /// call's children.
+    // A module's body in a scope of its own, with the values of its parameters and the number of its
+    // call's children.
     #[cycle(instances)]
     fn module_made(
         &mut self,
@@ -124,15 +124,15 @@ impl InstanceEvaluator<'_, '_> {
         values: Vec<Value>,
         body: NumberedBody<'_>,
     ) -> Result<InstanceResult, Stop>
-        requires position { Stands self.old position }
+        requires position { IsPosition self.old position }
         requires block { IsInBlock (text_of self.old.evaluation.source.now) body }
         requires home { home < scopes_there self.old.evaluation }
         requires its_block { IsBlockOf (text_of self.old.evaluation.source.now) defined.block (body_of defined.body.now) }
         requires count { length values.items ≡ length defined.params.now.items.items }
         requires bounded { IsTrue (are_bounded (vals_in values.items)) }
         ensures made { let env = seen self.old.evaluation.source.now (rows_of self.old.evaluation.scopes.now) home in
-            Says made_seen self.old self.new position result (λ unit judge left make.
-            module_filled left make (module_of defined.entry, env) (vals_from (vals_in values.items)) (body_seen body.entry)) }
+            Meets instance_design_of self.old self.new position result (λ evaluator.
+            module_filled evaluator (module_of defined.entry, env) (vals_from (vals_in values.items)) (body_seen body.entry)) }
         ensures stays { OnOk result (Stays self.old self.new) }
     {
         let opened = self.enter_module(position.scope, defined, home, values, body)?;

@@ -6,10 +6,10 @@ ghost use Rattle.scad_ast.specs.ExprView.{term_of};
 ghost use Rattle.scad_value.specs.Values.{truth_of};
 ghost use Rattle.scad_func.specs.Meaning.{Gives, then_with, value_at};
 ghost use Rattle.scad_func.specs.View.{text_of};
-ghost use Rattle.scad_meaning.specs.Meaning.{setting, body_made, made_nothing, each_member, core_of, core_made, instance_made};
+ghost use Rattle.scad_meaning.specs.Meaning.{setting, body_design, no_design, each_member, core_of, core_design, instance_design};
 ghost use Rattle.scad_pieces.specs.Positions.{term_of_numbered, HasBlocks};
-ghost use Rattle.scad_pieces.specs.Seen.{made_seen, members_seen};
-ghost use Rattle.scad_eval.specs.Keeping.{Stands, Stays, Says};
+ghost use Rattle.scad_pieces.specs.Seen.{instance_design_of, member_designs_of};
+ghost use Rattle.scad_eval.specs.Keeping.{IsPosition, Stays, Meets};
 ghost use Rattle.scad_eval.specs.Within.{body_seen, IsInBlock};
 
 use crate::evaluator::InstanceEvaluator;
@@ -24,16 +24,16 @@ use scad_value::truth;
 use text_place::{FaultKind, Stop};
 
 impl InstanceEvaluator<'_, '_> {
-    /// What an instance gives, one evaluation deeper.
+    // What an instance gives, one evaluation deeper.
     #[cycle(instances)]
     pub(crate) fn instance(
         &mut self,
         position: Position,
         instance: NumberedInstance<'_>,
     ) -> Result<InstanceResult, Stop>
-        requires position { Stands self.old position }
+        requires position { IsPosition self.old position }
         requires blocks { HasBlocks (text_of self.old.evaluation.source.now) instance }
-        ensures made { Says made_seen self.old self.new position result (λ unit judge left make here. make here (term_of_numbered instance.entry)) }
+        ensures made { Meets instance_design_of self.old self.new position result (λ evaluator here. evaluator.deeper here (term_of_numbered instance.entry)) }
         ensures stays { OnOk result (Stays self.old self.new) }
     {
         self.evaluation.begin_evaluation(instance.instance.place())?;
@@ -42,17 +42,17 @@ impl InstanceEvaluator<'_, '_> {
         Ok(made)
     }
 
-    /// What an instance gives at its own depth. The outermost mark `!` counts, and then what it gives is
-    /// no part of the design around it.
+    // What an instance gives at its own depth. The outermost mark `!` counts, and then what it gives is
+    // no part of the design around it.
     #[cycle(instances)]
     fn marked_or_not(
         &mut self,
         position: Position,
         instance: NumberedInstance<'_>,
     ) -> Result<InstanceResult, Stop>
-        requires position { Stands self.old position }
+        requires position { IsPosition self.old position }
         requires blocks { HasBlocks (text_of self.old.evaluation.source.now) instance }
-        ensures made { Says made_seen self.old self.new position result (λ unit judge left make here. instance_made unit judge left make here (term_of_numbered instance.entry)) }
+        ensures made { Meets instance_design_of self.old self.new position result (λ evaluator here. instance_design evaluator here (term_of_numbered instance.entry)) }
         ensures stays { OnOk result (Stays self.old self.new) }
     {
         if !is_marked(instance.instance) {
@@ -68,16 +68,16 @@ impl InstanceEvaluator<'_, '_> {
         Ok(set_apart(made))
     }
 
-    /// What an instance gives, whatever its marks are.
+    // What an instance gives, whatever its marks are.
     #[cycle(instances)]
     fn core(
         &mut self,
         position: Position,
         instance: NumberedInstance<'_>,
     ) -> Result<InstanceResult, Stop>
-        requires position { Stands self.old position }
+        requires position { IsPosition self.old position }
         requires blocks { HasBlocks (text_of self.old.evaluation.source.now) instance }
-        ensures made { Says made_seen self.old self.new position result (λ unit judge left make here. core_made unit judge left make here (core_of (term_of_numbered instance.entry))) }
+        ensures made { Meets instance_design_of self.old self.new position result (λ evaluator here. core_design evaluator here (core_of (term_of_numbered instance.entry))) }
         ensures stays { OnOk result (Stays self.old self.new) }
     {
         let NumberedInstance {
@@ -116,7 +116,7 @@ impl InstanceEvaluator<'_, '_> {
         }
     }
 
-    /// A body, where a test holds.
+    // A body, where a test holds.
     #[cycle(instances)]
     fn one_or_nothing(
         &mut self,
@@ -124,11 +124,11 @@ impl InstanceEvaluator<'_, '_> {
         test: &Expr,
         body: NumberedBody<'_>,
     ) -> Result<InstanceResult, Stop>
-        requires position { Stands self.old position }
+        requires position { IsPosition self.old position }
         requires block { IsInBlock (text_of self.old.evaluation.source.now) body }
-        ensures made { Says made_seen self.old self.new position result (λ unit judge left make here turns leaves.
-            then_with (value_at (setting left here) true (term_of test.now) turns) (λ turns v.
-            if truth_of v then body_made left make Union here (body_seen body.entry) turns leaves else Gives turns (made_nothing leaves))) }
+        ensures made { Meets instance_design_of self.old self.new position result (λ evaluator here turns leaves.
+            then_with (value_at (setting evaluator.evaluations here) true (term_of test.now) turns) (λ turns v.
+            if truth_of v then body_design evaluator Union here (body_seen body.entry) turns leaves else Gives turns (no_design leaves))) }
         ensures stays { OnOk result (Stays self.old self.new) }
     {
         let value = self.evaluation.expression(position.scope, test)?;
@@ -138,7 +138,7 @@ impl InstanceEvaluator<'_, '_> {
         Ok(nothing_made())
     }
 
-    /// One of two bodies, by a test.
+    // One of two bodies, by a test.
     #[cycle(instances)]
     fn one_or_other(
         &mut self,
@@ -147,12 +147,12 @@ impl InstanceEvaluator<'_, '_> {
         body: NumberedBody<'_>,
         other: NumberedBody<'_>,
     ) -> Result<InstanceResult, Stop>
-        requires position { Stands self.old position }
+        requires position { IsPosition self.old position }
         requires block { IsInBlock (text_of self.old.evaluation.source.now) body }
         requires other { IsInBlock (text_of self.old.evaluation.source.now) other }
-        ensures made { Says made_seen self.old self.new position result (λ unit judge left make here turns leaves.
-            then_with (value_at (setting left here) true (term_of test.now) turns) (λ turns v.
-            body_made left make Union here (if truth_of v then body_seen body.entry else body_seen other.entry) turns leaves)) }
+        ensures made { Meets instance_design_of self.old self.new position result (λ evaluator here turns leaves.
+            then_with (value_at (setting evaluator.evaluations here) true (term_of test.now) turns) (λ turns v.
+            body_design evaluator Union here (if truth_of v then body_seen body.entry else body_seen other.entry) turns leaves)) }
         ensures stays { OnOk result (Stays self.old self.new) }
     {
         let value = self.evaluation.expression(position.scope, test)?;
@@ -162,16 +162,16 @@ impl InstanceEvaluator<'_, '_> {
         self.body(Op::Union, position, other)
     }
 
-    /// What instances give, from the first on. Those that only say something are no members.
+    // What instances give, from the first on. Those that only say something are no members.
     #[cycle(instances)]
     pub(crate) fn members(
         &mut self,
         position: Position,
         instances: &[NumberedInstance<'_>],
     ) -> Result<MemberResults, Stop>
-        requires position { Stands self.old position }
+        requires position { IsPosition self.old position }
         requires blocks { All (HasBlocks (text_of self.old.evaluation.source.now)) instances.now }
-        ensures members { Says members_seen self.old self.new position result (λ unit judge left make here. each_member make here (map term_of_numbered instances.now)) }
+        ensures members { Meets member_designs_of self.old self.new position result (λ evaluator here. each_member evaluator here (map term_of_numbered instances.now)) }
         ensures stays { OnOk result (Stays self.old self.new) }
     {
         let mut members = no_members(self.evaluation.alloc);

@@ -5,9 +5,9 @@ ghost use Rattle.scad_modules.specs.View.{solid_of as solid_call, flat_of as fla
 ghost use Rattle.scad_design.specs.View.{plain_of};
 ghost use Rattle.scad_pieces.specs.declared.position.Position.{Position};
 ghost use Rattle.scad_meaning.specs.Verdicts.{solid_of, extruded};
-ghost use Rattle.scad_meaning.specs.Meaning.{checked, leaf_made, flat_made, hull_made};
-ghost use Rattle.scad_pieces.specs.Seen.{made_seen, IsStopAt};
-ghost use Rattle.scad_eval.specs.Keeping.{IsThrough, Stands, Stays, Says};
+ghost use Rattle.scad_meaning.specs.Meaning.{checked, leaf_design, flat_design, hull_design};
+ghost use Rattle.scad_pieces.specs.Seen.{instance_design_of, IsStopAt};
+ghost use Rattle.scad_eval.specs.Keeping.{IsThrough, IsPosition, Stays, Meets};
 
 use crate::evaluator::InstanceEvaluator;
 use primitives::extrude;
@@ -23,11 +23,11 @@ use text_place::{FaultKind, Place, Stop};
 const LEAVES: u32 = 1024;
 
 impl InstanceEvaluator<'_, '_> {
-    /// A solid, as one leaf more.
+    // A solid, as one leaf more.
     pub(crate) fn solid(&mut self, place: Place, shape: &SolidShape) -> Result<InstanceResult, Stop>
         requires { IsSafeSolid (solid_call shape.now) }
-        ensures made { (s : Position) → Says made_seen self.old self.new s result (λ unit judge left make here turns leaves.
-            checked (judge.solid unit (solid_call shape.now)) place (leaf_made place (solid_of unit (solid_call shape.now)) turns leaves)) }
+        ensures made { (s : Position) → Meets instance_design_of self.old self.new s result (λ evaluator here turns leaves.
+            checked (evaluator.judge.solid evaluator.unit (solid_call shape.now)) place (leaf_design place (solid_of evaluator.unit (solid_call shape.now)) turns leaves)) }
         ensures stays { Stays self.old self.new }
     {
         match solid_shape(self.evaluation.alloc, self.unit, shape) {
@@ -36,16 +36,16 @@ impl InstanceEvaluator<'_, '_> {
         }
     }
 
-    /// A shape in the plane, which stands inside an extrusion, as one leaf more.
+    // A shape in the plane, which stands inside an extrusion, as one leaf more.
     pub(crate) fn flat(
         &mut self,
         position: Position,
         place: Place,
         shape: &FlatShape,
     ) -> Result<InstanceResult, Stop>
-        requires position { Stands self.old position }
+        requires position { IsPosition self.old position }
         requires safe { IsSafeFlat (flat_call shape.now) }
-        ensures made { Says made_seen self.old self.new position result (λ unit judge left make here. flat_made unit judge here.inside place (flat_call shape.now)) }
+        ensures made { Meets instance_design_of self.old self.new position result (λ evaluator here. flat_design evaluator here.inside place (flat_call shape.now)) }
         ensures stays { Stays self.old self.new }
     {
         match position.inside {
@@ -54,7 +54,7 @@ impl InstanceEvaluator<'_, '_> {
         }
     }
 
-    /// A shape in the plane that is moved through a height, as one leaf more.
+    // A shape in the plane that is moved through a height, as one leaf more.
     fn flat_through(
         &mut self,
         place: Place,
@@ -63,8 +63,8 @@ impl InstanceEvaluator<'_, '_> {
     ) -> Result<InstanceResult, Stop>
         requires through { IsThrough self.old.unit through }
         requires safe { IsSafeFlat (flat_call shape.now) }
-        ensures made { (s : Position) → Says made_seen self.old self.new s result (λ unit judge left make here turns leaves.
-            checked (judge.flat unit (flat_call shape.now)) place (leaf_made place (extruded unit through (flat_call shape.now)) turns leaves)) }
+        ensures made { (s : Position) → Meets instance_design_of self.old self.new s result (λ evaluator here turns leaves.
+            checked (evaluator.judge.flat evaluator.unit (flat_call shape.now)) place (leaf_design place (extruded evaluator.unit through (flat_call shape.now)) turns leaves)) }
         ensures stays { Stays self.old self.new }
     {
         let alloc = self.evaluation.alloc;
@@ -77,15 +77,15 @@ impl InstanceEvaluator<'_, '_> {
         }
     }
 
-    /// The hull of what children give, as one leaf more in place of their design. Where that is
-    /// nothing, it stays so.
+    // The hull of what children give, as one leaf more in place of their design. Where that is
+    // nothing, it stays so.
     pub(crate) fn hull(
         &mut self,
         place: Place,
         made: InstanceResult,
     ) -> Result<InstanceResult, Stop>
-        ensures made { (s : Position) → Says made_seen self.old self.new s result (λ unit judge left make here turns leaves.
-            hull_made (judge.hull (plain_of made.design)) place (made_seen leaves made) turns) }
+        ensures made { (s : Position) → Meets instance_design_of self.old self.new s result (λ evaluator here turns leaves.
+            hull_design (evaluator.judge.hull (plain_of made.design)) place (instance_design_of leaves made) turns) }
         ensures stays { Stays self.old self.new }
     {
         let InstanceResult { design, marked } = made;
@@ -104,9 +104,9 @@ impl InstanceEvaluator<'_, '_> {
         }
     }
 
-    /// One leaf more. TooManyParts where it is the 1,025th.
+    // One leaf more. TooManyParts where it is the 1,025th.
     fn leaf(&mut self, place: Place, shape: Shape) -> Result<InstanceResult, Stop>
-        ensures made { (s : Position) → Says made_seen self.old self.new s result (λ unit judge left make here turns leaves. leaf_made place shape turns leaves) }
+        ensures made { (s : Position) → Meets instance_design_of self.old self.new s result (λ evaluator here turns leaves. leaf_design place shape turns leaves) }
         ensures stays { Stays self.old self.new }
     {
         if self.leaves == LEAVES {
@@ -120,7 +120,7 @@ impl InstanceEvaluator<'_, '_> {
     }
 }
 
-/// A stop of a shape at the place of its module's name.
+// A stop of a shape at the place of its module's name.
 fn stop_at(stop: ShapeStop, place: Place) -> Stop
     ensures { IsStopAt stop place result }
 {

@@ -6,10 +6,10 @@ ghost use Rattle.scad_ast.specs.StatementView.{binder_of, binders_of};
 ghost use Rattle.scad_value.specs.Values.{is_bounded};
 ghost use Rattle.scad_value.specs.View.{val_of};
 ghost use Rattle.scad_func.specs.View.{text_of};
-ghost use Rattle.scad_meaning.specs.Meaning.{loop_made, each_turn, each_step, in_loop};
-ghost use Rattle.scad_pieces.specs.Items.{left_in};
-ghost use Rattle.scad_pieces.specs.Seen.{made_seen, members_seen};
-ghost use Rattle.scad_eval.specs.Keeping.{Stands, Stays, Says};
+ghost use Rattle.scad_meaning.specs.Meaning.{loop_design, each_turn, each_step, in_loop};
+ghost use Rattle.scad_pieces.specs.Items.{remaining_in};
+ghost use Rattle.scad_pieces.specs.Seen.{instance_design_of, member_designs_of};
+ghost use Rattle.scad_eval.specs.Keeping.{IsPosition, Stays, Meets};
 ghost use Rattle.scad_eval.specs.Steps.{one_step};
 ghost use Rattle.scad_eval.specs.Within.{body_seen, IsInBlock};
 
@@ -29,7 +29,7 @@ use text_place::{FaultKind, Place, Stop};
 const SCOPES: u32 = 2048;
 
 impl InstanceEvaluator<'_, '_> {
-    /// The members of a loop's turns, joined by an operation.
+    // The members of a loop's turns, joined by an operation.
     #[cycle(instances)]
     pub(crate) fn looped(
         &mut self,
@@ -39,9 +39,9 @@ impl InstanceEvaluator<'_, '_> {
         binders: &Binders,
         body: NumberedBody<'_>,
     ) -> Result<InstanceResult, Stop>
-        requires position { Stands self.old position }
+        requires position { IsPosition self.old position }
         requires block { IsInBlock (text_of self.old.evaluation.source.now) body }
-        ensures made { Says made_seen self.old self.new position result (λ unit judge left make here. loop_made left make op here place (binders_of binders.now) (body_seen body.entry)) }
+        ensures made { Meets instance_design_of self.old self.new position result (λ evaluator here. loop_design evaluator op here place (binders_of binders.now) (body_seen body.entry)) }
         ensures stays { OnOk result (Stays self.old self.new) }
     {
         // A source has far fewer; the bound is for the proof that evaluation ends.
@@ -52,7 +52,7 @@ impl InstanceEvaluator<'_, '_> {
         Ok(joined(self.evaluation.alloc, op, members)?)
     }
 
-    /// The turns of a loop: one for each choice of a value for every variable, the first one slowest.
+    // The turns of a loop: one for each choice of a value for every variable, the first one slowest.
     #[cycle(instances)]
     fn turns(
         &mut self,
@@ -61,9 +61,9 @@ impl InstanceEvaluator<'_, '_> {
         binders: &[Binder],
         body: NumberedBody<'_>,
     ) -> Result<MemberResults, Stop>
-        requires position { Stands self.old position }
+        requires position { IsPosition self.old position }
         requires block { IsInBlock (text_of self.old.evaluation.source.now) body }
-        ensures members { Says members_seen self.old self.new position result (λ unit judge left make. each_turn left make place (map binder_of binders.now) (body_seen body.entry)) }
+        ensures members { Meets member_designs_of self.old self.new position result (λ evaluator. each_turn evaluator place (map binder_of binders.now) (body_seen body.entry)) }
         ensures stays { OnOk result (Stays self.old self.new) }
     {
         match binders.split_first() {
@@ -80,7 +80,7 @@ impl InstanceEvaluator<'_, '_> {
         }
     }
 
-    /// One turn gives the union of the loop's body.
+    // One turn gives the union of the loop's body.
     #[cycle(instances)]
     fn one_turn(
         &mut self,
@@ -88,9 +88,9 @@ impl InstanceEvaluator<'_, '_> {
         place: Place,
         body: NumberedBody<'_>,
     ) -> Result<MemberResults, Stop>
-        requires position { Stands self.old position }
+        requires position { IsPosition self.old position }
         requires block { IsInBlock (text_of self.old.evaluation.source.now) body }
-        ensures members { Says members_seen self.old self.new position result (λ unit judge left make. each_turn left make place [] (body_seen body.entry)) }
+        ensures members { Meets member_designs_of self.old self.new position result (λ evaluator. each_turn evaluator place [] (body_seen body.entry)) }
         ensures stays { OnOk result (Stays self.old self.new) }
     {
         self.evaluation.turn(place)?;
@@ -98,7 +98,7 @@ impl InstanceEvaluator<'_, '_> {
         with_made(no_members(self.evaluation.alloc), true, made)
     }
 
-    /// The turns of a loop for each value of a variable, with the variables behind it.
+    // The turns of a loop for each value of a variable, with the variables behind it.
     #[cycle(instances)]
     fn each_item(
         &mut self,
@@ -109,22 +109,22 @@ impl InstanceEvaluator<'_, '_> {
         body: NumberedBody<'_>,
         items: Items,
     ) -> Result<MemberResults, Stop>
-        requires position { Stands self.old position }
+        requires position { IsPosition self.old position }
         requires block { IsInBlock (text_of self.old.evaluation.source.now) body }
-        ensures members { Says members_seen self.old self.new position result (λ unit judge left make here.
-            each_step place (λ item. each_turn left make place (map binder_of rest.now) (body_seen body.entry) (in_loop here name.now item)) (left_in items.left)) }
+        ensures members { Meets member_designs_of self.old self.new position result (λ evaluator here.
+            each_step place (λ item. each_turn evaluator place (map binder_of rest.now) (body_seen body.entry) (in_loop here name.now item)) (remaining_in items.remaining)) }
         ensures stays { OnOk result (Stays self.old self.new) }
     {
-        let mut left = items;
+        let mut remaining = items;
         let mut members = no_members(self.evaluation.alloc);
-        'each: while let Some(value) = left.next() {
+        'each: while let Some(value) = remaining.next() {
             let next = self.step(position, place, name, rest, body, value);
             members = with_members(members, next)?;
         }
         Ok(members)
     }
 
-    /// The turns of a loop for one value of a variable. Where nothing followed, that counts one turn.
+    // The turns of a loop for one value of a variable. Where nothing followed, that counts one turn.
     #[cycle(instances)]
     fn step(
         &mut self,
@@ -135,10 +135,10 @@ impl InstanceEvaluator<'_, '_> {
         body: NumberedBody<'_>,
         value: Value,
     ) -> Result<MemberResults, Stop>
-        requires position { Stands self.old position }
+        requires position { IsPosition self.old position }
         requires block { IsInBlock (text_of self.old.evaluation.source.now) body }
         requires bounded { IsTrue (is_bounded (val_of value)) }
-        ensures members { Says members_seen self.old self.new position result (λ unit judge left make. one_step left make place name.now (map binder_of rest.now) (body_seen body.entry) (val_of value)) }
+        ensures members { Meets member_designs_of self.old self.new position result (λ evaluator. one_step evaluator place name.now (map binder_of rest.now) (body_seen body.entry) (val_of value)) }
         ensures stays { OnOk result (Stays self.old self.new) }
     {
         let members = self.turns_with(position, place, name, rest, body, value)?;
@@ -148,8 +148,8 @@ impl InstanceEvaluator<'_, '_> {
         Ok(members)
     }
 
-    /// The turns of a loop for one value of a variable, which has a scope of its own. `NoMemory` where too many
-    /// scopes stand in one another.
+    // The turns of a loop for one value of a variable, which has a scope of its own. `NoMemory` where too many
+    // scopes stand in one another.
     #[cycle(instances)]
     fn turns_with(
         &mut self,
@@ -160,10 +160,10 @@ impl InstanceEvaluator<'_, '_> {
         body: NumberedBody<'_>,
         value: Value,
     ) -> Result<MemberResults, Stop>
-        requires position { Stands self.old position }
+        requires position { IsPosition self.old position }
         requires block { IsInBlock (text_of self.old.evaluation.source.now) body }
         requires bounded { IsTrue (is_bounded (val_of value)) }
-        ensures members { Says members_seen self.old self.new position result (λ unit judge left make here. each_turn left make place (map binder_of rest.now) (body_seen body.entry) (in_loop here name.now (val_of value))) }
+        ensures members { Meets member_designs_of self.old self.new position result (λ evaluator here. each_turn evaluator place (map binder_of rest.now) (body_seen body.entry) (in_loop here name.now (val_of value))) }
         ensures stays { OnOk result (Stays self.old self.new) }
     {
         let scope = self.evaluation.enter_empty(position.scope)?;

@@ -38,7 +38,7 @@ pub fn evaluate(alloc: Global, program: &Program, unit: Unit) -> Result<CsgTree,
     place(alloc, &design)
 }
 
-/// The design of a program, whose block is the first one.
+// The design of a program, whose block is the first one.
 fn design_of(
     alloc: Global,
     source: &Source<'_>,
@@ -71,7 +71,7 @@ fn design_of(
     Ok(first_or_all(alloc, members)?)
 }
 
-/// The first design that is marked `!`, or else all.
+// The first design that is marked `!`, or else all.
 fn first_or_all(alloc: Global, members: MemberResults) -> Result<Design, NoMemory>
     ensures { IfOk result (λ design. plain_of design ≡ or_all (option_map plain_of members.marked) (map plain_of members.designs.items)) }
 {

@@ -4,9 +4,9 @@ ghost use Rattle.std.specs.Prelude.{◌≡◌, ◌+◌, OnOk};
 ghost use Rattle.scad_func.specs.View.{text_of};
 ghost use Rattle.scad_func.specs.Definitions.{statements_at};
 ghost use Rattle.scad_func.specs.Evaluations.{scopes_there};
-ghost use Rattle.scad_meaning.specs.Meaning.{each_in_body, body_made};
-ghost use Rattle.scad_pieces.specs.Seen.{made_seen, members_seen};
-ghost use Rattle.scad_eval.specs.Keeping.{Stands, Stays, Binds, Says};
+ghost use Rattle.scad_meaning.specs.Meaning.{each_in_body, body_design};
+ghost use Rattle.scad_pieces.specs.Seen.{instance_design_of, member_designs_of};
+ghost use Rattle.scad_eval.specs.Keeping.{IsPosition, Stays, Binds, Meets};
 ghost use Rattle.scad_pieces.specs.Calls.{chosen_seen, IsSafeChosen};
 ghost use Rattle.scad_eval.specs.Steps.{block_members};
 ghost use Rattle.scad_eval.specs.Within.{body_seen, IsInBlock};
@@ -20,7 +20,7 @@ use scad_pieces::{
 use text_place::Stop;
 
 impl InstanceEvaluator<'_, '_> {
-    /// A body's members joined by an operation.
+    // A body's members joined by an operation.
     #[cycle(instances)]
     pub(crate) fn body(
         &mut self,
@@ -28,25 +28,25 @@ impl InstanceEvaluator<'_, '_> {
         position: Position,
         body: NumberedBody<'_>,
     ) -> Result<InstanceResult, Stop>
-        requires position { Stands self.old position }
+        requires position { IsPosition self.old position }
         requires block { IsInBlock (text_of self.old.evaluation.source.now) body }
-        ensures made { Says made_seen self.old self.new position result (λ unit judge left make here. body_made left make op here (body_seen body.entry)) }
+        ensures made { Meets instance_design_of self.old self.new position result (λ evaluator here. body_design evaluator op here (body_seen body.entry)) }
         ensures stays { OnOk result (Stays self.old self.new) }
     {
         let members = self.members_of_body(position, body)?;
         Ok(joined(self.evaluation.alloc, op, members)?)
     }
 
-    /// A body's members, in a new scope inside where it stands.
+    // A body's members, in a new scope inside where it stands.
     #[cycle(instances)]
     fn members_of_body(
         &mut self,
         position: Position,
         body: NumberedBody<'_>,
     ) -> Result<MemberResults, Stop>
-        requires position { Stands self.old position }
+        requires position { IsPosition self.old position }
         requires block { IsInBlock (text_of self.old.evaluation.source.now) body }
-        ensures members { Says members_seen self.old self.new position result (λ unit judge left make here. each_in_body left make here (body_seen body.entry)) }
+        ensures members { Meets member_designs_of self.old self.new position result (λ evaluator here. each_in_body evaluator here (body_seen body.entry)) }
         ensures stays { OnOk result (Stays self.old self.new) }
     {
         let scope = self.evaluation.enter_body(position.scope, body.block)?;
@@ -55,8 +55,8 @@ impl InstanceEvaluator<'_, '_> {
         Ok(members)
     }
 
-    /// The members of a block whose scope is the newest one: its assignments, then its instances, or of
-    /// its children those that are chosen. Its special names are on the chain meanwhile.
+    // The members of a block whose scope is the newest one: its assignments, then its instances, or of
+    // its children those that are chosen. Its special names are on the chain meanwhile.
     #[cycle(instances)]
     pub(crate) fn members_in_scope(
         &mut self,
@@ -64,11 +64,11 @@ impl InstanceEvaluator<'_, '_> {
         block: u32,
         chosen: Option<&Chosen>,
     ) -> Result<MemberResults, Stop>
-        requires position { Stands self.old position }
+        requires position { IsPosition self.old position }
         requires newest { position.scope + 1 ≡ scopes_there self.old.evaluation }
         requires safe { IsSafeChosen chosen }
         ensures members { let statements = statements_at (text_of self.old.evaluation.source.now) block in
-            Says members_seen self.old self.new position result (λ unit judge left make. block_members left make (chosen_seen chosen.entry) statements) }
+            Meets member_designs_of self.old self.new position result (λ evaluator. block_members evaluator (chosen_seen chosen.entry) statements) }
         ensures binds { OnOk result (Binds self.old self.new position.scope) }
     {
         let length = self.evaluation.chain_length()?;

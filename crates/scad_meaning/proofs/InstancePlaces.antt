@@ -34,7 +34,7 @@ use Rattle.scad_meaning.specs.Hulls.{is_nothing, points_of, hull_mesh}
 use Rattle.scad_meaning.specs.Verdicts.{Judge, Verdict, IsRight, IsSolidVerdict, IsFlatVerdict, IsHeightVerdict, IsHullVerdict, solid_of, extruded}
 use Rattle.scad_meaning.specs.Bodies.{evaluated_in, is_child, children_in, is_marked, says_only, is_bare}
 use Rattle.scad_meaning.specs.Loops.{items_of, chosen_among}
-use Rattle.scad_meaning.specs.Meaning.{Stand, standing, chained, called_from, marked_from, extruding, setting, Made, Members, first_marked, made_nothing, no_members, as_member, and_members, made_of, Makes, assigned_value, assigned, each_assigned, core_of, each_member, each_in_scope, each_in_body, body_made, after_step, each_step, in_loop, each_turn, loop_made, leaf_made, checked, hulled, hull_made, answered_with, module_scope, module_made, each_said, arguments_for, children_made, flat_made, effect_made, built_in_made, call_made, core_made, marked_made, instance_made, made_within, program_stand, or_all, design_of}
+use Rattle.scad_meaning.specs.Meaning.{Context, inside_scope, with_chain, with_calls_left, inside_mark, inside_extrusion, setting, InstanceDesign, MemberDesigns, first_marked, no_design, no_members, as_member, and_members, joined_members, EvaluatesInstance, Evaluator, assigned_value, assigned, each_assigned, core_of, each_member, each_in_scope, each_in_body, body_design, after_step, each_step, in_loop, each_turn, loop_design, leaf_design, checked, hulled, hull_design, answered_with, module_scope, module_design, each_said, arguments_for, children_design, flat_design, effect_design, built_in_design, call_design, core_design, marked_design, instance_design, design_within, evaluator_with, program_context, or_all, design_of}
 use Rattle.scad_meaning.proofs.Choosing.{all_chosen}
 use Rattle.scad_meaning.proofs.HeldPlaces.{if_keeps, Whatever, Held, first_held, rest_held, ModuleHeld, ScopeHeld, CallHeld, module_found, call_found, variable_held, functions_held, modules_held, entered_held, body_held, AssignedHeld, assignments_held, InstanceHeld, evaluated_held, Keeps, then_keeps, skip_keeps, some_keeps, turn_keeps, call_keeps}
 use Rattle.scad_meaning.proofs.SoundShapes.{HasFlatSides, IsSoundCall, effect_sound, solid_is_shape, extruded_is_shape}
@@ -94,32 +94,32 @@ module _ (P : Place → Type 0) where
   moved_held steps (joined op left right) r h = (moved_held steps left r h.0, moved_held steps right r h.1)
 
   -- what instances give
-  abbrev MadeHeld : Made → Type 0
-  MadeHeld m = DesignHeld m.design × IfSome m.marked DesignHeld
+  abbrev DesignsHeld : InstanceDesign → Type 0
+  DesignsHeld m = DesignHeld m.design × IfSome m.marked DesignHeld
 
-  abbrev MembersHeld : Members → Type 0
+  abbrev MembersHeld : MemberDesigns → Type 0
   MembersHeld ms = All DesignHeld ms.designs × IfSome ms.marked DesignHeld
 
   first_marked_held : (x y : Option Design) → IfSome x DesignHeld → IfSome y DesignHeld → IfSome (first_marked x y) DesignHeld
   first_marked_held (Some d) y h g = h
   first_marked_held None y h g = g
 
-  and_held : (ms more : Members) → MembersHeld ms → MembersHeld more → MembersHeld (and_members ms more)
+  and_held : (ms more : MemberDesigns) → MembersHeld ms → MembersHeld more → MembersHeld (and_members ms more)
   and_held ms more h g = (All-append DesignHeld ms.designs more.designs h.0 g.0, first_marked_held ms.marked more.marked h.1 g.1)
 
-  as_member_held : (b : Bool) (m : Made) → MadeHeld m → MembersHeld (as_member b m)
+  as_member_held : (b : Bool) (m : InstanceDesign) → DesignsHeld m → MembersHeld (as_member b m)
   as_member_held true m h = (All-cons DesignHeld m.design [] h.0 (All-nil DesignHeld), h.1)
   as_member_held false m h = (All-nil DesignHeld, h.1)
 
   none_held : (leaves : ℕ) → MembersHeld (no_members leaves)
   none_held leaves = (All-nil DesignHeld, tt)
 
-  grouped_made : (op : Op) (ms : Members) → MembersHeld ms → MadeHeld (made_of op ms)
-  grouped_made op ms h = (grouped_held op ms.designs h.0, h.1)
+  grouped_members : (op : Op) (ms : MemberDesigns) → MembersHeld ms → DesignsHeld (joined_members op ms)
+  grouped_members op ms h = (grouped_held op ms.designs h.0, h.1)
 
-  leaf_keeps : (at : Place) (mesh : Mesh) (turns leaves : ℕ) → P at → IsShape mesh → Keeps P MadeHeld (leaf_made at mesh turns leaves)
+  leaf_keeps : (at : Place) (mesh : Mesh) (turns leaves : ℕ) → P at → IsShape mesh → Keeps P DesignsHeld (leaf_design at mesh turns leaves)
   leaf_keeps at mesh turns leaves p shape =
-      if_keeps (Keeps P MadeHeld) (nat_lt leaves 1024)
+      if_keeps (Keeps P DesignsHeld) (nat_lt leaves 1024)
       (Gives turns (record { leaves = leaves + 1; design = a_part (record { mesh = mesh; steps = []; at = at }); marked = None }))
       (Faults TooManyParts at) ((p, (shape, All-nil IsRegular)), tt) p
 
@@ -132,7 +132,7 @@ module _ (P : Place → Type 0) where
   effect_keeps R Q (Ok x) at go p r g = g x r
   effect_keeps R Q (Err kind) at go p r g = p
 
-  after_keeps : (Q : Members → Type 0) (at : Place) (designs : List Design) (turns : ℕ) (go : ℕ → Outcome Members)
+  after_keeps : (Q : MemberDesigns → Type 0) (at : Place) (designs : List Design) (turns : ℕ) (go : ℕ → Outcome MemberDesigns)
       → P at → ((n : ℕ) → Keeps P Q (go n)) → Keeps P Q (after_step at designs turns go)
   after_keeps Q at [] turns go p g = turn_keeps P Q at turns go p g
   after_keeps Q at (d ∷ ds) turns go p g = g turns
@@ -143,32 +143,32 @@ module _ (P : Place → Type 0) where
     IsSized None = Unit {0}
     IsSized (Some through) = AreSizes unit through.center (through.height ∷ [])
 
-    abbrev StandHeld : Stand → Type 0
-    StandHeld here = ScopeHeld P here.env × IsSized here.inside
+    abbrev ContextHeld : Context → Type 0
+    ContextHeld here = ScopeHeld P here.env × IsSized here.inside
 
-    sits : (left : ℕ) (here : Stand) → StandHeld here → Sits P (setting left here)
-    sits left here s = (evaluated_good P left, s.0)
+    sits : (evaluations : ℕ) (here : Context) → ContextHeld here → Sits P (setting evaluations here)
+    sits evaluations here s = (evaluated_good P evaluations, s.0)
 
-    assigned_keeps : (left : ℕ) (here : Stand) (a : Assigned) (turns : ℕ) → StandHeld here → AssignedHeld P a
-        → Keeps P Whatever (assigned_value left here a turns)
+    assigned_keeps : (evaluations : ℕ) (here : Context) (a : Assigned) (turns : ℕ) → ContextHeld here → AssignedHeld P a
+        → Keeps P Whatever (assigned_value evaluations here a turns)
     assigned_keeps zero here a turns s h = h.0
-    assigned_keeps (suc left) here a turns s h = value_keeps P (setting left here) (sits left here s) true a.value turns h.1
+    assigned_keeps (suc evaluations) here a turns s h = value_keeps P (setting evaluations here) (sits evaluations here s) true a.value turns h.1
 
-    still_held : (a : Assigned) (v : Val) (here : Stand) → StandHeld here → StandHeld (assigned a v here)
+    still_held : (a : Assigned) (v : Val) (here : Context) → ContextHeld here → ContextHeld (assigned a v here)
     still_held a v here s =
-        if_keeps StandHeld a.special (chained here ((a.name, v) ∷ here.chain)) (standing here (with_variable a.name v here.env)) s
+        if_keeps ContextHeld a.special (with_chain here ((a.name, v) ∷ here.chain)) (inside_scope here (with_variable a.name v here.env)) s
         (variable_held P a.name v here.env s.0, s.1)
 
-    assignments_keep : (left : ℕ) (here : Stand) (as_ : List Assigned) (turns : ℕ) → StandHeld here → AllByRecursion (AssignedHeld P) as_
-        → Keeps P StandHeld (each_assigned left here as_ turns)
-    assignments_keep left here [] turns s h = s
-    assignments_keep left here (a ∷ as_) turns s h =
-        skip_keeps P StandHeld (assigned_value left here a turns) _ (assigned_keeps left here a turns s h.0) (λ turns v.
-        assignments_keep left (assigned a v here) as_ turns (still_held a v here s) h.1)
+    assignments_keep : (evaluations : ℕ) (here : Context) (as_ : List Assigned) (turns : ℕ) → ContextHeld here → AllByRecursion (AssignedHeld P) as_
+        → Keeps P ContextHeld (each_assigned evaluations here as_ turns)
+    assignments_keep evaluations here [] turns s h = s
+    assignments_keep evaluations here (a ∷ as_) turns s h =
+        skip_keeps P ContextHeld (assigned_value evaluations here a turns) _ (assigned_keeps evaluations here a turns s h.0) (λ turns v.
+        assignments_keep evaluations (assigned a v here) as_ turns (still_held a v here s) h.1)
 
     -- instances one evaluation deeper
-    abbrev IsGood : Makes → Type 0
-    IsGood make = (here : Stand) (i : InstanceTerm) (turns leaves : ℕ) → StandHeld here → InstanceHeld P i → Keeps P MadeHeld (make here i turns leaves)
+    abbrev IsGood : EvaluatesInstance → Type 0
+    IsGood deeper = (here : Context) (i : InstanceTerm) (turns leaves : ℕ) → ContextHeld here → InstanceHeld P i → Keeps P DesignsHeld (deeper here i turns leaves)
 
     said_keeps : (here : Setting) → Sits P here → (args : ArgTerms) (given : Arguments) (turns : ℕ) → Held P (places_of_args args)
         → Keeps P Whatever (each_said here args given turns)
@@ -190,33 +190,36 @@ module _ (P : Place → Type 0) where
     given_keeps m here s args turns h = arguments_keep P here s (parameters_of m) 0 args (nothing_given (length (parameters_of m))) turns h
 
     module _ (judge : Judge) (right : IsRight judge) where
-      module _ (left : ℕ) (make : Makes) (good : IsGood make) where
-        members_keep : (here : Stand) (is : List InstanceTerm) (turns leaves : ℕ) → StandHeld here → All (InstanceHeld P) is
-            → Keeps P MembersHeld (each_member make here is turns leaves)
+      module _ (evaluations : ℕ) (deeper : EvaluatesInstance) (good : IsGood deeper) where
+        abbrev evaluator : Evaluator
+        evaluator = record { unit = unit; judge = judge; evaluations = evaluations; deeper = deeper }
+
+        members_keep : (here : Context) (is : List InstanceTerm) (turns leaves : ℕ) → ContextHeld here → All (InstanceHeld P) is
+            → Keeps P MembersHeld (each_member evaluator here is turns leaves)
         members_keep here [] turns leaves s h = none_held leaves
         members_keep here (i ∷ is) turns leaves s h =
-            then_keeps P MadeHeld MembersHeld (make here i turns leaves) _ (good here i turns leaves s (All-head (InstanceHeld P) i is h)) (λ turns m k.
-            then_keeps P MembersHeld MembersHeld (each_member make here is turns m.leaves) _
+            then_keeps P DesignsHeld MembersHeld (deeper here i turns leaves) _ (good here i turns leaves s (All-head (InstanceHeld P) i is h)) (λ turns m k.
+            then_keeps P MembersHeld MembersHeld (each_member evaluator here is turns m.leaves) _
             (members_keep here is turns m.leaves s (All-tail (InstanceHeld P) i is h)) (λ turns ms g.
             and_held (as_member (if says_only here.env (core_of i) then false else true) m) ms
             (as_member_held (if says_only here.env (core_of i) then false else true) m k) g))
 
-        scope_keeps : (here : Stand) (statements : StatementTerms) (turns leaves : ℕ) → StandHeld here → Held P (places_of_statements statements)
-            → Keeps P MembersHeld (each_in_scope left make here statements turns leaves)
+        scope_keeps : (here : Context) (statements : StatementTerms) (turns leaves : ℕ) → ContextHeld here → Held P (places_of_statements statements)
+            → Keeps P MembersHeld (each_in_scope evaluator here statements turns leaves)
         scope_keeps here statements turns leaves s h =
-            then_keeps P StandHeld MembersHeld (each_assigned left here (assignments_of statements) turns) _
-            (assignments_keep left here (assignments_of statements) turns s (assignments_held P statements h)) (λ turns there k.
+            then_keeps P ContextHeld MembersHeld (each_assigned evaluations here (assignments_of statements) turns) _
+            (assignments_keep evaluations here (assignments_of statements) turns s (assignments_held P statements h)) (λ turns there k.
             members_keep there (evaluated_in statements) turns leaves k (evaluated_held P statements h))
 
-        body_keeps : (op : Op) (here : Stand) (body : BodyTerm) (turns leaves : ℕ) → StandHeld here → Held P (places_of_body body)
-            → Keeps P MadeHeld (body_made left make op here body turns leaves)
+        body_keeps : (op : Op) (here : Context) (body : BodyTerm) (turns leaves : ℕ) → ContextHeld here → Held P (places_of_body body)
+            → Keeps P DesignsHeld (body_design evaluator op here body turns leaves)
         body_keeps op here body turns leaves s h =
-            then_keeps P MembersHeld MadeHeld (each_in_body left make here body turns leaves) _
-            (scope_keeps (standing here (entered_scope (statements_of_body body) no_call here.env)) (statements_of_body body) turns leaves
+            then_keeps P MembersHeld DesignsHeld (each_in_body evaluator here body turns leaves) _
+            (scope_keeps (inside_scope here (entered_scope (statements_of_body body) no_call here.env)) (statements_of_body body) turns leaves
             (entered_held P (statements_of_body body) no_call here.env (body_held P body h) tt s.0, s.1) (body_held P body h))
-            (λ turns ms k. grouped_made op ms k)
+            (λ turns ms k. grouped_members op ms k)
 
-        steps_keep : (at : Place) (step : Val → ℕ → ℕ → Outcome Members) → P at
+        steps_keep : (at : Place) (step : Val → ℕ → ℕ → Outcome MemberDesigns) → P at
             → ((v : Val) (turns leaves : ℕ) → Keeps P MembersHeld (step v turns leaves))
             → (vs : Vals) (turns leaves : ℕ) → Keeps P MembersHeld (each_step at step vs turns leaves)
         steps_keep at step p g no_vals turns leaves = none_held leaves
@@ -227,140 +230,140 @@ module _ (P : Place → Type 0) where
             then_keeps P MembersHeld MembersHeld (each_step at step vs turns ms.leaves) _ (steps_keep at step p g vs turns ms.leaves) (λ turns more k.
             and_held ms more h k)))
 
-        turns_keep : (at : Place) (binders : List BinderTerm) (body : BodyTerm) (here : Stand) (turns leaves : ℕ) → P at
-            → Held P (flat_map places_of_binder binders) → Held P (places_of_body body) → StandHeld here
-            → Keeps P MembersHeld (each_turn left make at binders body here turns leaves)
+        turns_keep : (at : Place) (binders : List BinderTerm) (body : BodyTerm) (here : Context) (turns leaves : ℕ) → P at
+            → Held P (flat_map places_of_binder binders) → Held P (places_of_body body) → ContextHeld here
+            → Keeps P MembersHeld (each_turn evaluator at binders body here turns leaves)
         turns_keep at [] body here turns leaves p h k s =
             turn_keeps P MembersHeld at turns
-            (λ turns. then_with (body_made left make Union here body turns leaves) (λ turns m. Gives turns (as_member true m))) p (λ turns.
-            then_keeps P MadeHeld MembersHeld (body_made left make Union here body turns leaves) _ (body_keeps Union here body turns leaves s k) (λ turns m g.
+            (λ turns. then_with (body_design evaluator Union here body turns leaves) (λ turns m. Gives turns (as_member true m))) p (λ turns.
+            then_keeps P DesignsHeld MembersHeld (body_design evaluator Union here body turns leaves) _ (body_keeps Union here body turns leaves s k) (λ turns m g.
             as_member_held true m g))
         turns_keep at (b ∷ bs) body here turns leaves p h k s =
             let first = first_held P (places_of_binder b) (flat_map places_of_binder bs) h in
-            skip_keeps P MembersHeld (value_at (setting left here) true b.values turns) _
-            (value_keeps P (setting left here) (sits left here s) true b.values turns first.1) (λ turns v.
+            skip_keeps P MembersHeld (value_at (setting evaluations here) true b.values turns) _
+            (value_keeps P (setting evaluations here) (sits evaluations here s) true b.values turns first.1) (λ turns v.
             some_keeps P MembersHeld (items_of v) TypeMismatch at _ p (λ items.
-            steps_keep at (λ item. each_turn left make at bs body (in_loop here b.name item)) p
+            steps_keep at (λ item. each_turn evaluator at bs body (in_loop here b.name item)) p
             (λ item turns leaves. turns_keep at bs body (in_loop here b.name item) turns leaves p
             (rest_held P (places_of_binder b) (flat_map places_of_binder bs) h) k ((tt, tt, tt, s.0), s.1)) items turns leaves))
 
-        loop_keeps : (op : Op) (here : Stand) (at : Place) (binders : List BinderTerm) (body : BodyTerm) (turns leaves : ℕ) → P at
-            → Held P (flat_map places_of_binder binders ++ places_of_body body) → StandHeld here
-            → Keeps P MadeHeld (loop_made left make op here at binders body turns leaves)
+        loop_keeps : (op : Op) (here : Context) (at : Place) (binders : List BinderTerm) (body : BodyTerm) (turns leaves : ℕ) → P at
+            → Held P (flat_map places_of_binder binders ++ places_of_body body) → ContextHeld here
+            → Keeps P DesignsHeld (loop_design evaluator op here at binders body turns leaves)
         loop_keeps op here at binders body turns leaves p h s =
-            then_keeps P MembersHeld MadeHeld (each_turn left make at binders body here turns leaves) _
+            then_keeps P MembersHeld DesignsHeld (each_turn evaluator at binders body here turns leaves) _
             (turns_keep at binders body here turns leaves p (first_held P (flat_map places_of_binder binders) (places_of_body body) h)
             (rest_held P (flat_map places_of_binder binders) (places_of_body body) h) s)
-            (λ turns ms k. grouped_made op ms k)
+            (λ turns ms k. grouped_members op ms k)
 
-        children_keep : (here : Stand) (call : Opened) (chosen : ChosenCall) (turns leaves : ℕ) → CallHeld P call → IsSized here.inside
-            → Keeps P MadeHeld (children_made left make here call chosen turns leaves)
+        children_keep : (here : Context) (call : Opened) (chosen : ChosenCall) (turns leaves : ℕ) → CallHeld P call → IsSized here.inside
+            → Keeps P DesignsHeld (children_design evaluator here call chosen turns leaves)
         children_keep here no_call chosen turns leaves c i = (tt, tt)
         children_keep here (opened children caller) chosen turns leaves c i =
-            then_keeps P StandHeld MadeHeld (each_assigned left (standing here (entered_scope children no_call caller)) (assignments_of children) turns) _
-            (assignments_keep left (standing here (entered_scope children no_call caller)) (assignments_of children) turns
+            then_keeps P ContextHeld DesignsHeld (each_assigned evaluations (inside_scope here (entered_scope children no_call caller)) (assignments_of children) turns) _
+            (assignments_keep evaluations (inside_scope here (entered_scope children no_call caller)) (assignments_of children) turns
             (entered_held P children no_call caller c.0 tt c.1, i) (assignments_held P children c.0)) (λ turns there s.
-            then_keeps P MembersHeld MadeHeld (each_member make there (chosen_among (children_in there.env children) chosen) turns leaves) _
+            then_keeps P MembersHeld DesignsHeld (each_member evaluator there (chosen_among (children_in there.env children) chosen) turns leaves) _
             (members_keep there (chosen_among (children_in there.env children) chosen) turns leaves s
             (all_chosen (InstanceHeld P) (children_in there.env children) chosen
             (All-filter (is_child there.env) (InstanceHeld P) (evaluated_in children) (evaluated_held P children c.0))))
-            (λ turns ms k. grouped_made Union ms k))
+            (λ turns ms k. grouped_members Union ms k))
 
         flat_keeps : (inside : Option Extrusion) (at : Place) (call : FlatCall) (turns leaves : ℕ) → P at → IsSized inside → HasFlatSides call
-            → Keeps P MadeHeld (flat_made unit judge inside at call turns leaves)
+            → Keeps P DesignsHeld (flat_design evaluator inside at call turns leaves)
         flat_keeps None at call turns leaves p i sides = p
         flat_keeps (Some through) at call turns leaves p i sides =
-            checked_keeps MadeHeld (judge.flat unit call) at (leaf_made at (extruded unit through call) turns leaves) p (λ none.
+            checked_keeps DesignsHeld (judge.flat unit call) at (leaf_design at (extruded unit through call) turns leaves) p (λ none.
             leaf_keeps at (extruded unit through call) turns leaves p
             (extruded_is_shape unit through call i sides (subst (IsFlatVerdict unit call) none (right.flat unit call))))
 
-        hull_keeps : (at : Place) (m : Made) (turns : ℕ) → P at → MadeHeld m → Keeps P MadeHeld (hull_made (judge.hull m.design) at m turns)
+        hull_keeps : (at : Place) (m : InstanceDesign) (turns : ℕ) → P at → DesignsHeld m → Keeps P DesignsHeld (hull_design (judge.hull m.design) at m turns)
         hull_keeps at m turns p k =
-            let next : Outcome Made = then_with (leaf_made at (hull_mesh m.design) turns m.leaves) (λ turns leaf. Gives turns (hulled m leaf)) in
-            if_keeps (Keeps P MadeHeld) (is_nothing m.design) (Gives turns m) (checked (judge.hull m.design) at next) k
-            (checked_keeps MadeHeld (judge.hull m.design) at next p (λ none.
-            then_keeps P MadeHeld MadeHeld (leaf_made at (hull_mesh m.design) turns m.leaves) _
+            let next : Outcome InstanceDesign = then_with (leaf_design at (hull_mesh m.design) turns m.leaves) (λ turns leaf. Gives turns (hulled m leaf)) in
+            if_keeps (Keeps P DesignsHeld) (is_nothing m.design) (Gives turns m) (checked (judge.hull m.design) at next) k
+            (checked_keeps DesignsHeld (judge.hull m.design) at next p (λ none.
+            then_keeps P DesignsHeld DesignsHeld (leaf_design at (hull_mesh m.design) turns m.leaves) _
             (leaf_keeps at (hull_mesh m.design) turns m.leaves p
             (hull_is_shape (points_of m.design) (subst (IsHullVerdict m.design) none (right.hull m.design)).points))
             (λ turns leaf g. (g.0, k.1))))
 
-        call_effect_keeps : (here : Stand) (at : Place) (effect : EffectCall) (body : BodyTerm) (turns leaves : ℕ) → P at
-            → Held P (places_of_body body) → StandHeld here → IsSoundCall effect
-            → Keeps P MadeHeld (effect_made unit judge left make here at effect body turns leaves)
+        call_effect_keeps : (here : Context) (at : Place) (effect : EffectCall) (body : BodyTerm) (turns leaves : ℕ) → P at
+            → Held P (places_of_body body) → ContextHeld here → IsSoundCall effect
+            → Keeps P DesignsHeld (effect_design evaluator here at effect body turns leaves)
         call_effect_keeps here at (a_solid call) body turns leaves p h s sound =
-            checked_keeps MadeHeld (judge.solid unit call) at (leaf_made at (solid_of unit call) turns leaves) p (λ none.
+            checked_keeps DesignsHeld (judge.solid unit call) at (leaf_design at (solid_of unit call) turns leaves) p (λ none.
             leaf_keeps at (solid_of unit call) turns leaves p
             (solid_is_shape unit call sound (subst (IsSolidVerdict unit call) none (right.solid unit call))))
         call_effect_keeps here at (a_flat call) body turns leaves p h s sound = flat_keeps here.inside at call turns leaves p s.1 sound
         call_effect_keeps here at (a_move steps) body turns leaves p h s sound =
-            then_keeps P MadeHeld MadeHeld (body_made left make Union here body turns leaves) _ (body_keeps Union here body turns leaves s h)
+            then_keeps P DesignsHeld DesignsHeld (body_design evaluator Union here body turns leaves) _ (body_keeps Union here body turns leaves s h)
             (λ turns m k. (moved_held steps m.design sound k.0, k.1))
         call_effect_keeps here at (a_join op) body turns leaves p h s sound = body_keeps op here body turns leaves s h
         call_effect_keeps here at a_hull body turns leaves p h s sound =
-            then_keeps P MadeHeld MadeHeld (body_made left make Union here body turns leaves) _ (body_keeps Union here body turns leaves s h)
+            then_keeps P DesignsHeld DesignsHeld (body_design evaluator Union here body turns leaves) _ (body_keeps Union here body turns leaves s h)
             (λ turns m k. hull_keeps at m turns p k)
         call_effect_keeps here at (an_extrusion center height) body turns leaves p h s sound =
-            checked_keeps MadeHeld (judge.height unit center height) at
-            (body_made left make Union (extruding here (record { center = center; height = height })) body turns leaves) p (λ none.
-            body_keeps Union (extruding here (record { center = center; height = height })) body turns leaves
+            checked_keeps DesignsHeld (judge.height unit center height) at
+            (body_design evaluator Union (inside_extrusion here (record { center = center; height = height })) body turns leaves) p (λ none.
+            body_keeps Union (inside_extrusion here (record { center = center; height = height })) body turns leaves
             (s.0, subst (IsHeightVerdict unit center height) none (right.height unit center height)) h)
         call_effect_keeps here at silence body turns leaves p h s sound =
-            if_keeps (Keeps P MadeHeld) (is_bare body) (Gives turns (made_nothing leaves)) (Faults NotInProfile at) (tt, tt) p
+            if_keeps (Keeps P DesignsHeld) (is_bare body) (Gives turns (no_design leaves)) (Faults NotInProfile at) (tt, tt) p
         call_effect_keeps here at (some_children chosen) body turns leaves p h s sound =
-            call_keeps P MadeHeld here.calls at _ p (λ calls.
-            children_keep (called_from here calls) (call_in here.env) chosen turns leaves (call_found P here.env s.0) s.1)
+            call_keeps P DesignsHeld here.calls at _ p (λ calls.
+            children_keep (with_calls_left here calls) (call_in here.env) chosen turns leaves (call_found P here.env s.0) s.1)
 
-        built_in_keeps : (here : Stand) (at : Place) (name : List ℕ) (args : List ArgTerm) (body : BodyTerm) (found : Option BuiltinModule) (turns leaves : ℕ)
-            → P at → Held P (places_of_args (args_from args)) → Held P (places_of_body body) → StandHeld here
-            → Keeps P MadeHeld (built_in_made unit judge left make here at name args body found turns leaves)
+        built_in_keeps : (here : Context) (at : Place) (name : List ℕ) (args : List ArgTerm) (body : BodyTerm) (found : Option BuiltinModule) (turns leaves : ℕ)
+            → P at → Held P (places_of_args (args_from args)) → Held P (places_of_body body) → ContextHeld here
+            → Keeps P DesignsHeld (built_in_design evaluator here at name args body found turns leaves)
         built_in_keeps here at name args body None turns leaves p a h s = p
         built_in_keeps here at name args body (Some m) turns leaves p a h s =
-            skip_keeps P MadeHeld (arguments_for m (setting left here) (args_from args) turns) _
-            (given_keeps m (setting left here) (sits left here s) (args_from args) turns a) (λ turns given.
-            effect_keeps IsSoundCall MadeHeld (effect_of unit (is_some here.inside) (find_in (given.specials ++ here.chain) (codes "fn")) m given.slots) at _ p
+            skip_keeps P DesignsHeld (arguments_for m (setting evaluations here) (args_from args) turns) _
+            (given_keeps m (setting evaluations here) (sits evaluations here s) (args_from args) turns a) (λ turns given.
+            effect_keeps IsSoundCall DesignsHeld (effect_of unit (is_some here.inside) (find_in (given.specials ++ here.chain) (codes "fn")) m given.slots) at _ p
             (effect_sound unit (is_some here.inside) (find_in (given.specials ++ here.chain) (codes "fn")) m given.slots) (λ effect sound.
-            call_effect_keeps (chained here (given.specials ++ here.chain)) at effect body turns leaves p h s sound))
+            call_effect_keeps (with_chain here (given.specials ++ here.chain)) at effect body turns leaves p h s sound))
 
-        module_keeps : (here : Stand) (at : Place) (found : Module × Env) (given : Arguments) (body : BodyTerm) (turns leaves : ℕ) → P at
-            → ModuleHeld P found.0 → ScopeHeld P found.1 → Held P (places_of_body body) → StandHeld here
-            → Keeps P MadeHeld (module_made left make here at found given body turns leaves)
+        module_keeps : (here : Context) (at : Place) (found : Module × Env) (given : Arguments) (body : BodyTerm) (turns leaves : ℕ) → P at
+            → ModuleHeld P found.0 → ScopeHeld P found.1 → Held P (places_of_body body) → ContextHeld here
+            → Keeps P DesignsHeld (module_design evaluator here at found given body turns leaves)
         module_keeps here at found given body turns leaves p m o h s =
-            call_keeps P MadeHeld here.calls at _ p (λ calls.
-            let there = called_from (chained here (given.specials ++ here.chain)) calls in
-            turn_keeps P MadeHeld at turns
-            (λ turns. then_with (each_parameter (setting left (standing there found.1)) found.0.params given.slots turns) (λ turns vs.
-            then_with (each_in_scope left make (standing there (module_scope found.1 found.0 vs (statements_of_body body) here.env)) (statements_of_body found.0.body) turns leaves) (λ turns ms.
-            Gives turns (made_of Union ms)))) p (λ turns.
-            skip_keeps P MadeHeld (each_parameter (setting left (standing there found.1)) found.0.params given.slots turns) _
-            (parameters_keep P (setting left (standing there found.1)) (sits left (standing there found.1) (o, s.1)) found.0.params given.slots turns m.0) (λ turns vs.
-            let inner = standing there (module_scope found.1 found.0 vs (statements_of_body body) here.env) in
+            call_keeps P DesignsHeld here.calls at _ p (λ calls.
+            let there = with_calls_left (with_chain here (given.specials ++ here.chain)) calls in
+            turn_keeps P DesignsHeld at turns
+            (λ turns. then_with (each_parameter (setting evaluations (inside_scope there found.1)) found.0.params given.slots turns) (λ turns vs.
+            then_with (each_in_scope evaluator (inside_scope there (module_scope found.1 found.0 vs (statements_of_body body) here.env)) (statements_of_body found.0.body) turns leaves) (λ turns ms.
+            Gives turns (joined_members Union ms)))) p (λ turns.
+            skip_keeps P DesignsHeld (each_parameter (setting evaluations (inside_scope there found.1)) found.0.params given.slots turns) _
+            (parameters_keep P (setting evaluations (inside_scope there found.1)) (sits evaluations (inside_scope there found.1) (o, s.1)) found.0.params given.slots turns m.0) (λ turns vs.
+            let inner = inside_scope there (module_scope found.1 found.0 vs (statements_of_body body) here.env) in
             let own = body_held P found.0.body m.1 in
-            then_keeps P MembersHeld MadeHeld (each_in_scope left make inner (statements_of_body found.0.body) turns leaves) _
+            then_keeps P MembersHeld DesignsHeld (each_in_scope evaluator inner (statements_of_body found.0.body) turns leaves) _
             (scope_keeps inner (statements_of_body found.0.body) turns leaves
             ((functions_held P (statements_of_body found.0.body) own, modules_held P (statements_of_body found.0.body) own, (body_held P body h, s.0), o), s.1) own)
-            (λ turns ms k. grouped_made Union ms k))))
+            (λ turns ms k. grouped_members Union ms k))))
 
-        called_keeps : (here : Stand) (at : Place) (name : List ℕ) (args : List ArgTerm) (body : BodyTerm) (found : Option (Module × Env)) (turns leaves : ℕ)
-            → P at → Held P (places_of_args (args_from args)) → Held P (places_of_body body) → StandHeld here
+        called_keeps : (here : Context) (at : Place) (name : List ℕ) (args : List ArgTerm) (body : BodyTerm) (found : Option (Module × Env)) (turns leaves : ℕ)
+            → P at → Held P (places_of_args (args_from args)) → Held P (places_of_body body) → ContextHeld here
             → IfSome found (λ f. ModuleHeld P f.0 × ScopeHeld P f.1)
-            → Keeps P MadeHeld (call_made unit judge left make here at name args body found turns leaves)
+            → Keeps P DesignsHeld (call_design evaluator here at name args body found turns leaves)
         called_keeps here at name args body (Some found) turns leaves p a h s f =
-            skip_keeps P MadeHeld (each_argument (setting left here) (names_of found.0.params) 0 (args_from args) (nothing_given (length found.0.params)) turns) _
-            (arguments_keep P (setting left here) (sits left here s) (names_of found.0.params) 0 (args_from args) (nothing_given (length found.0.params)) turns a)
+            skip_keeps P DesignsHeld (each_argument (setting evaluations here) (names_of found.0.params) 0 (args_from args) (nothing_given (length found.0.params)) turns) _
+            (arguments_keep P (setting evaluations here) (sits evaluations here s) (names_of found.0.params) 0 (args_from args) (nothing_given (length found.0.params)) turns a)
             (λ turns given. module_keeps here at found given body turns leaves p f.0 f.1 h s)
         called_keeps here at name args body None turns leaves p a h s f = built_in_keeps here at name args body (module_named name) turns leaves p a h s
 
-        core_keeps : (here : Stand) (core : CoreTerm) (turns leaves : ℕ) → StandHeld here → Held P (places_of_core core)
-            → Keeps P MadeHeld (core_made unit judge left make here core turns leaves)
+        core_keeps : (here : Context) (core : CoreTerm) (turns leaves : ℕ) → ContextHeld here → Held P (places_of_core core)
+            → Keeps P DesignsHeld (core_design evaluator here core turns leaves)
         core_keeps here (IfTerm at test body) turns leaves s h =
-            skip_keeps P MadeHeld (value_at (setting left here) true test turns) _
-            (value_keeps P (setting left here) (sits left here s) true test turns (first_held P (places_of_term test) (places_of_body body) h.1)) (λ turns v.
-            if_keeps (Keeps P MadeHeld) (truth_of v) (body_made left make Union here body turns leaves) (Gives turns (made_nothing leaves))
+            skip_keeps P DesignsHeld (value_at (setting evaluations here) true test turns) _
+            (value_keeps P (setting evaluations here) (sits evaluations here s) true test turns (first_held P (places_of_term test) (places_of_body body) h.1)) (λ turns v.
+            if_keeps (Keeps P DesignsHeld) (truth_of v) (body_design evaluator Union here body turns leaves) (Gives turns (no_design leaves))
             (body_keeps Union here body turns leaves s (rest_held P (places_of_term test) (places_of_body body) h.1)) (tt, tt))
         core_keeps here (IfElseTerm at test body other) turns leaves s h =
             let both = first_held P (places_of_term test ++ places_of_body body) (places_of_body other) h.1 in
-            skip_keeps P MadeHeld (value_at (setting left here) true test turns) _
-            (value_keeps P (setting left here) (sits left here s) true test turns (first_held P (places_of_term test) (places_of_body body) both)) (λ turns v.
+            skip_keeps P DesignsHeld (value_at (setting evaluations here) true test turns) _
+            (value_keeps P (setting evaluations here) (sits evaluations here s) true test turns (first_held P (places_of_term test) (places_of_body body) both)) (λ turns v.
             body_keeps Union here (if truth_of v then body else other) turns leaves s
             (if_keeps (λ b. Held P (places_of_body b)) (truth_of v) body other (rest_held P (places_of_term test) (places_of_body body) both)
             (rest_held P (places_of_term test ++ places_of_body body) (places_of_body other) h.1)))
@@ -371,12 +374,12 @@ module _ (P : Place → Type 0) where
             (first_held P (places_of_args (args_from args)) (places_of_body body) h.1) (rest_held P (places_of_args (args_from args)) (places_of_body body) h.1)
             s (module_found P here.env name s.0)
 
-        marked_keeps : (here : Stand) (core : CoreTerm) (turns leaves : ℕ) → StandHeld here → Held P (places_of_core core)
-            → Keeps P MadeHeld (marked_made unit judge left make here core turns leaves)
+        marked_keeps : (here : Context) (core : CoreTerm) (turns leaves : ℕ) → ContextHeld here → Held P (places_of_core core)
+            → Keeps P DesignsHeld (marked_design evaluator here core turns leaves)
         marked_keeps here core turns leaves s h =
-            if_keeps (Keeps P MadeHeld) here.under_mark (core_made unit judge left make here core turns leaves) _ (core_keeps here core turns leaves s h)
-            (then_keeps P MadeHeld MadeHeld (core_made unit judge left make (marked_from here) core turns leaves) _
-            (core_keeps (marked_from here) core turns leaves s h) (λ turns m k. (tt, k.0)))
+            if_keeps (Keeps P DesignsHeld) here.under_mark (core_design evaluator here core turns leaves) _ (core_keeps here core turns leaves s h)
+            (then_keeps P DesignsHeld DesignsHeld (core_design evaluator (inside_mark here) core turns leaves) _
+            (core_keeps (inside_mark here) core turns leaves s h) (λ turns m k. (tt, k.0)))
 
         core_place_held : (core : CoreTerm) → Held P (places_of_core core) → P (place_of_core core)
         core_place_held (IfTerm at test body) h = h.0
@@ -385,17 +388,17 @@ module _ (P : Place → Type 0) where
         core_place_held (IntersectionForTerm at binders body) h = h.0
         core_place_held (ModuleCallTerm at name args body) h = h.0
 
-        instance_keeps : IsGood (instance_made unit judge left make)
+        instance_keeps : IsGood (instance_design evaluator)
         instance_keeps here (AnInstance at marks core) turns leaves s h =
             let inner = rest_held P (flat_map places_of_mark marks) (places_of_core core) h.1 in
-            if_keeps (Keeps P MadeHeld) (is_marked (AnInstance at marks core)) _ (core_made unit judge left make here core turns leaves)
-            (if_keeps (Keeps P MadeHeld) (is_some here.inside) (Faults WrongDimension (place_of_core core)) (marked_made unit judge left make here core turns leaves)
+            if_keeps (Keeps P DesignsHeld) (is_marked (AnInstance at marks core)) _ (core_design evaluator here core turns leaves)
+            (if_keeps (Keeps P DesignsHeld) (is_some here.inside) (Faults WrongDimension (place_of_core core)) (marked_design evaluator here core turns leaves)
             (core_place_held core inner) (marked_keeps here core turns leaves s inner)) (core_keeps here core turns leaves s inner)
 
-      within_keeps : (left : ℕ) → IsGood (made_within unit judge left)
-      unfolding made_within
+      within_keeps : (evaluations : ℕ) → IsGood (design_within unit judge evaluations)
+      unfolding design_within
       within_keeps zero here (AnInstance at marks core) turns leaves s h = h.0
-      within_keeps (suc left) here i turns leaves s h = instance_keeps left (made_within unit judge left) (within_keeps left) here i turns leaves s h
+      within_keeps (suc evaluations) here i turns leaves s h = instance_keeps evaluations (design_within unit judge evaluations) (within_keeps evaluations) here i turns leaves s h
 
       -- the design of a program
       or_all_held : (marked : Option Design) (designs : List Design) → IfSome marked DesignHeld → All DesignHeld designs → DesignHeld (or_all marked designs)
@@ -406,7 +409,7 @@ module _ (P : Place → Type 0) where
           → Keeps P DesignHeld (design_of unit judge chain statements)
       unfolding design_of
       design_keeps chain statements h =
-          then_keeps P MembersHeld DesignHeld (each_in_scope 512 (made_within unit judge 512) (program_stand chain statements) statements 0 0) _
-          (scope_keeps 512 (made_within unit judge 512) (within_keeps 512) (program_stand chain statements) statements 0 0
+          then_keeps P MembersHeld DesignHeld (each_in_scope (evaluator_with unit judge 512) (program_context chain statements) statements 0 0) _
+          (scope_keeps 512 (design_within unit judge 512) (within_keeps 512) (program_context chain statements) statements 0 0
           (entered_held P statements no_call (Within [] [] [] no_call Outermost) h tt (tt, tt, tt, tt), tt) h)
           (λ turns ms k. or_all_held ms.marked ms.designs k.1 k.0)

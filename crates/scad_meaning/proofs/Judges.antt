@@ -318,45 +318,45 @@ polyhedron_verdict unit points faces =
     (decided_limits points faces)
 
 -- the judge
-abbrev told : {P : Type 0} {F : FaultKind → Type 0} → P ⊎ ((kind : FaultKind) × F kind) → Verdict
-told (inl p) = None
-told (inr f) = Some f.0
+abbrev verdict_of : {P : Type 0} {F : FaultKind → Type 0} → P ⊎ ((kind : FaultKind) × F kind) → Verdict
+verdict_of (inl p) = None
+verdict_of (inr f) = Some f.0
 
 judged_solid : LengthUnit → SolidCall → Verdict
-judged_solid unit (cube_call center size) = told (size_verdict unit center size)
-judged_solid unit (polyhedron_call points faces) = told (polyhedron_verdict unit points faces)
-judged_solid unit (cylinder_call center height low high) = told (cylinder_verdict unit center height low high)
+judged_solid unit (cube_call center size) = verdict_of (size_verdict unit center size)
+judged_solid unit (polyhedron_call points faces) = verdict_of (polyhedron_verdict unit points faces)
+judged_solid unit (cylinder_call center height low high) = verdict_of (cylinder_verdict unit center height low high)
 
 judged_flat : LengthUnit → FlatCall → Verdict
-judged_flat unit (square_call center size) = told (size_verdict unit center size)
-judged_flat unit (polygon_call points) = told (polygon_verdict unit points)
-judged_flat unit (circle_call radius) = told (circle_verdict unit radius)
+judged_flat unit (square_call center size) = verdict_of (size_verdict unit center size)
+judged_flat unit (polygon_call points) = verdict_of (polygon_verdict unit points)
+judged_flat unit (circle_call radius) = verdict_of (circle_verdict unit radius)
 
-size_right : (unit : LengthUnit) (center : Bool) (size : List ℤ) (v : SizeVerdict unit center size) → IsSolidVerdict unit (cube_call center size) (told v)
+size_right : (unit : LengthUnit) (center : Bool) (size : List ℤ) (v : SizeVerdict unit center size) → IsSolidVerdict unit (cube_call center size) (verdict_of v)
 size_right unit center size (inl h) = h
 size_right unit center size (inr f) = f.1
 
-polyhedron_right : (unit : LengthUnit) (points : List (List ℤ)) (faces : List (List ℕ)) (v : PolyhedronVerdict unit points faces) → IsSolidVerdict unit (polyhedron_call points faces) (told v)
+polyhedron_right : (unit : LengthUnit) (points : List (List ℤ)) (faces : List (List ℕ)) (v : PolyhedronVerdict unit points faces) → IsSolidVerdict unit (polyhedron_call points faces) (verdict_of v)
 polyhedron_right unit points faces (inl h) = h
 polyhedron_right unit points faces (inr f) = f.1
 
-cylinder_right : (unit : LengthUnit) (center : Bool) (height low high : ℤ) (v : CylinderVerdict unit center height low high) → IsSolidVerdict unit (cylinder_call center height low high) (told v)
+cylinder_right : (unit : LengthUnit) (center : Bool) (height low high : ℤ) (v : CylinderVerdict unit center height low high) → IsSolidVerdict unit (cylinder_call center height low high) (verdict_of v)
 cylinder_right unit center height low high (inl h) = h
 cylinder_right unit center height low high (inr f) = f.1
 
-square_right : (unit : LengthUnit) (center : Bool) (size : List ℤ) (v : SizeVerdict unit center size) → IsFlatVerdict unit (square_call center size) (told v)
+square_right : (unit : LengthUnit) (center : Bool) (size : List ℤ) (v : SizeVerdict unit center size) → IsFlatVerdict unit (square_call center size) (verdict_of v)
 square_right unit center size (inl h) = h
 square_right unit center size (inr f) = f.1
 
-polygon_right : (unit : LengthUnit) (points : List (List ℤ)) (v : PolygonVerdict unit points) → IsFlatVerdict unit (polygon_call points) (told v)
+polygon_right : (unit : LengthUnit) (points : List (List ℤ)) (v : PolygonVerdict unit points) → IsFlatVerdict unit (polygon_call points) (verdict_of v)
 polygon_right unit points (inl h) = h
 polygon_right unit points (inr f) = f.1
 
-circle_right : (unit : LengthUnit) (radius : ℤ) (v : CircleVerdict unit radius) → IsFlatVerdict unit (circle_call radius) (told v)
+circle_right : (unit : LengthUnit) (radius : ℤ) (v : CircleVerdict unit radius) → IsFlatVerdict unit (circle_call radius) (verdict_of v)
 circle_right unit radius (inl h) = h
 circle_right unit radius (inr f) = f.1
 
-height_right : (unit : LengthUnit) (center : Bool) (height : ℤ) (v : SizeVerdict unit center (height ∷ [])) → IsHeightVerdict unit center height (told v)
+height_right : (unit : LengthUnit) (center : Bool) (height : ℤ) (v : SizeVerdict unit center (height ∷ [])) → IsHeightVerdict unit center height (verdict_of v)
 height_right unit center height (inl h) = h
 height_right unit center height (inr f) = f.1
 
@@ -372,7 +372,7 @@ flat_right unit (square_call center size) = square_right unit center size (size_
 flat_right unit (polygon_call points) = polygon_right unit points (polygon_verdict unit points)
 flat_right unit (circle_call radius) = circle_right unit radius (circle_verdict unit radius)
 
-hull_right : (design : Design) (v : HullVerdict design) → IsHullVerdict design (told v)
+hull_right : (design : Design) (v : HullVerdict design) → IsHullVerdict design (verdict_of v)
 hull_right design (inl h) = h
 hull_right design (inr f) = f.1
 
@@ -380,8 +380,8 @@ abbrev the_judge : Judge
 the_judge = record {
   solid = judged_solid;
   flat = judged_flat;
-  height = λ unit center height. told (size_verdict unit center (height ∷ []));
-  hull = λ design. told (hull_verdict design);
+  height = λ unit center height. verdict_of (size_verdict unit center (height ∷ []));
+  hull = λ design. verdict_of (hull_verdict design);
 }
 
 pub some_judge : (judge : Judge) × IsRight judge

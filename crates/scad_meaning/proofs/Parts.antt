@@ -31,7 +31,7 @@ use Rattle.scad_meaning.specs.Hulls.{is_nothing, hull_mesh}
 use Rattle.scad_meaning.specs.Verdicts.{Judge, Verdict, solid_of, extruded}
 use Rattle.scad_meaning.specs.Bodies.{evaluated_in, children_in, is_marked, says_only, is_bare}
 use Rattle.scad_meaning.specs.Loops.{items_of, chosen_among}
-use Rattle.scad_meaning.specs.Meaning.{Stand, standing, chained, called_from, marked_from, extruding, setting, Made, Members, first_marked, made_nothing, no_members, as_member, and_members, made_of, made_moved, Makes, each_assigned, core_of, each_member, each_in_scope, each_in_body, body_made, after_step, each_step, in_loop, each_turn, loop_made, leaf_made, checked, hulled, hull_made, answered_with, module_scope, module_made, arguments_for, children_made, flat_made, effect_made, built_in_made, call_made, core_made, marked_made, instance_made, made_within, program_stand, or_all, design_of}
+use Rattle.scad_meaning.specs.Meaning.{Context, inside_scope, with_chain, with_calls_left, inside_mark, inside_extrusion, setting, InstanceDesign, MemberDesigns, first_marked, no_design, no_members, as_member, and_members, joined_members, moved_design, EvaluatesInstance, Evaluator, each_assigned, core_of, each_member, each_in_scope, each_in_body, body_design, after_step, each_step, in_loop, each_turn, loop_design, leaf_design, checked, hulled, hull_design, answered_with, module_scope, module_design, arguments_for, children_design, flat_design, effect_design, built_in_design, call_design, core_design, marked_design, instance_design, design_within, evaluator_with, program_context, or_all, design_of}
 
 -- what holds of that which an outcome gives
 abbrev Has : {A : Type 0} → (A → Type 0) → Outcome A → Type 0
@@ -75,7 +75,7 @@ answered_has : {A B : Type 0} (Q : B → Type 0) (answer : Answer A) (at : Place
 answered_has Q (Ok x) at go g = g x
 answered_has Q (Err kind) at go g = tt
 
-after_has : (Q : Members → Type 0) (at : Place) (designs : List Design) (turns : ℕ) (go : ℕ → Outcome Members)
+after_has : (Q : MemberDesigns → Type 0) (at : Place) (designs : List Design) (turns : ℕ) (go : ℕ → Outcome MemberDesigns)
     → ((n : ℕ) → Has Q (go n)) → Has Q (after_step at designs turns go)
 after_has Q at [] turns go g = turn_has Q at turns go g
 after_has Q at (d ∷ ds) turns go g = g turns
@@ -85,14 +85,14 @@ abbrev IsFew : ℕ → ℕ → Option Design → Type 0
 IsFew before after None = Unit {0}
 IsFew before after (Some d) = (before + parts_in d ≤ after) × IsTrim d
 
-record IsSmall (before : ℕ) (m : Made) : Type 0 where
+record IsSmall (before : ℕ) (m : InstanceDesign) : Type 0 where
   pub grows : before ≤ m.leaves
   pub most : before ≤ 1024 → m.leaves ≤ 1024
   pub parts : before + parts_in m.design ≤ m.leaves
   pub trim : IsTrim m.design
   pub marked : IsFew before m.leaves m.marked
 
-record AreSmall (before : ℕ) (ms : Members) : Type 0 where
+record AreSmall (before : ℕ) (ms : MemberDesigns) : Type 0 where
   pub grows : before ≤ ms.leaves
   pub most : before ≤ 1024 → ms.leaves ≤ 1024
   pub parts : before + sum_by parts_in ms.designs ≤ ms.leaves
@@ -107,7 +107,7 @@ first_few : (before after : ℕ) (x y : Option Design) → IsFew before after x 
 first_few before after (Some d) y h g = h
 first_few before after None y h g = g
 
-and_small : (before : ℕ) (ms more : Members) → AreSmall before ms → AreSmall ms.leaves more → AreSmall before (and_members ms more)
+and_small : (before : ℕ) (ms more : MemberDesigns) → AreSmall before ms → AreSmall ms.leaves more → AreSmall before (and_members ms more)
 and_small before ms more h g = record {
   grows = let a = h.grows in let b = g.grows in omega arith;
   most = λ few. g.most (h.most few);
@@ -118,7 +118,7 @@ and_small before ms more h g = record {
       (few_wider before ms.leaves more.leaves more.leaves more.marked h.grows (omega arith) g.marked);
 }
 
-as_member_small : (b : Bool) (before : ℕ) (m : Made) → IsSmall before m → AreSmall before (as_member b m)
+as_member_small : (b : Bool) (before : ℕ) (m : InstanceDesign) → IsSmall before m → AreSmall before (as_member b m)
 as_member_small true before m h = record {
   grows = h.grows;
   most = h.most;
@@ -137,10 +137,10 @@ as_member_small false before m h = record {
 none_small : (leaves : ℕ) → AreSmall leaves (no_members leaves)
 none_small leaves = record { grows = omega arith; most = λ few. few; parts = omega arith; trim = All-nil IsTrim; marked = tt }
 
-nothing_small : (leaves : ℕ) → IsSmall leaves (made_nothing leaves)
+nothing_small : (leaves : ℕ) → IsSmall leaves (no_design leaves)
 nothing_small leaves = record { grows = omega arith; most = λ few. few; parts = omega arith; trim = tt; marked = tt }
 
-leaf_small : (at : Place) (mesh : Mesh) (turns leaves : ℕ) → Has (IsSmall leaves) (leaf_made at mesh turns leaves)
+leaf_small : (at : Place) (mesh : Mesh) (turns leaves : ℕ) → Has (IsSmall leaves) (leaf_design at mesh turns leaves)
 leaf_small at mesh turns leaves = by_test (nat_lt leaves 1024) (λ e. grind (arith, nat_tests))
   where
     by_test : (b : Bool) → (b ≡ true → leaves < 1024) → Has (IsSmall leaves) (if b
@@ -150,7 +150,7 @@ leaf_small at mesh turns leaves = by_test (nat_lt leaves 1024) (λ e. grind (ari
     by_test false h = tt
 
 -- a hull has one part, behind the leaves of its children
-one_hull : (before : ℕ) (m leaf : Made) → IsSmall before m → IsSmall m.leaves leaf → IsSmall before (hulled m leaf)
+one_hull : (before : ℕ) (m leaf : InstanceDesign) → IsSmall before m → IsSmall m.leaves leaf → IsSmall before (hulled m leaf)
 one_hull before m leaf h g = record {
   grows = let a = h.grows in let b = g.grows in omega arith;
   most = λ few. g.most (h.most few);
@@ -159,17 +159,17 @@ one_hull before m leaf h g = record {
   marked = few_wider before before m.leaves leaf.leaves m.marked (omega arith) g.grows h.marked;
 }
 
-hull_small : (v : Verdict) (at : Place) (before : ℕ) (m : Made) (turns : ℕ) → IsSmall before m → Has (IsSmall before) (hull_made v at m turns)
+hull_small : (v : Verdict) (at : Place) (before : ℕ) (m : InstanceDesign) (turns : ℕ) → IsSmall before m → Has (IsSmall before) (hull_design v at m turns)
 hull_small v at before m turns h =
-    let next : Outcome Made = then_with (leaf_made at (hull_mesh m.design) turns m.leaves) (λ turns leaf. Gives turns (hulled m leaf)) in
+    let next : Outcome InstanceDesign = then_with (leaf_design at (hull_mesh m.design) turns m.leaves) (λ turns leaf. Gives turns (hulled m leaf)) in
     if_has (IsSmall before) (is_nothing m.design) (Gives turns m) (checked v at next) h
     (checked_has (IsSmall before) v at next
-    (then_has (IsSmall m.leaves) (IsSmall before) (leaf_made at (hull_mesh m.design) turns m.leaves) _
+    (then_has (IsSmall m.leaves) (IsSmall before) (leaf_design at (hull_mesh m.design) turns m.leaves) _
     (leaf_small at (hull_mesh m.design) turns m.leaves) (λ turns leaf g. one_hull before m leaf h g)))
 
 -- instances one evaluation deeper give designs that are no larger than they may be
-abbrev IsGood : Makes → Type 0
-IsGood make = (here : Stand) (i : InstanceTerm) (turns leaves : ℕ) → Has (IsSmall leaves) (make here i turns leaves)
+abbrev IsGood : EvaluatesInstance → Type 0
+IsGood deeper = (here : Context) (i : InstanceTerm) (turns leaves : ℕ) → Has (IsSmall leaves) (deeper here i turns leaves)
 
 module _ (grouped_trim : (op : Op) (designs : List Design) → All IsTrim designs → IsTrim (grouped op designs))
     (grouped_parts : (op : Op) (designs : List Design) → parts_in (grouped op designs) ≤ sum_by parts_in designs)
@@ -177,7 +177,7 @@ module _ (grouped_trim : (op : Op) (designs : List Design) → All IsTrim design
     (moved_parts : (steps : List Affine) (design : Design) → parts_in (moved_by steps design) ≡ parts_in design)
     (pieces : (design : Design) → IsTrim design → pieces_in design ≤ 1 + 2 * parts_in design)
     (unit : LengthUnit) (judge : Judge) where
-  joined_small : (op : Op) (before : ℕ) (ms : Members) → AreSmall before ms → IsSmall before (made_of op ms)
+  joined_small : (op : Op) (before : ℕ) (ms : MemberDesigns) → AreSmall before ms → IsSmall before (joined_members op ms)
   joined_small op before ms h = record {
     grows = h.grows;
     most = h.most;
@@ -186,7 +186,7 @@ module _ (grouped_trim : (op : Op) (designs : List Design) → All IsTrim design
     marked = h.marked;
   }
 
-  moved_small : (steps : List Affine) (before : ℕ) (m : Made) → IsSmall before m → IsSmall before (made_moved (moved_by steps) m)
+  moved_small : (steps : List Affine) (before : ℕ) (m : InstanceDesign) → IsSmall before m → IsSmall before (moved_design (moved_by steps) m)
   moved_small steps before m h = record {
     grows = h.grows;
     most = h.most;
@@ -195,27 +195,30 @@ module _ (grouped_trim : (op : Op) (designs : List Design) → All IsTrim design
     marked = h.marked;
   }
 
-  module _ (left : ℕ) (make : Makes) (good : IsGood make) where
-    members_small : (here : Stand) (is : List InstanceTerm) (turns leaves : ℕ) → Has (AreSmall leaves) (each_member make here is turns leaves)
+  module _ (evaluations : ℕ) (deeper : EvaluatesInstance) (good : IsGood deeper) where
+    abbrev evaluator : Evaluator
+    evaluator = record { unit = unit; judge = judge; evaluations = evaluations; deeper = deeper }
+
+    members_small : (here : Context) (is : List InstanceTerm) (turns leaves : ℕ) → Has (AreSmall leaves) (each_member evaluator here is turns leaves)
     members_small here [] turns leaves = none_small leaves
     members_small here (i ∷ is) turns leaves =
-        then_has (IsSmall leaves) (AreSmall leaves) (make here i turns leaves) _ (good here i turns leaves) (λ turns m h.
-        then_has (AreSmall m.leaves) (AreSmall leaves) (each_member make here is turns m.leaves) _ (members_small here is turns m.leaves) (λ turns ms g.
+        then_has (IsSmall leaves) (AreSmall leaves) (deeper here i turns leaves) _ (good here i turns leaves) (λ turns m h.
+        then_has (AreSmall m.leaves) (AreSmall leaves) (each_member evaluator here is turns m.leaves) _ (members_small here is turns m.leaves) (λ turns ms g.
         and_small leaves (as_member (if says_only here.env (core_of i) then false else true) m) ms
         (as_member_small (if says_only here.env (core_of i) then false else true) leaves m h) g))
 
-    scope_small : (here : Stand) (statements : StatementTerms) (turns leaves : ℕ) → Has (AreSmall leaves) (each_in_scope left make here statements turns leaves)
+    scope_small : (here : Context) (statements : StatementTerms) (turns leaves : ℕ) → Has (AreSmall leaves) (each_in_scope evaluator here statements turns leaves)
     scope_small here statements turns leaves =
-        skip_has (AreSmall leaves) (each_assigned left here (assignments_of statements) turns) _ (λ turns there.
+        skip_has (AreSmall leaves) (each_assigned evaluations here (assignments_of statements) turns) _ (λ turns there.
         members_small there (evaluated_in statements) turns leaves)
 
-    body_small : (op : Op) (here : Stand) (body : BodyTerm) (turns leaves : ℕ) → Has (IsSmall leaves) (body_made left make op here body turns leaves)
+    body_small : (op : Op) (here : Context) (body : BodyTerm) (turns leaves : ℕ) → Has (IsSmall leaves) (body_design evaluator op here body turns leaves)
     body_small op here body turns leaves =
-        then_has (AreSmall leaves) (IsSmall leaves) (each_in_body left make here body turns leaves) _
-        (scope_small (standing here (entered_scope (statements_of_body body) no_call here.env)) (statements_of_body body) turns leaves)
+        then_has (AreSmall leaves) (IsSmall leaves) (each_in_body evaluator here body turns leaves) _
+        (scope_small (inside_scope here (entered_scope (statements_of_body body) no_call here.env)) (statements_of_body body) turns leaves)
         (λ turns ms h. joined_small op leaves ms h)
 
-    steps_small : (at : Place) (step : Val → ℕ → ℕ → Outcome Members)
+    steps_small : (at : Place) (step : Val → ℕ → ℕ → Outcome MemberDesigns)
         → ((v : Val) (turns leaves : ℕ) → Has (AreSmall leaves) (step v turns leaves))
         → (vs : Vals) (turns leaves : ℕ) → Has (AreSmall leaves) (each_step at step vs turns leaves)
     steps_small at step g no_vals turns leaves = none_small leaves
@@ -226,121 +229,121 @@ module _ (grouped_trim : (op : Op) (designs : List Design) → All IsTrim design
         then_has (AreSmall ms.leaves) (AreSmall leaves) (each_step at step vs turns ms.leaves) _ (steps_small at step g vs turns ms.leaves) (λ turns more k.
         and_small leaves ms more h k)))
 
-    turns_small : (at : Place) (binders : List BinderTerm) (body : BodyTerm) (here : Stand) (turns leaves : ℕ)
-        → Has (AreSmall leaves) (each_turn left make at binders body here turns leaves)
+    turns_small : (at : Place) (binders : List BinderTerm) (body : BodyTerm) (here : Context) (turns leaves : ℕ)
+        → Has (AreSmall leaves) (each_turn evaluator at binders body here turns leaves)
     turns_small at [] body here turns leaves =
         turn_has (AreSmall leaves) at turns
-        (λ turns. then_with (body_made left make Union here body turns leaves) (λ turns m. Gives turns (as_member true m))) (λ turns.
-        then_has (IsSmall leaves) (AreSmall leaves) (body_made left make Union here body turns leaves) _ (body_small Union here body turns leaves) (λ turns m h.
+        (λ turns. then_with (body_design evaluator Union here body turns leaves) (λ turns m. Gives turns (as_member true m))) (λ turns.
+        then_has (IsSmall leaves) (AreSmall leaves) (body_design evaluator Union here body turns leaves) _ (body_small Union here body turns leaves) (λ turns m h.
         as_member_small true leaves m h))
     turns_small at (b ∷ bs) body here turns leaves =
-        skip_has (AreSmall leaves) (value_at (setting left here) true b.values turns) _ (λ turns v.
+        skip_has (AreSmall leaves) (value_at (setting evaluations here) true b.values turns) _ (λ turns v.
         option_has (AreSmall leaves) (items_of v) TypeMismatch at _ (λ items.
-        steps_small at (λ item. each_turn left make at bs body (in_loop here b.name item))
+        steps_small at (λ item. each_turn evaluator at bs body (in_loop here b.name item))
         (λ item turns leaves. turns_small at bs body (in_loop here b.name item) turns leaves) items turns leaves))
 
-    loop_small : (op : Op) (here : Stand) (at : Place) (binders : List BinderTerm) (body : BodyTerm) (turns leaves : ℕ)
-        → Has (IsSmall leaves) (loop_made left make op here at binders body turns leaves)
+    loop_small : (op : Op) (here : Context) (at : Place) (binders : List BinderTerm) (body : BodyTerm) (turns leaves : ℕ)
+        → Has (IsSmall leaves) (loop_design evaluator op here at binders body turns leaves)
     loop_small op here at binders body turns leaves =
-        then_has (AreSmall leaves) (IsSmall leaves) (each_turn left make at binders body here turns leaves) _
+        then_has (AreSmall leaves) (IsSmall leaves) (each_turn evaluator at binders body here turns leaves) _
         (turns_small at binders body here turns leaves) (λ turns ms h. joined_small op leaves ms h)
 
-    children_small : (here : Stand) (call : Opened) (chosen : ChosenCall) (turns leaves : ℕ)
-        → Has (IsSmall leaves) (children_made left make here call chosen turns leaves)
+    children_small : (here : Context) (call : Opened) (chosen : ChosenCall) (turns leaves : ℕ)
+        → Has (IsSmall leaves) (children_design evaluator here call chosen turns leaves)
     children_small here no_call chosen turns leaves = nothing_small leaves
     children_small here (opened children caller) chosen turns leaves =
-        skip_has (IsSmall leaves) (each_assigned left (standing here (entered_scope children no_call caller)) (assignments_of children) turns) _ (λ turns there.
-        then_has (AreSmall leaves) (IsSmall leaves) (each_member make there (chosen_among (children_in there.env children) chosen) turns leaves) _
+        skip_has (IsSmall leaves) (each_assigned evaluations (inside_scope here (entered_scope children no_call caller)) (assignments_of children) turns) _ (λ turns there.
+        then_has (AreSmall leaves) (IsSmall leaves) (each_member evaluator there (chosen_among (children_in there.env children) chosen) turns leaves) _
         (members_small there (chosen_among (children_in there.env children) chosen) turns leaves) (λ turns ms h. joined_small Union leaves ms h))
 
     flat_small : (inside : Option Extrusion) (at : Place) (call : FlatCall) (turns leaves : ℕ)
-        → Has (IsSmall leaves) (flat_made unit judge inside at call turns leaves)
+        → Has (IsSmall leaves) (flat_design evaluator inside at call turns leaves)
     flat_small None at call turns leaves = tt
     flat_small (Some through) at call turns leaves =
-        checked_has (IsSmall leaves) (judge.flat unit call) at (leaf_made at (extruded unit through call) turns leaves)
+        checked_has (IsSmall leaves) (judge.flat unit call) at (leaf_design at (extruded unit through call) turns leaves)
         (leaf_small at (extruded unit through call) turns leaves)
 
-    effect_small : (here : Stand) (at : Place) (effect : EffectCall) (body : BodyTerm) (turns leaves : ℕ)
-        → Has (IsSmall leaves) (effect_made unit judge left make here at effect body turns leaves)
+    effect_small : (here : Context) (at : Place) (effect : EffectCall) (body : BodyTerm) (turns leaves : ℕ)
+        → Has (IsSmall leaves) (effect_design evaluator here at effect body turns leaves)
     effect_small here at (a_solid call) body turns leaves =
-        checked_has (IsSmall leaves) (judge.solid unit call) at (leaf_made at (solid_of unit call) turns leaves)
+        checked_has (IsSmall leaves) (judge.solid unit call) at (leaf_design at (solid_of unit call) turns leaves)
         (leaf_small at (solid_of unit call) turns leaves)
     effect_small here at (a_flat call) body turns leaves = flat_small here.inside at call turns leaves
     effect_small here at (a_move steps) body turns leaves =
-        then_has (IsSmall leaves) (IsSmall leaves) (body_made left make Union here body turns leaves) _
+        then_has (IsSmall leaves) (IsSmall leaves) (body_design evaluator Union here body turns leaves) _
         (body_small Union here body turns leaves) (λ turns m h. moved_small steps leaves m h)
     effect_small here at (a_join op) body turns leaves = body_small op here body turns leaves
     effect_small here at a_hull body turns leaves =
-        then_has (IsSmall leaves) (IsSmall leaves) (body_made left make Union here body turns leaves) _
+        then_has (IsSmall leaves) (IsSmall leaves) (body_design evaluator Union here body turns leaves) _
         (body_small Union here body turns leaves) (λ turns m h. hull_small (judge.hull m.design) at leaves m turns h)
     effect_small here at (an_extrusion center height) body turns leaves =
         checked_has (IsSmall leaves) (judge.height unit center height) at
-        (body_made left make Union (extruding here (record { center = center; height = height })) body turns leaves)
-        (body_small Union (extruding here (record { center = center; height = height })) body turns leaves)
+        (body_design evaluator Union (inside_extrusion here (record { center = center; height = height })) body turns leaves)
+        (body_small Union (inside_extrusion here (record { center = center; height = height })) body turns leaves)
     effect_small here at silence body turns leaves =
-        if_has (IsSmall leaves) (is_bare body) (Gives turns (made_nothing leaves)) (Faults NotInProfile at) (nothing_small leaves) tt
+        if_has (IsSmall leaves) (is_bare body) (Gives turns (no_design leaves)) (Faults NotInProfile at) (nothing_small leaves) tt
     effect_small here at (some_children chosen) body turns leaves =
         call_has (IsSmall leaves) here.calls at _ (λ calls.
-        children_small (called_from here calls) (call_in here.env) chosen turns leaves)
+        children_small (with_calls_left here calls) (call_in here.env) chosen turns leaves)
 
-    built_in_small : (here : Stand) (at : Place) (name : List ℕ) (args : List ArgTerm) (body : BodyTerm) (found : Option BuiltinModule) (turns leaves : ℕ)
-        → Has (IsSmall leaves) (built_in_made unit judge left make here at name args body found turns leaves)
+    built_in_small : (here : Context) (at : Place) (name : List ℕ) (args : List ArgTerm) (body : BodyTerm) (found : Option BuiltinModule) (turns leaves : ℕ)
+        → Has (IsSmall leaves) (built_in_design evaluator here at name args body found turns leaves)
     built_in_small here at name args body None turns leaves = tt
     built_in_small here at name args body (Some m) turns leaves =
-        skip_has (IsSmall leaves) (arguments_for m (setting left here) (args_from args) turns) _ (λ turns given.
+        skip_has (IsSmall leaves) (arguments_for m (setting evaluations here) (args_from args) turns) _ (λ turns given.
         answered_has (IsSmall leaves) (effect_of unit (is_some here.inside) (find_in (given.specials ++ here.chain) (codes "fn")) m given.slots) at _ (λ effect.
-        effect_small (chained here (given.specials ++ here.chain)) at effect body turns leaves))
+        effect_small (with_chain here (given.specials ++ here.chain)) at effect body turns leaves))
 
-    module_small : (here : Stand) (at : Place) (found : Module × Env) (given : Arguments) (body : BodyTerm) (turns leaves : ℕ)
-        → Has (IsSmall leaves) (module_made left make here at found given body turns leaves)
+    module_small : (here : Context) (at : Place) (found : Module × Env) (given : Arguments) (body : BodyTerm) (turns leaves : ℕ)
+        → Has (IsSmall leaves) (module_design evaluator here at found given body turns leaves)
     module_small here at found given body turns leaves =
         call_has (IsSmall leaves) here.calls at _ (λ calls.
-        let there = called_from (chained here (given.specials ++ here.chain)) calls in
+        let there = with_calls_left (with_chain here (given.specials ++ here.chain)) calls in
         turn_has (IsSmall leaves) at turns
-        (λ turns. then_with (each_parameter (setting left (standing there found.1)) found.0.params given.slots turns) (λ turns vs.
-        then_with (each_in_scope left make (standing there (module_scope found.1 found.0 vs (statements_of_body body) here.env)) (statements_of_body found.0.body) turns leaves) (λ turns ms.
-        Gives turns (made_of Union ms)))) (λ turns.
-        skip_has (IsSmall leaves) (each_parameter (setting left (standing there found.1)) found.0.params given.slots turns) _ (λ turns vs.
-        let inner = standing there (module_scope found.1 found.0 vs (statements_of_body body) here.env) in
-        then_has (AreSmall leaves) (IsSmall leaves) (each_in_scope left make inner (statements_of_body found.0.body) turns leaves) _
+        (λ turns. then_with (each_parameter (setting evaluations (inside_scope there found.1)) found.0.params given.slots turns) (λ turns vs.
+        then_with (each_in_scope evaluator (inside_scope there (module_scope found.1 found.0 vs (statements_of_body body) here.env)) (statements_of_body found.0.body) turns leaves) (λ turns ms.
+        Gives turns (joined_members Union ms)))) (λ turns.
+        skip_has (IsSmall leaves) (each_parameter (setting evaluations (inside_scope there found.1)) found.0.params given.slots turns) _ (λ turns vs.
+        let inner = inside_scope there (module_scope found.1 found.0 vs (statements_of_body body) here.env) in
+        then_has (AreSmall leaves) (IsSmall leaves) (each_in_scope evaluator inner (statements_of_body found.0.body) turns leaves) _
         (scope_small inner (statements_of_body found.0.body) turns leaves) (λ turns ms h. joined_small Union leaves ms h))))
 
-    called_small : (here : Stand) (at : Place) (name : List ℕ) (args : List ArgTerm) (body : BodyTerm) (found : Option (Module × Env)) (turns leaves : ℕ)
-        → Has (IsSmall leaves) (call_made unit judge left make here at name args body found turns leaves)
+    called_small : (here : Context) (at : Place) (name : List ℕ) (args : List ArgTerm) (body : BodyTerm) (found : Option (Module × Env)) (turns leaves : ℕ)
+        → Has (IsSmall leaves) (call_design evaluator here at name args body found turns leaves)
     called_small here at name args body (Some found) turns leaves =
-        skip_has (IsSmall leaves) (each_argument (setting left here) (names_of found.0.params) 0 (args_from args) (nothing_given (length found.0.params)) turns) _
+        skip_has (IsSmall leaves) (each_argument (setting evaluations here) (names_of found.0.params) 0 (args_from args) (nothing_given (length found.0.params)) turns) _
         (λ turns given. module_small here at found given body turns leaves)
     called_small here at name args body None turns leaves = built_in_small here at name args body (module_named name) turns leaves
 
-    core_small : (here : Stand) (core : CoreTerm) (turns leaves : ℕ) → Has (IsSmall leaves) (core_made unit judge left make here core turns leaves)
+    core_small : (here : Context) (core : CoreTerm) (turns leaves : ℕ) → Has (IsSmall leaves) (core_design evaluator here core turns leaves)
     core_small here (IfTerm at test body) turns leaves =
-        skip_has (IsSmall leaves) (value_at (setting left here) true test turns) _ (λ turns v.
-        if_has (IsSmall leaves) (truth_of v) (body_made left make Union here body turns leaves) (Gives turns (made_nothing leaves))
+        skip_has (IsSmall leaves) (value_at (setting evaluations here) true test turns) _ (λ turns v.
+        if_has (IsSmall leaves) (truth_of v) (body_design evaluator Union here body turns leaves) (Gives turns (no_design leaves))
         (body_small Union here body turns leaves) (nothing_small leaves))
     core_small here (IfElseTerm at test body other) turns leaves =
-        skip_has (IsSmall leaves) (value_at (setting left here) true test turns) _ (λ turns v.
+        skip_has (IsSmall leaves) (value_at (setting evaluations here) true test turns) _ (λ turns v.
         body_small Union here (if truth_of v then body else other) turns leaves)
     core_small here (ForTerm at binders body) turns leaves = loop_small Union here at binders body turns leaves
     core_small here (IntersectionForTerm at binders body) turns leaves = loop_small Intersection here at binders body turns leaves
     core_small here (ModuleCallTerm at name args body) turns leaves = called_small here at name args body (module_in here.env name) turns leaves
 
-    marked_small : (here : Stand) (core : CoreTerm) (turns leaves : ℕ) → Has (IsSmall leaves) (marked_made unit judge left make here core turns leaves)
+    marked_small : (here : Context) (core : CoreTerm) (turns leaves : ℕ) → Has (IsSmall leaves) (marked_design evaluator here core turns leaves)
     marked_small here core turns leaves =
-        if_has (IsSmall leaves) here.under_mark (core_made unit judge left make here core turns leaves) _ (core_small here core turns leaves)
-        (then_has (IsSmall leaves) (IsSmall leaves) (core_made unit judge left make (marked_from here) core turns leaves) _
-        (core_small (marked_from here) core turns leaves) (λ turns m h.
+        if_has (IsSmall leaves) here.under_mark (core_design evaluator here core turns leaves) _ (core_small here core turns leaves)
+        (then_has (IsSmall leaves) (IsSmall leaves) (core_design evaluator (inside_mark here) core turns leaves) _
+        (core_small (inside_mark here) core turns leaves) (λ turns m h.
         record { grows = h.grows; most = h.most; parts = let a = h.grows in omega arith; trim = tt; marked = (h.parts, h.trim) }))
 
-    instance_small : IsGood (instance_made unit judge left make)
+    instance_small : IsGood (instance_design evaluator)
     instance_small here i turns leaves =
-        if_has (IsSmall leaves) (is_marked i) _ (core_made unit judge left make here (core_of i) turns leaves)
-        (if_has (IsSmall leaves) (is_some here.inside) _ (marked_made unit judge left make here (core_of i) turns leaves) tt
+        if_has (IsSmall leaves) (is_marked i) _ (core_design evaluator here (core_of i) turns leaves)
+        (if_has (IsSmall leaves) (is_some here.inside) _ (marked_design evaluator here (core_of i) turns leaves) tt
         (marked_small here (core_of i) turns leaves)) (core_small here (core_of i) turns leaves)
 
-  within_small : (left : ℕ) → IsGood (made_within unit judge left)
-  unfolding made_within
+  within_small : (evaluations : ℕ) → IsGood (design_within unit judge evaluations)
+  unfolding design_within
   within_small zero here i turns leaves = tt
-  within_small (suc left) here i turns leaves = instance_small left (made_within unit judge left) (within_small left) here i turns leaves
+  within_small (suc evaluations) here i turns leaves = instance_small evaluations (design_within unit judge evaluations) (within_small evaluations) here i turns leaves
 
   -- the design of a program
   all_small : (marked : Option Design) (designs : List Design) (leaves : ℕ) → IsFew 0 leaves marked → 0 + sum_by parts_in designs ≤ leaves
@@ -357,6 +360,6 @@ module _ (grouped_trim : (op : Op) (designs : List Design) → All IsTrim design
   unfolding design_of
   design_small chain statements turns design e =
       subst (Has (λ d. pieces_in d < 2 ^ 32)) e
-      (then_has (AreSmall 0) (λ d. pieces_in d < 2 ^ 32) (each_in_scope 512 (made_within unit judge 512) (program_stand chain statements) statements 0 0) _
-      (scope_small 512 (made_within unit judge 512) (within_small 512) (program_stand chain statements) statements 0 0)
+      (then_has (AreSmall 0) (λ d. pieces_in d < 2 ^ 32) (each_in_scope (evaluator_with unit judge 512) (program_context chain statements) statements 0 0) _
+      (scope_small 512 (design_within unit judge 512) (within_small 512) (program_context chain statements) statements 0 0)
       (λ turns ms h. all_small ms.marked ms.designs ms.leaves h.marked h.parts h.trim (h.most (omega arith))))

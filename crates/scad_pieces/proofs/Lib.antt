@@ -1,7 +1,7 @@
 mod BoundedItems
 mod Crossing
 mod KeptChildren
-mod Made
+mod ShapeAnswers
 pub mod NumberedItems
 mod Numbering
 mod RangeNumbers

@@ -182,17 +182,17 @@ pub evaluated_first : (s : StatementTerm) (rest : StatementTerms)
     → evaluated_in (and_statement s rest) ≡ filter is_on (instances_of s) ++ evaluated_in rest
 evaluated_first s rest = filter-append is_on (instances_of s) (instances_in rest)
 
--- one statement more of a list, of which these are left
-pub record Left (text : NumberedText) (first next : ℕ) (all left : StatementTerms) (before now : List InstanceTerm) : Type 0 where
-  pub stand : StandAt text next (marks_in left)
-  pub count : next + count_blocks (marks_in left) ≡ first + count_blocks (marks_in all)
-  pub found : now ++ evaluated_in left ≡ before ++ evaluated_in all
+-- one statement more of a list, of which these are remaining
+pub record RemainingStatements (text : NumberedText) (first next : ℕ) (all remaining : StatementTerms) (before now : List InstanceTerm) : Type 0 where
+  pub stand : StandAt text next (marks_in remaining)
+  pub count : next + count_blocks (marks_in remaining) ≡ first + count_blocks (marks_in all)
+  pub found : now ++ evaluated_in remaining ≡ before ++ evaluated_in all
 
-pub left_more : (text : NumberedText) (first next then : ℕ) (all left : StatementTerms) (before now later : List InstanceTerm)
-    (s : StatementTerm) (rest : StatementTerms) → Left text first next all left before now → left ≡ and_statement s rest
+pub remaining_more : (text : NumberedText) (first next then : ℕ) (all remaining : StatementTerms) (before now later : List InstanceTerm)
+    (s : StatementTerm) (rest : StatementTerms) → RemainingStatements text first next all remaining before now → remaining ≡ and_statement s rest
     → then ≡ next + count_blocks (marks_of s) → later ≡ now ++ filter is_on (instances_of s)
-    → Left text first then all rest before later
-left_more text first next then all left before now later s rest l e c f =
+    → RemainingStatements text first then all rest before later
+remaining_more text first next then all remaining before now later s rest l e c f =
     let stand = subst (λ (ss : StatementTerms). StandAt text next (marks_in ss)) e l.stand in
     record {
       stand = subst (λ k. StandAt text k (marks_in rest)) (sym c) (stand_behind text next (marks_of s) (marks_in rest) stand);
@@ -208,16 +208,16 @@ left_more text first next then all left before now later s rest l e c f =
           ∙ ap (λ (ss : StatementTerms). now ++ evaluated_in ss) (sym e) ∙ l.found;
     }
 
-pub left_first : (text : NumberedText) (first next : ℕ) (all left : StatementTerms) (before now : List InstanceTerm)
-    (s : StatementTerm) (rest : StatementTerms) → Left text first next all left before now → left ≡ and_statement s rest
+pub remaining_first : (text : NumberedText) (first next : ℕ) (all remaining : StatementTerms) (before now : List InstanceTerm)
+    (s : StatementTerm) (rest : StatementTerms) → RemainingStatements text first next all remaining before now → remaining ≡ and_statement s rest
     → StandAt text next (marks_of s)
-left_first text first next all left before now s rest l e =
+remaining_first text first next all remaining before now s rest l e =
     stand_front text next (marks_of s) (marks_in rest) (subst (λ (ss : StatementTerms). StandAt text next (marks_in ss)) e l.stand)
 
-pub left_none : (text : NumberedText) (first next : ℕ) (all left : StatementTerms) (before now : List InstanceTerm)
-    → Left text first next all left before now → left ≡ no_statements
+pub remaining_none : (text : NumberedText) (first next : ℕ) (all remaining : StatementTerms) (before now : List InstanceTerm)
+    → RemainingStatements text first next all remaining before now → remaining ≡ no_statements
     → (next ≡ first + count_blocks (marks_in all)) × (now ≡ before ++ evaluated_in all)
-left_none text first next all left before now l e = (
+remaining_none text first next all remaining before now l e = (
   omega (arith, ap (λ (ss : StatementTerms). next + count_blocks (marks_in ss)) (sym e) ∙ l.count),
   sym (append-nil now) ∙ ap (λ (ss : StatementTerms). now ++ evaluated_in ss) (sym e) ∙ l.found,
 )
@@ -225,9 +225,9 @@ left_none text first next all left before now l e = (
 -- the next statement of a list in memory stands where it is looked for
 pub here_stands : (text : NumberedText) (first next : ℕ) (all : StatementTerms) (before now : List InstanceTerm) (ss : List Statement) (i : ℕ)
     (s : Statement) → i < length ss → s ≡ get_or ss i s
-    → Left text first next all (statements_from (map statement_of (drop i ss))) before now → StandAt text next (marks_of (statement_of s))
+    → RemainingStatements text first next all (statements_from (map statement_of (drop i ss))) before now → StandAt text next (marks_of (statement_of s))
 here_stands text first next all before now ss i s h e l =
-    left_first text first next all _ before now (statement_of s) (statements_from (map statement_of (drop (i + 1) ss))) l
+    remaining_first text first next all _ before now (statement_of s) (statements_from (map statement_of (drop (i + 1) ss))) l
     (statements_here ss i s h e)
 
 -- how deep bare blocks stand in one another

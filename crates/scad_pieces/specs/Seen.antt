@@ -13,40 +13,40 @@ use Rattle.scad_func.specs.Meaning.{Outcome, Gives, Faults, then_with}
 use Rattle.scad_pieces.specs.declared.position.InstanceResult.{InstanceResult}
 use Rattle.scad_pieces.specs.declared.position.MemberResults.{MemberResults}
 use Rattle.scad_meaning.specs.Bodies.{is_bare}
-use Rattle.scad_meaning.specs.Meaning.{Made, Members, as_member, and_members, made_nothing}
+use Rattle.scad_meaning.specs.Meaning.{InstanceDesign, MemberDesigns, as_member, and_members, no_design}
 
-abbrev pub made_seen : ℕ → InstanceResult → Made
-made_seen leaves m = record { leaves = leaves; design = plain_of m.design; marked = option_map plain_of m.marked }
+abbrev pub instance_design_of : ℕ → InstanceResult → InstanceDesign
+instance_design_of leaves m = record { leaves = leaves; design = plain_of m.design; marked = option_map plain_of m.marked }
 
-abbrev pub members_seen : ℕ → MemberResults → Members
-members_seen leaves ms = record { leaves = leaves; designs = map plain_of ms.designs.items; marked = option_map plain_of ms.marked }
+abbrev pub member_designs_of : ℕ → MemberResults → MemberDesigns
+member_designs_of leaves ms = record { leaves = leaves; designs = map plain_of ms.designs.items; marked = option_map plain_of ms.marked }
 
-abbrev pub member_seen : Bool → ℕ → InstanceResult → Members
-member_seen is_member leaves m = as_member is_member (made_seen leaves m)
+abbrev pub one_member_of : Bool → ℕ → InstanceResult → MemberDesigns
+one_member_of is_member leaves m = as_member is_member (instance_design_of leaves m)
 
 -- what an instance gives that is marked `!`
-abbrev pub apart : Made → Made
+abbrev pub apart : InstanceDesign → InstanceDesign
 apart m = record { leaves = m.leaves; design = empty; marked = Some m.design }
 
 -- what was given, with the turns and the leaves so far, or the fault, unless memory ran out
-abbrev pub TellsAs : {A B : Type 0} → (ℕ → A → B) → Result A Stop → ℕ → ℕ → Outcome B → Type 0
-TellsAs see (Ok x) turns leaves out = out ≡ Gives turns (see leaves x)
-TellsAs see (Err (Fault fault)) turns leaves out = out ≡ Faults fault.kind fault.place
-TellsAs see (Err NoMemory) turns leaves out = Unit {0}
+abbrev pub AgreesWith : {A B : Type 0} → (ℕ → A → B) → Result A Stop → ℕ → ℕ → Outcome B → Type 0
+AgreesWith see (Ok x) turns leaves out = out ≡ Gives turns (see leaves x)
+AgreesWith see (Err (Fault fault)) turns leaves out = out ≡ Faults fault.kind fault.place
+AgreesWith see (Err NoMemory) turns leaves out = Unit {0}
 
-pub record Told {A B : Type 0} (see : ℕ → A → B) (r : Result A Stop) (turns leaves : ℕ) (out : Outcome B) : Type 0 where
-  pub is : TellsAs see r turns leaves out
+pub record HasOutcome {A B : Type 0} (see : ℕ → A → B) (r : Result A Stop) (turns leaves : ℕ) (out : Outcome B) : Type 0 where
+  pub is : AgreesWith see r turns leaves out
 
 -- members with those that are given next, unless memory ran out or nothing was given
-abbrev pub IsLengthened : {A : Type 0} → (ℕ → A → Members) → MemberResults → Result A Stop → Result MemberResults Stop → Type 0
+abbrev pub IsLengthened : {A : Type 0} → (ℕ → A → MemberDesigns) → MemberResults → Result A Stop → Result MemberResults Stop → Type 0
 IsLengthened see before (Ok x) (Ok after) =
-    (start leaves : ℕ) → members_seen leaves after ≡ and_members (members_seen start before) (see leaves x)
+    (start leaves : ℕ) → member_designs_of leaves after ≡ and_members (member_designs_of start before) (see leaves x)
 IsLengthened see before (Ok x) (Err stop) = stop ≡ NoMemory
 IsLengthened see before (Err fault) (Ok after) = ⊥
 IsLengthened see before (Err fault) (Err stop) = stop ≡ fault
 
 -- what members give behind others
-abbrev pub in_front : Members → Outcome Members → Outcome Members
+abbrev pub in_front : MemberDesigns → Outcome MemberDesigns → Outcome MemberDesigns
 in_front before out = then_with out (λ turns ms. Gives turns (and_members before ms))
 
 -- a stop of a shape, at a place
@@ -56,5 +56,5 @@ IsStopAt shapes.NoMemory at stop = stop ≡ NoMemory
 
 -- a call that only says something gives nothing, or is refused where it has a body
 abbrev pub TellsSilence : Result InstanceResult Stop → Place → BodyTerm → Type 0
-TellsSilence r at body = (turns leaves : ℕ) → Told made_seen r turns leaves
-    (if is_bare body then Gives turns (made_nothing leaves) else Faults NotInProfile at)
+TellsSilence r at body = (turns leaves : ℕ) → HasOutcome instance_design_of r turns leaves
+    (if is_bare body then Gives turns (no_design leaves) else Faults NotInProfile at)

@@ -74,7 +74,7 @@ pub fn arguments_for<'b>(
     evaluation.each_argument(scope, names, args)
 }
 
-/// The arguments of `echo`, from the first on: a name may come twice, a special name may not.
+// The arguments of `echo`, from the first on: a name may come twice, a special name may not.
 fn said<'b>(
     evaluation: &mut Evaluation<'_, '_>,
     scope: u32,
@@ -96,7 +96,7 @@ fn said<'b>(
     })
 }
 
-/// The special arguments of `echo` with one argument more.
+// The special arguments of `echo` with one argument more.
 fn say<'b>(
     evaluation: &mut Evaluation<'_, '_>,
     scope: u32,
@@ -129,7 +129,7 @@ fn say<'b>(
     }
 }
 
-/// Whether a special name was given a value.
+// Whether a special name was given a value.
 fn is_given(specials: &[SpecialArgument<'_, Value>], name: &[u8]) -> bool
     ensures { result ≡ is_some (find_in (specials_in specials.now) name.now) }
 {

@@ -7,7 +7,7 @@ ghost use Rattle.scad_meaning.specs.Bodies.{switches_off as switches_off_at, is_
 
 use scad_ast::{Body, Instance, Marks, Modifier, Statements};
 
-/// Whether an instance is evaluated: one marked `*` or `%` counts as not written. Takes no memory.
+// Whether an instance is evaluated: one marked `*` or `%` counts as not written. Takes no memory.
 pub(crate) fn is_on(instance: &Instance) -> bool
     ensures { result ≡ is_on_at (instance_of instance.now) }
 {

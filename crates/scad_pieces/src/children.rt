@@ -38,7 +38,7 @@ pub fn is_child(evaluation: &Evaluation<'_, '_>, scope: u32, instance: &Instance
     }
 }
 
-/// Whether a name is `echo` or `assert`, and no module of the source, seen from a scope.
+// Whether a name is `echo` or `assert`, and no module of the source, seen from a scope.
 fn says_only(evaluation: &Evaluation<'_, '_>, scope: u32, name: &[u8]) -> bool
     requires { scope < scopes_there evaluation.now }
     ensures { result ≡ ((bytes_eq name.now (codes "echo") || bytes_eq name.now (codes "assert"))
@@ -48,7 +48,7 @@ fn says_only(evaluation: &Evaluation<'_, '_>, scope: u32, name: &[u8]) -> bool
         && evaluation.module(scope, name).is_none()
 }
 
-/// The children among the instances of a block, in its scope.
+// The children among the instances of a block, in its scope.
 fn children<'a>(
     evaluation: &Evaluation<'a, '_>,
     scope: u32,

@@ -30,7 +30,7 @@ pub fn chosen_among<T: Copy>(
     }
 }
 
-/// Children by numbers, in order.
+// Children by numbers, in order.
 fn by_numbers<T: Copy>(alloc: Global, children: &[T], numbers: &[i64]) -> Result<Vec<T>, NoMemory>
     ensures { IfOk result (λ found. found.items ≡ items_numbered children.now numbers.now) }
 {
@@ -44,7 +44,7 @@ fn by_numbers<T: Copy>(alloc: Global, children: &[T], numbers: &[i64]) -> Result
     Ok(found)
 }
 
-/// Children by the numbers of a range. The time is that of the children, however long the range is.
+// Children by the numbers of a range. The time is that of the children, however long the range is.
 fn by_range<T: Copy>(
     alloc: Global,
     children: &[T],
@@ -71,7 +71,7 @@ fn by_range<T: Copy>(
     Ok(found)
 }
 
-/// How far the first number of a range lies before a list of a length, seen along its step.
+// How far the first number of a range lies before a list of a length, seen along its step.
 fn distance_before(from: i64, by: i64, len: usize) -> u64
     ensures { result ≡ distance_at from by len }
 {
@@ -82,7 +82,7 @@ fn distance_before(from: i64, by: i64, len: usize) -> u64
     }
 }
 
-/// The child of a number, where there is one.
+// The child of a number, where there is one.
 fn child_at<T: Copy>(children: &[T], number: i128) -> Option<T>
     ensures { option_to_list result ≡ item_numbered children.now number }
 {

@@ -43,7 +43,7 @@ pub fn design_hull(alloc: Global, design: &Design) -> Result<Shape, ShapeStop>
     hull_shape(alloc, &points)
 }
 
-/// Whether a design has no join but unions.
+// Whether a design has no join but unions.
 fn is_union(design: &Design) -> bool
     ensures { result ≡ is_union_at (plain_of design.now) }
 {
@@ -55,7 +55,7 @@ fn is_union(design: &Design) -> bool
     }
 }
 
-/// Adds the points of all parts of a design, each moved by its part's steps.
+// Adds the points of all parts of a design, each moved by its part's steps.
 fn add_points(alloc: Global, points: &mut Vec<[i64; 3]>, design: &Design) -> Result<(), ShapeStop>
     ensures points { OnOk result (points.new.items ≡ points.old.items ++ points_of (plain_of design.now)) }
     ensures safe { OnOk result (StaySafe (plain_of design.now)) }
@@ -71,7 +71,7 @@ fn add_points(alloc: Global, points: &mut Vec<[i64; 3]>, design: &Design) -> Res
     }
 }
 
-/// Adds the points of a part, moved by its steps.
+// Adds the points of a part, moved by its steps.
 fn add_part(alloc: Global, points: &mut Vec<[i64; 3]>, part: &Part) -> Result<(), ShapeStop>
     ensures points { OnOk result (points.new.items ≡ points.old.items
         ++ map (λ p. coordinates (image (map_of part.now.steps) (point_at p))) part.now.mesh.points) }

@@ -5,7 +5,7 @@ ghost use Rattle.scad_value.specs.Values.{is_bounded, is_small, ListVal, RangeVa
 ghost use Rattle.scad_value.specs.View.{val_of, vals_of};
 ghost use Rattle.scad_meaning.specs.Loops.{items_of, number_vals, numbers_of_range};
 ghost use Rattle.scad_pieces.specs.BoundedItems.{all_bounded};
-ghost use Rattle.scad_pieces.specs.Items.{left_in, numbers_left};
+ghost use Rattle.scad_pieces.specs.Items.{remaining_in, numbers_left};
 
 use crate::ranges::{count_of_range, number_at};
 use scad_value::{Value, Values};
@@ -21,7 +21,7 @@ pub struct Numbers {
 }
 
 impl Numbers {
-    /// The numbers from one on, by a step, up to another one.
+    // The numbers from one on, by a step, up to another one.
     pub(crate) fn of_range(from: i64, by: i64, upto: i64) -> Numbers
         requires from { IsTrue (is_small from) }
         requires upto { IsTrue (is_small upto) }
@@ -35,7 +35,7 @@ impl Numbers {
         }
     }
 
-    /// The next number, where one is left.
+    // The next number, where one is left.
     pub(crate) fn next(&mut self) -> Option<i64>
         requires { IsTrue (all_bounded (number_vals (numbers_left self.old))) }
         ensures { MatchOption result ((numbers_left self.old ≡ []) × (numbers_left self.new ≡ []))
@@ -52,20 +52,20 @@ impl Numbers {
 
 /// The values that are left of a list, or the numbers that are left of a range.
 #[derive(Drop)]
-pub enum Left {
+pub enum Remaining {
     Listed(IntoIter<Value>),
     Counted(Numbers),
 }
 
-impl Left {
+impl Remaining {
     fn next(&mut self) -> Option<Value>
-        requires { IsTrue (all_bounded (left_in self.old)) }
-        ensures { MatchOption result ((left_in self.old ≡ no_vals) × (left_in self.new ≡ no_vals))
-            (λ v. left_in self.old ≡ and_val (val_of v) (left_in self.new)) }
+        requires { IsTrue (all_bounded (remaining_in self.old)) }
+        ensures { MatchOption result ((remaining_in self.old ≡ no_vals) × (remaining_in self.new ≡ no_vals))
+            (λ v. remaining_in self.old ≡ and_val (val_of v) (remaining_in self.new)) }
     {
         match self {
-            Left::Listed(values) => values.next(),
-            Left::Counted(numbers) => match numbers.next() {
+            Remaining::Listed(values) => values.next(),
+            Remaining::Counted(numbers) => match numbers.next() {
                 Some(number) => Some(Value::Number(number)),
                 None => None,
             },
@@ -76,8 +76,8 @@ impl Left {
 /// The items that are left of a value, each of them bounded.
 #[derive(Drop)]
 pub struct Items {
-    pub left: Left,
-    ghost bounded: { IsTrue (all_bounded (left_in left)) },
+    pub remaining: Remaining,
+    ghost bounded: { IsTrue (all_bounded (remaining_in remaining)) },
 }
 
 impl Items {
@@ -85,7 +85,7 @@ impl Items {
     /// value has none. Takes no memory.
     pub fn of(value: Value) -> Option<Items>
         requires { IsTrue (is_bounded (val_of value)) }
-        ensures { option_map (λ items. left_in items.left) result ≡ items_of (val_of value) }
+        ensures { option_map (λ items. remaining_in items.remaining) result ≡ items_of (val_of value) }
     {
         match value {
             Value::List(items) => Some(Items::listed(items)),
@@ -96,29 +96,29 @@ impl Items {
 
     fn listed(values: Values) -> Items
         requires { IsTrue (is_bounded (ListVal (vals_from (vals_of values)))) }
-        ensures { left_in result.left ≡ vals_from (vals_of values) }
+        ensures { remaining_in result.remaining ≡ vals_from (vals_of values) }
     {
         Items {
-            left: Left::Listed(values.into_items().into_iter()),
+            remaining: Remaining::Listed(values.into_items().into_iter()),
         }
     }
 
     fn counted(from: i64, by: i64, upto: i64) -> Items
         requires { IsTrue (is_bounded (RangeVal from by upto)) }
-        ensures { left_in result.left ≡ number_vals (numbers_of_range from by upto) }
+        ensures { remaining_in result.remaining ≡ number_vals (numbers_of_range from by upto) }
     {
         Items {
-            left: Left::Counted(Numbers::of_range(from, by, upto)),
+            remaining: Remaining::Counted(Numbers::of_range(from, by, upto)),
         }
     }
 
     /// The next item, where one is left. Takes no memory.
     pub fn next(&mut self) -> Option<Value>
-        ensures next { MatchOption result ((left_in self.old.left ≡ no_vals) × (left_in self.new.left ≡ no_vals))
-            (λ v. left_in self.old.left ≡ and_val (val_of v) (left_in self.new.left)) }
+        ensures next { MatchOption result ((remaining_in self.old.remaining ≡ no_vals) × (remaining_in self.new.remaining ≡ no_vals))
+            (λ v. remaining_in self.old.remaining ≡ and_val (val_of v) (remaining_in self.new.remaining)) }
         ensures bounded { IfSome result (λ v. IsTrue (is_bounded (val_of v))) }
-        ensures fewer { IfSome result (λ _. count_of (left_in self.new.left) < count_of (left_in self.old.left)) }
+        ensures fewer { IfSome result (λ _. count_of (remaining_in self.new.remaining) < count_of (remaining_in self.old.remaining)) }
     {
-        self.left.next()
+        self.remaining.next()
     }
 }

@@ -2,8 +2,8 @@
 
 ghost use Rattle.std.specs.Prelude.{◌≡◌, ℕ, option_map, IfOk};
 ghost use Rattle.scad_design.specs.View.{plain_of};
-ghost use Rattle.scad_meaning.specs.Meaning.{first_marked as first_of, made_nothing, made_of, no_members as none_of};
-ghost use Rattle.scad_pieces.specs.Seen.{made_seen, members_seen, member_seen, apart, IsLengthened};
+ghost use Rattle.scad_meaning.specs.Meaning.{first_marked as first_of, no_design, joined_members, no_members as none_of};
+ghost use Rattle.scad_pieces.specs.Seen.{instance_design_of, member_designs_of, one_member_of, apart, IsLengthened};
 
 use crate::position::{InstanceResult, MemberResults};
 use csg_tree::Op;
@@ -13,7 +13,7 @@ use text_place::{NoMemory, Stop};
 
 /// What an instance without a design gives.
 pub fn nothing_made() -> InstanceResult
-    ensures { (leaves : ℕ) → made_seen leaves result ≡ made_nothing leaves }
+    ensures { (leaves : ℕ) → instance_design_of leaves result ≡ no_design leaves }
 {
     InstanceResult {
         design: Design::Empty,
@@ -23,7 +23,7 @@ pub fn nothing_made() -> InstanceResult
 
 /// What no instances give.
 pub fn no_members(alloc: Global) -> MemberResults
-    ensures { (leaves : ℕ) → members_seen leaves result ≡ none_of leaves }
+    ensures { (leaves : ℕ) → member_designs_of leaves result ≡ none_of leaves }
 {
     MemberResults {
         designs: Vec::new(alloc),
@@ -31,7 +31,7 @@ pub fn no_members(alloc: Global) -> MemberResults
     }
 }
 
-/// The first of two designs that are marked.
+// The first of two designs that are marked.
 fn first_marked(earlier: Option<Design>, later: Option<Design>) -> Option<Design>
     ensures { option_map plain_of result ≡ first_of (option_map plain_of earlier) (option_map plain_of later) }
 {
@@ -43,7 +43,7 @@ fn first_marked(earlier: Option<Design>, later: Option<Design>) -> Option<Design
 
 /// What an instance that is marked `!` gives: its design is no part of the one around it.
 pub fn set_apart(made: InstanceResult) -> InstanceResult
-    ensures { (leaves : ℕ) → made_seen leaves result ≡ apart (made_seen leaves made) }
+    ensures { (leaves : ℕ) → instance_design_of leaves result ≡ apart (instance_design_of leaves made) }
 {
     InstanceResult {
         design: Design::Empty,
@@ -51,22 +51,22 @@ pub fn set_apart(made: InstanceResult) -> InstanceResult
     }
 }
 
-/// Members joined by an operation.
+/// MemberDesigns joined by an operation.
 pub fn joined(alloc: Global, op: Op, members: MemberResults) -> Result<InstanceResult, NoMemory>
-    ensures { IfOk result (λ made. (leaves : ℕ) → made_seen leaves made ≡ made_of op (members_seen leaves members)) }
+    ensures { IfOk result (λ made. (leaves : ℕ) → instance_design_of leaves made ≡ joined_members op (member_designs_of leaves members)) }
 {
     let MemberResults { designs, marked } = members;
     let design = grouped(alloc, op, designs)?;
     Ok(InstanceResult { design, marked })
 }
 
-/// Members with what one more instance gives. Where it is no member, its design is dropped.
+/// MemberDesigns with what one more instance gives. Where it is no member, its design is dropped.
 pub fn with_made(
     members: MemberResults,
     is_member: bool,
     next: Result<InstanceResult, Stop>,
 ) -> Result<MemberResults, Stop>
-    ensures { IsLengthened (member_seen is_member) members next result }
+    ensures { IsLengthened (one_member_of is_member) members next result }
 {
     let InstanceResult { design, marked } = next?;
     let mut designs = members.designs;
@@ -79,12 +79,12 @@ pub fn with_made(
     })
 }
 
-/// Members with those behind them.
+/// MemberDesigns with those behind them.
 pub fn with_members(
     members: MemberResults,
     next: Result<MemberResults, Stop>,
 ) -> Result<MemberResults, Stop>
-    ensures { IsLengthened members_seen members next result }
+    ensures { IsLengthened member_designs_of members next result }
 {
     let mut later = next?;
     let mut designs = members.designs;

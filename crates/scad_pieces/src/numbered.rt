@@ -45,7 +45,7 @@ pub fn numbered_instances<'a>(
     Ok(found)
 }
 
-/// Adds the instances of a block that is there.
+// Adds the instances of a block that is there.
 fn add_block<'a>(
     source: &Source<'a>,
     block: u32,
@@ -75,7 +75,7 @@ fn add_block<'a>(
     }
 }
 
-/// Adds the instances of statements whose blocks begin at a number, and answers the number behind them.
+// Adds the instances of statements whose blocks begin at a number, and answers the number behind them.
 #[cycle(numbered)]
 fn add_all<'a>(
     source: &Source<'a>,
@@ -143,7 +143,7 @@ fn add_instance<'a>(
     Ok(behind(source, numbered))
 }
 
-/// An instance whose blocks begin at a number.
+// An instance whose blocks begin at a number.
 fn with_blocks<'a>(source: &Source<'a>, instance: &'a Instance, block: u32) -> NumberedInstance<'a>
     requires whole { IsWhole (text_of source.now) }
     requires stand { StandAt (text_of source.now) block (marks_of_instance (instance_of instance.now)) }
@@ -158,7 +158,7 @@ fn with_blocks<'a>(source: &Source<'a>, instance: &'a Instance, block: u32) -> N
     }
 }
 
-/// The number behind all blocks of an instance.
+// The number behind all blocks of an instance.
 fn behind(source: &Source<'_>, numbered: NumberedInstance<'_>) -> u32
     requires whole { IsWhole (text_of source.now) }
     requires stand { StandAt (text_of source.now) numbered.block (marks_of_instance (term_of_numbered numbered)) }

@@ -60,7 +60,7 @@ impl Position {
     }
 
     /// Inside an extrusion.
-    pub fn extruding(self, through: Extrusion) -> Position
+    pub fn inside_extrusion(self, through: Extrusion) -> Position
         ensures { result ≡ record { scope = self.scope; inside = Some through; under_mark = self.under_mark } }
     {
         Position {

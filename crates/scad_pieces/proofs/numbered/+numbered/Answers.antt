@@ -5,7 +5,7 @@ use Rattle.scad_ast.specs.StatementView.{statement_of, statements_of}
 use Rattle.scad_func.specs.View.{text_of}
 use Rattle.scad_scope.specs.Blocks.{StandAt, marks_of}
 use Rattle.scad_pieces.specs.Positions.{term_of_numbered}
-use Rattle.scad_pieces.proofs.Numbering.{left_more, statements_here, here_stands, nesting_here, nesting_of, block_form}
+use Rattle.scad_pieces.proofs.Numbering.{remaining_more, statements_here, here_stands, nesting_here, nesting_of, block_form}
 use Rattle.scad_pieces.proofs.numbered.+numbered.Goals as goal
 
 pub add_all-add-requires : goal.add_all-add-requires
@@ -20,7 +20,7 @@ add_all-add-requires t c =
         c.requires.whole,
         (
           here_stands (text_of c.args.source.now) c.args.first c.each.next (statements_from (statements_of c.args.statements.now))
-              (map term_of_numbered c.args.found.now.items) (map term_of_numbered c.each.found.items) ss i s h here c.each.invariant.left,
+              (map term_of_numbered c.args.found.now.items) (map term_of_numbered c.each.found.items) ss i s h here c.each.invariant.remaining,
           c.each.invariant.blocks,
         ),
       ),
@@ -35,10 +35,10 @@ add_all-each-preserved t c =
     let here : s ≡ get_or ss i s = c.statement-item.is ∙ ap (λ (l : List Statement). get_or l i s) c.deref-statement-items.ensures.value in
     let g = c.in_ok-next.ensures in
     record {
-      left = left_more (text_of c.args.source.now) c.args.first c.each.next c.in_ok-next.next
+      remaining = remaining_more (text_of c.args.source.now) c.args.first c.each.next c.in_ok-next.next
           (statements_from (statements_of c.args.statements.now)) (statements_from (map statement_of (drop i ss)))
           (map term_of_numbered c.args.found.now.items) (map term_of_numbered c.each.found.items) (map term_of_numbered c.add.new.found.items)
-          (statement_of s) (statements_from (map statement_of (drop (i + 1) ss))) c.each.invariant.left (statements_here ss i s h here)
+          (statement_of s) (statements_from (map statement_of (drop (i + 1) ss))) c.each.invariant.remaining (statements_here ss i s h here)
           g.behind g.instances;
       blocks = g.blocks;
     }

@@ -4,12 +4,12 @@ use Rattle.scad_ast.specs.Terms.{statements_from}
 use Rattle.scad_ast.specs.StatementView.{statement_of, statements_of}
 use Rattle.scad_func.specs.View.{text_of}
 use Rattle.scad_pieces.specs.Positions.{term_of_numbered, HasBlocks}
-use Rattle.scad_pieces.proofs.Numbering.{Left, nesting_in, nesting_of}
+use Rattle.scad_pieces.proofs.Numbering.{RemainingStatements, nesting_in, nesting_of}
 use Rattle.scad_pieces.proofs.numbered.+numbered.Given as goal
 
 abbrev pub invariant-add_all-each : goal.invariant-add_all-each
 invariant-add_all-each l = record {
-  left : Left (text_of l.source) l.first l.next (statements_from (statements_of l.statements))
+  remaining : RemainingStatements (text_of l.source) l.first l.next (statements_from (statements_of l.statements))
       (statements_from (map statement_of (drop l.statement-index l.statements.items.items)))
       (map term_of_numbered l.fn.found.items) (map term_of_numbered l.found.items);
   blocks : All (HasBlocks (text_of l.source)) l.found.items;

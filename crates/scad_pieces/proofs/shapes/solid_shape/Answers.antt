@@ -1,14 +1,14 @@
 use Rattle.std.proofs.Common.{rules, w64, to_z-of_z, FitsSigned}
-use Rattle.scad_pieces.proofs.Made.{cube_told, polyhedron_told, cylinder_told}
+use Rattle.scad_pieces.proofs.ShapeAnswers.{cube_answer, polyhedron_answer, cylinder_answer}
 use Rattle.scad_pieces.proofs.shapes.solid_shape.Goals as goal
 
 pub returns-in-Cube : goal.returns-in-Cube
-returns-in-Cube c = rw c.in-Cube.is (cube_told c.args.unit c.in-Cube.center c.in-Cube.size c.cube_shape.result c.cube_shape.ensures.shape c.cube_shape.ensures.sizes c.cube_shape.ensures.stops)
+returns-in-Cube c = rw c.in-Cube.is (cube_answer c.args.unit c.in-Cube.center c.in-Cube.size c.cube_shape.result c.cube_shape.ensures.shape c.cube_shape.ensures.sizes c.cube_shape.ensures.stops)
 
 pub returns-in-Polyhedron : goal.returns-in-Polyhedron
 returns-in-Polyhedron c =
     rw (c.in-Polyhedron.is, ← c.deref.ensures.value, ← c.deref-in-Polyhedron.ensures.value)
-    (polyhedron_told c.args.unit c.deref.result.now c.deref-in-Polyhedron.result.now c.polyhedron_shape.result c.polyhedron_shape.ensures.shape c.polyhedron_shape.ensures.polyhedron c.polyhedron_shape.ensures.fault)
+    (polyhedron_answer c.args.unit c.deref.result.now c.deref-in-Polyhedron.result.now c.polyhedron_shape.result c.polyhedron_shape.ensures.shape c.polyhedron_shape.ensures.polyhedron c.polyhedron_shape.ensures.fault)
 
 pub returns-in-Cylinder : goal.returns-in-Cylinder
 returns-in-Cylinder c =
@@ -18,4 +18,4 @@ returns-in-Cylinder c =
     let shape = simp to_z-of_z at c.cylinder_shape.ensures.shape in
     let sizes = simp to_z-of_z at c.cylinder_shape.ensures.sizes in
     let stops = simp to_z-of_z at c.cylinder_shape.ensures.stops in
-    rw c.in-Cylinder.is (cylinder_told c.args.unit c.in-Cylinder.center c.in-Cylinder.height c.in-Cylinder.low c.in-Cylinder.high c.cylinder_shape.result shape sizes stops)
+    rw c.in-Cylinder.is (cylinder_answer c.args.unit c.in-Cylinder.center c.in-Cylinder.height c.in-Cylinder.low c.in-Cylinder.high c.cylinder_shape.result shape sizes stops)

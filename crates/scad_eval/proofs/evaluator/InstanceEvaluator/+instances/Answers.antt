@@ -23,40 +23,39 @@ use Rattle.scad_func.specs.Definitions.{statements_at}
 use Rattle.scad_func.specs.declared.source.Source.{Source}
 use Rattle.scad_scope.specs.declared.parameters.GivenArguments.{GivenArguments}
 use Rattle.scad_pieces.specs.declared.position.Position.{Position}
-use Rattle.scad_pieces.specs.Items.{left_in}
-use Rattle.scad_meaning.specs.Meaning.{Stand, Members, Made, Makes, made_within, made_of, made_nothing, as_member, and_members, body_made, hull_made, children_made as children_at, effect_made as effect_at, each_member, each_step, each_turn, in_loop, module_scope, called_from, chained, standing, setting}
+use Rattle.scad_pieces.specs.Items.{remaining_in}
+use Rattle.scad_meaning.specs.Meaning.{Context, MemberDesigns, InstanceDesign, Evaluator, joined_members, no_design, as_member, and_members, body_design, hull_design, children_design, effect_design, each_member, each_step, each_turn, in_loop, module_scope, with_calls_left, with_chain, inside_scope, setting}
 use Rattle.scad_pieces.specs.Positions.{term_of_numbered, HasBlocks}
-use Rattle.scad_pieces.specs.Seen.{members_seen, member_seen, apart}
+use Rattle.scad_pieces.specs.Seen.{member_designs_of, one_member_of, apart}
 use Rattle.scad_eval.specs.declared.evaluator.InstanceEvaluator.{InstanceEvaluator}
 use Rattle.scad_func.specs.Evaluations.{CallBegins, SpecialsBegin}
 use Rattle.scad_meaning.specs.Bodies.{is_child}
-use Rattle.scad_eval.specs.Keeping.{left_at, stand_at, StopsBefore}
+use Rattle.scad_eval.specs.Keeping.{evaluations_left, evaluator_at, context_at, StopsBefore}
 use Rattle.scad_eval.specs.Steps.{block_members, module_filled, module_given, one_step}
 use Rattle.scad_eval.specs.Within.{body_seen}
 use Rattle.scad_eval.proofs.Work.{work_falls, work_same}
-use Rattle.scad_eval.proofs.Counting.{made_too_deep, call_counted, turn_counted}
-use Rattle.scad_eval.proofs.Membership.{child_is_member, as_told, member_step, loop_step, instances_here}
-use Rattle.scad_eval.proofs.Telling.{along, then_told, stop_told, told_with, value_told, lengthened, lengthening_stops}
-use Rattle.scad_eval.proofs.Standing.{stays_same, stays_then, stays_kept, same_stand, said_after, said_at}
-use Rattle.scad_eval.proofs.Beginning.{deeper_stands}
-use Rattle.scad_eval.proofs.Saying.{refused_told, joined_told, entered_said, body_entered, deeper_said, call_said, specials_said, specials_setting, children_as_members, marked_form, begun_front, lengthened_on, first_told, OnOk-at_ok}
+use Rattle.scad_eval.proofs.Counting.{design_too_deep, call_counted, turn_counted}
+use Rattle.scad_eval.proofs.Membership.{child_is_member, as_member_outcome, member_step, loop_step, instances_here}
+use Rattle.scad_eval.proofs.Outcomes.{along, then_outcome, stop_outcome, outcome_with, value_outcome, lengthened, lengthening_stops}
+use Rattle.scad_eval.proofs.Contexts.{stays_same, stays_then, stays_kept, same_context, meets_after, meets_at}
+use Rattle.scad_eval.proofs.Beginning.{deeper_position}
+use Rattle.scad_eval.proofs.Equations.{refused_outcome, joined_outcome, entered_meets, body_entered, deeper_meets, call_meets, specials_meets, specials_setting, children_as_members, marked_form, begun_front, lengthened_on, first_outcome, OnOk-at_ok}
 use Rattle.scad_eval.proofs.evaluator.InstanceEvaluator.+instances.Goals as goal
 
 pub body-returns-clause-made : goal.body-returns-clause-made
 body-returns-clause-made t c = record {
   by = λ judge right.
-      joined_told c.args.op c.in_ok-members.members c.in_ok-joined.field-0 _ _ _ (c.in_ok-members.ensures.members.by judge right) c.in_ok-joined.ensures;
+      joined_outcome c.args.op c.in_ok-members.members c.in_ok-joined.field-0 _ _ _ (c.in_ok-members.ensures.members.by judge right) c.in_ok-joined.ensures;
 }
 
 pub children_made-returns-in-None-clause-made : goal.children_made-returns-in-None-clause-made
 children_made-returns-in-None-clause-made t c = record {
   by = λ judge right.
       let m = c.args.self.now in
-      let l = left_at m in
       record {
-        is = ap (λ (o : Opened). children_at l (made_within m.unit judge l) (stand_at m c.args.position) o (chosen_of c.args.chosen.now) m.evaluation.turns m.leaves)
+        is = ap (λ (o : Opened). children_design (evaluator_at m judge) (context_at m c.args.position) o (chosen_of c.args.chosen.now) m.evaluation.turns m.leaves)
             c.in-None.ensures.value
-            ∙ ap (λ (made : Made). Gives m.evaluation.turns made) (sym (c.nothing_made.ensures m.leaves));
+            ∙ ap (λ (made : InstanceDesign). Gives m.evaluation.turns made) (sym (c.nothing_made.ensures m.leaves));
       };
 }
 
@@ -64,13 +63,12 @@ pub children_of-returns-in_err-members-clause-made : goal.children_of-returns-in
 children_of-returns-in_err-members-clause-made t c =
     let p = err_from_is_err_and c.from_residual-in_err-members.result c.from_residual-in_err-members.ensures.1 in
     let m = c.args.self.now in
-    let l = left_at m in
     let statements = statements_at (text_of m.evaluation.source.now) c.args.call.children in
     let caller = seen m.evaluation.source.now (rows_of m.evaluation.scopes.now) c.args.call.caller in
     rw (p.1, p.2) (record {
       by = λ judge right.
-          along (children_as_members l (made_within m.unit judge l) (stand_at m c.args.position) statements caller (chosen_of c.args.chosen.now) m.evaluation.turns m.leaves)
-          (stop_told (λ turns ms. Gives turns (made_of Union ms))
+          along (children_as_members (evaluator_at m judge) (context_at m c.args.position) statements caller (chosen_of c.args.chosen.now) m.evaluation.turns m.leaves)
+          (stop_outcome (λ turns ms. Gives turns (joined_members Union ms))
           (body_entered m _ c.members_in_scope.new.self c.args.position c.at.result c.in_ok-scope.scope c.args.call.children no_call caller (Some (chosen_of c.args.chosen.now)) statements
           c.requires.position.whole refl (record { unit = refl; leaves = refl; evaluation = c.in_ok-scope.ensures.entered }) c.in_ok-scope.ensures.inside c.enter_body.ensures.turns
           c.at.ensures c.in_err-members.ensures.members judge right));
@@ -79,14 +77,13 @@ children_of-returns-in_err-members-clause-made t c =
 pub children_of-returns-clause-made : goal.children_of-returns-clause-made
 children_of-returns-clause-made t c =
     let m = c.args.self.now in
-    let l = left_at m in
     let statements = statements_at (text_of m.evaluation.source.now) c.args.call.children in
     let caller = seen m.evaluation.source.now (rows_of m.evaluation.scopes.now) c.args.call.caller in
     record {
       by = λ judge right.
-          along (children_as_members l (made_within m.unit judge l) (stand_at m c.args.position) statements caller (chosen_of c.args.chosen.now) m.evaluation.turns m.leaves)
-          (joined_told Union c.in_ok-members.members c.in_ok-joined.field-0 _ _ _
-          (told_with c.leave.ensures.turns
+          along (children_as_members (evaluator_at m judge) (context_at m c.args.position) statements caller (chosen_of c.args.chosen.now) m.evaluation.turns m.leaves)
+          (joined_outcome Union c.in_ok-members.members c.in_ok-joined.field-0 _ _ _
+          (outcome_with c.leave.ensures.turns
           (body_entered m _ c.members_in_scope.new.self c.args.position c.at.result c.in_ok-scope.scope c.args.call.children no_call caller (Some (chosen_of c.args.chosen.now)) statements
           c.requires.position.whole refl (record { unit = refl; leaves = refl; evaluation = c.in_ok-scope.ensures.entered }) c.in_ok-scope.ensures.inside c.enter_body.ensures.turns
           c.at.ensures c.in_ok-members.ensures.members judge right))
@@ -97,15 +94,14 @@ pub effect_made-returns-in-Solid-clause-made : goal.effect_made-returns-in-Solid
 effect_made-returns-in-Solid-clause-made t c = record {
   by = λ judge right.
       let m = c.args.self.now in
-      let l = left_at m in
-      along (ap (λ (e : Effect). effect_at m.unit judge l (made_within m.unit judge l) (stand_at m c.args.position) c.args.place (call_of e) (body_seen c.args.body) m.evaluation.turns m.leaves)
+      along (ap (λ (e : Effect). effect_design (evaluator_at m judge) (context_at m c.args.position) c.args.place (call_of e) (body_seen c.args.body) m.evaluation.turns m.leaves)
       c.in-Solid.is)
       ((c.solid.ensures.made c.args.position).by judge right);
 }
 
 pub hulled-returns-clause-made : goal.hulled-returns-clause-made
 hulled-returns-clause-made t c = record {
-  by = λ judge right. then_told (λ turns m. hull_made (judge.hull m.design) c.args.place m turns)
+  by = λ judge right. then_outcome (λ turns m. hull_design (judge.hull m.design) c.args.place m turns)
       (c.in_ok-made.ensures.made.by judge right) ((c.hull.ensures.made c.args.position).by judge right);
 }
 
@@ -116,9 +112,9 @@ instance-returns-in_err-begin_evaluation-clause-made t c =
     let r = c.in_err-begin_evaluation.ensures.refused in
     rw (p.1, p.2) (record {
       by = λ judge right.
-          along (made_too_deep m.unit judge m.evaluation.depth (stand_at m c.args.position) (term_of_numbered c.args.instance) m.evaluation.turns m.leaves r.0
+          along (design_too_deep m.unit judge m.evaluation.depth (context_at m c.args.position) (term_of_numbered c.args.instance) m.evaluation.turns m.leaves r.0
           ∙ ap (λ (at : Place). Faults TooDeep at) (sym c.place.ensures))
-          (refused_told c.in_err-begin_evaluation.field-0.0 _ _ TooDeep c.place.result r.1);
+          (refused_outcome c.in_err-begin_evaluation.field-0.0 _ _ TooDeep c.place.result r.1);
     })
 
 pub instance-marked_or_not-requires : goal.instance-marked_or_not-requires
@@ -127,7 +123,7 @@ instance-marked_or_not-requires t c =
     let b = c.in_ok-begin_evaluation.ensures.begun in (
       omega (arith, work_falls m.evaluation.depth b.within, work_same c.begin_evaluation.new.self.depth (m.evaluation.depth + 1) b.depth, c.decreases),
       (
-        deeper_stands m _ c.args.position refl b c.requires.position,
+        deeper_position m _ c.args.position refl b c.requires.position,
         subst (λ (x : Source). HasBlocks (text_of x) c.args.instance) (sym b.source) c.requires.blocks,
       ),
     )
@@ -137,15 +133,15 @@ instance-returns-in_err-made-clause-made t c =
     let p = err_from_is_err_and c.from_residual-in_err-made.result c.from_residual-in_err-made.ensures.1 in
     rw (p.1, p.2) (record {
       by = λ judge right.
-          deeper_said c.args.self.now _ c.marked_or_not.new.self c.args.position (term_of_numbered c.args.instance) refl refl c.begin_evaluation.ensures.turns
+          deeper_meets c.args.self.now _ c.marked_or_not.new.self c.args.position (term_of_numbered c.args.instance) refl refl c.begin_evaluation.ensures.turns
           c.in_ok-begin_evaluation.ensures.begun c.in_err-made.ensures.made judge right;
     })
 
 pub instance-returns-clause-made : goal.instance-returns-clause-made
 instance-returns-clause-made t c = record {
   by = λ judge right.
-      told_with c.end_evaluation.ensures.turns
-      (deeper_said c.args.self.now _ c.marked_or_not.new.self c.args.position (term_of_numbered c.args.instance) refl refl c.begin_evaluation.ensures.turns
+      outcome_with c.end_evaluation.ensures.turns
+      (deeper_meets c.args.self.now _ c.marked_or_not.new.self c.args.position (term_of_numbered c.args.instance) refl refl c.begin_evaluation.ensures.turns
       c.in_ok-begin_evaluation.ensures.begun c.in_ok-made.ensures.made judge right);
 }
 
@@ -153,9 +149,8 @@ pub looped-returns-clause-made : goal.looped-returns-clause-made
 looped-returns-clause-made t c = record {
   by = λ judge right.
       let m = c.args.self.now in
-      let l = left_at m in
-      joined_told c.args.op c.in_ok-members.members c.in_ok-joined.field-0 _ _ _
-      (along (ap (λ (bs : List Binder). each_turn l (made_within m.unit judge l) c.args.place (map binder_of bs) (body_seen c.args.body) (stand_at m c.args.position) m.evaluation.turns m.leaves)
+      joined_outcome c.args.op c.in_ok-members.members c.in_ok-joined.field-0 _ _ _
+      (along (ap (λ (bs : List Binder). each_turn (evaluator_at m judge) c.args.place (map binder_of bs) (body_seen c.args.body) (context_at m c.args.position) m.evaluation.turns m.leaves)
       (sym c.deref.ensures.value))
       (c.in_ok-members.ensures.members.by judge right))
       c.in_ok-joined.ensures;
@@ -165,13 +160,12 @@ pub marked_or_not-returns-clause-made : goal.marked_or_not-returns-clause-made
 marked_or_not-returns-clause-made t c = record {
   by = λ judge right.
       let m = c.args.self.now in
-      let l = left_at m in
       let i = term_of_numbered c.args.instance in
-      along (marked_form m.unit judge l (made_within m.unit judge l) (stand_at m c.args.position) i m.evaluation.turns m.leaves
+      along (marked_form (evaluator_at m judge) (context_at m c.args.position) i m.evaluation.turns m.leaves
       (sym c.is_marked.ensures ∙ c.if-not-is_marked.false) (sym c.is_some.ensures ∙ c.if-is_some.false) c.if-position.false)
-      (then_told (λ turns made. Gives turns (apart made))
-      (said_at m.unit l _ refl refl (ap (λ (s : Position). stand_at m s) c.marked.ensures) c.in_ok-made.ensures.made judge right)
-      (record { is = ap (λ (made : Made). Gives c.core-2.new.self.evaluation.turns made) (sym (c.set_apart.ensures c.core-2.new.self.leaves)) }));
+      (then_outcome (λ turns made. Gives turns (apart made))
+      (meets_at m.unit (evaluations_left m) _ refl refl (ap (λ (s : Position). context_at m s) c.marked.ensures) c.in_ok-made.ensures.made judge right)
+      (record { is = ap (λ (made : InstanceDesign). Gives c.core-2.new.self.evaluation.turns made) (sym (c.set_apart.ensures c.core-2.new.self.leaves)) }));
 }
 
 pub members-each-init : goal.members-each-init
@@ -190,26 +184,25 @@ members-each-preserved t c =
     let x = c.instance-item.result in
     let h : i < length xs = omega (arith, c.each-test.true) in
     record {
-      stays = stays_then inv.stays (lengthened_on (member_seen c.is_child-is_member.result) c.each.members c.instance-next.result c.in_ok-members.members _ c.in_ok-members.ensures c.instance-next.ensures.stays);
+      stays = stays_then inv.stays (lengthened_on (one_member_of c.is_child-is_member.result) c.each.members c.instance-next.result c.in_ok-members.members _ c.in_ok-members.ensures c.instance-next.ensures.stays);
       told = λ judge right.
-          let l = left_at m in
-          let make = made_within m.unit judge l in
-          let here = stand_at m c.args.position in
+          let evaluator = evaluator_at m judge in
+          let here = context_at m c.args.position in
           let b = c.is_child-is_member.result in
-          let go : ℕ → ℕ → Outcome Members = λ turns leaves. each_member make here (map term_of_numbered (drop (i + 1) xs)) turns leaves in
-          lengthened (member_seen b) (λ leaves x. refl) (each_member make here (map term_of_numbered xs) m.evaluation.turns m.leaves) c.each.members m.leaves
-          (each_member make here (map term_of_numbered (drop i xs)) mid.evaluation.turns mid.leaves)
-          (then_with (make here (term_of_numbered x) mid.evaluation.turns mid.leaves) (λ turns made. Gives turns (as_member b made))) go
+          let go : ℕ → ℕ → Outcome MemberDesigns = λ turns leaves. each_member evaluator here (map term_of_numbered (drop (i + 1) xs)) turns leaves in
+          lengthened (one_member_of b) (λ leaves x. refl) (each_member evaluator here (map term_of_numbered xs) m.evaluation.turns m.leaves) c.each.members m.leaves
+          (each_member evaluator here (map term_of_numbered (drop i xs)) mid.evaluation.turns mid.leaves)
+          (then_with (evaluator.deeper here (term_of_numbered x) mid.evaluation.turns mid.leaves) (λ turns made. Gives turns (as_member b made))) go
           (inv.told judge right)
-          (ap (λ is. each_member make here is mid.evaluation.turns mid.leaves) (instances_here xs i x h c.instance-item.is)
-          ∙ ap (λ (b : Bool). then_with (make here (term_of_numbered x) mid.evaluation.turns mid.leaves) (λ turns made.
+          (ap (λ is. each_member evaluator here is mid.evaluation.turns mid.leaves) (instances_here xs i x h c.instance-item.is)
+          ∙ ap (λ (b : Bool). then_with (evaluator.deeper here (term_of_numbered x) mid.evaluation.turns mid.leaves) (λ turns made.
           then_with (go turns made.leaves) (λ turns ms. Gives turns (and_members (as_member b made) ms))))
           (child_is_member here.env (term_of_numbered x)
-          ∙ ap (λ (s : Stand). is_child s.env (term_of_numbered x)) (sym (same_stand m mid c.args.position inv.stays))
+          ∙ ap (λ (s : Context). is_child s.env (term_of_numbered x)) (sym (same_context m mid c.args.position inv.stays))
           ∙ sym c.is_child-is_member.ensures)
-          ∙ member_step b (make here (term_of_numbered x) mid.evaluation.turns mid.leaves) go)
+          ∙ member_step b (evaluator.deeper here (term_of_numbered x) mid.evaluation.turns mid.leaves) go)
           c.instance-next.result c.in_ok-members.members _ _ c.in_ok-members.ensures
-          (as_told b (said_after inv.stays c.instance-next.ensures.made judge right));
+          (as_member_outcome b (meets_after inv.stays c.instance-next.ensures.made judge right));
     }
 
 pub members_of_body-returns-in_err-members-clause-members : goal.members_of_body-returns-in_err-members-clause-members
@@ -229,7 +222,7 @@ members_of_body-returns-clause-members t c =
     let m = c.args.self.now in
     record {
       by = λ judge right.
-          told_with c.leave.ensures.turns
+          outcome_with c.leave.ensures.turns
           (body_entered m _ c.members_in_scope.new.self c.args.position c.at.result c.in_ok-scope.scope c.args.body.block no_call
           (seen m.evaluation.source.now (rows_of m.evaluation.scopes.now) c.args.position.scope) None (statements_of_body (body_seen c.args.body))
           c.requires.position.whole c.requires.block (record { unit = refl; leaves = refl; evaluation = c.in_ok-scope.ensures.entered }) c.in_ok-scope.ensures.inside
@@ -242,14 +235,13 @@ module_called-returns-in_err-given-clause-made t c =
     let m = c.args.self.now in
     rw (p.1, p.2) (record {
       by = λ judge right.
-          let l = left_at m in
           IfErr-at_err (StopsBefore m.evaluation c.args.place) c.in_err-given.ensures.err c.begin_counted_call-begun.ensures.refused
-          (λ calls turns. module_given l (made_within m.unit judge l) (module_of c.args.defined, seen m.evaluation.source.now (rows_of m.evaluation.scopes.now) c.args.home)
-          (arguments_of c.args.given) (body_seen c.args.body) (called_from (stand_at m c.args.position) calls) turns m.leaves) _ _;
+          (λ calls turns. module_given (evaluator_at m judge) (module_of c.args.defined, seen m.evaluation.source.now (rows_of m.evaluation.scopes.now) c.args.home)
+          (arguments_of c.args.given) (body_seen c.args.body) (with_calls_left (context_at m c.args.position) calls) turns m.leaves) _ _;
     })
 
 -- a module called from where its call was counted
-module_counted : (m : InstanceEvaluator) (calls turns : ℕ) (place : Place) (go : ℕ → ℕ → Outcome Made) → m.evaluation.calls < 64 → m.evaluation.turns < 100000
+module_counted : (m : InstanceEvaluator) (calls turns : ℕ) (place : Place) (go : ℕ → ℕ → Outcome InstanceDesign) → m.evaluation.calls < 64 → m.evaluation.turns < 100000
     → calls ≡ 64 - (m.evaluation.calls + 1) → turns ≡ m.evaluation.turns + 1
     → one_call_fewer (64 - m.evaluation.calls) place (λ calls. turn place m.evaluation.turns (go calls)) ≡ go calls turns
 module_counted m calls turns place go few some is more =
@@ -267,14 +259,13 @@ module_called-returns-in_err-made-clause-made t c =
     let counted : (m.evaluation.turns < 100000) × (mid.evaluation.turns ≡ m.evaluation.turns + 1) = OnOk-at_ok ok.1 c.begin_counted_call-begun.ensures.counted in
     rw (p.1, p.2) (record {
       by = λ judge right.
-          let l = left_at m in
           along (module_counted m (64 - (m.evaluation.calls + 1)) mid.evaluation.turns c.args.place
-          (λ calls turns. module_given l (made_within m.unit judge l) (module_of c.args.defined, seen m.evaluation.source.now (rows_of m.evaluation.scopes.now) c.args.home)
-          (arguments_of c.args.given) (body_seen c.args.body) (called_from (stand_at m c.args.position) calls) turns m.leaves)
+          (λ calls turns. module_given (evaluator_at m judge) (module_of c.args.defined, seen m.evaluation.source.now (rows_of m.evaluation.scopes.now) c.args.home)
+          (arguments_of c.args.given) (body_seen c.args.body) (with_calls_left (context_at m c.args.position) calls) turns m.leaves)
           begun.within counted.0 refl counted.1
-          ∙ ap (λ (given : GivenArguments Value). module_given l (made_within m.unit judge l) (module_of c.args.defined, seen m.evaluation.source.now (rows_of m.evaluation.scopes.now) c.args.home)
-          (arguments_of given) (body_seen c.args.body) (called_from (stand_at m c.args.position) (64 - (m.evaluation.calls + 1))) mid.evaluation.turns m.leaves) (sym ok.0))
-          (call_said (λ (x : Source) (rows : List Row) unit judge left make. module_given left make (module_of c.args.defined, seen x rows c.args.home) (arguments_of c.in_ok-given.given) (body_seen c.args.body))
+          ∙ ap (λ (given : GivenArguments Value). module_given (evaluator_at m judge) (module_of c.args.defined, seen m.evaluation.source.now (rows_of m.evaluation.scopes.now) c.args.home)
+          (arguments_of given) (body_seen c.args.body) (with_calls_left (context_at m c.args.position) (64 - (m.evaluation.calls + 1))) mid.evaluation.turns m.leaves) (sym ok.0))
+          (call_meets (λ (x : Source) (rows : List Row) evaluator. module_given evaluator (module_of c.args.defined, seen x rows c.args.home) (arguments_of c.in_ok-given.given) (body_seen c.args.body))
           m mid c.module_with_specials.new.self c.args.position c.begin_counted_call-begun.ensures.unit c.begin_counted_call-begun.ensures.leaves begun c.in_err-made.ensures.made judge right);
     })
 
@@ -287,15 +278,14 @@ module_called-returns-clause-made t c =
     let counted : (m.evaluation.turns < 100000) × (mid.evaluation.turns ≡ m.evaluation.turns + 1) = OnOk-at_ok ok.1 c.begin_counted_call-begun.ensures.counted in
     record {
       by = λ judge right.
-          let l = left_at m in
-          told_with c.end_call.ensures.turns
+          outcome_with c.end_call.ensures.turns
           (along (module_counted m (64 - (m.evaluation.calls + 1)) mid.evaluation.turns c.args.place
-          (λ calls turns. module_given l (made_within m.unit judge l) (module_of c.args.defined, seen m.evaluation.source.now (rows_of m.evaluation.scopes.now) c.args.home)
-          (arguments_of c.args.given) (body_seen c.args.body) (called_from (stand_at m c.args.position) calls) turns m.leaves)
+          (λ calls turns. module_given (evaluator_at m judge) (module_of c.args.defined, seen m.evaluation.source.now (rows_of m.evaluation.scopes.now) c.args.home)
+          (arguments_of c.args.given) (body_seen c.args.body) (with_calls_left (context_at m c.args.position) calls) turns m.leaves)
           begun.within counted.0 refl counted.1
-          ∙ ap (λ (given : GivenArguments Value). module_given l (made_within m.unit judge l) (module_of c.args.defined, seen m.evaluation.source.now (rows_of m.evaluation.scopes.now) c.args.home)
-          (arguments_of given) (body_seen c.args.body) (called_from (stand_at m c.args.position) (64 - (m.evaluation.calls + 1))) mid.evaluation.turns m.leaves) (sym ok.0))
-          (call_said (λ (x : Source) (rows : List Row) unit judge left make. module_given left make (module_of c.args.defined, seen x rows c.args.home) (arguments_of c.in_ok-given.given) (body_seen c.args.body))
+          ∙ ap (λ (given : GivenArguments Value). module_given (evaluator_at m judge) (module_of c.args.defined, seen m.evaluation.source.now (rows_of m.evaluation.scopes.now) c.args.home)
+          (arguments_of given) (body_seen c.args.body) (with_calls_left (context_at m c.args.position) (64 - (m.evaluation.calls + 1))) mid.evaluation.turns m.leaves) (sym ok.0))
+          (call_meets (λ (x : Source) (rows : List Row) evaluator. module_given evaluator (module_of c.args.defined, seen x rows c.args.home) (arguments_of c.in_ok-given.given) (body_seen c.args.body))
           m mid c.module_with_specials.new.self c.args.position c.begin_counted_call-begun.ensures.unit c.begin_counted_call-begun.ensures.leaves begun c.in_ok-made.ensures.made judge right));
     }
 
@@ -308,25 +298,24 @@ module_made-returns-clause-made t c =
     let env = module_scope home (module_of c.args.defined) vs (statements_of_body (body_seen c.args.body)) caller in
     record {
       by = λ judge right.
-          let l = left_at m in
-          joined_told Union c.in_ok-members.members c.in_ok-joined.field-0 _ _ _
-          (told_with c.leave.ensures.turns
-          (along (ap (λ (st : StatementTerms). block_members l (made_within m.unit judge l) None st (standing (stand_at m c.args.position) env) m.evaluation.turns m.leaves)
+          joined_outcome Union c.in_ok-members.members c.in_ok-joined.field-0 _ _ _
+          (outcome_with c.leave.ensures.turns
+          (along (ap (λ (st : StatementTerms). block_members (evaluator_at m judge) None st (inside_scope (context_at m c.args.position) env) m.evaluation.turns m.leaves)
           (sym c.requires.its_block))
-          (entered_said (λ (x : Source) unit judge left make. block_members left make None (statements_at (text_of x) c.args.defined.block))
+          (entered_meets (λ (x : Source) evaluator. block_members evaluator None (statements_at (text_of x) c.args.defined.block))
           m c.enter_module.new.self c.members_in_scope.new.self c.args.position c.at.result c.in_ok-opened.opened env c.in_ok-opened.ensures.entered c.in_ok-opened.ensures.inside
           c.enter_module.ensures.turns c.at.ensures c.in_ok-members.ensures.members judge right)))
           c.in_ok-joined.ensures;
     }
 
 -- a module whose parameters have their values
-filled_from : (left : ℕ) (make : Makes) (defined : Module) (home : Env) (given : Arguments) (body : BodyTerm) (there : Stand) (from : Setting) (slots : Slots)
-    (start leaves : ℕ) {turns after : ℕ} {vs : Vals} → from ≡ setting left (standing there home) → given.slots ≡ slots → start ≡ turns
+filled_from : (evaluator : Evaluator) (defined : Module) (home : Env) (given : Arguments) (body : BodyTerm) (there : Context) (from : Setting) (slots : Slots)
+    (start leaves : ℕ) {turns after : ℕ} {vs : Vals} → from ≡ setting evaluator.evaluations (inside_scope there home) → given.slots ≡ slots → start ≡ turns
     → each_parameter from defined.params slots start ≡ Gives after vs
-    → then_with (each_parameter (setting left (standing there home)) defined.params given.slots turns) (λ turns vs. module_filled left make (defined, home) vs body there turns leaves)
-    ≡ module_filled left make (defined, home) vs body there after leaves
-filled_from left make defined home given body there from slots start leaves {turns = turns} same slot more h =
-    ap (λ o. then_with o (λ turns vs. module_filled left make (defined, home) vs body there turns leaves))
+    → then_with (each_parameter (setting evaluator.evaluations (inside_scope there home)) defined.params given.slots turns) (λ turns vs. module_filled evaluator (defined, home) vs body there turns leaves)
+    ≡ module_filled evaluator (defined, home) vs body there after leaves
+filled_from evaluator defined home given body there from slots start leaves {turns = turns} same slot more h =
+    ap (λ o. then_with o (λ turns vs. module_filled evaluator (defined, home) vs body there turns leaves))
     (ap (λ s. each_parameter s defined.params given.slots turns) (sym same) ∙ ap (λ s. each_parameter from defined.params s turns) slot
     ∙ ap (λ n. each_parameter from defined.params slots n) (sym more) ∙ h)
 
@@ -340,14 +329,13 @@ module_with_specials-returns-in_err-made-clause-made t c =
     let chain : chain_of begun.evaluation.scopes.now ≡ specials_in c.args.given.specials.items ++ chain_of m.evaluation.scopes.now = OnOk-at_ok ok.1 c.begin_specials-begun.ensures.chain in
     rw (p.1, p.2) (record {
       by = λ judge right.
-          let l = left_at m in
           let given = arguments_of c.args.given in
           let home = seen m.evaluation.source.now (rows_of m.evaluation.scopes.now) c.args.home in
-          let there = chained (stand_at m c.args.position) (given.specials ++ chain_of m.evaluation.scopes.now) in
-          along (filled_from l (made_within m.unit judge l) (module_of c.args.defined) home given (body_seen c.args.body) there _ _ _ m.leaves
+          let there = with_chain (context_at m c.args.position) (given.specials ++ chain_of m.evaluation.scopes.now) in
+          along (filled_from (evaluator_at m judge) (module_of c.args.defined) home given (body_seen c.args.body) there _ _ _ m.leaves
           (specials_setting m begun c.args.position c.args.home c.in_ok-slots.length given.specials begins chain)
           (ap slots_in (ap (λ (v : Vec (Option Value) Global). v.items) (sym ok.0))) c.begin_specials-begun.ensures.turns c.in_ok-values.ensures.value.0)
-          (specials_said (λ (x : Source) (rows : List Row) unit judge left make. module_filled left make (module_of c.args.defined, seen x rows c.args.home) (vals_from (vals_in c.in_ok-values.values.items)) (body_seen c.args.body))
+          (specials_meets (λ (x : Source) (rows : List Row) evaluator. module_filled evaluator (module_of c.args.defined, seen x rows c.args.home) (vals_from (vals_in c.in_ok-values.values.items)) (body_seen c.args.body))
           m begun _ c.module_made.new.self c.args.position c.in_ok-slots.length given.specials refl refl begins chain
           (stays_kept begun _ refl c.each_parameter.ensures.kept) refl c.in_err-made.ensures.made judge right);
     })
@@ -361,15 +349,14 @@ module_with_specials-returns-clause-made t c =
     let chain : chain_of begun.evaluation.scopes.now ≡ specials_in c.args.given.specials.items ++ chain_of m.evaluation.scopes.now = OnOk-at_ok ok.1 c.begin_specials-begun.ensures.chain in
     record {
       by = λ judge right.
-          let l = left_at m in
           let given = arguments_of c.args.given in
           let home = seen m.evaluation.source.now (rows_of m.evaluation.scopes.now) c.args.home in
-          let there = chained (stand_at m c.args.position) (given.specials ++ chain_of m.evaluation.scopes.now) in
-          told_with c.end_specials.ensures.turns
-          (along (filled_from l (made_within m.unit judge l) (module_of c.args.defined) home given (body_seen c.args.body) there _ _ _ m.leaves
+          let there = with_chain (context_at m c.args.position) (given.specials ++ chain_of m.evaluation.scopes.now) in
+          outcome_with c.end_specials.ensures.turns
+          (along (filled_from (evaluator_at m judge) (module_of c.args.defined) home given (body_seen c.args.body) there _ _ _ m.leaves
           (specials_setting m begun c.args.position c.args.home c.in_ok-slots.length given.specials begins chain)
           (ap slots_in (ap (λ (v : Vec (Option Value) Global). v.items) (sym ok.0))) c.begin_specials-begun.ensures.turns c.in_ok-values.ensures.value.0)
-          (specials_said (λ (x : Source) (rows : List Row) unit judge left make. module_filled left make (module_of c.args.defined, seen x rows c.args.home) (vals_from (vals_in c.in_ok-values.values.items)) (body_seen c.args.body))
+          (specials_meets (λ (x : Source) (rows : List Row) evaluator. module_filled evaluator (module_of c.args.defined, seen x rows c.args.home) (vals_from (vals_in c.in_ok-values.values.items)) (body_seen c.args.body))
           m begun _ c.module_made.new.self c.args.position c.in_ok-slots.length given.specials refl refl begins chain
           (stays_kept begun _ refl c.each_parameter.ensures.kept) refl c.in_ok-made.ensures.made judge right));
     }
@@ -378,13 +365,12 @@ pub one_or_nothing-returns-clause-made : goal.one_or_nothing-returns-clause-made
 one_or_nothing-returns-clause-made t c = record {
   by = λ judge right.
       let m = c.args.self.now in
-      let l = left_at m in
       let n = c.expression.new.self.turns in
-      then_told _ (value_told (Ok c.in_ok-value.value) n m.leaves _ c.in_ok-value.ensures.value)
+      then_outcome _ (value_outcome (Ok c.in_ok-value.value) n m.leaves _ c.in_ok-value.ensures.value)
       (record {
-        is = ap (λ (b : Bool). if b then body_made l (made_within m.unit judge l) Union (stand_at m c.args.position) (body_seen c.args.body) n m.leaves else Gives n (made_nothing m.leaves))
+        is = ap (λ (b : Bool). if b then body_design (evaluator_at m judge) Union (context_at m c.args.position) (body_seen c.args.body) n m.leaves else Gives n (no_design m.leaves))
             (sym c.truth.ensures ∙ c.if-truth.false)
-            ∙ ap (λ (made : Made). Gives n made) (sym (c.nothing_made.ensures m.leaves));
+            ∙ ap (λ (made : InstanceDesign). Gives n made) (sym (c.nothing_made.ensures m.leaves));
       });
 }
 
@@ -392,32 +378,30 @@ pub one_turn-returns-clause-members : goal.one_turn-returns-clause-members
 one_turn-returns-clause-members t c = record {
   by = λ judge right.
       let m = c.args.self.now in
-      let l = left_at m in
-      let make = made_within m.unit judge l in
-      let here = stand_at m c.args.position in
+      let evaluator = evaluator_at m judge in
+      let here = context_at m c.args.position in
       let n = c.turn.new.self.turns in
       let counted = c.in_ok-turn.ensures.counted in
-      let go : ℕ → Outcome Members = λ turns. then_with (body_made l make Union here (body_seen c.args.body) turns m.leaves) (λ turns made. Gives turns (as_member true made)) in
+      let go : ℕ → Outcome MemberDesigns = λ turns. then_with (body_design evaluator Union here (body_seen c.args.body) turns m.leaves) (λ turns made. Gives turns (as_member true made)) in
       along (turn_counted c.args.place m.evaluation.turns go counted.0 ∙ ap go (sym counted.1))
-      (first_told true c.no_members.result 0 c.body-made.result c.with_made.result _ _ (go n) c.no_members.ensures c.with_made.ensures
-      (as_told true (said_after (stays_kept m _ refl c.turn.ensures.kept) c.body-made.ensures.made judge right)));
+      (first_outcome true c.no_members.result 0 c.body-made.result c.with_made.result _ _ (go n) c.no_members.ensures c.with_made.ensures
+      (as_member_outcome true (meets_after (stays_kept m _ refl c.turn.ensures.kept) c.body-made.ensures.made judge right)));
 }
 
 pub turns-returns-in-Some-of-clause-members : goal.turns-returns-in-Some-of-clause-members
 turns-returns-in-Some-of-clause-members t c = record {
   by = λ judge right.
       let m = c.args.self.now in
-      let l = left_at m in
-      let make = made_within m.unit judge l in
-      let here = stand_at m c.args.position in
+      let evaluator = evaluator_at m judge in
+      let here = context_at m c.args.position in
       let n = c.expression.new.self.turns in
       let binder = c.in-Some.binder.now in
-      let turned : List ℕ → Val → ℕ → ℕ → Outcome Members = λ name item. each_turn l make c.args.place (map binder_of c.in-Some.rest.now) (body_seen c.args.body) (in_loop here name item) in
-      along (ap (λ (bs : List Binder). each_turn l make c.args.place (map binder_of bs) (body_seen c.args.body) here m.evaluation.turns m.leaves) c.in-Some.ensures.cases.0)
-      (then_told _ (value_told (Ok c.in_ok-value-in-Some.value) n m.leaves _ c.in_ok-value-in-Some.ensures.value)
+      let turned : List ℕ → Val → ℕ → ℕ → Outcome MemberDesigns = λ name item. each_turn evaluator c.args.place (map binder_of c.in-Some.rest.now) (body_seen c.args.body) (in_loop here name item) in
+      along (ap (λ (bs : List Binder). each_turn evaluator c.args.place (map binder_of bs) (body_seen c.args.body) here m.evaluation.turns m.leaves) c.in-Some.ensures.cases.0)
+      (then_outcome _ (value_outcome (Ok c.in_ok-value-in-Some.value) n m.leaves _ c.in_ok-value-in-Some.ensures.value)
       (along (ap (λ (o : Option Vals). or_fault o TypeMismatch c.args.place (λ items. each_step c.args.place (turned binder.name) items n m.leaves)) (sym c.in-Some-of.ensures)
-      ∙ ap (λ (name : List ℕ). each_step c.args.place (turned name) (left_in c.in-Some-of.items.left) n m.leaves) (sym c.items.ensures))
-      (said_after (stays_kept m _ refl c.expression.ensures.kept) c.each_item.ensures.members judge right)));
+      ∙ ap (λ (name : List ℕ). each_step c.args.place (turned name) (remaining_in c.in-Some-of.items.remaining) n m.leaves) (sym c.items.ensures))
+      (meets_after (stays_kept m _ refl c.expression.ensures.kept) c.each_item.ensures.members judge right)));
 }
 
 pub each_item-each-init : goal.each_item-each-init
@@ -434,19 +418,18 @@ each_item-returns-in_err-members-clause-members t c =
     let inv = c.each.invariant in
     rw (p.1, p.2) (record {
       by = λ judge right.
-          let l = left_at m in
-          let make = made_within m.unit judge l in
-          let here = stand_at m c.args.position in
-          let turned : Val → ℕ → ℕ → Outcome Members = λ item. each_turn l make c.args.place (map binder_of c.args.rest.now) (body_seen c.args.body) (in_loop here c.args.name.now item) in
-          let go : ℕ → ℕ → Outcome Members = λ turns leaves. each_step c.args.place turned (left_in c.next.new.self.left) turns leaves in
-          lengthening_stops members_seen (λ leaves x. refl) (each_step c.args.place turned (left_in c.args.items.left) m.evaluation.turns m.leaves) c.each.members m.leaves
-          (each_step c.args.place turned (left_in c.each.left.left) mid.evaluation.turns mid.leaves)
-          (one_step l make c.args.place c.args.name.now (map binder_of c.args.rest.now) (body_seen c.args.body) (val_of c.in-Some.value) here mid.evaluation.turns mid.leaves) go
+          let evaluator = evaluator_at m judge in
+          let here = context_at m c.args.position in
+          let turned : Val → ℕ → ℕ → Outcome MemberDesigns = λ item. each_turn evaluator c.args.place (map binder_of c.args.rest.now) (body_seen c.args.body) (in_loop here c.args.name.now item) in
+          let go : ℕ → ℕ → Outcome MemberDesigns = λ turns leaves. each_step c.args.place turned (remaining_in c.next.new.self.remaining) turns leaves in
+          lengthening_stops member_designs_of (λ leaves x. refl) (each_step c.args.place turned (remaining_in c.args.items.remaining) m.evaluation.turns m.leaves) c.each.members m.leaves
+          (each_step c.args.place turned (remaining_in c.each.remaining.remaining) mid.evaluation.turns mid.leaves)
+          (one_step evaluator c.args.place c.args.name.now (map binder_of c.args.rest.now) (body_seen c.args.body) (val_of c.in-Some.value) here mid.evaluation.turns mid.leaves) go
           (inv.told judge right)
           (ap (λ vs. each_step c.args.place turned vs mid.evaluation.turns mid.leaves) c.in-Some.ensures.next
           ∙ loop_step c.args.place (turned (val_of c.in-Some.value) mid.evaluation.turns mid.leaves) go)
           c.step-next.result c.in_err-members.field-0.0 _ _ _ _ c.in_err-members.ensures
-          (said_after inv.stays c.step-next.ensures.members judge right);
+          (meets_after inv.stays c.step-next.ensures.members judge right);
     })
 
 pub each_item-each-preserved : goal.each_item-each-preserved
@@ -455,19 +438,18 @@ each_item-each-preserved t c =
     let mid = c.each.self in
     let inv = c.each.invariant in
     record {
-      stays = stays_then inv.stays (lengthened_on members_seen c.each.members c.step-next.result c.in_ok-members.members _ c.in_ok-members.ensures c.step-next.ensures.stays);
+      stays = stays_then inv.stays (lengthened_on member_designs_of c.each.members c.step-next.result c.in_ok-members.members _ c.in_ok-members.ensures c.step-next.ensures.stays);
       told = λ judge right.
-          let l = left_at m in
-          let make = made_within m.unit judge l in
-          let here = stand_at m c.args.position in
-          let turned : Val → ℕ → ℕ → Outcome Members = λ item. each_turn l make c.args.place (map binder_of c.args.rest.now) (body_seen c.args.body) (in_loop here c.args.name.now item) in
-          let go : ℕ → ℕ → Outcome Members = λ turns leaves. each_step c.args.place turned (left_in c.next.new.self.left) turns leaves in
-          lengthened members_seen (λ leaves x. refl) (each_step c.args.place turned (left_in c.args.items.left) m.evaluation.turns m.leaves) c.each.members m.leaves
-          (each_step c.args.place turned (left_in c.each.left.left) mid.evaluation.turns mid.leaves)
-          (one_step l make c.args.place c.args.name.now (map binder_of c.args.rest.now) (body_seen c.args.body) (val_of c.in-Some.value) here mid.evaluation.turns mid.leaves) go
+          let evaluator = evaluator_at m judge in
+          let here = context_at m c.args.position in
+          let turned : Val → ℕ → ℕ → Outcome MemberDesigns = λ item. each_turn evaluator c.args.place (map binder_of c.args.rest.now) (body_seen c.args.body) (in_loop here c.args.name.now item) in
+          let go : ℕ → ℕ → Outcome MemberDesigns = λ turns leaves. each_step c.args.place turned (remaining_in c.next.new.self.remaining) turns leaves in
+          lengthened member_designs_of (λ leaves x. refl) (each_step c.args.place turned (remaining_in c.args.items.remaining) m.evaluation.turns m.leaves) c.each.members m.leaves
+          (each_step c.args.place turned (remaining_in c.each.remaining.remaining) mid.evaluation.turns mid.leaves)
+          (one_step evaluator c.args.place c.args.name.now (map binder_of c.args.rest.now) (body_seen c.args.body) (val_of c.in-Some.value) here mid.evaluation.turns mid.leaves) go
           (inv.told judge right)
           (ap (λ vs. each_step c.args.place turned vs mid.evaluation.turns mid.leaves) c.in-Some.ensures.next
           ∙ loop_step c.args.place (turned (val_of c.in-Some.value) mid.evaluation.turns mid.leaves) go)
           c.step-next.result c.in_ok-members.members _ _ c.in_ok-members.ensures
-          (said_after inv.stays c.step-next.ensures.members judge right);
+          (meets_after inv.stays c.step-next.ensures.members judge right);
     }

@@ -2,13 +2,13 @@
 use Rattle.std.proofs.Common.{◌≡◌, ℕ, ◌+◌, ◌*◌, length, map, drop}
 use Rattle.scad_ast.specs.StatementView.{binder_of}
 use Rattle.scad_meaning.specs.Verdicts.{Judge, IsRight}
-use Rattle.scad_meaning.specs.Meaning.{Members, made_within, each_member, each_step, each_turn, in_loop}
+use Rattle.scad_meaning.specs.Meaning.{MemberDesigns, each_member, each_step, each_turn, in_loop}
 use Rattle.scad_pieces.specs.Positions.{term_of_numbered}
 use Rattle.scad_value.specs.Values.{Val, count_of}
 use Rattle.scad_func.specs.Meaning.{Outcome}
-use Rattle.scad_pieces.specs.Items.{left_in}
-use Rattle.scad_pieces.specs.Seen.{members_seen, in_front}
-use Rattle.scad_eval.specs.Keeping.{left_at, stand_at, Stays}
+use Rattle.scad_pieces.specs.Items.{remaining_in}
+use Rattle.scad_pieces.specs.Seen.{member_designs_of, in_front}
+use Rattle.scad_eval.specs.Keeping.{evaluator_at, context_at, Stays}
 use Rattle.scad_eval.specs.Within.{body_seen}
 use Rattle.scad_eval.proofs.Work.{work}
 use Rattle.scad_eval.proofs.evaluator.InstanceEvaluator.+instances.Given as goal
@@ -103,9 +103,9 @@ invariant-members-each l =
     record {
       stays : Stays old l.self;
       told : (judge : Judge) → IsRight judge →
-          each_member (made_within old.unit judge (left_at old)) (stand_at old l.position) (map term_of_numbered l.instances) old.evaluation.turns old.leaves
-          ≡ in_front (members_seen old.leaves l.members)
-          (each_member (made_within old.unit judge (left_at old)) (stand_at old l.position) (map term_of_numbered (drop l.instance-index l.instances)) l.self.evaluation.turns l.self.leaves);
+          each_member (evaluator_at old judge) (context_at old l.position) (map term_of_numbered l.instances) old.evaluation.turns old.leaves
+          ≡ in_front (member_designs_of old.leaves l.members)
+          (each_member (evaluator_at old judge) (context_at old l.position) (map term_of_numbered (drop l.instance-index l.instances)) l.self.evaluation.turns l.self.leaves);
     }
 
 abbrev pub invariant-each_item-each : goal.invariant-each_item-each
@@ -114,10 +114,10 @@ invariant-each_item-each l =
     record {
       stays : Stays old l.self;
       told : (judge : Judge) → IsRight judge →
-          let turned : Val → ℕ → ℕ → Outcome Members = λ item. each_turn (left_at old) (made_within old.unit judge (left_at old)) l.place (map binder_of l.rest) (body_seen l.body) (in_loop (stand_at old l.position) l.name item) in
-          each_step l.place turned (left_in l.fn.items.left) old.evaluation.turns old.leaves
-          ≡ in_front (members_seen old.leaves l.members) (each_step l.place turned (left_in l.left.left) l.self.evaluation.turns l.self.leaves);
+          let turned : Val → ℕ → ℕ → Outcome MemberDesigns = λ item. each_turn (evaluator_at old judge) l.place (map binder_of l.rest) (body_seen l.body) (in_loop (context_at old l.position) l.name item) in
+          each_step l.place turned (remaining_in l.fn.items.remaining) old.evaluation.turns old.leaves
+          ≡ in_front (member_designs_of old.leaves l.members) (each_step l.place turned (remaining_in l.remaining.remaining) l.self.evaluation.turns l.self.leaves);
     }
 
 abbrev pub decreases-each_item-each : goal.decreases-each_item-each
-decreases-each_item-each l = count_of (left_in l.left.left)
+decreases-each_item-each l = count_of (remaining_in l.remaining.remaining)

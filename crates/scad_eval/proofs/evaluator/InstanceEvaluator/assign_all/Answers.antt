@@ -1,10 +1,10 @@
 use Rattle.std.proofs.Common.{◌-◌, ◌<◌, length, map, ap, ◌∙◌, arith}
 use Rattle.scad_scope.specs.TextView.{assigned_of}
 use Rattle.scad_meaning.specs.Meaning.{each_assigned}
-use Rattle.scad_eval.specs.Keeping.{left_at, stand_at}
+use Rattle.scad_eval.specs.Keeping.{evaluations_left, context_at}
 use Rattle.scad_eval.proofs.Binding.{assigned_next}
 use Rattle.scad_meaning.proofs.Judges.{some_judge}
-use Rattle.scad_eval.proofs.Standing.{assigns_then}
+use Rattle.scad_eval.proofs.Contexts.{assigns_then}
 use Rattle.scad_eval.proofs.evaluator.InstanceEvaluator.assign_all.Goals as goal
 
 pub each-preserved : goal.each-preserved
@@ -20,8 +20,8 @@ each-preserved c =
     record {
       assigns = assigns_then inv.assigns g.assigns;
       leaves = g.leaves ∙ inv.leaves;
-      told = assigned_next (each_assigned (left_at old) (stand_at old c.args.position) (map assigned_of xs) old.evaluation.turns)
-          (left_at old) (left_at here) (stand_at here c.args.position) xs i c.assignment-item.result here.evaluation.turns
+      told = assigned_next (each_assigned (evaluations_left old) (context_at old c.args.position) (map assigned_of xs) old.evaluation.turns)
+          (evaluations_left old) (evaluations_left here) (context_at here c.args.position) xs i c.assignment-item.result here.evaluation.turns
           inv.told (ap (λ n. 512 - n) inv.assigns.depth) h c.assignment-item.is
           c.assign.new.self.evaluation.turns c.assign.new.self.leaves (g.assigned.by judge.0 judge.1);
     }

@@ -1,7 +1,7 @@
 use Rattle.std.proofs.Common.{◌≡◌, map, drop}
 use Rattle.scad_scope.specs.TextView.{assigned_of}
 use Rattle.scad_meaning.specs.Meaning.{each_assigned}
-use Rattle.scad_eval.specs.Keeping.{left_at, stand_at, Assigns}
+use Rattle.scad_eval.specs.Keeping.{evaluations_left, context_at, Assigns}
 use Rattle.scad_eval.proofs.evaluator.InstanceEvaluator.assign_all.Given as goal
 
 abbrev pub invariant-each : goal.invariant-each
@@ -10,6 +10,6 @@ invariant-each l =
     record {
       assigns : Assigns old l.self l.position.scope;
       leaves : l.self.leaves ≡ old.leaves;
-      told : each_assigned (left_at old) (stand_at old l.position) (map assigned_of l.assignments) old.evaluation.turns
-          ≡ each_assigned (left_at old) (stand_at l.self l.position) (map assigned_of (drop l.assignment-index l.assignments)) l.self.evaluation.turns;
+      told : each_assigned (evaluations_left old) (context_at old l.position) (map assigned_of l.assignments) old.evaluation.turns
+          ≡ each_assigned (evaluations_left old) (context_at l.self l.position) (map assigned_of (drop l.assignment-index l.assignments)) l.self.evaluation.turns;
     }

@@ -2,7 +2,7 @@ use Rattle.std.proofs.Common.{ap, ◌∙◌, rules, FitsSigned, w64, to_z-of_z}
 use Rattle.primitives.specs.Prisms.{extrusion_of}
 use Rattle.scad_modules.specs.View.{flat_of as flat_call}
 use Rattle.scad_meaning.specs.Verdicts.{extruded}
-use Rattle.scad_eval.proofs.Telling.{along, no_memory}
+use Rattle.scad_eval.proofs.Outcomes.{along, no_memory}
 use Rattle.scad_eval.proofs.Leaving.{shape_checked, height_stops}
 use Rattle.scad_eval.proofs.evaluator.InstanceEvaluator.flat_through.Goals as goal
 

@@ -1,6 +1,6 @@
 use Rattle.scad_modules.specs.View.{solid_of as solid_call}
 use Rattle.scad_meaning.specs.Verdicts.{solid_of}
-use Rattle.scad_eval.proofs.Telling.{along}
+use Rattle.scad_eval.proofs.Outcomes.{along}
 use Rattle.scad_eval.proofs.Leaving.{shape_checked}
 use Rattle.scad_eval.proofs.evaluator.InstanceEvaluator.solid.Goals as goal
 

@@ -1,0 +1,213 @@
+-- What is told from where a step began, of steps that stand elsewhere: in a scope that was entered, one evaluation or call
+-- deeper, or with special arguments on the chain.
+use Rattle.std.proofs.Common.{◌≡◌, ℕ, ◌+◌, ◌-◌, Bool, true, false, List, ◌++◌, Option, Some, is_some, Result, Ok, Err, refl, sym, ap, subst, ◌∙◌}
+use Rattle.std.specs.Prelude.{OnOk}
+use Rattle.text_place.specs.declared.fault.Stop.{Stop}
+use Rattle.text_place.specs.declared.fault.Stop.TheVariants.{Fault, NoMemory}
+use Rattle.text_place.specs.declared.fault.FaultKind.{FaultKind}
+use Rattle.text_place.specs.declared.fault.Place.{Place}
+use Rattle.csg_tree.specs.declared.op.Op.{Op}
+use Rattle.csg_tree.specs.declared.op.Op.TheVariants.{Union}
+use Rattle.plane_predicate.specs.declared.unit.Unit.{Unit as LengthUnit}
+use Rattle.scad_ast.specs.Terms.{StatementTerms, InstanceTerm}
+use Rattle.scad_value.specs.Values.{Val}
+use Rattle.scad_scope.specs.Names.{Pairs, Row}
+use Rattle.scad_scope.specs.Table.{rows_of, chain_of}
+use Rattle.scad_scope.specs.Blocks.{assignments_of}
+use Rattle.scad_func.specs.Meaning.{Outcome, Gives, Faults, Env, Opened, opened, no_call, entered_scope, then_with, evaluated}
+use Rattle.scad_scope.specs.ArgumentsView.{IsFault}
+use Rattle.scad_func.specs.View.{seen, text_of}
+use Rattle.scad_func.specs.Definitions.{IsWhole, statements_at, block_scope}
+use Rattle.scad_func.specs.Evaluations.{CallBegins, EvaluationBegins, SpecialsBegin}
+use Rattle.scad_func.specs.Evaluations as there
+use Rattle.scad_func.specs.declared.source.Source.{Source}
+use Rattle.scad_modules.specs.Effects.{ChosenCall}
+use Rattle.scad_pieces.specs.declared.position.Position.{Position}
+use Rattle.scad_pieces.specs.declared.position.InstanceResult.{InstanceResult}
+use Rattle.scad_pieces.specs.declared.position.MemberResults.{MemberResults}
+use Rattle.scad_eval.specs.declared.evaluator.InstanceEvaluator.{InstanceEvaluator}
+use Rattle.scad_meaning.specs.Verdicts.{Judge, IsRight}
+use Rattle.scad_meaning.specs.Bodies.{children_in, is_marked}
+use Rattle.scad_meaning.specs.Loops.{chosen_among}
+use Rattle.scad_meaning.specs.Meaning.{Context, InstanceDesign, MemberDesigns, Evaluator, inside_scope, with_chain, with_calls_left, inside_mark, setting, evaluator_with, design_within, instance_design, core_design, core_of, joined_members, each_assigned, each_member, children_design, no_members, and_members}
+use Rattle.scad_pieces.specs.Seen.{AgreesWith, HasOutcome, instance_design_of, member_designs_of, one_member_of, apart, IsLengthened, in_front}
+use Rattle.scad_eval.specs.Keeping.{evaluations_left, evaluator_at, context_at, Stays, Enters, Equation, Meets}
+use Rattle.scad_eval.specs.Steps.{block_members}
+use Rattle.scad_eval.proofs.Outcomes.{along, then_outcome, then_then, front_of_none, no_memory}
+use Rattle.scad_eval.proofs.Contexts.{meets_at, same_context, entered_context}
+use Rattle.scad_eval.proofs.Beginning.{deeper_context, deeper_evaluations, call_context, call_evaluations, specials_context, specials_evaluations}
+use Rattle.scad_eval.proofs.Counting.{design_deeper}
+
+-- a fault that stands at a place
+pub refused_outcome : {A B : Type 0} {see : ℕ → A → B} (stop : Stop) (m l : ℕ) (kind : FaultKind) (at : Place) → IsFault stop kind at
+    → HasOutcome see (Err stop) m l (Faults kind at)
+refused_outcome (Fault fault) m l kind at h =
+    record { is = ap (λ (k : FaultKind). Faults k at) (sym h.0) ∙ ap (λ (p : Place). Faults fault.kind p) (sym h.1) }
+refused_outcome NoMemory m l kind at h = absurd h
+
+-- members that were joined
+pub joined_outcome : (op : Op) (members : MemberResults) (made : InstanceResult) (turns leaves : ℕ) (out : Outcome MemberDesigns)
+    → HasOutcome member_designs_of (Ok members) turns leaves out
+    → ((leaves : ℕ) → instance_design_of leaves made ≡ joined_members op (member_designs_of leaves members))
+    → HasOutcome instance_design_of (Ok made) turns leaves (then_with out (λ turns ms. Gives turns (joined_members op ms)))
+joined_outcome op members made turns leaves out h joined =
+    then_outcome (λ turns ms. Gives turns (joined_members op ms)) h (record { is = ap (λ m. Gives turns m) (sym (joined leaves)) })
+
+-- in a scope that was entered
+pub entered_meets : {A B : Type 0} {see : ℕ → A → B} {r : Result A Stop} (equation : Source → Equation B) (old mid new : InstanceEvaluator) (s t : Position)
+    (scope : ℕ) (env : Env) → Enters old mid scope
+    → seen mid.evaluation.source.now (rows_of mid.evaluation.scopes.now) scope ≡ env
+    → mid.evaluation.turns ≡ old.evaluation.turns
+    → t ≡ record { scope = scope; inside = s.inside; under_mark = s.under_mark }
+    → Meets see mid new t r (equation mid.evaluation.source.now) → (judge : Judge) → IsRight judge
+    → HasOutcome see r new.evaluation.turns new.leaves
+    (equation old.evaluation.source.now (evaluator_at old judge) (inside_scope (context_at old s) env)
+    old.evaluation.turns old.leaves)
+entered_meets equation old mid new s t scope env e is turns same h judge right =
+    let l = evaluations_left old in
+    let evaluator = evaluator_at old judge in
+    let here = inside_scope (context_at old s) env in
+    along (ap (λ (x : Source). equation x evaluator here old.evaluation.turns old.leaves) (sym e.evaluation.source)
+    ∙ ap (λ n. equation mid.evaluation.source.now evaluator here n old.leaves) (sym turns)
+    ∙ ap (λ n. equation mid.evaluation.source.now evaluator here mid.evaluation.turns n) (sym e.leaves))
+    (meets_at old.unit l here e.unit (ap (λ n. 512 - n) e.evaluation.depth)
+    (ap (λ (x : Position). context_at mid x) same ∙ entered_context old mid s scope env e is) h judge right)
+
+-- a block in a scope that was entered
+pub body_entered : {r : Result MemberResults Stop} (old mid new : InstanceEvaluator) (s t : Position) (scope block : ℕ) (call : Opened) (outer : Env)
+    (chosen : Option ChosenCall) (statements : StatementTerms)
+    → IsWhole (text_of old.evaluation.source.now) → statements_at (text_of old.evaluation.source.now) block ≡ statements
+    → Enters old mid scope
+    → seen mid.evaluation.source.now (rows_of mid.evaluation.scopes.now) scope ≡ block_scope (text_of old.evaluation.source.now) block call outer
+    → mid.evaluation.turns ≡ old.evaluation.turns
+    → t ≡ record { scope = scope; inside = s.inside; under_mark = s.under_mark }
+    → Meets member_designs_of mid new t r (λ evaluator. block_members evaluator chosen (statements_at (text_of mid.evaluation.source.now) block))
+    → (judge : Judge) → IsRight judge
+    → HasOutcome member_designs_of r new.evaluation.turns new.leaves
+    (block_members (evaluator_at old judge) chosen statements
+    (inside_scope (context_at old s) (entered_scope statements call outer)) old.evaluation.turns old.leaves)
+body_entered old mid new s t scope block call outer chosen statements whole is e inside turns same h judge right =
+    let l = evaluations_left old in
+    let evaluator = evaluator_at old judge in
+    let here : Context = inside_scope (context_at old s) (entered_scope statements call outer) in
+    along (ap (λ (st : StatementTerms). block_members evaluator chosen st here old.evaluation.turns old.leaves) (sym is))
+    (entered_meets (λ (x : Source) evaluator. block_members evaluator chosen (statements_at (text_of x) block))
+    old mid new s t scope (entered_scope statements call outer) e
+    (inside ∙ whole.scopes block call outer ∙ ap (λ (st : StatementTerms). entered_scope st call outer) is)
+    turns same h judge right)
+
+-- one evaluation deeper
+pub deeper_meets : {r : Result InstanceResult Stop} (old mid new : InstanceEvaluator) (s : Position) (i : InstanceTerm) → mid.unit ≡ old.unit → mid.leaves ≡ old.leaves
+    → mid.evaluation.turns ≡ old.evaluation.turns → EvaluationBegins old.evaluation mid.evaluation
+    → Meets instance_design_of mid new s r (λ evaluator here. instance_design evaluator here i) → (judge : Judge) → IsRight judge
+    → HasOutcome instance_design_of r new.evaluation.turns new.leaves
+    (design_within old.unit judge (evaluations_left old) (context_at old s) i old.evaluation.turns old.leaves)
+deeper_meets old mid new s i unit leaves turns b h judge right =
+    let d = old.evaluation.depth in
+    let l = 512 - (d + 1) in
+    let evaluator = evaluator_with old.unit judge l in
+    along (design_deeper old.unit judge d (context_at old s) i old.evaluation.turns old.leaves b.within
+    ∙ ap (λ n. instance_design evaluator (context_at old s) i n old.leaves) (sym turns)
+    ∙ ap (λ n. instance_design evaluator (context_at old s) i mid.evaluation.turns n) (sym leaves))
+    (meets_at old.unit l (context_at old s) unit (deeper_evaluations old mid b) (deeper_context old mid s b) h judge right)
+
+-- one call deeper; the turns are those that a call counts
+pub call_meets : {A B : Type 0} {see : ℕ → A → B} {r : Result A Stop} (equation : Source → List Row → Equation B) (old mid new : InstanceEvaluator) (s : Position)
+    → mid.unit ≡ old.unit → mid.leaves ≡ old.leaves → CallBegins old.evaluation mid.evaluation
+    → Meets see mid new s r (equation mid.evaluation.source.now (rows_of mid.evaluation.scopes.now)) → (judge : Judge) → IsRight judge
+    → HasOutcome see r new.evaluation.turns new.leaves
+    (equation old.evaluation.source.now (rows_of old.evaluation.scopes.now) (evaluator_at old judge)
+    (with_calls_left (context_at old s) (64 - (old.evaluation.calls + 1))) mid.evaluation.turns old.leaves)
+call_meets equation old mid new s unit leaves b h judge right =
+    let l = evaluations_left old in
+    let evaluator = evaluator_at old judge in
+    let here = with_calls_left (context_at old s) (64 - (old.evaluation.calls + 1)) in
+    along (ap (λ (x : Source). equation x (rows_of old.evaluation.scopes.now) evaluator here mid.evaluation.turns old.leaves) (sym b.source)
+    ∙ ap (λ (rows : List Row). equation mid.evaluation.source.now rows evaluator here mid.evaluation.turns old.leaves) (sym b.rows)
+    ∙ ap (λ n. equation mid.evaluation.source.now (rows_of mid.evaluation.scopes.now) evaluator here mid.evaluation.turns n) (sym leaves))
+    (meets_at old.unit l here unit (call_evaluations old mid b) (call_context old mid s b) h judge right)
+
+-- with special arguments on the chain, and behind steps that keep all
+pub specials_meets : {A B : Type 0} {see : ℕ → A → B} {r : Result A Stop} (equation : Source → List Row → Equation B) (old begun mid new : InstanceEvaluator) (s : Position)
+    (count : ℕ) (specials : Pairs Val)
+    → begun.unit ≡ old.unit → begun.leaves ≡ old.leaves → SpecialsBegin old.evaluation begun.evaluation count
+    → chain_of begun.evaluation.scopes.now ≡ specials ++ chain_of old.evaluation.scopes.now
+    → Stays begun mid → mid.leaves ≡ begun.leaves
+    → Meets see mid new s r (equation mid.evaluation.source.now (rows_of mid.evaluation.scopes.now)) → (judge : Judge) → IsRight judge
+    → HasOutcome see r new.evaluation.turns new.leaves
+    (equation old.evaluation.source.now (rows_of old.evaluation.scopes.now) (evaluator_at old judge)
+    (with_chain (context_at old s) (specials ++ chain_of old.evaluation.scopes.now)) mid.evaluation.turns old.leaves)
+specials_meets equation old begun mid new s count specials unit leaves b chain k same h judge right =
+    let l = evaluations_left old in
+    let evaluator = evaluator_at old judge in
+    let here = with_chain (context_at old s) (specials ++ chain_of old.evaluation.scopes.now) in
+    along (ap (λ (x : Source). equation x (rows_of old.evaluation.scopes.now) evaluator here mid.evaluation.turns old.leaves)
+    (sym (k.source ∙ b.source))
+    ∙ ap (λ (rows : List Row). equation mid.evaluation.source.now rows evaluator here mid.evaluation.turns old.leaves) (sym (k.rows ∙ b.rows))
+    ∙ ap (λ n. equation mid.evaluation.source.now (rows_of mid.evaluation.scopes.now) evaluator here mid.evaluation.turns n)
+    (sym (same ∙ leaves)))
+    (meets_at old.unit l here (k.unit ∙ unit) (ap (λ n. 512 - n) k.depth ∙ specials_evaluations old begun count b)
+    (same_context begun mid s k ∙ specials_context old begun s count specials b chain) h judge right)
+
+-- where an expression stands with special arguments on the chain
+pub specials_setting : (old begun : InstanceEvaluator) (s : Position) (scope count : ℕ) (specials : Pairs Val) → SpecialsBegin old.evaluation begun.evaluation count
+    → chain_of begun.evaluation.scopes.now ≡ specials ++ chain_of old.evaluation.scopes.now
+    → there.setting begun.evaluation scope
+    ≡ setting (evaluations_left old) (inside_scope (with_chain (context_at old s) (specials ++ chain_of old.evaluation.scopes.now))
+    (seen old.evaluation.source.now (rows_of old.evaluation.scopes.now) scope))
+specials_setting old begun s scope count specials b chain =
+    ap (λ n. record { deeper = evaluated (512 - n); calls = 64 - begun.evaluation.calls; env = seen begun.evaluation.source.now (rows_of begun.evaluation.scopes.now) scope; chain = chain_of begun.evaluation.scopes.now }) b.depth
+    ∙ ap (λ n. record { deeper = evaluated (512 - old.evaluation.depth); calls = 64 - n; env = seen begun.evaluation.source.now (rows_of begun.evaluation.scopes.now) scope; chain = chain_of begun.evaluation.scopes.now }) b.calls
+    ∙ ap (λ (x : Source). record { deeper = evaluated (512 - old.evaluation.depth); calls = 64 - old.evaluation.calls; env = seen x (rows_of begun.evaluation.scopes.now) scope; chain = chain_of begun.evaluation.scopes.now }) b.source
+    ∙ ap (λ (rows : List Row). record { deeper = evaluated (512 - old.evaluation.depth); calls = 64 - old.evaluation.calls; env = seen old.evaluation.source.now rows scope; chain = chain_of begun.evaluation.scopes.now }) b.rows
+    ∙ ap (λ (c : Pairs Val). record { deeper = evaluated (512 - old.evaluation.depth); calls = 64 - old.evaluation.calls; env = seen old.evaluation.source.now (rows_of old.evaluation.scopes.now) scope; chain = c }) chain
+
+-- the children of a call are members of its block
+pub children_as_members : (evaluator : Evaluator) (here : Context) (children : StatementTerms) (caller : Env) (chosen : ChosenCall) (turns leaves : ℕ)
+    → children_design evaluator here (opened children caller) chosen turns leaves
+    ≡ then_with (block_members evaluator (Some chosen) children (inside_scope here (entered_scope children no_call caller)) turns leaves)
+    (λ turns ms. Gives turns (joined_members Union ms))
+children_as_members evaluator here children caller chosen turns leaves =
+    sym (then_then (each_assigned evaluator.evaluations (inside_scope here (entered_scope children no_call caller)) (assignments_of children) turns)
+    (λ turns there. each_member evaluator there (chosen_among (children_in there.env children) chosen) turns leaves)
+    (λ turns ms. Gives turns (joined_members Union ms)))
+
+-- an instance whose mark counts
+pub marked_form : (evaluator : Evaluator) (here : Context) (i : InstanceTerm) (turns leaves : ℕ)
+    → is_marked i ≡ true → is_some here.inside ≡ false → here.under_mark ≡ false
+    → instance_design evaluator here i turns leaves
+    ≡ then_with (core_design evaluator (inside_mark here) (core_of i) turns leaves) (λ turns m. Gives turns (apart m))
+marked_form evaluator here i turns leaves marked outside first =
+    let apart_design : Outcome InstanceDesign = then_with (core_design evaluator (inside_mark here) (core_of i) turns leaves) (λ turns m. Gives turns (apart m)) in
+    let plain = core_design evaluator here (core_of i) turns leaves in
+    rw (marked, outside, first) refl
+
+-- members with nothing in front, and a step of a loop that gave something
+pub begun_front : (before : MemberResults) (leaves : ℕ) (out : Outcome MemberDesigns) → member_designs_of leaves before ≡ no_members leaves
+    → out ≡ in_front (member_designs_of leaves before) out
+begun_front before leaves out none = sym (ap (λ (ms : MemberDesigns). in_front ms out) none ∙ front_of_none leaves out)
+
+pub OnOk-at_ok : {A E : Type 0} {P : Type 0} {r : Result A E} {x : A} → r ≡ Ok x → OnOk r P → P
+OnOk-at_ok {P = P} e h = subst (λ s. OnOk s P) e h
+
+pub lengthened_on : {A : Type 0} (see : ℕ → A → MemberDesigns) (before : MemberResults) (r : Result A Stop) (after : MemberResults) (P : Type 0)
+    → IsLengthened see before r (Ok after) → OnOk r P → P
+lengthened_on see before (Ok x) after P l p = p
+lengthened_on see before (Err stop) after P l p = absurd l
+
+-- one member alone
+pub first_outcome : (b : Bool) (before : MemberResults) (start : ℕ) (r : Result InstanceResult Stop) (all : Result MemberResults Stop) (m l : ℕ) (out : Outcome MemberDesigns)
+    → ((leaves : ℕ) → member_designs_of leaves before ≡ no_members leaves) → IsLengthened (one_member_of b) before r all
+    → HasOutcome (one_member_of b) r m l out → HasOutcome member_designs_of all m l out
+first_outcome b before start (Ok x) (Ok after) m l out none long h = record {
+  is = h.is ∙ ap (λ (ms : MemberDesigns). Gives m ms)
+      (sym (long start l ∙ ap (λ (ms : MemberDesigns). and_members ms (one_member_of b l x)) (none start)));
+}
+first_outcome b before start (Ok x) (Err stop) m l out none long h = no_memory long
+first_outcome b before start (Err fault) (Ok after) m l out none long h = absurd long
+first_outcome b before start (Err fault) (Err stop) m l out none long h =
+    subst (λ (s : Stop). HasOutcome member_designs_of (Err s) m l out) (sym long) (record { is = tells fault h.is })
+  where
+    tells : (f : Stop) → AgreesWith (one_member_of b) (Err f) m l out → AgreesWith member_designs_of (Err f) m l out
+    tells (Fault f) t = t
+    tells NoMemory t = tt
