@@ -58,7 +58,7 @@ pub record AreAnswered (before after : ℕ) (share share' : View) (count count' 
   pub offered : offered_of share' + share.misses ≡ offered_of share + share'.misses
 
 -- From one number of joins to another they were begun, or some of them: each was at most one probe, and each
--- miss at most one build and one fill that was offered. No number falls.
+-- miss at most one build and one fill that was offered. No number of the share falls.
 pub record AreBegun (before after : ℕ) (share share' : View) (count count' : ℕ) : Type 0 where
   pub order : before ≤ after
   pub hits : share.hits ≤ share'.hits

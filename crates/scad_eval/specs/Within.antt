@@ -13,7 +13,7 @@ body_seen b = body_of b.body.now
 abbrev pub IsInBlock : NumberedText → NumberedBody → Type 0
 IsInBlock text b = IsBlockOf text b.block (body_seen b)
 
--- a module of a program whose body stands in its block, and a call's body that stands in its own
+-- a module of a whole program whose body stands in its block, and a call's body that stands in its own
 pub record IsCallOf (text : NumberedText) (defined : Module) (body : NumberedBody) : Type 0 where
   pub whole : IsWhole text
   pub its_block : IsBlockOf text defined.block (body_of defined.body.now)

@@ -97,7 +97,7 @@ pub fn own_replies()
 
 /// For one script, replies that its clients' own commands define and that print the same bytes are
 /// equal: so the printed output tells at which places memory ran out. The whole output of a run tells also
-/// the tally, and with a share above 0 what each client's entries weigh.
+/// the tally, where it is printed, and then with a share above 0 what each client's entries weigh.
 pub fn one_output()
     ensures replies { (unit : LengthUnit) (script : Script) (rs qs : List (List Reply)) →
         AllFit (AnswersExport unit) script.clients rs → AllFit (AnswersExport unit) script.clients qs →
