@@ -1,6 +1,5 @@
 pub mod Numbers
 pub mod Corners
-mod OwnEdges
 pub mod Cuts
 pub mod Planes
 pub mod Small

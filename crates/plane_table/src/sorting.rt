@@ -1,10 +1,9 @@
 //! On which sides of a plane the corners of a face lie.
 
-ghost use Rattle.std.specs.Prelude.{◌≡◌, ◌<◌, ◌⊎◌, ◌||◌, List, length, IfOk, IfSome};
-ghost use Rattle.plane_predicate.specs.Space.{Coefficients};
+ghost use Rattle.std.specs.Prelude.{◌≡◌, ◌<◌, ◌⊎◌, ◌||◌, length, IfOk, IfSome};
 ghost use Rattle.plane_predicate.specs.Sides.{is_side_ahead, is_side_behind};
 ghost use Rattle.plane_polygon.specs.Polygons.{corner};
-ghost use Rattle.plane_polygon.specs.Parts.{class_by, class_of};
+ghost use Rattle.plane_polygon.specs.Parts.{class_by};
 ghost use Rattle.plane_polygon.specs.Parallels.{HasAllOn};
 ghost use Rattle.plane_table.specs.Tables.{named, IsNumberIn};
 ghost use Rattle.plane_table.specs.Faces.{corner_on, outline_of, side_against, AreFourSides, AreSidesOf, IsFaceOver, IsSideAt};
@@ -43,8 +42,8 @@ pub struct CornerSides {
 
 /// How a face lies against the plane of a number: On where all its corners are on the plane, Across where
 /// some lie strictly on each side, else the side of those that are off it. For speed alone, no corner is
-/// looked at where the table knows the planes as parallel or the plane is an edge's, two edges tell those
-/// of a rectangle, and the line of the two planes tells them where all planes are small.
+/// looked at where the table knows the planes as parallel, two edges tell those of a rectangle, and the
+/// line of the two planes tells them where all planes are small.
 pub fn sides(
     alloc: Global,
     table: &PlaneTable,
@@ -70,34 +69,10 @@ pub fn sides(
             return four_sides(alloc, second, second, fourth, fourth);
         }
     }
-    if let Some(side) = side_by_edge(face, number) {
-        return Ok(CornerSides {
-            class: class_on(side),
-            corners: SmallVec::new(alloc),
-        });
-    }
     if let Some(found) = sides_by_line(alloc, table, face, number)? {
         return Ok(found);
     }
     corner_sides(alloc, table, face, number)
-}
-
-/// The side of the plane of a number on which a face lies that has it, or its opposite, for an edge: a
-/// polygon is behind each of its edges.
-fn side_by_edge(face: &Face, number: u32) -> Option<Side>
-    ensures { (planes : List Coefficients) → IsFaceOver planes face.now → IfSome result (λ s. class_by (is_side_behind s) (is_side_ahead s) ≡ class_of (outline_of planes face.now) (named planes number)) }
-{
-    let edges = face.edges.numbers();
-    let opposite = opposite_number(number);
-    for i in 0..edges.len() {
-        if edges[i] == number {
-            return Some(Side::Behind);
-        }
-        if edges[i] == opposite {
-            return Some(Side::Ahead);
-        }
-    }
-    None
 }
 
 /// The sides of the plane of a number on which all points of two other planes lie, where both are known.

@@ -12,12 +12,6 @@ returns-in-Some c = record {
   corners = λ across. absurd (one_side c.in-Some.side (sym c.class_on.ensures ∙ across));
 }
 
-pub returns-in-Some-side_by_edge : goal.returns-in-Some-side_by_edge
-returns-in-Some-side_by_edge c = record {
-  class = c.class_on-in-Some-side_by_edge.ensures ∙ c.in-Some-side_by_edge.ensures c.args.table.now c.requires.face;
-  corners = λ across. absurd (one_side c.in-Some-side_by_edge.side (sym c.class_on-in-Some-side_by_edge.ensures ∙ across));
-}
-
 pub returns-in-Some-both_known : goal.returns-in-Some-both_known
 returns-in-Some-both_known c =
     let planes = c.args.table.now in
