@@ -1,5 +1,5 @@
 -- A fault of a part goes on to what holds it.
-use Rattle.std.proofs.Common.{◌≡◌, List, ◌∷◌, map, Err, Vec, Global}
+use Rattle.std.proofs.Common.{◌≡◌, List, ◌∷◌, map, Result, Ok, Err, IsErrAnd, Vec, Global}
 use Rattle.std.specs.Borrow.{Bor}
 use Rattle.scad_lexer.specs.declared.token.Token.{Token}
 use Rattle.scad_ast.specs.declared.expression.Link.{Link}
@@ -23,11 +23,18 @@ goes_on : {A X B Y : Type 0} (item : A → X) (list : B → Y) → GoesOn item l
 goes_on item list (Fault fault at) q r h e = h (fault, at.now) e
 goes_on item list NoMemory q r h e = tt
 
+-- where memory ran out, nothing is said of what was to be read
+pub memory_ran_out : {A X : Type 0} (item : A → X) (given : Result (A × Bor (List Token)) Stopped) (q : Read Token SyntaxFault X) → IsErrAnd given (λ s. s ≡ NoMemory)
+    → Gives (λ (p : A × Bor (List Token)). (item p.0, p.1.now)) given q
+memory_ran_out item (Ok p) q h = absurd h
+memory_ran_out item (Err (Fault fault at)) q h = absurd (cc)
+memory_ran_out item (Err NoMemory) q h = tt
+
 -- what a list in memory stands for
-abbrev links_in : Vec Link Global → List LinkTerm
+abbrev pub links_in : Vec Link Global → List LinkTerm
 links_in links = map link_of links.items
 
-abbrev suffixes_in : Vec Suffix Global → List SuffixTerm
+abbrev pub suffixes_in : Vec Suffix Global → List SuffixTerm
 suffixes_in suffixes = map suffix_of suffixes.items
 
 -- and a first one with more of them
