@@ -13,7 +13,7 @@ use Rattle.scad_tokens.specs.declared.class.Level.{Level}
 use Rattle.scad_expressions.specs.Climbing.{climb_read}
 use Rattle.scad_tokens.specs.TokenClasses.{joined, binary_signs, unary_signs, suffix_signs, literals, atoms, continuations, operators_at, levels_below}
 use Rattle.scad_tokens.specs.Views.{has_lone_atom, atom_of}
-use Rattle.scad_expressions.proofs.Given.{one_taken}
+use Rattle.scad_expressions.proofs.Given.{both_hold, one_taken}
 use Rattle.scad_expressions.proofs.Climbs.{chain_climbs, climbs_none, many_none, starts_apart, none_at, none_below}
 
 module _ (us : List Token) (e : starts (among continuations) us ≡ false) where
@@ -85,11 +85,6 @@ spared f (c ∷ cs) k h e = go (nat_eq k c) refl e (spared f cs k h.1)
     go : (b : Bool) → nat_eq k c ≡ b → cond b true (listed cs k) ≡ true → (listed cs k ≡ true → f k ≡ false) → f k ≡ false
     go true g e more = ap f (eqb-true k c g) ∙ h.0
     go false g e more = more e
-
-both_hold : (b c : Bool) → (b && c) ≡ true → (b ≡ true) × (c ≡ true)
-both_hold true true e = (refl, refl)
-both_hold true false e = absurd (cc)
-both_hold false c e = absurd (cc)
 
 module _ (e : Reads Term) (a : Reads ArgTerm) (t : Token) (us : List Token) where
   -- one literal, or something else

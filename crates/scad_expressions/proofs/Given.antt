@@ -10,7 +10,7 @@ use Rattle.scad_grammar.specs.Reading.{Read, after, mapped}
 use Rattle.scad_grammar.specs.Reads.{given, arg_in, expr_read}
 use Rattle.scad_tokens.specs.Views.{gives_value}
 
-both_hold : (b c : Bool) → (b && c) ≡ true → (b ≡ true) × (c ≡ true)
+pub both_hold : (b c : Bool) → (b && c) ≡ true → (b ≡ true) × (c ≡ true)
 both_hold true true e = (refl, refl)
 both_hold true false e = absurd (cc)
 both_hold false c e = absurd (cc)

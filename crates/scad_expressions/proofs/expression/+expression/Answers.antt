@@ -17,7 +17,7 @@ use Rattle.scad_expressions.proofs.Depths.{expr_none, expr_deeper, operand_none,
 use Rattle.scad_expressions.proofs.Given.{arg_given}
 use Rattle.scad_expressions.proofs.Lengths.{link_strict, suffix_strict, expr_shorter, arg_shorter, args_shorter, given_shorter}
 use Rattle.scad_expressions.proofs.Loops.{many_more, many_end, many_stop, trailing_more, trailing_end, trailing_stop, past_shorter}
-use Rattle.scad_expressions.proofs.Stops.{links_in, suffixes_in, memory_ran_out, operand_goes, item_goes, link_goes, first_link_goes, more_links_go, suffix_goes, first_suffix_goes, more_suffixes_go, arg_goes}
+use Rattle.scad_expressions.proofs.Stops.{links_in, suffixes_in, sides_in, some_links_in, some_suffixes_in, token_of, memory_ran_out, stops, operand_goes, item_goes, link_goes, first_link_goes, more_links_go, suffix_goes, first_suffix_goes, more_suffixes_go, arg_goes}
 use Rattle.scad_expressions.proofs.Trees.{terms_roll, chain_made, postfix_made, args_roll}
 use Rattle.scad_expressions.proofs.expression.+expression.Goals as goal
 use Rattle.scad_expressions.proofs.expression.+expression.Goals.{climb_below-then-begins+in_ok-chained, climb_below-else-begins}
@@ -338,3 +338,115 @@ suffixed-returns-in_err-new t c = record { value = memory_ran_out term_of c.from
 
 pub suffixes-returns-in_err-push : goal.suffixes-returns-in_err-push
 suffixes-returns-in_err-push t c = record { value = memory_ran_out suffixes_in c.from_residual-in_err-push.result _ c.from_residual-in_err-push.ensures.1 }
+
+pub paren-returns-in_err-open : goal.paren-returns-in_err-open
+paren-returns-in_err-open t c = record { value = stops token_of term_of c.from_residual.result c.in_err-open.field-0.0 _ _ (λ x e. rw e refl) c.in_err-open.ensures.value c.from_residual.ensures.1 }
+
+pub paren-returns-in_err-inner : goal.paren-returns-in_err-inner
+paren-returns-in_err-inner t c = record { value = stops term_of term_of c.from_residual-in_err-inner.result c.in_err-inner.field-0.0 _ _ (λ x e. rw (c.in_ok-open.ensures.value, e) refl) c.in_err-inner.ensures.value c.from_residual-in_err-inner.ensures.1 }
+
+pub paren-returns-in_err-inner-2 : goal.paren-returns-in_err-inner-2
+paren-returns-in_err-inner-2 t c = record {
+  value =
+      let read = rw c.in_err-inner-2.ensures.err at c.take-2.ensures.value in
+      stops token_of term_of c.from_residual-in_err-inner-2.result c.in_err-inner-2.field-0.0 _ _ (λ x e. rw (c.in_ok-open.ensures.value, c.in_ok-inner.ensures.value, e) refl) read c.from_residual-in_err-inner-2.ensures.1;
+}
+
+pub signed-returns-in_err-operator : goal.signed-returns-in_err-operator
+signed-returns-in_err-operator t c = record { value = stops token_of term_of c.from_residual.result c.in_err-operator.field-0.0 _ _ (λ x e. rw e refl) c.in_err-operator.ensures.value c.from_residual.ensures.1 }
+
+pub signed-returns-in_err-of : goal.signed-returns-in_err-of
+signed-returns-in_err-of t c = record { value = stops term_of term_of c.from_residual-in_err-of.result c.in_err-of.field-0.0 _ _ (λ x e. rw (c.in_ok-operator.ensures.value, e) refl) c.in_err-of.ensures.value c.from_residual-in_err-of.ensures.1 }
+
+pub link-returns-in_err-operator : goal.link-returns-in_err-operator
+link-returns-in_err-operator t c = record { value = stops token_of link_of c.from_residual.result c.in_err-operator.field-0.0 _ _ (λ x e. rw e refl) c.in_err-operator.ensures.value c.from_residual.ensures.1 }
+
+pub link-returns-in_err-right : goal.link-returns-in_err-right
+link-returns-in_err-right t c = record { value = stops term_of link_of c.from_residual-in_err-right.result c.in_err-right.field-0.0 _ _ (λ x e. rw (c.in_ok-operator.ensures.value, e) refl) c.in_err-right.ensures.value c.from_residual-in_err-right.ensures.1 }
+
+pub sides-returns-in_err-mark : goal.sides-returns-in_err-mark
+sides-returns-in_err-mark t c = record { value = stops token_of sides_in c.from_residual.result c.in_err-mark.field-0.0 _ _ (λ x e. rw e refl) c.in_err-mark.ensures.value c.from_residual.ensures.1 }
+
+pub sides-returns-in_err-yes : goal.sides-returns-in_err-yes
+sides-returns-in_err-yes t c = record { value = stops term_of sides_in c.from_residual-in_err-yes.result c.in_err-yes.field-0.0 _ _ (λ x e. rw (c.in_ok-mark.ensures.value, e) refl) c.in_err-yes.ensures.value c.from_residual-in_err-yes.ensures.1 }
+
+pub sides-returns-in_err-sides : goal.sides-returns-in_err-sides
+sides-returns-in_err-sides t c = record {
+  value =
+      let read = rw c.in_err-sides.ensures.err at c.behind.ensures.value in
+      stops term_of sides_in c.from_residual-in_err-sides.result c.in_err-sides.field-0.0 _ _ (λ x e. rw (c.in_ok-mark.ensures.value, c.in_ok-yes.ensures.value, e) refl) read c.from_residual-in_err-sides.ensures.1;
+}
+
+pub chosen-returns-in_err-test : goal.chosen-returns-in_err-test
+chosen-returns-in_err-test t c = record {
+  value =
+      let read = rw c.in_err-test.ensures.err at c.sides.ensures.value in
+      stops sides_in term_of c.from_residual.result c.in_err-test.field-0.0 _ _ (λ x e. rw e refl) read c.from_residual.ensures.1;
+}
+
+pub behind-returns-in_err-rest-clause-value : goal.behind-returns-in_err-rest-clause-value
+behind-returns-in_err-rest-clause-value t c = stops token_of term_of c.from_residual.result c.in_err-rest.field-0.0 _ _ (λ x e. rw e refl) c.in_err-rest.ensures.value c.from_residual.ensures.1
+
+pub linked-returns-in_err-first : goal.linked-returns-in_err-first
+linked-returns-in_err-first t c = record {
+  value =
+      let read = rw c.in_err-first.ensures.err at c.some_links.ensures.value in
+      stops some_links_in term_of c.from_residual.result c.in_err-first.field-0.0 _ _ (λ x e. rw e refl) read c.from_residual.ensures.1;
+}
+
+pub suffixed-returns-in_err-of : goal.suffixed-returns-in_err-of
+suffixed-returns-in_err-of t c = record {
+  value =
+      let read = rw c.in_err-of.ensures.err at c.some_suffixes.ensures.value in
+      stops some_suffixes_in term_of c.from_residual.result c.in_err-of.field-0.0 _ _ (λ x e. rw e refl) read c.from_residual.ensures.1;
+}
+
+pub suffix-returns-in_err-open : goal.suffix-returns-in_err-open
+suffix-returns-in_err-open t c = record { value = stops token_of suffix_of c.from_residual.result c.in_err-open.field-0.0 _ _ (λ x e. rw (sym c.begins.ensures ∙ c.if-begins.true, e) refl) c.in_err-open.ensures.value c.from_residual.ensures.1 }
+
+pub suffix-returns-in_err-index : goal.suffix-returns-in_err-index
+suffix-returns-in_err-index t c = record { value = stops term_of suffix_of c.from_residual-in_err-index.result c.in_err-index.field-0.0 _ _ (λ x e. rw (sym c.begins.ensures ∙ c.if-begins.true, c.in_ok-open.ensures.value, e) refl) c.in_err-index.ensures.value c.from_residual-in_err-index.ensures.1 }
+
+pub suffix-returns-in_err-index-2 : goal.suffix-returns-in_err-index-2
+suffix-returns-in_err-index-2 t c = record {
+  value =
+      let read = rw c.in_err-index-2.ensures.err at c.take-then-begins.ensures.value in
+      stops token_of suffix_of c.from_residual-in_err-index-2.result c.in_err-index-2.field-0.0 _ _ (λ x e. rw (sym c.begins.ensures ∙ c.if-begins.true, c.in_ok-open.ensures.value, c.in_ok-index.ensures.value, e) refl) read c.from_residual-in_err-index-2.ensures.1;
+}
+
+pub suffix-returns-in_err-dot : goal.suffix-returns-in_err-dot
+suffix-returns-in_err-dot t c = record { value = stops token_of suffix_of c.from_residual-in_err-dot.result c.in_err-dot.field-0.0 _ _ (λ x e. rw (sym c.begins.ensures ∙ c.if-begins.false, e) refl) c.in_err-dot.ensures.value c.from_residual-in_err-dot.ensures.1 }
+
+pub suffix-returns-in_err-name : goal.suffix-returns-in_err-name
+suffix-returns-in_err-name t c = record { value = stops token_of suffix_of c.from_residual-in_err-name.result c.in_err-name.field-0.0 _ _ (λ x e. rw (sym c.begins.ensures ∙ c.if-begins.false, c.in_ok-dot.ensures.value, e) refl) c.in_err-name.ensures.value c.from_residual-in_err-name.ensures.1 }
+
+pub called-returns-in_err-bytes-2 : goal.called-returns-in_err-bytes-2
+called-returns-in_err-bytes-2 t c = record {
+  value =
+      let read = rw c.in_err-bytes-2.ensures.err at c.arguments.ensures.value in
+      stops args_of term_of c.from_residual-in_err-bytes-2.result c.in_err-bytes-2.field-0.0 _ _ (λ x e. rw e refl) read c.from_residual-in_err-bytes-2.ensures.1;
+}
+
+pub named-returns-in_err-name : goal.named-returns-in_err-name
+named-returns-in_err-name t c = record { value = stops token_of term_of c.from_residual.result c.in_err-name.field-0.0 _ _ (λ x e. rw e refl) c.in_err-name.ensures.value c.from_residual.ensures.1 }
+
+pub bracket-returns-in_err-open : goal.bracket-returns-in_err-open
+bracket-returns-in_err-open t c = record { value = stops token_of term_of c.from_residual.result c.in_err-open.field-0.0 _ _ (λ x e. rw e refl) c.in_err-open.ensures.value c.from_residual.ensures.1 }
+
+pub arguments-returns-in_err-rest-clause-value : goal.arguments-returns-in_err-rest-clause-value
+arguments-returns-in_err-rest-clause-value t c = stops token_of args_of c.from_residual.result c.in_err-rest.field-0.0 _ _ (λ x e. rw e refl) c.in_err-rest.ensures.value c.from_residual.ensures.1
+
+pub arguments-returns-in_err-args-clause-value : goal.arguments-returns-in_err-args-clause-value
+arguments-returns-in_err-args-clause-value t c = stops args_of args_of c.from_residual-in_err-args.result c.in_err-args.field-0.0 _ _ (λ x e. rw (c.in_ok-rest.ensures.value, e) refl) c.in_err-args.ensures.value c.from_residual-in_err-args.ensures.1
+
+pub arguments-returns-in_err-args-2-clause-value : goal.arguments-returns-in_err-args-2-clause-value
+arguments-returns-in_err-args-2-clause-value t c =
+    let read = rw c.in_err-args-2.ensures.err at c.take-2.ensures.value in
+    stops token_of args_of c.from_residual-in_err-args-2.result c.in_err-args-2.field-0.0 _ _ (λ x e. rw (c.in_ok-rest.ensures.value, c.in_ok-args.ensures.value, e) refl) read c.from_residual-in_err-args-2.ensures.1
+
+pub range-returns-in_err-from : goal.range-returns-in_err-from
+range-returns-in_err-from t c = record {
+  value =
+      let read = rw c.in_err-from.ensures.err at c.take.ensures.value in
+      stops token_of term_of c.from_residual.result c.in_err-from.field-0.0 _ _ (λ x e. rw e refl) read c.from_residual.ensures.1;
+}
