@@ -5,7 +5,7 @@ use Rattle.scad_lexer.specs.declared.token.Token.{Token}
 use Rattle.scad_ast.specs.Terms.{Term, NameTerm, ArgTerm}
 use Rattle.scad_grammar.specs.declared.SyntaxFault.{SyntaxFault}
 use Rattle.scad_grammar.specs.Classes.{numeral, text, true_word, false_word, undef_word, child_count, special, name, question_sign, open_parenthesis_sign, class_of, listed, among, is, other_than, bytes_of}
-use Rattle.scad_grammar.specs.Faults.{Reads}
+use Rattle.scad_grammar.specs.Faults.{Reads, one}
 use Rattle.scad_grammar.specs.Grammar.{levels}
 use Rattle.scad_grammar.specs.Reading.{Read, after, starts, choice}
 use Rattle.scad_grammar.specs.Reads.{suffix_read, unary_read, chain_read, paren_read, bracket_read, name_read, primary_read, choice_read}
@@ -13,6 +13,7 @@ use Rattle.scad_tokens.specs.declared.class.Level.{Level}
 use Rattle.scad_expressions.specs.Climbing.{climb_read}
 use Rattle.scad_tokens.specs.TokenClasses.{joined, binary_signs, unary_signs, suffix_signs, literals, atoms, continuations, operators_at, levels_below}
 use Rattle.scad_tokens.specs.Views.{has_lone_atom, atom_of}
+use Rattle.scad_expressions.proofs.Given.{both_hold, one_taken}
 use Rattle.scad_expressions.proofs.Climbs.{chain_climbs, climbs_none, many_none, starts_apart, none_at, none_below}
 
 module _ (us : List Token) (e : starts (among continuations) us ≡ false) where
@@ -42,17 +43,35 @@ not_first c cs k e = go (nat_eq k c) e
     go true e = absurd (cc)
     go false e = refl
 
-not_atom : (k : ℕ) → listed (numeral ∷ []) k ≡ false → listed (text ∷ []) k ≡ false → listed (true_word ∷ []) k ≡ false → listed (false_word ∷ []) k ≡ false
-    → listed (undef_word ∷ []) k ≡ false → listed (child_count ∷ []) k ≡ false → listed (special ∷ []) k ≡ false → listed (name ∷ []) k ≡ false → listed atoms k ≡ false
-not_atom k n x y z v w s g =
-    not_first name literals k g
-    ∙ not_first numeral (text ∷ true_word ∷ false_word ∷ undef_word ∷ child_count ∷ special ∷ []) k n
+not_literal : (k : ℕ) → listed (numeral ∷ []) k ≡ false → listed (text ∷ []) k ≡ false → listed (true_word ∷ []) k ≡ false → listed (false_word ∷ []) k ≡ false
+    → listed (undef_word ∷ []) k ≡ false → listed (child_count ∷ []) k ≡ false → listed (special ∷ []) k ≡ false → listed literals k ≡ false
+not_literal k n x y z v w s =
+    not_first numeral (text ∷ true_word ∷ false_word ∷ undef_word ∷ child_count ∷ special ∷ []) k n
     ∙ not_first text (true_word ∷ false_word ∷ undef_word ∷ child_count ∷ special ∷ []) k x
     ∙ not_first true_word (false_word ∷ undef_word ∷ child_count ∷ special ∷ []) k y
     ∙ not_first false_word (undef_word ∷ child_count ∷ special ∷ []) k z
     ∙ not_first undef_word (child_count ∷ special ∷ []) k v
     ∙ not_first child_count (special ∷ []) k w
     ∙ not_first special [] k s
+
+not_atom : (k : ℕ) → listed (numeral ∷ []) k ≡ false → listed (text ∷ []) k ≡ false → listed (true_word ∷ []) k ≡ false → listed (false_word ∷ []) k ≡ false
+    → listed (undef_word ∷ []) k ≡ false → listed (child_count ∷ []) k ≡ false → listed (special ∷ []) k ≡ false → listed (name ∷ []) k ≡ false → listed atoms k ≡ false
+not_atom k n x y z v w s g = not_first name literals k g ∙ not_literal k n x y z v w s
+
+-- a literal is an atom
+pub literal_is_atom : (t : Token) → among literals t ≡ true → among atoms t ≡ true
+literal_is_atom t e = go (nat_eq (class_of t.kind) name)
+  where
+    go : (b : Bool) → cond b true (listed literals (class_of t.kind)) ≡ true
+    go true = refl
+    go false = e
+
+-- a literal that is taken from where one stands
+pub literal_taken : (ts : List Token) (t : Token) (us : List Token) → starts (among literals) ts ≡ true → one (among literals) ts ≡ Ok (t, us) → (ts ≡ t ∷ us) × (among literals t ≡ true)
+literal_taken [] t us s e = absurd (cc)
+literal_taken (y ∷ l) t us s e =
+    let same = one_taken (among literals) y l t us s e in
+    (ap (λ z. z ∷ l) same.0 ∙ ap (λ m. t ∷ m) same.1, ap (among literals) (sym same.0) ∙ s)
 
 -- a test that none of a list meets
 abbrev Spares : (ℕ → Bool) → List ℕ → Type 0
@@ -66,11 +85,6 @@ spared f (c ∷ cs) k h e = go (nat_eq k c) refl e (spared f cs k h.1)
     go : (b : Bool) → nat_eq k c ≡ b → cond b true (listed cs k) ≡ true → (listed cs k ≡ true → f k ≡ false) → f k ≡ false
     go true g e more = ap f (eqb-true k c g) ∙ h.0
     go false g e more = more e
-
-both_hold : (b c : Bool) → (b && c) ≡ true → (b ≡ true) × (c ≡ true)
-both_hold true true e = (refl, refl)
-both_hold true false e = absurd (cc)
-both_hold false c e = absurd (cc)
 
 module _ (e : Reads Term) (a : Reads ArgTerm) (t : Token) (us : List Token) where
   -- one literal, or something else
@@ -94,6 +108,19 @@ module _ (e : Reads Term) (a : Reads ArgTerm) (t : Token) (us : List Token) wher
       last n x y z v w s true g = name_alone g alone
       last n x y z v w s false g =
           let none : true ≡ false = sym atom ∙ not_atom (class_of t.kind) n x y z v w s g in
+          absurd (cc)
+
+  -- a literal is read as what it writes
+  pub literal_read : among literals t ≡ true → primary_read e a (t ∷ us) ≡ Ok (atom_of t, us)
+  literal_read literal =
+      literal_or _ (is numeral t) _ _ _ (λ n. literal_or _ (is text t) _ _ _ (λ x. literal_or _ (is true_word t) _ _ _ (λ y.
+      literal_or _ (is false_word t) _ _ _ (λ z. literal_or _ (is undef_word t) _ _ _ (λ v. literal_or _ (is child_count t) _ _ _ (λ w.
+      literal_or _ (is special t) _ _ _ (λ s. none n x y z v w s)))))))
+    where
+      none : is numeral t ≡ false → is text t ≡ false → is true_word t ≡ false → is false_word t ≡ false → is undef_word t ≡ false → is child_count t ≡ false → is special t ≡ false
+          → choice (is name) (name_read a) (choice (is open_parenthesis_sign) (paren_read e) (bracket_read e)) (t ∷ us) ≡ Ok (NameTerm t.place (bytes_of t.kind), us)
+      none n x y z v w s =
+          let other : true ≡ false = sym literal ∙ not_literal (class_of t.kind) n x y z v w s in
           absurd (cc)
 
 unsigned : (t : Token) → among atoms t ≡ true → among unary_signs t ≡ false

@@ -10,13 +10,13 @@ use Rattle.scad_grammar.specs.Reading.{Read, after, mapped}
 use Rattle.scad_grammar.specs.Reads.{given, arg_in, expr_read}
 use Rattle.scad_tokens.specs.Views.{gives_value}
 
-both_hold : (b c : Bool) → (b && c) ≡ true → (b ≡ true) × (c ≡ true)
+pub both_hold : (b c : Bool) → (b && c) ≡ true → (b ≡ true) × (c ≡ true)
 both_hold true true e = (refl, refl)
 both_hold true false e = absurd (cc)
 both_hold false c e = absurd (cc)
 
 -- a token that is of the test is taken
-one_taken : (test : Token → Bool) (y : Token) (l : List Token) (t : Token) (us : List Token) → test y ≡ true → one test (y ∷ l) ≡ Ok (t, us) → (y ≡ t) × (l ≡ us)
+pub one_taken : (test : Token → Bool) (y : Token) (l : List Token) (t : Token) (us : List Token) → test y ≡ true → one test (y ∷ l) ≡ Ok (t, us) → (y ≡ t) × (l ≡ us)
 one_taken test y l t us h e =
     let f : ◌≡◌ {A = Read Token SyntaxFault Token} (Ok (y, l)) (Ok (t, us)) = ap (λ b. cond b (Ok (y, l)) (Err (fault_of left_out (Some y), y ∷ l))) (sym h) ∙ e in
     let g : ◌≡◌ {A = Token × List Token} (y, l) (t, us) = cc in

@@ -1,26 +1,35 @@
 -- What the parser's loops read leaves no more tokens than there were, or fewer.
-use Rattle.std.proofs.Common.{◌≡◌, ℕ, zero, suc, ◌<◌, ◌≤◌, List, [], ◌∷◌, ◌++◌, length, Bool, true, false, cond, Ok, Err, Some, None, refl, ap, arith, length-append}
+use Rattle.std.proofs.Common.{◌≡◌, ℕ, zero, suc, ◌<◌, ◌≤◌, List, [], ◌∷◌, ◌++◌, length, Bool, true, false, cond, Ok, Err, Some, None, refl, ap, arith, length-append, Result, IfOk}
+use Rattle.std.specs.Borrow.{Bor}
 use Rattle.scad_lexer.specs.declared.token.Token.{Token}
-use Rattle.scad_ast.specs.Terms.{Term, PositionalTerm}
+use Rattle.scad_ast.specs.Terms.{Term, ArgTerm, PositionalTerm}
 use Rattle.scad_grammar.specs.declared.SyntaxFault.{SyntaxFault}
 use Rattle.scad_grammar.specs.declared.SyntaxFault.TheVariants.{Nested}
-use Rattle.scad_grammar.specs.Classes.{name, argument_names, open_bracket_sign, close_bracket_sign, dot_sign, assign_sign, among, is}
-use Rattle.scad_grammar.specs.Languages.{Language, first_of, second_of}
+use Rattle.scad_grammar.specs.Classes.{name, argument_names, open_bracket_sign, close_bracket_sign, close_parenthesis_sign, comma_sign, dot_sign, assign_sign, among, is, other_than}
+use Rattle.scad_grammar.specs.Languages.{Language, first_of, second_of, cons}
 use Rattle.scad_grammar.specs.Grammar.{whole, Statement, link, chain_of, index_of, member_of, mark_of, param_of, binder_of}
 use Rattle.scad_grammar.specs.Faults.{Reads, one, fault_of, left_out, left_out_of_expressions}
-use Rattle.scad_grammar.specs.Reading.{Read, after, starts, mapped, nothing, both, maybe, many}
-use Rattle.scad_grammar.specs.Reads.{firsts_of_expression, nested, head_of, given, suffix_read, unary_read, primary_read, chain_read, arg_in, expr_read, operand_read}
+use Rattle.scad_grammar.specs.Reading.{Read, after, starts, mapped, nothing, both, maybe, many, trailing}
+use Rattle.scad_grammar.specs.Reads.{firsts_of_expression, nested, head_of, given, suffix_read, unary_read, primary_read, chain_read, args_read, arg_in, expr_read, operand_read}
 use Rattle.scad_grammar.specs.StatementReads.{mark_signs, param_in, binder_in, firsts_of_statement, statement_read}
 use Rattle.scad_grammar.proofs.Readers.{Told, IsReader, Opens}
-use Rattle.scad_grammar.proofs.Shrinks.{left, Shrinks, one_shrinks, nothing_shrinks, mapped_shrinks, both_shrinks, choice_shrinks, ahead_shrinks, many_shrinks}
+use Rattle.scad_grammar.proofs.Shrinks.{left, Shrinks, one_shrinks, nothing_shrinks, mapped_shrinks, both_shrinks, choice_shrinks, ahead_shrinks, many_shrinks, trailing_shrinks}
 use Rattle.scad_grammar.proofs.Expressions.{depth_reads}
 use Rattle.scad_grammar.proofs.Statements.{statement_depth_reads, statement_depth_opens}
 use Rattle.scad_tokens.specs.declared.class.Level.{Level}
+use Rattle.scad_tokens.specs.declared.next.Stopped.{Stopped}
 use Rattle.scad_tokens.specs.TokenClasses.{operators_at, levels_below}
+use Rattle.scad_tokens.specs.Views.{Gives}
 use Rattle.scad_expressions.proofs.Loops.{Shorter, Strictly}
 
 shorter : {A : Type 0} (r : Reads A) → Shrinks r → Shorter r
 shorter r h ts x us e = omega (arith, h.at ts, ap left e)
+
+-- what gives what such a reader reads
+pub given_shorter : {A X : Type 0} (view : A → X) (r : Reads X) → Shorter r → (ts : List Token) (given : Result (A × Bor (List Token)) Stopped)
+    → Gives (λ (p : A × Bor (List Token)). (view p.0, p.1.now)) given (r ts) → IfOk given (λ p. length p.1.now ≤ length ts)
+given_shorter view r h ts (Ok p) g = h ts (view p.0) p.1.now g
+given_shorter view r h ts (Err s) g = tt
 
 -- what a reader of the grammar leaves
 told_left : {A : Type 0} (r : Reads A) (L W : Language A) (ts : List Token) (q : Read Token SyntaxFault A) → Told r L W ts q → left q ≤ length ts
@@ -60,13 +69,24 @@ chain_shrinks (ops ∷ levels) u h =
 valued_shrinks : (d : ℕ) → Shrinks (both second_of (one (is assign_sign)) (expr_read d))
 valued_shrinks d = both_shrinks second_of (one (is assign_sign)) (expr_read d) (taken_shrinks (is assign_sign)) (expr_shrinks d)
 
+arg_shrinks : (d : ℕ) → Shrinks (arg_in d (expr_read d))
+arg_shrinks zero = nested_shrinks firsts_of_expression left_out_of_expressions
+arg_shrinks (suc d) = ahead_shrinks given (among argument_names) (is assign_sign) (expr_read (suc d)) (mapped PositionalTerm (expr_read (suc d))) (expr_shrinks (suc d)) (mapped_shrinks PositionalTerm (expr_read (suc d)) (expr_shrinks (suc d)))
+
+args_shrinks : (a : Reads ArgTerm) → Shrinks a → Shrinks (args_read a)
+args_shrinks a h =
+    let more = trailing_shrinks (is comma_sign) (other_than (close_parenthesis_sign ∷ [])) a h in
+    choice_shrinks (other_than (close_parenthesis_sign ∷ [])) (both cons a (trailing (is comma_sign) (other_than (close_parenthesis_sign ∷ [])) a)) (nothing []) (both_shrinks cons a (trailing (is comma_sign) (other_than (close_parenthesis_sign ∷ [])) a) h more) (nothing_shrinks [])
+
 -- expressions, arguments, parameters and variables of a loop
 pub expr_shorter : (d : ℕ) → Shorter (expr_read d)
 expr_shorter d = shorter (expr_read d) (expr_shrinks d)
 
 pub arg_shorter : (d : ℕ) → Shorter (arg_in d (expr_read d))
-arg_shorter zero = shorter (arg_in zero (expr_read zero)) (nested_shrinks firsts_of_expression left_out_of_expressions)
-arg_shorter (suc d) = shorter (arg_in (suc d) (expr_read (suc d))) (ahead_shrinks given (among argument_names) (is assign_sign) (expr_read (suc d)) (mapped PositionalTerm (expr_read (suc d))) (expr_shrinks (suc d)) (mapped_shrinks PositionalTerm (expr_read (suc d)) (expr_shrinks (suc d))))
+arg_shorter d = shorter (arg_in d (expr_read d)) (arg_shrinks d)
+
+pub args_shorter : (d : ℕ) → Shorter (args_read (arg_in d (expr_read d)))
+args_shorter d = shorter (args_read (arg_in d (expr_read d))) (args_shrinks (arg_in d (expr_read d)) (arg_shrinks d))
 
 pub param_shorter : (d : ℕ) → Shorter (param_in d (expr_read d))
 param_shorter zero = shorter (param_in zero (expr_read zero)) (nested_shrinks (name ∷ []) left_out)

@@ -1,7 +1,7 @@
 mod Atoms
 mod Climbs
 pub mod Depths
-mod Given
+pub mod Given
 pub mod Lengths
 mod Levels
 pub mod Loops

@@ -1,4 +1,4 @@
-ghost use Rattle.std.specs.Prelude.{◌≡◌, ◌≤◌, ◌<◌, ◌∷◌, [], true, Some, IfOk, length, map};
+ghost use Rattle.std.specs.Prelude.{◌≡◌, ◌≤◌, ◌∷◌, [], true, Some, IfOk, length, map};
 ghost use Rattle.scad_ast.specs.Terms.{Term, ArgTerm};
 ghost use Rattle.scad_ast.specs.ExprView.{term_of, terms_of, link_of, suffix_of, arg_of, args_of};
 ghost use Rattle.scad_grammar.specs.Classes.{among, is, other_than, symbol_class, bytes_of};
@@ -50,7 +50,6 @@ pub fn expr<'a>(alloc: Global, tokens: &'a [Token], depth: u32) -> Parsed<'a, Ex
 #[inline(never)]
 fn choice<'a>(alloc: Global, tokens: &'a [Token], depth: u32) -> Parsed<'a, Expr>
     ensures value { Gives (λ p. (term_of p.0, p.1.now)) result (choice_read (expr_read depth) (operand_read depth) (primary_read (expr_read depth) (arg_in depth (expr_read depth))) tokens.now) }
-    ensures rest { IfOk result (λ p. length p.1.now ≤ length tokens.now) }
 {
     match chain(alloc, tokens, depth) {
         Ok((test, rest)) if Class::Sign(Symbol::Question).begins(rest) => {
@@ -65,7 +64,6 @@ fn choice<'a>(alloc: Global, tokens: &'a [Token], depth: u32) -> Parsed<'a, Expr
 #[inline(never)]
 fn chosen<'a>(alloc: Global, test: Expr, tokens: &'a [Token], depth: u32) -> Parsed<'a, Expr>
     ensures value { Gives (λ p. (term_of p.0, p.1.now)) result (mapped (choice_at (term_of test)) (mapped Some (both pair_of (one (is question_sign)) (both pair_of (expr_read depth) (both second_of (one (is colon_sign)) (expr_read depth))))) tokens.now) }
-    ensures rest { IfOk result (λ p. length p.1.now ≤ length tokens.now) }
 {
     let ((test, (mark, (yes, no))), rest) = with(test, sides(alloc, tokens, depth))?;
     let place = test.place();
@@ -87,7 +85,6 @@ fn sides<'a>(
     depth: u32,
 ) -> Parsed<'a, (&'a Token, (Expr, Expr))>
     ensures value { Gives (λ p. ((p.0.0.now, (term_of p.0.1.0, term_of p.0.1.1)), p.1.now)) result (both pair_of (one (is question_sign)) (both pair_of (expr_read depth) (both second_of (one (is colon_sign)) (expr_read depth))) tokens.now) }
-    ensures rest { IfOk result (λ p. length p.1.now ≤ length tokens.now) }
 {
     let (mark, rest) = take(Class::Sign(Symbol::Question), tokens)?;
     let (yes, rest) = expr(alloc, rest, depth)?;
@@ -110,7 +107,6 @@ pub fn behind<'a>(alloc: Global, sign: Symbol, tokens: &'a [Token], depth: u32) 
 #[cycle(expression)]
 fn chain<'a>(alloc: Global, tokens: &'a [Token], depth: u32) -> Parsed<'a, Expr>
     ensures value { Gives (λ p. (term_of p.0, p.1.now)) result (chain_read levels (unary_read (expr_read depth) (operand_read depth) (primary_read (expr_read depth) (arg_in depth (expr_read depth)))) tokens.now) }
-    ensures rest { IfOk result (λ p. length p.1.now ≤ length tokens.now) }
 {
     match unary(alloc, tokens, depth) {
         Ok((first, rest)) if Class::BinaryOperator.begins(rest) => {
@@ -124,7 +120,6 @@ fn chain<'a>(alloc: Global, tokens: &'a [Token], depth: u32) -> Parsed<'a, Expr>
 #[cycle(expression)]
 fn side<'a>(alloc: Global, tokens: &'a [Token], depth: u32, level: Level) -> Parsed<'a, Expr>
     ensures value { Gives (λ p. (term_of p.0, p.1.now)) result (chain_read (levels_below level) (unary_read (expr_read depth) (operand_read depth) (primary_read (expr_read depth) (arg_in depth (expr_read depth)))) tokens.now) }
-    ensures rest { IfOk result (λ p. length p.1.now ≤ length tokens.now) }
 {
     if let Some((token, rest)) = lone_atom(tokens) {
         return Ok((atom(alloc, token)?, rest));
@@ -138,7 +133,6 @@ fn side<'a>(alloc: Global, tokens: &'a [Token], depth: u32, level: Level) -> Par
 #[inline(never)]
 fn climbed<'a>(alloc: Global, first: Expr, tokens: &'a [Token], depth: u32) -> Parsed<'a, Expr>
     ensures value { Gives (λ p. (term_of p.0, p.1.now)) result (climb_read levels (unary_read (expr_read depth) (operand_read depth) (primary_read (expr_read depth) (arg_in depth (expr_read depth)))) (term_of first) tokens.now) }
-    ensures rest { IfOk result (λ p. length p.1.now ≤ length tokens.now) }
 {
     match climb_below(alloc, first, tokens, depth, Level::Or) {
         Ok((first, rest)) if Class::Operator(Level::Or).begins(rest) => {
@@ -159,7 +153,6 @@ fn climb_below<'a>(
     level: Level,
 ) -> Parsed<'a, Expr>
     ensures value { Gives (λ p. (term_of p.0, p.1.now)) result (climb_read (levels_below level) (unary_read (expr_read depth) (operand_read depth) (primary_read (expr_read depth) (arg_in depth (expr_read depth)))) (term_of first) tokens.now) }
-    ensures rest { IfOk result (λ p. length p.1.now ≤ length tokens.now) }
 {
     let levels = level.tighter_levels();
     let mut first = first;
@@ -188,7 +181,6 @@ fn linked<'a>(
 ) -> Parsed<'a, Expr>
     requires { starts (among (operators_at level)) tokens.now ≡ true }
     ensures value { Gives (λ p. (term_of p.0, p.1.now)) result (mapped (chain_at (term_of first)) (many (among (operators_at level)) (both link_at (one (among (operators_at level))) (chain_read (levels_below level) (unary_read (expr_read depth) (operand_read depth) (primary_read (expr_read depth) (arg_in depth (expr_read depth))))))) tokens.now) }
-    ensures rest { IfOk result (λ p. length p.1.now ≤ length tokens.now) }
 {
     let ((first, (next, more)), rest) = with(first, some_links(alloc, tokens, depth, level))?;
     let place = first.place();
@@ -208,7 +200,6 @@ fn some_links<'a>(
 ) -> Parsed<'a, (Link, Vec<Link>)>
     requires { starts (among (operators_at level)) tokens.now ≡ true }
     ensures value { Gives (λ p. (link_of p.0.0 ∷ map link_of p.0.1.items, p.1.now)) result (many (among (operators_at level)) (both link_at (one (among (operators_at level))) (chain_read (levels_below level) (unary_read (expr_read depth) (operand_read depth) (primary_read (expr_read depth) (arg_in depth (expr_read depth)))))) tokens.now) }
-    ensures rest { IfOk result (λ p. length p.1.now ≤ length tokens.now) }
 {
     let (next, rest) = link(alloc, tokens, depth, level)?;
     let (links, rest) = with(next, links(alloc, rest, depth, level))?;
@@ -219,7 +210,6 @@ fn some_links<'a>(
 #[cycle(expression)]
 fn links<'a>(alloc: Global, tokens: &'a [Token], depth: u32, level: Level) -> Parsed<'a, Vec<Link>>
     ensures value { Gives (λ p. (map link_of p.0.items, p.1.now)) result (many (among (operators_at level)) (both link_at (one (among (operators_at level))) (chain_read (levels_below level) (unary_read (expr_read depth) (operand_read depth) (primary_read (expr_read depth) (arg_in depth (expr_read depth)))))) tokens.now) }
-    ensures rest { IfOk result (λ p. length p.1.now ≤ length tokens.now) }
 {
     let mut items = Vec::new(alloc);
     let mut rest = tokens;
@@ -235,7 +225,6 @@ fn links<'a>(alloc: Global, tokens: &'a [Token], depth: u32, level: Level) -> Pa
 #[cycle(expression)]
 fn link<'a>(alloc: Global, tokens: &'a [Token], depth: u32, level: Level) -> Parsed<'a, Link>
     ensures value { Gives (λ p. (link_of p.0, p.1.now)) result (both link_at (one (among (operators_at level))) (chain_read (levels_below level) (unary_read (expr_read depth) (operand_read depth) (primary_read (expr_read depth) (arg_in depth (expr_read depth))))) tokens.now) }
-    ensures shorter { IfOk result (λ p. length p.1.now < length tokens.now) }
 {
     let (operator, rest) = take(Class::Operator(level), tokens)?;
     let (right, rest) = side(alloc, rest, depth, level)?;
@@ -248,7 +237,6 @@ fn link<'a>(alloc: Global, tokens: &'a [Token], depth: u32, level: Level) -> Par
 #[cycle(expression)]
 fn unary<'a>(alloc: Global, tokens: &'a [Token], depth: u32) -> Parsed<'a, Expr>
     ensures value { Gives (λ p. (term_of p.0, p.1.now)) result (unary_read (expr_read depth) (operand_read depth) (primary_read (expr_read depth) (arg_in depth (expr_read depth))) tokens.now) }
-    ensures rest { IfOk result (λ p. length p.1.now ≤ length tokens.now) }
 {
     if Class::UnaryOperator.begins(tokens) {
         signed(alloc, tokens, depth)
@@ -262,7 +250,6 @@ fn unary<'a>(alloc: Global, tokens: &'a [Token], depth: u32) -> Parsed<'a, Expr>
 #[inline(never)]
 fn signed<'a>(alloc: Global, tokens: &'a [Token], depth: u32) -> Parsed<'a, Expr>
     ensures value { Gives (λ p. (term_of p.0, p.1.now)) result (both unary_at (one (among unary_signs)) (operand_read depth) tokens.now) }
-    ensures rest { IfOk result (λ p. length p.1.now ≤ length tokens.now) }
 {
     let (operator, rest) = take(Class::UnaryOperator, tokens)?;
     let (of, rest) = operand(alloc, rest, depth)?;
@@ -274,7 +261,6 @@ fn signed<'a>(alloc: Global, tokens: &'a [Token], depth: u32) -> Parsed<'a, Expr
 #[cycle(expression)]
 fn operand<'a>(alloc: Global, tokens: &'a [Token], depth: u32) -> Parsed<'a, Expr>
     ensures value { Gives (λ p. (term_of p.0, p.1.now)) result (operand_read depth tokens.now) }
-    ensures rest { IfOk result (λ p. length p.1.now ≤ length tokens.now) }
 {
     if depth == 0 {
         return Err(too_deep(Class::Expression, Class::LeftOutOfExpressions, tokens));
@@ -289,7 +275,6 @@ fn operand<'a>(alloc: Global, tokens: &'a [Token], depth: u32) -> Parsed<'a, Exp
 #[cycle(expression)]
 fn postfix<'a>(alloc: Global, tokens: &'a [Token], depth: u32) -> Parsed<'a, Expr>
     ensures value { Gives (λ p. (term_of p.0, p.1.now)) result (postfix_read (expr_read depth) (primary_read (expr_read depth) (arg_in depth (expr_read depth))) tokens.now) }
-    ensures rest { IfOk result (λ p. length p.1.now ≤ length tokens.now) }
 {
     match primary(alloc, tokens, depth) {
         Ok((of, rest)) if Class::Suffix.begins(rest) => suffixed(alloc, of, rest, depth),
@@ -303,7 +288,6 @@ fn postfix<'a>(alloc: Global, tokens: &'a [Token], depth: u32) -> Parsed<'a, Exp
 fn suffixed<'a>(alloc: Global, of: Expr, tokens: &'a [Token], depth: u32) -> Parsed<'a, Expr>
     requires { starts (among suffix_signs) tokens.now ≡ true }
     ensures value { Gives (λ p. (term_of p.0, p.1.now)) result (mapped (postfix_at (term_of of)) (many (among suffix_signs) (suffix_read (expr_read depth))) tokens.now) }
-    ensures rest { IfOk result (λ p. length p.1.now ≤ length tokens.now) }
 {
     let ((of, (next, more)), rest) = with(of, some_suffixes(alloc, tokens, depth))?;
     let place = of.place();
@@ -322,7 +306,6 @@ fn some_suffixes<'a>(
 ) -> Parsed<'a, (Suffix, Vec<Suffix>)>
     requires { starts (among suffix_signs) tokens.now ≡ true }
     ensures value { Gives (λ p. (suffix_of p.0.0 ∷ map suffix_of p.0.1.items, p.1.now)) result (many (among suffix_signs) (suffix_read (expr_read depth)) tokens.now) }
-    ensures rest { IfOk result (λ p. length p.1.now ≤ length tokens.now) }
 {
     let (next, rest) = suffix(alloc, tokens, depth)?;
     let (suffixes, rest) = with(next, suffixes(alloc, rest, depth))?;
@@ -333,7 +316,6 @@ fn some_suffixes<'a>(
 #[cycle(expression)]
 fn suffixes<'a>(alloc: Global, tokens: &'a [Token], depth: u32) -> Parsed<'a, Vec<Suffix>>
     ensures value { Gives (λ p. (map suffix_of p.0.items, p.1.now)) result (many (among suffix_signs) (suffix_read (expr_read depth)) tokens.now) }
-    ensures rest { IfOk result (λ p. length p.1.now ≤ length tokens.now) }
 {
     let mut items = Vec::new(alloc);
     let mut rest = tokens;
@@ -349,7 +331,6 @@ fn suffixes<'a>(alloc: Global, tokens: &'a [Token], depth: u32) -> Parsed<'a, Ve
 #[cycle(expression)]
 fn suffix<'a>(alloc: Global, tokens: &'a [Token], depth: u32) -> Parsed<'a, Suffix>
     ensures value { Gives (λ p. (suffix_of p.0, p.1.now)) result (suffix_read (expr_read depth) tokens.now) }
-    ensures shorter { IfOk result (λ p. length p.1.now < length tokens.now) }
 {
     if Class::Sign(Symbol::OpenBracket).begins(tokens) {
         let (open, rest) = take(Class::Sign(Symbol::OpenBracket), tokens)?;
@@ -368,7 +349,6 @@ fn suffix<'a>(alloc: Global, tokens: &'a [Token], depth: u32) -> Parsed<'a, Suff
 #[cycle(expression)]
 fn primary<'a>(alloc: Global, tokens: &'a [Token], depth: u32) -> Parsed<'a, Expr>
     ensures value { Gives (λ p. (term_of p.0, p.1.now)) result (primary_read (expr_read depth) (arg_in depth (expr_read depth)) tokens.now) }
-    ensures rest { IfOk result (λ p. length p.1.now ≤ length tokens.now) }
 {
     if Class::Literal.begins(tokens) {
         literal(alloc, tokens)
@@ -386,7 +366,6 @@ fn primary<'a>(alloc: Global, tokens: &'a [Token], depth: u32) -> Parsed<'a, Exp
 #[inline(never)]
 fn paren<'a>(alloc: Global, tokens: &'a [Token], depth: u32) -> Parsed<'a, Expr>
     ensures value { Gives (λ p. (term_of p.0, p.1.now)) result (paren_read (expr_read depth) tokens.now) }
-    ensures rest { IfOk result (λ p. length p.1.now ≤ length tokens.now) }
 {
     let (open, rest) = take(Class::Sign(Symbol::OpenParenthesis), tokens)?;
     let (inner, rest) = expr(alloc, rest, depth)?;
@@ -399,7 +378,6 @@ fn paren<'a>(alloc: Global, tokens: &'a [Token], depth: u32) -> Parsed<'a, Expr>
 fn literal<'a>(alloc: Global, tokens: &'a [Token]) -> Parsed<'a, Expr>
     requires { starts (among literals) tokens.now ≡ true }
     ensures value { (e : Reads Term) (a : Reads ArgTerm) → Gives (λ p. (term_of p.0, p.1.now)) result (primary_read e a tokens.now) }
-    ensures rest { IfOk result (λ p. length p.1.now ≤ length tokens.now) }
 {
     let (token, rest) = take(Class::Literal, tokens)?;
     Ok((atom(alloc, token)?, rest))
@@ -428,7 +406,6 @@ fn atom(alloc: Global, token: &Token) -> Result<Expr, AllocError>
 #[cycle(expression)]
 fn named<'a>(alloc: Global, tokens: &'a [Token], depth: u32) -> Parsed<'a, Expr>
     ensures value { Gives (λ p. (term_of p.0, p.1.now)) result (name_read (arg_in depth (expr_read depth)) tokens.now) }
-    ensures rest { IfOk result (λ p. length p.1.now ≤ length tokens.now) }
 {
     let (name, rest) = take(Class::Name, tokens)?;
     if Class::Sign(Symbol::OpenParenthesis).begins(rest) {
@@ -442,7 +419,6 @@ fn named<'a>(alloc: Global, tokens: &'a [Token], depth: u32) -> Parsed<'a, Expr>
 #[inline(never)]
 fn called<'a>(alloc: Global, name: &Token, tokens: &'a [Token], depth: u32) -> Parsed<'a, Expr>
     ensures value { Gives (λ p. (term_of p.0, p.1.now)) result (mapped (named_of name.now) (mapped Some (in_parentheses (args_read (arg_in depth (expr_read depth))))) tokens.now) }
-    ensures rest { IfOk result (λ p. length p.1.now ≤ length tokens.now) }
 {
     let bytes = bytes(alloc, &name.kind)?;
     let ((bytes, args), rest) = with(bytes, arguments(alloc, tokens, depth))?;
@@ -455,7 +431,6 @@ fn called<'a>(alloc: Global, name: &Token, tokens: &'a [Token], depth: u32) -> P
 #[inline(never)]
 fn bracket<'a>(alloc: Global, tokens: &'a [Token], depth: u32) -> Parsed<'a, Expr>
     ensures value { Gives (λ p. (term_of p.0, p.1.now)) result (bracket_read (expr_read depth) tokens.now) }
-    ensures rest { IfOk result (λ p. length p.1.now ≤ length tokens.now) }
 {
     let (open, rest) = take_first(Class::Sign(Symbol::OpenBracket), tokens)?;
     if !is_before(Symbol::CloseBracket, rest) {
@@ -479,7 +454,6 @@ fn filled<'a>(
     depth: u32,
 ) -> Parsed<'a, Expr>
     ensures value { Gives (λ p. (term_of p.0, p.1.now)) result (mapped (filled_of bracket.now (term_of first)) (rest_read (expr_read depth)) tokens.now) }
-    ensures rest { IfOk result (λ p. length p.1.now ≤ length tokens.now) }
 {
     if !Class::Sign(Symbol::Colon).begins(tokens) {
         let more = is_comma_before(Symbol::CloseBracket, tokens);
@@ -502,7 +476,6 @@ fn range<'a>(
     depth: u32,
 ) -> Parsed<'a, Expr>
     ensures value { Gives (λ p. (term_of p.0, p.1.now)) result (mapped (filled_of bracket.now (term_of from)) (range_read (expr_read depth)) tokens.now) }
-    ensures rest { IfOk result (λ p. length p.1.now ≤ length tokens.now) }
 {
     let place = bracket.place;
     let ((from, _), rest) = with(from, take(Class::Sign(Symbol::Colon), tokens))?;
@@ -529,7 +502,6 @@ fn more_items<'a>(
     depth: u32,
 ) -> Parsed<'a, Exprs>
     ensures value { Gives (λ p. (terms_of p.0, p.1.now)) result (in_front (map term_of items.items) (trailing (is comma_sign) (other_than (close_bracket_sign ∷ [])) (expr_read depth) tokens.now)) }
-    ensures rest { IfOk result (λ p. length p.1.now ≤ length tokens.now) }
 {
     let mut rest = tokens;
     'commas: while is_comma_before(Symbol::CloseBracket, rest) {
@@ -557,7 +529,6 @@ pub fn arguments<'a>(alloc: Global, tokens: &'a [Token], depth: u32) -> Parsed<'
 #[cycle(expression)]
 fn args<'a>(alloc: Global, tokens: &'a [Token], depth: u32) -> Parsed<'a, Args>
     ensures value { Gives (λ p. (args_of p.0, p.1.now)) result (args_read (arg_in depth (expr_read depth)) tokens.now) }
-    ensures rest { IfOk result (λ p. length p.1.now ≤ length tokens.now) }
 {
     if !is_before(Symbol::CloseParenthesis, tokens) {
         return Ok((no_args(alloc), tokens));
@@ -577,7 +548,6 @@ fn more_args<'a>(
     depth: u32,
 ) -> Parsed<'a, Args>
     ensures value { Gives (λ p. (args_of p.0, p.1.now)) result (in_front (map arg_of items.items) (trailing (is comma_sign) (other_than (close_parenthesis_sign ∷ [])) (arg_in depth (expr_read depth)) tokens.now)) }
-    ensures rest { IfOk result (λ p. length p.1.now ≤ length tokens.now) }
 {
     let mut rest = tokens;
     'commas: while is_comma_before(Symbol::CloseParenthesis, rest) {
@@ -593,7 +563,6 @@ fn more_args<'a>(
 #[inline(always)]
 fn arg<'a>(alloc: Global, tokens: &'a [Token], depth: u32) -> Parsed<'a, Arg>
     ensures value { Gives (λ p. (arg_of p.0, p.1.now)) result (arg_in depth (expr_read depth) tokens.now) }
-    ensures rest { IfOk result (λ p. length p.1.now ≤ length tokens.now) }
 {
     if depth == 0 {
         return Err(too_deep(Class::Expression, Class::LeftOutOfExpressions, tokens));

@@ -1,2 +1,3 @@
+mod Assigned
 mod Parsed
 pub mod Whole

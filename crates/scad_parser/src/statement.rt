@@ -1,4 +1,4 @@
-ghost use Rattle.std.specs.Prelude.{◌≡◌, ◌≤◌, ◌<◌, [], true, IfOk, length, map};
+ghost use Rattle.std.specs.Prelude.{◌≡◌, [], true, map};
 ghost use Rattle.scad_ast.specs.Terms.{StatementTerm};
 ghost use Rattle.scad_ast.specs.ExprView.{term_of};
 ghost use Rattle.scad_ast.specs.StatementView.{statement_of, statements_of, instance_of, core_of, body_of, param_of, params_of, binder_of, binders_of, mark_of, marks_of};
@@ -29,7 +29,6 @@ use std::alloc::Global;
 #[cycle(statement)]
 pub fn statement<'a>(alloc: Global, tokens: &'a [Token], depth: u32) -> Parsed<'a, Statement>
     ensures value { Gives (λ p. (statement_of p.0, p.1.now)) result (statement_read depth tokens.now) }
-    ensures shorter { IfOk result (λ p. length p.1.now < length tokens.now) }
 {
     if depth == 0 {
         return Err(too_deep(Class::Statement, Class::LeftOut, tokens));
@@ -46,7 +45,6 @@ fn statement_over<'a>(
     inner: u32,
 ) -> Parsed<'a, Statement>
     ensures value { Gives (λ p. (statement_of p.0, p.1.now)) result (statement_from (expr_read depth) (param_in inner (expr_read inner)) (statement_read inner) (body_read inner) (instance_in inner (body_read inner)) tokens.now) }
-    ensures shorter { IfOk result (λ p. length p.1.now < length tokens.now) }
 {
     if Class::Sign(Symbol::Semicolon).begins(tokens) {
         let (end, rest) = take(Class::Sign(Symbol::Semicolon), tokens)?;
@@ -68,7 +66,6 @@ fn statement_over<'a>(
 #[cycle(statement)]
 fn braces<'a>(alloc: Global, tokens: &'a [Token], depth: u32) -> Parsed<'a, Statements>
     ensures value { Gives (λ p. (statements_of p.0, p.1.now)) result (braces_read (statement_read depth) tokens.now) }
-    ensures rest { IfOk result (λ p. length p.1.now ≤ length tokens.now) }
 {
     let (statements, rest) = statements(alloc, tokens, depth)?;
     let ((statements, _), rest) = with(statements, take(Class::Sign(Symbol::CloseBrace), rest))?;
@@ -79,7 +76,6 @@ fn braces<'a>(alloc: Global, tokens: &'a [Token], depth: u32) -> Parsed<'a, Stat
 #[cycle(statement)]
 pub fn statements<'a>(alloc: Global, tokens: &'a [Token], depth: u32) -> Parsed<'a, Statements>
     ensures value { Gives (λ p. (statements_of p.0, p.1.now)) result (many (among firsts_of_statement) (statement_read depth) tokens.now) }
-    ensures rest { IfOk result (λ p. length p.1.now ≤ length tokens.now) }
 {
     let mut items = Vec::new(alloc);
     let mut rest = tokens;
@@ -96,7 +92,6 @@ pub fn statements<'a>(alloc: Global, tokens: &'a [Token], depth: u32) -> Parsed<
 fn assignment<'a>(alloc: Global, tokens: &'a [Token], depth: u32) -> Parsed<'a, Statement>
     requires { names_value tokens.now ≡ true }
     ensures value { (q : Reads StatementTerm) → Gives (λ p. (statement_of p.0, p.1.now)) result (ahead assigned (is name) (is assign_sign) (ended_read (expr_read depth)) q tokens.now) }
-    ensures shorter { IfOk result (λ p. length p.1.now < length tokens.now) }
 {
     let (name, rest) = take(Class::Name, tokens)?;
     let (_, rest) = take(Class::Sign(Symbol::Assign), rest)?;
@@ -109,7 +104,6 @@ fn assignment<'a>(alloc: Global, tokens: &'a [Token], depth: u32) -> Parsed<'a, 
 #[inline(never)]
 fn special_assignment<'a>(alloc: Global, tokens: &'a [Token], depth: u32) -> Parsed<'a, Statement>
     ensures value { Gives (λ p. (statement_of p.0, p.1.now)) result (special_read (expr_read depth) tokens.now) }
-    ensures shorter { IfOk result (λ p. length p.1.now < length tokens.now) }
 {
     let (name, rest) = take(Class::Special, tokens)?;
     let (_, rest) = take(Class::Sign(Symbol::Assign), rest)?;
@@ -121,7 +115,6 @@ fn special_assignment<'a>(alloc: Global, tokens: &'a [Token], depth: u32) -> Par
 /// An expression and the `;` behind it.
 fn ended<'a>(alloc: Global, tokens: &'a [Token], depth: u32) -> Parsed<'a, Expr>
     ensures value { Gives (λ p. (term_of p.0, p.1.now)) result (ended_read (expr_read depth) tokens.now) }
-    ensures rest { IfOk result (λ p. length p.1.now ≤ length tokens.now) }
 {
     let (value, rest) = expr(alloc, tokens, depth)?;
     let ((value, _), rest) = with(value, take(Class::Sign(Symbol::Semicolon), rest))?;
@@ -138,7 +131,6 @@ fn definition<'a>(
     inner: u32,
 ) -> Parsed<'a, Statement>
     ensures value { Gives (λ p. (statement_of p.0, p.1.now)) result (definition_read (expr_read depth) (param_in inner (expr_read inner)) (body_read inner) (instance_in inner (body_read inner)) tokens.now) }
-    ensures shorter { IfOk result (λ p. length p.1.now < length tokens.now) }
 {
     if Class::Word(Reserved::Module).begins(tokens) {
         module(alloc, tokens, inner)
@@ -155,7 +147,6 @@ fn definition<'a>(
 #[inline(never)]
 fn module<'a>(alloc: Global, tokens: &'a [Token], depth: u32) -> Parsed<'a, Statement>
     ensures value { Gives (λ p. (statement_of p.0, p.1.now)) result (module_read (param_in depth (expr_read depth)) (body_read depth) tokens.now) }
-    ensures shorter { IfOk result (λ p. length p.1.now < length tokens.now) }
 {
     let (word, rest) = take(Class::Word(Reserved::Module), tokens)?;
     let (name, rest) = take(Class::Name, rest)?;
@@ -172,7 +163,6 @@ fn module<'a>(alloc: Global, tokens: &'a [Token], depth: u32) -> Parsed<'a, Stat
 #[inline(never)]
 fn function<'a>(alloc: Global, tokens: &'a [Token], depth: u32, inner: u32) -> Parsed<'a, Statement>
     ensures value { Gives (λ p. (statement_of p.0, p.1.now)) result (function_read (expr_read depth) (param_in inner (expr_read inner)) tokens.now) }
-    ensures shorter { IfOk result (λ p. length p.1.now < length tokens.now) }
 {
     let (word, rest) = take(Class::Word(Reserved::Function), tokens)?;
     let (name, rest) = take(Class::Name, rest)?;
@@ -192,7 +182,6 @@ fn function<'a>(alloc: Global, tokens: &'a [Token], depth: u32, inner: u32) -> P
 /// Parameters in parentheses.
 fn params<'a>(alloc: Global, tokens: &'a [Token], depth: u32) -> Parsed<'a, Params>
     ensures value { Gives (λ p. (params_of p.0, p.1.now)) result (in_parentheses (params_read (param_in depth (expr_read depth))) tokens.now) }
-    ensures rest { IfOk result (λ p. length p.1.now ≤ length tokens.now) }
 {
     let (_, rest) = take(Class::Sign(Symbol::OpenParenthesis), tokens)?;
     let (params, rest) = param_list(alloc, rest, depth)?;
@@ -203,7 +192,6 @@ fn params<'a>(alloc: Global, tokens: &'a [Token], depth: u32) -> Parsed<'a, Para
 /// Parameters, and maybe a comma behind the last.
 fn param_list<'a>(alloc: Global, tokens: &'a [Token], depth: u32) -> Parsed<'a, Params>
     ensures value { Gives (λ p. (params_of p.0, p.1.now)) result (params_read (param_in depth (expr_read depth)) tokens.now) }
-    ensures rest { IfOk result (λ p. length p.1.now ≤ length tokens.now) }
 {
     if !Class::Name.begins(tokens) {
         return Ok((no_params(alloc), tokens));
@@ -230,7 +218,6 @@ fn more_params<'a>(
     depth: u32,
 ) -> Parsed<'a, Params>
     ensures value { Gives (λ p. (params_of p.0, p.1.now)) result (in_front (map param_of items.items) (trailing (is comma_sign) (is name) (param_in depth (expr_read depth)) tokens.now)) }
-    ensures rest { IfOk result (λ p. length p.1.now ≤ length tokens.now) }
 {
     let mut rest = tokens;
     'commas: while is_comma_and_name(rest) {
@@ -244,7 +231,6 @@ fn more_params<'a>(
 /// A parameter whose tokens are less deep than so much.
 fn param<'a>(alloc: Global, tokens: &'a [Token], depth: u32) -> Parsed<'a, Param>
     ensures value { Gives (λ p. (param_of p.0, p.1.now)) result (param_in depth (expr_read depth) tokens.now) }
-    ensures rest { IfOk result (λ p. length p.1.now ≤ length tokens.now) }
 {
     if depth == 0 {
         return Err(too_deep(Class::Name, Class::LeftOut, tokens));
@@ -262,7 +248,6 @@ fn param<'a>(alloc: Global, tokens: &'a [Token], depth: u32) -> Parsed<'a, Param
 #[cycle(statement)]
 fn instance<'a>(alloc: Global, tokens: &'a [Token], depth: u32) -> Parsed<'a, Instance>
     ensures value { Gives (λ p. (instance_of p.0, p.1.now)) result (instance_in depth (body_read depth) tokens.now) }
-    ensures shorter { IfOk result (λ p. length p.1.now < length tokens.now) }
 {
     let (marks, rest) = marks(alloc, tokens)?;
     let ((marks, core), rest) = with(marks, core(alloc, rest, depth))?;
@@ -283,7 +268,6 @@ fn instance_from(marks: Marks, core: Core) -> Instance
 /// Modifiers.
 fn marks<'a>(alloc: Global, tokens: &'a [Token]) -> Parsed<'a, Marks>
     ensures value { Gives (λ p. (marks_of p.0, p.1.now)) result (marks_read tokens.now) }
-    ensures rest { IfOk result (λ p. length p.1.now ≤ length tokens.now) }
 {
     let mut items = Vec::new(alloc);
     let mut rest = tokens;
@@ -298,7 +282,6 @@ fn marks<'a>(alloc: Global, tokens: &'a [Token]) -> Parsed<'a, Marks>
 /// A modifier.
 fn mark<'a>(tokens: &'a [Token]) -> Parsed<'a, Mark>
     ensures value { Gives (λ p. (mark_of p.0, p.1.now)) result (mapped mark_at (one (among mark_signs)) tokens.now) }
-    ensures shorter { IfOk result (λ p. length p.1.now < length tokens.now) }
 {
     let (token, rest) = take(Class::Mark, tokens)?;
     let mark = Mark {
@@ -312,7 +295,6 @@ fn mark<'a>(tokens: &'a [Token]) -> Parsed<'a, Mark>
 #[cycle(statement)]
 fn core<'a>(alloc: Global, tokens: &'a [Token], depth: u32) -> Parsed<'a, Core>
     ensures value { Gives (λ p. (core_of p.0, p.1.now)) result (core_read (expr_read depth) (arg_in depth (expr_read depth)) (binder_in depth (expr_read depth)) (body_read depth) tokens.now) }
-    ensures shorter { IfOk result (λ p. length p.1.now < length tokens.now) }
 {
     if Class::Word(Reserved::If).begins(tokens) {
         branch(alloc, tokens, depth)
@@ -328,7 +310,6 @@ fn core<'a>(alloc: Global, tokens: &'a [Token], depth: u32) -> Parsed<'a, Core>
 #[inline(never)]
 fn branch<'a>(alloc: Global, tokens: &'a [Token], depth: u32) -> Parsed<'a, Core>
     ensures value { Gives (λ p. (core_of p.0, p.1.now)) result (if_read (expr_read depth) (body_read depth) tokens.now) }
-    ensures shorter { IfOk result (λ p. length p.1.now < length tokens.now) }
 {
     let (word, rest) = take(Class::Word(Reserved::If), tokens)?;
     let (test, rest) = condition(alloc, rest, depth)?;
@@ -345,7 +326,6 @@ fn branch<'a>(alloc: Global, tokens: &'a [Token], depth: u32) -> Parsed<'a, Core
 #[inline(always)]
 fn otherwise<'a>(alloc: Global, tokens: &'a [Token], depth: u32) -> Parsed<'a, Box<Body>>
     ensures value { Gives (λ p. (body_of p.0.value, p.1.now)) result (both second_of (one (is else_word)) (body_read depth) tokens.now) }
-    ensures rest { IfOk result (λ p. length p.1.now ≤ length tokens.now) }
 {
     let (_, rest) = take(Class::Word(Reserved::Else), tokens)?;
     boxed_body(alloc, rest, depth)
@@ -356,7 +336,6 @@ fn otherwise<'a>(alloc: Global, tokens: &'a [Token], depth: u32) -> Parsed<'a, B
 #[inline(always)]
 fn boxed_body<'a>(alloc: Global, tokens: &'a [Token], depth: u32) -> Parsed<'a, Box<Body>>
     ensures value { Gives (λ p. (body_of p.0.value, p.1.now)) result (body_read depth tokens.now) }
-    ensures rest { IfOk result (λ p. length p.1.now ≤ length tokens.now) }
 {
     let (body, rest) = body(alloc, tokens, depth)?;
     Ok((Box::new(alloc, body)?, rest))
@@ -365,7 +344,6 @@ fn boxed_body<'a>(alloc: Global, tokens: &'a [Token], depth: u32) -> Parsed<'a, 
 /// An expression in parentheses.
 fn condition<'a>(alloc: Global, tokens: &'a [Token], depth: u32) -> Parsed<'a, Expr>
     ensures value { Gives (λ p. (term_of p.0, p.1.now)) result (in_parentheses (expr_read depth) tokens.now) }
-    ensures rest { IfOk result (λ p. length p.1.now ≤ length tokens.now) }
 {
     let (_, rest) = take(Class::Sign(Symbol::OpenParenthesis), tokens)?;
     let (test, rest) = expr(alloc, rest, depth)?;
@@ -378,7 +356,6 @@ fn condition<'a>(alloc: Global, tokens: &'a [Token], depth: u32) -> Parsed<'a, E
 #[inline(never)]
 fn repetition<'a>(alloc: Global, tokens: &'a [Token], depth: u32) -> Parsed<'a, Core>
     ensures value { Gives (λ p. (core_of p.0, p.1.now)) result (loop_read (binder_in depth (expr_read depth)) (body_read depth) tokens.now) }
-    ensures shorter { IfOk result (λ p. length p.1.now < length tokens.now) }
 {
     let (word, rest) = take(Class::LoopWord, tokens)?;
     let (binders, rest) = binders(alloc, rest, depth)?;
@@ -393,7 +370,6 @@ fn repetition<'a>(alloc: Global, tokens: &'a [Token], depth: u32) -> Parsed<'a, 
 /// Variables of a loop, in parentheses.
 fn binders<'a>(alloc: Global, tokens: &'a [Token], depth: u32) -> Parsed<'a, Binders>
     ensures value { Gives (λ p. (binders_of p.0, p.1.now)) result (in_parentheses (binders_read (binder_in depth (expr_read depth))) tokens.now) }
-    ensures rest { IfOk result (λ p. length p.1.now ≤ length tokens.now) }
 {
     let (_, rest) = take(Class::Sign(Symbol::OpenParenthesis), tokens)?;
     let (first, rest) = binder(alloc, rest, depth)?;
@@ -411,7 +387,6 @@ fn more_binders<'a>(
     depth: u32,
 ) -> Parsed<'a, Binders>
     ensures value { Gives (λ p. (binders_of p.0, p.1.now)) result (in_front (map binder_of items.items) (trailing (is comma_sign) (is name) (binder_in depth (expr_read depth)) tokens.now)) }
-    ensures rest { IfOk result (λ p. length p.1.now ≤ length tokens.now) }
 {
     let mut rest = tokens;
     'commas: while is_comma_and_name(rest) {
@@ -425,7 +400,6 @@ fn more_binders<'a>(
 /// A variable of a loop, whose tokens are less deep than so much.
 fn binder<'a>(alloc: Global, tokens: &'a [Token], depth: u32) -> Parsed<'a, Binder>
     ensures value { Gives (λ p. (binder_of p.0, p.1.now)) result (binder_in depth (expr_read depth) tokens.now) }
-    ensures rest { IfOk result (λ p. length p.1.now ≤ length tokens.now) }
 {
     if depth == 0 {
         return Err(too_deep(Class::Name, Class::LeftOut, tokens));
@@ -448,7 +422,6 @@ fn binder<'a>(alloc: Global, tokens: &'a [Token], depth: u32) -> Parsed<'a, Bind
 #[cycle(statement)]
 fn call<'a>(alloc: Global, tokens: &'a [Token], depth: u32) -> Parsed<'a, Core>
     ensures value { Gives (λ p. (core_of p.0, p.1.now)) result (call_read (arg_in depth (expr_read depth)) (body_read depth) tokens.now) }
-    ensures shorter { IfOk result (λ p. length p.1.now < length tokens.now) }
 {
     let (name, rest) = take(Class::Name, tokens)?;
     let bytes = bytes(alloc, &name.kind)?;
@@ -461,7 +434,6 @@ fn call<'a>(alloc: Global, tokens: &'a [Token], depth: u32) -> Parsed<'a, Core>
 #[cycle(statement)]
 fn body<'a>(alloc: Global, tokens: &'a [Token], depth: u32) -> Parsed<'a, Body>
     ensures value { Gives (λ p. (body_of p.0, p.1.now)) result (body_read depth tokens.now) }
-    ensures rest { IfOk result (λ p. length p.1.now ≤ length tokens.now) }
 {
     if depth == 0 {
         return Err(too_deep(Class::Body, Class::LeftOut, tokens));
@@ -473,7 +445,6 @@ fn body<'a>(alloc: Global, tokens: &'a [Token], depth: u32) -> Parsed<'a, Body>
 #[cycle(statement)]
 fn body_over<'a>(alloc: Global, tokens: &'a [Token], depth: u32) -> Parsed<'a, Body>
     ensures value { Gives (λ p. (body_of p.0, p.1.now)) result (body_from (statement_read depth) (instance_in depth (body_read depth)) tokens.now) }
-    ensures rest { IfOk result (λ p. length p.1.now ≤ length tokens.now) }
 {
     if Class::Sign(Symbol::Semicolon).begins(tokens) {
         let (end, rest) = take(Class::Sign(Symbol::Semicolon), tokens)?;

@@ -109,40 +109,32 @@ abbrev pub decreases-some_links : goal.decreases-some_links
 decreases-some_links l = 64 * l.depth + (7 * tighter_levels l.level + 13)
 
 abbrev pub invariant-links-links : goal.invariant-links-links
-invariant-links-links l = record {
-  told : many (among (operators_at l.level)) (both link (one (among (operators_at l.level))) (chain_read (levels_below l.level) (unary_read (expr_read l.depth) (operand_read l.depth) (primary_read (expr_read l.depth) (arg_in l.depth (expr_read l.depth)))))) l.tokens
-      ≡ in_front (map link_of l.items.items) (many (among (operators_at l.level)) (both link (one (among (operators_at l.level))) (chain_read (levels_below l.level) (unary_read (expr_read l.depth) (operand_read l.depth) (primary_read (expr_read l.depth) (arg_in l.depth (expr_read l.depth)))))) l.rest);
-  rest : length l.rest ≤ length l.tokens;
-}
+invariant-links-links l =
+    many (among (operators_at l.level)) (both link (one (among (operators_at l.level))) (chain_read (levels_below l.level) (unary_read (expr_read l.depth) (operand_read l.depth) (primary_read (expr_read l.depth) (arg_in l.depth (expr_read l.depth)))))) l.tokens
+    ≡ in_front (map link_of l.items.items) (many (among (operators_at l.level)) (both link (one (among (operators_at l.level))) (chain_read (levels_below l.level) (unary_read (expr_read l.depth) (operand_read l.depth) (primary_read (expr_read l.depth) (arg_in l.depth (expr_read l.depth)))))) l.rest)
 
 abbrev pub decreases-links-links : goal.decreases-links-links
 decreases-links-links l = length l.rest
 
 abbrev pub invariant-suffixes-suffixes : goal.invariant-suffixes-suffixes
-invariant-suffixes-suffixes l = record {
-  told : many (among suffix_signs) (suffix_read (expr_read l.depth)) l.tokens ≡ in_front (map suffix_of l.items.items) (many (among suffix_signs) (suffix_read (expr_read l.depth)) l.rest);
-  rest : length l.rest ≤ length l.tokens;
-}
+invariant-suffixes-suffixes l =
+    many (among suffix_signs) (suffix_read (expr_read l.depth)) l.tokens ≡ in_front (map suffix_of l.items.items) (many (among suffix_signs) (suffix_read (expr_read l.depth)) l.rest)
 
 abbrev pub decreases-suffixes-suffixes : goal.decreases-suffixes-suffixes
 decreases-suffixes-suffixes l = length l.rest
 
 abbrev pub invariant-more_items-commas : goal.invariant-more_items-commas
-invariant-more_items-commas l = record {
-  told : in_front (map term_of l.fn.items.items) (trailing (is comma_sign) (other_than (close_bracket_sign ∷ [])) (expr_read l.depth) l.tokens)
-      ≡ in_front (map term_of l.items.items) (trailing (is comma_sign) (other_than (close_bracket_sign ∷ [])) (expr_read l.depth) l.rest);
-  rest : length l.rest ≤ length l.tokens;
-}
+invariant-more_items-commas l =
+    in_front (map term_of l.fn.items.items) (trailing (is comma_sign) (other_than (close_bracket_sign ∷ [])) (expr_read l.depth) l.tokens)
+    ≡ in_front (map term_of l.items.items) (trailing (is comma_sign) (other_than (close_bracket_sign ∷ [])) (expr_read l.depth) l.rest)
 
 abbrev pub decreases-more_items-commas : goal.decreases-more_items-commas
 decreases-more_items-commas l = length l.rest
 
 abbrev pub invariant-more_args-commas : goal.invariant-more_args-commas
-invariant-more_args-commas l = record {
-  told : in_front (map arg_of l.fn.items.items) (trailing (is comma_sign) (other_than (close_parenthesis_sign ∷ [])) (arg_in l.depth (expr_read l.depth)) l.tokens)
-      ≡ in_front (map arg_of l.items.items) (trailing (is comma_sign) (other_than (close_parenthesis_sign ∷ [])) (arg_in l.depth (expr_read l.depth)) l.rest);
-  rest : length l.rest ≤ length l.tokens;
-}
+invariant-more_args-commas l =
+    in_front (map arg_of l.fn.items.items) (trailing (is comma_sign) (other_than (close_parenthesis_sign ∷ [])) (arg_in l.depth (expr_read l.depth)) l.tokens)
+    ≡ in_front (map arg_of l.items.items) (trailing (is comma_sign) (other_than (close_parenthesis_sign ∷ [])) (arg_in l.depth (expr_read l.depth)) l.rest)
 
 abbrev pub decreases-more_args-commas : goal.decreases-more_args-commas
 decreases-more_args-commas l = length l.rest
@@ -151,7 +143,6 @@ abbrev pub invariant-climb_below-levels : goal.invariant-climb_below-levels
 invariant-climb_below-levels l = record {
   told : climb_read (levels_below l.at) (unary_read (expr_read l.depth) (operand_read l.depth) (primary_read (expr_read l.depth) (arg_in l.depth (expr_read l.depth)))) (term_of l.fn.first) l.tokens ≡ Ok (term_of l.first, l.rest);
   within : tighter_levels l.at ≤ tighter_levels l.fn.level;
-  rest : length l.rest ≤ length l.tokens;
 }
 
 abbrev pub decreases-climb_below-levels : goal.decreases-climb_below-levels

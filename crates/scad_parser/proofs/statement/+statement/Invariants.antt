@@ -1,4 +1,4 @@
-use Rattle.std.proofs.Common.{◌≡◌, ◌+◌, ◌*◌, ◌≤◌, map, length}
+use Rattle.std.proofs.Common.{◌≡◌, ◌+◌, ◌*◌, map, length}
 use Rattle.scad_ast.specs.StatementView.{statement_of}
 use Rattle.scad_grammar.specs.Classes.{among}
 use Rattle.scad_grammar.specs.Reading.{many, in_front}
@@ -51,10 +51,8 @@ abbrev pub decreases-otherwise : goal.decreases-otherwise
 decreases-otherwise l = 16 * l.depth + 2
 
 abbrev pub invariant-statements-statements : goal.invariant-statements-statements
-invariant-statements-statements l = record {
-  told : many (among firsts_of_statement) (statement_read l.depth) l.tokens ≡ in_front (map statement_of l.items.items) (many (among firsts_of_statement) (statement_read l.depth) l.rest);
-  rest : length l.rest ≤ length l.tokens;
-}
+invariant-statements-statements l =
+    many (among firsts_of_statement) (statement_read l.depth) l.tokens ≡ in_front (map statement_of l.items.items) (many (among firsts_of_statement) (statement_read l.depth) l.rest)
 
 abbrev pub decreases-statements-statements : goal.decreases-statements-statements
 decreases-statements-statements l = length l.rest

@@ -1,4 +1,4 @@
-use Rattle.std.proofs.Common.{◌≡◌, ◌≤◌, map, length}
+use Rattle.std.proofs.Common.{◌≡◌, map, length}
 use Rattle.scad_ast.specs.StatementView.{param_of}
 use Rattle.scad_grammar.specs.Classes.{name, comma_sign, is}
 use Rattle.scad_grammar.specs.Reading.{trailing, in_front}
@@ -7,11 +7,9 @@ use Rattle.scad_grammar.specs.StatementReads.{param_in}
 use Rattle.scad_parser.proofs.statement.more_params.Given as goal
 
 abbrev pub invariant-commas : goal.invariant-commas
-invariant-commas l = record {
-  told : in_front (map param_of l.fn.items.items) (trailing (is comma_sign) (is name) (param_in l.depth (expr_read l.depth)) l.tokens)
-      ≡ in_front (map param_of l.items.items) (trailing (is comma_sign) (is name) (param_in l.depth (expr_read l.depth)) l.rest);
-  rest : length l.rest ≤ length l.tokens;
-}
+invariant-commas l =
+    in_front (map param_of l.fn.items.items) (trailing (is comma_sign) (is name) (param_in l.depth (expr_read l.depth)) l.tokens)
+    ≡ in_front (map param_of l.items.items) (trailing (is comma_sign) (is name) (param_in l.depth (expr_read l.depth)) l.rest)
 
 abbrev pub decreases-commas : goal.decreases-commas
 decreases-commas l = length l.rest
