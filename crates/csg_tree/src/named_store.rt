@@ -57,8 +57,8 @@ impl NamedStore {
     pub fn new(alloc: Global, store: Arc<CsgStore>) -> Result<NamedStore, NoMemory>
         ensures { IfOk result (λ named. named ≡ arc_value store) }
     {
-        let mut names = Vec::new(alloc);
-        let mut begun = Vec::new(alloc);
+        let mut names = Vec::with_capacity(alloc, store.len() as usize)?;
+        let mut begun = Vec::with_capacity(alloc, store.len() as usize)?;
         for before in 0..store.len() {
             let hasher = begun_made(&store, before + 1);
             names.push(name_made(&store, before + 1, &hasher)?)?;
@@ -82,8 +82,8 @@ impl NamedStore {
         ensures { IfOk result (λ named. named ≡ arc_value store) }
     {
         let joins = joins_by_left(alloc, earlier.store())?;
-        let mut names = Vec::new(alloc);
-        let mut begun = Vec::new(alloc);
+        let mut names = Vec::with_capacity(alloc, store.len() as usize)?;
+        let mut begun = Vec::with_capacity(alloc, store.len() as usize)?;
         for before in 0..store.len() {
             let hasher = begun_over(&store, before + 1, earlier, numbers, &joins)?;
             let found = numbers[before as usize];
