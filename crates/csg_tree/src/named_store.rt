@@ -196,7 +196,8 @@ fn middle_in(
     }
 }
 
-/// The number of a join by the number of its first tree, for each number, or 0.
+/// For each number the number of a join whose first tree has it, or 0. It is where a hash is looked for, and who reads it looks
+/// at the join again.
 fn joins_by_left(alloc: Global, store: &CsgStore) -> Result<Vec<u32>, NoMemory>
     ensures many { IfOk result (λ v. length v.items ≡ length store.now) }
     ensures within { IfOk result (λ v. All (λ n. n ≤ length store.now) v.items) }
