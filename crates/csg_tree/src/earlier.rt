@@ -24,7 +24,7 @@ impl CsgStore {
         ensures { IfOk result (λ v. AreAllNumbersIn earlier.now self.now v.items) }
     {
         let found = numbers_by_key(alloc, earlier)?;
-        let mut numbers = Vec::new(alloc);
+        let mut numbers = Vec::with_capacity(alloc, self.len() as usize)?;
         for before in 0..self.len() {
             let number = number_in(alloc, self.node(before + 1), &numbers, &found)?;
             numbers.push(number)?;

@@ -1,16 +1,17 @@
 //! Stores with the names of their joins.
 
-ghost use Rattle.std.specs.Prelude.{◌≡◌, ◌≤◌, ◌∷◌, length, All, IfOk, IfSome};
+ghost use Rattle.std.specs.Prelude.{◌≡◌, ◌≤◌, ◌∷◌, ◌++◌, List, length, All, IfOk, IfSome};
+ghost use Rattle.std.specs.Bool.{OnTrue};
 ghost use Rattle.std.specs.Arc.{arc_value};
 ghost use Rattle.sha2.specs.Hashers.{Holds256};
-ghost use Rattle.csg_tree.specs.Begun.{MayBeBegun};
+ghost use Rattle.csg_tree.specs.Begun.{middle_of, MayBeBegun, IsMiddle};
 ghost use Rattle.csg_tree.specs.Formulas.{Formula};
 ghost use Rattle.csg_tree.specs.Keys.{key_of, op_byte};
 ghost use Rattle.csg_tree.specs.Numberings.{tree_numbered, IsNumberIn};
 ghost use Rattle.csg_tree.specs.TreeKeys.{name_of_join};
 ghost use Rattle.csg_tree.specs.Earlier.{IsNumberOf, AreAllNumbersIn};
 
-use crate::naming::{begin, end, name_of_node};
+use crate::naming::{begin, end, halves_of, name_of_node};
 use crate::node::CsgNode;
 use crate::op::Op;
 use crate::store::CsgStore;
@@ -22,8 +23,8 @@ use std::sync::Arc;
 use text_place::NoMemory;
 
 /// A shared store with the SHA-256 of the bytes of each of its joins, which contracts see as the store is
-/// seen. It also keeps each hash as it was before the bytes of the join's second tree: where a later store has another
-/// join over the same first tree, that one is named from there.
+/// seen. It also keeps each hash as it was behind the join's front: where a later store has another join with the same
+/// front, that one is named from there.
 #[derive(Drop)]
 pub struct NamedStore {
     store: Arc<CsgStore>,
@@ -56,8 +57,8 @@ impl NamedStore {
     pub fn new(alloc: Global, store: Arc<CsgStore>) -> Result<NamedStore, NoMemory>
         ensures { IfOk result (λ named. named ≡ arc_value store) }
     {
-        let mut names = Vec::new(alloc);
-        let mut begun = Vec::new(alloc);
+        let mut names = Vec::with_capacity(alloc, store.len() as usize)?;
+        let mut begun = Vec::with_capacity(alloc, store.len() as usize)?;
         for before in 0..store.len() {
             let hasher = begun_made(&store, before + 1);
             names.push(name_made(&store, before + 1, &hasher)?)?;
@@ -81,8 +82,8 @@ impl NamedStore {
         ensures { IfOk result (λ named. named ≡ arc_value store) }
     {
         let joins = joins_by_left(alloc, earlier.store())?;
-        let mut names = Vec::new(alloc);
-        let mut begun = Vec::new(alloc);
+        let mut names = Vec::with_capacity(alloc, store.len() as usize)?;
+        let mut begun = Vec::with_capacity(alloc, store.len() as usize)?;
         for before in 0..store.len() {
             let hasher = begun_over(&store, before + 1, earlier, numbers, &joins)?;
             let found = numbers[before as usize];
@@ -122,7 +123,7 @@ impl NamedStore {
         self.names[number as usize - 1]
     }
 
-    /// The hash of a join before the bytes of its second tree, where it is kept.
+    /// The hash of a join behind its front, where it is kept.
     fn begun(&self, number: u32) -> Result<Option<Sha256>, NoMemory>
         requires { IsNumberIn self.now number }
         ensures { IfOk result (MayBeBegun (tree_numbered self.now number)) }
@@ -133,17 +134,19 @@ impl NamedStore {
         }
     }
 
-    /// The hash of a join of this operation over a tree of this number, where one is kept.
+    /// The hash of a join of this operation behind the front with a first tree of this number and this middle, where one is
+    /// kept.
     fn begun_with(
         &self,
         joins: &[u32],
         op: Op,
         left: Option<u32>,
+        middle: Option<(Op, Option<u32>)>,
     ) -> Result<Option<Sha256>, NoMemory>
         requires left { IfSome left (IsNumberIn self.now) }
         requires joins { (length joins.now ≡ length self.now) × All (λ n. n ≤ length self.now) joins.now }
-        ensures { (tree : Formula) → IsNumberOf self.now tree left →
-            IfOk result (λ begun. IfSome begun (λ hasher. Holds256 hasher (op_byte op ∷ key_of tree))) }
+        ensures { (first right : Formula) → IsNumberOf self.now first left → IsMiddle self.now op right middle →
+            IfOk result (λ begun. IfSome begun (λ hasher. Holds256 hasher (op_byte op ∷ key_of first ++ middle_of op right))) }
     {
         let Some(left) = left else {
             return Ok(None);
@@ -153,13 +156,48 @@ impl NamedStore {
             return Ok(None);
         }
         match self.store.node(join) {
-            CsgNode::Join(by, first, _) if by == op && first == left => self.begun(join),
+            CsgNode::Join(by, first, right)
+                if by == op && first == left && self.has_middle(op, right, middle) => {
+                self.begun(join)
+            }
             _ => Ok(None),
+        }
+    }
+
+    /// Whether a second tree has this middle.
+    fn has_middle(&self, op: Op, right: u32, middle: Option<(Op, Option<u32>)>) -> bool
+        requires { IsNumberIn self.now right }
+        ensures { (other : Formula) → IsMiddle self.now op other middle →
+            OnTrue result (middle_of op (tree_numbered self.now right) ≡ middle_of op other) }
+    {
+        match (halves_of(&self.store, op, right), middle) {
+            (None, None) => true,
+            (Some(halves), Some((by, Some(first)))) => halves.op == by && halves.first == first,
+            _ => false,
         }
     }
 }
 
-/// The number of a join by the number of its first tree, for each number, or 0.
+/// The middle of a second tree, with the number of its tree in an earlier store.
+fn middle_in(
+    store: &CsgStore,
+    op: Op,
+    right: u32,
+    numbers: &[Option<u32>],
+) -> Option<(Op, Option<u32>)>
+    requires right { IsNumberIn store.now right }
+    requires numbers { length numbers.now ≡ length store.now }
+    ensures { (earlier : List Formula) → AreAllNumbersIn earlier store.now numbers.now →
+        IsMiddle earlier op (tree_numbered store.now right) result }
+{
+    match halves_of(store, op, right) {
+        Some(halves) => Some((halves.op, numbers[halves.first as usize - 1])),
+        None => None,
+    }
+}
+
+/// For each number the number of a join whose first tree has it, or 0. It is where a hash is looked for, and who reads it looks
+/// at the join again.
 fn joins_by_left(alloc: Global, store: &CsgStore) -> Result<Vec<u32>, NoMemory>
     ensures many { IfOk result (λ v. length v.items ≡ length store.now) }
     ensures within { IfOk result (λ v. All (λ n. n ≤ length store.now) v.items) }
@@ -173,18 +211,18 @@ fn joins_by_left(alloc: Global, store: &CsgStore) -> Result<Vec<u32>, NoMemory>
     Ok(joins)
 }
 
-/// The hash of a node that is a join, before the bytes of its second tree.
+/// The hash of a node that is a join, behind its front.
 fn begun_made(store: &CsgStore, number: u32) -> Option<Sha256>
     requires { IsNumberIn store.now number }
     ensures { MayBeBegun (tree_numbered store.now number) result }
 {
     match store.node(number) {
         CsgNode::Leaf(_) => None,
-        CsgNode::Join(op, left, _) => Some(begin(store, op, left)),
+        CsgNode::Join(op, left, right) => Some(begin(store, op, left, right)),
     }
 }
 
-/// The same, taken from an earlier store where that has the join, or one of the same operation over the same first tree.
+/// The same, taken from an earlier store where that has the join, or one with the same front.
 fn begun_over(
     store: &CsgStore,
     number: u32,
@@ -202,11 +240,12 @@ fn begun_over(
     }
     match store.node(number) {
         CsgNode::Leaf(_) => Ok(None),
-        CsgNode::Join(op, left, _) => {
-            let kept = earlier.begun_with(joins, op, numbers[left as usize - 1])?;
+        CsgNode::Join(op, left, right) => {
+            let middle = middle_in(store, op, right, numbers);
+            let kept = earlier.begun_with(joins, op, numbers[left as usize - 1], middle)?;
             match kept {
                 Some(hasher) => Ok(Some(hasher)),
-                None => Ok(Some(begin(store, op, left))),
+                None => Ok(Some(begin(store, op, left, right))),
             }
         }
     }
@@ -233,6 +272,7 @@ fn name_over(
 }
 
 /// The name of a node that is a join, made of the bytes of its tree, from where its hash was begun.
+#[tactic(auto, using(crate::proofs::Fronts::front_and_end))]
 fn name_made(
     store: &CsgStore,
     number: u32,
@@ -244,7 +284,7 @@ fn name_made(
 {
     match (store.node(number), begun) {
         (CsgNode::Leaf(_), _) => Ok(None),
-        (CsgNode::Join(_, _, right), Some(hasher)) => Ok(Some(end(hasher, store, right)?)),
+        (CsgNode::Join(op, _, right), Some(hasher)) => { Ok(Some(end(hasher, store, op, right)?)) }
         (CsgNode::Join(_, _, _), None) => Ok(Some(name_of_node(store, number))),
     }
 }

@@ -20,7 +20,7 @@ pub fn parts_of(alloc: Global, tree: &CsgTree) -> Result<Vec<CsgNode<'_>>, NoMem
     ensures linked { IfOk result (λ parts. AreLinkedLent parts.items) }
     ensures few { IfOk result (λ parts. length parts.items < 2 ^ 32) }
 {
-    let mut parts = Vec::new(alloc);
+    let mut parts = Vec::with_capacity(alloc, count_of(tree) as usize)?;
     match tree {
         CsgTree::Nothing => {}
         CsgTree::Leaf(_) | CsgTree::Join(_, _, _) => {
@@ -28,6 +28,17 @@ pub fn parts_of(alloc: Global, tree: &CsgTree) -> Result<Vec<CsgNode<'_>>, NoMem
         }
     }
     Ok(parts)
+}
+
+/// How many subtrees a tree has, with itself.
+fn count_of(tree: &CsgTree) -> u32
+    requires { subtrees (formula_of tree.now) < 2 ^ 32 }
+    ensures { result ≡ subtrees (formula_of tree.now) }
+{
+    match tree {
+        CsgTree::Nothing | CsgTree::Leaf(_) => 1,
+        CsgTree::Join(_, left, right) => 1 + count_of(left) + count_of(right),
+    }
 }
 
 /// Appends the parts of a tree, and answers the number of the last of them.
