@@ -7,12 +7,10 @@ ghost use Rattle.facet_cut.specs.Adding.{Adds};
 use crate::facet::{facing_ahead, facing_back};
 use crate::{CutStop, Facet};
 use plane_polygon::Polygon;
-use std::alloc::Global;
 
 /// Adds the facet on a polygon between two leaves, if there is one, by whether the leaf just behind
 /// it and the one just ahead are inside.
 pub fn push_facing(
-    alloc: Global,
     behind: bool,
     ahead: bool,
     polygon: Polygon,
@@ -25,7 +23,7 @@ pub fn push_facing(
     match (behind, ahead) {
         (true, true) | (false, false) => Ok(()),
         (true, false) => push_one(facing_ahead(polygon), most, found),
-        (false, true) => push_one(facing_back(alloc, polygon)?, most, found),
+        (false, true) => push_one(facing_back(polygon), most, found),
     }
 }
 

@@ -1,14 +1,12 @@
 //! Facets.
 
-ghost use Rattle.std.specs.Prelude.{◌≡◌, IfOk};
+ghost use Rattle.std.specs.Prelude.{◌≡◌};
 ghost use Rattle.plane_polygon.specs.Polygons.{IsPolygon};
 ghost use Rattle.facet_cut.specs.Facets.{reversed};
 
-use plane_polygon::Polygon;
+use plane_polygon::{Polygon, polygons_keep_their_form};
 use plane_predicate::{Plane, opposite};
-use std::alloc::Global;
 use std::marker::Model;
-use text_place::NoMemory;
 
 /// A part of the boundary of a solid: a polygon that has the solid just behind it alone.
 ///
@@ -43,12 +41,12 @@ pub fn facing_ahead(polygon: Polygon) -> Facet
 }
 
 /// The facet on a polygon that faces the opposite of the polygon's plane.
-pub fn facing_back(alloc: Global, polygon: Polygon) -> Result<Facet, NoMemory>
-    ensures { IfOk result (λ f. f ≡ reversed polygon) }
+pub fn facing_back(polygon: Polygon) -> Facet
+    ensures { result ≡ reversed polygon }
 {
-    let mut edges = Vec::new(alloc);
-    edges.extend_from_slice(polygon.edges())?;
-    edges.reverse();
+    polygons_keep_their_form(&polygon);
     let plane = opposite(polygon.plane());
-    Ok(facing_ahead(Polygon::of(alloc, &plane, &edges)?))
+    let mut edges = polygon.into_edges();
+    edges.reverse();
+    facing_ahead(Polygon::of_edges(&plane, edges))
 }

@@ -180,6 +180,6 @@ impl<'a> Walls<'a> {
             return Ok(());
         }
         let polygon = polygon_of(alloc, self.table, face)?;
-        push_facing(alloc, is_inside, is_ahead_inside, polygon, most, found)
+        push_facing(is_inside, is_ahead_inside, polygon, most, found)
     }
 }

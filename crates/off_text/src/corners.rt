@@ -8,38 +8,23 @@ ghost use Rattle.off_text.specs.Texts.{corners_in_units};
 
 use crate::lowest::lowest_terms;
 use crate::vertex::Vertex;
-use plane_polygon::{Polygon, meeting_of, next_index};
+use plane_polygon::{Polygon, meeting_of, next_index, polygons_keep_their_form};
 use plane_predicate::{Plane, Unit};
-use std::alloc::{AllocError, Global};
+use std::alloc::AllocError;
 use text_place::NoMemory;
 
 /// Puts the corners of a polygon, in units and reduced, in the place of those that were there.
-pub fn put_corners(
-    alloc: Global,
-    corners: &mut Vec<Vertex>,
-    polygon: &Polygon,
-    unit: Unit,
-) -> Result<(), NoMemory>
+pub fn put_corners(corners: &mut Vec<Vertex>, polygon: &Polygon, unit: Unit) -> Result<(), NoMemory>
     ensures polygon { OnOk result (IsPolygon polygon.now) }
     ensures corners { OnOk result (AreReducedFrom (corners_in_units unit polygon.now) corners.new.items) }
 {
+    polygons_keep_their_form(polygon);
     corners.clear();
-    // What a polygon keeps is known here of one that is owned, and a copy costs less than its corners.
-    let copy = polygon.copy(alloc)?;
-    push_corners(corners, copy, unit)?;
+    push_meetings(corners, polygon.plane(), polygon.edges(), unit)?;
     Ok(())
 }
 
-/// Adds the corners of a polygon to none.
-fn push_corners(corners: &mut Vec<Vertex>, polygon: Polygon, unit: Unit) -> Result<(), AllocError>
-    requires { corners.old.items ≡ [] }
-    ensures polygon { IsPolygon polygon }
-    ensures corners { OnOk result (AreReducedFrom (corners_in_units unit polygon) corners.new.items) }
-{
-    push_meetings(corners, polygon.plane(), polygon.edges(), unit)
-}
-
-/// The same, of a plane and edges that meet what a polygon keeps.
+/// Adds the corners of a plane and edges that meet what a polygon keeps to none.
 fn push_meetings(
     corners: &mut Vec<Vertex>,
     plane: &Plane,

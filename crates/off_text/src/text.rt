@@ -81,7 +81,7 @@ fn push_facet(
 ) -> Result<(), NoMemory>
     ensures { OnOk result (AddsLine unit facet.now numbering.old.vertices.keys numbering.new.vertices.keys numbering.old.lines.items numbering.new.lines.items) }
 {
-    put_corners(alloc, corners, &facet.polygon, unit)?;
+    put_corners(corners, &facet.polygon, unit)?;
     let start = least_corner(corners);
     push_face(
         alloc,

@@ -98,4 +98,11 @@ impl Polygon {
     {
         &self.edges
     }
+
+    /// The same, given away. Takes no memory.
+    pub fn into_edges(self) -> Vec<Plane>
+        ensures { result.items ≡ self.edges }
+    {
+        self.edges
+    }
 }
