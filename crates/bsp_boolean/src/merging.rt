@@ -71,7 +71,9 @@ fn merged_within(
     let left_nodes = MovedNodes::of(&table, left, &joined.left);
     let mut right_nodes = solid_over(alloc, &table, right, &joined.right)?;
     let mut growing = Growing::new(alloc, &table, most);
-    growing.reserve(left_forest.len().saturating_add(right_forest.len()))?;
+    // A merge may have more nodes than both solids; what room is left in the end is given back.
+    let nodes = left_forest.len().saturating_add(right_forest.len());
+    growing.reserve(nodes.saturating_mul(2))?;
     let merge = Merge {
         left: &left_nodes,
         in_decides: is_union(op),

@@ -14,11 +14,7 @@ use std::alloc::AllocError;
 use text_place::NoMemory;
 
 /// Puts the corners of a polygon, in units and reduced, in the place of those that were there.
-pub fn put_corners(
-    corners: &mut Vec<Vertex>,
-    polygon: &Polygon,
-    unit: Unit,
-) -> Result<(), NoMemory>
+pub fn put_corners(corners: &mut Vec<Vertex>, polygon: &Polygon, unit: Unit) -> Result<(), NoMemory>
     ensures polygon { OnOk result (IsPolygon polygon.now) }
     ensures corners { OnOk result (AreReducedFrom (corners_in_units unit polygon.now) corners.new.items) }
 {
