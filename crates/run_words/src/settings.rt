@@ -80,7 +80,7 @@ fn with_defaults(given: Given) -> Settings
     ensures { result ≡ chosen given }
 {
     Settings::Run {
-        workers: given.workers.unwrap_or(4),
+        workers: given.workers.unwrap_or(1),
         memo: given.memo.unwrap_or(500_000),
         share: given.share.unwrap_or(0),
         half: given.half,

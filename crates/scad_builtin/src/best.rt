@@ -59,7 +59,7 @@ fn best_in(wanted: Wanted, value: &Value) -> Result<Value, ValueStop>
     }
 }
 
-/// The best of one or more numbers.
+// The best of one or more numbers.
 fn best(wanted: Wanted, values: &[Value]) -> Result<Value, ValueStop>
     ensures { Tells result (best_at (is_before wanted) (vals_from (vals_in values.now))) }
 {
@@ -79,7 +79,7 @@ fn best_from(wanted: Wanted, first: &Value, rest: &[Value]) -> Result<Value, Val
     }
 }
 
-/// The best of a number and further ones.
+// The best of a number and further ones.
 fn best_of(wanted: Wanted, first: i64, rest: &[Value]) -> Result<i64, FaultKind>
     ensures { number_at result ≡ best_of_at (is_before wanted) first (vals_from (vals_in rest.now)) }
 {

@@ -62,7 +62,7 @@ fn append(items: &mut Vec<Value>, value: Value) -> Result<(), NoMemory>
     Ok(())
 }
 
-/// The values of a list, or else the value itself.
+// The values of a list, or else the value itself.
 fn into_list(value: Value) -> Result<Values, Value>
     ensures list { IfOk result (λ values. val_of value ≡ ListVal (vals_from (vals_of values))) }
     ensures other { IfErr result (λ other. (other ≡ value) × (is_list (val_of value) ≡ false)) }

@@ -77,7 +77,7 @@ fn power_row(base: i64, exponent: i64) -> Result<i64, FaultKind>
     }
 }
 
-/// A power with an exponent below 0, which is whole for 1 and -1 alone.
+// A power with an exponent below 0, which is whole for 1 and -1 alone.
 fn inverse_power(base: i64, exponent: i64) -> Result<i64, FaultKind>
     requires { exponent <ℤ pos 0 }
     ensures { result ≡ power_row_at base exponent }
@@ -90,8 +90,8 @@ fn inverse_power(base: i64, exponent: i64) -> Result<i64, FaultKind>
     }
 }
 
-/// A power with an exponent from 0 on. Those of 0, 1 and -1 are told by their exponents alone, so
-/// that no large exponent takes long.
+// A power with an exponent from 0 on. Those of 0, 1 and -1 are told by their exponents alone, so
+// that no large exponent takes long.
 fn whole_power(base: i64, exponent: u64) -> Result<i64, FaultKind>
     ensures { result ≡ sized_at (power_at base exponent) }
 {
@@ -103,15 +103,15 @@ fn whole_power(base: i64, exponent: u64) -> Result<i64, FaultKind>
     }
 }
 
-/// A power of -1.
+// A power of -1.
 fn alternating(exponent: u64) -> i64
     ensures { result ≡ power_at (negsuc 0) exponent }
 {
     if exponent % 2 == 0 { 1 } else { -1 }
 }
 
-/// The product of so many equal factors, each at least 2 in size: so it is too large after at most
-/// 54 of them.
+// The product of so many equal factors, each at least 2 in size: so it is too large after at most
+// 54 of them.
 fn repeated(factor: i64, count: u64) -> Result<i64, FaultKind>
     requires { 2 ≤ unsigned_abs factor }
     ensures { result ≡ sized_at (power_at factor count) }

@@ -54,7 +54,7 @@ pub fn grouped(alloc: Global, op: Op, list: Vec<Design>) -> Result<Design, NoMem
     }
 }
 
-/// The first design without the union of the others.
+// The first design without the union of the others.
 fn without_others(alloc: Global, list: Vec<Design>) -> Result<Design, NoMemory>
     ensures { IfOk result (λ design. plain_of design ≡ grouped_of Difference (map plain_of list.items)) }
 {
@@ -69,7 +69,7 @@ fn without_others(alloc: Global, list: Vec<Design>) -> Result<Design, NoMemory>
     }
 }
 
-/// The next designs joined by halves.
+// The next designs joined by halves.
 fn join_next(
     alloc: Global,
     op: Op,
@@ -89,7 +89,7 @@ fn join_next(
     join(alloc, op, first, rest)
 }
 
-/// The next design where one is wanted, else the empty one.
+// The next design where one is wanted, else the empty one.
 fn next_or_empty(designs: &mut IntoIter<Design>, count: usize) -> Design
     requires one { count < 2 }
     requires within { count ≤ length (into_iter_items designs.old) }

@@ -30,7 +30,7 @@ impl Model for PlaneKey {
 }
 
 impl PlaneKey {
-    /// The key of a plane.
+    // The key of a plane.
     fn of(plane: &Plane) -> PlaneKey
         ensures key { result ≡ plane.now }
         ensures plane { IsPlane plane.now }
@@ -44,7 +44,7 @@ impl PlaneKey {
     }
 }
 
-/// Whether a plane is a plane of the table, seen from either side.
+// Whether a plane is a plane of the table, seen from either side.
 #[tactic(auto, using(crate::proofs::KnownPlanes::either))]
 fn is_known(known: &IndexSet<PlaneKey>, plane: &Plane) -> bool
     ensures { result ≡ list_any (same_points plane.now) known.now.keys }
@@ -52,7 +52,7 @@ fn is_known(known: &IndexSet<PlaneKey>, plane: &Plane) -> bool
     known.contains(&PlaneKey::of(plane)) || known.contains(&PlaneKey::of(&opposite(plane)))
 }
 
-/// Adds a plane that is no plane of the others, up to orientation. At `NoMemory` the table stays.
+// Adds a plane that is no plane of the others, up to orientation. At `NoMemory` the table stays.
 fn add_plane(known: &mut IndexSet<PlaneKey>, plane: &Plane) -> Result<(), NoMemory>
     ensures added { OnOk result (known.new.keys ≡ if_new (list_any (same_points plane.now) known.old.keys) known.old.keys plane.now) }
     ensures plane { IsPlane plane.now }

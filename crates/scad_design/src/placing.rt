@@ -39,7 +39,7 @@ pub fn place(alloc: Global, design: &Design) -> Result<CsgTree, Stop>
     place_after(alloc, &mut known, design)
 }
 
-/// The tree of a design behind the distinct planes of those before it.
+// The tree of a design behind the distinct planes of those before it.
 fn place_after(
     alloc: Global,
     known: &mut IndexSet<PlaneKey>,
@@ -61,7 +61,7 @@ fn place_after(
     }
 }
 
-/// The leaf of a part behind the distinct planes of those before it.
+// The leaf of a part behind the distinct planes of those before it.
 fn place_part(alloc: Global, known: &mut IndexSet<PlaneKey>, part: &Part) -> Result<CsgTree, Stop>
     ensures tree { IfOk result (λ tree. Places (a_part part.now) known.old.keys (placed (formula_of tree) known.new.keys)) }
     ensures stop { IfErr result (IsStopOf (a_part part.now) known.old.keys) }
@@ -79,7 +79,7 @@ fn place_part(alloc: Global, known: &mut IndexSet<PlaneKey>, part: &Part) -> Res
     Ok(CsgTree::Leaf(Planes::of(planes)))
 }
 
-/// The planes of a part's faces once its steps have moved it, of equal ones the first.
+// The planes of a part's faces once its steps have moved it, of equal ones the first.
 fn planes_of(alloc: Global, part: &Part) -> Result<Vec<Plane>, Stop>
     ensures faces { IfOk result (λ v. ArePlanesOf (moved (map_of part.now.steps) part.now.mesh) part.now.mesh.faces v.items) }
     ensures solid { OnOk result (All (IsFace (moved (map_of part.now.steps) part.now.mesh)) part.now.mesh.faces) }

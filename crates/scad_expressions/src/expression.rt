@@ -45,7 +45,7 @@ pub fn expr<'a>(alloc: Global, tokens: &'a [Token], depth: u32) -> Parsed<'a, Ex
     choice(alloc, tokens, depth - 1)
 }
 
-/// An expression with its choice, over what is less deep than so much.
+// An expression with its choice, over what is less deep than so much.
 #[cycle(expression)]
 #[inline(never)]
 fn choice<'a>(alloc: Global, tokens: &'a [Token], depth: u32) -> Parsed<'a, Expr>
@@ -59,7 +59,7 @@ fn choice<'a>(alloc: Global, tokens: &'a [Token], depth: u32) -> Parsed<'a, Expr
     }
 }
 
-/// A choice by what was read before its `?`.
+// A choice by what was read before its `?`.
 #[cycle(expression)]
 #[inline(never)]
 fn chosen<'a>(alloc: Global, test: Expr, tokens: &'a [Token], depth: u32) -> Parsed<'a, Expr>
@@ -76,7 +76,7 @@ fn chosen<'a>(alloc: Global, test: Expr, tokens: &'a [Token], depth: u32) -> Par
     Ok((Expr::Choice(place, Box::new(alloc, choice)?), rest))
 }
 
-/// The mark of a choice and its two sides.
+// The mark of a choice and its two sides.
 #[cycle(expression)]
 #[inline(always)]
 fn sides<'a>(
@@ -103,7 +103,7 @@ pub fn behind<'a>(alloc: Global, sign: Symbol, tokens: &'a [Token], depth: u32) 
     expr(alloc, rest, depth)
 }
 
-/// Operands with operators between them.
+// Operands with operators between them.
 #[cycle(expression)]
 fn chain<'a>(alloc: Global, tokens: &'a [Token], depth: u32) -> Parsed<'a, Expr>
     ensures value { Gives (λ p. (term_of p.0, p.1.now)) result (chain_read levels (unary_read (expr_read depth) (operand_read depth) (primary_read (expr_read depth) (arg_in depth (expr_read depth)))) tokens.now) }
@@ -116,7 +116,7 @@ fn chain<'a>(alloc: Global, tokens: &'a [Token], depth: u32) -> Parsed<'a, Expr>
     }
 }
 
-/// What the operators of a level stand between.
+// What the operators of a level stand between.
 #[cycle(expression)]
 fn side<'a>(alloc: Global, tokens: &'a [Token], depth: u32, level: Level) -> Parsed<'a, Expr>
     ensures value { Gives (λ p. (term_of p.0, p.1.now)) result (chain_read (levels_below level) (unary_read (expr_read depth) (operand_read depth) (primary_read (expr_read depth) (arg_in depth (expr_read depth)))) tokens.now) }
@@ -128,7 +128,7 @@ fn side<'a>(alloc: Global, tokens: &'a [Token], depth: u32, level: Level) -> Par
     climb_below(alloc, first, rest, depth, level)
 }
 
-/// An operand that was read, with the operators behind it.
+// An operand that was read, with the operators behind it.
 #[cycle(expression)]
 #[inline(never)]
 fn climbed<'a>(alloc: Global, first: Expr, tokens: &'a [Token], depth: u32) -> Parsed<'a, Expr>
@@ -142,8 +142,8 @@ fn climbed<'a>(alloc: Global, first: Expr, tokens: &'a [Token], depth: u32) -> P
     }
 }
 
-/// The same with the operators that bind more tightly than those of a level: those of the tightest level first, then
-/// those of the next one around what they make, and so on.
+// The same with the operators that bind more tightly than those of a level: those of the tightest level first, then
+// those of the next one around what they make, and so on.
 #[cycle(expression)]
 fn climb_below<'a>(
     alloc: Global,
@@ -169,7 +169,7 @@ fn climb_below<'a>(
     Ok((first, rest))
 }
 
-/// What was read, with the operators of a level behind it.
+// What was read, with the operators of a level behind it.
 #[cycle(expression)]
 #[inline(never)]
 fn linked<'a>(
@@ -189,7 +189,7 @@ fn linked<'a>(
     Ok((Expr::Chain(place, Box::new(alloc, chain)?), rest))
 }
 
-/// An operator of a level and what stands behind it, and more of them.
+// An operator of a level and what stands behind it, and more of them.
 #[cycle(expression)]
 #[inline(always)]
 fn some_links<'a>(
@@ -206,7 +206,7 @@ fn some_links<'a>(
     Ok((links, rest))
 }
 
-/// More operators of a level and what stands behind each.
+// More operators of a level and what stands behind each.
 #[cycle(expression)]
 fn links<'a>(alloc: Global, tokens: &'a [Token], depth: u32, level: Level) -> Parsed<'a, Vec<Link>>
     ensures value { Gives (λ p. (map link_of p.0.items, p.1.now)) result (many (among (operators_at level)) (both link_at (one (among (operators_at level))) (chain_read (levels_below level) (unary_read (expr_read depth) (operand_read depth) (primary_read (expr_read depth) (arg_in depth (expr_read depth)))))) tokens.now) }
@@ -221,7 +221,7 @@ fn links<'a>(alloc: Global, tokens: &'a [Token], depth: u32, level: Level) -> Pa
     Ok((items, rest))
 }
 
-/// An operator of a level and what stands behind it.
+// An operator of a level and what stands behind it.
 #[cycle(expression)]
 fn link<'a>(alloc: Global, tokens: &'a [Token], depth: u32, level: Level) -> Parsed<'a, Link>
     ensures value { Gives (λ p. (link_of p.0, p.1.now)) result (both link_at (one (among (operators_at level))) (chain_read (levels_below level) (unary_read (expr_read depth) (operand_read depth) (primary_read (expr_read depth) (arg_in depth (expr_read depth))))) tokens.now) }
@@ -233,7 +233,7 @@ fn link<'a>(alloc: Global, tokens: &'a [Token], depth: u32, level: Level) -> Par
     Ok((Link { op, place, right }, rest))
 }
 
-/// An operand with its operators before it.
+// An operand with its operators before it.
 #[cycle(expression)]
 fn unary<'a>(alloc: Global, tokens: &'a [Token], depth: u32) -> Parsed<'a, Expr>
     ensures value { Gives (λ p. (term_of p.0, p.1.now)) result (unary_read (expr_read depth) (operand_read depth) (primary_read (expr_read depth) (arg_in depth (expr_read depth))) tokens.now) }
@@ -245,7 +245,7 @@ fn unary<'a>(alloc: Global, tokens: &'a [Token], depth: u32) -> Parsed<'a, Expr>
     }
 }
 
-/// An operator and its operand.
+// An operator and its operand.
 #[cycle(expression)]
 #[inline(never)]
 fn signed<'a>(alloc: Global, tokens: &'a [Token], depth: u32) -> Parsed<'a, Expr>
@@ -257,7 +257,7 @@ fn signed<'a>(alloc: Global, tokens: &'a [Token], depth: u32) -> Parsed<'a, Expr
     Ok((Expr::Unary(operator.place, op, Box::new(alloc, of)?), rest))
 }
 
-/// An operand of a unary operator, whose tokens are less deep than so much.
+// An operand of a unary operator, whose tokens are less deep than so much.
 #[cycle(expression)]
 fn operand<'a>(alloc: Global, tokens: &'a [Token], depth: u32) -> Parsed<'a, Expr>
     ensures value { Gives (λ p. (term_of p.0, p.1.now)) result (operand_read depth tokens.now) }
@@ -271,7 +271,7 @@ fn operand<'a>(alloc: Global, tokens: &'a [Token], depth: u32) -> Parsed<'a, Exp
     unary(alloc, tokens, depth - 1)
 }
 
-/// A primary with its indexes and members.
+// A primary with its indexes and members.
 #[cycle(expression)]
 fn postfix<'a>(alloc: Global, tokens: &'a [Token], depth: u32) -> Parsed<'a, Expr>
     ensures value { Gives (λ p. (term_of p.0, p.1.now)) result (postfix_read (expr_read depth) (primary_read (expr_read depth) (arg_in depth (expr_read depth))) tokens.now) }
@@ -282,7 +282,7 @@ fn postfix<'a>(alloc: Global, tokens: &'a [Token], depth: u32) -> Parsed<'a, Exp
     }
 }
 
-/// A primary that was read, with its indexes and members.
+// A primary that was read, with its indexes and members.
 #[cycle(expression)]
 #[inline(never)]
 fn suffixed<'a>(alloc: Global, of: Expr, tokens: &'a [Token], depth: u32) -> Parsed<'a, Expr>
@@ -296,7 +296,7 @@ fn suffixed<'a>(alloc: Global, of: Expr, tokens: &'a [Token], depth: u32) -> Par
     Ok((Expr::Postfix(place, Box::new(alloc, postfix)?), rest))
 }
 
-/// An index or a member, and more of them.
+// An index or a member, and more of them.
 #[cycle(expression)]
 #[inline(always)]
 fn some_suffixes<'a>(
@@ -312,7 +312,7 @@ fn some_suffixes<'a>(
     Ok((suffixes, rest))
 }
 
-/// More indexes and members.
+// More indexes and members.
 #[cycle(expression)]
 fn suffixes<'a>(alloc: Global, tokens: &'a [Token], depth: u32) -> Parsed<'a, Vec<Suffix>>
     ensures value { Gives (λ p. (map suffix_of p.0.items, p.1.now)) result (many (among suffix_signs) (suffix_read (expr_read depth)) tokens.now) }
@@ -327,7 +327,7 @@ fn suffixes<'a>(alloc: Global, tokens: &'a [Token], depth: u32) -> Parsed<'a, Ve
     Ok((items, rest))
 }
 
-/// An index or a member.
+// An index or a member.
 #[cycle(expression)]
 fn suffix<'a>(alloc: Global, tokens: &'a [Token], depth: u32) -> Parsed<'a, Suffix>
     ensures value { Gives (λ p. (suffix_of p.0, p.1.now)) result (suffix_read (expr_read depth) tokens.now) }
@@ -345,7 +345,7 @@ fn suffix<'a>(alloc: Global, tokens: &'a [Token], depth: u32) -> Parsed<'a, Suff
     }
 }
 
-/// An expression without operators.
+// An expression without operators.
 #[cycle(expression)]
 fn primary<'a>(alloc: Global, tokens: &'a [Token], depth: u32) -> Parsed<'a, Expr>
     ensures value { Gives (λ p. (term_of p.0, p.1.now)) result (primary_read (expr_read depth) (arg_in depth (expr_read depth)) tokens.now) }
@@ -361,7 +361,7 @@ fn primary<'a>(alloc: Global, tokens: &'a [Token], depth: u32) -> Parsed<'a, Exp
     }
 }
 
-/// An expression in parentheses.
+// An expression in parentheses.
 #[cycle(expression)]
 #[inline(never)]
 fn paren<'a>(alloc: Global, tokens: &'a [Token], depth: u32) -> Parsed<'a, Expr>
@@ -373,7 +373,7 @@ fn paren<'a>(alloc: Global, tokens: &'a [Token], depth: u32) -> Parsed<'a, Expr>
     Ok((Expr::Paren(open.place, Box::new(alloc, inner)?), rest))
 }
 
-/// A numeral, a text, a truth, `undef` or a special name.
+// A numeral, a text, a truth, `undef` or a special name.
 #[inline(always)]
 fn literal<'a>(alloc: Global, tokens: &'a [Token]) -> Parsed<'a, Expr>
     requires { starts (among literals) tokens.now ≡ true }
@@ -383,7 +383,7 @@ fn literal<'a>(alloc: Global, tokens: &'a [Token]) -> Parsed<'a, Expr>
     Ok((atom(alloc, token)?, rest))
 }
 
-/// A literal or a name alone.
+// A literal or a name alone.
 #[inline(always)]
 fn atom(alloc: Global, token: &Token) -> Result<Expr, AllocError>
     requires { among atoms token.now ≡ true }
@@ -402,7 +402,7 @@ fn atom(alloc: Global, token: &Token) -> Result<Expr, AllocError>
     })
 }
 
-/// A name, and its arguments where it has some.
+// A name, and its arguments where it has some.
 #[cycle(expression)]
 fn named<'a>(alloc: Global, tokens: &'a [Token], depth: u32) -> Parsed<'a, Expr>
     ensures value { Gives (λ p. (term_of p.0, p.1.now)) result (name_read (arg_in depth (expr_read depth)) tokens.now) }
@@ -414,7 +414,7 @@ fn named<'a>(alloc: Global, tokens: &'a [Token], depth: u32) -> Parsed<'a, Expr>
     Ok((atom(alloc, name)?, rest))
 }
 
-/// A call of a function, by its name.
+// A call of a function, by its name.
 #[cycle(expression)]
 #[inline(never)]
 fn called<'a>(alloc: Global, name: &Token, tokens: &'a [Token], depth: u32) -> Parsed<'a, Expr>
@@ -426,7 +426,7 @@ fn called<'a>(alloc: Global, name: &Token, tokens: &'a [Token], depth: u32) -> P
     Ok((Expr::Call(name.place, Box::new(alloc, call)?), rest))
 }
 
-/// A list or a range.
+// A list or a range.
 #[cycle(expression)]
 #[inline(never)]
 fn bracket<'a>(alloc: Global, tokens: &'a [Token], depth: u32) -> Parsed<'a, Expr>
@@ -444,7 +444,7 @@ fn bracket<'a>(alloc: Global, tokens: &'a [Token], depth: u32) -> Parsed<'a, Exp
     Ok((list, rest))
 }
 
-/// What a bracket and its first expression make with what follows: a list or a range.
+// What a bracket and its first expression make with what follows: a list or a range.
 #[cycle(expression)]
 fn filled<'a>(
     alloc: Global,
@@ -465,7 +465,7 @@ fn filled<'a>(
     range(alloc, bracket, first, tokens, depth)
 }
 
-/// A range, by its bracket and its first expression.
+// A range, by its bracket and its first expression.
 #[cycle(expression)]
 #[inline(never)]
 fn range<'a>(
@@ -493,7 +493,7 @@ fn range<'a>(
     Ok((Expr::SteppedRange(place, Box::new(alloc, range)?), rest))
 }
 
-/// More items of a list, each behind a comma, and maybe a comma behind the last.
+// More items of a list, each behind a comma, and maybe a comma behind the last.
 #[cycle(expression)]
 fn more_items<'a>(
     alloc: Global,
@@ -525,7 +525,7 @@ pub fn arguments<'a>(alloc: Global, tokens: &'a [Token], depth: u32) -> Parsed<'
     Ok((args, rest))
 }
 
-/// Arguments, and maybe a comma behind the last.
+// Arguments, and maybe a comma behind the last.
 #[cycle(expression)]
 fn args<'a>(alloc: Global, tokens: &'a [Token], depth: u32) -> Parsed<'a, Args>
     ensures value { Gives (λ p. (args_of p.0, p.1.now)) result (args_read (arg_in depth (expr_read depth)) tokens.now) }
@@ -539,7 +539,7 @@ fn args<'a>(alloc: Global, tokens: &'a [Token], depth: u32) -> Parsed<'a, Args>
     more_args(alloc, items, rest, depth)
 }
 
-/// More arguments, each behind a comma, and maybe a comma behind the last.
+// More arguments, each behind a comma, and maybe a comma behind the last.
 #[cycle(expression)]
 fn more_args<'a>(
     alloc: Global,
@@ -558,7 +558,7 @@ fn more_args<'a>(
     Ok((Args { items }, behind_comma(rest)))
 }
 
-/// An argument whose tokens are less deep than so much.
+// An argument whose tokens are less deep than so much.
 #[cycle(expression)]
 #[inline(always)]
 fn arg<'a>(alloc: Global, tokens: &'a [Token], depth: u32) -> Parsed<'a, Arg>
@@ -578,7 +578,7 @@ fn arg<'a>(alloc: Global, tokens: &'a [Token], depth: u32) -> Parsed<'a, Arg>
     Ok((given(name, bytes, value), rest))
 }
 
-/// An argument by its name and its value.
+// An argument by its name and its value.
 #[inline(always)]
 fn given(name: &Token, bytes: CompactBytes, value: Expr) -> Arg
     requires { bytes ≡ bytes_of name.now.kind }
@@ -591,7 +591,7 @@ fn given(name: &Token, bytes: CompactBytes, value: Expr) -> Arg
     }
 }
 
-/// A list of nothing.
+// A list of nothing.
 fn no_items(alloc: Global) -> Exprs
     ensures { terms_of result ≡ [] }
 {
@@ -600,7 +600,7 @@ fn no_items(alloc: Global) -> Exprs
     }
 }
 
-/// No arguments.
+// No arguments.
 fn no_args(alloc: Global) -> Args
     ensures { args_of result ≡ [] }
 {

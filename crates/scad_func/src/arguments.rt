@@ -43,7 +43,7 @@ pub(crate) fn bind_specials(
     Ok(())
 }
 
-/// Whether no argument has a name.
+// Whether no argument has a name.
 fn have_no_names(args: &Args) -> bool
     ensures { result ≡ no_names (args_from (args_of args.now)) }
 {
@@ -90,7 +90,7 @@ pub(crate) fn built_in_for(name: &[u8], place: Place, args: &Args) -> Result<Bui
     Ok(function)
 }
 
-/// The kind of fault of a name that no function has.
+// The kind of fault of a name that no function has.
 fn unknown(name: &[u8]) -> FaultKind
     ensures { result ≡ if left_out name.now then NotInProfile else UnknownFunction }
 {

@@ -49,8 +49,8 @@ impl Evaluation<'_, '_> {
         self.counted(value, expr.place())
     }
 
-    /// A value whose parts are counted as turns, where it is a list. TooManyTurns where they are
-    /// too many.
+    // A value whose parts are counted as turns, where it is a list. TooManyTurns where they are
+    // too many.
     fn counted(&mut self, value: Value, place: Place) -> Result<Value, Stop>
         requires { IsTrue (is_bounded (val_of value)) }
         ensures value { Tells result self.new.turns (counted_at place (Gives self.old.turns (val_of value))) }
@@ -66,7 +66,7 @@ impl Evaluation<'_, '_> {
         Ok(value)
     }
 
-    /// The value of an expression, one evaluation deeper.
+    // The value of an expression, one evaluation deeper.
     #[cycle(value)]
     fn deeper(&mut self, scope: u32, expr: &Expr) -> Result<Value, Stop>
         requires scope { scope < scopes_there self.old }
@@ -82,8 +82,8 @@ impl Evaluation<'_, '_> {
         value
     }
 
-    /// The value of an expression at its own depth. Each form stands in a function that is not inlined, so that the
-    /// stack holds the locals of the forms that are met alone.
+    // The value of an expression at its own depth. Each form stands in a function that is not inlined, so that the
+    // stack holds the locals of the forms that are met alone.
     #[cycle(value)]
     fn operand(&mut self, scope: u32, expr: &Expr) -> Result<Value, Stop>
         requires scope { scope < scopes_there self.old }
@@ -116,7 +116,7 @@ impl Evaluation<'_, '_> {
         }
     }
 
-    /// The list of expressions.
+    // The list of expressions.
     #[cycle(value)]
     #[inline(never)]
     #[tactic(auto, using(crate::proofs::Kept::keeps_trans))]
@@ -131,7 +131,7 @@ impl Evaluation<'_, '_> {
         listed(values, place)
     }
 
-    /// An operator and its operand, which is one evaluation deeper.
+    // An operator and its operand, which is one evaluation deeper.
     #[cycle(value)]
     #[inline(never)]
     #[tactic(auto, using(crate::proofs::Kept::keeps_trans))]
@@ -146,7 +146,7 @@ impl Evaluation<'_, '_> {
         operate_on(self.alloc, op, value, place)
     }
 
-    /// The values of expressions, from the first on.
+    // The values of expressions, from the first on.
     #[cycle(value)]
     #[inline(never)]
     #[tactic(auto, using(crate::proofs::Kept::keeps_trans))]
@@ -163,7 +163,7 @@ impl Evaluation<'_, '_> {
         Ok(values)
     }
 
-    /// The range of two expressions.
+    // The range of two expressions.
     #[cycle(value)]
     #[inline(never)]
     #[tactic(auto, using(crate::proofs::Kept::keeps_trans))]
@@ -182,7 +182,7 @@ impl Evaluation<'_, '_> {
         range_of(a, b, place)
     }
 
-    /// The range of three expressions.
+    // The range of three expressions.
     #[cycle(value)]
     #[inline(never)]
     #[tactic(auto, using(crate::proofs::Kept::keeps_trans))]
@@ -211,7 +211,7 @@ impl Evaluation<'_, '_> {
         stepped_range_of(a, s, b, place)
     }
 
-    /// The indexes and members behind an expression. A variable is lent where it stands.
+    // The indexes and members behind an expression. A variable is lent where it stands.
     #[cycle(value)]
     #[inline(never)]
     #[tactic(auto, using(crate::proofs::Kept::keeps_trans))]
@@ -230,7 +230,7 @@ impl Evaluation<'_, '_> {
         self.suffixes(scope, Indexed::Made(value), rest)
     }
 
-    /// The indexes and members behind what is indexed.
+    // The indexes and members behind what is indexed.
     #[cycle(value)]
     #[tactic(auto, using(crate::proofs::Kept::keeps_trans))]
     fn suffixes(&mut self, scope: u32, of: Indexed<'_>, rest: &Suffixes) -> Result<Value, Stop>
@@ -246,7 +246,7 @@ impl Evaluation<'_, '_> {
         Ok(so_far)
     }
 
-    /// An index or a member.
+    // An index or a member.
     #[cycle(value)]
     fn suffix(&mut self, scope: u32, of: Indexed<'_>, part: &Suffix) -> Result<Value, Stop>
         requires scope { scope < scopes_there self.old }
@@ -274,7 +274,7 @@ impl Evaluation<'_, '_> {
         }
     }
 
-    /// Operators of one level and what stands between them, from the left.
+    // Operators of one level and what stands between them, from the left.
     #[cycle(value)]
     #[inline(never)]
     #[tactic(auto, using(crate::proofs::Kept::keeps_trans))]
@@ -289,7 +289,7 @@ impl Evaluation<'_, '_> {
         self.links(scope, left, rest)
     }
 
-    /// Operators of one level behind a value, from the left.
+    // Operators of one level behind a value, from the left.
     #[cycle(value)]
     #[tactic(auto, using(crate::proofs::Kept::keeps_trans))]
     fn links(&mut self, scope: u32, left: Value, rest: &Links) -> Result<Value, Stop>
@@ -305,7 +305,7 @@ impl Evaluation<'_, '_> {
         Ok(so_far)
     }
 
-    /// An operator and its right side. A variable on the right is lent where it stands.
+    // An operator and its right side. A variable on the right is lent where it stands.
     #[cycle(value)]
     fn link(&mut self, scope: u32, left: Value, part: &Link) -> Result<Value, Stop>
         requires scope { scope < scopes_there self.old }
@@ -324,7 +324,7 @@ impl Evaluation<'_, '_> {
         operate(self.alloc, part.op, left, right, part.place)
     }
 
-    /// One of two expressions, by a test.
+    // One of two expressions, by a test.
     #[cycle(value)]
     #[inline(never)]
     #[tactic(auto, using(crate::proofs::Kept::keeps_trans))]
@@ -343,7 +343,7 @@ impl Evaluation<'_, '_> {
         }
     }
 
-    /// A call: the source's functions go before built-in ones.
+    // A call: the source's functions go before built-in ones.
     #[cycle(value)]
     #[inline(never)]
     fn call(&mut self, scope: u32, name: &[u8], place: Place, args: &Args) -> Result<Value, Stop>
@@ -396,7 +396,7 @@ impl Evaluation<'_, '_> {
         Ok(given)
     }
 
-    /// A call of a function of the source, one call deeper, in the scope of its definition.
+    // A call of a function of the source, one call deeper, in the scope of its definition.
     #[cycle(value)]
     #[inline(never)]
     fn function_call(
@@ -421,7 +421,7 @@ impl Evaluation<'_, '_> {
         value
     }
 
-    /// Whether one call more, one call deeper, is within the limits. TooDeep goes before TooManyTurns.
+    // Whether one call more, one call deeper, is within the limits. TooDeep goes before TooManyTurns.
     fn may_call(&self, place: Place) -> Result<(), Stop>
         ensures within { OnOk result ((self.now.calls < 64) × (self.now.turns < 100000)) }
         ensures refused { IfErr result (λ stop. (go : ℕ → ℕ → Outcome Val) (n : ℕ) →
@@ -436,7 +436,7 @@ impl Evaluation<'_, '_> {
         Ok(())
     }
 
-    /// The value of a function. Its special arguments stand meanwhile, and are gone behind it.
+    // The value of a function. Its special arguments stand meanwhile, and are gone behind it.
     #[cycle(value)]
     #[inline(never)]
     fn function_value(
@@ -465,8 +465,8 @@ impl Evaluation<'_, '_> {
         value
     }
 
-    /// The value of a function, with its special arguments on the chain: its parameters without an
-    /// argument have their defaults, which are evaluated in the scope of its definition.
+    // The value of a function, with its special arguments on the chain: its parameters without an
+    // argument have their defaults, which are evaluated in the scope of its definition.
     #[cycle(value)]
     #[inline(never)]
     fn with_defaults(
@@ -487,7 +487,7 @@ impl Evaluation<'_, '_> {
         self.in_new_scope(scope, function, values)
     }
 
-    /// The value of a function with the values of its parameters, in a scope of its own.
+    // The value of a function with the values of its parameters, in a scope of its own.
     #[cycle(value)]
     #[inline(never)]
     fn in_new_scope(
@@ -542,7 +542,7 @@ impl Evaluation<'_, '_> {
         Ok(values)
     }
 
-    /// A parameter's value: what it was given, its default, or undef.
+    // A parameter's value: what it was given, its default, or undef.
     #[cycle(value)]
     #[inline(never)]
     fn parameter(&mut self, scope: u32, param: &Param, given: Option<Value>) -> Result<Value, Stop>
@@ -560,7 +560,7 @@ impl Evaluation<'_, '_> {
         }
     }
 
-    /// The values of all arguments, from the first on.
+    // The values of all arguments, from the first on.
     #[cycle(value)]
     #[inline(never)]
     #[tactic(auto, using(crate::proofs::Kept::keeps_trans))]

@@ -52,7 +52,7 @@ fn name(alloc: Global, bytes: &[u8]) -> Result<TokenKind, NoMemory>
     }
 }
 
-/// The reserved name that a word is, if it is one. Only names of its length are compared with it.
+// The reserved name that a word is, if it is one. Only names of its length are compared with it.
 fn reserved(word: &[u8]) -> Option<Reserved>
     ensures { result ≡ reserved_of word.now }
 {
@@ -74,14 +74,14 @@ fn reserved(word: &[u8]) -> Option<Reserved>
     }
 }
 
-/// Whether a word has the bytes of a name.
+// Whether a word has the bytes of a name.
 fn same(word: &[u8], name: &[u8]) -> bool
     ensures { result ≡ bytes_eq word.now name.now }
 {
     word == name
 }
 
-/// What a numeral stands for.
+// What a numeral stands for.
 fn numeral(bytes: &[u8]) -> Meaning
     ensures means { result ≡ numeral_of bytes.now }
     ensures within { IsWithin 0 result }
@@ -96,7 +96,7 @@ fn numeral(bytes: &[u8]) -> Meaning
     }
 }
 
-/// Whether what follows the whole part is nothing, or a point and zeros.
+// Whether what follows the whole part is nothing, or a point and zeros.
 fn is_zero_fraction(bytes: &[u8]) -> bool
     ensures { result ≡ zero_fraction bytes.now }
 {
@@ -117,7 +117,7 @@ fn is_zeros(bytes: &[u8]) -> bool
     true
 }
 
-/// The number that digits write, where it is below 2^53.
+// The number that digits write, where it is below 2^53.
 fn number(digits: &[u8]) -> Option<Numeral>
     ensures { MatchOption result (2 ^ 53 ≤ number_from 0 digits.now) (λ n. (n ≡ number_from 0 digits.now) × (n < 2 ^ 53)) }
 {
@@ -131,7 +131,7 @@ fn number(digits: &[u8]) -> Option<Numeral>
     Numeral::of(number)
 }
 
-/// The fault of a numeral with a letter behind it.
+// The fault of a numeral with a letter behind it.
 fn numeral_and_letter(bytes: &[u8]) -> Meaning
     requires { 1 ≤ length bytes.now }
     ensures means { result ≡ letter_behind bytes.now }
@@ -144,7 +144,7 @@ fn numeral_and_letter(bytes: &[u8]) -> Meaning
     }
 }
 
-/// What a text with both its quotes stands for.
+// What a text with both its quotes stands for.
 fn text(alloc: Global, bytes: &[u8]) -> Result<Meaning, NoMemory>
     ensures means { IfOk result (λ m. m ≡ text_of bytes.now) }
     ensures within { IfOk result (λ m. IsWithin (length bytes.now) m) }
@@ -166,7 +166,7 @@ fn without_quotes(bytes: &[u8]) -> &[u8]
     }
 }
 
-/// The bytes that the inside of a text writes, or how many bytes stand before its first fault.
+// The bytes that the inside of a text writes, or how many bytes stand before its first fault.
 fn decode(alloc: Global, inside: &[u8]) -> Result<Result<Vec<u8>, usize>, NoMemory>
     ensures value { IfOk result (λ r. MatchResult r (λ v. decoded inside.now ≡ Ok v.items) (λ n. decoded inside.now ≡ Err n)) }
     ensures within { IfOk result (λ r. IfErr r (λ n. n < length inside.now)) }
@@ -185,7 +185,7 @@ fn decode(alloc: Global, inside: &[u8]) -> Result<Result<Vec<u8>, usize>, NoMemo
     Ok(Ok(bytes))
 }
 
-/// The byte that the front of a text's inside writes, and in how many bytes.
+// The byte that the front of a text's inside writes, and in how many bytes.
 fn next_byte(inside: &[u8]) -> Option<(u8, usize)>
     requires { 1 ≤ length inside.now }
     ensures some { IfSome result (λ p. decoded inside.now ≡ with_byte p.0 p.1 (decoded (drop p.1 inside.now))) }
@@ -204,7 +204,7 @@ fn next_byte(inside: &[u8]) -> Option<(u8, usize)>
     }
 }
 
-/// The byte that an escape stands for, behind its backslash.
+// The byte that an escape stands for, behind its backslash.
 fn escape(text: &[u8]) -> Option<u8>
     ensures found { result ≡ escape_at text.now }
     ensures some { IfSome result (λ b. 1 ≤ length text.now) }

@@ -29,7 +29,7 @@ pub fn lone_symbol(text: &[u8]) -> Option<Symbol>
     }
 }
 
-/// The symbol of a byte that begins no symbol of two bytes.
+// The symbol of a byte that begins no symbol of two bytes.
 fn lone(byte: u8) -> Option<Symbol>
     ensures found { IfSome result (λ s. single byte ≡ Some s) }
     ensures alone { IfSome result (λ s. (next : ℕ) → double byte next ≡ None) }
@@ -40,7 +40,7 @@ fn lone(byte: u8) -> Option<Symbol>
     }
 }
 
-/// The same word with more bytes before it.
+// The same word with more bytes before it.
 fn longer(bytes: usize, found: Option<(Word, usize)>) -> Option<(Word, usize)>
     requires { IfSome found (λ p. bytes + p.1 < 2 ^ 64) }
     ensures { result ≡ more_bytes bytes found }
@@ -51,7 +51,7 @@ fn longer(bytes: usize, found: Option<(Word, usize)>) -> Option<(Word, usize)>
     }
 }
 
-/// The same after the first byte, which does not count.
+// The same after the first byte, which does not count.
 fn after_byte(byte: u8, rest: &[u8]) -> Option<(Word, usize)>
     ensures found { result ≡ longest (word_from byte) rest.now }
     ensures within { IfSome result (λ p. p.1 ≤ length rest.now) }
@@ -67,7 +67,7 @@ fn after_byte(byte: u8, rest: &[u8]) -> Option<(Word, usize)>
     }
 }
 
-/// The same after a byte that is no blank, letter or digit.
+// The same after a byte that is no blank, letter or digit.
 fn after_mark(byte: u8, rest: &[u8]) -> Option<(Word, usize)>
     requires blank { has Blank byte ≡ false }
     requires letter { has Letter byte ≡ false }
@@ -88,7 +88,7 @@ fn after_mark(byte: u8, rest: &[u8]) -> Option<(Word, usize)>
     }
 }
 
-/// What follows a digit of a numeral's whole part.
+// What follows a digit of a numeral's whole part.
 fn whole(text: &[u8]) -> (Word, usize)
     ensures found { longest in_whole text.now ≡ Some result }
     ensures within { result.1 ≤ length text.now }
@@ -99,7 +99,7 @@ fn whole(text: &[u8]) -> (Word, usize)
     (word, digits + count)
 }
 
-/// What follows the last digit of a numeral's whole part.
+// What follows the last digit of a numeral's whole part.
 fn whole_end(text: &[u8]) -> (Word, usize)
     requires { begins_with (has Digit) text.now ≡ false }
     ensures found { longest in_whole text.now ≡ Some result }
@@ -113,7 +113,7 @@ fn whole_end(text: &[u8]) -> (Word, usize)
     }
 }
 
-/// What follows the point of a numeral.
+// What follows the point of a numeral.
 fn fraction(text: &[u8]) -> (Word, usize)
     ensures found { longest in_fraction text.now ≡ Some result }
     ensures within { result.1 ≤ length text.now }
@@ -123,7 +123,7 @@ fn fraction(text: &[u8]) -> (Word, usize)
     (word, digits + count)
 }
 
-/// What follows the last digit of a numeral's whole part or fraction.
+// What follows the last digit of a numeral's whole part or fraction.
 fn number_tail(text: &[u8]) -> (Word, usize)
     ensures found { longest number_end text.now ≡ Some result }
     ensures within { result.1 ≤ length text.now }
@@ -138,7 +138,7 @@ fn number_tail(text: &[u8]) -> (Word, usize)
     }
 }
 
-/// What follows the letter of an exponent.
+// What follows the letter of an exponent.
 fn power(text: &[u8]) -> (Word, usize)
     ensures found { longest exponent text.now ≡ Some result }
     ensures within { result.1 ≤ length text.now }
@@ -154,7 +154,7 @@ fn power(text: &[u8]) -> (Word, usize)
     }
 }
 
-/// What follows a digit of an exponent.
+// What follows a digit of an exponent.
 fn power_digits(text: &[u8]) -> (Word, usize)
     ensures found { longest in_exponent text.now ≡ Some result }
     ensures within { result.1 ≤ length text.now }
@@ -167,7 +167,7 @@ fn power_digits(text: &[u8]) -> (Word, usize)
     }
 }
 
-/// What follows `.`.
+// What follows `.`.
 fn point(text: &[u8]) -> (Word, usize)
     ensures found { longest after_point text.now ≡ Some result }
     ensures within { result.1 ≤ length text.now }
@@ -180,7 +180,7 @@ fn point(text: &[u8]) -> (Word, usize)
     }
 }
 
-/// What follows `$`.
+// What follows `$`.
 fn special(text: &[u8]) -> Option<(Word, usize)>
     ensures found { result ≡ longest after_dollar text.now }
     ensures within { IfSome result (λ p. p.1 ≤ length text.now) }
@@ -192,7 +192,7 @@ fn special(text: &[u8]) -> Option<(Word, usize)>
     }
 }
 
-/// What follows `/`.
+// What follows `/`.
 fn slash(text: &[u8]) -> (Word, usize)
     ensures found { longest after_slash text.now ≡ Some result }
     ensures within { result.1 ≤ length text.now }
@@ -207,7 +207,7 @@ fn slash(text: &[u8]) -> (Word, usize)
     }
 }
 
-/// What follows `/*`.
+// What follows `/*`.
 fn comment(text: &[u8]) -> (Word, usize)
     ensures found { longest in_comment text.now ≡ Some result }
     ensures within { result.1 ≤ length text.now }
@@ -225,14 +225,14 @@ fn comment(text: &[u8]) -> (Word, usize)
     (Word::OpenComment, count)
 }
 
-/// Whether a byte ends a comment, after a star or not.
+// Whether a byte ends a comment, after a star or not.
 fn ends_comment(star: bool, byte: u8) -> bool
     ensures { result ≡ (star && nat_eq byte 47) }
 {
     star && byte == b'/'
 }
 
-/// What follows the opening quote of a text.
+// What follows the opening quote of a text.
 fn text(text: &[u8]) -> (Word, usize)
     ensures found { longest in_text text.now ≡ Some result }
     ensures within { result.1 ≤ length text.now }
@@ -253,21 +253,21 @@ fn text(text: &[u8]) -> (Word, usize)
     (Word::OpenText, count)
 }
 
-/// Whether a byte ends a text, after a backslash that takes it or not.
+// Whether a byte ends a text, after a backslash that takes it or not.
 fn ends_text(escaped: bool, byte: u8) -> bool
     ensures { result ≡ (not escaped && nat_eq byte 34) }
 {
     !escaped && byte == b'"'
 }
 
-/// Whether a byte takes the next one with it.
+// Whether a byte takes the next one with it.
 fn begins_escape(escaped: bool, byte: u8) -> bool
     ensures { result ≡ (not escaped && nat_eq byte 92) }
 {
     !escaped && byte == b'\\'
 }
 
-/// What follows the first byte of a symbol.
+// What follows the first byte of a symbol.
 fn symbol(byte: u8, text: &[u8]) -> Option<(Word, usize)>
     ensures found { result ≡ longest (symbol_of byte) text.now }
     ensures within { IfSome result (λ p. p.1 ≤ length text.now) }
@@ -281,7 +281,7 @@ fn symbol(byte: u8, text: &[u8]) -> Option<(Word, usize)>
     }
 }
 
-/// The symbol of a byte and the one that begins the text.
+// The symbol of a byte and the one that begins the text.
 fn pair(byte: u8, text: &[u8]) -> Option<Symbol>
     ensures found { result ≡ double_of byte text.now }
     ensures within { IfSome result (λ s. 1 ≤ length text.now) }

@@ -40,8 +40,8 @@ pub fn some_outcome()
     ensures { (text : List ℕ) → ((tokens : List Token) × Lexes text (Gives tokens) × (ends_once tokens ≡ true)) ⊎ ((kind : FaultKind) × (at : Place) × Lexes text (Faults kind at)) }
 {}
 
-/// Most words are blank bytes, and symbols that begin no longer word: they are read without a search for the
-/// longest one.
+// Most words are blank bytes, and symbols that begin no longer word: they are read without a search for the
+// longest one.
 fn read_tokens(alloc: Global, text: &[u8]) -> Result<Vec<Token>, Stop>
     requires { length text.now < 2 ^ 32 - 1 }
     ensures found { IfOk result (λ ts. Lexes text.now (Gives ts.items)) }
@@ -76,7 +76,7 @@ fn read_tokens(alloc: Global, text: &[u8]) -> Result<Vec<Token>, Stop>
     Ok(tokens)
 }
 
-/// Appends the token that the longest word of a text makes, if it makes one.
+// Appends the token that the longest word of a text makes, if it makes one.
 fn push_word(
     alloc: Global,
     tokens: &mut Vec<Token>,
@@ -112,7 +112,7 @@ fn push_token(tokens: &mut Vec<Token>, kind: TokenKind, place: Place) -> Result<
     Ok(())
 }
 
-/// The place behind these bytes.
+// The place behind these bytes.
 fn advance(place: Place, bytes: &[u8]) -> Place
     requires line { place.line + length bytes.now < 2 ^ 32 }
     requires column { place.column + length bytes.now < 2 ^ 32 }

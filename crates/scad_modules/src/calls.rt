@@ -68,7 +68,7 @@ pub fn effect(
     }
 }
 
-/// The effect of `hull`, or WrongDimension.
+// The effect of `hull`, or WrongDimension.
 fn hull(inside: bool) -> Result<Effect, ValueStop>
     ensures effect { TellsEffect result (hull_effect inside) }
     ensures safe { GivesSafe result }
@@ -79,7 +79,7 @@ fn hull(inside: bool) -> Result<Effect, ValueStop>
     Ok(Effect::Hull)
 }
 
-/// The effect of `assert`, or its first fault: BadArgument or AssertFailed.
+// The effect of `assert`, or its first fault: BadArgument or AssertFailed.
 fn asserted(slots: &[Option<Value>]) -> Result<Effect, ValueStop>
     ensures effect { TellsEffect result (assert_effect (slots_of slots.now)) }
     ensures safe { GivesSafe result }
@@ -90,7 +90,7 @@ fn asserted(slots: &[Option<Value>]) -> Result<Effect, ValueStop>
     Ok(Effect::Nothing)
 }
 
-/// The effect of `children`, or TypeMismatch.
+// The effect of `children`, or TypeMismatch.
 fn children(alloc: Global, slots: &[Option<Value>]) -> Result<Effect, ValueStop>
     requires { IsTrue (are_bounded (slots_of slots.now)) }
     ensures effect { TellsEffect result (children_effect (slots_of slots.now)) }
@@ -108,7 +108,7 @@ fn chosen(alloc: Global, slots: &[Option<Value>]) -> Result<Chosen, ValueStop>
     }
 }
 
-/// Children by one number, by a range, or by a list of numbers.
+// Children by one number, by a range, or by a list of numbers.
 fn chosen_by(alloc: Global, value: &Value) -> Result<Chosen, ValueStop>
     ensures { ReadsAs chosen_of result (chosen_in (val_of value.now)) }
 {

@@ -52,7 +52,7 @@ pub(crate) fn faces(alloc: Global, value: &Value) -> Result<Vec<Corners>, ValueS
     }
 }
 
-/// A list of corners.
+// A list of corners.
 fn face(alloc: Global, value: &Value) -> Result<Corners, ValueStop>
     ensures { ReadsAs (λ corners. corners) result (face_in (val_of value.now)) }
 {

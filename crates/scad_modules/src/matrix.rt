@@ -46,7 +46,7 @@ pub(crate) fn multmatrix(
     }
 }
 
-/// Three rows of four numbers, or four of which the last is 0 0 0 1.
+// Three rows of four numbers, or four of which the last is 0 0 0 1.
 fn rows(value: &Value) -> Option<[[i64; 4]; 3]>
     ensures { result ≡ rows_in (val_of value.now) }
 {
@@ -79,7 +79,7 @@ fn is_last_row(row: [i64; 4]) -> bool
     row[0] == 0 && row[1] == 0 && row[2] == 0 && row[3] == 1
 }
 
-/// Whether a linear entry is past 65535 in size.
+// Whether a linear entry is past 65535 in size.
 fn is_steep(rows: [[i64; 4]; 3]) -> bool
     ensures { result ≡ some_row (some_part is_past_matrix) rows }
 {
@@ -98,7 +98,7 @@ fn is_steep_entry(entry: i64) -> bool
     entry.unsigned_abs() > 65_535
 }
 
-/// Whether the linear part is singular, which no move changes.
+// Whether the linear part is singular, which no move changes.
 fn is_singular(rows: [[i64; 4]; 3]) -> bool
     requires { some_row (some_part is_past_matrix) rows ≡ false }
     ensures { result ≡ is_zero (determinant_of (affine_of rows)) }
@@ -107,21 +107,21 @@ fn is_singular(rows: [[i64; 4]; 3]) -> bool
     Step::matrix([linear(x), linear(y), linear(z)]).is_none()
 }
 
-/// The linear part of a row.
+// The linear part of a row.
 fn linear(row: [i64; 4]) -> [i64; 4]
     ensures { result ≡ part row 0 ∷ part row 1 ∷ part row 2 ∷ pos 0 ∷ [] }
 {
     [row[0], row[1], row[2], 0]
 }
 
-/// Whether a matrix changes z inside an extrusion.
+// Whether a matrix changes z inside an extrusion.
 fn leaves_plane(inside: bool, rows: [[i64; 4]; 3]) -> bool
     ensures { result ≡ leaves_plane_by inside rows }
 {
     inside && !keeps_plane(rows)
 }
 
-/// Whether the third row and the third column are those of the identity.
+// Whether the third row and the third column are those of the identity.
 fn keeps_plane(rows: [[i64; 4]; 3]) -> bool
     ensures { result ≡ keeps_the_plane rows }
 {
@@ -129,7 +129,7 @@ fn keeps_plane(rows: [[i64; 4]; 3]) -> bool
     x[2] == 0 && y[2] == 0 && z[0] == 0 && z[1] == 0 && z[2] == 1 && z[3] == 0
 }
 
-/// The rows with their moves in grid steps, or TooLarge where one is past 2^53 - 1 in size.
+// The rows with their moves in grid steps, or TooLarge where one is past 2^53 - 1 in size.
 fn on_grid(unit: Unit, rows: [[i64; 4]; 3]) -> Result<[[i64; 4]; 3], FaultKind>
     ensures value { MatchResult result (λ moved. (moved ≡ rows_on_the_grid unit rows) × (some_row (moves_past unit) rows ≡ false))
         (λ kind. (kind ≡ TooLarge) × (some_row (moves_past unit) rows ≡ true)) }

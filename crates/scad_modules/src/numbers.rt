@@ -8,7 +8,7 @@ ghost use Rattle.scad_modules.specs.Transforms.{angles_in, factors_in};
 
 use scad_value::Value;
 
-/// A number that no corner of a face can have.
+// A number that no corner of a face can have.
 const NO_CORNER: u32 = 4_294_967_295;
 
 /// The number that a value is.

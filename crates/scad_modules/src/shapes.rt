@@ -163,7 +163,7 @@ pub(crate) fn linear_extrude(inside: bool, slots: &[Option<Value>]) -> Result<Ef
     Ok(Effect::Extrusion { height, center })
 }
 
-/// The sizes of a cube, or TypeMismatch.
+// The sizes of a cube, or TypeMismatch.
 fn cube_size(slots: &[Option<Value>]) -> Result<[i64; 3], FaultKind>
     requires { IsTrue (are_bounded (slots_of slots.now)) }
     ensures value { Reads result (or_default (pos 1 ∷ pos 1 ∷ pos 1 ∷ []) (sides_in 3) (slot (slots_of slots.now) 0)) }
@@ -181,7 +181,7 @@ fn found_cube_size(slots: &[Option<Value>]) -> Result<[i64; 3], FaultKind>
     }
 }
 
-/// The sizes of a square, or TypeMismatch.
+// The sizes of a square, or TypeMismatch.
 fn square_size(slots: &[Option<Value>]) -> Result<[i64; 2], FaultKind>
     requires { IsTrue (are_bounded (slots_of slots.now)) }
     ensures value { Reads result (or_default (pos 1 ∷ pos 1 ∷ []) (sides_in 2) (slot (slots_of slots.now) 0)) }
@@ -199,14 +199,14 @@ fn found_square_size(slots: &[Option<Value>]) -> Result<[i64; 2], FaultKind>
     }
 }
 
-/// Whether a cylinder has a radius for both its ends and one for an end.
+// Whether a cylinder has a radius for both its ends and one for an end.
 fn has_two_radii(slots: &[Option<Value>]) -> bool
     ensures { result ≡ (is_some (slot (slots_of slots.now) 4) && (is_some (slot (slots_of slots.now) 1) || is_some (slot (slots_of slots.now) 2))) }
 {
     is_given(slots, 4) && (is_given(slots, 1) || is_given(slots, 2))
 }
 
-/// The number of fragments, or TypeMismatch.
+// The number of fragments, or TypeMismatch.
 fn fragment_count(fragments: Option<&Value>) -> Result<i64, FaultKind>
     ensures { Reads result (fragments_in (fragments_of fragments.entry)) }
 {
@@ -216,7 +216,7 @@ fn fragment_count(fragments: Option<&Value>) -> Result<i64, FaultKind>
     }
 }
 
-/// Whether a circle has another number of fragments than 4.
+// Whether a circle has another number of fragments than 4.
 fn is_round(count: i64) -> bool
     ensures { result ≡ not (int_eq count (pos 4)) }
 {

@@ -116,7 +116,7 @@ pub(crate) fn in_steps(unit: Unit, length: i64) -> Result<i64, FaultKind>
     product_of_two(unit.per(), length)
 }
 
-/// A vector in grid steps, or TooLarge where a number of it is past 2^53 - 1 in size.
+// A vector in grid steps, or TooLarge where a number of it is past 2^53 - 1 in size.
 fn on_grid(unit: Unit, by: [i64; 3]) -> Result<[i64; 3], FaultKind>
     ensures value { MatchResult result (λ vector. (vector ≡ on_the_grid unit by) × (some_part is_past (on_the_grid unit by) ≡ false))
         (λ kind. (kind ≡ TooLarge) × (some_part is_past (on_the_grid unit by) ≡ true)) }
@@ -128,21 +128,21 @@ fn on_grid(unit: Unit, by: [i64; 3]) -> Result<[i64; 3], FaultKind>
     Ok([x, y, z])
 }
 
-/// Whether a vector leaves the plane inside an extrusion.
+// Whether a vector leaves the plane inside an extrusion.
 fn leaves_plane(inside: bool, by: [i64; 3]) -> bool
     ensures { result ≡ leaves_the_plane inside by }
 {
     inside && by[2] != 0
 }
 
-/// Whether angles turn about x or y inside an extrusion.
+// Whether angles turn about x or y inside an extrusion.
 fn tilts_plane(inside: bool, angles: [i64; 3]) -> bool
     ensures { result ≡ tilts_the_plane inside angles }
 {
     inside && !(angles[0] == 0 && angles[1] == 0)
 }
 
-/// Whether an angle is no number of quarter turns.
+// Whether an angle is no number of quarter turns.
 fn is_skew(angle: i64) -> bool
     ensures { result ≡ is_skew_angle angle }
 {
@@ -155,7 +155,7 @@ fn are_skew(angles: [i64; 3]) -> bool
     is_skew(angles[0]) || is_skew(angles[1]) || is_skew(angles[2])
 }
 
-/// How many quarter turns an angle is, from 0 to 3.
+// How many quarter turns an angle is, from 0 to 3.
 fn quarters(angle: i64) -> u8
     ensures value { result ≡ quarters_of angle }
     ensures few { result < 4 }
@@ -168,7 +168,7 @@ fn quarters(angle: i64) -> u8
     }
 }
 
-/// The turns about x, then y, then z.
+// The turns about x, then y, then z.
 fn turns(alloc: Global, by: [i64; 3]) -> Result<Effect, ValueStop>
     ensures effect { TellsEffect result (Ok (a_move (turns_of by))) }
     ensures safe { GivesSafe result }
@@ -177,7 +177,7 @@ fn turns(alloc: Global, by: [i64; 3]) -> Result<Effect, ValueStop>
     Ok(Effect::Move(steps))
 }
 
-/// The turn about axis 0, 1 or 2 by an angle.
+// The turn about axis 0, 1 or 2 by an angle.
 fn turn(axis: u8, angle: i64) -> Step
     requires { axis < 3 }
     ensures { result ≡ turned axis angle }
@@ -185,7 +185,7 @@ fn turn(axis: u8, angle: i64) -> Step
     Step::quarter(axis, quarters(angle))
 }
 
-/// The one axis along which a vector goes.
+// The one axis along which a vector goes.
 fn axis_of(by: [i64; 3]) -> Option<u8>
     ensures value { result ≡ axis_along by }
     ensures axis { IfSome result (λ axis. axis < 3) }
@@ -202,14 +202,14 @@ fn axis_of(by: [i64; 3]) -> Option<u8>
     }
 }
 
-/// Whether a number isn't 0 while two others are.
+// Whether a number isn't 0 while two others are.
 fn is_alone(n: i64, m: i64, k: i64) -> bool
     ensures { result ≡ is_alone_among n m k }
 {
     n != 0 && m == 0 && k == 0
 }
 
-/// Whether an axis leaves the plane inside an extrusion.
+// Whether an axis leaves the plane inside an extrusion.
 fn is_across_plane(inside: bool, axis: u8) -> bool
     ensures { result ≡ (inside && nat_eq axis 2) }
 {
@@ -222,7 +222,7 @@ fn has_zero(by: [i64; 3]) -> bool
     by[0] == 0 || by[1] == 0 || by[2] == 0
 }
 
-/// The factors of a scaling, which inside an extrusion has no effect along z.
+// The factors of a scaling, which inside an extrusion has no effect along z.
 fn factors_for(inside: bool, by: [i64; 3]) -> [i64; 3]
     ensures { result ≡ factors_inside inside by }
 {

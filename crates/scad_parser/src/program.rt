@@ -19,7 +19,7 @@ use scad_tokens::{Class, Parsed, Stopped, not_expected, take};
 use std::alloc::Global;
 use text_place::{Fault, FaultKind, Place, Stop};
 
-/// One more than the most that a token may be deep.
+// One more than the most that a token may be deep.
 const DEPTH: u32 = 65;
 
 /// The program that fewer than 2^32 tokens write, none of which is more than 64 deep, or their first
@@ -62,7 +62,7 @@ fn read_program(alloc: Global, tokens: &[Token]) -> Result<Program, Stop>
     }
 }
 
-/// A program's statements and its end, behind which nothing stands.
+// A program's statements and its end, behind which nothing stands.
 fn program<'a>(alloc: Global, tokens: &'a [Token]) -> Parsed<'a, Statements>
     ensures { Gives (λ p. (statements_of p.0, p.1.now)) result (whole_read 65 tokens.now) }
 {
@@ -74,7 +74,7 @@ fn program<'a>(alloc: Global, tokens: &'a [Token]) -> Parsed<'a, Statements>
     }
 }
 
-/// The place of the first token.
+// The place of the first token.
 fn place_of(tokens: &[Token]) -> Place
     ensures { result ≡ place_at tokens.now }
 {
@@ -84,7 +84,7 @@ fn place_of(tokens: &[Token]) -> Place
     }
 }
 
-/// The fault's word.
+// The fault's word.
 fn kind_of(fault: SyntaxFault) -> FaultKind
     ensures { result ≡ kind_at fault }
 {

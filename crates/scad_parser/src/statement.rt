@@ -36,7 +36,7 @@ pub fn statement<'a>(alloc: Global, tokens: &'a [Token], depth: u32) -> Parsed<'
     statement_over(alloc, tokens, depth, depth - 1)
 }
 
-/// A statement, by its own depth and that of what it encloses.
+// A statement, by its own depth and that of what it encloses.
 #[cycle(statement)]
 fn statement_over<'a>(
     alloc: Global,
@@ -62,7 +62,7 @@ fn statement_over<'a>(
     }
 }
 
-/// Statements and the brace that closes them.
+// Statements and the brace that closes them.
 #[cycle(statement)]
 fn braces<'a>(alloc: Global, tokens: &'a [Token], depth: u32) -> Parsed<'a, Statements>
     ensures value { Gives (λ p. (statements_of p.0, p.1.now)) result (braces_read (statement_read depth) tokens.now) }
@@ -87,7 +87,7 @@ pub fn statements<'a>(alloc: Global, tokens: &'a [Token], depth: u32) -> Parsed<
     Ok((Statements { items }, rest))
 }
 
-/// `name = value;`, where a name and a `=` stand.
+// `name = value;`, where a name and a `=` stand.
 #[inline(never)]
 fn assignment<'a>(alloc: Global, tokens: &'a [Token], depth: u32) -> Parsed<'a, Statement>
     requires { names_value tokens.now ≡ true }
@@ -100,7 +100,7 @@ fn assignment<'a>(alloc: Global, tokens: &'a [Token], depth: u32) -> Parsed<'a, 
     Ok((Statement::Assignment(name.place, bytes, value), rest))
 }
 
-/// `$name = value;`, of a special name other than `$children`.
+// `$name = value;`, of a special name other than `$children`.
 #[inline(never)]
 fn special_assignment<'a>(alloc: Global, tokens: &'a [Token], depth: u32) -> Parsed<'a, Statement>
     ensures value { Gives (λ p. (statement_of p.0, p.1.now)) result (special_read (expr_read depth) tokens.now) }
@@ -112,7 +112,7 @@ fn special_assignment<'a>(alloc: Global, tokens: &'a [Token], depth: u32) -> Par
     Ok((Statement::SpecialAssignment(name.place, bytes, value), rest))
 }
 
-/// An expression and the `;` behind it.
+// An expression and the `;` behind it.
 fn ended<'a>(alloc: Global, tokens: &'a [Token], depth: u32) -> Parsed<'a, Expr>
     ensures value { Gives (λ p. (term_of p.0, p.1.now)) result (ended_read (expr_read depth) tokens.now) }
 {
@@ -121,7 +121,7 @@ fn ended<'a>(alloc: Global, tokens: &'a [Token], depth: u32) -> Parsed<'a, Expr>
     Ok((value, rest))
 }
 
-/// A module, a function or an instance.
+// A module, a function or an instance.
 #[cycle(statement)]
 #[inline(never)]
 fn definition<'a>(
@@ -142,7 +142,7 @@ fn definition<'a>(
     }
 }
 
-/// A module.
+// A module.
 #[cycle(statement)]
 #[inline(never)]
 fn module<'a>(alloc: Global, tokens: &'a [Token], depth: u32) -> Parsed<'a, Statement>
@@ -159,7 +159,7 @@ fn module<'a>(alloc: Global, tokens: &'a [Token], depth: u32) -> Parsed<'a, Stat
     ))
 }
 
-/// A function, by the depth of its expression and that of its defaults.
+// A function, by the depth of its expression and that of its defaults.
 #[inline(never)]
 fn function<'a>(alloc: Global, tokens: &'a [Token], depth: u32, inner: u32) -> Parsed<'a, Statement>
     ensures value { Gives (λ p. (statement_of p.0, p.1.now)) result (function_read (expr_read depth) (param_in inner (expr_read inner)) tokens.now) }
@@ -179,7 +179,7 @@ fn function<'a>(alloc: Global, tokens: &'a [Token], depth: u32, inner: u32) -> P
     ))
 }
 
-/// Parameters in parentheses.
+// Parameters in parentheses.
 fn params<'a>(alloc: Global, tokens: &'a [Token], depth: u32) -> Parsed<'a, Params>
     ensures value { Gives (λ p. (params_of p.0, p.1.now)) result (in_parentheses (params_read (param_in depth (expr_read depth))) tokens.now) }
 {
@@ -189,7 +189,7 @@ fn params<'a>(alloc: Global, tokens: &'a [Token], depth: u32) -> Parsed<'a, Para
     Ok((params, rest))
 }
 
-/// Parameters, and maybe a comma behind the last.
+// Parameters, and maybe a comma behind the last.
 fn param_list<'a>(alloc: Global, tokens: &'a [Token], depth: u32) -> Parsed<'a, Params>
     ensures value { Gives (λ p. (params_of p.0, p.1.now)) result (params_read (param_in depth (expr_read depth)) tokens.now) }
 {
@@ -201,7 +201,7 @@ fn param_list<'a>(alloc: Global, tokens: &'a [Token], depth: u32) -> Parsed<'a, 
     more_params(alloc, items, rest, depth)
 }
 
-/// No parameters.
+// No parameters.
 fn no_params(alloc: Global) -> Params
     ensures { params_of result ≡ [] }
 {
@@ -210,7 +210,7 @@ fn no_params(alloc: Global) -> Params
     }
 }
 
-/// More parameters, each behind a comma, and maybe a comma behind the last.
+// More parameters, each behind a comma, and maybe a comma behind the last.
 fn more_params<'a>(
     alloc: Global,
     mut items: Vec<Param>,
@@ -228,7 +228,7 @@ fn more_params<'a>(
     Ok((Params { items }, behind_comma(rest)))
 }
 
-/// A parameter whose tokens are less deep than so much.
+// A parameter whose tokens are less deep than so much.
 fn param<'a>(alloc: Global, tokens: &'a [Token], depth: u32) -> Parsed<'a, Param>
     ensures value { Gives (λ p. (param_of p.0, p.1.now)) result (param_in depth (expr_read depth) tokens.now) }
 {
@@ -244,7 +244,7 @@ fn param<'a>(alloc: Global, tokens: &'a [Token], depth: u32) -> Parsed<'a, Param
     Ok((Param::WithDefault(name.place, bytes, value), rest))
 }
 
-/// An instance over what is less deep than so much.
+// An instance over what is less deep than so much.
 #[cycle(statement)]
 fn instance<'a>(alloc: Global, tokens: &'a [Token], depth: u32) -> Parsed<'a, Instance>
     ensures value { Gives (λ p. (instance_of p.0, p.1.now)) result (instance_in depth (body_read depth) tokens.now) }
@@ -254,7 +254,7 @@ fn instance<'a>(alloc: Global, tokens: &'a [Token], depth: u32) -> Parsed<'a, In
     Ok((instance_from(marks, core), rest))
 }
 
-/// An instance, by its marks and its core.
+// An instance, by its marks and its core.
 fn instance_from(marks: Marks, core: Core) -> Instance
     ensures { instance_of result ≡ instance_at (marks_of marks) (core_of core) }
 {
@@ -265,7 +265,7 @@ fn instance_from(marks: Marks, core: Core) -> Instance
     Instance { place, marks, core }
 }
 
-/// Modifiers.
+// Modifiers.
 fn marks<'a>(alloc: Global, tokens: &'a [Token]) -> Parsed<'a, Marks>
     ensures value { Gives (λ p. (marks_of p.0, p.1.now)) result (marks_read tokens.now) }
 {
@@ -279,7 +279,7 @@ fn marks<'a>(alloc: Global, tokens: &'a [Token]) -> Parsed<'a, Marks>
     Ok((Marks { items }, rest))
 }
 
-/// A modifier.
+// A modifier.
 fn mark<'a>(tokens: &'a [Token]) -> Parsed<'a, Mark>
     ensures value { Gives (λ p. (mark_of p.0, p.1.now)) result (mapped mark_at (one (among mark_signs)) tokens.now) }
 {
@@ -291,7 +291,7 @@ fn mark<'a>(tokens: &'a [Token]) -> Parsed<'a, Mark>
     Ok((mark, rest))
 }
 
-/// An instance without its modifiers, over what is less deep than so much.
+// An instance without its modifiers, over what is less deep than so much.
 #[cycle(statement)]
 fn core<'a>(alloc: Global, tokens: &'a [Token], depth: u32) -> Parsed<'a, Core>
     ensures value { Gives (λ p. (core_of p.0, p.1.now)) result (core_read (expr_read depth) (arg_in depth (expr_read depth)) (binder_in depth (expr_read depth)) (body_read depth) tokens.now) }
@@ -305,7 +305,7 @@ fn core<'a>(alloc: Global, tokens: &'a [Token], depth: u32) -> Parsed<'a, Core>
     }
 }
 
-/// An `if`, with its `else` where one stands.
+// An `if`, with its `else` where one stands.
 #[cycle(statement)]
 #[inline(never)]
 fn branch<'a>(alloc: Global, tokens: &'a [Token], depth: u32) -> Parsed<'a, Core>
@@ -321,7 +321,7 @@ fn branch<'a>(alloc: Global, tokens: &'a [Token], depth: u32) -> Parsed<'a, Core
     Ok((Core::IfElse(word.place, test, then, other), rest))
 }
 
-/// An `else` and its body.
+// An `else` and its body.
 #[cycle(statement)]
 #[inline(always)]
 fn otherwise<'a>(alloc: Global, tokens: &'a [Token], depth: u32) -> Parsed<'a, Box<Body>>
@@ -331,7 +331,7 @@ fn otherwise<'a>(alloc: Global, tokens: &'a [Token], depth: u32) -> Parsed<'a, B
     boxed_body(alloc, rest, depth)
 }
 
-/// A body in a box.
+// A body in a box.
 #[cycle(statement)]
 #[inline(always)]
 fn boxed_body<'a>(alloc: Global, tokens: &'a [Token], depth: u32) -> Parsed<'a, Box<Body>>
@@ -341,7 +341,7 @@ fn boxed_body<'a>(alloc: Global, tokens: &'a [Token], depth: u32) -> Parsed<'a, 
     Ok((Box::new(alloc, body)?, rest))
 }
 
-/// An expression in parentheses.
+// An expression in parentheses.
 fn condition<'a>(alloc: Global, tokens: &'a [Token], depth: u32) -> Parsed<'a, Expr>
     ensures value { Gives (λ p. (term_of p.0, p.1.now)) result (in_parentheses (expr_read depth) tokens.now) }
 {
@@ -351,7 +351,7 @@ fn condition<'a>(alloc: Global, tokens: &'a [Token], depth: u32) -> Parsed<'a, E
     Ok((test, rest))
 }
 
-/// A `for` or an `intersection_for`.
+// A `for` or an `intersection_for`.
 #[cycle(statement)]
 #[inline(never)]
 fn repetition<'a>(alloc: Global, tokens: &'a [Token], depth: u32) -> Parsed<'a, Core>
@@ -367,7 +367,7 @@ fn repetition<'a>(alloc: Global, tokens: &'a [Token], depth: u32) -> Parsed<'a, 
     }
 }
 
-/// Variables of a loop, in parentheses.
+// Variables of a loop, in parentheses.
 fn binders<'a>(alloc: Global, tokens: &'a [Token], depth: u32) -> Parsed<'a, Binders>
     ensures value { Gives (λ p. (binders_of p.0, p.1.now)) result (in_parentheses (binders_read (binder_in depth (expr_read depth))) tokens.now) }
 {
@@ -379,7 +379,7 @@ fn binders<'a>(alloc: Global, tokens: &'a [Token], depth: u32) -> Parsed<'a, Bin
     Ok((binders, rest))
 }
 
-/// More variables of a loop, each behind a comma, and maybe a comma behind the last.
+// More variables of a loop, each behind a comma, and maybe a comma behind the last.
 fn more_binders<'a>(
     alloc: Global,
     mut items: Vec<Binder>,
@@ -397,7 +397,7 @@ fn more_binders<'a>(
     Ok((Binders { items }, behind_comma(rest)))
 }
 
-/// A variable of a loop, whose tokens are less deep than so much.
+// A variable of a loop, whose tokens are less deep than so much.
 fn binder<'a>(alloc: Global, tokens: &'a [Token], depth: u32) -> Parsed<'a, Binder>
     ensures value { Gives (λ p. (binder_of p.0, p.1.now)) result (binder_in depth (expr_read depth) tokens.now) }
 {
@@ -418,7 +418,7 @@ fn binder<'a>(alloc: Global, tokens: &'a [Token], depth: u32) -> Parsed<'a, Bind
     ))
 }
 
-/// A call of a module.
+// A call of a module.
 #[cycle(statement)]
 fn call<'a>(alloc: Global, tokens: &'a [Token], depth: u32) -> Parsed<'a, Core>
     ensures value { Gives (λ p. (core_of p.0, p.1.now)) result (call_read (arg_in depth (expr_read depth)) (body_read depth) tokens.now) }
@@ -430,7 +430,7 @@ fn call<'a>(alloc: Global, tokens: &'a [Token], depth: u32) -> Parsed<'a, Core>
     Ok((Core::Call(name.place, bytes, args, body), rest))
 }
 
-/// A body whose tokens are less deep than so much.
+// A body whose tokens are less deep than so much.
 #[cycle(statement)]
 fn body<'a>(alloc: Global, tokens: &'a [Token], depth: u32) -> Parsed<'a, Body>
     ensures value { Gives (λ p. (body_of p.0, p.1.now)) result (body_read depth tokens.now) }
@@ -441,7 +441,7 @@ fn body<'a>(alloc: Global, tokens: &'a [Token], depth: u32) -> Parsed<'a, Body>
     body_over(alloc, tokens, depth - 1)
 }
 
-/// A body over what is less deep than so much.
+// A body over what is less deep than so much.
 #[cycle(statement)]
 fn body_over<'a>(alloc: Global, tokens: &'a [Token], depth: u32) -> Parsed<'a, Body>
     ensures value { Gives (λ p. (body_of p.0, p.1.now)) result (body_from (statement_read depth) (instance_in depth (body_read depth)) tokens.now) }

@@ -97,7 +97,7 @@ impl<'a> OwnSoFar<'a> {
         }
     }
 
-    /// The number of the assignment that has the same name.
+    // The number of the assignment that has the same name.
     fn place(&self, sought: &Assignment<'_>) -> Option<usize>
         ensures value { result ≡ place_in (map assigned_of self.now.own.assignments.items) (assigned_of sought.now) }
         ensures within { IfSome result (λ k. k < length self.now.own.assignments.items) }
@@ -105,7 +105,7 @@ impl<'a> OwnSoFar<'a> {
         self.places.find(sought.special, sought.name)
     }
 
-    /// An assignment of a name that isn't there.
+    // An assignment of a name that isn't there.
     fn add(&mut self, alloc: Global, assignment: Assignment<'a>) -> Result<(), NoMemory>
         requires { place_in (map assigned_of self.old.own.assignments.items) (assigned_of assignment) ≡ None }
         ensures functions { self.new.own.functions ≡ self.old.own.functions }

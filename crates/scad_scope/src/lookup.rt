@@ -10,7 +10,7 @@ use scad_ast::Arg;
 use std::alloc::Global;
 use text_place::{Bytes, NoMemory};
 
-/// How many names are looked up one after another.
+// How many names are looked up one after another.
 const FEW: usize = 8;
 
 /// The names of parameters, each with its number, and special names.

@@ -68,7 +68,7 @@ impl<'n, 'a, T: Drop> ArgumentsSoFar<'n, 'a, T> {
         }
     }
 
-    /// What takes an argument: a parameter or a special name that was given nothing yet.
+    // What takes an argument: a parameter or a special name that was given nothing yet.
     fn free_destination(&self, positional: usize, arg: &'a Arg) -> Option<Destination<'a>>
         ensures value { taker_of (names_in self.now.names) positional (given_of self.now.given) (arg_of arg.now) ≡ takers_seen result }
         ensures within { IfSome result (IsTakerThere (length self.now.given.slots.items)) }
@@ -83,7 +83,7 @@ impl<'n, 'a, T: Drop> ArgumentsSoFar<'n, 'a, T> {
         }
     }
 
-    /// A special name that was given nothing yet.
+    // A special name that was given nothing yet.
     fn free_special(&self, name: &'a [u8]) -> Option<Destination<'a>>
         ensures value { takers_seen result ≡ (if is_some (find_in (special_pairs self.now.given.specials.items) name.now) then None else Some (to_special name.now)) }
         ensures within { (n : ℕ) → IfSome result (IsTakerThere n) }
@@ -94,7 +94,7 @@ impl<'n, 'a, T: Drop> ArgumentsSoFar<'n, 'a, T> {
         Some(Destination::Special(name))
     }
 
-    /// Whether a special name was given something.
+    // Whether a special name was given something.
     fn has_special(&self, name: &[u8]) -> bool
         ensures { result ≡ is_some (find_in (special_pairs self.now.given.specials.items) name.now) }
     {
@@ -104,7 +104,7 @@ impl<'n, 'a, T: Drop> ArgumentsSoFar<'n, 'a, T> {
         }
     }
 
-    /// The parameter that an argument takes after so many positional ones. A special argument takes none.
+    // The parameter that an argument takes after so many positional ones. A special argument takes none.
     fn taken_by(&self, positional: usize, arg: &Arg) -> Option<usize>
         ensures value { result ≡ taken_at (names_in self.now.names) positional (arg_of arg.now) }
         ensures within { IfSome result (λ k. k < length (names_in self.now.names)) }
@@ -122,7 +122,7 @@ impl<'n, 'a, T: Drop> ArgumentsSoFar<'n, 'a, T> {
         }
     }
 
-    /// The first parameter of a name.
+    // The first parameter of a name.
     fn first_named(&self, name: &[u8]) -> Option<usize>
         ensures value { result ≡ first_of (names_in self.now.names) name.now }
         ensures within { IfSome result (λ k. k < length (names_in self.now.names)) }

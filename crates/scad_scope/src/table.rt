@@ -114,7 +114,7 @@ pub(crate) fn begun_chain(alloc: Global) -> Result<NameList<BoundedValue>, NoMem
     with_number(alloc, two, b"fs", 2)
 }
 
-/// A chain with one name more, whose value is a number.
+// A chain with one name more, whose value is a number.
 fn with_number(
     alloc: Global,
     chain: NameList<BoundedValue>,

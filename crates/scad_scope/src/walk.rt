@@ -32,7 +32,7 @@ pub(crate) fn walk_program<'a>(alloc: Global, program: &'a Program) -> Result<Wa
 }
 
 impl<'a> Walk<'a> {
-    /// A walk that has begun with nothing.
+    // A walk that has begun with nothing.
     fn new(alloc: Global) -> Walk<'a>
         ensures { walked result ≡ nothing_walked }
     {
@@ -44,7 +44,7 @@ impl<'a> Walk<'a> {
         }
     }
 
-    /// Goes on through statements of a block whose own definitions and assignments these are.
+    // Goes on through statements of a block whose own definitions and assignments these are.
     #[cycle(walk)]
     fn statements(
         &mut self,
@@ -140,7 +140,7 @@ impl<'a> Walk<'a> {
         }
     }
 
-    /// A block that is one instance.
+    // A block that is one instance.
     #[cycle(walk)]
     #[tactic(auto, using(crate::proofs::Begun::numbered_begun, crate::proofs::Begun::numbered_after))]
     fn single(&mut self, instance: &'a Instance) -> Result<(), NoMemory>
@@ -154,7 +154,7 @@ impl<'a> Walk<'a> {
         Ok(())
     }
 
-    /// A block of statements in braces.
+    // A block of statements in braces.
     #[cycle(walk)]
     #[tactic(auto, using(crate::proofs::Begun::numbered_begun, crate::proofs::Begun::numbered_after))]
     fn braces(&mut self, statements: &'a Statements) -> Result<(), NoMemory>
@@ -170,7 +170,7 @@ impl<'a> Walk<'a> {
         Ok(())
     }
 
-    /// A block in which nothing stands.
+    // A block in which nothing stands.
     #[tactic(auto, using(crate::proofs::Begun::numbered_begun))]
     fn nothing(&mut self) -> Result<(), NoMemory>
         requires { numbered (walked self.old) + 1 < 2 ^ 32 }
@@ -181,7 +181,7 @@ impl<'a> Walk<'a> {
         Ok(())
     }
 
-    /// A block begins: its number. What it has of its own comes when it ends.
+    // A block begins: its number. What it has of its own comes when it ends.
     #[tactic(auto, using(crate::proofs::Held::mapped_length))]
     fn begin(&mut self, text: BlockText<'a>) -> Result<u32, NoMemory>
         requires { numbered (walked self.old) < 2 ^ 32 }
@@ -198,7 +198,7 @@ impl<'a> Walk<'a> {
         Ok(number)
     }
 
-    /// A block ends: it gets what stands in it and the number of the first block behind it.
+    // A block ends: it gets what stands in it and the number of the first block behind it.
     #[tactic(auto, using(crate::proofs::Held::mapped_length))]
     fn end(&mut self, number: u32, own: Own<'a>)
         requires begun { number < length (walked self.old).entries }
@@ -211,7 +211,7 @@ impl<'a> Walk<'a> {
         entry.behind = behind;
     }
 
-    /// A function begins: its number.
+    // A function begins: its number.
     #[tactic(auto, using(crate::proofs::Held::mapped_length))]
     fn function(&mut self, params: &'a Params, value: &'a Expr) -> Result<u32, NoMemory>
         requires { numbered (walked self.old) < 2 ^ 32 }
@@ -224,7 +224,7 @@ impl<'a> Walk<'a> {
         Ok(number)
     }
 
-    /// A module begins: its number. Its body is the next block.
+    // A module begins: its number. Its body is the next block.
     #[tactic(auto, using(crate::proofs::Held::mapped_length))]
     fn module(&mut self, params: &'a Params, body: &'a Body) -> Result<u32, NoMemory>
         requires { numbered (walked self.old) < 2 ^ 32 }
@@ -243,7 +243,7 @@ impl<'a> Walk<'a> {
     }
 }
 
-/// One assignment more of a block.
+// One assignment more of a block.
 fn assign<'a>(
     alloc: Global,
     so_far: &mut OwnSoFar<'a>,

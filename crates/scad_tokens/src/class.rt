@@ -45,7 +45,7 @@ impl Level {
         }
     }
 
-    /// Whether the symbol is an operator of this level.
+    // Whether the symbol is an operator of this level.
     fn has(self, symbol: Symbol) -> bool
         ensures { result ≡ listed (operators_at self) (symbol_class symbol) }
     {

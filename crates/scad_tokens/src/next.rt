@@ -142,7 +142,7 @@ pub fn lone_atom<'a>(tokens: &'a [Token]) -> Option<(&'a Token, &'a [Token])>
     }
 }
 
-/// Whether a token stands here that does not go on with an atom before it.
+// Whether a token stands here that does not go on with an atom before it.
 #[inline(always)]
 fn ends_atom(tokens: &[Token]) -> bool
     ensures { result ≡ starts (other_than continuations) tokens.now }
@@ -201,7 +201,7 @@ pub fn take_first<'a>(class: Class, tokens: &'a [Token]) -> Parsed<'a, &'a Token
     }
 }
 
-/// The fault of the next token, by what the profile leaves out here. It is not inlined, since faults are rare.
+// The fault of the next token, by what the profile leaves out here. It is not inlined, since faults are rare.
 #[inline(never)]
 fn fault(left_out: Class, tokens: &[Token]) -> SyntaxFault
     ensures { result ≡ fault_at (classes_of left_out) tokens.now }

@@ -148,7 +148,7 @@ pub fn made(value: Value) -> Result<Value, FaultKind>
     Ok(value)
 }
 
-/// The value that was given, unless it is LongList, or why none was.
+// The value that was given, unless it is LongList, or why none was.
 fn made_of(given: Result<Value, ValueStop>) -> Result<Value, ValueStop>
     ensures { (answer : Answer Val) → Tells given answer → Tells result (made_at answer) }
 {
