@@ -71,9 +71,8 @@ fn merged_within(
     let left_nodes = MovedNodes::of(&table, left, &joined.left);
     let mut right_nodes = solid_over(alloc, &table, right, &joined.right)?;
     let mut growing = Growing::new(alloc, &table, most);
-    // A merge may have more nodes than both solids; what room is left in the end is given back.
     let nodes = left_forest.len().saturating_add(right_forest.len());
-    growing.reserve(nodes.saturating_mul(2))?;
+    growing.reserve(room(nodes, most))?;
     let merge = Merge {
         left: &left_nodes,
         in_decides: is_union(op),
@@ -81,6 +80,19 @@ fn merged_within(
     };
     let root = merge.branch(alloc, &mut right_nodes, &mut growing, left_root, right_root)?;
     Ok(finish(alloc, growing, root)?)
+}
+
+/// For how many nodes a merge of so many takes room before it begins: it may have more nodes than both solids, and one of
+/// at most `most` in size has no more than a quarter of that, since a node has three edges at least. What is left of the
+/// room in the end is given back.
+fn room(nodes: usize, most: u64) -> usize {
+    let twice = nodes.saturating_mul(2);
+    let limit = most / 4;
+    if (twice as u64) < limit {
+        twice
+    } else {
+        limit as usize
+    }
 }
 
 /// Whether an operation is a union, in which the leaf inside decides.

@@ -11,4 +11,4 @@ pub mod Numberings
 pub mod Levels
 pub mod Nodes
 pub mod Earlier
-pub mod Begun
+pub mod Fronts

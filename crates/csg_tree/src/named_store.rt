@@ -4,14 +4,14 @@ ghost use Rattle.std.specs.Prelude.{◌≡◌, ◌≤◌, ◌∷◌, ◌++◌, L
 ghost use Rattle.std.specs.Bool.{OnTrue};
 ghost use Rattle.std.specs.Arc.{arc_value};
 ghost use Rattle.sha2.specs.Hashers.{Holds256};
-ghost use Rattle.csg_tree.specs.Begun.{middle_of, MayBeBegun, IsMiddle};
+ghost use Rattle.csg_tree.specs.Fronts.{front_of_second, HoldsFrontIfThere, IsFrontOfSecond};
 ghost use Rattle.csg_tree.specs.Formulas.{Formula};
 ghost use Rattle.csg_tree.specs.Keys.{key_of, op_byte};
 ghost use Rattle.csg_tree.specs.Numberings.{tree_numbered, IsNumberIn};
 ghost use Rattle.csg_tree.specs.TreeKeys.{name_of_join};
 ghost use Rattle.csg_tree.specs.Earlier.{IsNumberOf, AreAllNumbersIn};
 
-use crate::naming::{begin, end, halves_of, name_of_node};
+use crate::naming::{hash_of_front, name_from_front, name_of_node, second_join};
 use crate::node::CsgNode;
 use crate::op::Op;
 use crate::store::CsgStore;
@@ -29,7 +29,7 @@ use text_place::NoMemory;
 pub struct NamedStore {
     store: Arc<CsgStore>,
     names: Vec<Option<[u8; 32]>>,
-    begun: Vec<Option<Sha256>>,
+    fronts: Vec<Option<Sha256>>,
 }
 
 impl Model for NamedStore {
@@ -45,11 +45,11 @@ impl Model for NamedStore {
     ghost use Rattle.std.specs.Prelude.{◌≡◌, map};
     ghost use Rattle.std.specs.Arc.{arc_value};
     ghost use Rattle.csg_tree.specs.TreeKeys.{name_of_join};
-    ghost use Rattle.csg_tree.specs.Begun.{AreBegun};
+    ghost use Rattle.csg_tree.specs.Fronts.{HoldFronts};
 
     ghost view = { λ s. arc_value s.store };
 
-    ghost invariant = { λ s. (s.names.items ≡ map name_of_join (arc_value s.store)) × AreBegun (arc_value s.store) s.begun.items };
+    ghost invariant = { λ s. (s.names.items ≡ map name_of_join (arc_value s.store)) × HoldFronts (arc_value s.store) s.fronts.items };
 }
 
 impl NamedStore {
@@ -58,16 +58,16 @@ impl NamedStore {
         ensures { IfOk result (λ named. named ≡ arc_value store) }
     {
         let mut names = Vec::with_capacity(alloc, store.len() as usize)?;
-        let mut begun = Vec::with_capacity(alloc, store.len() as usize)?;
+        let mut fronts = Vec::with_capacity(alloc, store.len() as usize)?;
         for before in 0..store.len() {
-            let hasher = begun_made(&store, before + 1);
+            let hasher = front_made(&store, before + 1);
             names.push(name_made(&store, before + 1, &hasher)?)?;
-            begun.push(hasher)?;
+            fronts.push(hasher)?;
         }
         Ok(NamedStore {
             store,
             names,
-            begun,
+            fronts,
         })
     }
 
@@ -83,17 +83,17 @@ impl NamedStore {
     {
         let joins = joins_by_left(alloc, earlier.store())?;
         let mut names = Vec::with_capacity(alloc, store.len() as usize)?;
-        let mut begun = Vec::with_capacity(alloc, store.len() as usize)?;
+        let mut fronts = Vec::with_capacity(alloc, store.len() as usize)?;
         for before in 0..store.len() {
-            let hasher = begun_over(&store, before + 1, earlier, numbers, &joins)?;
+            let hasher = front_over(&store, before + 1, earlier, numbers, &joins)?;
             let found = numbers[before as usize];
             names.push(name_over(&store, before + 1, earlier, found, &hasher)?)?;
-            begun.push(hasher)?;
+            fronts.push(hasher)?;
         }
         Ok(NamedStore {
             store,
             names,
-            begun,
+            fronts,
         })
     }
 
@@ -124,29 +124,29 @@ impl NamedStore {
     }
 
     /// The hash of a join behind its front, where it is kept.
-    fn begun(&self, number: u32) -> Result<Option<Sha256>, NoMemory>
+    fn front(&self, number: u32) -> Result<Option<Sha256>, NoMemory>
         requires { IsNumberIn self.now number }
-        ensures { IfOk result (MayBeBegun (tree_numbered self.now number)) }
+        ensures { IfOk result (HoldsFrontIfThere (tree_numbered self.now number)) }
     {
-        match self.begun.get(number as usize - 1) {
+        match self.fronts.get(number as usize - 1) {
             Some(Some(hasher)) => Ok(Some(hasher.clone()?)),
             _ => Ok(None),
         }
     }
 
-    /// The hash of a join of this operation behind the front with a first tree of this number and this middle, where one is
-    /// kept.
-    fn begun_with(
+    /// The hash of a join behind its front, where one is kept whose front has this operation, a first tree of this number
+    /// and this part of a second tree.
+    fn front_with(
         &self,
         joins: &[u32],
         op: Op,
         left: Option<u32>,
-        middle: Option<(Op, Option<u32>)>,
+        second_front: Option<(Op, Option<u32>)>,
     ) -> Result<Option<Sha256>, NoMemory>
         requires left { IfSome left (IsNumberIn self.now) }
         requires joins { (length joins.now ≡ length self.now) × All (λ n. n ≤ length self.now) joins.now }
-        ensures { (first right : Formula) → IsNumberOf self.now first left → IsMiddle self.now op right middle →
-            IfOk result (λ begun. IfSome begun (λ hasher. Holds256 hasher (op_byte op ∷ key_of first ++ middle_of op right))) }
+        ensures { (first right : Formula) → IsNumberOf self.now first left → IsFrontOfSecond self.now op right second_front →
+            IfOk result (λ front. IfSome front (λ hasher. Holds256 hasher (op_byte op ∷ key_of first ++ front_of_second op right))) }
     {
         let Some(left) = left else {
             return Ok(None);
@@ -157,29 +157,33 @@ impl NamedStore {
         }
         match self.store.node(join) {
             CsgNode::Join(by, first, right)
-                if by == op && first == left && self.has_middle(op, right, middle) => {
-                self.begun(join)
-            }
+                if by == op && first == left && self.has_front_of_second(op, right, second_front) =>
+                { self.front(join) }
             _ => Ok(None),
         }
     }
 
-    /// Whether a second tree has this middle.
-    fn has_middle(&self, op: Op, right: u32, middle: Option<(Op, Option<u32>)>) -> bool
+    /// Whether this is what of a second tree belongs to the front.
+    fn has_front_of_second(
+        &self,
+        op: Op,
+        right: u32,
+        second_front: Option<(Op, Option<u32>)>,
+    ) -> bool
         requires { IsNumberIn self.now right }
-        ensures { (other : Formula) → IsMiddle self.now op other middle →
-            OnTrue result (middle_of op (tree_numbered self.now right) ≡ middle_of op other) }
+        ensures { (other : Formula) → IsFrontOfSecond self.now op other second_front →
+            OnTrue result (front_of_second op (tree_numbered self.now right) ≡ front_of_second op other) }
     {
-        match (halves_of(&self.store, op, right), middle) {
+        match (second_join(&self.store, op, right), second_front) {
             (None, None) => true,
-            (Some(halves), Some((by, Some(first)))) => halves.op == by && halves.first == first,
+            (Some(join), Some((by, Some(first)))) => join.op == by && join.first == first,
             _ => false,
         }
     }
 }
 
-/// The middle of a second tree, with the number of its tree in an earlier store.
-fn middle_in(
+/// What of a second tree belongs to the front, with the number of its tree in an earlier store.
+fn second_front_in(
     store: &CsgStore,
     op: Op,
     right: u32,
@@ -188,10 +192,10 @@ fn middle_in(
     requires right { IsNumberIn store.now right }
     requires numbers { length numbers.now ≡ length store.now }
     ensures { (earlier : List Formula) → AreAllNumbersIn earlier store.now numbers.now →
-        IsMiddle earlier op (tree_numbered store.now right) result }
+        IsFrontOfSecond earlier op (tree_numbered store.now right) result }
 {
-    match halves_of(store, op, right) {
-        Some(halves) => Some((halves.op, numbers[halves.first as usize - 1])),
+    match second_join(store, op, right) {
+        Some(join) => Some((join.op, numbers[join.first as usize - 1])),
         None => None,
     }
 }
@@ -212,18 +216,18 @@ fn joins_by_left(alloc: Global, store: &CsgStore) -> Result<Vec<u32>, NoMemory>
 }
 
 /// The hash of a node that is a join, behind its front.
-fn begun_made(store: &CsgStore, number: u32) -> Option<Sha256>
+fn front_made(store: &CsgStore, number: u32) -> Option<Sha256>
     requires { IsNumberIn store.now number }
-    ensures { MayBeBegun (tree_numbered store.now number) result }
+    ensures { HoldsFrontIfThere (tree_numbered store.now number) result }
 {
     match store.node(number) {
         CsgNode::Leaf(_) => None,
-        CsgNode::Join(op, left, right) => Some(begin(store, op, left, right)),
+        CsgNode::Join(op, left, right) => Some(hash_of_front(store, op, left, right)),
     }
 }
 
 /// The same, taken from an earlier store where that has the join, or one with the same front.
-fn begun_over(
+fn front_over(
     store: &CsgStore,
     number: u32,
     earlier: &NamedStore,
@@ -233,19 +237,19 @@ fn begun_over(
     requires number { IsNumberIn store.now number }
     requires numbers { AreAllNumbersIn earlier.now store.now numbers.now }
     requires joins { (length joins.now ≡ length earlier.now) × All (λ n. n ≤ length earlier.now) joins.now }
-    ensures { IfOk result (MayBeBegun (tree_numbered store.now number)) }
+    ensures { IfOk result (HoldsFrontIfThere (tree_numbered store.now number)) }
 {
     if let Some(known) = numbers[number as usize - 1] {
-        return earlier.begun(known);
+        return earlier.front(known);
     }
     match store.node(number) {
         CsgNode::Leaf(_) => Ok(None),
         CsgNode::Join(op, left, right) => {
-            let middle = middle_in(store, op, right, numbers);
-            let kept = earlier.begun_with(joins, op, numbers[left as usize - 1], middle)?;
+            let second_front = second_front_in(store, op, right, numbers);
+            let kept = earlier.front_with(joins, op, numbers[left as usize - 1], second_front)?;
             match kept {
                 Some(hasher) => Ok(Some(hasher)),
-                None => Ok(Some(begin(store, op, left, right))),
+                None => Ok(Some(hash_of_front(store, op, left, right))),
             }
         }
     }
@@ -257,34 +261,36 @@ fn name_over(
     number: u32,
     earlier: &NamedStore,
     found: Option<u32>,
-    begun: &Option<Sha256>,
+    front: &Option<Sha256>,
 ) -> Result<Option<[u8; 32]>, NoMemory>
     requires number { IsNumberIn store.now number }
     requires found { IsNumberOf earlier.now (tree_numbered store.now number) found }
-    requires begun { MayBeBegun (tree_numbered store.now number) begun.now }
+    requires front { HoldsFrontIfThere (tree_numbered store.now number) front.now }
     ensures { IfOk result (λ name. name ≡ name_of_join (tree_numbered store.now number)) }
 {
     let name = match found {
         Some(known) => earlier.name(known),
-        None => name_made(store, number, begun)?,
+        None => name_made(store, number, front)?,
     };
     Ok(name)
 }
 
-/// The name of a node that is a join, made of the bytes of its tree, from where its hash was begun.
+/// The name of a node that is a join, made of the bytes of its tree, from where its front left the hash.
 #[tactic(auto, using(crate::proofs::Fronts::front_and_end))]
 fn name_made(
     store: &CsgStore,
     number: u32,
-    begun: &Option<Sha256>,
+    front: &Option<Sha256>,
 ) -> Result<Option<[u8; 32]>, NoMemory>
     requires number { IsNumberIn store.now number }
-    requires begun { MayBeBegun (tree_numbered store.now number) begun.now }
+    requires front { HoldsFrontIfThere (tree_numbered store.now number) front.now }
     ensures { IfOk result (λ name. name ≡ name_of_join (tree_numbered store.now number)) }
 {
-    match (store.node(number), begun) {
+    match (store.node(number), front) {
         (CsgNode::Leaf(_), _) => Ok(None),
-        (CsgNode::Join(op, _, right), Some(hasher)) => { Ok(Some(end(hasher, store, op, right)?)) }
+        (CsgNode::Join(op, _, right), Some(hasher)) => {
+            Ok(Some(name_from_front(hasher, store, op, right)?))
+        }
         (CsgNode::Join(_, _, _), None) => Ok(Some(name_of_node(store, number))),
     }
 }

@@ -24,7 +24,7 @@ pub fn put_corners(corners: &mut Vec<Vertex>, polygon: &Polygon, unit: Unit) -> 
     Ok(())
 }
 
-/// Adds the corners of a plane and edges that meet what a polygon keeps to none.
+/// Adds to an empty list the corners of a plane and edges that meet what a polygon keeps.
 fn push_meetings(
     corners: &mut Vec<Vertex>,
     plane: &Plane,

@@ -99,7 +99,7 @@ impl Polygon {
         &self.edges
     }
 
-    /// The same, given away. Takes no memory.
+    /// Its edge planes in order, given away. Takes no memory.
     pub fn into_edges(self) -> Vec<Plane>
         ensures { result.items ≡ self.edges }
     {

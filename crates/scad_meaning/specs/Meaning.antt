@@ -94,7 +94,7 @@ joined_members op ms = record { leaves = ms.leaves; design = grouped op ms.desig
 abbrev pub moved_design : (Design → Design) → InstanceDesign → InstanceDesign
 moved_design move m = record { leaves = m.leaves; design = move m.design; marked = m.marked }
 
--- how an instance is evaluated: where it stands, the turns and the leaves so far
+-- how an instance is evaluated: by where it stands, the instance, and the turns and the leaves so far
 abbrev pub EvaluatesInstance : Type 0
 EvaluatesInstance = Context → InstanceTerm → ℕ → ℕ → Outcome InstanceDesign
 
@@ -344,10 +344,12 @@ design_within unit judge zero here i turns leaves = Faults TooDeep (place_of_ins
 design_within unit judge (suc evaluations) here i turns leaves =
     instance_design (record { unit = unit; judge = judge; evaluations = evaluations; deeper = design_within unit judge evaluations }) here i turns leaves
 
+-- the evaluator with so many evaluations in one another left
 abbrev pub evaluator_with : LengthUnit → Judge → ℕ → Evaluator
 evaluator_with unit judge evaluations =
     record { unit = unit; judge = judge; evaluations = evaluations; deeper = design_within unit judge evaluations }
 
+-- the design of a program, where 512 evaluations in one another are left
 unfoldable pub design_of : LengthUnit → Judge → Pairs Val → StatementTerms → Outcome Design
 design_of unit judge chain statements =
     then_with (each_in_scope (evaluator_with unit judge 512) (program_context chain statements) statements 0 0) (λ turns ms.

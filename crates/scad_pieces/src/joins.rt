@@ -51,7 +51,7 @@ pub fn set_apart(made: InstanceResult) -> InstanceResult
     }
 }
 
-/// MemberDesigns joined by an operation.
+/// Members joined by an operation.
 pub fn joined(alloc: Global, op: Op, members: MemberResults) -> Result<InstanceResult, NoMemory>
     ensures { IfOk result (λ made. (leaves : ℕ) → instance_design_of leaves made ≡ joined_members op (member_designs_of leaves members)) }
 {
@@ -60,7 +60,7 @@ pub fn joined(alloc: Global, op: Op, members: MemberResults) -> Result<InstanceR
     Ok(InstanceResult { design, marked })
 }
 
-/// MemberDesigns with what one more instance gives. Where it is no member, its design is dropped.
+/// Members with what one more instance gives. Where it is no member, its design is dropped.
 pub fn with_made(
     members: MemberResults,
     is_member: bool,
@@ -79,7 +79,7 @@ pub fn with_made(
     })
 }
 
-/// MemberDesigns with those behind them.
+/// Members with those behind them.
 pub fn with_members(
     members: MemberResults,
     next: Result<MemberResults, Stop>,

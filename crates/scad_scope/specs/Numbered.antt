@@ -27,7 +27,7 @@ pub record StaysBelow (count_of_functions count_of_modules : ℕ) (before after 
   pub functions : IsTrue (functions_below count_of_functions before) → IsTrue (functions_below count_of_functions after)
   pub modules : IsTrue (modules_below count_of_modules before) → IsTrue (modules_below count_of_modules after)
 
--- so it is for any number
+-- numbers of functions and of modules that were below any count still are
 pub record StaysNumbered (before after : List Row) : Type 0 where
   pub functions : (n : ℕ) → IsTrue (functions_below n before) → IsTrue (functions_below n after)
   pub modules : (n : ℕ) → IsTrue (modules_below n before) → IsTrue (modules_below n after)
