@@ -1,17 +1,15 @@
 -- Evaluations, calls and special arguments that begin, and what stays until they end.
-use Rattle.std.proofs.Common.{◌≡◌, ℕ, ◌+◌, ◌-◌, ◌<◌, ◌++◌, length, sym, ap, subst, ◌∙◌}
+use Rattle.std.proofs.Common.{◌≡◌, ℕ, ◌+◌, ◌-◌, ◌++◌, ap, ◌∙◌}
 use Rattle.scad_value.specs.Values.{Val}
 use Rattle.scad_scope.specs.Names.{Pairs}
 use Rattle.scad_scope.specs.Table.{rows_of, chain_of}
-use Rattle.scad_func.specs.View.{text_of}
-use Rattle.scad_func.specs.Definitions.{IsWhole}
 use Rattle.scad_func.specs.Evaluations.{CallBegins, EvaluationBegins, SpecialsBegin}
 use Rattle.scad_func.specs.declared.source.Source.{Source}
 use Rattle.scad_pieces.specs.declared.position.Position.{Position}
 use Rattle.scad_eval.specs.declared.evaluator.InstanceEvaluator.{InstanceEvaluator}
 use Rattle.scad_meaning.specs.Meaning.{with_calls_left, with_chain}
-use Rattle.scad_eval.specs.Keeping.{evaluations_left, context_at, IsPosition}
-use Rattle.scad_eval.proofs.Contexts.{context_by, context_from, checked_still}
+use Rattle.scad_eval.specs.Keeping.{evaluations_left, context_at}
+use Rattle.scad_eval.proofs.Contexts.{context_by, context_from}
 
 -- one evaluation deeper
 pub deeper_context : (old new : InstanceEvaluator) (s : Position) → EvaluationBegins old.evaluation new.evaluation → context_at new s ≡ context_at old s
@@ -19,13 +17,6 @@ deeper_context old new s b = context_from old new s b.calls b.source b.rows b.ch
 
 pub deeper_evaluations : (old new : InstanceEvaluator) → EvaluationBegins old.evaluation new.evaluation → evaluations_left new ≡ 512 - (old.evaluation.depth + 1)
 deeper_evaluations old new b = ap (λ n. 512 - n) b.depth
-
-pub deeper_position : (old new : InstanceEvaluator) (s : Position) → new.unit ≡ old.unit → EvaluationBegins old.evaluation new.evaluation → IsPosition old s → IsPosition new s
-deeper_position old new s u b h = record {
-  whole = subst (λ (x : Source). IsWhole (text_of x)) (sym b.source) h.whole;
-  scope = subst (λ rows. s.scope < length rows) (sym b.rows) h.scope;
-  inside = checked_still old.unit new.unit s.inside u h.inside;
-}
 
 -- one call deeper
 pub call_context : (old new : InstanceEvaluator) (s : Position) → CallBegins old.evaluation new.evaluation

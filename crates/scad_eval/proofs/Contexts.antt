@@ -8,6 +8,7 @@ use Rattle.scad_scope.specs.Table.{rows_of, chain_of}
 use Rattle.scad_func.specs.Meaning.{Env}
 use Rattle.scad_func.specs.View.{seen}
 use Rattle.scad_func.specs.Evaluations.{Keeps}
+use Rattle.scad_func.specs.declared.evaluation.Evaluation.{Evaluation}
 use Rattle.scad_func.specs.declared.source.Source.{Source}
 use Rattle.scad_meaning.specs.declared.extrusion.Extrusion.{Extrusion}
 use Rattle.scad_pieces.specs.declared.position.Position.{Position}
@@ -45,6 +46,18 @@ same_evaluations old new k = ap (λ n. 512 - n) k.depth
 
 pub stays_same : (m : InstanceEvaluator) → Stays m m
 stays_same m = record { unit = refl; source = refl; lent = refl; rows = refl; chain = refl; calls = refl; depth = refl }
+
+-- two evaluators of one evaluation
+pub stays_alike : (a b : InstanceEvaluator) → b.unit ≡ a.unit → b.evaluation ≡ a.evaluation → Stays a b
+stays_alike a b u e = record {
+  unit = u;
+  source = ap (λ (x : Evaluation). x.source.now) e;
+  lent = ap (λ (x : Evaluation). x.scopes.ghost_name) e;
+  rows = ap (λ (x : Evaluation). rows_of x.scopes.now) e;
+  chain = ap (λ (x : Evaluation). chain_of x.scopes.now) e;
+  calls = ap (λ (x : Evaluation). x.calls) e;
+  depth = ap (λ (x : Evaluation). x.depth) e;
+}
 
 pub stays_then : {a b c : InstanceEvaluator} → Stays a b → Stays b c → Stays a c
 stays_then f g = record {
@@ -106,6 +119,7 @@ assigns_then {a = a} {b = b} {c = c} f g = record {
   unit = g.unit ∙ f.unit;
   source = g.source ∙ f.source;
   lent = g.lent ∙ f.lent;
+  leaves = g.leaves ∙ f.leaves;
   front = g.front ∙ f.front;
   there = g.there ∙ f.there;
   newer = g.newer ++ f.newer;

@@ -29,6 +29,10 @@ pub call_counted : {A : Type 0} (calls : ℕ) (at : Place) (go : ℕ → Outcome
 call_counted calls at go h =
     let k : 64 - calls ≡ suc (64 - (calls + 1)) = omega arith in ap (λ n. one_call_fewer n at go) k
 
+pub call_too_deep : {A : Type 0} (calls : ℕ) (at : Place) (go : ℕ → Outcome A) → calls ≡ 64 → one_call_fewer (64 - calls) at go ≡ Faults TooDeep at
+call_too_deep calls at go h =
+    let k : 64 - calls ≡ zero = omega arith in ap (λ n. one_call_fewer n at go) k
+
 below : (n m : ℕ) → n < m → nat_lt n m ≡ true
 below n m h = grind (arith, nat_tests)
 

@@ -1,6 +1,6 @@
 -- What is told from where a step began, of steps that stand elsewhere: in a scope that was entered, one evaluation or call
 -- deeper, or with special arguments on the chain.
-use Rattle.std.proofs.Common.{◌≡◌, ℕ, ◌+◌, ◌-◌, Bool, true, false, List, ◌++◌, Option, Some, is_some, Result, Ok, Err, refl, sym, ap, subst, ◌∙◌}
+use Rattle.std.proofs.Common.{◌≡◌, ℕ, ◌+◌, ◌-◌, Bool, true, false, List, ◌++◌, Option, Some, is_some, codes, Result, Ok, Err, refl, sym, ap, subst, ◌∙◌}
 use Rattle.std.specs.Prelude.{OnOk}
 use Rattle.text_place.specs.declared.fault.Stop.{Stop}
 use Rattle.text_place.specs.declared.fault.Stop.TheVariants.{Fault, NoMemory}
@@ -8,20 +8,22 @@ use Rattle.text_place.specs.declared.fault.FaultKind.{FaultKind}
 use Rattle.text_place.specs.declared.fault.Place.{Place}
 use Rattle.csg_tree.specs.declared.op.Op.{Op}
 use Rattle.csg_tree.specs.declared.op.Op.TheVariants.{Union}
-use Rattle.plane_predicate.specs.declared.unit.Unit.{Unit as LengthUnit}
-use Rattle.scad_ast.specs.Terms.{StatementTerms, InstanceTerm}
+use Rattle.scad_ast.specs.Terms.{StatementTerms, InstanceTerm, BodyTerm}
 use Rattle.scad_value.specs.Values.{Val}
-use Rattle.scad_scope.specs.Names.{Pairs, Row}
+use Rattle.scad_scope.specs.Names.{Pairs, Row, find_in}
 use Rattle.scad_scope.specs.Table.{rows_of, chain_of}
 use Rattle.scad_scope.specs.Blocks.{assignments_of}
-use Rattle.scad_func.specs.Meaning.{Outcome, Gives, Faults, Env, Opened, opened, no_call, entered_scope, then_with, evaluated}
+use Rattle.scad_func.specs.Meaning.{Outcome, Gives, Faults, Arguments, Slots, Env, Opened, opened, no_call, call_in, entered_scope, then_with, evaluated}
 use Rattle.scad_scope.specs.ArgumentsView.{IsFault}
 use Rattle.scad_func.specs.View.{seen, text_of}
 use Rattle.scad_func.specs.Definitions.{IsWhole, statements_at, block_scope}
 use Rattle.scad_func.specs.Evaluations.{CallBegins, EvaluationBegins, SpecialsBegin}
 use Rattle.scad_func.specs.Evaluations as there
 use Rattle.scad_func.specs.declared.source.Source.{Source}
-use Rattle.scad_modules.specs.Effects.{ChosenCall}
+use Rattle.scad_value.specs.Operators.{Answer}
+use Rattle.scad_modules.specs.Effects.{ChosenCall, EffectCall}
+use Rattle.scad_modules.specs.Calls.{effect_of}
+use Rattle.scad_modules.specs.declared.table.BuiltinModule.{BuiltinModule}
 use Rattle.scad_pieces.specs.declared.position.Position.{Position}
 use Rattle.scad_pieces.specs.declared.position.InstanceResult.{InstanceResult}
 use Rattle.scad_pieces.specs.declared.position.MemberResults.{MemberResults}
@@ -29,14 +31,15 @@ use Rattle.scad_eval.specs.declared.evaluator.InstanceEvaluator.{InstanceEvaluat
 use Rattle.scad_meaning.specs.Verdicts.{Judge, IsRight}
 use Rattle.scad_meaning.specs.Bodies.{children_in, is_marked}
 use Rattle.scad_meaning.specs.Loops.{chosen_among}
-use Rattle.scad_meaning.specs.Meaning.{Context, InstanceDesign, MemberDesigns, Evaluator, inside_scope, with_chain, with_calls_left, inside_mark, setting, evaluator_with, design_within, instance_design, core_design, core_of, joined_members, each_assigned, each_member, children_design, no_members, and_members}
+use Rattle.scad_meaning.specs.Meaning.{Context, InstanceDesign, MemberDesigns, Evaluator, inside_scope, with_chain, with_calls_left, inside_mark, setting, evaluator_with, design_within, instance_design, core_design, core_of, joined_members, each_assigned, each_member, children_design, effect_design, answered_with, no_members, and_members}
 use Rattle.scad_pieces.specs.Seen.{AgreesWith, HasOutcome, instance_design_of, member_designs_of, one_member_of, apart, IsLengthened, in_front}
-use Rattle.scad_eval.specs.Keeping.{evaluations_left, evaluator_at, context_at, Stays, Enters, Equation, Meets}
-use Rattle.scad_eval.specs.Steps.{block_members}
+use Rattle.scad_pieces.specs.Calls.{TellsEffectAt, instances_chosen}
+use Rattle.scad_eval.specs.Keeping.{evaluations_left, evaluator_at, env_at, context_at, Stays, Enters, Assigns, Equation, Meets}
+use Rattle.scad_eval.specs.Steps.{block_members, chosen_children, built_in_given}
 use Rattle.scad_eval.proofs.Outcomes.{along, then_outcome, then_then, front_of_none, no_memory}
 use Rattle.scad_eval.proofs.Contexts.{meets_at, same_context, entered_context}
 use Rattle.scad_eval.proofs.Beginning.{deeper_context, deeper_evaluations, call_context, call_evaluations, specials_context, specials_evaluations}
-use Rattle.scad_eval.proofs.Counting.{design_deeper}
+use Rattle.scad_eval.proofs.Counting.{design_deeper, call_counted}
 
 -- a fault that stands at a place
 pub refused_outcome : {A B : Type 0} {see : ℕ → A → B} (stop : Stop) (m l : ℕ) (kind : FaultKind) (at : Place) → IsFault stop kind at
@@ -148,6 +151,78 @@ specials_meets equation old begun mid new s count specials unit leaves b chain k
     (sym (same ∙ leaves)))
     (meets_at old.unit l here (k.unit ∙ unit) (ap (λ n. 512 - n) k.depth ∙ specials_evaluations old begun count b)
     (same_context begun mid s k ∙ specials_context old begun s count specials b chain) h judge right)
+
+-- the chosen children of the enclosing call, one call deeper
+pub children_meets : {r : Result InstanceResult Stop} (old mid new : InstanceEvaluator) (s : Position) (at : Place) (chosen : ChosenCall)
+    → mid.unit ≡ old.unit → mid.leaves ≡ old.leaves → mid.evaluation.turns ≡ old.evaluation.turns → CallBegins old.evaluation mid.evaluation
+    → Meets instance_design_of mid new s r (λ evaluator here. children_design evaluator here (call_in here.env) chosen) → (judge : Judge) → IsRight judge
+    → HasOutcome instance_design_of r new.evaluation.turns new.leaves
+    (chosen_children (evaluator_at old judge) at chosen (context_at old s) old.evaluation.turns old.leaves)
+children_meets old mid new s at chosen unit leaves turns b h judge right =
+    let evaluator = evaluator_at old judge in
+    let here = context_at old s in
+    let go : ℕ → ℕ → Outcome InstanceDesign = λ calls turns. children_design evaluator (with_calls_left here calls) (call_in here.env) chosen turns old.leaves in
+    along (call_counted old.evaluation.calls at (λ calls. go calls old.evaluation.turns) b.within
+    ∙ ap (go (64 - (old.evaluation.calls + 1))) (sym turns))
+    (call_meets (λ (x : Source) (rows : List Row) evaluator here. children_design evaluator here (call_in here.env) chosen)
+    old mid new s unit leaves b h judge right)
+
+-- a built-in module, by what its call does
+effect_refused : {B : Type 0} (stop : Stop) (at : Place) (answer : Answer EffectCall) (go : EffectCall → Outcome B) (m l : ℕ) {A : Type 0} {see : ℕ → A → B}
+    → TellsEffectAt (Err stop) at answer → HasOutcome see (Err stop) m l (answered_with answer at go)
+effect_refused (Fault fault) at answer go m l h =
+    record { is = ap (λ (a : Answer EffectCall). answered_with a at go) h.0 ∙ ap (λ (p : Place). Faults fault.kind p) (sym h.1) }
+effect_refused NoMemory at answer go m l h = record { is = tt }
+
+module _ (old begun : InstanceEvaluator) (s : Position) (at : Place) (m : BuiltinModule) (given : Arguments) (body : BodyTerm) (slots : Slots)
+    (chain : chain_of begun.evaluation.scopes.now ≡ given.specials ++ chain_of old.evaluation.scopes.now) (same : given.slots ≡ slots) where
+  abbrev answer_of : Pairs Val → Slots → Answer EffectCall
+  answer_of specials slots = effect_of old.unit (is_some s.inside) (find_in specials (codes "fn")) m slots
+
+  abbrev with_effect : Judge → ℕ → EffectCall → Outcome InstanceDesign
+  with_effect judge turns effect =
+      effect_design (evaluator_at old judge) (with_chain (context_at old s) (given.specials ++ chain_of old.evaluation.scopes.now)) at effect body turns old.leaves
+
+  answered : (judge : Judge) → built_in_given (evaluator_at old judge) at m given body (context_at old s) old.evaluation.turns old.leaves
+      ≡ answered_with (answer_of (chain_of begun.evaluation.scopes.now) slots) at (with_effect judge old.evaluation.turns)
+  answered judge =
+      ap (λ (c : Pairs Val). answered_with (answer_of c given.slots) at (with_effect judge old.evaluation.turns)) (sym chain)
+      ∙ ap (λ (filled : Slots). answered_with (answer_of (chain_of begun.evaluation.scopes.now) filled) at (with_effect judge old.evaluation.turns)) same
+
+  pub built_in_refused : (stop : Stop) (n l : ℕ) → TellsEffectAt (Err stop) at (answer_of (chain_of begun.evaluation.scopes.now) slots) → (judge : Judge)
+      → HasOutcome instance_design_of (Err stop) n l (built_in_given (evaluator_at old judge) at m given body (context_at old s) old.evaluation.turns old.leaves)
+  built_in_refused stop n l h judge =
+      along (answered judge) (effect_refused stop at (answer_of (chain_of begun.evaluation.scopes.now) slots) (with_effect judge old.evaluation.turns) n l h)
+
+  pub built_in_meets : {r : Result InstanceResult Stop} (mid new : InstanceEvaluator) (count : ℕ) (effect : EffectCall)
+      → begun.unit ≡ old.unit → begun.leaves ≡ old.leaves → mid.evaluation.turns ≡ old.evaluation.turns → SpecialsBegin old.evaluation begun.evaluation count
+      → Stays begun mid → mid.leaves ≡ begun.leaves → answer_of (chain_of begun.evaluation.scopes.now) slots ≡ Ok effect
+      → Meets instance_design_of mid new s r (λ evaluator here. effect_design evaluator here at effect body) → (judge : Judge) → IsRight judge
+      → HasOutcome instance_design_of r new.evaluation.turns new.leaves
+      (built_in_given (evaluator_at old judge) at m given body (context_at old s) old.evaluation.turns old.leaves)
+  built_in_meets mid new count effect unit leaves turns b k same_leaves is h judge right =
+      along (answered judge ∙ ap (λ (a : Answer EffectCall). answered_with a at (with_effect judge old.evaluation.turns)) is
+      ∙ ap (λ n. with_effect judge n effect) (sym turns))
+      (specials_meets (λ (x : Source) (rows : List Row) evaluator here. effect_design evaluator here at effect body)
+      old begun mid new s count given.specials unit leaves b chain k same_leaves h judge right)
+
+-- a block: its assignments, then its instances
+pub block_meets : {A : Type 0} {x : A} {r : Result MemberResults Stop} (old mid new : InstanceEvaluator) (s : Position) (block scope : ℕ) (chosen : Option ChosenCall)
+    (is : List InstanceTerm) → Assigns old mid scope
+    → HasOutcome (λ leaves x. context_at mid s) (Ok x) mid.evaluation.turns mid.leaves
+    (each_assigned (evaluations_left old) (context_at old s) (assignments_of (statements_at (text_of old.evaluation.source.now) block)) old.evaluation.turns)
+    → is ≡ instances_chosen (env_at mid s.scope) chosen (statements_at (text_of mid.evaluation.source.now) block)
+    → Meets member_designs_of mid new s r (λ evaluator here. each_member evaluator here is) → (judge : Judge) → IsRight judge
+    → HasOutcome member_designs_of r new.evaluation.turns new.leaves
+    (block_members (evaluator_at old judge) chosen (statements_at (text_of old.evaluation.source.now) block) (context_at old s) old.evaluation.turns old.leaves)
+block_meets old mid new s block scope chosen is a told same h judge right =
+    let evaluator = evaluator_at old judge in
+    let there = context_at mid s in
+    then_outcome (λ turns there. each_member evaluator there (instances_chosen there.env chosen (statements_at (text_of old.evaluation.source.now) block)) turns old.leaves) told
+    (along (ap (λ n. each_member evaluator there (instances_chosen there.env chosen (statements_at (text_of old.evaluation.source.now) block)) mid.evaluation.turns n) (sym a.leaves)
+    ∙ ap (λ (x : Source). each_member evaluator there (instances_chosen there.env chosen (statements_at (text_of x) block)) mid.evaluation.turns mid.leaves) (sym a.source)
+    ∙ ap (λ (xs : List InstanceTerm). each_member evaluator there xs mid.evaluation.turns mid.leaves) (sym same))
+    (meets_at old.unit (evaluations_left old) there a.unit (ap (λ n. 512 - n) a.depth) refl h judge right))
 
 -- where an expression stands with special arguments on the chain
 pub specials_setting : (old begun : InstanceEvaluator) (s : Position) (scope count : ℕ) (specials : Pairs Val) → SpecialsBegin old.evaluation begun.evaluation count

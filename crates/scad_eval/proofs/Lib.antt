@@ -5,6 +5,7 @@ mod Membership
 mod Outcomes
 mod Contexts
 mod Beginning
+mod Standing
 mod Equations
 mod Binding
 mod ModuleScopes

@@ -3,11 +3,14 @@ use Rattle.std.proofs.Common.{◌≡◌, ℕ, List, ◌++◌, Option, Some, None
 use Rattle.text_place.specs.declared.fault.Stop.{Stop}
 use Rattle.text_place.specs.declared.fault.Stop.TheVariants.{Fault, NoMemory}
 use Rattle.scad_value.specs.declared.value.Value.{Value}
-use Rattle.scad_value.specs.Values.{Val}
-use Rattle.scad_value.specs.View.{val_of}
+use Rattle.std.specs.declared.vec.Vec.{Vec}
+use Rattle.std.specs.declared.alloc.Global.{Global}
+use Rattle.scad_value.specs.Values.{Val, Vals, vals_from}
+use Rattle.scad_value.specs.View.{val_of, vals_in}
 use Rattle.scad_design.specs.Designs.{Design}
-use Rattle.scad_func.specs.Meaning.{Outcome, Gives, Faults, then_with}
-use Rattle.scad_func.specs.View.{Tells}
+use Rattle.scad_func.specs.Meaning.{Outcome, Gives, Faults, then_with, Arguments}
+use Rattle.scad_func.specs.View.{Tells, TellsAll, TellsArguments, IsNoMemory, arguments_of}
+use Rattle.scad_scope.specs.declared.parameters.GivenArguments.{GivenArguments}
 use Rattle.scad_pieces.specs.declared.position.MemberResults.{MemberResults}
 use Rattle.scad_meaning.specs.Meaning.{MemberDesigns, no_members, and_members, first_marked}
 use Rattle.scad_pieces.specs.Seen.{AgreesWith, HasOutcome, member_designs_of, IsLengthened, in_front}
@@ -39,6 +42,10 @@ pub no_memory : {A B : Type 0} {see : ℕ → A → B} {stop : Stop} {m l : ℕ}
     → stop ≡ NoMemory → HasOutcome see (Err stop) m l out
 no_memory {see = see} {m = m} {l = l} {out = out} e = subst (λ (s : Stop). HasOutcome see (Err s) m l out) (sym e) (record { is = tt })
 
+pub only_no_memory : {A B : Type 0} {see : ℕ → A → B} {m l : ℕ} {out : Outcome B} (stop : Stop) → IsNoMemory stop → HasOutcome see (Err stop) m l out
+only_no_memory (Fault fault) h = absurd h
+only_no_memory NoMemory h = record { is = tt }
+
 -- what an expression tells
 value_agrees : (r : Result Value Stop) (turns leaves : ℕ) (out : Outcome Val) → Tells r turns out → AgreesWith (λ leaves. val_of) r turns leaves out
 value_agrees (Ok v) turns leaves out h = h.0
@@ -47,6 +54,28 @@ value_agrees (Err NoMemory) turns leaves out h = tt
 
 pub value_outcome : (r : Result Value Stop) (turns leaves : ℕ) (out : Outcome Val) → Tells r turns out → HasOutcome (λ leaves. val_of) r turns leaves out
 value_outcome r turns leaves out h = record { is = value_agrees r turns leaves out h }
+
+-- what the arguments of a call tell
+arguments_agree : (r : Result (GivenArguments Value) Stop) (turns leaves : ℕ) (out : Outcome Arguments) → TellsArguments r turns out
+    → AgreesWith (λ leaves. arguments_of) r turns leaves out
+arguments_agree (Ok given) turns leaves out h = h.0
+arguments_agree (Err (Fault fault)) turns leaves out h = h
+arguments_agree (Err NoMemory) turns leaves out h = tt
+
+pub arguments_outcome : (r : Result (GivenArguments Value) Stop) (turns leaves : ℕ) (out : Outcome Arguments) → TellsArguments r turns out
+    → HasOutcome (λ leaves. arguments_of) r turns leaves out
+arguments_outcome r turns leaves out h = record { is = arguments_agree r turns leaves out h }
+
+-- what the values of parameters tell
+values_agree : (r : Result (Vec Value Global) Stop) (turns leaves : ℕ) (out : Outcome Vals) → TellsAll r turns out
+    → AgreesWith (λ leaves vs. vals_from (vals_in vs.items)) r turns leaves out
+values_agree (Ok vs) turns leaves out h = h.0
+values_agree (Err (Fault fault)) turns leaves out h = h
+values_agree (Err NoMemory) turns leaves out h = tt
+
+pub values_outcome : (r : Result (Vec Value Global) Stop) (turns leaves : ℕ) (out : Outcome Vals) → TellsAll r turns out
+    → HasOutcome (λ leaves vs. vals_from (vals_in vs.items)) r turns leaves out
+values_outcome r turns leaves out h = record { is = values_agree r turns leaves out h }
 
 -- one step behind another
 pub then_then : {A B C : Type 0} (out : Outcome A) (f : ℕ → A → Outcome B) (g : ℕ → B → Outcome C)

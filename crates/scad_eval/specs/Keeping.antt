@@ -1,5 +1,5 @@
 -- Where the evaluation of instances stands, and what its steps keep.
-use Rattle.std.specs.Prelude.{◌≡◌, ℕ, ◌-◌, ◌<◌, [], ◌∷◌, ◌++◌, take, Option, Some, None, Result, Err}
+use Rattle.std.specs.Prelude.{◌≡◌, ℕ, ◌+◌, ◌-◌, ◌<◌, [], ◌∷◌, ◌++◌, take, Option, Some, None, Result, Err}
 use Rattle.text_place.specs.declared.fault.Stop.{Stop}
 use Rattle.text_place.specs.declared.fault.Place.{Place}
 use Rattle.plane_predicate.specs.declared.unit.Unit.{Unit as LengthUnit}
@@ -7,10 +7,10 @@ use Rattle.primitives.specs.Sizes.{AreSizes, IsSafe}
 use Rattle.scad_value.specs.Values.{Val}
 use Rattle.scad_scope.specs.Names.{Pairs}
 use Rattle.scad_scope.specs.Table.{rows_of, chain_of}
-use Rattle.scad_func.specs.Meaning.{Outcome, one_call_fewer, turn}
+use Rattle.scad_func.specs.Meaning.{Outcome, Env, one_call_fewer, turn}
 use Rattle.scad_func.specs.View.{seen, text_of}
 use Rattle.scad_func.specs.Definitions.{IsWhole}
-use Rattle.scad_func.specs.Evaluations.{scopes_there, ScopeEnters}
+use Rattle.scad_func.specs.Evaluations.{scopes_there, CallBegins, ScopeEnters}
 use Rattle.scad_func.specs.declared.evaluation.Evaluation.{Evaluation}
 use Rattle.scad_meaning.specs.declared.extrusion.Extrusion.{Extrusion}
 use Rattle.scad_pieces.specs.declared.position.Position.{Position}
@@ -27,11 +27,15 @@ evaluations_left m = 512 - m.evaluation.depth
 abbrev pub evaluator_at : InstanceEvaluator → Judge → Evaluator
 evaluator_at m judge = evaluator_with m.unit judge (evaluations_left m)
 
+-- a scope with what its numbers stand for
+abbrev pub env_at : InstanceEvaluator → ℕ → Env
+env_at m scope = seen m.evaluation.source.now (rows_of m.evaluation.scopes.now) scope
+
 -- the context of an instance
 abbrev pub context_at : InstanceEvaluator → Position → Context
 context_at m s = record {
   calls = 64 - m.evaluation.calls;
-  env = seen m.evaluation.source.now (rows_of m.evaluation.scopes.now) s.scope;
+  env = env_at m s.scope;
   chain = chain_of m.evaluation.scopes.now;
   inside = s.inside;
   under_mark = s.under_mark;
@@ -62,6 +66,14 @@ pub record Stays (old new : InstanceEvaluator) : Type 0 where
   pub calls : new.evaluation.calls ≡ old.evaluation.calls
   pub depth : new.evaluation.depth ≡ old.evaluation.depth
 
+-- one call deeper, and one turn more: all else is as before
+pub record CountsCall (old new : InstanceEvaluator) : Type 0 where
+  pub unit : new.unit ≡ old.unit
+  pub leaves : new.leaves ≡ old.leaves
+  pub begun : CallBegins old.evaluation new.evaluation
+  pub few : old.evaluation.turns < 100000
+  pub turns : new.evaluation.turns ≡ old.evaluation.turns + 1
+
 -- one scope more, which is the newest: all else but the turns is as before
 pub record Enters (old new : InstanceEvaluator) (scope : ℕ) : Type 0 where
   pub unit : new.unit ≡ old.unit
@@ -79,9 +91,10 @@ pub record Binds (old new : InstanceEvaluator) (scope : ℕ) : Type 0 where
   pub calls : new.evaluation.calls ≡ old.evaluation.calls
   pub depth : new.evaluation.depth ≡ old.evaluation.depth
 
--- the newest scope and the chain have more variables: all else but the turns and the leaves is as before
+-- the newest scope and the chain have more variables: all else but the turns is as before
 pub record Assigns (old new : InstanceEvaluator) (scope : ℕ) : Type 0 where
   pub unit : new.unit ≡ old.unit
+  pub leaves : new.leaves ≡ old.leaves
   pub source : new.evaluation.source.now ≡ old.evaluation.source.now
   pub lent : new.evaluation.scopes.ghost_name ≡ old.evaluation.scopes.ghost_name
   pub front : take scope (rows_of new.evaluation.scopes.now) ≡ take scope (rows_of old.evaluation.scopes.now)

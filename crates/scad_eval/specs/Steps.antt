@@ -6,12 +6,12 @@ use Rattle.scad_ast.specs.Terms.{BinderTerm, StatementTerms, BodyTerm}
 use Rattle.scad_value.specs.Values.{Val, Vals}
 use Rattle.scad_scope.specs.Names.{find_in}
 use Rattle.scad_scope.specs.Blocks.{Module, assignments_of, statements_of_body}
-use Rattle.scad_func.specs.Meaning.{Outcome, Gives, then_with, Env, Arguments, each_parameter}
+use Rattle.scad_func.specs.Meaning.{Outcome, Gives, then_with, call_in, one_call_fewer, Env, Arguments, each_parameter}
 use Rattle.scad_modules.specs.declared.table.BuiltinModule.{BuiltinModule}
 use Rattle.scad_modules.specs.Effects.{ChosenCall}
 use Rattle.scad_modules.specs.Calls.{effect_of}
 use Rattle.scad_pieces.specs.Calls.{instances_chosen}
-use Rattle.scad_meaning.specs.Meaning.{Context, inside_scope, with_chain, setting, InstanceDesign, MemberDesigns, Evaluator, joined_members, each_assigned, each_member, each_in_scope, each_turn, in_loop, after_step, module_scope, answered_with, effect_design}
+use Rattle.scad_meaning.specs.Meaning.{Context, inside_scope, with_chain, with_calls_left, setting, InstanceDesign, MemberDesigns, Evaluator, joined_members, each_assigned, each_member, each_in_scope, each_turn, in_loop, after_step, module_scope, answered_with, children_design, effect_design}
 
 -- a block in its scope: its assignments, then these instances
 abbrev pub block_members : Evaluator → Option ChosenCall → StatementTerms → Context → ℕ → ℕ → Outcome MemberDesigns
@@ -36,6 +36,11 @@ module_given evaluator found given body here turns leaves =
     let there = with_chain here (given.specials ++ here.chain) in
     then_with (each_parameter (setting evaluator.evaluations (inside_scope there found.1)) found.0.params given.slots turns) (λ turns vs.
     module_filled evaluator found vs body there turns leaves)
+
+-- the chosen children of the enclosing call, one call deeper
+abbrev pub chosen_children : Evaluator → Place → ChosenCall → Context → ℕ → ℕ → Outcome InstanceDesign
+chosen_children evaluator at chosen here turns leaves =
+    one_call_fewer here.calls at (λ calls. children_design evaluator (with_calls_left here calls) (call_in here.env) chosen turns leaves)
 
 -- a built-in module with its arguments
 abbrev pub built_in_given : Evaluator → Place → BuiltinModule → Arguments → BodyTerm → Context → ℕ → ℕ → Outcome InstanceDesign

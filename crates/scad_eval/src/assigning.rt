@@ -23,7 +23,6 @@ impl InstanceEvaluator<'_, '_> {
         ensures assigned { let statements = statements_at (text_of self.old.evaluation.source.now) block in
             Meets (λ leaves x. context_at self.new position) self.old self.new position result (λ evaluator here turns leaves. each_assigned evaluator.evaluations here (assignments_of statements) turns) }
         ensures assigns { OnOk result (Assigns self.old self.new position.scope) }
-        ensures leaves { self.new.leaves ≡ self.old.leaves }
     {
         let assignments = self.evaluation.assignments(block);
         'each: for assignment in assignments {
@@ -39,7 +38,6 @@ impl InstanceEvaluator<'_, '_> {
         ensures assigned { Meets (λ leaves x. context_at self.new position) self.old self.new position result (λ evaluator here turns leaves.
             then_with (assigned_value evaluator.evaluations here (assigned_of assignment.now) turns) (λ turns v. Gives turns (assigned (assigned_of assignment.now) v here))) }
         ensures assigns { OnOk result (Assigns self.old self.new position.scope) }
-        ensures leaves { self.new.leaves ≡ self.old.leaves }
     {
         self.evaluation.begin_evaluation(assignment.place)?;
         let value = self

@@ -5,16 +5,17 @@ ghost use Rattle.csg_tree.specs.declared.op.Op.TheVariants.{Union};
 ghost use Rattle.primitives.specs.Sizes.{IsSafe};
 ghost use Rattle.scad_ast.specs.ExprView.{args_of};
 ghost use Rattle.scad_func.specs.Meaning.{Gives, then_with};
-ghost use Rattle.scad_func.specs.View.{text_of, arguments_of, arguments_bounded};
+ghost use Rattle.scad_func.specs.View.{arguments_of, arguments_bounded};
 ghost use Rattle.scad_modules.specs.Bounds.{IsSafeCall};
+ghost use Rattle.scad_modules.specs.Effects.{an_extrusion};
 ghost use Rattle.scad_modules.specs.Table.{module_named};
 ghost use Rattle.scad_modules.specs.View.{call_of};
 ghost use Rattle.scad_design.specs.Designs.{moved_by};
-ghost use Rattle.scad_meaning.specs.Meaning.{built_in_design, effect_design, body_design, moved_design, hull_design, checked, inside_extrusion};
+ghost use Rattle.scad_meaning.specs.Meaning.{built_in_design, effect_design, body_design, moved_design};
 ghost use Rattle.scad_pieces.specs.Seen.{instance_design_of};
-ghost use Rattle.scad_eval.specs.Keeping.{IsPosition, Stays, Meets};
+ghost use Rattle.scad_eval.specs.Keeping.{Stays, Meets};
 ghost use Rattle.scad_eval.specs.Steps.{built_in_given};
-ghost use Rattle.scad_eval.specs.Within.{body_seen, IsInBlock};
+ghost use Rattle.scad_eval.specs.Within.{body_seen, IsBodyAt};
 
 use crate::evaluator::InstanceEvaluator;
 use csg_tree::Op;
@@ -42,8 +43,7 @@ impl InstanceEvaluator<'_, '_> {
         args: &Args,
         body: NumberedBody<'_>,
     ) -> Result<InstanceResult, Stop>
-        requires position { IsPosition self.old position }
-        requires block { IsInBlock (text_of self.old.evaluation.source.now) body }
+        requires stands { IsBodyAt self.old position body }
         ensures made { Meets instance_design_of self.old self.new position result (λ evaluator here.
             built_in_design evaluator here place name.now (args_of args.now) (body_seen body.entry) (module_named name.now)) }
         ensures stays { OnOk result (Stays self.old self.new) }
@@ -67,8 +67,7 @@ impl InstanceEvaluator<'_, '_> {
         given: GivenArguments<'_, Value>,
         body: NumberedBody<'_>,
     ) -> Result<InstanceResult, Stop>
-        requires position { IsPosition self.old position }
-        requires block { IsInBlock (text_of self.old.evaluation.source.now) body }
+        requires stands { IsBodyAt self.old position body }
         requires bounded { IsTrue (arguments_bounded (arguments_of given)) }
         ensures made { Meets instance_design_of self.old self.new position result (λ evaluator.
             built_in_given evaluator place built_in (arguments_of given.entry) (body_seen body.entry)) }
@@ -99,8 +98,7 @@ impl InstanceEvaluator<'_, '_> {
         effect: Effect,
         body: NumberedBody<'_>,
     ) -> Result<InstanceResult, Stop>
-        requires position { IsPosition self.old position }
-        requires block { IsInBlock (text_of self.old.evaluation.source.now) body }
+        requires stands { IsBodyAt self.old position body }
         requires safe { IsSafeCall (call_of effect) }
         ensures made { Meets instance_design_of self.old self.new position result (λ evaluator here.
             effect_design evaluator here place (call_of effect) (body_seen body.entry)) }
@@ -111,7 +109,10 @@ impl InstanceEvaluator<'_, '_> {
             Effect::Flat(shape) => self.flat(position, place, &shape),
             Effect::Move(steps) => self.moved(position, &steps, body),
             Effect::Join(op) => self.body(op, position, body),
-            Effect::Hull => self.hulled(position, place, body),
+            Effect::Hull => {
+                let made = self.body(Op::Union, position, body)?;
+                self.hull(place, made)
+            }
             Effect::Extrusion { height, center } => {
                 self.extruded(position, place, Extrusion { center, height }, body)
             }
@@ -128,8 +129,7 @@ impl InstanceEvaluator<'_, '_> {
         steps: &[Step],
         body: NumberedBody<'_>,
     ) -> Result<InstanceResult, Stop>
-        requires position { IsPosition self.old position }
-        requires block { IsInBlock (text_of self.old.evaluation.source.now) body }
+        requires stands { IsBodyAt self.old position body }
         ensures made { Meets instance_design_of self.old self.new position result (λ evaluator here turns leaves.
             then_with (body_design evaluator Union here (body_seen body.entry) turns leaves) (λ turns m. Gives turns (moved_design (moved_by steps.now) m))) }
         ensures stays { OnOk result (Stays self.old self.new) }
@@ -141,24 +141,6 @@ impl InstanceEvaluator<'_, '_> {
         }
     }
 
-    // The hull of the union of a body, as one leaf more. Where the body gives nothing, so does its hull.
-    #[cycle(instances)]
-    fn hulled(
-        &mut self,
-        position: Position,
-        place: Place,
-        body: NumberedBody<'_>,
-    ) -> Result<InstanceResult, Stop>
-        requires position { IsPosition self.old position }
-        requires block { IsInBlock (text_of self.old.evaluation.source.now) body }
-        ensures made { Meets instance_design_of self.old self.new position result (λ evaluator here turns leaves.
-            then_with (body_design evaluator Union here (body_seen body.entry) turns leaves) (λ turns m. hull_design (evaluator.judge.hull m.design) place m turns)) }
-        ensures stays { OnOk result (Stays self.old self.new) }
-    {
-        let made = self.body(Op::Union, position, body)?;
-        self.hull(place, made)
-    }
-
     // The union of a body inside an extrusion.
     #[cycle(instances)]
     fn extruded(
@@ -168,11 +150,9 @@ impl InstanceEvaluator<'_, '_> {
         through: Extrusion,
         body: NumberedBody<'_>,
     ) -> Result<InstanceResult, Stop>
-        requires position { IsPosition self.old position }
-        requires block { IsInBlock (text_of self.old.evaluation.source.now) body }
+        requires stands { IsBodyAt self.old position body }
         requires safe { IsSafe through.height }
-        ensures made { Meets instance_design_of self.old self.new position result (λ evaluator here turns leaves.
-            checked (evaluator.judge.height evaluator.unit through.center through.height) place (body_design evaluator Union (inside_extrusion here through) (body_seen body.entry) turns leaves)) }
+        ensures made { Meets instance_design_of self.old self.new position result (λ evaluator here. effect_design evaluator here place (an_extrusion through.center through.height) (body_seen body.entry)) }
         ensures stays { OnOk result (Stays self.old self.new) }
     {
         match size_fault(&[through.height], through.center, self.unit) {

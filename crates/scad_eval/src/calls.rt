@@ -1,29 +1,24 @@
 //! Calls of modules of the source.
 
-ghost use Rattle.std.specs.Prelude.{◌≡◌, ◌<◌, IsTrue, OnOk, length};
+ghost use Rattle.std.specs.Prelude.{OnOk};
 ghost use Rattle.scad_ast.specs.ExprView.{args_of};
-ghost use Rattle.scad_ast.specs.StatementView.{params_of, body_of};
 ghost use Rattle.scad_value.specs.Values.{vals_from};
 ghost use Rattle.scad_value.specs.View.{vals_in};
-ghost use Rattle.scad_builtin.specs.Builtins.{are_bounded};
-ghost use Rattle.scad_scope.specs.Table.{rows_of};
 ghost use Rattle.scad_scope.specs.TextView.{module_of};
 ghost use Rattle.scad_func.specs.Meaning.{module_in};
-ghost use Rattle.scad_func.specs.View.{text_of, seen, arguments_of, arguments_bounded};
-ghost use Rattle.scad_func.specs.Definitions.{IsBlockOf};
-ghost use Rattle.scad_func.specs.Evaluations.{scopes_there};
+ghost use Rattle.scad_func.specs.View.{arguments_of};
 ghost use Rattle.scad_meaning.specs.Meaning.{call_design, module_design};
 ghost use Rattle.scad_pieces.specs.Seen.{instance_design_of};
-ghost use Rattle.scad_eval.specs.Keeping.{IsPosition, Stays, Meets};
+ghost use Rattle.scad_eval.specs.Keeping.{env_at, Stays, Meets};
 ghost use Rattle.scad_eval.specs.Steps.{module_filled, module_given};
-ghost use Rattle.scad_eval.specs.Within.{body_seen, IsInBlock};
+ghost use Rattle.scad_eval.specs.Within.{body_seen, IsBodyAt, IsCallAt, AreGivenTo, AreValuesOf};
 
 use crate::evaluator::InstanceEvaluator;
 use csg_tree::Op;
 use scad_ast::Args;
 use scad_func::with;
 use scad_pieces::{InstanceResult, NumberedBody, Position, joined};
-use scad_scope::{Call, GivenArguments, Module, Names};
+use scad_scope::{GivenArguments, Module, Names};
 use scad_value::Value;
 use text_place::{Place, Stop};
 
@@ -38,8 +33,7 @@ impl InstanceEvaluator<'_, '_> {
         args: &Args,
         body: NumberedBody<'_>,
     ) -> Result<InstanceResult, Stop>
-        requires position { IsPosition self.old position }
-        requires block { IsInBlock (text_of self.old.evaluation.source.now) body }
+        requires stands { IsBodyAt self.old position body }
         ensures made { Meets instance_design_of self.old self.new position result (λ evaluator here.
             call_design evaluator here place name.now (args_of args.now) (body_seen body.entry) (module_in here.env name.now)) }
         ensures stays { OnOk result (Stays self.old self.new) }
@@ -65,15 +59,10 @@ impl InstanceEvaluator<'_, '_> {
         given: GivenArguments<'_, Value>,
         body: NumberedBody<'_>,
     ) -> Result<InstanceResult, Stop>
-        requires position { IsPosition self.old position }
-        requires block { IsInBlock (text_of self.old.evaluation.source.now) body }
-        requires home { home < scopes_there self.old.evaluation }
-        requires its_block { IsBlockOf (text_of self.old.evaluation.source.now) defined.block (body_of defined.body.now) }
-        requires count { length given.slots.items ≡ length (params_of defined.params.now) }
-        requires bounded { IsTrue (arguments_bounded (arguments_of given)) }
-        ensures made { let env = seen self.old.evaluation.source.now (rows_of self.old.evaluation.scopes.now) home in
-            Meets instance_design_of self.old self.new position result (λ evaluator here.
-            module_design evaluator here place (module_of defined.entry, env) (arguments_of given.entry) (body_seen body.entry)) }
+        requires called { IsCallAt self.old position defined home body }
+        requires given { AreGivenTo defined given }
+        ensures made { Meets instance_design_of self.old self.new position result (λ evaluator here.
+            module_design evaluator here place (module_of defined.entry, env_at self.old home) (arguments_of given.entry) (body_seen body.entry)) }
         ensures stays { OnOk result (Stays self.old self.new) }
     {
         let begun = self.begin_counted_call(place);
@@ -93,15 +82,10 @@ impl InstanceEvaluator<'_, '_> {
         given: GivenArguments<'_, Value>,
         body: NumberedBody<'_>,
     ) -> Result<InstanceResult, Stop>
-        requires position { IsPosition self.old position }
-        requires block { IsInBlock (text_of self.old.evaluation.source.now) body }
-        requires home { home < scopes_there self.old.evaluation }
-        requires its_block { IsBlockOf (text_of self.old.evaluation.source.now) defined.block (body_of defined.body.now) }
-        requires count { length given.slots.items ≡ length (params_of defined.params.now) }
-        requires bounded { IsTrue (arguments_bounded (arguments_of given)) }
-        ensures made { let env = seen self.old.evaluation.source.now (rows_of self.old.evaluation.scopes.now) home in
-            Meets instance_design_of self.old self.new position result (λ evaluator.
-            module_given evaluator (module_of defined.entry, env) (arguments_of given.entry) (body_seen body.entry)) }
+        requires called { IsCallAt self.old position defined home body }
+        requires given { AreGivenTo defined given }
+        ensures made { Meets instance_design_of self.old self.new position result (λ evaluator.
+            module_given evaluator (module_of defined.entry, env_at self.old home) (arguments_of given.entry) (body_seen body.entry)) }
         ensures stays { OnOk result (Stays self.old self.new) }
     {
         let GivenArguments { slots, specials } = given;
@@ -124,18 +108,12 @@ impl InstanceEvaluator<'_, '_> {
         values: Vec<Value>,
         body: NumberedBody<'_>,
     ) -> Result<InstanceResult, Stop>
-        requires position { IsPosition self.old position }
-        requires block { IsInBlock (text_of self.old.evaluation.source.now) body }
-        requires home { home < scopes_there self.old.evaluation }
-        requires its_block { IsBlockOf (text_of self.old.evaluation.source.now) defined.block (body_of defined.body.now) }
-        requires count { length values.items ≡ length defined.params.now.items.items }
-        requires bounded { IsTrue (are_bounded (vals_in values.items)) }
-        ensures made { let env = seen self.old.evaluation.source.now (rows_of self.old.evaluation.scopes.now) home in
-            Meets instance_design_of self.old self.new position result (λ evaluator.
-            module_filled evaluator (module_of defined.entry, env) (vals_from (vals_in values.items)) (body_seen body.entry)) }
+        requires called { IsCallAt self.old position defined home body }
+        requires values { AreValuesOf defined values.items }
+        ensures made { Meets instance_design_of self.old self.new position result (λ evaluator. module_filled evaluator (module_of defined.entry, env_at self.old home) (vals_from (vals_in values.items)) (body_seen body.entry)) }
         ensures stays { OnOk result (Stays self.old self.new) }
     {
-        let opened = self.enter_module(position.scope, defined, home, values, body)?;
+        let opened = self.enter_module(position, defined, home, values, body)?;
         let members = self.members_in_scope(position.at(opened), defined.block, None)?;
         self.evaluation.leave(opened);
         Ok(joined(self.evaluation.alloc, Op::Union, members)?)

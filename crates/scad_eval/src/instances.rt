@@ -10,7 +10,7 @@ ghost use Rattle.scad_meaning.specs.Meaning.{setting, body_design, no_design, ea
 ghost use Rattle.scad_pieces.specs.Positions.{term_of_numbered, HasBlocks};
 ghost use Rattle.scad_pieces.specs.Seen.{instance_design_of, member_designs_of};
 ghost use Rattle.scad_eval.specs.Keeping.{IsPosition, Stays, Meets};
-ghost use Rattle.scad_eval.specs.Within.{body_seen, IsInBlock};
+ghost use Rattle.scad_eval.specs.Within.{body_seen, IsInBlock, IsBodyAt};
 
 use crate::evaluator::InstanceEvaluator;
 use csg_tree::Op;
@@ -124,10 +124,8 @@ impl InstanceEvaluator<'_, '_> {
         test: &Expr,
         body: NumberedBody<'_>,
     ) -> Result<InstanceResult, Stop>
-        requires position { IsPosition self.old position }
-        requires block { IsInBlock (text_of self.old.evaluation.source.now) body }
-        ensures made { Meets instance_design_of self.old self.new position result (λ evaluator here turns leaves.
-            then_with (value_at (setting evaluator.evaluations here) true (term_of test.now) turns) (λ turns v.
+        requires stands { IsBodyAt self.old position body }
+        ensures made { Meets instance_design_of self.old self.new position result (λ evaluator here turns leaves. then_with (value_at (setting evaluator.evaluations here) true (term_of test.now) turns) (λ turns v.
             if truth_of v then body_design evaluator Union here (body_seen body.entry) turns leaves else Gives turns (no_design leaves))) }
         ensures stays { OnOk result (Stays self.old self.new) }
     {
@@ -147,11 +145,9 @@ impl InstanceEvaluator<'_, '_> {
         body: NumberedBody<'_>,
         other: NumberedBody<'_>,
     ) -> Result<InstanceResult, Stop>
-        requires position { IsPosition self.old position }
-        requires block { IsInBlock (text_of self.old.evaluation.source.now) body }
+        requires stands { IsBodyAt self.old position body }
         requires other { IsInBlock (text_of self.old.evaluation.source.now) other }
-        ensures made { Meets instance_design_of self.old self.new position result (λ evaluator here turns leaves.
-            then_with (value_at (setting evaluator.evaluations here) true (term_of test.now) turns) (λ turns v.
+        ensures made { Meets instance_design_of self.old self.new position result (λ evaluator here turns leaves. then_with (value_at (setting evaluator.evaluations here) true (term_of test.now) turns) (λ turns v.
             body_design evaluator Union here (if truth_of v then body_seen body.entry else body_seen other.entry) turns leaves)) }
         ensures stays { OnOk result (Stays self.old self.new) }
     {

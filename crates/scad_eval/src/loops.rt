@@ -5,13 +5,12 @@ ghost use Rattle.csg_tree.specs.declared.op.Op.TheVariants.{Union};
 ghost use Rattle.scad_ast.specs.StatementView.{binder_of, binders_of};
 ghost use Rattle.scad_value.specs.Values.{is_bounded};
 ghost use Rattle.scad_value.specs.View.{val_of};
-ghost use Rattle.scad_func.specs.View.{text_of};
 ghost use Rattle.scad_meaning.specs.Meaning.{loop_design, each_turn, each_step, in_loop};
 ghost use Rattle.scad_pieces.specs.Items.{remaining_in};
 ghost use Rattle.scad_pieces.specs.Seen.{instance_design_of, member_designs_of};
-ghost use Rattle.scad_eval.specs.Keeping.{IsPosition, Stays, Meets};
+ghost use Rattle.scad_eval.specs.Keeping.{Stays, Meets};
 ghost use Rattle.scad_eval.specs.Steps.{one_step};
-ghost use Rattle.scad_eval.specs.Within.{body_seen, IsInBlock};
+ghost use Rattle.scad_eval.specs.Within.{body_seen, IsBodyAt};
 
 use crate::evaluator::InstanceEvaluator;
 use csg_tree::Op;
@@ -39,8 +38,7 @@ impl InstanceEvaluator<'_, '_> {
         binders: &Binders,
         body: NumberedBody<'_>,
     ) -> Result<InstanceResult, Stop>
-        requires position { IsPosition self.old position }
-        requires block { IsInBlock (text_of self.old.evaluation.source.now) body }
+        requires stands { IsBodyAt self.old position body }
         ensures made { Meets instance_design_of self.old self.new position result (λ evaluator here. loop_design evaluator op here place (binders_of binders.now) (body_seen body.entry)) }
         ensures stays { OnOk result (Stays self.old self.new) }
     {
@@ -61,8 +59,7 @@ impl InstanceEvaluator<'_, '_> {
         binders: &[Binder],
         body: NumberedBody<'_>,
     ) -> Result<MemberResults, Stop>
-        requires position { IsPosition self.old position }
-        requires block { IsInBlock (text_of self.old.evaluation.source.now) body }
+        requires stands { IsBodyAt self.old position body }
         ensures members { Meets member_designs_of self.old self.new position result (λ evaluator. each_turn evaluator place (map binder_of binders.now) (body_seen body.entry)) }
         ensures stays { OnOk result (Stays self.old self.new) }
     {
@@ -88,8 +85,7 @@ impl InstanceEvaluator<'_, '_> {
         place: Place,
         body: NumberedBody<'_>,
     ) -> Result<MemberResults, Stop>
-        requires position { IsPosition self.old position }
-        requires block { IsInBlock (text_of self.old.evaluation.source.now) body }
+        requires stands { IsBodyAt self.old position body }
         ensures members { Meets member_designs_of self.old self.new position result (λ evaluator. each_turn evaluator place [] (body_seen body.entry)) }
         ensures stays { OnOk result (Stays self.old self.new) }
     {
@@ -109,8 +105,7 @@ impl InstanceEvaluator<'_, '_> {
         body: NumberedBody<'_>,
         items: Items,
     ) -> Result<MemberResults, Stop>
-        requires position { IsPosition self.old position }
-        requires block { IsInBlock (text_of self.old.evaluation.source.now) body }
+        requires stands { IsBodyAt self.old position body }
         ensures members { Meets member_designs_of self.old self.new position result (λ evaluator here.
             each_step place (λ item. each_turn evaluator place (map binder_of rest.now) (body_seen body.entry) (in_loop here name.now item)) (remaining_in items.remaining)) }
         ensures stays { OnOk result (Stays self.old self.new) }
@@ -135,8 +130,7 @@ impl InstanceEvaluator<'_, '_> {
         body: NumberedBody<'_>,
         value: Value,
     ) -> Result<MemberResults, Stop>
-        requires position { IsPosition self.old position }
-        requires block { IsInBlock (text_of self.old.evaluation.source.now) body }
+        requires stands { IsBodyAt self.old position body }
         requires bounded { IsTrue (is_bounded (val_of value)) }
         ensures members { Meets member_designs_of self.old self.new position result (λ evaluator. one_step evaluator place name.now (map binder_of rest.now) (body_seen body.entry) (val_of value)) }
         ensures stays { OnOk result (Stays self.old self.new) }
@@ -160,8 +154,7 @@ impl InstanceEvaluator<'_, '_> {
         body: NumberedBody<'_>,
         value: Value,
     ) -> Result<MemberResults, Stop>
-        requires position { IsPosition self.old position }
-        requires block { IsInBlock (text_of self.old.evaluation.source.now) body }
+        requires stands { IsBodyAt self.old position body }
         requires bounded { IsTrue (is_bounded (val_of value)) }
         ensures members { Meets member_designs_of self.old self.new position result (λ evaluator here. each_turn evaluator place (map binder_of rest.now) (body_seen body.entry) (in_loop here name.now (val_of value))) }
         ensures stays { OnOk result (Stays self.old self.new) }

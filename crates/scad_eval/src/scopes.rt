@@ -4,12 +4,12 @@ ghost use Rattle.std.specs.Prelude.{◌≡◌, ◌+◌, OnOk};
 ghost use Rattle.scad_func.specs.View.{text_of};
 ghost use Rattle.scad_func.specs.Definitions.{statements_at};
 ghost use Rattle.scad_func.specs.Evaluations.{scopes_there};
-ghost use Rattle.scad_meaning.specs.Meaning.{each_in_body, body_design};
+ghost use Rattle.scad_meaning.specs.Meaning.{body_design};
 ghost use Rattle.scad_pieces.specs.Seen.{instance_design_of, member_designs_of};
 ghost use Rattle.scad_eval.specs.Keeping.{IsPosition, Stays, Binds, Meets};
 ghost use Rattle.scad_pieces.specs.Calls.{chosen_seen, IsSafeChosen};
 ghost use Rattle.scad_eval.specs.Steps.{block_members};
-ghost use Rattle.scad_eval.specs.Within.{body_seen, IsInBlock};
+ghost use Rattle.scad_eval.specs.Within.{body_seen, IsBodyAt};
 
 use crate::evaluator::InstanceEvaluator;
 use csg_tree::Op;
@@ -20,7 +20,7 @@ use scad_pieces::{
 use text_place::Stop;
 
 impl InstanceEvaluator<'_, '_> {
-    // A body's members joined by an operation.
+    // A body's members, in a new scope inside where it stands, joined by an operation.
     #[cycle(instances)]
     pub(crate) fn body(
         &mut self,
@@ -28,31 +28,14 @@ impl InstanceEvaluator<'_, '_> {
         position: Position,
         body: NumberedBody<'_>,
     ) -> Result<InstanceResult, Stop>
-        requires position { IsPosition self.old position }
-        requires block { IsInBlock (text_of self.old.evaluation.source.now) body }
+        requires stands { IsBodyAt self.old position body }
         ensures made { Meets instance_design_of self.old self.new position result (λ evaluator here. body_design evaluator op here (body_seen body.entry)) }
-        ensures stays { OnOk result (Stays self.old self.new) }
-    {
-        let members = self.members_of_body(position, body)?;
-        Ok(joined(self.evaluation.alloc, op, members)?)
-    }
-
-    // A body's members, in a new scope inside where it stands.
-    #[cycle(instances)]
-    fn members_of_body(
-        &mut self,
-        position: Position,
-        body: NumberedBody<'_>,
-    ) -> Result<MemberResults, Stop>
-        requires position { IsPosition self.old position }
-        requires block { IsInBlock (text_of self.old.evaluation.source.now) body }
-        ensures members { Meets member_designs_of self.old self.new position result (λ evaluator here. each_in_body evaluator here (body_seen body.entry)) }
         ensures stays { OnOk result (Stays self.old self.new) }
     {
         let scope = self.evaluation.enter_body(position.scope, body.block)?;
         let members = self.members_in_scope(position.at(scope), body.block, None)?;
         self.evaluation.leave(scope);
-        Ok(members)
+        Ok(joined(self.evaluation.alloc, op, members)?)
     }
 
     // The members of a block whose scope is the newest one: its assignments, then its instances, or of

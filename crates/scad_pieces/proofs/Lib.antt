@@ -5,4 +5,5 @@ mod ShapeAnswers
 pub mod NumberedItems
 mod Numbering
 mod RangeNumbers
+mod Said
 mod Slots

@@ -1,20 +1,14 @@
 -- What calls of built-in modules are given, which children are chosen, and what the evaluator's pieces tell of them.
-use Rattle.std.specs.Prelude.{◌≡◌, ℕ, true, List, ◌∷◌, Option, Some, None, option_map, is_some, IsTrue, Result, Ok, Err, if◌then◌else◌}
+use Rattle.std.specs.Prelude.{◌≡◌, ℕ, true, List, [], Option, Some, None, option_map, Result, Ok, Err}
 use Rattle.std.specs.Borrow.{Bor}
-use Rattle.std.specs.declared.vec.Vec.{Vec}
-use Rattle.std.specs.declared.alloc.Global.{Global}
 use Rattle.text_place.specs.declared.fault.Place.{Place}
 use Rattle.text_place.specs.declared.fault.Stop.{Stop}
 use Rattle.text_place.specs.declared.fault.Stop.TheVariants.{Fault, NoMemory}
 use Rattle.text_place.specs.declared.fault.FaultKind.TheVariants.{BadArgument}
 use Rattle.scad_ast.specs.Terms.{StatementTerms, InstanceTerm, ArgTerm, NamedTerm, SpecialArgTerm, PositionalTerm}
-use Rattle.scad_value.specs.declared.value.Value.{Value}
-use Rattle.scad_value.specs.Values.{Val}
 use Rattle.scad_value.specs.Operators.{Answer}
-use Rattle.scad_scope.specs.Names.{Pairs, find_in, have_bounded}
-use Rattle.scad_scope.specs.declared.parameters.SpecialArgument.{SpecialArgument}
-use Rattle.scad_func.specs.Meaning.{Outcome, Gives, Faults, then_with, Env, Setting, value_at}
-use Rattle.scad_func.specs.View.{specials_in}
+use Rattle.scad_scope.specs.Arguments.{taker_of, with_argument}
+use Rattle.scad_func.specs.Meaning.{Outcome, Gives, then_with, or_fault, Env, Arguments, Setting, value_at}
 use Rattle.scad_modules.specs.declared.effects.Chosen.{Chosen}
 use Rattle.scad_modules.specs.declared.effects.Effect.{Effect}
 use Rattle.scad_modules.specs.Bounds.{IsSafeChoice}
@@ -42,16 +36,10 @@ abbrev pub instances_chosen : Env → Option ChosenCall → StatementTerms → L
 instances_chosen env None statements = evaluated_in statements
 instances_chosen env (Some chosen) statements = chosen_among (children_in env statements) chosen
 
--- the special arguments of `echo` behind one argument more
-abbrev pub said_once : Setting → ArgTerm → Pairs Val → ℕ → Outcome (Pairs Val)
-said_once here (NamedTerm at name value) specials turns = then_with (value_at here true value turns) (λ turns v. Gives turns specials)
-said_once here (SpecialArgTerm at name value) specials turns =
-    if is_some (find_in specials name) then Faults BadArgument at
-    else then_with (value_at here true value turns) (λ turns v. Gives turns ((name, v) ∷ specials))
-said_once here (PositionalTerm value) specials turns = then_with (value_at here true value turns) (λ turns v. Gives turns specials)
-
--- the outcome is the special arguments that were given, each bounded, or the fault, unless memory ran out
-abbrev pub TellsSpecials : Result (Vec (SpecialArgument Value) Global) Stop → ℕ → Outcome (Pairs Val) → Type 0
-TellsSpecials (Ok specials) turns out = (out ≡ Gives turns (specials_in specials.items)) × IsTrue (have_bounded (specials_in specials.items))
-TellsSpecials (Err (Fault fault)) turns out = out ≡ Faults fault.kind fault.place
-TellsSpecials (Err NoMemory) turns out = Unit {0}
+-- the arguments of `echo` with one more, which gives something where it is a special one
+abbrev pub said_once : Setting → ArgTerm → Arguments → ℕ → Outcome Arguments
+said_once here (NamedTerm at name value) given turns = then_with (value_at here true value turns) (λ turns v. Gives turns given)
+said_once here (SpecialArgTerm at name value) given turns =
+    or_fault (taker_of [] 0 given (SpecialArgTerm at name value)) BadArgument at (λ taker.
+    then_with (value_at here true value turns) (λ turns v. Gives turns (with_argument given taker v)))
+said_once here (PositionalTerm value) given turns = then_with (value_at here true value turns) (λ turns v. Gives turns given)

@@ -5,10 +5,11 @@ ghost use Rattle.text_place.specs.declared.fault.FaultKind.TheVariants.{NotInPro
 ghost use Rattle.scad_ast.specs.Terms.{args_from};
 ghost use Rattle.scad_ast.specs.ExprView.{arg_of, args_of};
 ghost use Rattle.scad_ast.specs.StatementView.{body_of};
-ghost use Rattle.scad_scope.specs.Names.{find_in, have_bounded};
+ghost use Rattle.scad_scope.specs.Names.{find_in};
 ghost use Rattle.scad_scope.specs.Table.{chain_of};
 ghost use Rattle.scad_scope.specs.Arguments.{nothing_given};
-ghost use Rattle.scad_func.specs.View.{TellsArguments, slots_in, slots_bounded, specials_in};
+ghost use Rattle.scad_scope.specs.SoFarView.{only_given};
+ghost use Rattle.scad_func.specs.View.{TellsArguments, slots_in, slots_bounded, arguments_of, arguments_bounded};
 ghost use Rattle.scad_func.specs.Evaluations.{Keeps, scopes_there, setting};
 ghost use Rattle.scad_modules.specs.Bounds.{IsSafeCall};
 ghost use Rattle.scad_modules.specs.Calls.{effect_of as effect_at};
@@ -16,16 +17,16 @@ ghost use Rattle.scad_modules.specs.Table.{is_left_out as leaves_out};
 ghost use Rattle.scad_modules.specs.View.{call_of};
 ghost use Rattle.scad_meaning.specs.Meaning.{arguments_for as arguments_at, each_said};
 ghost use Rattle.scad_pieces.specs.Seen.{TellsSilence};
-ghost use Rattle.scad_pieces.specs.Calls.{TellsEffectAt, said_once, TellsSpecials};
+ghost use Rattle.scad_pieces.specs.Calls.{TellsEffectAt, said_once};
 
 use crate::bodies::is_bare;
 use crate::joins::nothing_made;
 use crate::position::{InstanceResult, Position};
 use plane_predicate::Unit;
 use scad_ast::{Arg, Args, Body};
-use scad_func::Evaluation;
+use scad_func::{Evaluation, with};
 use scad_modules::{BuiltinModule, Effect, effect, is_left_out};
-use scad_scope::{GivenArguments, Names, SpecialArgument, fault_at, has_special};
+use scad_scope::{ArgumentsSoFar, GivenArguments, Names, fault_at};
 use scad_value::{Value, ValueStop};
 use text_place::{FaultKind, Place, Stop};
 
@@ -85,55 +86,40 @@ fn said<'b>(
         (each_said (setting evaluation.old scope) (args_from (args_of args.now)) (nothing_given 0) evaluation.old.turns) }
     ensures kept { Keeps evaluation.old evaluation.new }
 {
-    let alloc = evaluation.alloc;
-    let mut specials = Vec::new(alloc);
+    let mut so_far = ArgumentsSoFar::of(evaluation.alloc, Names::Listed(&[]), &args.items)?;
     'each: for arg in &args.items {
-        specials = say(evaluation, scope, specials, arg)?;
+        so_far = say(evaluation, scope, so_far, arg)?;
     }
-    Ok(GivenArguments {
-        slots: Vec::new(alloc),
-        specials,
-    })
+    let ArgumentsSoFar { given, .. } = so_far;
+    Ok(given)
 }
 
-// The special arguments of `echo` with one argument more.
-fn say<'b>(
+// The arguments of `echo` with one more, which gives something where it is a special one.
+fn say<'n, 'b>(
     evaluation: &mut Evaluation<'_, '_>,
     scope: u32,
-    specials: Vec<SpecialArgument<'b, Value>>,
+    so_far: ArgumentsSoFar<'n, 'b, Value>,
     arg: &'b Arg,
-) -> Result<Vec<SpecialArgument<'b, Value>>, Stop>
+) -> Result<ArgumentsSoFar<'n, 'b, Value>, Stop>
     requires scope { scope < scopes_there evaluation.old }
-    requires bounded { IsTrue (have_bounded (specials_in specials.items)) }
-    ensures value { TellsSpecials result evaluation.new.turns
-        (said_once (setting evaluation.old scope) (arg_of arg.now) (specials_in specials.entry.items) evaluation.old.turns) }
+    requires bounded { IsTrue (arguments_bounded (arguments_of so_far.given)) }
+    ensures value { TellsArguments (only_given result) evaluation.new.turns
+        (said_once (setting evaluation.old scope) (arg_of arg.now) (arguments_of so_far.entry.given) evaluation.old.turns) }
     ensures kept { Keeps evaluation.old evaluation.new }
 {
     match arg {
-        Arg::Special(place, name, value) => {
-            if is_given(&specials, name.items()) {
-                return Err(fault_at(FaultKind::BadArgument, *place));
-            }
-            let value = evaluation.expression(scope, value)?;
-            let mut more = specials;
-            let name = name.items();
-            match more.push(SpecialArgument { name, value }) {
-                Ok(()) => Ok(more),
-                Err(_) => Err(Stop::NoMemory),
-            }
+        Arg::Special(_, _, value) => {
+            let free = so_far.destination_for(0, arg);
+            let (held, destination) = with(so_far, free)?;
+            let next = evaluation.expression(scope, value);
+            held.with_next(evaluation.alloc, destination, next)
         }
         Arg::Named(_, _, value) | Arg::Positional(value) => {
-            evaluation.expression(scope, value)?;
-            Ok(specials)
+            let said = evaluation.expression(scope, value);
+            let (held, _) = with(so_far, said)?;
+            Ok(held)
         }
     }
-}
-
-// Whether a special name was given a value.
-fn is_given(specials: &[SpecialArgument<'_, Value>], name: &[u8]) -> bool
-    ensures { result ≡ is_some (find_in (specials_in specials.now) name.now) }
-{
-    has_special(specials, name)
 }
 
 /// The kind of fault of a name that no module has.

@@ -1,10 +1,9 @@
-use Rattle.std.proofs.Common.{◌≡◌, [], map, drop}
+use Rattle.std.proofs.Common.{◌≡◌, map, drop}
 use Rattle.std.specs.Prelude.{IsTrue}
 use Rattle.scad_ast.specs.Terms.{args_from}
 use Rattle.scad_ast.specs.ExprView.{arg_of, args_of}
-use Rattle.scad_scope.specs.Names.{have_bounded}
 use Rattle.scad_scope.specs.Arguments.{nothing_given}
-use Rattle.scad_func.specs.View.{specials_in}
+use Rattle.scad_func.specs.View.{arguments_of, arguments_bounded}
 use Rattle.scad_func.specs.Evaluations.{Keeps, setting}
 use Rattle.scad_meaning.specs.Meaning.{each_said}
 use Rattle.scad_pieces.proofs.arguments.said.Given as goal
@@ -15,7 +14,7 @@ invariant-each l =
     let here = setting old l.scope in
     record {
       told : each_said here (args_from (args_of l.args)) (nothing_given 0) old.turns
-          ≡ each_said here (args_from (map arg_of (drop l.arg-index l.args.items.items))) (record { slots = []; specials = specials_in l.specials.items }) l.evaluation.turns;
-      bounded : IsTrue (have_bounded (specials_in l.specials.items));
+          ≡ each_said here (args_from (map arg_of (drop l.arg-index l.args.items.items))) (arguments_of l.so_far.given) l.evaluation.turns;
+      bounded : IsTrue (arguments_bounded (arguments_of l.so_far.given));
       kept : Keeps old l.evaluation;
     }

@@ -1,52 +1,144 @@
-use Rattle.std.proofs.Common.{◌≡◌, ℕ, ◌+◌, ◌-◌, ◌<◌, Bool, true, List, ◌++◌, length, map, drop, Option, Some, None, Ok, refl, sym, ap, subst, ◌∙◌, arith, if◌then◌else◌}
+use Rattle.std.proofs.Common.{◌≡◌, ℕ, ◌+◌, ◌-◌, ◌<◌, Bool, true, List, [], ◌∷◌, ◌++◌, All, length, map, drop, Option, Some, None, Ok, Err, refl, sym, ap, subst, ◌∙◌, arith, if◌then◌else◌}
 use Rattle.std.specs.declared.vec.Vec.{Vec}
 use Rattle.std.specs.declared.alloc.Global.{Global}
-use Rattle.std.proofs.lemmas.Result.{err_from_is_err_and, IfErr-at_err, IfOk-at_ok}
+use Rattle.std.proofs.lemmas.Result.{err_from_is_err_and, IfErr-at_err, IfOk-at_ok, on_ok_weaker}
 use Rattle.text_place.specs.declared.fault.Place.{Place}
 use Rattle.text_place.specs.declared.fault.FaultKind.TheVariants.{TooDeep, TypeMismatch}
 use Rattle.csg_tree.specs.declared.op.Op.TheVariants.{Union}
 use Rattle.scad_ast.specs.declared.statement.Binder.{Binder}
 use Rattle.scad_ast.specs.Terms.{BodyTerm, StatementTerms}
-use Rattle.scad_value.specs.declared.value.Value.{Value}
+use Rattle.scad_ast.specs.ExprView.{args_of}
 use Rattle.scad_ast.specs.StatementView.{binder_of}
+use Rattle.scad_value.specs.declared.value.Value.{Value}
 use Rattle.scad_value.specs.Values.{Val, Vals, vals_from}
 use Rattle.scad_value.specs.View.{val_of, vals_in}
-use Rattle.scad_scope.specs.Names.{Row}
-use Rattle.scad_scope.specs.Table.{rows_of, chain_of}
+use Rattle.scad_scope.specs.Names.{Row, oldest}
+use Rattle.scad_scope.specs.Table.{chain_of}
 use Rattle.scad_scope.specs.TextView.{module_of}
 use Rattle.scad_scope.specs.Blocks.{Module, statements_of_body}
-use Rattle.scad_modules.specs.declared.effects.Effect.{Effect}
-use Rattle.scad_modules.specs.View.{chosen_of, call_of}
-use Rattle.scad_func.specs.Meaning.{Outcome, Gives, Faults, Opened, no_call, then_with, or_fault, one_call_fewer, turn, each_parameter, Arguments, Slots, Setting, Env}
-use Rattle.scad_func.specs.View.{seen, text_of, arguments_of, slots_in, specials_in}
-use Rattle.scad_func.specs.Definitions.{statements_at}
-use Rattle.scad_func.specs.declared.source.Source.{Source}
 use Rattle.scad_scope.specs.declared.parameters.GivenArguments.{GivenArguments}
+use Rattle.scad_modules.specs.declared.effects.Effect.{Effect}
+use Rattle.scad_modules.specs.declared.table.BuiltinModule.{BuiltinModule}
+use Rattle.scad_modules.specs.View.{chosen_of, call_of}
+use Rattle.scad_design.specs.Designs.{moved_by}
+use Rattle.scad_func.specs.Meaning.{Outcome, Gives, Faults, Opened, Within, no_call, with_variable, then_with, or_fault, one_call_fewer, turn, each_parameter, Arguments, Slots, Setting, Env}
+use Rattle.scad_func.specs.View.{seen, text_of, arguments_of, slots_in, specials_in, IsNoMemory}
+use Rattle.scad_func.specs.Definitions.{statements_at}
+use Rattle.scad_func.specs.Evaluations.{SpecialsBegin}
+use Rattle.scad_func.specs.declared.source.Source.{Source}
+use Rattle.scad_pieces.specs.declared.numbered.NumberedInstance.{NumberedInstance}
 use Rattle.scad_pieces.specs.declared.position.Position.{Position}
+use Rattle.scad_pieces.specs.Calls.{chosen_seen, instances_chosen}
 use Rattle.scad_pieces.specs.Items.{remaining_in}
-use Rattle.scad_meaning.specs.Meaning.{Context, MemberDesigns, InstanceDesign, Evaluator, joined_members, no_design, as_member, and_members, body_design, hull_design, children_design, effect_design, each_member, each_step, each_turn, in_loop, module_scope, with_calls_left, with_chain, inside_scope, setting}
 use Rattle.scad_pieces.specs.Positions.{term_of_numbered, HasBlocks}
-use Rattle.scad_pieces.specs.Seen.{member_designs_of, one_member_of, apart}
-use Rattle.scad_eval.specs.declared.evaluator.InstanceEvaluator.{InstanceEvaluator}
-use Rattle.scad_func.specs.Evaluations.{CallBegins, SpecialsBegin}
+use Rattle.scad_pieces.specs.Seen.{one_member_of, member_designs_of, apart}
 use Rattle.scad_meaning.specs.Bodies.{is_child}
-use Rattle.scad_eval.specs.Keeping.{evaluations_left, evaluator_at, context_at, StopsBefore}
-use Rattle.scad_eval.specs.Steps.{block_members, module_filled, module_given, one_step}
-use Rattle.scad_eval.specs.Within.{body_seen}
+use Rattle.scad_meaning.specs.Meaning.{Context, MemberDesigns, InstanceDesign, Evaluator, joined_members, moved_design, no_design, as_member, and_members, body_design, hull_design, built_in_design, children_design, effect_design, after_step, each_member, each_step, each_turn, in_loop, module_scope, with_calls_left, with_chain, inside_scope, setting}
+use Rattle.scad_eval.specs.declared.evaluator.InstanceEvaluator.{InstanceEvaluator}
+use Rattle.scad_eval.specs.Keeping.{evaluations_left, evaluator_at, env_at, context_at, CountsCall, StopsBefore}
+use Rattle.scad_eval.specs.Steps.{block_members, module_filled, module_given, built_in_given, one_step}
+use Rattle.scad_eval.specs.Within.{body_seen, AreGivenTo}
 use Rattle.scad_eval.proofs.Work.{work_falls, work_same}
-use Rattle.scad_eval.proofs.Counting.{design_too_deep, call_counted, turn_counted}
+use Rattle.scad_eval.proofs.Counting.{design_too_deep, call_counted, call_too_deep, turn_counted}
 use Rattle.scad_eval.proofs.Membership.{child_is_member, as_member_outcome, member_step, loop_step, instances_here}
-use Rattle.scad_eval.proofs.Outcomes.{along, then_outcome, stop_outcome, outcome_with, value_outcome, lengthened, lengthening_stops}
-use Rattle.scad_eval.proofs.Contexts.{stays_same, stays_then, stays_kept, same_context, meets_after, meets_at}
-use Rattle.scad_eval.proofs.Beginning.{deeper_position}
-use Rattle.scad_eval.proofs.Equations.{refused_outcome, joined_outcome, entered_meets, body_entered, deeper_meets, call_meets, specials_meets, specials_setting, children_as_members, marked_form, begun_front, lengthened_on, first_outcome, OnOk-at_ok}
+use Rattle.scad_eval.proofs.Outcomes.{along, then_outcome, stop_outcome, only_no_memory, outcome_with, value_outcome, arguments_outcome, values_outcome, lengthened, lengthening_stops}
+use Rattle.scad_eval.proofs.Contexts.{stays_same, stays_alike, stays_then, stays_kept, same_context, meets_after, meets_at}
+use Rattle.scad_eval.proofs.Standing.{position_still, body_still, call_still, entered_position, entered_body, entered_newest, assigned_position, scope_entered, scope_bound, specials_begun, specials_there, call_begun, evaluation_begun, block_bound}
+use Rattle.scad_eval.proofs.Equations.{refused_outcome, joined_outcome, entered_meets, body_entered, block_meets, deeper_meets, call_meets, children_meets, specials_meets, specials_setting, built_in_refused, built_in_meets, children_as_members, marked_form, begun_front, lengthened_on, first_outcome, OnOk-at_ok}
 use Rattle.scad_eval.proofs.evaluator.InstanceEvaluator.+instances.Goals as goal
 
+pub body-members_in_scope-requires : goal.body-members_in_scope-requires
+body-members_in_scope-requires t c =
+    let m = c.args.self.now in
+    let e = c.in_ok-scope.ensures.entered in (
+      omega (arith, work_same c.enter_body.new.self.depth m.evaluation.depth e.depth, c.decreases),
+      (entered_position m _ c.args.position refl e c.at.ensures c.requires.stands.position, (entered_newest c.args.position e c.at.ensures, tt)),
+    )
+
+pub body-returns-in_err-members-clause-made : goal.body-returns-in_err-members-clause-made
+body-returns-in_err-members-clause-made t c =
+    let p = err_from_is_err_and c.from_residual-in_err-members.result c.from_residual-in_err-members.ensures.1 in
+    let m = c.args.self.now in
+    let e = c.in_ok-scope.ensures.entered in
+    rw (p.1, p.2) (record {
+      by = λ judge right.
+          stop_outcome (λ turns ms. Gives turns (joined_members c.args.op ms))
+          (body_entered m _ c.members_in_scope.new.self c.args.position c.at.result c.in_ok-scope.scope c.args.body.block no_call
+          (env_at m c.args.position.scope) None (statements_of_body (body_seen c.args.body))
+          c.requires.stands.position.whole c.requires.stands.block (record { unit = refl; leaves = refl; evaluation = e }) c.in_ok-scope.ensures.inside
+          c.enter_body.ensures.turns c.at.ensures c.in_err-members.ensures.members judge right);
+    })
+
 pub body-returns-clause-made : goal.body-returns-clause-made
-body-returns-clause-made t c = record {
+body-returns-clause-made t c =
+    let m = c.args.self.now in
+    let e = c.in_ok-scope.ensures.entered in
+    record {
+      by = λ judge right.
+          joined_outcome c.args.op c.in_ok-members.members c.in_ok-joined.field-0 _ _ _
+          (outcome_with c.leave.ensures.turns
+          (body_entered m _ c.members_in_scope.new.self c.args.position c.at.result c.in_ok-scope.scope c.args.body.block no_call
+          (env_at m c.args.position.scope) None (statements_of_body (body_seen c.args.body))
+          c.requires.stands.position.whole c.requires.stands.block (record { unit = refl; leaves = refl; evaluation = e }) c.in_ok-scope.ensures.inside
+          c.enter_body.ensures.turns c.at.ensures c.in_ok-members.ensures.members judge right))
+          c.in_ok-joined.ensures;
+    }
+
+pub body-returns-clause-stays : goal.body-returns-clause-stays
+body-returns-clause-stays t c =
+    let m = c.args.self.now in
+    let e = c.in_ok-scope.ensures.entered in
+    let b = c.in_ok-members.ensures.binds in
+    stays_kept m _ b.unit (c.leave.ensures.back m.evaluation (scope_bound m c.args.position c.at.ensures b e))
+
+pub members_in_scope-members-requires : goal.members_in_scope-members-requires
+members_in_scope-members-requires t c =
+    let m = c.args.self.now in
+    let a = c.in_ok-assign_all.ensures.assigns in (
+      omega (arith, work_same c.assign_all.new.self.evaluation.depth m.evaluation.depth a.depth, c.decreases),
+      (
+        assigned_position a c.requires.position,
+        subst (λ (is : List NumberedInstance). All (HasBlocks (text_of c.assign_all.new.self.evaluation.source.now)) is) (sym c.deref.ensures.value)
+            c.in_ok-instances.ensures.blocks,
+      ),
+    )
+
+pub members_in_scope-returns-in_err-assign_all-clause-members : goal.members_in_scope-returns-in_err-assign_all-clause-members
+members_in_scope-returns-in_err-assign_all-clause-members t c =
+    let p = err_from_is_err_and c.from_residual-in_err-assign_all.result c.from_residual-in_err-assign_all.ensures.1 in
+    let m = c.args.self.now in
+    rw (p.1, p.2) (record {
+      by = λ judge right.
+          stop_outcome (λ turns there. each_member (evaluator_at m judge) there (instances_chosen there.env (chosen_seen c.args.chosen)
+          (statements_at (text_of m.evaluation.source.now) c.args.block)) turns m.leaves)
+          (c.in_err-assign_all.ensures.assigned.by judge right);
+    })
+
+pub members_in_scope-returns-in_err-members-clause-members : goal.members_in_scope-returns-in_err-members-clause-members
+members_in_scope-returns-in_err-members-clause-members t c =
+    let p = err_from_is_err_and c.from_residual-in_err-members.result c.from_residual-in_err-members.ensures.1 in
+    rw (p.1, p.2) (record {
+      by = λ judge right.
+          block_meets c.args.self.now c.assign_all.new.self c.members.new.self c.args.position c.args.block c.args.position.scope (chosen_seen c.args.chosen)
+          (map term_of_numbered c.deref.result.now) c.in_ok-assign_all.ensures.assigns (c.in_ok-assign_all.ensures.assigned.by judge right)
+          (ap (map term_of_numbered) c.deref.ensures.value ∙ c.in_ok-instances.ensures.found) c.in_err-members.ensures.members judge right;
+    })
+
+pub members_in_scope-returns-clause-members : goal.members_in_scope-returns-clause-members
+members_in_scope-returns-clause-members t c = record {
   by = λ judge right.
-      joined_outcome c.args.op c.in_ok-members.members c.in_ok-joined.field-0 _ _ _ (c.in_ok-members.ensures.members.by judge right) c.in_ok-joined.ensures;
+      outcome_with c.end_specials.ensures.turns (
+      block_meets c.args.self.now c.assign_all.new.self c.members.new.self c.args.position c.args.block c.args.position.scope (chosen_seen c.args.chosen)
+      (map term_of_numbered c.deref.result.now) c.in_ok-assign_all.ensures.assigns (c.in_ok-assign_all.ensures.assigned.by judge right)
+      (ap (map term_of_numbered) c.deref.ensures.value ∙ c.in_ok-instances.ensures.found) c.in_ok-members.ensures.members judge right);
 }
+
+pub members_in_scope-returns-clause-binds : goal.members_in_scope-returns-clause-binds
+members_in_scope-returns-clause-binds t c =
+    let m = c.args.self.now in
+    block_bound m c.assign_all.new.self c.members.new.self _ c.args.position.scope c.in_ok-assign_all.ensures.assigns c.in_ok-members.ensures.stays refl
+    c.end_specials.ensures.same c.end_specials.ensures.rows
+    (c.end_specials.ensures.chain ∙ ap (λ n. oldest n (chain_of c.members.new.self.evaluation.scopes.now)) c.in_ok-length.ensures)
 
 pub children_made-returns-in-None-clause-made : goal.children_made-returns-in-None-clause-made
 children_made-returns-in-None-clause-made t c = record {
@@ -59,36 +151,222 @@ children_made-returns-in-None-clause-made t c = record {
       };
 }
 
-pub children_of-returns-in_err-members-clause-made : goal.children_of-returns-in_err-members-clause-made
-children_of-returns-in_err-members-clause-made t c =
-    let p = err_from_is_err_and c.from_residual-in_err-members.result c.from_residual-in_err-members.ensures.1 in
+pub children_made-members_in_scope-requires : goal.children_made-members_in_scope-requires
+children_made-members_in_scope-requires t c =
     let m = c.args.self.now in
-    let statements = statements_at (text_of m.evaluation.source.now) c.args.call.children in
-    let caller = seen m.evaluation.source.now (rows_of m.evaluation.scopes.now) c.args.call.caller in
+    let e = c.in_ok-scope-in-Some.ensures.entered in (
+      omega (arith, work_same c.enter_body.new.self.depth m.evaluation.depth e.depth, c.decreases),
+      (entered_position m _ c.args.position refl e c.at.ensures c.requires.position, (entered_newest c.args.position e c.at.ensures, c.requires.safe)),
+    )
+
+pub children_made-returns-in_err-members-in-Some-clause-made : goal.children_made-returns-in_err-members-in-Some-clause-made
+children_made-returns-in_err-members-in-Some-clause-made t c =
+    let p = err_from_is_err_and c.from_residual-in_err-members-in-Some.result c.from_residual-in_err-members-in-Some.ensures.1 in
+    let m = c.args.self.now in
+    let e = c.in_ok-scope-in-Some.ensures.entered in
+    let statements = statements_at (text_of m.evaluation.source.now) c.in-Some.call.children in
+    let caller = env_at m c.in-Some.call.caller in
     rw (p.1, p.2) (record {
       by = λ judge right.
-          along (children_as_members (evaluator_at m judge) (context_at m c.args.position) statements caller (chosen_of c.args.chosen.now) m.evaluation.turns m.leaves)
+          along (ap (λ (o : Opened). children_design (evaluator_at m judge) (context_at m c.args.position) o (chosen_of c.args.chosen.now) m.evaluation.turns m.leaves)
+          c.in-Some.ensures.value
+          ∙ children_as_members (evaluator_at m judge) (context_at m c.args.position) statements caller (chosen_of c.args.chosen.now) m.evaluation.turns m.leaves)
           (stop_outcome (λ turns ms. Gives turns (joined_members Union ms))
-          (body_entered m _ c.members_in_scope.new.self c.args.position c.at.result c.in_ok-scope.scope c.args.call.children no_call caller (Some (chosen_of c.args.chosen.now)) statements
-          c.requires.position.whole refl (record { unit = refl; leaves = refl; evaluation = c.in_ok-scope.ensures.entered }) c.in_ok-scope.ensures.inside c.enter_body.ensures.turns
-          c.at.ensures c.in_err-members.ensures.members judge right));
+          (body_entered m _ c.members_in_scope.new.self c.args.position c.at.result c.in_ok-scope-in-Some.scope c.in-Some.call.children no_call caller (Some (chosen_of c.args.chosen.now)) statements
+          c.requires.position.whole refl (record { unit = refl; leaves = refl; evaluation = e }) c.in_ok-scope-in-Some.ensures.inside c.enter_body.ensures.turns
+          c.at.ensures c.in_err-members-in-Some.ensures.members judge right));
     })
 
-pub children_of-returns-clause-made : goal.children_of-returns-clause-made
-children_of-returns-clause-made t c =
+pub children_made-returns-in_ok-joined-in-Some-clause-made : goal.children_made-returns-in_ok-joined-in-Some-clause-made
+children_made-returns-in_ok-joined-in-Some-clause-made t c =
     let m = c.args.self.now in
-    let statements = statements_at (text_of m.evaluation.source.now) c.args.call.children in
-    let caller = seen m.evaluation.source.now (rows_of m.evaluation.scopes.now) c.args.call.caller in
+    let e = c.in_ok-scope-in-Some.ensures.entered in
+    let statements = statements_at (text_of m.evaluation.source.now) c.in-Some.call.children in
+    let caller = env_at m c.in-Some.call.caller in
     record {
       by = λ judge right.
-          along (children_as_members (evaluator_at m judge) (context_at m c.args.position) statements caller (chosen_of c.args.chosen.now) m.evaluation.turns m.leaves)
-          (joined_outcome Union c.in_ok-members.members c.in_ok-joined.field-0 _ _ _
+          along (ap (λ (o : Opened). children_design (evaluator_at m judge) (context_at m c.args.position) o (chosen_of c.args.chosen.now) m.evaluation.turns m.leaves)
+          c.in-Some.ensures.value
+          ∙ children_as_members (evaluator_at m judge) (context_at m c.args.position) statements caller (chosen_of c.args.chosen.now) m.evaluation.turns m.leaves)
+          (joined_outcome Union c.in_ok-members-in-Some.members c.in_ok-joined-in-Some.field-0 _ _ _
           (outcome_with c.leave.ensures.turns
-          (body_entered m _ c.members_in_scope.new.self c.args.position c.at.result c.in_ok-scope.scope c.args.call.children no_call caller (Some (chosen_of c.args.chosen.now)) statements
-          c.requires.position.whole refl (record { unit = refl; leaves = refl; evaluation = c.in_ok-scope.ensures.entered }) c.in_ok-scope.ensures.inside c.enter_body.ensures.turns
-          c.at.ensures c.in_ok-members.ensures.members judge right))
-          c.in_ok-joined.ensures);
+          (body_entered m _ c.members_in_scope.new.self c.args.position c.at.result c.in_ok-scope-in-Some.scope c.in-Some.call.children no_call caller (Some (chosen_of c.args.chosen.now)) statements
+          c.requires.position.whole refl (record { unit = refl; leaves = refl; evaluation = e }) c.in_ok-scope-in-Some.ensures.inside c.enter_body.ensures.turns
+          c.at.ensures c.in_ok-members-in-Some.ensures.members judge right))
+          c.in_ok-joined-in-Some.ensures);
     }
+
+pub children_made-returns-in_ok-joined-in-Some-clause-stays : goal.children_made-returns-in_ok-joined-in-Some-clause-stays
+children_made-returns-in_ok-joined-in-Some-clause-stays t c =
+    let m = c.args.self.now in
+    let e = c.in_ok-scope-in-Some.ensures.entered in
+    let b = c.in_ok-members-in-Some.ensures.binds in
+    stays_kept m _ b.unit (c.leave.ensures.back m.evaluation (scope_bound m c.args.position c.at.ensures b e))
+
+pub children_called-children_made-requires : goal.children_called-children_made-requires
+children_called-children_made-requires t c =
+    let m = c.args.self.now in
+    let b = c.in_ok-begin_call.ensures.begun in (
+      omega (arith, work_same c.begin_call.new.self.depth m.evaluation.depth b.depth, c.decreases),
+      (position_still m _ refl b.source b.rows c.requires.position, c.requires.safe),
+    )
+
+pub children_called-returns-in_err-begin_call-clause-made : goal.children_called-returns-in_err-begin_call-clause-made
+children_called-returns-in_err-begin_call-clause-made t c =
+    let p = err_from_is_err_and c.from_residual.result c.from_residual.ensures.1 in
+    let m = c.args.self.now in
+    let r = c.in_err-begin_call.ensures.refused in
+    rw (p.1, p.2) (record {
+      by = λ judge right. along (call_too_deep m.evaluation.calls c.args.place _ r.0) (refused_outcome c.in_err-begin_call.field-0.0 _ _ TooDeep c.args.place r.1);
+    })
+
+pub children_called-returns-in_err-made-clause-made : goal.children_called-returns-in_err-made-clause-made
+children_called-returns-in_err-made-clause-made t c =
+    let p = err_from_is_err_and c.from_residual-in_err-made.result c.from_residual-in_err-made.ensures.1 in
+    let m = c.args.self.now in
+    rw (p.1, p.2) (record {
+      by = λ judge right.
+          children_meets m _ c.children_made.new.self c.args.position c.args.place (chosen_of c.args.chosen.now) refl refl
+          c.begin_call.ensures.turns c.in_ok-begin_call.ensures.begun c.in_err-made.ensures.made judge right;
+    })
+
+pub children_called-returns-clause-made : goal.children_called-returns-clause-made
+children_called-returns-clause-made t c =
+    let m = c.args.self.now in
+    record {
+      by = λ judge right.
+          outcome_with c.end_call.ensures.turns
+          (children_meets m _ c.children_made.new.self c.args.position c.args.place (chosen_of c.args.chosen.now) refl refl
+          c.begin_call.ensures.turns c.in_ok-begin_call.ensures.begun c.in_ok-made.ensures.made judge right);
+    }
+
+pub children_called-returns-clause-stays : goal.children_called-returns-clause-stays
+children_called-returns-clause-stays t c =
+    let m = c.args.self.now in
+    let k = c.in_ok-made.ensures.stays in
+    stays_kept m _ k.unit (c.end_call.ensures.back m.evaluation
+    (call_begun m k c.in_ok-begin_call.ensures.begun))
+
+pub built_in_made-returns-in_err-slots-clause-made : goal.built_in_made-returns-in_err-slots-clause-made
+built_in_made-returns-in_err-slots-clause-made t c =
+    let p = err_from_is_err_and c.from_residual.result c.from_residual.ensures.1 in
+    rw (p.1, p.2) (record {
+      by = λ judge right. only_no_memory _ (IfErr-at_err IsNoMemory c.in_err-slots.ensures.err c.begin_specials-begun.ensures.stop);
+    })
+
+pub built_in_made-effect_made-requires : goal.built_in_made-effect_made-requires
+built_in_made-effect_made-requires t c =
+    let m = c.args.self.now in
+    let ok = c.in_ok-slots.ensures.ok in
+    let begun : InstanceEvaluator = record { evaluation = c.begin_specials-begun.new.self; unit = m.unit; leaves = m.leaves; few_leaves = m.few_leaves } in
+    let begins : SpecialsBegin m.evaluation begun.evaluation c.in_ok-slots.length = IfOk-at_ok (λ (n : ℕ). SpecialsBegin m.evaluation begun.evaluation n) ok.1 c.begin_specials-begun.ensures.begun in (
+      omega (arith, work_same c.begin_specials-begun.new.self.depth m.evaluation.depth begins.depth, c.decreases),
+      (body_still m _ refl begins.source begins.rows c.requires.stands, c.in_ok-effect.ensures.safe),
+    )
+
+pub built_in_made-returns-in_err-effect-clause-made : goal.built_in_made-returns-in_err-effect-clause-made
+built_in_made-returns-in_err-effect-clause-made t c =
+    let p = err_from_is_err_and c.from_residual-in_err-effect.result c.from_residual-in_err-effect.ensures.1 in
+    let m = c.args.self.now in
+    let ok = c.in_ok-slots.ensures.ok in
+    let begun : InstanceEvaluator = record { evaluation = c.begin_specials-begun.new.self; unit = m.unit; leaves = m.leaves; few_leaves = m.few_leaves } in
+    let begins : SpecialsBegin m.evaluation begun.evaluation c.in_ok-slots.length = IfOk-at_ok (λ (n : ℕ). SpecialsBegin m.evaluation begun.evaluation n) ok.1 c.begin_specials-begun.ensures.begun in
+    let chain : chain_of begun.evaluation.scopes.now ≡ specials_in c.args.given.specials.items ++ chain_of m.evaluation.scopes.now = OnOk-at_ok ok.1 c.begin_specials-begun.ensures.chain in
+    rw (p.1, p.2) (record {
+      by = λ judge right.
+          built_in_refused m begun c.args.position c.args.place c.args.built_in (arguments_of c.args.given) (body_seen c.args.body) (slots_in c.in_ok-slots.slots.items) chain
+          (ap slots_in (ap (λ (v : Vec (Option Value) Global). v.items) (sym ok.0)))
+          c.in_err-effect.field-0.0 _ _ c.in_err-effect.ensures.effect judge;
+    })
+
+pub built_in_made-returns-in_err-made-clause-made : goal.built_in_made-returns-in_err-made-clause-made
+built_in_made-returns-in_err-made-clause-made t c =
+    let p = err_from_is_err_and c.from_residual-in_err-made.result c.from_residual-in_err-made.ensures.1 in
+    let m = c.args.self.now in
+    let ok = c.in_ok-slots.ensures.ok in
+    let begun : InstanceEvaluator = record { evaluation = c.begin_specials-begun.new.self; unit = m.unit; leaves = m.leaves; few_leaves = m.few_leaves } in
+    let begins : SpecialsBegin m.evaluation begun.evaluation c.in_ok-slots.length = IfOk-at_ok (λ (n : ℕ). SpecialsBegin m.evaluation begun.evaluation n) ok.1 c.begin_specials-begun.ensures.begun in
+    let chain : chain_of begun.evaluation.scopes.now ≡ specials_in c.args.given.specials.items ++ chain_of m.evaluation.scopes.now = OnOk-at_ok ok.1 c.begin_specials-begun.ensures.chain in
+    rw (p.1, p.2) (record {
+      by = λ judge right.
+          built_in_meets m begun c.args.position c.args.place c.args.built_in (arguments_of c.args.given) (body_seen c.args.body) (slots_in c.in_ok-slots.slots.items) chain
+          (ap slots_in (ap (λ (v : Vec (Option Value) Global). v.items) (sym ok.0)))
+          _ c.effect_made.new.self c.in_ok-slots.length (call_of c.in_ok-effect.effect) refl refl c.begin_specials-begun.ensures.turns begins (stays_alike begun _ refl refl) refl
+          c.in_ok-effect.ensures.effect
+          c.in_err-made.ensures.made judge right;
+    })
+
+pub built_in_made-returns-clause-made : goal.built_in_made-returns-clause-made
+built_in_made-returns-clause-made t c =
+    let m = c.args.self.now in
+    let ok = c.in_ok-slots.ensures.ok in
+    let begun : InstanceEvaluator = record { evaluation = c.begin_specials-begun.new.self; unit = m.unit; leaves = m.leaves; few_leaves = m.few_leaves } in
+    let begins : SpecialsBegin m.evaluation begun.evaluation c.in_ok-slots.length = IfOk-at_ok (λ (n : ℕ). SpecialsBegin m.evaluation begun.evaluation n) ok.1 c.begin_specials-begun.ensures.begun in
+    let chain : chain_of begun.evaluation.scopes.now ≡ specials_in c.args.given.specials.items ++ chain_of m.evaluation.scopes.now = OnOk-at_ok ok.1 c.begin_specials-begun.ensures.chain in
+    record {
+      by = λ judge right.
+          outcome_with c.end_specials.ensures.turns
+          (built_in_meets m begun c.args.position c.args.place c.args.built_in (arguments_of c.args.given) (body_seen c.args.body) (slots_in c.in_ok-slots.slots.items) chain
+          (ap slots_in (ap (λ (v : Vec (Option Value) Global). v.items) (sym ok.0)))
+          _ c.effect_made.new.self c.in_ok-slots.length (call_of c.in_ok-effect.effect) refl refl c.begin_specials-begun.ensures.turns begins (stays_alike begun _ refl refl) refl
+          c.in_ok-effect.ensures.effect
+          c.in_ok-made.ensures.made judge right);
+    }
+
+pub built_in_made-returns-clause-stays : goal.built_in_made-returns-clause-stays
+built_in_made-returns-clause-stays t c =
+    let m = c.args.self.now in
+    let ok = c.in_ok-slots.ensures.ok in
+    let begun : InstanceEvaluator = record { evaluation = c.begin_specials-begun.new.self; unit = m.unit; leaves = m.leaves; few_leaves = m.few_leaves } in
+    let begins : SpecialsBegin m.evaluation begun.evaluation c.in_ok-slots.length = IfOk-at_ok (λ (n : ℕ). SpecialsBegin m.evaluation begun.evaluation n) ok.1 c.begin_specials-begun.ensures.begun in
+    let k = c.in_ok-made.ensures.stays in
+    stays_kept m _ k.unit (c.end_specials.ensures.back m.evaluation (specials_begun m c.in_ok-slots.length k begins))
+
+pub built_in_made-end_specials-requires : goal.built_in_made-end_specials-requires
+built_in_made-end_specials-requires t c =
+    let m = c.args.self.now in
+    let ok = c.in_ok-slots.ensures.ok in
+    let begun : InstanceEvaluator = record { evaluation = c.begin_specials-begun.new.self; unit = m.unit; leaves = m.leaves; few_leaves = m.few_leaves } in
+    let begins : SpecialsBegin m.evaluation begun.evaluation c.in_ok-slots.length = IfOk-at_ok (λ (n : ℕ). SpecialsBegin m.evaluation begun.evaluation n) ok.1 c.begin_specials-begun.ensures.begun in
+    let chain : chain_of begun.evaluation.scopes.now ≡ specials_in c.args.given.specials.items ++ chain_of m.evaluation.scopes.now = OnOk-at_ok ok.1 c.begin_specials-begun.ensures.chain in
+    specials_there m c.in_ok-slots.length (specials_in c.args.given.specials.items) c.in_ok-made.ensures.stays begins chain
+
+pub built_in_called-returns-in_err-given-in-Some-clause-made : goal.built_in_called-returns-in_err-given-in-Some-clause-made
+built_in_called-returns-in_err-given-in-Some-clause-made t c =
+    let p = err_from_is_err_and c.from_residual.result c.from_residual.ensures.1 in
+    let m = c.args.self.now in
+    rw (p.1, p.2) (record {
+      by = λ judge right.
+          along (ap (λ (o : Option BuiltinModule). built_in_design (evaluator_at m judge) (context_at m c.args.position) c.args.place c.args.name.now (args_of c.args.args.now) (body_seen c.args.body) o m.evaluation.turns m.leaves)
+          (sym c.in-Some.ensures))
+          (stop_outcome (λ turns given. built_in_given (evaluator_at m judge) c.args.place c.in-Some.built_in given (body_seen c.args.body) (context_at m c.args.position) turns m.leaves)
+          (arguments_outcome (Err c.in_err-given-in-Some.field-0.0) c.arguments_for.new.evaluation.turns m.leaves _ c.in_err-given-in-Some.ensures.value));
+    })
+
+pub built_in_called-returns-in_ok-given-in-Some-clause-made : goal.built_in_called-returns-in_ok-given-in-Some-clause-made
+built_in_called-returns-in_ok-given-in-Some-clause-made t c =
+    let m = c.args.self.now in
+    record {
+      by = λ judge right.
+          along (ap (λ (o : Option BuiltinModule). built_in_design (evaluator_at m judge) (context_at m c.args.position) c.args.place c.args.name.now (args_of c.args.args.now) (body_seen c.args.body) o m.evaluation.turns m.leaves)
+          (sym c.in-Some.ensures))
+          (then_outcome (λ turns given. built_in_given (evaluator_at m judge) c.args.place c.in-Some.built_in given (body_seen c.args.body) (context_at m c.args.position) turns m.leaves)
+          (arguments_outcome (Ok c.in_ok-given-in-Some.given) c.arguments_for.new.evaluation.turns m.leaves _ c.in_ok-given-in-Some.ensures.value)
+          (meets_after (stays_kept m _ refl c.arguments_for.ensures.kept) c.built_in_made.ensures.made judge right));
+    }
+
+pub built_in_called-returns-in_ok-given-in-Some-clause-stays : goal.built_in_called-returns-in_ok-given-in-Some-clause-stays
+built_in_called-returns-in_ok-given-in-Some-clause-stays t c =
+    on_ok_weaker c.built_in_made.result (λ k. stays_then (stays_kept c.args.self.now _ refl c.arguments_for.ensures.kept) k)
+    c.built_in_made.ensures.stays
+
+pub built_in_called-built_in_made-requires : goal.built_in_called-built_in_made-requires
+built_in_called-built_in_made-requires t c =
+    let m = c.args.self.now in
+    let k = c.arguments_for.ensures.kept in (
+      omega (arith, work_same c.arguments_for.new.evaluation.depth m.evaluation.depth k.depth, c.decreases),
+      (body_still m _ refl k.source k.rows c.requires.stands, c.in_ok-given-in-Some.ensures.value.1),
+    )
 
 pub effect_made-returns-in-Solid-clause-made : goal.effect_made-returns-in-Solid-clause-made
 effect_made-returns-in-Solid-clause-made t c = record {
@@ -99,11 +377,35 @@ effect_made-returns-in-Solid-clause-made t c = record {
       ((c.solid.ensures.made c.args.position).by judge right);
 }
 
-pub hulled-returns-clause-made : goal.hulled-returns-clause-made
-hulled-returns-clause-made t c = record {
-  by = λ judge right. then_outcome (λ turns m. hull_design (judge.hull m.design) c.args.place m turns)
-      (c.in_ok-made.ensures.made.by judge right) ((c.hull.ensures.made c.args.position).by judge right);
-}
+pub effect_made-returns-in_err-made-in-Hull-clause-made : goal.effect_made-returns-in_err-made-in-Hull-clause-made
+effect_made-returns-in_err-made-in-Hull-clause-made t c =
+    let p = err_from_is_err_and c.from_residual.result c.from_residual.ensures.1 in
+    let m = c.args.self.now in
+    rw (p.1, p.2) (record {
+      by = λ judge right.
+          along (ap (λ (e : Effect). effect_design (evaluator_at m judge) (context_at m c.args.position) c.args.place (call_of e) (body_seen c.args.body) m.evaluation.turns m.leaves)
+          c.in-Hull.is)
+          (stop_outcome (λ turns m. hull_design (judge.hull m.design) c.args.place m turns) (c.in_err-made-in-Hull.ensures.made.by judge right));
+    })
+
+pub effect_made-returns-in_ok-made-in-Hull-clause-made : goal.effect_made-returns-in_ok-made-in-Hull-clause-made
+effect_made-returns-in_ok-made-in-Hull-clause-made t c =
+    let m = c.args.self.now in
+    record {
+      by = λ judge right.
+          along (ap (λ (e : Effect). effect_design (evaluator_at m judge) (context_at m c.args.position) c.args.place (call_of e) (body_seen c.args.body) m.evaluation.turns m.leaves)
+          c.in-Hull.is)
+          (then_outcome (λ turns m. hull_design (judge.hull m.design) c.args.place m turns)
+          (c.in_ok-made-in-Hull.ensures.made.by judge right) ((c.hull.ensures.made c.args.position).by judge right));
+    }
+
+pub moved-returns-in_err-design-clause-made : goal.moved-returns-in_err-design-clause-made
+moved-returns-in_err-design-clause-made t c =
+    let p = err_from_is_err_and c.from_residual.result c.from_residual.ensures.1 in
+    rw (p.1, p.2) (record {
+      by = λ judge right.
+          stop_outcome (λ turns m. Gives turns (moved_design (moved_by c.args.steps.now) m)) (c.in_err-design.ensures.made.by judge right);
+    })
 
 pub instance-returns-in_err-begin_evaluation-clause-made : goal.instance-returns-in_err-begin_evaluation-clause-made
 instance-returns-in_err-begin_evaluation-clause-made t c =
@@ -123,7 +425,7 @@ instance-marked_or_not-requires t c =
     let b = c.in_ok-begin_evaluation.ensures.begun in (
       omega (arith, work_falls m.evaluation.depth b.within, work_same c.begin_evaluation.new.self.depth (m.evaluation.depth + 1) b.depth, c.decreases),
       (
-        deeper_position m _ c.args.position refl b c.requires.position,
+        position_still m _ refl b.source b.rows c.requires.position,
         subst (λ (x : Source). HasBlocks (text_of x) c.args.instance) (sym b.source) c.requires.blocks,
       ),
     )
@@ -144,6 +446,25 @@ instance-returns-clause-made t c = record {
       (deeper_meets c.args.self.now _ c.marked_or_not.new.self c.args.position (term_of_numbered c.args.instance) refl refl c.begin_evaluation.ensures.turns
       c.in_ok-begin_evaluation.ensures.begun c.in_ok-made.ensures.made judge right);
 }
+
+pub instance-returns-clause-stays : goal.instance-returns-clause-stays
+instance-returns-clause-stays t c =
+    let m = c.args.self.now in
+    let k = c.in_ok-made.ensures.stays in
+    stays_kept m _ k.unit (c.end_evaluation.ensures.back m.evaluation
+    (evaluation_begun m k c.in_ok-begin_evaluation.ensures.begun))
+
+pub looped-returns-in_err-members-clause-made : goal.looped-returns-in_err-members-clause-made
+looped-returns-in_err-members-clause-made t c =
+    let p = err_from_is_err_and c.from_residual.result c.from_residual.ensures.1 in
+    let m = c.args.self.now in
+    rw (p.1, p.2) (record {
+      by = λ judge right.
+          stop_outcome (λ turns ms. Gives turns (joined_members c.args.op ms))
+          (along (ap (λ (bs : List Binder). each_turn (evaluator_at m judge) c.args.place (map binder_of bs) (body_seen c.args.body) (context_at m c.args.position) m.evaluation.turns m.leaves)
+          (sym c.deref.ensures.value))
+          (c.in_err-members.ensures.members.by judge right));
+    })
 
 pub looped-returns-clause-made : goal.looped-returns-clause-made
 looped-returns-clause-made t c = record {
@@ -173,6 +494,21 @@ members-each-init t c = record {
   stays = stays_same c.args.self.now;
   told = λ judge right. begun_front c.no_members-members.result c.args.self.now.leaves _ (c.no_members-members.ensures c.args.self.now.leaves);
 }
+
+pub members-instance-next-requires : goal.members-instance-next-requires
+members-instance-next-requires t c =
+    let m = c.args.self.now in
+    let k = c.each.invariant.stays in
+    let xs = c.args.instances.now in
+    let i = c.each.instance-index in
+    let h : i < length xs = omega (arith, c.each-test.true) in (
+      omega (arith, work_same c.each.self.evaluation.depth m.evaluation.depth k.depth, c.decreases),
+      (
+        position_still m _ k.unit k.source k.rows c.requires.position,
+        subst (λ (x : Source). HasBlocks (text_of x) c.instance-item.result) (sym k.source)
+            (subst (λ (x : NumberedInstance). HasBlocks (text_of m.evaluation.source.now) x) (sym c.instance-item.is) (c.requires.blocks i c.instance-item.result h)),
+      ),
+    )
 
 pub members-each-preserved : goal.members-each-preserved
 members-each-preserved t c =
@@ -205,30 +541,6 @@ members-each-preserved t c =
           (as_member_outcome b (meets_after inv.stays c.instance-next.ensures.made judge right));
     }
 
-pub members_of_body-returns-in_err-members-clause-members : goal.members_of_body-returns-in_err-members-clause-members
-members_of_body-returns-in_err-members-clause-members t c =
-    let p = err_from_is_err_and c.from_residual-in_err-members.result c.from_residual-in_err-members.ensures.1 in
-    let m = c.args.self.now in
-    rw (p.1, p.2) (record {
-      by = λ judge right.
-          body_entered m _ c.members_in_scope.new.self c.args.position c.at.result c.in_ok-scope.scope c.args.body.block no_call
-          (seen m.evaluation.source.now (rows_of m.evaluation.scopes.now) c.args.position.scope) None (statements_of_body (body_seen c.args.body))
-          c.requires.position.whole c.requires.block (record { unit = refl; leaves = refl; evaluation = c.in_ok-scope.ensures.entered }) c.in_ok-scope.ensures.inside
-          c.enter_body.ensures.turns c.at.ensures c.in_err-members.ensures.members judge right;
-    })
-
-pub members_of_body-returns-clause-members : goal.members_of_body-returns-clause-members
-members_of_body-returns-clause-members t c =
-    let m = c.args.self.now in
-    record {
-      by = λ judge right.
-          outcome_with c.leave.ensures.turns
-          (body_entered m _ c.members_in_scope.new.self c.args.position c.at.result c.in_ok-scope.scope c.args.body.block no_call
-          (seen m.evaluation.source.now (rows_of m.evaluation.scopes.now) c.args.position.scope) None (statements_of_body (body_seen c.args.body))
-          c.requires.position.whole c.requires.block (record { unit = refl; leaves = refl; evaluation = c.in_ok-scope.ensures.entered }) c.in_ok-scope.ensures.inside
-          c.enter_body.ensures.turns c.at.ensures c.in_ok-members.ensures.members judge right);
-    }
-
 pub module_called-returns-in_err-given-clause-made : goal.module_called-returns-in_err-given-clause-made
 module_called-returns-in_err-given-clause-made t c =
     let p = err_from_is_err_and c.from_residual.result c.from_residual.ensures.1 in
@@ -236,9 +548,22 @@ module_called-returns-in_err-given-clause-made t c =
     rw (p.1, p.2) (record {
       by = λ judge right.
           IfErr-at_err (StopsBefore m.evaluation c.args.place) c.in_err-given.ensures.err c.begin_counted_call-begun.ensures.refused
-          (λ calls turns. module_given (evaluator_at m judge) (module_of c.args.defined, seen m.evaluation.source.now (rows_of m.evaluation.scopes.now) c.args.home)
+          (λ calls turns. module_given (evaluator_at m judge) (module_of c.args.defined, env_at m c.args.home)
           (arguments_of c.args.given) (body_seen c.args.body) (with_calls_left (context_at m c.args.position) calls) turns m.leaves) _ _;
     })
+
+pub module_called-module_with_specials-requires : goal.module_called-module_with_specials-requires
+module_called-module_with_specials-requires t c =
+    let m = c.args.self.now in
+    let mid = c.begin_counted_call-begun.new.self in
+    let ok = c.in_ok-given.ensures.ok in
+    let counted : CountsCall m mid = OnOk-at_ok ok.1 c.begin_counted_call-begun.ensures.counted in (
+      omega (arith, work_same mid.evaluation.depth m.evaluation.depth counted.begun.depth, c.decreases),
+      (
+        call_still m _ counted.unit counted.begun.source counted.begun.rows c.requires.called,
+        subst (λ (given : GivenArguments Value). AreGivenTo c.args.defined given) (sym ok.0) c.requires.given,
+      ),
+    )
 
 -- a module called from where its call was counted
 module_counted : (m : InstanceEvaluator) (calls turns : ℕ) (place : Place) (go : ℕ → ℕ → Outcome InstanceDesign) → m.evaluation.calls < 64 → m.evaluation.turns < 100000
@@ -255,18 +580,17 @@ module_called-returns-in_err-made-clause-made t c =
     let m = c.args.self.now in
     let mid = c.begin_counted_call-begun.new.self in
     let ok = c.in_ok-given.ensures.ok in
-    let begun : CallBegins m.evaluation mid.evaluation = OnOk-at_ok ok.1 c.begin_counted_call-begun.ensures.begun in
-    let counted : (m.evaluation.turns < 100000) × (mid.evaluation.turns ≡ m.evaluation.turns + 1) = OnOk-at_ok ok.1 c.begin_counted_call-begun.ensures.counted in
+    let counted : CountsCall m mid = OnOk-at_ok ok.1 c.begin_counted_call-begun.ensures.counted in
     rw (p.1, p.2) (record {
       by = λ judge right.
           along (module_counted m (64 - (m.evaluation.calls + 1)) mid.evaluation.turns c.args.place
-          (λ calls turns. module_given (evaluator_at m judge) (module_of c.args.defined, seen m.evaluation.source.now (rows_of m.evaluation.scopes.now) c.args.home)
+          (λ calls turns. module_given (evaluator_at m judge) (module_of c.args.defined, env_at m c.args.home)
           (arguments_of c.args.given) (body_seen c.args.body) (with_calls_left (context_at m c.args.position) calls) turns m.leaves)
-          begun.within counted.0 refl counted.1
-          ∙ ap (λ (given : GivenArguments Value). module_given (evaluator_at m judge) (module_of c.args.defined, seen m.evaluation.source.now (rows_of m.evaluation.scopes.now) c.args.home)
+          counted.begun.within counted.few refl counted.turns
+          ∙ ap (λ (given : GivenArguments Value). module_given (evaluator_at m judge) (module_of c.args.defined, env_at m c.args.home)
           (arguments_of given) (body_seen c.args.body) (with_calls_left (context_at m c.args.position) (64 - (m.evaluation.calls + 1))) mid.evaluation.turns m.leaves) (sym ok.0))
           (call_meets (λ (x : Source) (rows : List Row) evaluator. module_given evaluator (module_of c.args.defined, seen x rows c.args.home) (arguments_of c.in_ok-given.given) (body_seen c.args.body))
-          m mid c.module_with_specials.new.self c.args.position c.begin_counted_call-begun.ensures.unit c.begin_counted_call-begun.ensures.leaves begun c.in_err-made.ensures.made judge right);
+          m mid c.module_with_specials.new.self c.args.position counted.unit counted.leaves counted.begun c.in_err-made.ensures.made judge right);
     })
 
 pub module_called-returns-clause-made : goal.module_called-returns-clause-made
@@ -274,26 +598,60 @@ module_called-returns-clause-made t c =
     let m = c.args.self.now in
     let mid = c.begin_counted_call-begun.new.self in
     let ok = c.in_ok-given.ensures.ok in
-    let begun : CallBegins m.evaluation mid.evaluation = OnOk-at_ok ok.1 c.begin_counted_call-begun.ensures.begun in
-    let counted : (m.evaluation.turns < 100000) × (mid.evaluation.turns ≡ m.evaluation.turns + 1) = OnOk-at_ok ok.1 c.begin_counted_call-begun.ensures.counted in
+    let counted : CountsCall m mid = OnOk-at_ok ok.1 c.begin_counted_call-begun.ensures.counted in
     record {
       by = λ judge right.
           outcome_with c.end_call.ensures.turns
           (along (module_counted m (64 - (m.evaluation.calls + 1)) mid.evaluation.turns c.args.place
-          (λ calls turns. module_given (evaluator_at m judge) (module_of c.args.defined, seen m.evaluation.source.now (rows_of m.evaluation.scopes.now) c.args.home)
+          (λ calls turns. module_given (evaluator_at m judge) (module_of c.args.defined, env_at m c.args.home)
           (arguments_of c.args.given) (body_seen c.args.body) (with_calls_left (context_at m c.args.position) calls) turns m.leaves)
-          begun.within counted.0 refl counted.1
-          ∙ ap (λ (given : GivenArguments Value). module_given (evaluator_at m judge) (module_of c.args.defined, seen m.evaluation.source.now (rows_of m.evaluation.scopes.now) c.args.home)
+          counted.begun.within counted.few refl counted.turns
+          ∙ ap (λ (given : GivenArguments Value). module_given (evaluator_at m judge) (module_of c.args.defined, env_at m c.args.home)
           (arguments_of given) (body_seen c.args.body) (with_calls_left (context_at m c.args.position) (64 - (m.evaluation.calls + 1))) mid.evaluation.turns m.leaves) (sym ok.0))
           (call_meets (λ (x : Source) (rows : List Row) evaluator. module_given evaluator (module_of c.args.defined, seen x rows c.args.home) (arguments_of c.in_ok-given.given) (body_seen c.args.body))
-          m mid c.module_with_specials.new.self c.args.position c.begin_counted_call-begun.ensures.unit c.begin_counted_call-begun.ensures.leaves begun c.in_ok-made.ensures.made judge right));
+          m mid c.module_with_specials.new.self c.args.position counted.unit counted.leaves counted.begun c.in_ok-made.ensures.made judge right));
     }
+
+pub module_called-returns-clause-stays : goal.module_called-returns-clause-stays
+module_called-returns-clause-stays t c =
+    let m = c.args.self.now in
+    let mid = c.begin_counted_call-begun.new.self in
+    let ok = c.in_ok-given.ensures.ok in
+    let counted : CountsCall m mid = OnOk-at_ok ok.1 c.begin_counted_call-begun.ensures.counted in
+    let k = c.in_ok-made.ensures.stays in
+    stays_kept m _ (k.unit ∙ counted.unit) (c.end_call.ensures.back m.evaluation (call_begun m k counted.begun))
+
+pub module_made-members_in_scope-requires : goal.module_made-members_in_scope-requires
+module_made-members_in_scope-requires t c =
+    let m = c.args.self.now in
+    let e = c.in_ok-opened.ensures.entered in (
+      omega (arith, work_same c.enter_module.new.self.evaluation.depth m.evaluation.depth e.evaluation.depth, c.decreases),
+      (entered_position m _ c.args.position e.unit e.evaluation c.at.ensures c.requires.called.position, (entered_newest c.args.position e.evaluation c.at.ensures, tt)),
+    )
+
+pub module_made-returns-in_err-members-clause-made : goal.module_made-returns-in_err-members-clause-made
+module_made-returns-in_err-members-clause-made t c =
+    let p = err_from_is_err_and c.from_residual-in_err-members.result c.from_residual-in_err-members.ensures.1 in
+    let m = c.args.self.now in
+    let home = env_at m c.args.home in
+    let caller = env_at m c.args.position.scope in
+    let vs = vals_from (vals_in c.args.values.items) in
+    let env = module_scope home (module_of c.args.defined) vs (statements_of_body (body_seen c.args.body)) caller in
+    rw (p.1, p.2) (record {
+      by = λ judge right.
+          stop_outcome (λ turns ms. Gives turns (joined_members Union ms))
+          (along (ap (λ (st : StatementTerms). block_members (evaluator_at m judge) None st (inside_scope (context_at m c.args.position) env) m.evaluation.turns m.leaves)
+          (sym c.requires.called.its_block))
+          (entered_meets (λ (x : Source) evaluator. block_members evaluator None (statements_at (text_of x) c.args.defined.block))
+          m c.enter_module.new.self c.members_in_scope.new.self c.args.position c.at.result c.in_ok-opened.opened env c.in_ok-opened.ensures.entered c.in_ok-opened.ensures.inside
+          c.enter_module.ensures.turns c.at.ensures c.in_err-members.ensures.members judge right));
+    })
 
 pub module_made-returns-clause-made : goal.module_made-returns-clause-made
 module_made-returns-clause-made t c =
     let m = c.args.self.now in
-    let home = seen m.evaluation.source.now (rows_of m.evaluation.scopes.now) c.args.home in
-    let caller = seen m.evaluation.source.now (rows_of m.evaluation.scopes.now) c.args.position.scope in
+    let home = env_at m c.args.home in
+    let caller = env_at m c.args.position.scope in
     let vs = vals_from (vals_in c.args.values.items) in
     let env = module_scope home (module_of c.args.defined) vs (statements_of_body (body_seen c.args.body)) caller in
     record {
@@ -301,23 +659,74 @@ module_made-returns-clause-made t c =
           joined_outcome Union c.in_ok-members.members c.in_ok-joined.field-0 _ _ _
           (outcome_with c.leave.ensures.turns
           (along (ap (λ (st : StatementTerms). block_members (evaluator_at m judge) None st (inside_scope (context_at m c.args.position) env) m.evaluation.turns m.leaves)
-          (sym c.requires.its_block))
+          (sym c.requires.called.its_block))
           (entered_meets (λ (x : Source) evaluator. block_members evaluator None (statements_at (text_of x) c.args.defined.block))
           m c.enter_module.new.self c.members_in_scope.new.self c.args.position c.at.result c.in_ok-opened.opened env c.in_ok-opened.ensures.entered c.in_ok-opened.ensures.inside
           c.enter_module.ensures.turns c.at.ensures c.in_ok-members.ensures.members judge right)))
           c.in_ok-joined.ensures;
     }
 
--- a module whose parameters have their values
-filled_from : (evaluator : Evaluator) (defined : Module) (home : Env) (given : Arguments) (body : BodyTerm) (there : Context) (from : Setting) (slots : Slots)
-    (start leaves : ℕ) {turns after : ℕ} {vs : Vals} → from ≡ setting evaluator.evaluations (inside_scope there home) → given.slots ≡ slots → start ≡ turns
-    → each_parameter from defined.params slots start ≡ Gives after vs
-    → then_with (each_parameter (setting evaluator.evaluations (inside_scope there home)) defined.params given.slots turns) (λ turns vs. module_filled evaluator (defined, home) vs body there turns leaves)
-    ≡ module_filled evaluator (defined, home) vs body there after leaves
-filled_from evaluator defined home given body there from slots start leaves {turns = turns} same slot more h =
-    ap (λ o. then_with o (λ turns vs. module_filled evaluator (defined, home) vs body there turns leaves))
-    (ap (λ s. each_parameter s defined.params given.slots turns) (sym same) ∙ ap (λ s. each_parameter from defined.params s turns) slot
-    ∙ ap (λ n. each_parameter from defined.params slots n) (sym more) ∙ h)
+pub module_made-returns-clause-stays : goal.module_made-returns-clause-stays
+module_made-returns-clause-stays t c =
+    let m = c.args.self.now in
+    let e = c.in_ok-opened.ensures.entered in
+    let b = c.in_ok-members.ensures.binds in
+    stays_kept m _ (b.unit ∙ e.unit) (c.leave.ensures.back m.evaluation
+    (scope_bound m c.args.position c.at.ensures b e.evaluation))
+
+-- the values of a module's parameters, and the module with them
+module _ (evaluator : Evaluator) (defined : Module) (home : Env) (given : Arguments) (there : Context) (from : Setting) (slots : Slots) (start : ℕ) {turns : ℕ}
+    (same : from ≡ setting evaluator.evaluations (inside_scope there home)) (slot : given.slots ≡ slots) (more : start ≡ turns) where
+  parameters_from : each_parameter (setting evaluator.evaluations (inside_scope there home)) defined.params given.slots turns ≡ each_parameter from defined.params slots start
+  parameters_from =
+      ap (λ s. each_parameter s defined.params given.slots turns) (sym same) ∙ ap (λ s. each_parameter from defined.params s turns) slot
+      ∙ ap (λ n. each_parameter from defined.params slots n) (sym more)
+
+  filled_from : (body : BodyTerm) (leaves : ℕ) {after : ℕ} {vs : Vals} → each_parameter from defined.params slots start ≡ Gives after vs
+      → then_with (each_parameter (setting evaluator.evaluations (inside_scope there home)) defined.params given.slots turns) (λ turns vs. module_filled evaluator (defined, home) vs body there turns leaves)
+      ≡ module_filled evaluator (defined, home) vs body there after leaves
+  filled_from body leaves h = ap (λ o. then_with o (λ turns vs. module_filled evaluator (defined, home) vs body there turns leaves)) (parameters_from ∙ h)
+
+pub module_with_specials-returns-in_err-slots-clause-made : goal.module_with_specials-returns-in_err-slots-clause-made
+module_with_specials-returns-in_err-slots-clause-made t c =
+    let p = err_from_is_err_and c.from_residual.result c.from_residual.ensures.1 in
+    rw (p.1, p.2) (record {
+      by = λ judge right. only_no_memory _ (IfErr-at_err IsNoMemory c.in_err-slots.ensures.err c.begin_specials-begun.ensures.stop);
+    })
+
+pub module_with_specials-module_made-requires : goal.module_with_specials-module_made-requires
+module_with_specials-module_made-requires t c =
+    let m = c.args.self.now in
+    let ok = c.in_ok-slots.ensures.ok in
+    let begun : InstanceEvaluator = record { evaluation = c.begin_specials-begun.new.self; unit = m.unit; leaves = m.leaves; few_leaves = m.few_leaves } in
+    let begins : SpecialsBegin m.evaluation begun.evaluation c.in_ok-slots.length = IfOk-at_ok (λ (n : ℕ). SpecialsBegin m.evaluation begun.evaluation n) ok.1 c.begin_specials-begun.ensures.begun in
+    let k = c.each_parameter.ensures.kept in (
+      omega (arith, work_same c.each_parameter.new.self.depth m.evaluation.depth (k.depth ∙ begins.depth), c.decreases),
+      (
+        call_still m _ refl (k.source ∙ begins.source) (k.rows ∙ begins.rows) c.requires.called,
+        record { count = c.in_ok-values.ensures.count; bounded = c.in_ok-values.ensures.value.1 },
+      ),
+    )
+
+pub module_with_specials-returns-in_err-values-clause-made : goal.module_with_specials-returns-in_err-values-clause-made
+module_with_specials-returns-in_err-values-clause-made t c =
+    let p = err_from_is_err_and c.from_residual-in_err-values.result c.from_residual-in_err-values.ensures.1 in
+    let m = c.args.self.now in
+    let ok = c.in_ok-slots.ensures.ok in
+    let begun : InstanceEvaluator = record { evaluation = c.begin_specials-begun.new.self; unit = m.unit; leaves = m.leaves; few_leaves = m.few_leaves } in
+    let begins : SpecialsBegin m.evaluation begun.evaluation c.in_ok-slots.length = IfOk-at_ok (λ (n : ℕ). SpecialsBegin m.evaluation begun.evaluation n) ok.1 c.begin_specials-begun.ensures.begun in
+    let chain : chain_of begun.evaluation.scopes.now ≡ specials_in c.args.given.specials.items ++ chain_of m.evaluation.scopes.now = OnOk-at_ok ok.1 c.begin_specials-begun.ensures.chain in
+    rw (p.1, p.2) (record {
+      by = λ judge right.
+          let given = arguments_of c.args.given in
+          let home = env_at m c.args.home in
+          let there = with_chain (context_at m c.args.position) (given.specials ++ chain_of m.evaluation.scopes.now) in
+          let go : ℕ → Vals → Outcome InstanceDesign = λ turns vs. module_filled (evaluator_at m judge) (module_of c.args.defined, home) vs (body_seen c.args.body) there turns m.leaves in
+          along (ap (λ o. then_with o go) (parameters_from (evaluator_at m judge) (module_of c.args.defined) home given there _ _ _
+          (specials_setting m begun c.args.position c.args.home c.in_ok-slots.length given.specials begins chain)
+          (ap slots_in (ap (λ (v : Vec (Option Value) Global). v.items) (sym ok.0))) c.begin_specials-begun.ensures.turns))
+          (stop_outcome go (values_outcome (Err c.in_err-values.field-0.0) c.each_parameter.new.self.turns m.leaves _ c.in_err-values.ensures.value));
+    })
 
 pub module_with_specials-returns-in_err-made-clause-made : goal.module_with_specials-returns-in_err-made-clause-made
 module_with_specials-returns-in_err-made-clause-made t c =
@@ -330,11 +739,12 @@ module_with_specials-returns-in_err-made-clause-made t c =
     rw (p.1, p.2) (record {
       by = λ judge right.
           let given = arguments_of c.args.given in
-          let home = seen m.evaluation.source.now (rows_of m.evaluation.scopes.now) c.args.home in
+          let home = env_at m c.args.home in
           let there = with_chain (context_at m c.args.position) (given.specials ++ chain_of m.evaluation.scopes.now) in
-          along (filled_from (evaluator_at m judge) (module_of c.args.defined) home given (body_seen c.args.body) there _ _ _ m.leaves
+          along (filled_from (evaluator_at m judge) (module_of c.args.defined) home given there _ _ _
           (specials_setting m begun c.args.position c.args.home c.in_ok-slots.length given.specials begins chain)
-          (ap slots_in (ap (λ (v : Vec (Option Value) Global). v.items) (sym ok.0))) c.begin_specials-begun.ensures.turns c.in_ok-values.ensures.value.0)
+          (ap slots_in (ap (λ (v : Vec (Option Value) Global). v.items) (sym ok.0))) c.begin_specials-begun.ensures.turns
+          (body_seen c.args.body) m.leaves c.in_ok-values.ensures.value.0)
           (specials_meets (λ (x : Source) (rows : List Row) evaluator. module_filled evaluator (module_of c.args.defined, seen x rows c.args.home) (vals_from (vals_in c.in_ok-values.values.items)) (body_seen c.args.body))
           m begun _ c.module_made.new.self c.args.position c.in_ok-slots.length given.specials refl refl begins chain
           (stays_kept begun _ refl c.each_parameter.ensures.kept) refl c.in_err-made.ensures.made judge right);
@@ -350,16 +760,36 @@ module_with_specials-returns-clause-made t c =
     record {
       by = λ judge right.
           let given = arguments_of c.args.given in
-          let home = seen m.evaluation.source.now (rows_of m.evaluation.scopes.now) c.args.home in
+          let home = env_at m c.args.home in
           let there = with_chain (context_at m c.args.position) (given.specials ++ chain_of m.evaluation.scopes.now) in
           outcome_with c.end_specials.ensures.turns
-          (along (filled_from (evaluator_at m judge) (module_of c.args.defined) home given (body_seen c.args.body) there _ _ _ m.leaves
+          (along (filled_from (evaluator_at m judge) (module_of c.args.defined) home given there _ _ _
           (specials_setting m begun c.args.position c.args.home c.in_ok-slots.length given.specials begins chain)
-          (ap slots_in (ap (λ (v : Vec (Option Value) Global). v.items) (sym ok.0))) c.begin_specials-begun.ensures.turns c.in_ok-values.ensures.value.0)
+          (ap slots_in (ap (λ (v : Vec (Option Value) Global). v.items) (sym ok.0))) c.begin_specials-begun.ensures.turns
+          (body_seen c.args.body) m.leaves c.in_ok-values.ensures.value.0)
           (specials_meets (λ (x : Source) (rows : List Row) evaluator. module_filled evaluator (module_of c.args.defined, seen x rows c.args.home) (vals_from (vals_in c.in_ok-values.values.items)) (body_seen c.args.body))
           m begun _ c.module_made.new.self c.args.position c.in_ok-slots.length given.specials refl refl begins chain
           (stays_kept begun _ refl c.each_parameter.ensures.kept) refl c.in_ok-made.ensures.made judge right));
     }
+
+pub module_with_specials-returns-clause-stays : goal.module_with_specials-returns-clause-stays
+module_with_specials-returns-clause-stays t c =
+    let m = c.args.self.now in
+    let ok = c.in_ok-slots.ensures.ok in
+    let begun : InstanceEvaluator = record { evaluation = c.begin_specials-begun.new.self; unit = m.unit; leaves = m.leaves; few_leaves = m.few_leaves } in
+    let begins : SpecialsBegin m.evaluation begun.evaluation c.in_ok-slots.length = IfOk-at_ok (λ (n : ℕ). SpecialsBegin m.evaluation begun.evaluation n) ok.1 c.begin_specials-begun.ensures.begun in
+    let k = stays_then (stays_kept begun _ refl c.each_parameter.ensures.kept) c.in_ok-made.ensures.stays in
+    stays_kept m _ k.unit (c.end_specials.ensures.back m.evaluation (specials_begun m c.in_ok-slots.length k begins))
+
+pub module_with_specials-end_specials-requires : goal.module_with_specials-end_specials-requires
+module_with_specials-end_specials-requires t c =
+    let m = c.args.self.now in
+    let ok = c.in_ok-slots.ensures.ok in
+    let begun : InstanceEvaluator = record { evaluation = c.begin_specials-begun.new.self; unit = m.unit; leaves = m.leaves; few_leaves = m.few_leaves } in
+    let begins : SpecialsBegin m.evaluation begun.evaluation c.in_ok-slots.length = IfOk-at_ok (λ (n : ℕ). SpecialsBegin m.evaluation begun.evaluation n) ok.1 c.begin_specials-begun.ensures.begun in
+    let chain : chain_of begun.evaluation.scopes.now ≡ specials_in c.args.given.specials.items ++ chain_of m.evaluation.scopes.now = OnOk-at_ok ok.1 c.begin_specials-begun.ensures.chain in
+    let k = stays_then (stays_kept begun _ refl c.each_parameter.ensures.kept) c.in_ok-made.ensures.stays in
+    specials_there m c.in_ok-slots.length (specials_in c.args.given.specials.items) k begins chain
 
 pub one_or_nothing-returns-clause-made : goal.one_or_nothing-returns-clause-made
 one_or_nothing-returns-clause-made t c = record {
@@ -372,6 +802,36 @@ one_or_nothing-returns-clause-made t c = record {
             (sym c.truth.ensures ∙ c.if-truth.false)
             ∙ ap (λ (made : InstanceDesign). Gives n made) (sym (c.nothing_made.ensures m.leaves));
       });
+}
+
+pub one_or_nothing-returns-then-truth-clause-made : goal.one_or_nothing-returns-then-truth-clause-made
+one_or_nothing-returns-then-truth-clause-made t c = record {
+  by = λ judge right.
+      let m = c.args.self.now in
+      let n = c.expression.new.self.turns in
+      then_outcome _ (value_outcome (Ok c.in_ok-value.value) n m.leaves _ c.in_ok-value.ensures.value)
+      (along (ap (λ (b : Bool). if b then body_design (evaluator_at m judge) Union (context_at m c.args.position) (body_seen c.args.body) n m.leaves else Gives n (no_design m.leaves)) (sym c.truth.ensures ∙ c.if-truth.true))
+      (meets_after (stays_kept m _ refl c.expression.ensures.kept) c.body.ensures.made judge right));
+}
+
+pub one_or_other-returns-then-truth-clause-made : goal.one_or_other-returns-then-truth-clause-made
+one_or_other-returns-then-truth-clause-made t c = record {
+  by = λ judge right.
+      let m = c.args.self.now in
+      let n = c.expression.new.self.turns in
+      then_outcome _ (value_outcome (Ok c.in_ok-value.value) n m.leaves _ c.in_ok-value.ensures.value)
+      (along (ap (λ (b : Bool). body_design (evaluator_at m judge) Union (context_at m c.args.position) (if b then body_seen c.args.body else body_seen c.args.other) n m.leaves) (sym c.truth.ensures ∙ c.if-truth.true))
+      (meets_after (stays_kept m _ refl c.expression.ensures.kept) c.body.ensures.made judge right));
+}
+
+pub one_or_other-returns-clause-made : goal.one_or_other-returns-clause-made
+one_or_other-returns-clause-made t c = record {
+  by = λ judge right.
+      let m = c.args.self.now in
+      let n = c.expression.new.self.turns in
+      then_outcome _ (value_outcome (Ok c.in_ok-value.value) n m.leaves _ c.in_ok-value.ensures.value)
+      (along (ap (λ (b : Bool). body_design (evaluator_at m judge) Union (context_at m c.args.position) (if b then body_seen c.args.body else body_seen c.args.other) n m.leaves) (sym c.truth.ensures ∙ c.if-truth.false))
+      (meets_after (stays_kept m _ refl c.expression.ensures.kept) c.body-2.ensures.made judge right));
 }
 
 pub one_turn-returns-clause-members : goal.one_turn-returns-clause-members
@@ -409,6 +869,14 @@ each_item-each-init t c = record {
   stays = stays_same c.args.self.now;
   told = λ judge right. begun_front c.no_members-members.result c.args.self.now.leaves _ (c.no_members-members.ensures c.args.self.now.leaves);
 }
+
+pub each_item-step-next-requires : goal.each_item-step-next-requires
+each_item-step-next-requires t c =
+    let m = c.args.self.now in
+    let k = c.each.invariant.stays in (
+      omega (arith, work_same c.each.self.evaluation.depth m.evaluation.depth k.depth, c.decreases),
+      (body_still m _ k.unit k.source k.rows c.requires.stands, c.in-Some.ensures.bounded),
+    )
 
 pub each_item-returns-in_err-members-clause-members : goal.each_item-returns-in_err-members-clause-members
 each_item-returns-in_err-members-clause-members t c =
@@ -453,3 +921,52 @@ each_item-each-preserved t c =
           c.step-next.result c.in_ok-members.members _ _ c.in_ok-members.ensures
           (meets_after inv.stays c.step-next.ensures.members judge right);
     }
+
+pub step-returns-in_err-members-clause-members : goal.step-returns-in_err-members-clause-members
+step-returns-in_err-members-clause-members t c =
+    let p = err_from_is_err_and c.from_residual.result c.from_residual.ensures.1 in
+    rw (p.1, p.2) (record {
+      by = λ judge right.
+          stop_outcome (λ turns ms. after_step c.args.place ms.designs turns (λ turns. Gives turns ms)) (c.in_err-members.ensures.members.by judge right);
+    })
+
+pub turns_with-turns-requires : goal.turns_with-turns-requires
+turns_with-turns-requires t c =
+    let m = c.args.self.now in
+    let e = c.bind.ensures.binds.entered m.evaluation c.in_ok-scope.ensures.entered in (
+      omega (arith, work_same c.bind.new.self.depth m.evaluation.depth e.depth, c.decreases),
+      entered_body m _ c.args.position refl e c.at.ensures c.requires.stands,
+    )
+
+pub turns_with-returns-in_err-members-clause-members : goal.turns_with-returns-in_err-members-clause-members
+turns_with-returns-in_err-members-clause-members t c =
+    let p = err_from_is_err_and c.from_residual-in_err-members.result c.from_residual-in_err-members.ensures.1 in
+    let m = c.args.self.now in
+    let e = c.bind.ensures.binds.entered m.evaluation c.in_ok-scope.ensures.entered in
+    rw (p.1, p.2) (record {
+      by = λ judge right.
+          entered_meets (λ (x : Source) evaluator. each_turn evaluator c.args.place (map binder_of c.args.rest.now) (body_seen c.args.body))
+          m _ c.turns.new.self c.args.position c.at.result c.in_ok-scope.scope (Within ((c.args.name.now, val_of c.args.value) ∷ []) [] [] no_call (env_at m c.args.position.scope)) (record { unit = refl; leaves = refl; evaluation = e })
+          (c.in_ok-bind.ensures.bound ∙ ap (λ (x : Env). with_variable c.args.name.now (val_of c.args.value) x) c.in_ok-scope.ensures.inside)
+          (c.bind.ensures.binds.turns ∙ c.enter_empty.ensures.turns) c.at.ensures c.in_err-members.ensures.members judge right;
+    })
+
+pub turns_with-returns-clause-members : goal.turns_with-returns-clause-members
+turns_with-returns-clause-members t c =
+    let m = c.args.self.now in
+    let e = c.bind.ensures.binds.entered m.evaluation c.in_ok-scope.ensures.entered in
+    record {
+      by = λ judge right.
+          outcome_with c.leave.ensures.turns
+          (entered_meets (λ (x : Source) evaluator. each_turn evaluator c.args.place (map binder_of c.args.rest.now) (body_seen c.args.body))
+          m _ c.turns.new.self c.args.position c.at.result c.in_ok-scope.scope (Within ((c.args.name.now, val_of c.args.value) ∷ []) [] [] no_call (env_at m c.args.position.scope)) (record { unit = refl; leaves = refl; evaluation = e })
+          (c.in_ok-bind.ensures.bound ∙ ap (λ (x : Env). with_variable c.args.name.now (val_of c.args.value) x) c.in_ok-scope.ensures.inside)
+          (c.bind.ensures.binds.turns ∙ c.enter_empty.ensures.turns) c.at.ensures c.in_ok-members.ensures.members judge right);
+    }
+
+pub turns_with-returns-clause-stays : goal.turns_with-returns-clause-stays
+turns_with-returns-clause-stays t c =
+    let m = c.args.self.now in
+    let e = c.bind.ensures.binds.entered m.evaluation c.in_ok-scope.ensures.entered in
+    let k = c.in_ok-members.ensures.stays in
+    stays_kept m _ k.unit (c.leave.ensures.back m.evaluation (scope_entered m c.in_ok-scope.scope k e))

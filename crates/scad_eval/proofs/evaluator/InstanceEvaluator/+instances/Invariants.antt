@@ -22,9 +22,6 @@ decreases-members l = work l.self.now.evaluation.depth + 1
 abbrev pub decreases-members_in_scope : goal.decreases-members_in_scope
 decreases-members_in_scope l = work l.self.now.evaluation.depth + 2
 
-abbrev pub decreases-members_of_body : goal.decreases-members_of_body
-decreases-members_of_body l = work l.self.now.evaluation.depth + 3
-
 abbrev pub decreases-body : goal.decreases-body
 decreases-body l = work l.self.now.evaluation.depth + 4
 
@@ -61,9 +58,6 @@ decreases-module_with_specials l = work l.self.now.evaluation.depth + 4
 abbrev pub decreases-module_called : goal.decreases-module_called
 decreases-module_called l = work l.self.now.evaluation.depth + 5
 
-abbrev pub decreases-children_of : goal.decreases-children_of
-decreases-children_of l = work l.self.now.evaluation.depth + 3
-
 abbrev pub decreases-children_made : goal.decreases-children_made
 decreases-children_made l = work l.self.now.evaluation.depth + 4
 
@@ -72,9 +66,6 @@ decreases-children_called l = work l.self.now.evaluation.depth + 5
 
 abbrev pub decreases-moved : goal.decreases-moved
 decreases-moved l = work l.self.now.evaluation.depth + 5
-
-abbrev pub decreases-hulled : goal.decreases-hulled
-decreases-hulled l = work l.self.now.evaluation.depth + 5
 
 abbrev pub decreases-extruded : goal.decreases-extruded
 decreases-extruded l = work l.self.now.evaluation.depth + 5

@@ -11,6 +11,7 @@ returns-in_ok-bind_special-clause-assigns c =
     let pair : List ℕ × Val = (c.args.assignment.now.name.now, val_of c.in_ok-value.value) in
     record {
       unit = refl;
+      leaves = refl;
       source = b.same.source ∙ k.source;
       lent = b.same.lent ∙ k.lent;
       front = ap (take c.args.position.scope) (b.rows ∙ k.rows);

@@ -1,4 +1,4 @@
-use Rattle.std.proofs.Common.{◌-◌, ◌<◌, length, map, ap, ◌∙◌, arith}
+use Rattle.std.proofs.Common.{◌-◌, ◌<◌, length, map, ap, arith}
 use Rattle.scad_scope.specs.TextView.{assigned_of}
 use Rattle.scad_meaning.specs.Meaning.{each_assigned}
 use Rattle.scad_eval.specs.Keeping.{evaluations_left, context_at}
@@ -19,7 +19,6 @@ each-preserved c =
     let judge = some_judge in
     record {
       assigns = assigns_then inv.assigns g.assigns;
-      leaves = g.leaves ∙ inv.leaves;
       told = assigned_next (each_assigned (evaluations_left old) (context_at old c.args.position) (map assigned_of xs) old.evaluation.turns)
           (evaluations_left old) (evaluations_left here) (context_at here c.args.position) xs i c.assignment-item.result here.evaluation.turns
           inv.told (ap (λ n. 512 - n) inv.assigns.depth) h c.assignment-item.is

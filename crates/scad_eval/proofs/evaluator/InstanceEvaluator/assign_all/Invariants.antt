@@ -9,7 +9,6 @@ invariant-each l =
     let old = l.fn.self in
     record {
       assigns : Assigns old l.self l.position.scope;
-      leaves : l.self.leaves ≡ old.leaves;
       told : each_assigned (evaluations_left old) (context_at old l.position) (map assigned_of l.assignments) old.evaluation.turns
           ≡ each_assigned (evaluations_left old) (context_at l.self l.position) (map assigned_of (drop l.assignment-index l.assignments)) l.self.evaluation.turns;
     }

@@ -21,11 +21,11 @@ returns-clause-inside c =
     let fits : FitsSigned w64 c.in_ok-count.count = search rules in
     let bound = simp to_z-of_z at c.in_ok-bind.ensures.bound in
     module_inside (text_of e.source.now) c.args.defined.block c.args.body.block (module_of c.args.defined) (body_seen c.args.body)
-    (vals_from (vals_in c.args.values.items)) (seen e.source.now (rows_of e.scopes.now) c.args.caller) (seen e.source.now (rows_of e.scopes.now) c.args.home)
+    (vals_from (vals_in c.args.values.items)) (seen e.source.now (rows_of e.scopes.now) c.args.position.scope) (seen e.source.now (rows_of e.scopes.now) c.args.home)
     (seen a.source.now (rows_of a.scopes.now) scope) (seen b.source.now (rows_of b.scopes.now) scope) (seen d.source.now (rows_of d.scopes.now) scope)
-    c.in_ok-count.count c.requires.called.whole c.requires.called.its_block c.requires.called.block
+    c.in_ok-count.count c.requires.called.position.whole c.requires.called.its_block c.requires.called.block
     (c.in_ok-opened.ensures.inside ∙ call_scope_same e.source.now mid.source.now (rows_of e.scopes.now) (rows_of mid.scopes.now)
-    c.args.defined.block c.args.body.block c.args.caller c.args.home kept.source kept.rows)
+    c.args.defined.block c.args.body.block c.args.position.scope c.args.home kept.source kept.rows)
     c.in_ok-bind_parameters.ensures.bound
     (bound ∙ ap (λ (v : Val). with_variable (codes "$children") v (seen b.source.now (rows_of b.scopes.now) scope)) (number_form c.in_ok-count.count))
     c.in_ok-count.ensures.count

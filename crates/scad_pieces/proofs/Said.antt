@@ -1,0 +1,80 @@
+-- One argument more of `echo`.
+use Rattle.std.proofs.Common.{◌≡◌, ℕ, List, [], true, Option, Some, None, Result, Ok, Err, sym, ap, subst, ◌∙◌}
+use Rattle.std.specs.Prelude.{IsTrue}
+use Rattle.text_place.specs.declared.fault.Stop.{Stop}
+use Rattle.text_place.specs.declared.fault.Stop.TheVariants.{Fault, NoMemory}
+use Rattle.text_place.specs.declared.fault.Place.{Place}
+use Rattle.text_place.specs.declared.fault.FaultKind.TheVariants.{BadArgument}
+use Rattle.scad_ast.specs.declared.expression.Expr.{Expr}
+use Rattle.scad_ast.specs.declared.expression.Arg.{Arg, Special}
+use Rattle.scad_ast.specs.declared.expression.Arg.TheVariants.{rolls-Special}
+use Rattle.scad_ast.specs.declared.expression.Arg.TheOpen.{Arg::Special as SpecialIn}
+use Rattle.scad_ast.specs.declared.expression.Arg.TheFolds.{fold-roll-Arg}
+use Rattle.scad_ast.specs.Terms.{Term, ArgTerm, SpecialArgTerm, SuffixTerm, LinkTerm}
+use Rattle.scad_ast.specs.ExprView.{Form, term_of, arg_of, arg_step, expr_step, suffix_step, args_step, call_step, chain_step, choice_step, exprs_step, link_step, links_step, postfix_step, range_step, stepped_range_step, suffixes_step}
+use Rattle.scad_value.specs.declared.value.Value.{Value}
+use Rattle.scad_value.specs.Values.{Val}
+use Rattle.scad_scope.specs.Arguments.{Taker, taker_of, argument_place, with_argument}
+use Rattle.scad_scope.specs.ArgumentsView.{given_of, taker_seen, IsFault, IsGiven}
+use Rattle.scad_scope.specs.declared.parameters.Destination.{Destination}
+use Rattle.scad_scope.specs.declared.parameters.GivenArguments.{GivenArguments}
+use Rattle.scad_func.specs.Meaning.{Outcome, Gives, then_with, or_fault, Setting, value_at, Arguments}
+use Rattle.scad_func.specs.View.{Tells, TellsArguments, arguments_of, arguments_bounded}
+use Rattle.scad_func.proofs.GivenSeen.{IsHeld, taker_given, held_seen}
+use Rattle.scad_func.proofs.Holding.{argument_refused, argument_held_bounded}
+use Rattle.scad_pieces.specs.Calls.{said_once}
+
+pub special_form : (a : Arg) (at : Place) (name : List ℕ) (value : Expr) → a ≡ Special at name value → arg_of a ≡ SpecialArgTerm at name (term_of value)
+special_form a at name value is = ap arg_of is ∙ ap arg_of (sym (rolls-Special at name value))
+    ∙ fold-roll-Arg ArgTerm Term SuffixTerm (List ArgTerm) Form Form Form (List Term) LinkTerm (List LinkTerm) Form Form Form (List SuffixTerm) arg_step expr_step suffix_step args_step call_step chain_step choice_step exprs_step link_step links_step postfix_step range_step stepped_range_step suffixes_step (SpecialIn at name value)
+
+-- a special argument, by what takes it
+module _ (here : Setting) (at : Place) (name : List ℕ) (value : Term) (given : Arguments) (turns : ℕ) where
+  abbrev with_value : Taker → Outcome Val → Outcome Arguments
+  with_value taker out = then_with out (λ turns v. Gives turns (with_argument given taker v))
+
+  by_taker : (taker : Option Taker) → taker_of [] 0 given (SpecialArgTerm at name value) ≡ taker
+      → said_once here (SpecialArgTerm at name value) given turns
+      ≡ or_fault taker BadArgument at (λ taker. with_value taker (value_at here true value turns))
+  by_taker taker e = ap (λ o. or_fault o BadArgument at (λ taker. with_value taker (value_at here true value turns))) e
+
+  special_stops : (taker : Taker) → taker_of [] 0 given (SpecialArgTerm at name value) ≡ Some taker → (stop : Stop) (then : ℕ)
+      → Tells (Err stop) then (value_at here true value turns) → TellsArguments (Err stop) then (said_once here (SpecialArgTerm at name value) given turns)
+  special_stops taker e (Fault fault) then t = by_taker (Some taker) e ∙ ap (with_value taker) t
+  special_stops taker e NoMemory then t = tt
+
+  special_said : (taker : Taker) → taker_of [] 0 given (SpecialArgTerm at name value) ≡ Some taker → (then : ℕ)
+      (r : Result Value Stop) (after : Result (GivenArguments Value) Stop) → Tells r then (value_at here true value turns)
+      → IsHeld given taker r after → IsTrue (arguments_bounded given)
+      → TellsArguments after then (said_once here (SpecialArgTerm at name value) given turns)
+  special_said taker e then (Ok v) (Ok after) t held bounded = (
+    by_taker (Some taker) e ∙ ap (with_value taker) t.0 ∙ ap (λ (x : Arguments). Gives then x) (sym held),
+    argument_held_bounded given taker (Ok v) after held bounded t.1,
+  )
+  special_said taker e then (Ok v) (Err stop) t held bounded =
+      subst (λ (x : Stop). TellsArguments (Err x) then (said_once here (SpecialArgTerm at name value) given turns)) (sym held) tt
+  special_said taker e then (Err fault) (Ok after) t held bounded = absurd held
+  special_said taker e then (Err fault) (Err stop) t held bounded =
+      subst (λ (x : Stop). TellsArguments (Err x) then (said_once here (SpecialArgTerm at name value) given turns)) (sym held)
+      (special_stops taker e fault then t)
+
+-- a special argument of `echo`, of a name that something takes, and of one that was given before
+module _ (here : Setting) (a : ArgTerm) (at : Place) (name : List ℕ) (value : Term) (is : a ≡ SpecialArgTerm at name value)
+    (names : List (List ℕ)) (g : GivenArguments Value) (turns : ℕ) where
+  taker_same : (taker : Option Taker) → taker_of names 0 (given_of g) a ≡ taker → taker_of [] 0 (arguments_of g) (SpecialArgTerm at name value) ≡ taker
+  taker_same taker e = ap (taker_of names 0 (arguments_of g)) (sym is) ∙ taker_given names 0 g a ∙ e
+
+  pub taken : (d : Destination) (then : ℕ) (r : Result Value Stop) (after : Result (GivenArguments Value) Stop)
+      → taker_of names 0 (given_of g) a ≡ Some (taker_seen d) → Tells r then (value_at here true value turns) → IsGiven g d r after
+      → IsTrue (arguments_bounded (arguments_of g)) → TellsArguments after then (said_once here a (arguments_of g) turns)
+  taken d then r after e t given bounded =
+      subst (λ x. TellsArguments after then (said_once here x (arguments_of g) turns)) (sym is)
+      (special_said here at name value (arguments_of g) turns (taker_seen d) (taker_same (Some (taker_seen d)) e) then r after t
+      (held_seen g d r after given) bounded)
+
+  pub refused : (stop : Stop) (then : ℕ) → taker_of names 0 (given_of g) a ≡ None → IsFault stop BadArgument (argument_place a)
+      → TellsArguments (Err stop) then (said_once here a (arguments_of g) turns)
+  refused stop then e fault =
+      subst (λ x. TellsArguments (Err stop) then (said_once here x (arguments_of g) turns)) (sym is)
+      (argument_refused stop then at (said_once here (SpecialArgTerm at name value) (arguments_of g) turns)
+      (by_taker here at name value (arguments_of g) turns None (taker_same None e)) (subst (λ x. IsFault stop BadArgument (argument_place x)) is fault))
