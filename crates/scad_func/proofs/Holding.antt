@@ -1,15 +1,14 @@
 -- One step more of a loop that holds values while it evaluates.
 use Rattle.std.proofs.Common.{◌≡◌, ℕ, ◌+◌, List, [], ◌∷◌, length, true, Some, Result, Ok, Err, refl, sym, ap, subst, ◌∙◌}
 use Rattle.std.specs.Prelude.{IsTrue, IfOk, IfErr}
-use Rattle.std.specs.declared.vec.Vec.{Vec}
-use Rattle.std.specs.declared.alloc.Global.{Global}
 use Rattle.std.proofs.lemmas.List.{map-append, length-append, length-set}
 use Rattle.text_place.specs.declared.fault.Stop.{Stop}
 use Rattle.text_place.specs.declared.fault.Stop.TheVariants.{Fault, NoMemory}
 use Rattle.scad_value.specs.declared.value.Value.{Value}
 use Rattle.scad_value.specs.Values.{Val, Vals, and_val, is_bounded}
 use Rattle.scad_value.specs.View.{val_of, vals_in}
-use Rattle.scad_builtin.specs.Builtins.{are_bounded}
+use Rattle.scad_value.specs.declared.bounded_value.BoundedValue.{BoundedValue}
+use Rattle.scad_value.specs.BoundedView.{bounded_val}
 use Rattle.scad_ast.specs.Terms.{ArgTerms, ArgTerm}
 use Rattle.std.proofs.lemmas.Bool.{and_parts, and_from}
 use Rattle.scad_scope.specs.Arguments.{positional_after, Taker, to_parameter, to_special, taker_of, with_argument}
@@ -18,49 +17,58 @@ use Rattle.text_place.specs.declared.fault.Place.{Place}
 use Rattle.text_place.specs.declared.fault.FaultKind.TheVariants.{BadArgument}
 use Rattle.scad_scope.specs.ArgumentsView.{IsFault}
 use Rattle.scad_func.specs.Steps.{argument_of}
-use Rattle.scad_func.specs.View.{Tells, TellsAll, TellsArguments, IsLonger, arguments_of, arguments_bounded}
+use Rattle.scad_func.specs.declared.values.BoundedValues.{BoundedValues}
+use Rattle.scad_func.specs.View.{Tells, TellsAs, TellsArguments, IsAlone, IsOneMore, values_seen, arguments_of, arguments_bounded}
 use Rattle.scad_func.proofs.GivenSeen.{IsHeld}
 use Rattle.scad_scope.specs.declared.parameters.GivenArguments.{GivenArguments}
 use Rattle.scad_func.proofs.Calls.{in_front}
-use Rattle.scad_func.proofs.Outcomes.{front_more, bounded_more, and_arg}
+use Rattle.scad_func.proofs.Outcomes.{front_more, and_arg}
 use Rattle.scad_func.proofs.Steps.{argument_more, argument_fault, bounded_set}
 
 abbrev pub and_then : Outcome Val → (ℕ → Outcome Vals) → Outcome Vals
 and_then step go = then_with step (λ turns v. then_with (go turns) (λ turns vs. Gives turns (and_val v vs)))
 
-module _ (start : Outcome Vals) (before : List Value) (now : Outcome Vals) (step : Outcome Val)
-    (go : ℕ → Outcome Vals) (s : start ≡ in_front (vals_in before) now) (h : now ≡ and_then step go) where
-  pub longer_told : (r : Result Value Stop) (longer : Vec Value Global) (then : ℕ) → IsLonger before r (Ok longer)
-      → Tells r then step → start ≡ in_front (vals_in longer.items) (go then)
+module _ (start : Outcome Vals) (before : BoundedValues) (now : Outcome Vals) (step : Outcome Val)
+    (go : ℕ → Outcome Vals) (s : start ≡ in_front (vals_in before.items.items) now) (h : now ≡ and_then step go) where
+  pub longer_told : (r : Result BoundedValue Stop) (longer : BoundedValues) (then : ℕ) → IsOneMore before r (Ok longer)
+      → TellsAs bounded_val r then step → start ≡ in_front (vals_in longer.items.items) (go then)
   longer_told (Ok v) longer then l t =
-      s ∙ ap (in_front (vals_in before)) h
-      ∙ ap (λ o. in_front (vals_in before) (and_then o go)) t.0
-      ∙ front_more (vals_in before) (val_of v) (go then)
-      ∙ ap (λ vs. in_front vs (go then)) (sym (ap vals_in l ∙ map-append val_of before (v ∷ [])))
+      s ∙ ap (in_front (vals_in before.items.items)) h
+      ∙ ap (λ o. in_front (vals_in before.items.items) (and_then o go)) t
+      ∙ front_more (vals_in before.items.items) (bounded_val v) (go then)
+      ∙ ap (λ vs. in_front vs (go then)) (sym (ap vals_in l ∙ map-append val_of before.items.items (v.value ∷ [])))
   longer_told (Err stop) longer then l t = absurd l
 
-  fault_told : (f : Stop) (m n : ℕ) → Tells (Err f) m step → TellsAll (Err f) n start
+  fault_told : (f : Stop) (m n : ℕ) → TellsAs bounded_val (Err f) m step → TellsAs values_seen (Err f) n start
   fault_told (Fault fault) m n t =
-      s ∙ ap (in_front (vals_in before)) h ∙ ap (λ o. in_front (vals_in before) (and_then o go)) t
+      s ∙ ap (in_front (vals_in before.items.items)) h ∙ ap (λ o. in_front (vals_in before.items.items) (and_then o go)) t
   fault_told NoMemory m n t = tt
 
-  pub longer_fault : (r : Result Value Stop) (stop : Stop) (m n : ℕ) → IsLonger before r (Err stop)
-      → Tells r m step → TellsAll (Err stop) n start
-  longer_fault (Ok v) stop m n l t = subst (λ (x : Stop). TellsAll (Err x) n start) (sym l) tt
+  pub longer_fault : (r : Result BoundedValue Stop) (stop : Stop) (m n : ℕ) → IsOneMore before r (Err stop)
+      → TellsAs bounded_val r m step → TellsAs values_seen (Err stop) n start
+  longer_fault (Ok v) stop m n l t = subst (λ (x : Stop). TellsAs values_seen (Err x) n start) (sym l) tt
   longer_fault (Err f) stop m n l t =
-      subst (λ (x : Stop). TellsAll (Err x) n start) (sym l) (fault_told f m n t)
+      subst (λ (x : Stop). TellsAs values_seen (Err x) n start) (sym l) (fault_told f m n t)
 
 -- a value that was told is bounded
 pub told_bounded : (r : Result Value Stop) (turns : ℕ) (out : Outcome Val) → Tells r turns out → IfOk r (λ v. IsTrue (is_bounded (val_of v)))
 told_bounded (Ok v) turns out h = h.1
 told_bounded (Err stop) turns out h = tt
 
-pub longer_bounded : (before : List Value) (r : Result Value Stop) (longer : Vec Value Global)
-    → IsLonger before r (Ok longer) → IsTrue (are_bounded (vals_in before))
-    → IfOk r (λ v. IsTrue (is_bounded (val_of v))) → IsTrue (are_bounded (vals_in longer.items))
-longer_bounded before (Ok v) longer l h g = bounded_more (vals_in before) (vals_in longer.items) (val_of v)
-    (ap vals_in l ∙ map-append val_of before (v ∷ [])) h g
-longer_bounded before (Err stop) longer l h g = absurd l
+-- a value alone is told as its type tells it
+pub alone_tells : (r : Result BoundedValue Stop) (alone : Result Value Stop) (turns : ℕ) (out : Outcome Val)
+    → IsAlone r alone → TellsAs bounded_val r turns out → Tells alone turns out
+alone_tells (Ok bounded) (Ok v) turns out e h = (
+  h ∙ ap (λ (x : Value). Gives turns (val_of x)) (sym e),
+  subst (λ (x : Value). IsTrue (is_bounded (val_of x))) (sym e) bounded.bounded,
+)
+alone_tells (Ok bounded) (Err stop) turns out e h = absurd e
+alone_tells (Err fault) (Ok v) turns out e h = absurd e
+alone_tells (Err fault) (Err stop) turns out e h = stopped fault stop e h
+  where
+    stopped : (fault stop : Stop) → stop ≡ fault → TellsAs bounded_val (Err fault) turns out → Tells (Err stop) turns out
+    stopped (Fault fault) stop e h = subst (λ (x : Stop). Tells (Err x) turns out) (sym e) h
+    stopped NoMemory stop e h = subst (λ (x : Stop). Tells (Err x) turns out) (sym e) tt
 
 -- what is said of any error, said of this one
 pub if_err_at : {A E : Type 0} (P : E → Type 0) (r : Result A E) (e : E) → r ≡ Err e → IfErr r P → P e
@@ -69,9 +77,9 @@ if_err_at P r e is h = subst (λ x. IfErr x P) is h
 pub if_ok_at : {A E : Type 0} (P : A → Type 0) (r : Result A E) (x : A) → r ≡ Ok x → IfOk r P → P x
 if_ok_at P r x is h = subst (λ y. IfOk y P) is h
 
-pub longer_length : (before : List Value) (r : Result Value Stop) (longer : Vec Value Global)
-    → IsLonger before r (Ok longer) → length longer.items ≡ length before + 1
-longer_length before (Ok v) longer l = ap length l ∙ length-append before (v ∷ [])
+pub longer_length : (before : BoundedValues) (r : Result BoundedValue Stop) (longer : BoundedValues)
+    → IsOneMore before r (Ok longer) → length longer.items.items ≡ length before.items.items + 1
+longer_length before (Ok v) longer l = ap length l ∙ length-append before.items.items (v.value ∷ [])
 longer_length before (Err stop) longer l = absurd l
 
 -- one argument more has a value

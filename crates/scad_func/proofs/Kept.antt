@@ -1,17 +1,22 @@
 -- What evaluations keep, one after another.
-use Rattle.std.proofs.Common.{◌≡◌, ℕ, ◌+◌, ◌-◌, ◌*◌, ◌<◌, ◌≤◌, List, length, Some, refl, sym, ap, ◌∙◌, arith}
+use Rattle.std.proofs.Common.{◌≡◌, ℕ, ◌+◌, ◌-◌, ◌*◌, ◌<◌, ◌≤◌, List, length, Some, Result, Ok, Err, refl, sym, ap, subst, ◌∙◌, arith}
 use Rattle.text_place.specs.declared.fault.Place.{Place}
+use Rattle.text_place.specs.declared.fault.Stop.{Stop}
 use Rattle.scad_ast.specs.Terms.{ArgTerms}
 use Rattle.scad_value.specs.Values.{Val}
+use Rattle.scad_value.specs.declared.bounded_value.BoundedValue.{BoundedValue}
+use Rattle.scad_value.specs.BoundedView.{bounded_val}
+use Rattle.scad_value.specs.Operators.{Answer}
 use Rattle.scad_scope.specs.Names.{Pairs, Row}
 use Rattle.scad_scope.specs.Table.{rows_of, chain_of}
 use Rattle.scad_scope.specs.Arguments.{names_of, nothing_given}
 use Rattle.scad_scope.specs.Blocks.{Function}
-use Rattle.scad_func.specs.Meaning.{Setting, evaluated, each_argument, function_called, called, function_in, then_with}
+use Rattle.scad_func.specs.Meaning.{Outcome, Setting, answered, evaluated, each_argument, function_called, called, function_in, then_with}
 use Rattle.scad_func.specs.declared.source.Source.{Source}
 use Rattle.scad_func.specs.declared.evaluation.Evaluation.{Evaluation}
-use Rattle.scad_func.specs.View.{deepest, seen}
-use Rattle.scad_func.specs.Evaluations.{Keeps, setting, work_left}
+use Rattle.scad_func.specs.View.{TellsAs, TellsAnswer, deepest, seen}
+use Rattle.scad_func.specs.Evaluations.{Keeps, EvaluatesTo, setting, work_left}
+use Rattle.scad_func.proofs.Outcomes.{fault_goes, value_goes, tells_answer}
 
 -- where an expression stands, by what it depends on
 setting_by : Source → List Row → ℕ → ℕ → ℕ → Pairs Val → Setting
@@ -76,3 +81,27 @@ pub call_found : (e : Evaluation) (scope home : ℕ) (f : Function) (at : Place)
     (λ turns given. function_called (setting e home) at f given turns)
 call_found e scope home f at name args turns h =
     ap (λ o. called (setting e scope) at name args turns o) h
+
+-- one step of an evaluation behind another
+module _ {A B C D : Type 0} (see : A → B) (all : C → D) (scope : ℕ) (first : Setting → ℕ → Outcome B)
+    (go : Setting → ℕ → B → Outcome D) where
+  pub stops : (old new : Evaluation) (s : Stop) → EvaluatesTo see old new scope (Err s) first
+      → EvaluatesTo all old new scope (Err s) (λ here turns. then_with (first here turns) (go here))
+  stops old new s e = record {
+    value = fault_goes see all (first (setting old scope) old.turns) (go (setting old scope)) s new.turns new.turns e.value;
+    kept = e.kept;
+  }
+
+  pub goes : (old mid new : Evaluation) (x : A) (r : Result C Stop) → EvaluatesTo see old mid scope (Ok x) first
+      → EvaluatesTo all mid new scope r (λ here turns. go here turns (see x))
+      → EvaluatesTo all old new scope r (λ here turns. then_with (first here turns) (go here))
+  goes old mid new x r e f = record {
+    value = value_goes see all (first (setting old scope) old.turns) (go (setting old scope)) r new.turns mid.turns (see x) e.value
+        (subst (λ here. TellsAs all r new.turns (go here mid.turns (see x))) (e.kept.same scope) f.value);
+    kept = keeps_trans e.kept f.kept;
+  }
+
+-- an operator's answer behind a step
+pub answers : (e : Evaluation) (scope : ℕ) (r : Result BoundedValue Stop) (answer : Answer Val) (at : Place) → TellsAnswer r answer at
+    → EvaluatesTo bounded_val e e scope r (λ here turns. answered answer at turns)
+answers e scope r answer at h = record { value = tells_answer r e.turns answer at h; kept = keeps_same e }

@@ -1,9 +1,16 @@
 -- Where an evaluation stands, and what it keeps.
-use Rattle.std.specs.Prelude.{◌≡◌, ℕ, ◌+◌, ◌-◌, ◌*◌, ◌<◌, length, take}
+use Rattle.std.specs.Prelude.{◌≡◌, ℕ, ◌+◌, ◌-◌, ◌*◌, ◌<◌, ◌≤◌, length, take, Result, List, Option, IsTrue}
 use Rattle.scad_scope.specs.Names.{oldest}
 use Rattle.scad_scope.specs.Table.{rows_of, chain_of}
-use Rattle.scad_func.specs.Meaning.{Setting, evaluated}
-use Rattle.scad_func.specs.View.{seen, deepest}
+use Rattle.text_place.specs.declared.fault.Stop.{Stop}
+use Rattle.scad_value.specs.declared.value.Value.{Value}
+use Rattle.scad_value.specs.View.{vals_in}
+use Rattle.scad_ast.specs.declared.statement.Param.{Param}
+use Rattle.scad_builtin.specs.Builtins.{are_bounded}
+use Rattle.scad_scope.specs.declared.parameters.GivenArguments.{GivenArguments}
+use Rattle.scad_scope.specs.declared.text.Function.{Function as FunctionLent}
+use Rattle.scad_func.specs.Meaning.{Outcome, Setting, evaluated}
+use Rattle.scad_func.specs.View.{TellsAs, seen, deepest, function_size, slots_in, slots_bounded, arguments_of, arguments_bounded}
 use Rattle.scad_func.specs.declared.source.Source.{Source}
 use Rattle.scad_func.specs.declared.evaluation.Evaluation.{Evaluation}
 
@@ -35,6 +42,13 @@ pub record Keeps (old new : Evaluation) : Type 0 where
   pub work : work_left new.source.now new.calls ≡ work_left old.source.now old.calls
   pub count : scopes_there new ≡ scopes_there old
   pub same : (scope : ℕ) → setting new scope ≡ setting old scope
+
+-- What a function of the evaluator does in a scope: what it gives, as it is seen, is what its meaning gives there behind
+-- the turns so far, or its stop is the meaning's fault; and all but the turns is as before, after a fault too.
+pub record EvaluatesTo {A B : Type 0} (see : A → B) (old new : Evaluation) (scope : ℕ) (result : Result A Stop)
+    (meaning : Setting → ℕ → Outcome B) : Type 0 where
+  pub value : TellsAs see result new.turns (meaning (setting old scope) old.turns)
+  pub kept : Keeps old new
 
 -- all but the scopes, the chain and the turns is as before
 pub record SameSetting (old new : Evaluation) : Type 0 where
@@ -92,3 +106,23 @@ pub record BindsIn (old new : Evaluation) (scope : ℕ) : Type 0 where
   pub chain : chain_of new.scopes.now ≡ chain_of old.scopes.now
   pub turns : new.turns ≡ old.turns
   pub entered : (first : Evaluation) → ScopeEnters first old scope → ScopeEnters first new scope
+
+-- one slot for each parameter, each value in them bounded
+pub record SlotsFit (params : List Param) (slots : List (Option Value)) : Type 0 where
+  pub count : length slots ≡ length params
+  pub bounded : IsTrue (slots_bounded (slots_in slots))
+
+-- one value for each parameter, each of them bounded
+pub record ValuesFit (params : List Param) (values : List Value) : Type 0 where
+  pub count : length values ≡ length params
+  pub bounded : IsTrue (are_bounded (vals_in values))
+
+-- arguments that fit a function's parameters
+pub record ArgumentsFit (function : FunctionLent) (given : GivenArguments Value) : Type 0 where
+  pub count : length given.slots.items ≡ length function.params.now.items.items
+  pub bounded : IsTrue (arguments_bounded (arguments_of given))
+
+-- a call of a function that is no deeper than the source's deepest, with arguments that fit it
+pub record CallFits (source : Source) (function : FunctionLent) (given : GivenArguments Value) : Type 0 where
+  pub within : function_size function ≤ deepest source.blocks.functions.items
+  pub arguments : ArgumentsFit function given

@@ -1,10 +1,12 @@
 -- Steps of the evaluation, as the evaluator takes them.
-use Rattle.std.specs.Prelude.{ℕ, Bool, true, false, if◌then◌else◌}
+use Rattle.std.specs.Prelude.{ℕ, Bool, true, false, [], if◌then◌else◌}
 use Rattle.text_place.specs.declared.fault.FaultKind.TheVariants.{NotInProfile}
 use Rattle.scad_ast.specs.Terms.{Term, Terms, no_terms, and_term, ArgTerms, no_args, and_named, and_special, and_positional, ArgTerm, NamedTerm, SpecialArgTerm, PositionalTerm, SuffixTerm, IndexTerm, MemberTerm, LinkTerm}
-use Rattle.scad_value.specs.Values.{Val, NumberVal, TruthVal, truth_of}
+use Rattle.scad_value.specs.Values.{Val, Vals, NumberVal, TruthVal, truth_of}
 use Rattle.scad_value.specs.Operators.{binary_of, index_of}
-use Rattle.scad_func.specs.Meaning.{Outcome, Gives, then_with, or_fault, answered, Setting, value_at, member_of, wants_right, operand}
+use Rattle.scad_scope.specs.Arguments.{names_of}
+use Rattle.scad_scope.specs.Blocks.{Function}
+use Rattle.scad_func.specs.Meaning.{Outcome, Gives, then_with, or_fault, answered, Setting, value_at, in_scope, Within, no_call, paired, member_of, wants_right, operand}
 
 -- the values of all arguments
 abbrev pub all_values : ArgTerms → Terms
@@ -45,3 +47,8 @@ linked here v link turns =
     then then_with (operand here link.right turns)
     (λ turns w. answered (binary_of link.op v w) link.at turns)
     else Gives turns (TruthVal (truth_of v))
+
+-- the value of a function whose parameters have values, in a scope of its own
+abbrev pub with_parameters : Setting → Function → Vals → ℕ → Outcome Val
+with_parameters home f vs turns =
+    value_at (in_scope home (Within (paired (names_of f.params) vs []) [] [] no_call home.env)) true f.value turns

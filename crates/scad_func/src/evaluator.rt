@@ -2,34 +2,35 @@ ghost use Rattle.std.specs.Prelude.{◌≡◌, ◌-◌, ◌<◌, ◌≤◌, ℕ,
 ghost use Rattle.scad_ast.specs.Terms.{terms_from, args_from, suffixes_from, links_from};
 ghost use Rattle.scad_ast.specs.ExprView.{term_of, terms_of, args_of, suffix_of, suffixes_of, link_of, links_of};
 ghost use Rattle.scad_ast.specs.StatementView.{param_of, params_of};
-ghost use Rattle.scad_value.specs.Values.{Val, ListVal, is_bounded, vals_from, truth_of as truth_at};
-ghost use Rattle.scad_value.specs.Operators.{made as made_at, unary_of};
-ghost use Rattle.scad_value.specs.View.{val_of, vals_in};
+ghost use Rattle.scad_value.specs.Values.{Val, ListVal, vals_from, truth_of};
+ghost use Rattle.scad_value.specs.Operators.{made, unary_of};
+ghost use Rattle.scad_value.specs.View.{vals_in};
+ghost use Rattle.scad_value.specs.BoundedView.{bounded_val};
 ghost use Rattle.scad_scope.specs.Names.{env_of};
 ghost use Rattle.scad_scope.specs.Table.{rows_of};
-ghost use Rattle.scad_scope.specs.Arguments.{names_of, nothing_given as nothing_at};
+ghost use Rattle.scad_scope.specs.Arguments.{nothing_given};
 ghost use Rattle.scad_scope.specs.ArgumentsView.{names_in};
-ghost use Rattle.scad_builtin.specs.Builtins.{are_bounded};
-ghost use Rattle.scad_func.specs.Meaning.{Outcome, Gives, one_call_fewer, turn, then_with, answered, value_at, operand as operand_at, each_value as values_at, each_argument as arguments_at, each_parameter as parameters_at, parameter_value, function_value as function_value_at, function_called, paired, in_scope, Within, no_call, each_suffix, each_link, called, function_in, range_of as range_at, stepped_range_of as stepped_at, counted as counted_at};
-ghost use Rattle.scad_func.specs.Steps.{all_values, suffixed, linked};
+ghost use Rattle.scad_func.specs.Meaning.{Outcome, Gives, one_call_fewer, turn, then_with, answered, value_at, operand as operand_at, each_value as values_at, each_argument as arguments_at, each_parameter as parameters_at, parameter_value, function_value as function_value_at, function_called, each_suffix, each_link, called, function_in, range_of, stepped_range_of, counted as counted_at};
+ghost use Rattle.scad_func.specs.Steps.{all_values, suffixed, linked, with_parameters};
 ghost use Rattle.scad_scope.specs.TextView.{function_of};
-ghost use Rattle.scad_func.specs.View.{Tells, TellsAll, TellsArguments, function_size, deepest, indexed_val, IsThere, slot_of, slots_in, slots_bounded, slot_is_bounded, arguments_of, arguments_bounded};
-ghost use Rattle.scad_func.specs.Evaluations.{Keeps, scopes_there, setting};
+ghost use Rattle.scad_func.specs.View.{Tells, TellsAs, TellsAll, TellsArguments, values_seen, indexed_val, IsThere, slot_of, slots_in, slots_bounded, slot_is_bounded, arguments_of};
+ghost use Rattle.scad_func.specs.Evaluations.{Keeps, EvaluatesTo, SlotsFit, ValuesFit, ArgumentsFit, CallFits, scopes_there, setting};
 
 use crate::answer::{
-    Indexed, applied_to, child_count, item_of, listed, member_item, operate, operate_on,
-    operate_with_variable, range_of, special_of, stepped_range_of, text_of, truth_of, variable_of,
+    Indexed, applied_to, binary_value, binary_with_variable, child_count, is_true, item_of, listed,
+    member_item, range_value, special_of, stepped_range_value, text_of, unary_value, variable_of,
     variable_there, wants_right,
 };
 use crate::arguments::{argument_value, bind_specials, built_in_for};
 use crate::bind::bind_all;
 use crate::evaluation::Evaluation;
 use crate::functions::find;
-use crate::held::{with, with_next};
+use crate::held::{value_alone, with};
 use crate::limits::{CALLS, EVALUATIONS, TURNS};
+use crate::values::BoundedValues;
 use scad_ast::{Args, Expr, Exprs, Link, Links, Param, Params, Suffix, Suffixes, UnaryOp};
 use scad_scope::{ArgumentsSoFar, Function, GivenArguments, Names, fault_at, positional_after};
-use scad_value::Value;
+use scad_value::{BoundedValue, Value};
 use std::mem;
 use text_place::{FaultKind, Place, Stop};
 
@@ -38,12 +39,20 @@ impl Evaluation<'_, '_> {
     ///
     /// At 512 evaluations in one another, each through all forms, it takes less than 4 MiB of the stack: 2.9 MiB were
     /// measured, and the frames on the longest way add up to 3.7 MiB. No contract speaks of the stack.
-    #[cycle(value)]
-    #[tactic(auto, using(crate::proofs::Kept::keeps_trans))]
     pub fn expression(&mut self, scope: u32, expr: &Expr) -> Result<Value, Stop>
         requires scope { scope < scopes_there self.old }
         ensures value { Tells result self.new.turns (value_at (setting self.old scope) true (term_of expr.now) self.old.turns) }
         ensures kept { Keeps self.old self.new }
+    {
+        value_alone(self.evaluate(scope, expr))
+    }
+
+    // The value of an expression, whose parts are counted where it is a list.
+    #[cycle(value)]
+    #[tactic(auto, using(crate::proofs::Kept::keeps_trans))]
+    fn evaluate(&mut self, scope: u32, expr: &Expr) -> Result<BoundedValue, Stop>
+        requires scope { scope < scopes_there self.old }
+        ensures { EvaluatesTo bounded_val self.old self.new scope result (λ here. value_at here true (term_of expr.now)) }
     {
         let value = self.deeper(scope, expr)?;
         self.counted(value, expr.place())
@@ -51,13 +60,12 @@ impl Evaluation<'_, '_> {
 
     // A value whose parts are counted as turns, where it is a list. TooManyTurns where they are
     // too many.
-    fn counted(&mut self, value: Value, place: Place) -> Result<Value, Stop>
-        requires { IsTrue (is_bounded (val_of value)) }
-        ensures value { Tells result self.new.turns (counted_at place (Gives self.old.turns (val_of value))) }
+    fn counted(&mut self, value: BoundedValue, place: Place) -> Result<BoundedValue, Stop>
+        ensures value { TellsAs bounded_val result self.new.turns (counted_at place (Gives self.old.turns (bounded_val value))) }
         ensures kept { Keeps self.old self.new }
     {
-        if let Value::List(_) = value {
-            let turns = self.turns + value.parts();
+        if let Value::List(_) = &value.value {
+            let turns = self.turns + value.value.parts();
             if turns > TURNS {
                 return Err(fault_at(FaultKind::TooManyTurns, place));
             }
@@ -68,10 +76,9 @@ impl Evaluation<'_, '_> {
 
     // The value of an expression, one evaluation deeper.
     #[cycle(value)]
-    fn deeper(&mut self, scope: u32, expr: &Expr) -> Result<Value, Stop>
+    fn deeper(&mut self, scope: u32, expr: &Expr) -> Result<BoundedValue, Stop>
         requires scope { scope < scopes_there self.old }
-        ensures value { Tells result self.new.turns (value_at (setting self.old scope) false (term_of expr.now) self.old.turns) }
-        ensures kept { Keeps self.old self.new }
+        ensures { EvaluatesTo bounded_val self.old self.new scope result (λ here. value_at here false (term_of expr.now)) }
     {
         if self.depth == EVALUATIONS {
             return Err(fault_at(FaultKind::TooDeep, expr.place()));
@@ -85,16 +92,21 @@ impl Evaluation<'_, '_> {
     // The value of an expression at its own depth. Each form stands in a function that is not inlined, so that the
     // stack holds the locals of the forms that are met alone.
     #[cycle(value)]
-    fn operand(&mut self, scope: u32, expr: &Expr) -> Result<Value, Stop>
+    fn operand(&mut self, scope: u32, expr: &Expr) -> Result<BoundedValue, Stop>
         requires scope { scope < scopes_there self.old }
-        ensures value { Tells result self.new.turns (operand_at (setting self.old scope) (term_of expr.now) self.old.turns) }
-        ensures kept { Keeps self.old self.new }
+        ensures { EvaluatesTo bounded_val self.old self.new scope result (λ here. operand_at here (term_of expr.now)) }
     {
         match expr {
-            Expr::Number(_, n) => Ok(Value::Number(n.get() as i64)),
+            Expr::Number(_, n) => Ok(BoundedValue {
+                value: Value::Number(n.get() as i64),
+            }),
             Expr::Text(_, bytes) => text_of(self.alloc, bytes),
-            Expr::Truth(_, truth) => Ok(Value::Truth(*truth)),
-            Expr::Undef(_) => Ok(Value::Undef),
+            Expr::Truth(_, truth) => Ok(BoundedValue {
+                value: Value::Truth(*truth),
+            }),
+            Expr::Undef(_) => Ok(BoundedValue {
+                value: Value::Undef,
+            }),
             Expr::ChildCount(place) => child_count(self.alloc, self.scopes, scope, *place),
             Expr::Name(place, name) => {
                 variable_of(self.alloc, self.scopes, scope, name.items(), *place)
@@ -103,7 +115,7 @@ impl Evaluation<'_, '_> {
                 special_of(self.alloc, self.scopes, name.items(), *place)
             }
             Expr::Call(place, parts) => self.call(scope, parts.name.items(), *place, &parts.args),
-            Expr::Paren(_, inner) => self.expression(scope, inner),
+            Expr::Paren(_, inner) => self.evaluate(scope, inner),
             Expr::List(place, items) => self.list(scope, items, *place),
             Expr::Range(place, parts) => self.range(scope, &parts.from, &parts.to, *place),
             Expr::SteppedRange(place, parts) => {
@@ -120,12 +132,11 @@ impl Evaluation<'_, '_> {
     #[cycle(value)]
     #[inline(never)]
     #[tactic(auto, using(crate::proofs::Kept::keeps_trans))]
-    fn list(&mut self, scope: u32, items: &Exprs, place: Place) -> Result<Value, Stop>
+    fn list(&mut self, scope: u32, items: &Exprs, place: Place) -> Result<BoundedValue, Stop>
         requires scope { scope < scopes_there self.old }
-        ensures value { Tells result self.new.turns (
-            then_with (values_at (setting self.old scope) (terms_from (terms_of items.now)) self.old.turns) (λ turns vs.
-            answered (made_at (Ok (ListVal vs))) place turns)) }
-        ensures kept { Keeps self.old self.new }
+        ensures { EvaluatesTo bounded_val self.old self.new scope result (λ here turns.
+            then_with (values_at here (terms_from (terms_of items.now)) turns) (λ turns vs.
+            answered (made (Ok (ListVal vs))) place turns)) }
     {
         let values = self.each_value(scope, items)?;
         listed(values, place)
@@ -135,30 +146,34 @@ impl Evaluation<'_, '_> {
     #[cycle(value)]
     #[inline(never)]
     #[tactic(auto, using(crate::proofs::Kept::keeps_trans))]
-    fn unary(&mut self, scope: u32, op: UnaryOp, of: &Expr, place: Place) -> Result<Value, Stop>
+    fn unary(
+        &mut self,
+        scope: u32,
+        op: UnaryOp,
+        of: &Expr,
+        place: Place,
+    ) -> Result<BoundedValue, Stop>
         requires scope { scope < scopes_there self.old }
-        ensures value { Tells result self.new.turns (
-            then_with (value_at (setting self.old scope) false (term_of of.now) self.old.turns) (λ turns v.
+        ensures { EvaluatesTo bounded_val self.old self.new scope result (λ here turns.
+            then_with (value_at here false (term_of of.now) turns) (λ turns v.
             answered (unary_of op v) place turns)) }
-        ensures kept { Keeps self.old self.new }
     {
         let value = self.deeper(scope, of)?;
-        operate_on(self.alloc, op, value, place)
+        unary_value(self.alloc, op, value, place)
     }
 
     // The values of expressions, from the first on.
     #[cycle(value)]
     #[inline(never)]
     #[tactic(auto, using(crate::proofs::Kept::keeps_trans))]
-    fn each_value(&mut self, scope: u32, exprs: &Exprs) -> Result<Vec<Value>, Stop>
+    fn each_value(&mut self, scope: u32, exprs: &Exprs) -> Result<BoundedValues, Stop>
         requires scope { scope < scopes_there self.old }
-        ensures value { TellsAll result self.new.turns (values_at (setting self.old scope) (terms_from (terms_of exprs.now)) self.old.turns) }
-        ensures kept { Keeps self.old self.new }
+        ensures { EvaluatesTo values_seen self.old self.new scope result (λ here. values_at here (terms_from (terms_of exprs.now))) }
     {
-        let mut values = Vec::new(self.alloc);
+        let mut values = BoundedValues::new(self.alloc);
         'each: for expr in &exprs.items {
-            let next = self.expression(scope, expr);
-            values = with_next(values, next)?;
+            let next = self.evaluate(scope, expr);
+            values = values.with_next(next)?;
         }
         Ok(values)
     }
@@ -167,19 +182,23 @@ impl Evaluation<'_, '_> {
     #[cycle(value)]
     #[inline(never)]
     #[tactic(auto, using(crate::proofs::Kept::keeps_trans))]
-    fn range(&mut self, scope: u32, from: &Expr, upto: &Expr, place: Place) -> Result<Value, Stop>
+    fn range(
+        &mut self,
+        scope: u32,
+        from: &Expr,
+        upto: &Expr,
+        place: Place,
+    ) -> Result<BoundedValue, Stop>
         requires scope { scope < scopes_there self.old }
-        ensures value { let here = setting self.old scope in
-            Tells result self.new.turns (
-            then_with (value_at here true (term_of from.now) self.old.turns) (λ turns a.
+        ensures { EvaluatesTo bounded_val self.old self.new scope result (λ here turns.
+            then_with (value_at here true (term_of from.now) turns) (λ turns a.
             then_with (value_at here true (term_of upto.now) turns) (λ turns b.
-            answered (range_at a b) place turns))) }
-        ensures kept { Keeps self.old self.new }
+            answered (range_of a b) place turns))) }
     {
-        let a = self.expression(scope, from)?;
-        let next = self.expression(scope, upto);
-        let (a, b) = with(a, next)?;
-        range_of(a, b, place)
+        let first = self.evaluate(scope, from)?;
+        let next = self.evaluate(scope, upto);
+        let (a, b) = with(first, next)?;
+        range_value(a, b, place)
     }
 
     // The range of three expressions.
@@ -193,34 +212,30 @@ impl Evaluation<'_, '_> {
         by: &Expr,
         upto: &Expr,
         place: Place,
-    ) -> Result<Value, Stop>
+    ) -> Result<BoundedValue, Stop>
         requires scope { scope < scopes_there self.old }
-        ensures value { let here = setting self.old scope in
-            Tells result self.new.turns (
-            then_with (value_at here true (term_of from.now) self.old.turns) (λ turns a.
+        ensures { EvaluatesTo bounded_val self.old self.new scope result (λ here turns.
+            then_with (value_at here true (term_of from.now) turns) (λ turns a.
             then_with (value_at here true (term_of by.now) turns) (λ turns s.
             then_with (value_at here true (term_of upto.now) turns) (λ turns b.
-            answered (stepped_at a s b) place turns)))) }
-        ensures kept { Keeps self.old self.new }
+            answered (stepped_range_of a s b) place turns)))) }
     {
-        let a = self.expression(scope, from)?;
-        let second = self.expression(scope, by);
+        let a = self.evaluate(scope, from)?;
+        let second = self.evaluate(scope, by);
         let (a, s) = with(a, second)?;
-        let third = self.expression(scope, upto);
+        let third = self.evaluate(scope, upto);
         let ((a, s), b) = with((a, s), third)?;
-        stepped_range_of(a, s, b, place)
+        stepped_range_value(a, s, b, place)
     }
 
     // The indexes and members behind an expression. A variable is lent where it stands.
     #[cycle(value)]
     #[inline(never)]
     #[tactic(auto, using(crate::proofs::Kept::keeps_trans))]
-    fn postfix(&mut self, scope: u32, of: &Expr, rest: &Suffixes) -> Result<Value, Stop>
+    fn postfix(&mut self, scope: u32, of: &Expr, rest: &Suffixes) -> Result<BoundedValue, Stop>
         requires scope { scope < scopes_there self.old }
-        ensures value { let here = setting self.old scope in
-            Tells result self.new.turns (then_with (operand_at here (term_of of.now) self.old.turns)
-            (λ turns v. each_suffix here v (suffixes_from (suffixes_of rest.now)) turns)) }
-        ensures kept { Keeps self.old self.new }
+        ensures { EvaluatesTo bounded_val self.old self.new scope result (λ here turns.
+            then_with (operand_at here (term_of of.now) turns) (λ turns v. each_suffix here v (suffixes_from (suffixes_of rest.now)) turns)) }
     {
         if let Expr::Name(place, name) = of {
             let variable = variable_there(self.scopes, scope, name.items(), *place)?;
@@ -233,11 +248,16 @@ impl Evaluation<'_, '_> {
     // The indexes and members behind what is indexed.
     #[cycle(value)]
     #[tactic(auto, using(crate::proofs::Kept::keeps_trans))]
-    fn suffixes(&mut self, scope: u32, of: Indexed<'_>, rest: &Suffixes) -> Result<Value, Stop>
+    fn suffixes(
+        &mut self,
+        scope: u32,
+        of: Indexed<'_>,
+        rest: &Suffixes,
+    ) -> Result<BoundedValue, Stop>
         requires scope { scope < scopes_there self.old }
         requires there { IsThere (env_of (rows_of self.old.scopes.now) scope) of }
-        ensures value { Tells result self.new.turns (each_suffix (setting self.old scope) (indexed_val (env_of (rows_of self.old.scopes.now) scope) of.entry) (suffixes_from (suffixes_of rest.now)) self.old.turns) }
-        ensures kept { Keeps self.old self.new }
+        ensures { EvaluatesTo bounded_val self.old self.new scope result (λ here.
+            each_suffix here (indexed_val (env_of (rows_of self.old.scopes.now) scope) of.entry) (suffixes_from (suffixes_of rest.now))) }
     {
         let mut so_far = self.suffix(scope, of, &rest.first)?;
         'each: for part in &rest.more {
@@ -248,15 +268,15 @@ impl Evaluation<'_, '_> {
 
     // An index or a member.
     #[cycle(value)]
-    fn suffix(&mut self, scope: u32, of: Indexed<'_>, part: &Suffix) -> Result<Value, Stop>
+    fn suffix(&mut self, scope: u32, of: Indexed<'_>, part: &Suffix) -> Result<BoundedValue, Stop>
         requires scope { scope < scopes_there self.old }
         requires there { IsThere (env_of (rows_of self.old.scopes.now) scope) of }
-        ensures value { Tells result self.new.turns (suffixed (setting self.old scope) (indexed_val (env_of (rows_of self.old.scopes.now) scope) of.entry) (suffix_of part.now) self.old.turns) }
-        ensures kept { Keeps self.old self.new }
+        ensures { EvaluatesTo bounded_val self.old self.new scope result (λ here.
+            suffixed here (indexed_val (env_of (rows_of self.old.scopes.now) scope) of.entry) (suffix_of part.now)) }
     {
         match part {
             Suffix::Index(place, index) => {
-                let next = self.expression(scope, index);
+                let next = self.evaluate(scope, index);
                 let (of, at) = with(of, next)?;
                 item_of(self.alloc, self.scopes, scope, of, at, *place)
             }
@@ -278,12 +298,10 @@ impl Evaluation<'_, '_> {
     #[cycle(value)]
     #[inline(never)]
     #[tactic(auto, using(crate::proofs::Kept::keeps_trans))]
-    fn chain(&mut self, scope: u32, first: &Expr, rest: &Links) -> Result<Value, Stop>
+    fn chain(&mut self, scope: u32, first: &Expr, rest: &Links) -> Result<BoundedValue, Stop>
         requires scope { scope < scopes_there self.old }
-        ensures value { let here = setting self.old scope in
-            Tells result self.new.turns (then_with (operand_at here (term_of first.now) self.old.turns)
-            (λ turns v. each_link here v (links_from (links_of rest.now)) turns)) }
-        ensures kept { Keeps self.old self.new }
+        ensures { EvaluatesTo bounded_val self.old self.new scope result (λ here turns.
+            then_with (operand_at here (term_of first.now) turns) (λ turns v. each_link here v (links_from (links_of rest.now)) turns)) }
     {
         let left = self.operand(scope, first)?;
         self.links(scope, left, rest)
@@ -292,11 +310,9 @@ impl Evaluation<'_, '_> {
     // Operators of one level behind a value, from the left.
     #[cycle(value)]
     #[tactic(auto, using(crate::proofs::Kept::keeps_trans))]
-    fn links(&mut self, scope: u32, left: Value, rest: &Links) -> Result<Value, Stop>
+    fn links(&mut self, scope: u32, left: BoundedValue, rest: &Links) -> Result<BoundedValue, Stop>
         requires scope { scope < scopes_there self.old }
-        requires left { IsTrue (is_bounded (val_of left)) }
-        ensures value { Tells result self.new.turns (each_link (setting self.old scope) (val_of left) (links_from (links_of rest.now)) self.old.turns) }
-        ensures kept { Keeps self.old self.new }
+        ensures { EvaluatesTo bounded_val self.old self.new scope result (λ here. each_link here (bounded_val left) (links_from (links_of rest.now))) }
     {
         let mut so_far = self.link(scope, left, &rest.first)?;
         'each: for part in &rest.more {
@@ -307,50 +323,59 @@ impl Evaluation<'_, '_> {
 
     // An operator and its right side. A variable on the right is lent where it stands.
     #[cycle(value)]
-    fn link(&mut self, scope: u32, left: Value, part: &Link) -> Result<Value, Stop>
+    fn link(&mut self, scope: u32, left: BoundedValue, part: &Link) -> Result<BoundedValue, Stop>
         requires scope { scope < scopes_there self.old }
-        requires left { IsTrue (is_bounded (val_of left)) }
-        ensures value { Tells result self.new.turns (linked (setting self.old scope) (val_of left) (link_of part.now) self.old.turns) }
-        ensures kept { Keeps self.old self.new }
+        ensures { EvaluatesTo bounded_val self.old self.new scope result (λ here. linked here (bounded_val left) (link_of part.now)) }
     {
         if !wants_right(part.op, &left) {
-            return Ok(Value::Truth(truth_of(left)));
+            return Ok(BoundedValue {
+                value: Value::Truth(is_true(left)),
+            });
         }
         if let Expr::Name(at, name) = &part.right {
-            return operate_with_variable(self.alloc, self.scopes, scope, left, part, name, *at);
+            return binary_with_variable(self.alloc, self.scopes, scope, left, part, name, *at);
         }
         let next = self.operand(scope, &part.right);
         let (left, right) = with(left, next)?;
-        operate(self.alloc, part.op, left, right, part.place)
+        binary_value(self.alloc, part.op, left, right, part.place)
     }
 
     // One of two expressions, by a test.
     #[cycle(value)]
     #[inline(never)]
     #[tactic(auto, using(crate::proofs::Kept::keeps_trans))]
-    fn choice(&mut self, scope: u32, test: &Expr, yes: &Expr, no: &Expr) -> Result<Value, Stop>
+    fn choice(
+        &mut self,
+        scope: u32,
+        test: &Expr,
+        yes: &Expr,
+        no: &Expr,
+    ) -> Result<BoundedValue, Stop>
         requires scope { scope < scopes_there self.old }
-        ensures value { let here = setting self.old scope in
-            Tells result self.new.turns (then_with (operand_at here (term_of test.now) self.old.turns)
-            (λ turns v. value_at here true (if truth_at v then term_of yes.now else term_of no.now) turns)) }
-        ensures kept { Keeps self.old self.new }
+        ensures { EvaluatesTo bounded_val self.old self.new scope result (λ here turns.
+            then_with (operand_at here (term_of test.now) turns) (λ turns v. value_at here true (if truth_of v then term_of yes.now else term_of no.now) turns)) }
     {
         let value = self.operand(scope, test)?;
-        if truth_of(value) {
-            self.expression(scope, yes)
+        if is_true(value) {
+            self.evaluate(scope, yes)
         } else {
-            self.expression(scope, no)
+            self.evaluate(scope, no)
         }
     }
 
     // A call: the source's functions go before built-in ones.
     #[cycle(value)]
     #[inline(never)]
-    fn call(&mut self, scope: u32, name: &[u8], place: Place, args: &Args) -> Result<Value, Stop>
+    fn call(
+        &mut self,
+        scope: u32,
+        name: &[u8],
+        place: Place,
+        args: &Args,
+    ) -> Result<BoundedValue, Stop>
         requires scope { scope < scopes_there self.old }
-        ensures value { let here = setting self.old scope in
-            Tells result self.new.turns (called here place name.now (args_from (args_of args.now)) self.old.turns (function_in here.env name.now)) }
-        ensures kept { Keeps self.old self.new }
+        ensures { EvaluatesTo bounded_val self.old self.new scope result (λ here turns.
+            called here place name.now (args_from (args_of args.now)) turns (function_in here.env name.now)) }
     {
         let source = self.source;
         match find(source, self.scopes, scope, name) {
@@ -379,7 +404,7 @@ impl Evaluation<'_, '_> {
         args: &'b Args,
     ) -> Result<GivenArguments<'b, Value>, Stop>
         requires scope { scope < scopes_there self.old }
-        ensures value { TellsArguments result self.new.turns (arguments_at (setting self.old scope) (names_in names.entry) 0 (args_from (args_of args.now)) (nothing_at (length (names_in names.entry))) self.old.turns) }
+        ensures value { TellsArguments result self.new.turns (arguments_at (setting self.old scope) (names_in names.entry) 0 (args_from (args_of args.now)) (nothing_given (length (names_in names.entry))) self.old.turns) }
         ensures count { IfOk result (λ given. length given.slots.items ≡ length (names_in names.entry)) }
         ensures kept { Keeps self.old self.new }
     {
@@ -388,7 +413,7 @@ impl Evaluation<'_, '_> {
         'each: for arg in &args.items {
             let free = so_far.destination_for(positional, arg);
             let (held, destination) = with(so_far, free)?;
-            let next = self.expression(scope, argument_value(arg));
+            let next = value_alone(self.evaluate(scope, argument_value(arg)));
             so_far = held.with_next(self.alloc, destination, next)?;
             positional = positional_after(positional, arg);
         }
@@ -405,13 +430,11 @@ impl Evaluation<'_, '_> {
         function: Function<'_>,
         given: GivenArguments<'_, Value>,
         place: Place,
-    ) -> Result<Value, Stop>
+    ) -> Result<BoundedValue, Stop>
         requires scope { scope < scopes_there self.old }
-        requires within { function_size function ≤ deepest self.old.source.now.blocks.functions.items }
-        requires count { length given.slots.items ≡ length (params_of function.params.now) }
-        requires bounded { IsTrue (arguments_bounded (arguments_of given)) }
-        ensures value { Tells result self.new.turns (function_called (setting self.old scope) place (function_of function.entry) (arguments_of given.entry) self.old.turns) }
-        ensures kept { Keeps self.old self.new }
+        requires call { CallFits self.old.source.now function given }
+        ensures { EvaluatesTo bounded_val self.old self.new scope result (λ here.
+            function_called here place (function_of function.entry) (arguments_of given.entry)) }
     {
         let (given, ()) = with(given, self.may_call(place))?;
         self.turns += 1;
@@ -425,7 +448,7 @@ impl Evaluation<'_, '_> {
     fn may_call(&self, place: Place) -> Result<(), Stop>
         ensures within { OnOk result ((self.now.calls < 64) × (self.now.turns < 100000)) }
         ensures refused { IfErr result (λ stop. (go : ℕ → ℕ → Outcome Val) (n : ℕ) →
-            Tells (Err stop) n (one_call_fewer (64 - self.now.calls) place (λ calls. turn place self.now.turns (go calls)))) }
+            TellsAs bounded_val (Err stop) n (one_call_fewer (64 - self.now.calls) place (λ calls. turn place self.now.turns (go calls)))) }
     {
         if self.calls == CALLS {
             return Err(fault_at(FaultKind::TooDeep, place));
@@ -444,12 +467,11 @@ impl Evaluation<'_, '_> {
         scope: u32,
         function: Function<'_>,
         given: GivenArguments<'_, Value>,
-    ) -> Result<Value, Stop>
+    ) -> Result<BoundedValue, Stop>
         requires scope { scope < scopes_there self.old }
-        requires count { length given.slots.items ≡ length (params_of function.params.now) }
-        requires bounded { IsTrue (arguments_bounded (arguments_of given)) }
-        ensures value { Tells result self.new.turns (function_value_at (setting self.old scope) (function_of function.entry) (arguments_of given.entry) self.old.turns) }
-        ensures kept { Keeps self.old self.new }
+        requires arguments { ArgumentsFit function given }
+        ensures { EvaluatesTo bounded_val self.old self.new scope result (λ here.
+            function_value_at here (function_of function.entry) (arguments_of given.entry)) }
     {
         let GivenArguments { slots, specials } = given;
         let length = self.scopes.chain_length();
@@ -474,14 +496,12 @@ impl Evaluation<'_, '_> {
         scope: u32,
         function: Function<'_>,
         slots: Vec<Option<Value>>,
-    ) -> Result<Value, Stop>
+    ) -> Result<BoundedValue, Stop>
         requires scope { scope < scopes_there self.old }
-        requires count { length slots.items ≡ length (params_of function.params.now) }
-        requires filled { IsTrue (slots_bounded (slots_in slots.items)) }
-        ensures value { let here = setting self.old scope in let params = params_of function.entry.params.now in
-            Tells result self.new.turns (then_with (parameters_at here params (slots_in slots.items) self.old.turns)
-            (λ turns vs. value_at (in_scope here (Within (paired (names_of params) vs []) [] [] no_call here.env)) true (term_of function.entry.value.now) turns)) }
-        ensures kept { Keeps self.old self.new }
+        requires slots { SlotsFit function.params.now.items.items slots.items }
+        ensures { EvaluatesTo bounded_val self.old self.new scope result (λ here turns.
+            then_with (parameters_at here (params_of function.entry.params.now) (slots_in slots.items) turns) (λ turns vs.
+            with_parameters here (function_of function.entry) vs turns)) }
     {
         let values = self.each_parameter(scope, function.params, slots)?;
         self.in_new_scope(scope, function, values)
@@ -495,18 +515,15 @@ impl Evaluation<'_, '_> {
         scope: u32,
         function: Function<'_>,
         values: Vec<Value>,
-    ) -> Result<Value, Stop>
+    ) -> Result<BoundedValue, Stop>
         requires scope { scope < scopes_there self.old }
-        requires count { length values.items ≡ length function.params.now.items.items }
-        requires filled { IsTrue (are_bounded (vals_in values.items)) }
-        ensures value { let here = setting self.old scope in
-            Tells result self.new.turns (value_at (in_scope here (Within (paired (names_of (params_of function.entry.params.now)) (vals_from (vals_in values.items)) []) [] [] no_call here.env))
-            true (term_of function.entry.value.now) self.old.turns) }
-        ensures kept { Keeps self.old self.new }
+        requires values { ValuesFit function.params.now.items.items values.items }
+        ensures { EvaluatesTo bounded_val self.old self.new scope result (λ here.
+            with_parameters here (function_of function.entry) (vals_from (vals_in values.items))) }
     {
         let inner = self.scopes.enter_empty(self.alloc, scope)?;
         let value = match bind_all(self.alloc, self.scopes, inner, function.params, values) {
-            Ok(()) => self.expression(inner, function.value),
+            Ok(()) => self.evaluate(inner, function.value),
             Err(_) => Err(Stop::NoMemory),
         };
         self.scopes.leave(inner);
@@ -531,31 +548,37 @@ impl Evaluation<'_, '_> {
         ensures kept { Keeps self.old self.new }
     {
         let mut open = slots;
-        let mut values = Vec::new(self.alloc);
+        let mut values = BoundedValues::new(self.alloc);
         'each: for (i, param) in params.items.iter().enumerate() {
             let given = mem::replace(&mut open[i], None);
             let next = self.parameter(scope, param, given);
-            let longer = with_next(values, next);
+            let longer = values.with_next(next);
             (open, values) = with(open, longer)?;
         }
         drop(open);
-        Ok(values)
+        Ok(values.items)
     }
 
     // A parameter's value: what it was given, its default, or undef.
     #[cycle(value)]
     #[inline(never)]
-    fn parameter(&mut self, scope: u32, param: &Param, given: Option<Value>) -> Result<Value, Stop>
+    fn parameter(
+        &mut self,
+        scope: u32,
+        param: &Param,
+        given: Option<Value>,
+    ) -> Result<BoundedValue, Stop>
         requires scope { scope < scopes_there self.old }
         requires filled { IsTrue (slot_is_bounded (slot_of given)) }
-        ensures value { Tells result self.new.turns (parameter_value (setting self.old scope) (param_of param.now) (slot_of given) self.old.turns) }
-        ensures kept { Keeps self.old self.new }
+        ensures { EvaluatesTo bounded_val self.old self.new scope result (λ here. parameter_value here (param_of param.now) (slot_of given)) }
     {
         match given {
-            Some(value) => Ok(value),
+            Some(value) => Ok(BoundedValue { value }),
             None => match param {
-                Param::Plain(_, _) => Ok(Value::Undef),
-                Param::WithDefault(_, _, value) => self.expression(scope, value),
+                Param::Plain(_, _) => Ok(BoundedValue {
+                    value: Value::Undef,
+                }),
+                Param::WithDefault(_, _, value) => self.evaluate(scope, value),
             },
         }
     }
@@ -564,15 +587,14 @@ impl Evaluation<'_, '_> {
     #[cycle(value)]
     #[inline(never)]
     #[tactic(auto, using(crate::proofs::Kept::keeps_trans))]
-    fn each_positional(&mut self, scope: u32, args: &Args) -> Result<Vec<Value>, Stop>
+    fn each_positional(&mut self, scope: u32, args: &Args) -> Result<BoundedValues, Stop>
         requires scope { scope < scopes_there self.old }
-        ensures value { TellsAll result self.new.turns (values_at (setting self.old scope) (all_values (args_from (args_of args.now))) self.old.turns) }
-        ensures kept { Keeps self.old self.new }
+        ensures { EvaluatesTo values_seen self.old self.new scope result (λ here. values_at here (all_values (args_from (args_of args.now)))) }
     {
-        let mut values = Vec::new(self.alloc);
+        let mut values = BoundedValues::new(self.alloc);
         'each: for arg in &args.items {
-            let next = self.expression(scope, argument_value(arg));
-            values = with_next(values, next)?;
+            let next = self.evaluate(scope, argument_value(arg));
+            values = values.with_next(next)?;
         }
         Ok(values)
     }

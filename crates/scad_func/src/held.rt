@@ -2,8 +2,9 @@
 //! and not in each function that holds something.
 
 ghost use Rattle.std.specs.Prelude.{◌≡◌, Ok, Err, IfOk, IfErr};
-ghost use Rattle.scad_func.specs.View.{IsLonger};
+ghost use Rattle.scad_func.specs.View.{IsLonger, IsAlone};
 
+use scad_value::{BoundedValue, Value};
 use text_place::Stop;
 
 /// What was made before, with what is made next.
@@ -29,6 +30,16 @@ pub fn with_next<T: Drop>(items: Vec<T>, next: Result<T, Stop>) -> Result<Vec<T>
                 Err(_) => Err(Stop::NoMemory),
             }
         }
+        Err(stop) => Err(stop),
+    }
+}
+
+/// The value alone, without its type, where there is one.
+pub(crate) fn value_alone(given: Result<BoundedValue, Stop>) -> Result<Value, Stop>
+    ensures { IsAlone given result }
+{
+    match given {
+        Ok(bounded) => Ok(bounded.value),
         Err(stop) => Err(stop),
     }
 }

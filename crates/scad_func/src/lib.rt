@@ -14,6 +14,7 @@ mod meter;
 mod scoping;
 mod source;
 mod value;
+mod values;
 
 pub use evaluation::Evaluation;
 pub use functions::find_module;

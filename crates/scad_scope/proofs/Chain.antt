@@ -6,7 +6,7 @@ use Rattle.std.specs.Option.{option_map, option_copied}
 use Rattle.std.proofs.Math.Seq.{drop-append_seam}
 use Rattle.scad_value.specs.Values.{Val}
 use Rattle.scad_value.specs.View.{val_of}
-use Rattle.scad_scope.specs.declared.bounded.BoundedValue.{BoundedValue}
+use Rattle.scad_value.specs.declared.bounded_value.BoundedValue.{BoundedValue}
 use Rattle.scad_scope.specs.Names.{Pairs, find_in, oldest}
 use Rattle.scad_scope.specs.View.{variable_seen, IsValueFound}
 

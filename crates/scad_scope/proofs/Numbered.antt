@@ -10,7 +10,7 @@ use Rattle.scad_scope.specs.declared.blocks.Blocks.{Blocks}
 use Rattle.scad_scope.specs.Blocks.{Function, Module, Mark, a_block, a_function, a_module, marks_of, marks_in, marks_of_instance, marks_of_core, marks_of_body, marks_of_program, functions_of_program, modules_of_program, count_functions, count_modules, own_functions, own_function, own_modules, own_module, Entry, nothing_there, entries_from, row_of_block}
 use Rattle.scad_scope.specs.Tables.{text_held, functions_held, modules_held}
 use Rattle.scad_scope.specs.TextView.{function_of, module_of}
-use Rattle.scad_scope.specs.Numbered.{numbers_below, each_row, entries_below}
+use Rattle.scad_scope.specs.Numbered.{numbers_below, each_row, entries_below, StaysBelow}
 
 pub functions_joined : (xs ys : List Mark) → count_functions (xs ++ ys) ≡ count_functions xs + count_functions ys
 functions_joined [] ys = omega arith
@@ -175,6 +175,21 @@ module _ {A E : Type 0} (test : Row → Bool) (old new : List Row) where
   entering_passes row (Ok x) f g t h = subst (λ rs. IsTrue (each_row test rs)) (sym f)
       (each_push test old row h t)
   entering_passes row (Err e) f g t h = subst (λ rs. IsTrue (each_row test rs)) (sym g) h
+
+-- a new scope with the functions and modules of a block
+pub block_stays_below : {E : Type 0} (old new : List Row) (outer : ℕ) (b : Blocks) (block : ℕ) (row : Row) (r : Result ℕ E)
+    → row.functions ≡ (row_of_block outer (text_held b) block).functions
+    → row.modules ≡ (row_of_block outer (text_held b) block).modules
+    → OnOk r (new ≡ old ++ row ∷ []) → OnErr r (new ≡ old)
+    → StaysBelow (length (functions_held b)) (length (modules_held b)) old new
+block_stays_below old new outer b block row r f m added refused =
+    let below = entered_below outer b block in
+    record {
+      functions = entering_passes (λ r. numbers_below (length (functions_held b)) r.functions) old new row r added refused
+          (subst (λ ps. IsTrue (numbers_below (length (functions_held b)) ps)) (sym f) below.0);
+      modules = entering_passes (λ r. numbers_below (length (modules_held b)) r.modules) old new row r added refused
+          (subst (λ ps. IsTrue (numbers_below (length (modules_held b)) ps)) (sym m) below.1);
+    }
 
 each_bound : (test : Row → Bool) (name : List ℕ) (value : Val)
     → ((r : Row) → test (with_variable name value r) ≡ test r)

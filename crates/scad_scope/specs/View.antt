@@ -1,11 +1,11 @@
 -- What the table of scopes in memory stands for.
 use Rattle.std.specs.Prelude.{◌≡◌, ℕ, List, map, Option, Some, None}
 use Rattle.std.specs.Borrow.{Bor}
+use Rattle.scad_value.specs.declared.bounded_value.BoundedValue.{BoundedValue}
 use Rattle.scad_value.specs.Values.{Val}
 use Rattle.scad_value.specs.View.{val_of}
 use Rattle.newest_names.specs.declared.list.NameList.{NameList}
 use Rattle.newest_names.specs.Names.{newest_first}
-use Rattle.scad_scope.specs.declared.bounded.BoundedValue.{BoundedValue}
 use Rattle.scad_scope.specs.declared.table.Call.{Call}
 use Rattle.scad_scope.specs.declared.table.Scope.{Scope}
 use Rattle.scad_scope.specs.declared.table.Family.{Family}

@@ -4,7 +4,6 @@
 
 mod assigned;
 mod blocks;
-mod bounded;
 mod fault;
 mod lookup;
 mod own;

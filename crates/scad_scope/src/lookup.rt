@@ -36,14 +36,14 @@ impl NameIndex {
         self.specials.find(name).is_some()
     }
 
-    /// Lets a special name be found, where it takes an argument.
-    pub(crate) fn note(
+    /// With the special name that takes an argument, where one does.
+    pub(crate) fn add_special(
         &mut self,
         alloc: Global,
         destination: Destination<'_>,
     ) -> Result<(), NoMemory>
-        ensures numbered { self.new.parameters ≡ self.old.parameters }
-        ensures told { OnOk result (names_told (newest_first self.new.specials)
+        ensures parameters { self.new.parameters ≡ self.old.parameters }
+        ensures added { OnOk result (names_told (newest_first self.new.specials)
             ≡ taken_after (names_told (newest_first self.old.specials)) destination.entry) }
     {
         match destination {
@@ -69,8 +69,8 @@ pub(crate) fn are_many(args: &[Arg]) -> bool {
 
 /// An index of parameters' names, and of no special name.
 pub(crate) fn index_of(alloc: Global, names: Names<'_>) -> Result<NameIndex, NoMemory>
-    ensures numbered { IfOk result (λ index. newest_first index.parameters ≡ numbered_from 0 (names_in names.entry)) }
-    ensures told { IfOk result (λ index. newest_first index.specials ≡ []) }
+    ensures parameters_indexed { IfOk result (λ index. newest_first index.parameters ≡ numbered_from 0 (names_in names.entry)) }
+    ensures no_specials { IfOk result (λ index. newest_first index.specials ≡ []) }
 {
     let mut parameters = NameList::new(alloc);
     let mut left = count_of(names);

@@ -1,5 +1,4 @@
 use crate::blocks::Blocks;
-use crate::bounded::BoundedValue;
 use crate::fault::fault;
 use crate::own::{empty, scope_of_block};
 use crate::table::{
@@ -7,7 +6,7 @@ use crate::table::{
     find_variable,
 };
 use newest_names::NameList;
-use scad_value::Value;
+use scad_value::{BoundedValue, Value};
 use std::alloc::Global;
 use text_place::{Bytes, Fault, FaultKind, NoMemory, Place};
 

@@ -23,9 +23,9 @@ pub struct ArgumentsSoFar<'n, 'a, T> {
     pub given: GivenArguments<'a, T>,
     /// By an index, where many arguments have names. Few are searched one after another.
     pub(crate) index: Option<Box<NameIndex>>,
-    ghost counted: { length given.slots.items ≡ length (names_in names) },
-    ghost numbered: { ForSome index (λ index. newest_first index.value.parameters ≡ numbered_from 0 (names_in names)) },
-    ghost told: { ForSome index (λ index. names_told (newest_first index.value.specials) ≡ names_told (special_pairs given.specials.items)) },
+    ghost one_slot_each: { length given.slots.items ≡ length (names_in names) },
+    ghost parameters_indexed: { ForSome index (λ index. newest_first index.value.parameters ≡ numbered_from 0 (names_in names)) },
+    ghost specials_indexed: { ForSome index (λ index. names_told (newest_first index.value.specials) ≡ names_told (special_pairs given.specials.items)) },
 }
 
 impl<'n, 'a, T: Drop> ArgumentsSoFar<'n, 'a, T> {
@@ -164,7 +164,7 @@ impl<'n, 'a, T: Drop> ArgumentsSoFar<'n, 'a, T> {
         let index = match index {
             Some(held) => {
                 let mut held = held;
-                held.note(alloc, destination)?;
+                held.add_special(alloc, destination)?;
                 Some(held)
             }
             None => None,

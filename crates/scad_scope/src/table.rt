@@ -6,9 +6,8 @@ ghost use Rattle.scad_scope.specs.Names.{find_in, with_variable, NumberedEnv, ca
 ghost use Rattle.scad_scope.specs.Table.{call_told};
 ghost use Rattle.scad_scope.specs.View.{variables_of, IsValueFound, pairs_of, row_of};
 
-use crate::bounded::BoundedValue;
 use newest_names::NameList;
-use scad_value::Value;
+use scad_value::{BoundedValue, Value};
 use std::alloc::Global;
 use text_place::{Bytes, NoMemory};
 

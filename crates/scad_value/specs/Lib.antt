@@ -2,3 +2,4 @@ pub mod Values
 pub mod Operators
 pub mod View
 pub mod Rows
+pub mod BoundedView

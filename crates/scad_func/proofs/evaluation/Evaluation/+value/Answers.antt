@@ -1,4 +1,4 @@
-use Rattle.std.proofs.Common.{◌≡◌, ◌+◌, ◌-◌, ◌<◌, ◌≤◌, ℕ, List, [], ◌∷◌, ◌++◌, length, map, take, drop, set, get_or, true, Some, None, Ok, Err, refl, sym, ap, subst, ◌∙◌, arith, rules}
+use Rattle.std.proofs.Common.{◌≡◌, ◌+◌, ◌-◌, ◌<◌, ◌≤◌, ℕ, List, [], ◌∷◌, ◌++◌, length, map, take, drop, set, get_or, true, false, Some, None, Ok, Err, refl, sym, ap, subst, ◌∙◌, arith, rules}
 use Rattle.std.specs.Prelude.{IsTrue, Option, Result, codes}
 use Rattle.std.specs.declared.vec.Vec.{Vec}
 use Rattle.std.specs.declared.alloc.Global.{Global}
@@ -12,113 +12,217 @@ use Rattle.scad_ast.specs.declared.expression.Arg.{Arg}
 use Rattle.scad_ast.specs.declared.expression.Suffix.{Suffix}
 use Rattle.scad_ast.specs.declared.statement.Param.{Param}
 use Rattle.scad_value.specs.declared.value.Value.{Value}
-use Rattle.scad_value.specs.Values.{Val}
-use Rattle.scad_value.specs.Operators.{binary_of}
+use Rattle.scad_value.specs.Values.{Val, ListVal}
+use Rattle.scad_value.specs.Operators.{binary_of, unary_of, made}
 use Rattle.scad_ast.specs.Terms.{terms_from, args_from, suffixes_from, links_from}
-use Rattle.scad_ast.specs.ExprView.{term_of, args_of, arg_of, suffix_of, suffixes_of, link_of}
+use Rattle.scad_ast.specs.ExprView.{term_of, terms_of, args_of, arg_of, suffix_of, suffixes_of, link_of, links_of}
 use Rattle.scad_ast.specs.StatementView.{param_of}
-use Rattle.scad_value.specs.View.{val_of, vals_in}
+use Rattle.scad_value.specs.View.{vals_in}
+use Rattle.scad_value.specs.declared.bounded_value.BoundedValue.{BoundedValue}
+use Rattle.scad_value.specs.BoundedView.{bounded_val}
 use Rattle.scad_scope.specs.Arguments.{name_of, names_of, nothing_given, taker_of, argument_place}
 use Rattle.scad_scope.specs.ArgumentsView.{given_of, names_in, taker_seen, IsGiven, IsFault}
 use Rattle.scad_scope.specs.Names.{env_of, empty_row, find_in, variable_in as numbered_variable_in}
 use Rattle.scad_scope.specs.Table.{rows_of, chain_of}
 use Rattle.scad_scope.specs.TextView.{function_of}
-use Rattle.scad_func.specs.Meaning.{Outcome, Gives, Faults, value_at, with_calls, one_call_fewer, turn, Arguments, each_argument, each_parameter, parameter_value, function_value, operand, each_value, each_suffix, each_link, called, answered, or_fault, or_zero}
+use Rattle.scad_func.specs.Meaning.{Outcome, Gives, Faults, value_at, with_calls, one_call_fewer, turn, Arguments, each_argument, each_parameter, parameter_value, function_value, operand, each_value, each_suffix, each_link, called, answered, or_fault, or_zero, Setting, then_with, range_of}
 use Rattle.scad_func.specs.Steps.{all_values, suffixed, linked, argument_of}
-use Rattle.scad_func.specs.View.{Tells, TellsArguments, IsLonger, text_of, slots_in, slot_of, indexed_val, arguments_of, arguments_bounded}
+use Rattle.scad_func.specs.declared.values.BoundedValues.{BoundedValues}
+use Rattle.scad_func.specs.View.{TellsAs, TellsAnswer, TellsArguments, IsOneMore, values_seen, text_of, slots_in, slot_of, indexed_val, arguments_of, arguments_bounded}
 use Rattle.scad_scope.specs.declared.parameters.GivenArguments.{GivenArguments}
 use Rattle.scad_scope.specs.declared.parameters.Names.{Names}
 use Rattle.scad_scope.specs.declared.so_far.ArgumentsSoFar.{ArgumentsSoFar}
 use Rattle.scad_scope.specs.declared.parameters.Destination.{Destination}
-use Rattle.scad_func.specs.Evaluations.{setting}
+use Rattle.scad_func.specs.Evaluations.{ArgumentsFit, EvaluatesTo, setting}
 use Rattle.scad_func.proofs.Outcomes.{tells_along, evaluated_deeper, evaluated_too_deep, value_counted, fault_counted, values_end, terms_here, terms_end, args_here, args_end, values_of_arg, suffixes_here, suffix_step, links_here, step_more, step_fault, name_then, fault_at, link_wants}
 use Rattle.scad_func.proofs.Environments.{variable_same}
 use Rattle.scad_func.proofs.Steps.{deep_enough, param_deep, params_here, params_end, slots_here, slots_parts, filled_end, fault_of_arguments, argument_none}
 use Rattle.scad_func.proofs.Forms.{name_form, special_form, count_form, postfix_form, chain_form, choice_form, link_form, member_form, args_form}
 use Rattle.scad_func.proofs.Again.{nothing_bounded}
-use Rattle.scad_func.proofs.Kept.{keeps_from, keeps_same, keeps_trans, call_found, moved, work_falls}
+use Rattle.scad_func.proofs.Kept.{stops, goes, answers, keeps_from, keeps_same, keeps_trans, call_found, moved, work_falls}
 use Rattle.scad_func.proofs.GivenSeen.{taker_given, nothing_seen, held_seen}
-use Rattle.scad_func.proofs.Holding.{told_bounded, argument_refused, argument_stops, longer_told, longer_bounded, longer_length, argument_held, argument_held_bounded, argument_held_length, if_err_at, if_ok_at}
+use Rattle.scad_func.proofs.Holding.{told_bounded, argument_refused, argument_stops, alone_tells, longer_told, longer_fault, longer_length, argument_held, argument_held_bounded, argument_held_length, if_err_at, if_ok_at}
 use Rattle.scad_func.proofs.evaluation.Evaluation.+value.Goals.{in_new_scope-in-Ok, in_new_scope-in-Err}
 use Rattle.scad_func.proofs.evaluation.Evaluation.+value.Goals as goal
 
-pub expression-returns-in_err-value-clause-value : goal.expression-returns-in_err-value-clause-value
-expression-returns-in_err-value-clause-value t c =
+pub evaluate-returns-in_err-value : goal.evaluate-returns-in_err-value
+evaluate-returns-in_err-value t c =
     let p = err_from_is_err_and c.from_residual.result c.from_residual.ensures.1 in
     let here = setting c.args.self.now c.args.scope in
-    rw (p.1, p.2) (fault_counted c.in_err-value.field-0.0 (512 - c.args.self.now.depth) _
-    c.deeper.new.self.turns c.args.self.now.turns here.calls here.env here.chain (term_of c.args.expr.now)
-    c.in_err-value.ensures.value)
+    record {
+      value = rw (p.1, p.2) (fault_counted c.in_err-value.field-0.0 (512 - c.args.self.now.depth) _
+          c.deeper.new.self.turns c.args.self.now.turns here.calls here.env here.chain (term_of c.args.expr.now)
+          c.in_err-value.ensures.value);
+      kept = c.in_err-value.ensures.kept;
+    }
 
-pub expression-returns-clause-value : goal.expression-returns-clause-value
-expression-returns-clause-value t c =
+pub evaluate-returns : goal.evaluate-returns
+evaluate-returns t c =
     let here = setting c.args.self.now c.args.scope in
-    value_counted c.counted.result (512 - c.args.self.now.depth) c.counted.new.self.turns
-    c.args.self.now.turns c.deeper.new.self.turns here.calls here.env here.chain (term_of c.args.expr.now)
-    (val_of c.in_ok-value.value) c.place.result c.place.ensures c.in_ok-value.ensures.value.0
-    c.counted.ensures.value
+    record {
+      value = value_counted c.counted.result (512 - c.args.self.now.depth) c.counted.new.self.turns
+          c.args.self.now.turns c.deeper.new.self.turns here.calls here.env here.chain (term_of c.args.expr.now)
+          (bounded_val c.in_ok-value.value) c.place.result c.place.ensures c.in_ok-value.ensures.value
+          c.counted.ensures.value;
+      kept = keeps_trans c.in_ok-value.ensures.kept c.counted.ensures.kept;
+    }
 
-pub deeper-returns-then-self-eq-EVALUATIONS-clause-value : goal.deeper-returns-then-self-eq-EVALUATIONS-clause-value
-deeper-returns-then-self-eq-EVALUATIONS-clause-value t c =
-    rw (c.fault_at.ensures) (evaluated_too_deep _ _ _ _ _ _ c.if-self-eq-EVALUATIONS.true ∙ ap (λ p. Faults TooDeep p) (sym c.place.ensures))
+pub deeper-returns-then-self-eq-EVALUATIONS : goal.deeper-returns-then-self-eq-EVALUATIONS
+deeper-returns-then-self-eq-EVALUATIONS t c = record {
+  value = rw (c.fault_at.ensures) (evaluated_too_deep _ _ _ _ _ _ c.if-self-eq-EVALUATIONS.true ∙ ap (λ p. Faults TooDeep p) (sym c.place.ensures));
+  kept = keeps_same _;
+}
 
-pub deeper-returns-clause-value : goal.deeper-returns-clause-value
-deeper-returns-clause-value t c =
-    tells_along c.operand-value.result _ _ _ (evaluated_deeper _ _ _ _ _ _ (omega arith))
-    c.operand-value.ensures.value
+pub deeper-returns : goal.deeper-returns
+deeper-returns t c =
+    let k = c.operand-value.ensures.kept in
+    record {
+      value = tells_along c.operand-value.result _ _ _ (evaluated_deeper _ _ _ _ _ _ (omega arith))
+          c.operand-value.ensures.value;
+      kept = keeps_from _ _ k.source k.lent k.rows k.chain k.calls (omega (arith, k.depth));
+    }
 
-pub operand-returns-in-ChildCount-clause-value : goal.operand-returns-in-ChildCount-clause-value
-operand-returns-in-ChildCount-clause-value t c =
+pub operand-returns-in-ChildCount : goal.operand-returns-in-ChildCount
+operand-returns-in-ChildCount t c =
     let e = c.args.self.now in
-    tells_along c.child_count.result e.turns _ _
-    (ap (λ x. operand (setting e c.args.scope) x e.turns)
-    (ap term_of c.in-ChildCount.is ∙ count_form c.in-ChildCount.place)
-    ∙ ap (λ o. Gives e.turns (or_zero o))
-    (variable_same (text_of e.source.now) (env_of (rows_of e.scopes.now) c.args.scope) (codes "$children")))
-    (c.child_count.ensures.value e.turns)
+    record {
+      value = tells_along c.child_count.result e.turns _ _
+          (ap (λ x. operand (setting e c.args.scope) x e.turns)
+          (ap term_of c.in-ChildCount.is ∙ count_form c.in-ChildCount.place)
+          ∙ ap (λ o. Gives e.turns (or_zero o))
+          (variable_same (text_of e.source.now) (env_of (rows_of e.scopes.now) c.args.scope) (codes "$children")))
+          (c.child_count.ensures e.turns);
+      kept = keeps_from _ _ refl (search rules) refl refl refl refl;
+    }
 
-pub operand-returns-in-Name-clause-value : goal.operand-returns-in-Name-clause-value
-operand-returns-in-Name-clause-value t c =
+pub operand-returns-in-Name : goal.operand-returns-in-Name
+operand-returns-in-Name t c =
     let e = c.args.self.now in
-    tells_along c.variable_of.result e.turns _ _
-    (ap (λ x. operand (setting e c.args.scope) x e.turns)
-    (ap term_of c.in-Name.is ∙ name_form c.in-Name.place c.in-Name.name)
-    ∙ ap (λ o. or_fault o UnknownName c.in-Name.place (λ x. Gives e.turns x))
-    (variable_same (text_of e.source.now) (env_of (rows_of e.scopes.now) c.args.scope) c.in-Name.name ∙ ap
-    (λ n. numbered_variable_in (env_of (rows_of e.scopes.now) c.args.scope) n)
-    (sym c.items.ensures)))
-    (c.variable_of.ensures.value e.turns)
+    record {
+      value = tells_along c.variable_of.result e.turns _ _
+          (ap (λ x. operand (setting e c.args.scope) x e.turns)
+          (ap term_of c.in-Name.is ∙ name_form c.in-Name.place c.in-Name.name)
+          ∙ ap (λ o. or_fault o UnknownName c.in-Name.place (λ x. Gives e.turns x))
+          (variable_same (text_of e.source.now) (env_of (rows_of e.scopes.now) c.args.scope) c.in-Name.name ∙ ap
+          (λ n. numbered_variable_in (env_of (rows_of e.scopes.now) c.args.scope) n)
+          (sym c.items.ensures)))
+          (c.variable_of.ensures e.turns);
+      kept = keeps_from _ _ refl (search rules) refl refl refl refl;
+    }
 
-pub operand-returns-in-Special-clause-value : goal.operand-returns-in-Special-clause-value
-operand-returns-in-Special-clause-value t c =
+pub operand-returns-in-Special : goal.operand-returns-in-Special
+operand-returns-in-Special t c =
     let e = c.args.self.now in
-    tells_along c.special_of.result e.turns _ _
-    (ap (λ x. operand (setting e c.args.scope) x e.turns)
-    (ap term_of c.in-Special.is ∙ special_form c.in-Special.place c.in-Special.name)
-    ∙ ap (λ n. or_fault (find_in (chain_of e.scopes.now) n) UnknownName c.in-Special.place (λ x. Gives e.turns x))
-    (sym c.items-in-Special.ensures))
-    (c.special_of.ensures.value e.turns)
+    record {
+      value = tells_along c.special_of.result e.turns _ _
+          (ap (λ x. operand (setting e c.args.scope) x e.turns)
+          (ap term_of c.in-Special.is ∙ special_form c.in-Special.place c.in-Special.name)
+          ∙ ap (λ n. or_fault (find_in (chain_of e.scopes.now) n) UnknownName c.in-Special.place (λ x. Gives e.turns x))
+          (sym c.items-in-Special.ensures))
+          (c.special_of.ensures e.turns);
+      kept = keeps_from _ _ refl (search rules) refl refl refl refl;
+    }
 
-pub operand-returns-in-Postfix-clause-value : goal.operand-returns-in-Postfix-clause-value
-operand-returns-in-Postfix-clause-value t c =
-    tells_along c.postfix.result c.postfix.new.self.turns _ _
-    (ap (λ e. operand (setting c.args.self.now c.args.scope) e c.args.self.now.turns)
-    (postfix_form c.args.expr.now c.in-Postfix.field-0 c.in-Postfix.parts c.deref-in-Postfix.result.now c.deref-in-Postfix-2.result.now
-    c.in-Postfix.is c.deref-in-Postfix.ensures c.deref-in-Postfix-2.ensures)) c.postfix.ensures.value
+pub operand-returns-in-Postfix : goal.operand-returns-in-Postfix
+operand-returns-in-Postfix t c =
+    record {
+      value = tells_along c.postfix.result c.postfix.new.self.turns _ _
+          (ap (λ e. operand (setting c.args.self.now c.args.scope) e c.args.self.now.turns)
+          (postfix_form c.args.expr.now c.in-Postfix.field-0 c.in-Postfix.parts c.deref-in-Postfix.result.now c.deref-in-Postfix-2.result.now
+          c.in-Postfix.is c.deref-in-Postfix.ensures c.deref-in-Postfix-2.ensures)) c.postfix.ensures.value;
+      kept = c.postfix.ensures.kept;
+    }
 
-pub operand-returns-in-Chain-clause-value : goal.operand-returns-in-Chain-clause-value
-operand-returns-in-Chain-clause-value t c =
-    tells_along c.chain.result c.chain.new.self.turns _ _
-    (ap (λ e. operand (setting c.args.self.now c.args.scope) e c.args.self.now.turns)
-    (chain_form c.args.expr.now c.in-Chain.field-0 c.in-Chain.parts c.deref-in-Chain.result.now c.deref-in-Chain-2.result.now
-    c.in-Chain.is c.deref-in-Chain.ensures c.deref-in-Chain-2.ensures)) c.chain.ensures.value
+pub operand-returns-in-Chain : goal.operand-returns-in-Chain
+operand-returns-in-Chain t c =
+    record {
+      value = tells_along c.chain.result c.chain.new.self.turns _ _
+          (ap (λ e. operand (setting c.args.self.now c.args.scope) e c.args.self.now.turns)
+          (chain_form c.args.expr.now c.in-Chain.field-0 c.in-Chain.parts c.deref-in-Chain.result.now c.deref-in-Chain-2.result.now
+          c.in-Chain.is c.deref-in-Chain.ensures c.deref-in-Chain-2.ensures)) c.chain.ensures.value;
+      kept = c.chain.ensures.kept;
+    }
 
-pub operand-returns-in-Choice-clause-value : goal.operand-returns-in-Choice-clause-value
-operand-returns-in-Choice-clause-value t c =
-    tells_along c.choice.result c.choice.new.self.turns _ _
-    (ap (λ e. operand (setting c.args.self.now c.args.scope) e c.args.self.now.turns)
-    (choice_form c.args.expr.now c.in-Choice.field-0 c.in-Choice.parts c.deref-in-Choice.result.now c.deref-in-Choice-2.result.now c.deref-in-Choice-3.result.now
-    c.in-Choice.is c.deref-in-Choice.ensures c.deref-in-Choice-2.ensures c.deref-in-Choice-3.ensures)) c.choice.ensures.value
+pub operand-returns-in-Choice : goal.operand-returns-in-Choice
+operand-returns-in-Choice t c =
+    record {
+      value = tells_along c.choice.result c.choice.new.self.turns _ _
+          (ap (λ e. operand (setting c.args.self.now c.args.scope) e c.args.self.now.turns)
+          (choice_form c.args.expr.now c.in-Choice.field-0 c.in-Choice.parts c.deref-in-Choice.result.now c.deref-in-Choice-2.result.now c.deref-in-Choice-3.result.now
+          c.in-Choice.is c.deref-in-Choice.ensures c.deref-in-Choice-2.ensures c.deref-in-Choice-3.ensures)) c.choice.ensures.value;
+      kept = c.choice.ensures.kept;
+    }
+
+pub list-returns-in_err-values : goal.list-returns-in_err-values
+list-returns-in_err-values t c =
+    let p = err_from_is_err_and c.from_residual.result c.from_residual.ensures.1 in
+    rw (p.1, p.2) (stops values_seen bounded_val c.args.scope (λ here. each_value here (terms_from (terms_of c.args.items.now)))
+    (λ here turns vs. answered (made (Ok (ListVal vs))) c.args.place turns) _ _ c.in_err-values.field-0.0 c.in_err-values.ensures)
+
+pub list-returns : goal.list-returns
+list-returns t c =
+    goes values_seen bounded_val c.args.scope (λ here. each_value here (terms_from (terms_of c.args.items.now)))
+    (λ here turns vs. answered (made (Ok (ListVal vs))) c.args.place turns) _ _ _ c.in_ok-values.values c.listed.result c.in_ok-values.ensures
+    (answers _ c.args.scope c.listed.result (made (Ok (ListVal (values_seen c.in_ok-values.values)))) c.args.place c.listed.ensures)
+
+pub unary-returns-in_err-value : goal.unary-returns-in_err-value
+unary-returns-in_err-value t c =
+    let p = err_from_is_err_and c.from_residual.result c.from_residual.ensures.1 in
+    rw (p.1, p.2) (stops bounded_val bounded_val c.args.scope (λ here. value_at here false (term_of c.args.of.now))
+    (λ here turns v. answered (unary_of c.args.op v) c.args.place turns) _ _ c.in_err-value.field-0.0 c.in_err-value.ensures)
+
+pub unary-returns : goal.unary-returns
+unary-returns t c =
+    goes bounded_val bounded_val c.args.scope (λ here. value_at here false (term_of c.args.of.now))
+    (λ here turns v. answered (unary_of c.args.op v) c.args.place turns) _ _ _ c.in_ok-value.value c.unary_value.result c.in_ok-value.ensures
+    (answers _ c.args.scope c.unary_value.result (unary_of c.args.op (bounded_val c.in_ok-value.value)) c.args.place c.unary_value.ensures)
+
+pub chain-returns-in_err-left : goal.chain-returns-in_err-left
+chain-returns-in_err-left t c =
+    let p = err_from_is_err_and c.from_residual.result c.from_residual.ensures.1 in
+    rw (p.1, p.2) (stops bounded_val bounded_val c.args.scope (λ here. operand here (term_of c.args.first.now))
+    (λ here turns v. each_link here v (links_from (links_of c.args.rest.now)) turns) _ _ c.in_err-left.field-0.0 c.in_err-left.ensures)
+
+pub chain-returns : goal.chain-returns
+chain-returns t c =
+    goes bounded_val bounded_val c.args.scope (λ here. operand here (term_of c.args.first.now))
+    (λ here turns v. each_link here v (links_from (links_of c.args.rest.now)) turns) _ _ _ c.in_ok-left.left c.links.result
+    c.in_ok-left.ensures c.links.ensures
+
+pub range-returns-in_err-first : goal.range-returns-in_err-first
+range-returns-in_err-first t c =
+    let p = err_from_is_err_and c.from_residual.result c.from_residual.ensures.1 in
+    rw (p.1, p.2) (stops bounded_val bounded_val c.args.scope (λ here. value_at here true (term_of c.args.from.now))
+    (λ here turns a. then_with (value_at here true (term_of c.args.upto.now) turns) (λ turns b. answered (range_of a b) c.args.place turns))
+    _ _ c.in_err-first.field-0.0 c.in_err-first.ensures)
+
+pub range-returns-in_err-a : goal.range-returns-in_err-a
+range-returns-in_err-a t c =
+    let p = err_from_is_err_and c.from_residual-in_err-a.result c.from_residual-in_err-a.ensures.1 in
+    let scope = c.args.scope in
+    let a = c.in_ok-first.first in
+    let last = λ (here : Setting). value_at here true (term_of c.args.upto.now) in
+    rw (p.1, p.2) (goes bounded_val bounded_val scope (λ here. value_at here true (term_of c.args.from.now))
+    (λ here turns a. then_with (last here turns) (λ turns b. answered (range_of a b) c.args.place turns)) _ _ _ a (Err c.in_err-a.field-0.0)
+    c.in_ok-first.ensures
+    (stops bounded_val bounded_val scope last (λ here turns b. answered (range_of (bounded_val a) b) c.args.place turns) _ _ c.in_err-a.field-0.0
+    (subst (λ (r : Result BoundedValue Stop). EvaluatesTo bounded_val c.evaluate.new.self c.evaluate-next.new.self scope r last)
+    c.in_err-a.ensures.err c.evaluate-next.ensures)))
+
+pub range-returns : goal.range-returns
+range-returns t c =
+    let scope = c.args.scope in
+    let a = c.in_ok-first.first in
+    let b = c.in_ok-a.b in
+    let w = c.in_ok-a.ensures.ok in
+    let last = λ (here : Setting). value_at here true (term_of c.args.upto.now) in
+    goes bounded_val bounded_val scope (λ here. value_at here true (term_of c.args.from.now))
+    (λ here turns a. then_with (last here turns) (λ turns b. answered (range_of a b) c.args.place turns)) _ _ _ a c.range_value.result
+    c.in_ok-first.ensures
+    (goes bounded_val bounded_val scope last (λ here turns b. answered (range_of (bounded_val a) b) c.args.place turns) _ _ _ b c.range_value.result
+    (subst (λ (r : Result BoundedValue Stop). EvaluatesTo bounded_val c.evaluate.new.self c.evaluate-next.new.self scope r last) w.1 c.evaluate-next.ensures)
+    (answers _ scope c.range_value.result (range_of (bounded_val a) (bounded_val b)) c.args.place
+    (subst (λ (x : BoundedValue). TellsAnswer c.range_value.result (range_of (bounded_val x) (bounded_val b)) c.args.place) w.0 c.range_value.ensures)))
 
 pub each_value-each-preserved : goal.each_value-each-preserved
 each_value-each-preserved t c =
@@ -130,30 +234,52 @@ each_value-each-preserved t c =
     c.deref-expr-items.ensures.value in
     let next = terms_here xs i x h is in
     let inv = c.each.invariant in
-    let g = c.expression-next.ensures in
+    let g = c.evaluate-next.ensures in
     let here = setting c.args.self.now c.args.scope in
     let rest = terms_from (map term_of (drop (i + 1) xs)) in
     record {
-      told = longer_told _ c.each.values.items
+      told = longer_told _ c.each.values
           (each_value here (terms_from (map term_of (drop i xs))) c.each.self.turns)
           (value_at here true (term_of x) c.each.self.turns) (each_value here rest) inv.told
-          (ap (λ t. each_value here t c.each.self.turns) next) c.expression-next.result c.in_ok-values.values
-          c.expression-next.new.self.turns c.in_ok-values.ensures
-          (tells_along c.expression-next.result _ _ _ (moved (λ s. value_at s true (term_of x) c.each.self.turns) c.args.scope inv.kept) g.value);
-      bounded = longer_bounded c.each.values.items c.expression-next.result c.in_ok-values.values
-          c.in_ok-values.ensures inv.bounded (told_bounded c.expression-next.result _ _ g.value);
+          (ap (λ t. each_value here t c.each.self.turns) next) c.evaluate-next.result c.in_ok-values.values
+          c.evaluate-next.new.self.turns c.in_ok-values.ensures
+          (tells_along c.evaluate-next.result _ _ _ (moved (λ s. value_at s true (term_of x) c.each.self.turns) c.args.scope inv.kept) g.value);
       kept = keeps_trans inv.kept g.kept;
     }
 
-pub each_value-returns-clause-value : goal.each_value-returns-clause-value
-each_value-returns-clause-value t c =
+pub each_value-returns : goal.each_value-returns
+each_value-returns t c =
     let xs = c.args.exprs.now.items.items in
     let i = c.each.expr-index in
-    let le : length xs ≤ i = omega (arith, c.each-test.false, ap length c.deref-expr-items.ensures.value) in (
-      values_end (setting c.args.self.now c.args.scope) _ (vals_in c.each.values.items) []
-          (terms_from (map term_of (drop i xs))) c.each.self.turns c.each.invariant.told (terms_end xs i le),
-      c.each.invariant.bounded,
-    )
+    let le : length xs ≤ i = omega (arith, c.each-test.false, ap length c.deref-expr-items.ensures.value) in
+    record {
+      value = values_end (setting c.args.self.now c.args.scope) _ (vals_in c.each.values.items.items) []
+          (terms_from (map term_of (drop i xs))) c.each.self.turns c.each.invariant.told (terms_end xs i le);
+      kept = c.each.invariant.kept;
+    }
+
+pub each_value-returns-in_err-values : goal.each_value-returns-in_err-values
+each_value-returns-in_err-values t c =
+    let p = err_from_is_err_and c.from_residual.result c.from_residual.ensures.1 in
+    let xs = c.args.exprs.now.items.items in
+    let i = c.each.expr-index in
+    let h : i < length xs = omega (arith, c.each-test.true, ap length c.deref-expr-items.ensures.value) in
+    let x = c.expr-item.result in
+    let is : x ≡ get_or xs i x = c.expr-item.is ∙ ap (λ (l : List Expr). get_or l i x)
+    c.deref-expr-items.ensures.value in
+    let inv = c.each.invariant in
+    let g = c.evaluate-next.ensures in
+    let here = setting c.args.self.now c.args.scope in
+    let rest = terms_from (map term_of (drop (i + 1) xs)) in
+    record {
+      value = rw (p.1, p.2) (longer_fault _ c.each.values
+          (each_value here (terms_from (map term_of (drop i xs))) c.each.self.turns)
+          (value_at here true (term_of x) c.each.self.turns) (each_value here rest) inv.told
+          (ap (λ t. each_value here t c.each.self.turns) (terms_here xs i x h is)) c.evaluate-next.result
+          c.in_err-values.field-0.0 c.evaluate-next.new.self.turns c.evaluate-next.new.self.turns c.in_err-values.ensures
+          (tells_along c.evaluate-next.result _ _ _ (moved (λ s. value_at s true (term_of x) c.each.self.turns) c.args.scope inv.kept) g.value));
+      kept = keeps_trans inv.kept g.kept;
+    }
 
 pub each_positional-each-preserved : goal.each_positional-each-preserved
 each_positional-each-preserved t c =
@@ -165,36 +291,61 @@ each_positional-each-preserved t c =
     c.deref-arg-items.ensures.value in
     let next = args_here xs i x h is in
     let inv = c.each.invariant in
-    let g = c.expression-next.ensures in
+    let g = c.evaluate-next.ensures in
     let here = setting c.args.self.now c.args.scope in
     let rest = args_from (map arg_of (drop (i + 1) xs)) in
     record {
-      told = longer_told _ c.each.values.items
+      told = longer_told _ c.each.values
           (each_value here (all_values (args_from (map arg_of (drop i xs)))) c.each.self.turns)
           (value_at here true (argument_of (arg_of x)) c.each.self.turns) (each_value here (all_values rest)) inv.told
           (ap (λ t. each_value here t c.each.self.turns) (ap all_values next ∙ values_of_arg (arg_of x) rest))
-          c.expression-next.result c.in_ok-values.values c.expression-next.new.self.turns c.in_ok-values.ensures
-          (tells_along c.expression-next.result _ _ _ (ap (λ e. value_at here true e c.each.self.turns)
+          c.evaluate-next.result c.in_ok-values.values c.evaluate-next.new.self.turns c.in_ok-values.ensures
+          (tells_along c.evaluate-next.result _ _ _ (ap (λ e. value_at here true e c.each.self.turns)
           (sym c.argument_value.ensures.value) ∙ moved (λ s. value_at s true (term_of c.argument_value.result.now) c.each.self.turns)
           c.args.scope inv.kept) g.value);
-      bounded = longer_bounded c.each.values.items c.expression-next.result c.in_ok-values.values
-          c.in_ok-values.ensures inv.bounded (told_bounded c.expression-next.result _ _ g.value);
       kept = keeps_trans inv.kept g.kept;
     }
 
-pub each_positional-returns-clause-value : goal.each_positional-returns-clause-value
-each_positional-returns-clause-value t c =
+pub each_positional-returns : goal.each_positional-returns
+each_positional-returns t c =
     let xs = c.args.args.now.items.items in
     let i = c.each.arg-index in
-    let le : length xs ≤ i = omega (arith, c.each-test.false, ap length c.deref-arg-items.ensures.value) in (
-      values_end (setting c.args.self.now c.args.scope) _ (vals_in c.each.values.items) []
+    let le : length xs ≤ i = omega (arith, c.each-test.false, ap length c.deref-arg-items.ensures.value) in
+    record {
+      value = values_end (setting c.args.self.now c.args.scope) _ (vals_in c.each.values.items.items) []
           (all_values (args_from (map arg_of (drop i xs)))) c.each.self.turns c.each.invariant.told
-          (ap all_values (args_end xs i le)),
-      c.each.invariant.bounded,
-    )
+          (ap all_values (args_end xs i le));
+      kept = c.each.invariant.kept;
+    }
 
-pub postfix-returns-in_err-variable-clause-value : goal.postfix-returns-in_err-variable-clause-value
-postfix-returns-in_err-variable-clause-value t c =
+pub each_positional-returns-in_err-values : goal.each_positional-returns-in_err-values
+each_positional-returns-in_err-values t c =
+    let p = err_from_is_err_and c.from_residual.result c.from_residual.ensures.1 in
+    let xs = c.args.args.now.items.items in
+    let i = c.each.arg-index in
+    let h : i < length xs = omega (arith, c.each-test.true, ap length c.deref-arg-items.ensures.value) in
+    let x = c.arg-item.result in
+    let is : x ≡ get_or xs i x = c.arg-item.is ∙ ap (λ (l : List Arg). get_or l i x)
+    c.deref-arg-items.ensures.value in
+    let inv = c.each.invariant in
+    let g = c.evaluate-next.ensures in
+    let here = setting c.args.self.now c.args.scope in
+    let rest = args_from (map arg_of (drop (i + 1) xs)) in
+    record {
+      value = rw (p.1, p.2) (longer_fault _ c.each.values
+          (each_value here (all_values (args_from (map arg_of (drop i xs)))) c.each.self.turns)
+          (value_at here true (argument_of (arg_of x)) c.each.self.turns) (each_value here (all_values rest)) inv.told
+          (ap (λ t. each_value here t c.each.self.turns) (ap all_values (args_here xs i x h is) ∙ values_of_arg (arg_of x) rest))
+          c.evaluate-next.result c.in_err-values.field-0.0 c.evaluate-next.new.self.turns c.evaluate-next.new.self.turns
+          c.in_err-values.ensures
+          (tells_along c.evaluate-next.result _ _ _ (ap (λ e. value_at here true e c.each.self.turns)
+          (sym c.argument_value.ensures.value) ∙ moved (λ s. value_at s true (term_of c.argument_value.result.now) c.each.self.turns)
+          c.args.scope inv.kept) g.value));
+      kept = keeps_trans inv.kept g.kept;
+    }
+
+pub postfix-returns-in_err-variable : goal.postfix-returns-in_err-variable
+postfix-returns-in_err-variable t c =
     let p = err_from_is_err_and c.from_residual.result c.from_residual.ensures.1 in
     let e = c.args.self.now in
     let here = setting e c.args.scope in
@@ -202,25 +353,31 @@ postfix-returns-in_err-variable-clause-value t c =
     let none = variable_same (text_of e.source.now) (env_of (rows_of e.scopes.now) c.args.scope) c.in-Name.name ∙ ap
     (λ n. numbered_variable_in (env_of (rows_of e.scopes.now) c.args.scope) n) (sym c.items.ensures)
     ∙ missing.0 in
-    rw (p.1, p.2) (fault_at c.in_err-variable.field-0.0 e.turns UnknownName c.in-Name.place _
-    (name_then here (term_of c.args.of.now) c.in-Name.place c.in-Name.name e.turns None
-    (λ turns v. each_suffix here v (suffixes_from (suffixes_of c.args.rest.now)) turns)
-    (ap term_of c.in-Name.is ∙ name_form c.in-Name.place c.in-Name.name) none) missing.1)
+    record {
+      value = rw (p.1, p.2) (fault_at c.in_err-variable.field-0.0 e.turns UnknownName c.in-Name.place _
+          (name_then here (term_of c.args.of.now) c.in-Name.place c.in-Name.name e.turns None
+          (λ turns v. each_suffix here v (suffixes_from (suffixes_of c.args.rest.now)) turns)
+          (ap term_of c.in-Name.is ∙ name_form c.in-Name.place c.in-Name.name) none) missing.1);
+      kept = keeps_from _ _ refl (search rules) refl refl refl refl;
+    }
 
-pub postfix-returns-in-Name-clause-value : goal.postfix-returns-in-Name-clause-value
-postfix-returns-in-Name-clause-value t c =
+pub postfix-returns-in-Name : goal.postfix-returns-in-Name
+postfix-returns-in-Name t c =
     let e = c.args.self.now in
     let here = setting e c.args.scope in
     let found = variable_same (text_of e.source.now) (env_of (rows_of e.scopes.now) c.args.scope) c.in-Name.name ∙ ap
     (λ n. numbered_variable_in (env_of (rows_of e.scopes.now) c.args.scope) n) (sym c.items.ensures)
     ∙ c.in_ok-variable.ensures.found in
-    tells_along c.suffixes.result c.suffixes.new.self.turns _ _
-    (name_then here (term_of c.args.of.now) c.in-Name.place c.in-Name.name e.turns _
-    (λ turns v. each_suffix here v (suffixes_from (suffixes_of c.args.rest.now)) turns)
-    (ap term_of c.in-Name.is ∙ name_form c.in-Name.place c.in-Name.name) found) c.suffixes.ensures.value
+    record {
+      value = tells_along c.suffixes.result c.suffixes.new.self.turns _ _
+          (name_then here (term_of c.args.of.now) c.in-Name.place c.in-Name.name e.turns _
+          (λ turns v. each_suffix here v (suffixes_from (suffixes_of c.args.rest.now)) turns)
+          (ap term_of c.in-Name.is ∙ name_form c.in-Name.place c.in-Name.name) found) c.suffixes.ensures.value;
+      kept = let k = c.suffixes.ensures.kept in keeps_from _ _ k.source (search rules) k.rows k.chain k.calls k.depth;
+    }
 
-pub suffixes-returns-in_err-so_far-2-clause-value : goal.suffixes-returns-in_err-so_far-2-clause-value
-suffixes-returns-in_err-so_far-2-clause-value t c =
+pub suffixes-returns-in_err-so_far-2 : goal.suffixes-returns-in_err-so_far-2
+suffixes-returns-in_err-so_far-2 t c =
     let p = err_from_is_err_and c.from_residual-in_err-so_far-2.result c.from_residual-in_err-so_far-2.ensures.1 in
     let xs = c.args.rest.now.more.items in
     let i = c.each.part-index in
@@ -230,17 +387,20 @@ suffixes-returns-in_err-so_far-2-clause-value t c =
     c.deref-part-items.ensures.value in
     let next = suffixes_here xs i x h is in
     let inv = c.each.invariant in
-    let v = val_of c.each.so_far in
+    let v = bounded_val c.each.so_far in
     let here = setting c.args.self.now c.args.scope in
     let rest = suffixes_from (map suffix_of (drop (i + 1) xs)) in
     let step = suffixed here v (suffix_of x) c.each.self.turns in
     let apart = ap (λ ss. each_suffix here v ss c.each.self.turns) next ∙ suffix_step here v (suffix_of x) rest
     c.each.self.turns in
-    rw (p.1, p.2) (step_fault _ (λ turns y. each_suffix here y rest turns) _ step inv.told apart
-    c.in_err-so_far-2.field-0.0 c.suffix-in-each.new.self.turns c.suffix-in-each.new.self.turns
-    (tells_along (Err c.in_err-so_far-2.field-0.0) c.suffix-in-each.new.self.turns _ _
-    (moved (λ s. suffixed s v (suffix_of x) c.each.self.turns) c.args.scope inv.kept)
-    c.in_err-so_far-2.ensures.value))
+    record {
+      value = rw (p.1, p.2) (step_fault _ (λ turns y. each_suffix here y rest turns) _ step inv.told apart
+          c.in_err-so_far-2.field-0.0 c.suffix-in-each.new.self.turns c.suffix-in-each.new.self.turns
+          (tells_along (Err c.in_err-so_far-2.field-0.0) c.suffix-in-each.new.self.turns _ _
+          (moved (λ s. suffixed s v (suffix_of x) c.each.self.turns) c.args.scope inv.kept)
+          c.in_err-so_far-2.ensures.value));
+      kept = keeps_trans inv.kept c.in_err-so_far-2.ensures.kept;
+    }
 
 pub suffixes-each-preserved : goal.suffixes-each-preserved
 suffixes-each-preserved t c =
@@ -252,7 +412,7 @@ suffixes-each-preserved t c =
     c.deref-part-items.ensures.value in
     let next = suffixes_here xs i x h is in
     let inv = c.each.invariant in
-    let v = val_of c.each.so_far in
+    let v = bounded_val c.each.so_far in
     let here = setting c.args.self.now c.args.scope in
     let rest = suffixes_from (map suffix_of (drop (i + 1) xs)) in
     let step = suffixed here v (suffix_of x) c.each.self.turns in
@@ -261,14 +421,13 @@ suffixes-each-preserved t c =
     let g = c.in_ok-so_far-2.ensures in
     record {
       told = step_more _ (λ turns y. each_suffix here y rest turns) _ step inv.told apart
-          c.suffix-in-each.new.self.turns (val_of c.in_ok-so_far-2.so_far)
-          (moved (λ s. suffixed s v (suffix_of x) c.each.self.turns) c.args.scope inv.kept ∙ g.value.0);
-      bounded = g.value.1;
+          c.suffix-in-each.new.self.turns (bounded_val c.in_ok-so_far-2.so_far)
+          (moved (λ s. suffixed s v (suffix_of x) c.each.self.turns) c.args.scope inv.kept ∙ g.value);
       kept = keeps_trans inv.kept g.kept;
     }
 
-pub links-returns-in_err-so_far-2-clause-value : goal.links-returns-in_err-so_far-2-clause-value
-links-returns-in_err-so_far-2-clause-value t c =
+pub links-returns-in_err-so_far-2 : goal.links-returns-in_err-so_far-2
+links-returns-in_err-so_far-2 t c =
     let p = err_from_is_err_and c.from_residual-in_err-so_far-2.result c.from_residual-in_err-so_far-2.ensures.1 in
     let xs = c.deref-part-items.result.now in
     let i = c.each.part-index in
@@ -277,16 +436,19 @@ links-returns-in_err-so_far-2-clause-value t c =
     let is : x ≡ get_or xs i x = c.part-item.is in
     let next = links_here xs i x h is in
     let inv = c.each.invariant in
-    let v = val_of c.each.so_far in
+    let v = bounded_val c.each.so_far in
     let here = setting c.args.self.now c.args.scope in
     let rest = links_from (map link_of (drop (i + 1) xs)) in
     let step = linked here v (link_of x) c.each.self.turns in
-    rw (p.1, p.2) (step_fault _ (λ turns y. each_link here y rest turns) _ step inv.told
-    (ap (λ ls. each_link here v ls c.each.self.turns) next)
-    c.in_err-so_far-2.field-0.0 c.link-in-each.new.self.turns c.link-in-each.new.self.turns
-    (tells_along (Err c.in_err-so_far-2.field-0.0) c.link-in-each.new.self.turns _ _
-    (moved (λ s. linked s v (link_of x) c.each.self.turns) c.args.scope inv.kept)
-    c.in_err-so_far-2.ensures.value))
+    record {
+      value = rw (p.1, p.2) (step_fault _ (λ turns y. each_link here y rest turns) _ step inv.told
+          (ap (λ ls. each_link here v ls c.each.self.turns) next)
+          c.in_err-so_far-2.field-0.0 c.link-in-each.new.self.turns c.link-in-each.new.self.turns
+          (tells_along (Err c.in_err-so_far-2.field-0.0) c.link-in-each.new.self.turns _ _
+          (moved (λ s. linked s v (link_of x) c.each.self.turns) c.args.scope inv.kept)
+          c.in_err-so_far-2.ensures.value));
+      kept = keeps_trans inv.kept c.in_err-so_far-2.ensures.kept;
+    }
 
 pub links-each-preserved : goal.links-each-preserved
 links-each-preserved t c =
@@ -298,46 +460,51 @@ links-each-preserved t c =
     let next = links_here xs i x h is in
     let inv = c.each.invariant in
     let g = c.in_ok-so_far-2.ensures in
-    let v = val_of c.each.so_far in
+    let v = bounded_val c.each.so_far in
     let here = setting c.args.self.now c.args.scope in
     let rest = links_from (map link_of (drop (i + 1) xs)) in
     record {
       told = step_more _ (λ turns y. each_link here y rest turns) _ (linked here v (link_of x) c.each.self.turns)
           inv.told (ap (λ ls. each_link here v ls c.each.self.turns) next)
-          c.link-in-each.new.self.turns (val_of c.in_ok-so_far-2.so_far)
-          (moved (λ s. linked s v (link_of x) c.each.self.turns) c.args.scope inv.kept ∙ g.value.0);
-      bounded = g.value.1;
+          c.link-in-each.new.self.turns (bounded_val c.in_ok-so_far-2.so_far)
+          (moved (λ s. linked s v (link_of x) c.each.self.turns) c.args.scope inv.kept ∙ g.value);
       kept = keeps_trans inv.kept g.kept;
     }
 
-pub link-returns-in-Name-clause-value : goal.link-returns-in-Name-clause-value
-link-returns-in-Name-clause-value t c =
+pub link-returns-in-Name : goal.link-returns-in-Name
+link-returns-in-Name t c =
     let e = c.args.self.now in
     let here = setting e c.args.scope in
     let part = c.args.part.now in
-    tells_along c.operate_with_variable.result e.turns _ _
-    (ap (λ l. linked here (val_of c.args.left) l e.turns) (link_form part)
-    ∙ link_wants here (val_of c.args.left) (record { op = part.op; at = part.place; right = term_of part.right })
-    e.turns (sym c.if-not-wants_right.ensures)
-    ∙ name_then here (term_of part.right) c.in-Name.at c.in-Name.name e.turns _
-    (λ turns w. answered (binary_of part.op (val_of c.args.left) w) part.place turns)
-    (ap term_of c.in-Name.is ∙ name_form c.in-Name.at c.in-Name.name)
-    (variable_same (text_of e.source.now) (env_of (rows_of e.scopes.now) c.args.scope) c.in-Name.name))
-    (c.operate_with_variable.ensures.value e.turns)
+    record {
+      value = tells_along c.binary_with_variable.result e.turns _ _
+          (ap (λ l. linked here (bounded_val c.args.left) l e.turns) (link_form part)
+          ∙ link_wants here (bounded_val c.args.left) (record { op = part.op; at = part.place; right = term_of part.right })
+          e.turns (sym c.if-not-wants_right.ensures)
+          ∙ name_then here (term_of part.right) c.in-Name.at c.in-Name.name e.turns _
+          (λ turns w. answered (binary_of part.op (bounded_val c.args.left) w) part.place turns)
+          (ap term_of c.in-Name.is ∙ name_form c.in-Name.at c.in-Name.name)
+          (variable_same (text_of e.source.now) (env_of (rows_of e.scopes.now) c.args.scope) c.in-Name.name))
+          (c.binary_with_variable.ensures e.turns);
+      kept = keeps_from _ _ refl (search rules) refl refl refl refl;
+    }
 
-pub call-returns-in_err-given-in-Some-clause-value : goal.call-returns-in_err-given-in-Some-clause-value
-call-returns-in_err-given-in-Some-clause-value t c =
+pub call-returns-in_err-given-in-Some : goal.call-returns-in_err-given-in-Some
+call-returns-in_err-given-in-Some t c =
     let p = err_from_is_err_and c.from_residual.result c.from_residual.ensures.1 in
     let e = c.args.self.now in
     let args = args_from (args_of c.args.args.now) in
     let told = subst (λ (l : List Param). TellsArguments (Err c.in_err-given-in-Some.field-0.0) c.each_argument.new.self.turns
     (each_argument (setting e c.args.scope) (names_of (map param_of l)) 0 args (nothing_given (length (names_of (map param_of l)))) e.turns))
     c.deref.ensures.value c.in_err-given-in-Some.ensures.value in
-    rw (p.1, p.2) (tells_along (Err c.in_err-given-in-Some.field-0.0) c.each_argument.new.self.turns _ _
-    (call_found e c.args.scope c.in-Some.home (function_of c.in-Some.function) c.args.place c.args.name.now
-    (args_from (args_of c.args.args.now)) e.turns c.in-Some.ensures.found)
-    (fault_of_arguments c.in_err-given-in-Some.field-0.0 c.each_argument.new.self.turns
-    c.each_argument.new.self.turns _ _ told))
+    record {
+      value = rw (p.1, p.2) (tells_along (Err c.in_err-given-in-Some.field-0.0) c.each_argument.new.self.turns _ _
+          (call_found e c.args.scope c.in-Some.home (function_of c.in-Some.function) c.args.place c.args.name.now
+          (args_from (args_of c.args.args.now)) e.turns c.in-Some.ensures.found)
+          (fault_of_arguments c.in_err-given-in-Some.field-0.0 c.each_argument.new.self.turns
+          c.each_argument.new.self.turns _ _ told));
+      kept = let k = c.in_err-given-in-Some.ensures.kept in keeps_from _ _ k.source (search rules) k.rows k.chain k.calls k.depth;
+    }
 
 pub call-function_call-requires : goal.call-function_call-requires
 call-function_call-requires t c =
@@ -345,23 +512,30 @@ call-function_call-requires t c =
       omega (arith, g.kept.work, c.decreases),
       (
         omega (arith, c.in-Some.ensures.there, g.kept.count),
-        (
-          rw (g.kept.source) (deep_enough _ _ c.in-Some.ensures.among),
-          (g.count ∙ length-map (map param_of c.deref.result.now) name_of ∙ ap (λ (l : List Param). length (map param_of l)) c.deref.ensures.value, g.value.1),
-        ),
+        record {
+          within = rw (g.kept.source) (deep_enough _ _ c.in-Some.ensures.among);
+          arguments = record {
+            count = g.count ∙ length-map (map param_of c.deref.result.now) name_of ∙ length-map c.deref.result.now param_of
+                ∙ ap (λ (l : List Param). length l) c.deref.ensures.value;
+            bounded = g.value.1;
+          };
+        },
       ),
     )
 
-pub call-returns-in_err-function-in-None-clause-value : goal.call-returns-in_err-function-in-None-clause-value
-call-returns-in_err-function-in-None-clause-value t c =
+pub call-returns-in_err-function-in-None : goal.call-returns-in_err-function-in-None
+call-returns-in_err-function-in-None t c =
     let p = err_from_is_err_and c.from_residual-in_err-function-in-None.result
     c.from_residual-in_err-function-in-None.ensures.1 in
     let e = c.args.self.now in
     let here = setting e c.args.scope in
-    rw (p.1, p.2) (tells_along (Err c.in_err-function-in-None.field-0.0) e.turns _ _
-    (ap (λ o. called here c.args.place c.args.name.now (args_from (args_of c.args.args.now)) e.turns o)
-    c.in-None.ensures.found)
-    (c.in_err-function-in-None.ensures.refused here e.turns e.turns))
+    record {
+      value = rw (p.1, p.2) (tells_along (Err c.in_err-function-in-None.field-0.0) e.turns _ _
+          (ap (λ o. called here c.args.place c.args.name.now (args_from (args_of c.args.args.now)) e.turns o)
+          c.in-None.ensures.found)
+          (c.in_err-function-in-None.ensures.refused here e.turns e.turns));
+      kept = keeps_from _ _ refl (search rules) refl refl refl refl;
+    }
 
 pub each_argument-each-init : goal.each_argument-each-init
 each_argument-each-init t c =
@@ -390,7 +564,7 @@ each_argument-each-preserved t c =
     c.deref-arg-items.ensures.value in
     let next = args_here xs i x h is in
     let inv = c.each.invariant in
-    let g = c.expression-next.ensures in
+    let g = c.evaluate.ensures in
     let a = arg_of x in
     let rest = args_from (map arg_of (drop (i + 1) xs)) in
     let here = setting c.args.self.now c.args.scope in
@@ -403,20 +577,21 @@ each_argument-each-preserved t c =
     ∙ taker_given (names_in c.each.so_far.names) c.each.positional before a
     ∙ if_ok_at (λ (d : Destination). taker_of (names_in c.each.so_far.names) c.each.positional (given_of before) a ≡ Some (taker_seen d))
     c.destination_for-free.result d w.1 c.destination_for-free.ensures.free in
-    let step = tells_along c.expression-next.result _ _ _ (ap (λ e. value_at here true e c.each.self.turns)
+    let step = alone_tells c.evaluate.result c.value_alone-next.result _ _ c.value_alone-next.ensures
+    (tells_along c.evaluate.result _ _ _ (ap (λ e. value_at here true e c.each.self.turns)
     (sym c.argument_value.ensures.value) ∙ moved (λ s. value_at s true (term_of c.argument_value.result.now) c.each.self.turns)
-    c.args.scope inv.kept) g.value in
-    let given = held_seen before d c.expression-next.result (Ok after.given)
-    (subst (λ (v : ArgumentsSoFar Value). IsGiven v.given d c.expression-next.result (Ok after.given)) w.0
+    c.args.scope inv.kept) g.value) in
+    let given = held_seen before d c.value_alone-next.result (Ok after.given)
+    (subst (λ (v : ArgumentsSoFar Value). IsGiven v.given d c.value_alone-next.result (Ok after.given)) w.0
     c.in_ok-so_far-2.ensures.given) in
     record {
       told = argument_held here names c.each.positional _ (args_from (map arg_of (drop i xs))) (arguments_of before) c.each.self.turns
-          inv.told a rest (taker_seen d) c.expression-next.new.self.turns c.positional_after-positional.result c.expression-next.result
+          inv.told a rest (taker_seen d) c.evaluate.new.self.turns c.positional_after-positional.result c.value_alone-next.result
           after.given next free step given c.positional_after-positional.ensures.value;
       names = c.in_ok-so_far-2.ensures.names ∙ ap (λ (v : ArgumentsSoFar Value). v.names) w.0 ∙ inv.names;
       few = omega (arith, c.positional_after-positional.ensures.within, inv.few);
-      filled = argument_held_bounded (arguments_of before) (taker_seen d) c.expression-next.result after.given given
-          inv.filled (told_bounded c.expression-next.result _ _ g.value);
+      filled = argument_held_bounded (arguments_of before) (taker_seen d) c.value_alone-next.result after.given given
+          inv.filled (told_bounded c.value_alone-next.result _ _ step);
       kept = keeps_trans inv.kept g.kept;
     }
 
@@ -458,7 +633,7 @@ each_argument-returns-in_err-so_far-2-clause-value t c =
     let rest = args_from (map arg_of (drop (i + 1) xs)) in
     let here = setting c.args.self.now c.args.scope in
     let names = names_in c.args.names in
-    let g = c.expression-next.ensures in
+    let g = c.evaluate.ensures in
     let before = c.each.so_far.given in
     let d = c.in_ok-held.destination in
     let w = c.in_ok-held.ensures.ok in
@@ -466,14 +641,15 @@ each_argument-returns-in_err-so_far-2-clause-value t c =
     ∙ taker_given (names_in c.each.so_far.names) c.each.positional before a
     ∙ if_ok_at (λ (d : Destination). taker_of (names_in c.each.so_far.names) c.each.positional (given_of before) a ≡ Some (taker_seen d))
     c.destination_for-free.result d w.1 c.destination_for-free.ensures.free in
-    let step = tells_along c.expression-next.result _ _ _ (ap (λ e. value_at here true e c.each.self.turns)
+    let step = alone_tells c.evaluate.result c.value_alone-next.result _ _ c.value_alone-next.ensures
+    (tells_along c.evaluate.result _ _ _ (ap (λ e. value_at here true e c.each.self.turns)
     (sym c.argument_value.ensures.value) ∙ moved (λ s. value_at s true (term_of c.argument_value.result.now) c.each.self.turns)
-    c.args.scope inv.kept) g.value in
+    c.args.scope inv.kept) g.value) in
     let stop = c.in_err-so_far-2.field-0.0 in
-    let held = held_seen before d c.expression-next.result (Err stop)
-    (subst (λ (v : ArgumentsSoFar Value). IsGiven v.given d c.expression-next.result (Err stop)) w.0 c.in_err-so_far-2.ensures.given) in
+    let held = held_seen before d c.value_alone-next.result (Err stop)
+    (subst (λ (v : ArgumentsSoFar Value). IsGiven v.given d c.value_alone-next.result (Err stop)) w.0 c.in_err-so_far-2.ensures.given) in
     rw (p.1, p.2) (argument_stops here names c.each.positional _ (args_from (map arg_of (drop i xs))) (arguments_of before) c.each.self.turns
-    inv.told a rest (taker_seen d) c.expression-next.new.self.turns c.expression-next.new.self.turns c.expression-next.result stop
+    inv.told a rest (taker_seen d) c.evaluate.new.self.turns c.evaluate.new.self.turns c.value_alone-next.result stop
     (args_here xs i x h is) free step held)
 
 pub each_parameter-parameter-next-requires : goal.each_parameter-parameter-next-requires
@@ -520,12 +696,12 @@ each_parameter-each-preserved t c =
     ∙ ap (λ (l : List (Option Value)). s ∷ slots_in (drop (i + 1) l)) (sym same) in
     let g = c.parameter-next.ensures in
     let r = c.parameter-next.result in
-    let longer = subst (λ (y : Result (Vec Value Global) Stop). IsLonger c.each.values.items r y) w.1
+    let longer = subst (λ (y : Result BoundedValues Stop). IsOneMore c.each.values r y) w.1
     c.with_next-longer.ensures in
     let here = setting c.args.self.now c.args.scope in
     let ps = map param_of (drop (i + 1) xs) in
     record {
-      told = longer_told _ c.each.values.items
+      told = longer_told _ c.each.values
           (each_parameter here (map param_of (drop i xs)) (slots_in (drop i still)) c.each.self.turns)
           (parameter_value here (param_of x) s c.each.self.turns) (each_parameter here ps (slots_in (drop (i + 1) unfilled.items))) inv.told
           (ap (λ l. each_parameter here l (slots_in (drop i still)) c.each.self.turns) next
@@ -533,8 +709,7 @@ each_parameter-each-preserved t c =
           c.parameter-next.new.self.turns longer
           (tells_along r _ _ _ (moved (λ h. parameter_value h (param_of x) s c.each.self.turns) c.args.scope inv.kept) g.value);
       count = ap length same ∙ length-set still i dest ∙ inv.count;
-      got = longer_length c.each.values.items r values longer ∙ ap (λ n. n + 1) inv.got;
-      bounded = longer_bounded c.each.values.items r values longer inv.bounded (told_bounded r _ _ g.value);
+      got = longer_length c.each.values r values longer ∙ ap (λ n. n + 1) inv.got;
       filled = (slots_parts _ _ _ slots inv.filled).1;
       kept = keeps_trans inv.kept g.kept;
     }
@@ -544,55 +719,58 @@ each_parameter-returns-clause-value t c =
     let xs = c.args.params.now.items.items in
     let i = c.each.i in
     let le : length xs ≤ i = omega (arith, c.each-test.false, ap length c.deref-param-items.ensures.value) in (
-      filled_end (setting c.args.self.now c.args.scope) _ (vals_in c.each.values.items) []
+      filled_end (setting c.args.self.now c.args.scope) _ (vals_in c.each.values.items.items)
           (map param_of (drop i xs)) (slots_in (drop i c.each.open.items)) c.each.self.turns
           c.each.invariant.told (params_end xs i le),
-      c.each.invariant.bounded,
+      c.each.values.bounded,
     )
 
-pub function_call-returns-in_err-given-clause-value : goal.function_call-returns-in_err-given-clause-value
-function_call-returns-in_err-given-clause-value t c =
+pub function_call-returns-in_err-given : goal.function_call-returns-in_err-given
+function_call-returns-in_err-given t c =
     let p = err_from_is_err_and c.from_residual.result c.from_residual.ensures.1 in
     let e = c.args.self.now in
     let here = setting e c.args.scope in
-    rw (p.1, p.2) (if_err_at (λ (stop : Stop). (go : ℕ → ℕ → Outcome Val) (n : ℕ) → Tells (Err stop) n
-    (one_call_fewer (64 - e.calls) c.args.place (λ calls. turn c.args.place e.turns (go calls))))
-    c.may_call.result c.in_err-given.field-0.0 c.in_err-given.ensures.err c.may_call.ensures.refused
-    (λ calls turns. function_value (with_calls here calls) (function_of c.args.function) (arguments_of c.args.given) turns)
-    e.turns)
+    record {
+      value = rw (p.1, p.2) (if_err_at (λ (stop : Stop). (go : ℕ → ℕ → Outcome Val) (n : ℕ) → TellsAs bounded_val (Err stop) n
+          (one_call_fewer (64 - e.calls) c.args.place (λ calls. turn c.args.place e.turns (go calls))))
+          c.may_call.result c.in_err-given.field-0.0 c.in_err-given.ensures.err c.may_call.ensures.refused
+          (λ calls turns. function_value (with_calls here calls) (function_of c.args.function) (arguments_of c.args.given) turns)
+          e.turns);
+      kept = keeps_same _;
+    }
 
 pub function_call-function_value-value-requires : goal.function_call-function_value-value-requires
 function_call-function_value-value-requires t c =
     let e = c.args.self.now in
     let w = c.in_ok-given.ensures.ok in (
-      omega (arith, work_falls e.source.now e.calls (omega arith), c.requires.within, c.decreases),
+      omega (arith, work_falls e.source.now e.calls (omega arith), c.requires.call.within, c.decreases),
       (
         c.requires.scope,
-        (
-          ap (λ (given : GivenArguments Value). length given.slots.items) w.0 ∙ c.requires.count,
-          subst (λ (given : GivenArguments Value). IsTrue (arguments_bounded (arguments_of given))) (sym w.0) c.requires.bounded,
-        ),
+        subst (λ (given : GivenArguments Value). ArgumentsFit c.args.function given) (sym w.0) c.requires.call.arguments,
       ),
     )
 
-pub suffix-returns-in-Member-clause-value : goal.suffix-returns-in-Member-clause-value
-suffix-returns-in-Member-clause-value t c =
+pub suffix-returns-in-Member : goal.suffix-returns-in-Member
+suffix-returns-in-Member t c =
     let e = c.args.self.now in
     let v = indexed_val (env_of (rows_of e.scopes.now) c.args.scope) c.args.of in
-    tells_along c.member_item.result e.turns _ _
-    (ap (λ (x : Suffix). suffixed (setting e c.args.scope) v (suffix_of x) e.turns) c.in-Member.is
-    ∙ ap (λ x. suffixed (setting e c.args.scope) v x e.turns) (member_form c.in-Member.place c.in-Member.name c.in-Member.name_place))
-    (c.member_item.ensures.value e.turns)
+    record {
+      value = tells_along c.member_item.result e.turns _ _
+          (ap (λ (x : Suffix). suffixed (setting e c.args.scope) v (suffix_of x) e.turns) c.in-Member.is
+          ∙ ap (λ x. suffixed (setting e c.args.scope) v x e.turns) (member_form c.in-Member.place c.in-Member.name c.in-Member.name_place))
+          (c.member_item.ensures e.turns);
+      kept = keeps_from _ _ refl (search rules) refl refl refl refl;
+    }
 
-pub in_new_scope-returns-clause-kept : goal.in_new_scope-returns-clause-kept
-in_new_scope-returns-clause-kept t c =
+pub in_new_scope-returns : goal.in_new_scope-returns
+in_new_scope-returns t c =
     let front : take c.in_ok-inner.inner (rows_of c.match-bind_all.self.1.1.1.0.now)
     ≡ take c.in_ok-inner.inner (rows_of c.bind_all.new.scopes) = elim c.match-bind_all.branch [
-      | in_new_scope-in-Ok w ↦ rw w.self-is (ap (take c.in_ok-inner.inner) w.expression-value.ensures.kept.rows)
+      | in_new_scope-in-Ok w ↦ rw w.self-is (ap (take c.in_ok-inner.inner) w.evaluate-value.ensures.kept.rows)
       | in_new_scope-in-Err w ↦ rw w.self-is refl
     ] in
     let chain : chain_of c.match-bind_all.self.1.1.1.0.now ≡ chain_of c.bind_all.new.scopes = elim c.match-bind_all.branch [
-      | in_new_scope-in-Ok w ↦ rw w.self-is w.expression-value.ensures.kept.chain
+      | in_new_scope-in-Ok w ↦ rw w.self-is w.evaluate-value.ensures.kept.chain
       | in_new_scope-in-Err w ↦ rw w.self-is refl
     ] in
     let before = rows_of c.args.self.now.scopes.now in
@@ -600,5 +778,8 @@ in_new_scope-returns-clause-kept t c =
     ap (take c.in_ok-inner.inner) c.in_ok-inner.ensures.entered
     ∙ ap (λ n. take n (before ++ empty_row c.args.scope ∷ [])) c.in_ok-inner.ensures.number
     ∙ take-append_seam before (empty_row c.args.scope ∷ []) in
-    keeps_from _ _ (search rules) (search rules) (c.leave.ensures.rows ∙ front ∙ c.bind_all.ensures.front ∙ seam)
-    (c.leave.ensures.chain ∙ chain ∙ c.bind_all.ensures.chain ∙ c.in_ok-inner.ensures.kept.chain) (search rules) (search rules)
+    record {
+      value = search rules;
+      kept = keeps_from _ _ (search rules) (search rules) (c.leave.ensures.rows ∙ front ∙ c.bind_all.ensures.front ∙ seam)
+          (c.leave.ensures.chain ∙ chain ∙ c.bind_all.ensures.chain ∙ c.in_ok-inner.ensures.kept.chain) (search rules) (search rules);
+    }

@@ -11,13 +11,12 @@ use Rattle.scad_ast.specs.declared.expression.Args.{size-Args}
 use Rattle.scad_ast.specs.Terms.{terms_from, args_from, suffixes_from, links_from}
 use Rattle.scad_ast.specs.ExprView.{term_of, terms_of, args_of, arg_of, suffix_of, suffixes_of, link_of, links_of}
 use Rattle.scad_ast.specs.StatementView.{param_of, params_of}
-use Rattle.scad_value.specs.Values.{is_bounded}
-use Rattle.scad_value.specs.View.{val_of, vals_in}
+use Rattle.scad_value.specs.View.{vals_in}
+use Rattle.scad_value.specs.BoundedView.{bounded_val}
 use Rattle.scad_scope.specs.Names.{env_of}
 use Rattle.scad_scope.specs.Table.{rows_of}
 use Rattle.scad_scope.specs.Arguments.{nothing_given}
 use Rattle.scad_scope.specs.ArgumentsView.{names_in}
-use Rattle.scad_builtin.specs.Builtins.{are_bounded}
 use Rattle.scad_func.specs.Meaning.{each_value, each_argument, each_parameter, each_suffix, each_link}
 use Rattle.scad_func.specs.Steps.{all_values}
 use Rattle.scad_func.specs.View.{indexed_val, slots_in, slots_bounded, arguments_of, arguments_bounded, function_size, param_size, params_size}
@@ -25,8 +24,8 @@ use Rattle.scad_func.specs.Evaluations.{Keeps, work_left, setting}
 use Rattle.scad_func.proofs.Calls.{in_front}
 use Rattle.scad_func.proofs.evaluation.Evaluation.+value.Given as goal
 
-abbrev pub decreases-expression : goal.decreases-expression
-decreases-expression l = work_left l.self.now.source.now l.self.now.calls + (4 * size-Expr l.expr.now + 2)
+abbrev pub decreases-evaluate : goal.decreases-evaluate
+decreases-evaluate l = work_left l.self.now.source.now l.self.now.calls + (4 * size-Expr l.expr.now + 2)
 
 abbrev pub decreases-deeper : goal.decreases-deeper
 decreases-deeper l = work_left l.self.now.source.now l.self.now.calls + (4 * size-Expr l.expr.now + 1)
@@ -107,9 +106,8 @@ invariant-each_value-each l =
     let here = setting l.fn.self l.scope in
     record {
       told : each_value here (terms_from (terms_of l.exprs)) l.fn.self.turns
-          ≡ in_front (vals_in l.values.items) (each_value here
+          ≡ in_front (vals_in l.values.items.items) (each_value here
           (terms_from (map term_of (drop l.expr-index l.exprs.items.items))) l.self.turns);
-      bounded : IsTrue (are_bounded (vals_in l.values.items));
       kept : Keeps l.fn.self l.self;
     }
 
@@ -118,9 +116,8 @@ invariant-each_positional-each l =
     let here = setting l.fn.self l.scope in
     record {
       told : each_value here (all_values (args_from (args_of l.args))) l.fn.self.turns
-          ≡ in_front (vals_in l.values.items) (each_value here
+          ≡ in_front (vals_in l.values.items.items) (each_value here
           (all_values (args_from (map arg_of (drop l.arg-index l.args.items.items)))) l.self.turns);
-      bounded : IsTrue (are_bounded (vals_in l.values.items));
       kept : Keeps l.fn.self l.self;
     }
 
@@ -130,9 +127,8 @@ invariant-suffixes-each l =
     record {
       told : each_suffix here (indexed_val (env_of (rows_of l.fn.self.scopes.now) l.scope) l.fn.of)
           (suffixes_from (suffixes_of l.rest)) l.fn.self.turns
-          ≡ each_suffix here (val_of l.so_far)
+          ≡ each_suffix here (bounded_val l.so_far)
           (suffixes_from (map suffix_of (drop l.part-index l.rest.more.items))) l.self.turns;
-      bounded : IsTrue (is_bounded (val_of l.so_far));
       kept : Keeps l.fn.self l.self;
     }
 
@@ -140,10 +136,9 @@ abbrev pub invariant-links-each : goal.invariant-links-each
 invariant-links-each l =
     let here = setting l.fn.self l.scope in
     record {
-      told : each_link here (val_of l.fn.left) (links_from (links_of l.rest)) l.fn.self.turns
-          ≡ each_link here (val_of l.so_far)
+      told : each_link here (bounded_val l.fn.left) (links_from (links_of l.rest)) l.fn.self.turns
+          ≡ each_link here (bounded_val l.so_far)
           (links_from (map link_of (drop l.part-index l.part-items))) l.self.turns;
-      bounded : IsTrue (is_bounded (val_of l.so_far));
       kept : Keeps l.fn.self l.self;
     }
 
@@ -166,11 +161,10 @@ invariant-each_parameter-each l =
     let here = setting l.fn.self l.scope in
     record {
       told : each_parameter here (params_of l.params) (slots_in l.fn.slots.items) l.fn.self.turns
-          ≡ in_front (vals_in l.values.items) (each_parameter here
+          ≡ in_front (vals_in l.values.items.items) (each_parameter here
           (map param_of (drop l.i l.params.items.items)) (slots_in (drop l.i l.open.items)) l.self.turns);
       count : length l.open.items ≡ length l.params.items.items;
-      got : length l.values.items ≡ l.i;
-      bounded : IsTrue (are_bounded (vals_in l.values.items));
+      got : length l.values.items.items ≡ l.i;
       filled : IsTrue (slots_bounded (slots_in (drop l.i l.open.items)));
       kept : Keeps l.fn.self l.self;
     }

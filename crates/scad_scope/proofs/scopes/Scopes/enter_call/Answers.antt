@@ -2,11 +2,10 @@ use Rattle.std.proofs.Common.{refl, ap, length, subst, ◌≡◌, [], ◌∷◌,
 use Rattle.std.specs.Prelude.{OnOk}
 use Rattle.scad_scope.specs.Names.{Row, numbered_call, called_row, env_of}
 use Rattle.scad_scope.specs.Blocks.{row_of_block}
-use Rattle.scad_scope.specs.Tables.{text_held, functions_held, modules_held}
-use Rattle.scad_scope.specs.Numbered.{numbers_below}
+use Rattle.scad_scope.specs.Tables.{text_held}
 use Rattle.scad_scope.specs.Table.{rows_of}
 use Rattle.scad_scope.proofs.Envs.{entering_told, entering_kept, called_from}
-use Rattle.scad_scope.proofs.Numbered.{entering_passes, entered_below}
+use Rattle.scad_scope.proofs.Numbered.{block_stays_below}
 use Rattle.scad_scope.proofs.scopes.Scopes.enter_call.Goals as goal
 
 row : goal.After-add → Row
@@ -38,13 +37,5 @@ returns-clause-kept c = record {
 
 pub returns-clause-numbered : goal.returns-clause-numbered
 unfolding row
-returns-clause-numbered c = record {
-  functions = entering_passes
-      (λ r. numbers_below (length (functions_held c.args.blocks.now)) r.functions)
-      (rows_of c.args.self.now) (rows_of c.add.new.self) (row c) c.add.result (added c) c.add.ensures.unchanged
-      (entered_below c.args.outer c.args.blocks.now c.args.block).0;
-  modules = entering_passes
-      (λ r. numbers_below (length (modules_held c.args.blocks.now)) r.modules)
-      (rows_of c.args.self.now) (rows_of c.add.new.self) (row c) c.add.result (added c) c.add.ensures.unchanged
-      (entered_below c.args.outer c.args.blocks.now c.args.block).1;
-}
+returns-clause-numbered c = block_stays_below (rows_of c.args.self.now) (rows_of c.add.new.self) c.args.outer c.args.blocks.now
+    c.args.block (row c) c.add.result refl refl (added c) c.add.ensures.unchanged

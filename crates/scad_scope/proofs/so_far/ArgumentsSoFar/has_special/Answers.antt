@@ -12,5 +12,5 @@ returns-in-Some g c =
     let self = c.args.self.now in
     c.has_special.ensures
     ∙ ap (λ (i : NameIndex). is_told (names_told (newest_first i.specials)) name) c.deref.ensures
-    ∙ ap (λ ns. is_told ns name) (self.told c.in-Some.index c.in-Some.is)
+    ∙ ap (λ ns. is_told ns name) (self.specials_indexed c.in-Some.index c.in-Some.is)
     ∙ sym (told_found (special_pairs self.given.specials.items) name)

@@ -2,11 +2,11 @@ ghost use Rattle.std.specs.Prelude.{IsTrue};
 ghost use Rattle.scad_value.specs.Values.{is_bounded};
 ghost use Rattle.scad_value.specs.View.{val_of};
 
-use scad_value::Value;
+use crate::value::Value;
 
 /// A value that is bounded, which its type keeps.
 #[derive(Drop)]
-pub(crate) struct BoundedValue {
-    pub(crate) value: Value,
+pub struct BoundedValue {
+    pub value: Value,
     ghost bounded: { IsTrue (is_bounded (val_of value)) },
 }
