@@ -2,11 +2,14 @@
 
 from __future__ import annotations
 
+import os
 import signal
 import sys
 from typing import Callable, NoReturn
 
-PART_FAULT, BAD_CALL, INTERRUPTED, PIPE_CLOSED = 1, 2, 130, 141
+from files import say
+
+PART_FAULT, BAD_CALL, NO_MEMORY, INTERRUPTED, PIPE_CLOSED = 1, 2, 6, 130, 141
 
 
 def ended(tool: Callable[[], int]) -> int:
@@ -14,6 +17,8 @@ def ended(tool: Callable[[], int]) -> int:
 
     A signal that is ignored, as that of a closed terminal behind nohup, stays ignored.
     """
+    if signal.getsignal(signal.SIGINT) is signal.SIG_DFL:
+        signal.signal(signal.SIGINT, signal.default_int_handler)
     for number in (signal.SIGTERM, signal.SIGHUP):
         if signal.getsignal(number) is not signal.SIG_IGN:
             signal.signal(number, _end)
@@ -23,6 +28,9 @@ def ended(tool: Callable[[], int]) -> int:
         return PIPE_CLOSED
     except KeyboardInterrupt:
         return INTERRUPTED
+    except MemoryError:
+        say(f"{os.path.basename(sys.argv[0])}: memory ran out\n")
+        return NO_MEMORY
 
 
 def _end(number: int, _frame: object) -> NoReturn:

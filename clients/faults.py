@@ -63,8 +63,12 @@ FORMS: dict[str, str] = {
     **dict.fromkeys(["for", "function", "linear_extrude", "mirror", "polygon", "rotate"], PAGE),
     "hull": "a hull is of unions alone: make its cuts around it, as in difference() { hull() .. }",
 }
-# The cure of a division that does not come out even.
+# The cures of a division that does not come out even, and of a number with an exponent.
 EVEN = "count in tenths, 70 / 2 for 7 / 2, or drop the rest: (w - w % 2) / 2"
+PLAIN = "write numbers without an exponent, 10 for 1e1"
+
+# The cure of a letter behind a number, as in 0x10 and 3d_part.
+NAMED = "names begin with a letter or _, and numbers have decimal digits alone"
 
 # Of the limits that are tested before a source is sent, and of what a session or a script is told.
 LIMITS: dict[str, tuple[str, str]] = {
@@ -125,6 +129,10 @@ def what_is_wrong(word: str, line: bytes | None, column: int) -> tuple[str, str]
         return OTHER_FORM.format(shown), FORMS[shown]
     if word == "NotWhole" and not re.match(r"[0-9.]", shown):
         return said.format(f"what {shown} gives"), EVEN
+    if word == "NotWhole" and "e" in shown.lower():
+        return said.format(shown), PLAIN
+    if word == "BadCharacter" and re.match(r"[A-Za-z_]", shown):
+        return said.format(shown), NAMED
     return said.format(shown), cure
 
 

@@ -5,6 +5,7 @@ from __future__ import annotations
 import contextlib
 import errno
 import os
+import stat
 import sys
 
 
@@ -15,13 +16,16 @@ def read_file(path: str, most: int = -1) -> bytes:
 
 
 def write_file(path: str, data: bytes) -> None:
-    """Writes a file beside its place and renames it, so that it has these bytes or stays as it was. `-` is standard output,
-    and what is no ordinary file, as a pipe or a terminal, is written itself. Raises OSError."""
+    """Writes a file beside its place and renames it, so that it has these bytes or stays as it was. `-` and what standard
+    output goes to are written by it, and what is no ordinary file, as a pipe or a terminal, is written itself. Raises OSError."""
     if _is_stream(path):
-        with open(1 if path == "-" else path, "wb", closefd=path != "-") as it:
+        is_output = _is_output(path)
+        with open(1 if is_output else path, "wb", closefd=not is_output) as it:
             it.write(data)
         return
     path = os.path.realpath(path)
+    if _is_protected(path):
+        raise PermissionError(errno.EACCES, os.strerror(errno.EACCES))
     # (a name that no other process has, on another machine neither)
     beside = os.path.join(os.path.dirname(path), f".{os.urandom(8).hex()}.tmp")
     file = os.open(beside, os.O_WRONLY | os.O_CREAT | os.O_EXCL, 0o666)
@@ -42,21 +46,50 @@ def called(path: str, stream: str = "<stdin>") -> str:
     return stream if path == "-" else path
 
 
+def identity(path: str, stream: int) -> tuple[int, int] | None:
+    """What tells an ordinary file from others, whatever it is called; `-` is that of a stream. None where there is none."""
+    try:
+        found = os.stat(stream if path == "-" else path)
+    except OSError:
+        return None
+    return (found.st_dev, found.st_ino) if stat.S_ISREG(found.st_mode) else None
+
+
 def refusal_to_write(path: str) -> str | None:
     """Why a file can't be written here, as far as that shows before it is tried; None where nothing speaks against it."""
-    folder = os.path.dirname(os.path.realpath(path))
+    if path == "-":
+        return None
     if os.path.isdir(path):
         return os.strerror(errno.EISDIR)
     if _is_stream(path):
         return None
-    if not os.path.isdir(folder):
+    try:
+        folder = os.path.dirname(os.path.realpath(path))
+    except OSError as error:  # (the folder that relative paths begin in is gone)
+        return error.strerror
+    if not path or not os.path.isdir(folder):
         return os.strerror(errno.ENOENT)
-    return None if os.access(folder, os.W_OK) else os.strerror(errno.EACCES)
+    return None if os.access(folder, os.W_OK) and not _is_protected(path) else os.strerror(errno.EACCES)
+
+
+def _is_protected(path: str) -> bool:
+    """Whether a file is there that may not be written: nor is another one put in its place."""
+    return os.path.exists(path) and not os.access(path, os.W_OK)
 
 
 def _is_stream(path: str) -> bool:
     """Whether a path is that of a pipe, a terminal or the like, or of standard output."""
-    return path == "-" or (os.path.exists(path) and not os.path.isfile(path))
+    return _is_output(path) or (os.path.exists(path) and not os.path.isfile(path))
+
+
+def _is_output(path: str) -> bool:
+    """Whether a path is that of standard output, as `-`, `/dev/stdout` and the file that it goes to are."""
+    if path == "-":
+        return True
+    try:
+        return os.path.samestat(os.stat(path), os.fstat(1))
+    except OSError:
+        return False
 
 
 def say(text: str) -> None:

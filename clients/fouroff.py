@@ -77,6 +77,8 @@ def _lines(data: bytes) -> list[str]:
     lines = text.split("\n")
     if not text:
         raise Malformed(1, "the text is empty")
+    if "\r" in text:
+        raise Malformed(text.count("\n", 0, text.index("\r")) + 1, "a carriage return: lines end with a newline alone")
     if lines.pop() != "":
         raise Malformed(len(lines) + 1, "the text breaks off: no newline at its end")
     return lines

@@ -20,10 +20,12 @@ from typing import Sequence
 
 import closing
 import off2tool
+from ending import PART_FAULT
 from files import called, say
 from fouroff import Boundary
 from fouroff_measures import Volume, box, shown
 from off2formats import WRITERS, Mesh, mesh
+from off2tool import BadSolid
 
 _UNIT = re.compile(r"[0-9]{1,9}(?:\.[0-9]{1,9}|/0*[1-9][0-9]{0,8})?")
 _DESCRIPTION = "Writes the solid of a 4OFF text as a closed surface of triangles."
@@ -41,6 +43,9 @@ def _convert(words: Sequence[str]) -> None:
     cuts = closing.triangles(boundary, rings)
     solid = mesh(off2tool.stem(asked.file), boundary, cuts, asked.unit, asked.format)
     volume = off2tool.check(asked.file, boundary, solid.triangles)
+    if not solid.triangles:
+        what = f"{called(asked.file)}: rounding makes one corner of all, so nothing is written"
+        raise BadSolid(f"{what}: take a larger --unit, or another --format than binstl", PART_FAULT)
     told = f"{called(asked.file)}: {_summary(boundary, rings, solid, volume, asked.unit)}\n"
     if asked.info:
         off2tool.write("-", told.encode("utf-8", "surrogateescape"))

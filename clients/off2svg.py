@@ -7,6 +7,7 @@ become floats when they are drawn, in tenths of a pixel.
 
 from __future__ import annotations
 
+import os
 import re
 from argparse import ArgumentTypeError
 from math import cos, radians, sin
@@ -28,6 +29,8 @@ VIEW = (30.0, 30.0)
 _VIEW_HELP = "the degrees of the viewer to the right of the front, and above it; else 30 30"
 _VIEWERS = "look at it with geomview, or with f3d or meshlab at what off2stl makes of it"
 _DESCRIPTION = "Draws the solid of a 4OFF text of the server in SVG."
+# The endings of sources, of solids and of other pictures.
+_OTHERS = (".scad", ".4off", ".stl", ".3mf", ".obj", ".off", ".png", ".jpg", ".pdf")
 # The view is this long, in whole numbers, so that the order of painting is exact.
 _LENGTH = 1000000
 _MARGIN = 12
@@ -83,6 +86,8 @@ def _draw(words: Sequence[str]) -> None:
     parser.add_argument("--view", nargs=2, type=_degrees, default=VIEW, metavar=("AZ", "EL"), help=_VIEW_HELP)
     parser.add_argument("--width", type=_pixels, default=480, metavar="PX", help="the width in pixels, else 480")
     asked = parser.parse_args(words)
+    if os.path.splitext(asked.out)[1].lower() in _OTHERS:
+        parser.error(f"{asked.out} would be an SVG picture, and has another ending")
     boundary = off2tool.read(asked.file, asked.out)
     if len(boundary.faces) > MOST_FACES:
         count = f"{len(boundary.faces)} faces are too many to draw, above {MOST_FACES}"

@@ -1,7 +1,8 @@
 """What `off2stl` and `off2svg` have in common: their words, the solid that they read, and the file that they write.
 
 Faults are one line on standard error. The status is 0 where all was written, 1 where the solid is empty or too large to
-draw, 2 where words or files are faulty, 130 after Ctrl-C, and 141 where nobody reads the output.
+draw or all lost by rounding, 2 where words or files are faulty, 6 where memory ran out, 130 after Ctrl-C, and 141 where
+nobody reads the output.
 """
 
 from __future__ import annotations
@@ -15,7 +16,7 @@ import closing
 import fouroff
 import fouroff_measures
 from ending import BAD_CALL, PART_FAULT, ended
-from files import called, read_file, refusal_to_write, say, write_file
+from files import called, identity, read_file, refusal_to_write, say, write_file
 
 
 class BadCall(Exception):
@@ -37,6 +38,10 @@ class Words(argparse.ArgumentParser):
         super().__init__(prog=tool, description=description, allow_abbrev=False)
         self.add_argument("-o", dest="out", metavar="OUT", default="-", help="the file to write; else standard output")
         self.add_argument("file", nargs="?", default="-", metavar="FILE", help="a 4OFF text; else standard input")
+
+    def print_help(self, file: object = None) -> None:
+        """Writes the help as all else is written."""
+        write("-", self.format_help().encode())
 
     def error(self, message: str) -> NoReturn:
         """Raises the fault of a call."""
@@ -76,10 +81,10 @@ def read(file: str, out: str) -> fouroff.Boundary:
     except (OSError, ValueError) as error:
         raise BadCall(f"cannot open {called(file, 'standard input')}: {_why(error)}") from None
     refusal = refusal_to_write(out)
-    if os.path.isfile(file) and os.path.isfile(out) and os.path.samefile(file, out):
+    if identity(out, 1) is not None and identity(out, 1) == identity(file, 0):
         refusal = "that is the 4OFF text itself"
     if refusal:
-        raise BadCall(f"cannot write {out}: {refusal}")
+        raise BadCall(f"cannot write {called(out, 'standard output')}: {refusal}")
     try:
         boundary = fouroff.read(data)
     except fouroff.Malformed as fault:

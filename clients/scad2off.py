@@ -7,14 +7,14 @@ from dataclasses import replace
 from typing import Iterator, Sequence
 
 from batches import batches
-from ending import BAD_CALL, PART_FAULT, ended
+from ending import BAD_CALL, NO_MEMORY, PART_FAULT, ended
 from faults import STATUSES, explanation
-from files import called, read_file, refusal_to_write, say, write_file
+from files import called, identity, read_file, refusal_to_write, say, write_file
 from scad2off_told import Part, limit_told, reply_told
 from scad2off_words import HELP, BadCall, Options, options_of, outs_of
 from scadserve import SCRIPT_BYTES, SERVER, Fault, Malformed, NoMemory, Reply, ServerFailed, Solid, passed_limit, run
 
-NO_MEMORY, NO_ANSWER = 6, 125
+NO_ANSWER = 125
 
 
 def main(words: Sequence[str]) -> int:
@@ -76,7 +76,7 @@ def _explained(word: str) -> int:
 def _parts(options: Options) -> list[Part]:
     """The parts of a call. Raises BadCall where a file can't be read, or none can be written where its text goes."""
     parts, refused = [], []
-    sources = [_identity(it) for it in options.files]
+    sources = {identity(it, 0) for it in options.files} - {None}
     for file, out in zip(options.files, outs_of(options)):
         try:
             # (a source that is larger than a script is past a limit)
@@ -84,8 +84,8 @@ def _parts(options: Options) -> list[Part]:
         except OSError as error:
             refused.append(f"cannot open {called(file, 'standard input')}: {error.strerror}")
             continue
-        if os.path.isfile(out) and _identity(out) in sources:
-            refused.append(f"cannot write {out}: that is a source")
+        if identity(out, 1) in sources:
+            refused.append(f"cannot write {called(out, 'standard output')}: that is a source")
         parts.append(Part(called(file), lines if lines[-1] else lines[:-1], options.definitions, out))
     refused = refused or _refused_outs(options)
     if refused:
@@ -93,18 +93,9 @@ def _parts(options: Options) -> list[Part]:
     return parts
 
 
-def _identity(path: str) -> tuple[int, int] | None:
-    """What tells a file from others, whatever it is called; None where there is none."""
-    try:
-        found = os.stat(path)
-    except OSError:
-        return None
-    return found.st_dev, found.st_ino
-
-
 def _refused_outs(options: Options) -> list[str]:
     """Why nothing can be written where the texts go; makes the folder that is asked for."""
-    out = options.out or "-"
+    out = options.place()
     if options.folder is not None:
         try:
             os.makedirs(options.folder, exist_ok=True)
@@ -119,7 +110,7 @@ def _script_written(parts: list[Part], options: Options) -> int:
     scripts = [bytes(it.script) for it in batches([it.lines() for it in parts], options.half)]
     if len(scripts) != 1:
         raise BadCall(f"these files make {len(scripts)} scripts, and --script prints one")
-    return _written(options.out or "-", scripts[0])
+    return _written(options.place(), scripts[0])
 
 
 def _answered(parts: list[Part], half: bool, server: Sequence[str]) -> Iterator[tuple[Part, Reply]]:

@@ -23,14 +23,19 @@ Prints the 4OFF text of the solid that an OpenSCAD source FILE describes (`-` is
   --               all that follows are FILEs
 
 The status is 0 where all went well, 1 where a part has a fault, 2 where the words are wrong or a file can't be read or
-written, 6 where memory ran out for a part, 125 where the server gave no answer, 127 where it doesn't start, 130 after Ctrl-C,
+written, 6 where memory ran out, 125 where the server gave no answer, 127 where it doesn't start, 130 after Ctrl-C,
 and else that of the server. SCADSERVE in the environment names another server than ./scadserve.
 """
 
 VALUES = {"-o": "out", "-d": "folder", "--explain": "explain"}
 SWITCHES = {"-h": "help", "--help": "help", "--half": "half", "--allow-empty": "allow_empty", "--script": "script"}
-# What is made of a 4OFF text, by the ending of a file, and by which tool.
-TOOLS = {".stl": "off2stl", ".3mf": "off2stl", ".obj": "off2stl", ".svg": "off2svg"}
+# What a file of another ending is, which no 4OFF text has.
+OTHERS = {
+    **dict.fromkeys([".stl", ".3mf", ".obj"], "off2stl makes such a file of one"),
+    ".svg": "off2svg makes such a file of one",
+    ".png": "off2svg makes a picture of one, as SVG",
+    ".scad": "that is the ending of a source",
+}
 DEFINITION = re.compile(r"\$?[A-Za-z_][A-Za-z0-9_]*=[^\n]*")
 
 
@@ -52,6 +57,10 @@ class Options:
     help: bool = False
     files: list[str] = field(default_factory=list)
 
+    def place(self) -> str:
+        """Where what is not written to a folder goes; `-` is standard output."""
+        return "-" if self.out is None else self.out
+
 
 def options_of(words: Sequence[str]) -> Options:
     """What these words ask for. Raises BadCall where they ask for nothing that can be done."""
@@ -67,6 +76,8 @@ def options_of(words: Sequence[str]) -> Options:
             setattr(options, VALUES[option], value)
         else:
             setattr(options, SWITCHES[option], True)
+    if options.explain is not None and files:
+        raise BadCall("--explain takes no FILE")
     if not options.help and options.explain is None:
         _test(options)
     return options
@@ -82,9 +93,9 @@ def _test(options: Options) -> None:
         raise BadCall("no FILE is named (--help says what there is)")
     if options.out is not None and options.folder is not None:
         raise BadCall("-o and -d can't both be given")
-    tool = TOOLS.get(os.path.splitext(options.out or "")[1].lower())
-    if tool:
-        raise BadCall(f"{options.out} would be a 4OFF text: {tool} makes such a file of one")
+    other = OTHERS.get(os.path.splitext(options.place())[1].lower())
+    if other:
+        raise BadCall(f"{options.out} would be a 4OFF text: {other}")
     if options.script and options.folder is not None:
         raise BadCall("--script prints one script, so -d can't be given with it")
     if len(files) > 1 and options.folder is None and not options.script:
@@ -96,7 +107,7 @@ def _test(options: Options) -> None:
 def outs_of(options: Options) -> list[str]:
     """The file that the text of each FILE goes to; `-` is standard output. Raises BadCall where two go to one."""
     if options.folder is None:
-        return [options.out or "-"] * len(options.files)
+        return [options.place()] * len(options.files)
     outs: dict[str, str] = {}
     for file in options.files:
         name = os.path.basename(file)

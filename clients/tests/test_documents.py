@@ -6,6 +6,7 @@ built, each is run. A block below a cure is a source that is answered by a solid
 
 from __future__ import annotations
 
+import os
 import re
 import shlex
 import subprocess
@@ -175,6 +176,10 @@ class Places(unittest.TestCase):
                     self.assertTrue(file.exists())
                     if anchor:
                         self.assertIn(anchor, headings(file))
+
+    def test_tools_can_be_run_by_their_names(self) -> None:
+        for tool in re.findall(r"(?<!sh )`?\b(tools/[\w-]+\.\w+)", "".join(it.read_text(encoding="utf-8") for it in DOCUMENTS)):
+            self.assertTrue(os.access(TOP / tool, os.X_OK), tool)
 
     def test_readme_is_short(self) -> None:
         self.assertLessEqual(len((TOP / "README.md").read_text(encoding="utf-8").splitlines()), 120)

@@ -75,6 +75,9 @@ class Lines(unittest.TestCase):
             ("NotInProfile", b"hull() difference() { cube(2); cube(1); }", 1, "make its cuts around it"),
             ("NotWhole", b"cube(2.5);", 6, "off2stl --unit 1/10"),
             ("NotWhole", b"w = 7 / 2;", 7, "(w - w % 2) / 2"),
+            ("NotWhole", b"cube(1E1);", 6, "without an exponent, 10 for 1e1"),
+            ("BadCharacter", b"cube(0x10);", 7, "names begin with a letter or _"),
+            ("BadCharacter", b"cube(\x00);", 6, "without a byte order mark"),
         ):
             with self.subTest(line=line):
                 self.assertIn(part, faults.what_is_wrong(word, line, column)[1])

@@ -79,7 +79,7 @@ class Refusing(unittest.TestCase):
         self.assertEqual(reason(b""), (1, "the text is empty"))
         self.assertEqual(reason(b"4OFF\n")[0], 2)
         self.assert_refused(b"4OFF\n8", b"OFF\n8", 1, "not '4OFF'")
-        self.assert_refused(b"4OFF\n8", b"4OFF\r\n8", 1, "not '4OFF'")
+        self.assert_refused(b"4OFF\n8", b"4OFF\r\n8", 1, "a carriage return: lines end with a newline alone")
         self.assert_refused(b"8 6 0\n", b"8 6\n", 2, "VERTICES FACES 0")
         self.assert_refused(b"8 6 0\n", b"8 6 12\n", 2, "VERTICES FACES 0")
         self.assert_refused(b"8 6 0\n", b"8 7 0\n", 2, "are 17 lines, not 16")
@@ -122,7 +122,7 @@ class Refusing(unittest.TestCase):
 
     def test_bytes_that_are_no_text(self):
         self.assert_refused(b"4 4 5 6 7\n", b"4 4 5 6 \xb2\n", 12, "not ASCII")
-        self.assert_refused(b"4 4 5 6 7\n", b"4 4 5 6 7\r\n", 12, "a face is not")
+        self.assert_refused(b"4 4 5 6 7\n", b"4 4 5 6 7\r\n", 12, "a carriage return")
         self.assert_refused(b"4 4 5 6 7\n", b"4 4 5 6 7\x00\n", 12, "a face is not")
 
     def test_each_text_that_breaks_off(self):

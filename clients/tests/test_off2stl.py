@@ -1,7 +1,5 @@
 """The tool off2stl: what it writes is closed and what it tells is so; and what it can't read or write is told in a line."""
 
-import contextlib
-import io
 import os
 import re
 import stat
@@ -206,6 +204,32 @@ class Faults(Case):
         os.mkdir(self.path("folder.stl"))
         self.assert_fault(2, ["-o", self.path("folder.stl"), file], "off2stl: cannot write folder.stl: Is a directory\n")
 
+    def test_a_text_is_no_output_by_whatever_way_it_comes(self):
+        file = self.file("a.4off", BLOCK)
+        for words, name in (([file], "standard output"), (["-", "-o", file, "--format", "off"], file)):
+            with open(file, "rb") as stdin, open(file, "ab") as stdout:
+                pipes = {"stdin": stdin, "stdout": stdout if words == [file] else subprocess.DEVNULL}
+                done = subprocess.run([TOP + "/off2stl", *words], stderr=subprocess.PIPE, check=False, **pipes)
+            said = f"off2stl: cannot write {name}: that is the 4OFF text itself\n"
+            self.assertEqual((done.returncode, done.stderr.decode()), (2, said))
+            self.assertEqual(self.bytes_of("a.4off"), BLOCK)
+
+    def test_a_file_called_as_a_stream_is_none(self):
+        self.file("-", EMPTY)
+        done = subprocess.run([TOP + "/off2stl"], input=BLOCK, capture_output=True, cwd=self.folder, check=False)
+        self.assertEqual((done.returncode, done.stdout[:12]), (0, b"solid solid\n"), done.stderr)
+
+    def test_a_solid_that_rounding_makes_one_point(self):
+        # Near 1 singles are 6e-8 apart, and doubles 1e-16.
+        tiny = self.file("a.4off", off(box((1, 1, 1), [1 + Fraction(1, 10**9)] * 3)))
+        said = "a.4off: rounding makes one corner of all, so nothing is written: "
+        self.assert_fault(1, ["--format", "binstl", "-o", self.path("a.stl"), tiny], said)
+        self.assertEqual(self.call("-o", self.path("a.stl"), tiny)[0], 0)
+
+    def test_want_of_memory_is_told(self):
+        with mock.patch("off2tool.read_file", side_effect=MemoryError):
+            self.assert_fault(6, [self.path("a.4off")], ": memory ran out\n")
+
     def test_texts(self):
         for data, said in (
             (b"", "a.4off:1: the text is empty\n"),
@@ -230,9 +254,11 @@ class Faults(Case):
 
     @unittest.skipUnless(os.path.exists("/dev/full"), "there is no /dev/full")
     def test_standard_output_that_is_full(self):
-        with open("/dev/full", "wb") as full:
-            done = subprocess.run([TOP + "/off2stl"], input=BLOCK, stdout=full, stderr=subprocess.PIPE, check=False)
-        self.assertEqual((done.returncode, done.stderr), (2, b"off2stl: cannot write standard output: No space left on device\n"))
+        for words in ([], ["--help"]):
+            with open("/dev/full", "wb") as full:
+                done = subprocess.run([TOP + "/off2stl", *words], input=BLOCK, stdout=full, stderr=subprocess.PIPE, check=False)
+            said = b"off2stl: cannot write standard output: No space left on device\n"
+            self.assertEqual((done.returncode, done.stderr), (2, said))
 
 
 class Calling(Case):
@@ -260,11 +286,9 @@ class Calling(Case):
         self.assertEqual(sorted(os.listdir(self.folder)), ["-a=b.4off", "link.stl", "old.stl"])
 
     def test_help(self):
-        with contextlib.redirect_stdout(io.StringIO()) as out, self.assertRaises(SystemExit) as ended:
-            off2stl.main(["--help"])
-        self.assertEqual(ended.exception.code, 0)
+        done = subprocess.run([TOP + "/off2stl", "--help"], capture_output=True, check=True)
         for word in ("--unit", "--format", "--info", "-o OUT", "FILE"):
-            self.assertIn(word, out.getvalue())
+            self.assertIn(word, done.stdout.decode())
 
 
 if __name__ == "__main__":

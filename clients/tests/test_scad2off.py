@@ -6,7 +6,7 @@ import subprocess
 import threading
 import unittest
 
-from tests.calls import TOP, Calls
+from tests.calls import SCAD2OFF, TOP, Calls
 from tests.stand_in import BOX
 
 BOX_6, BOX_8 = (BOX.format(it).encode() for it in (6, 8))
@@ -113,6 +113,32 @@ class Files(Calls):
     def test_a_file_that_may_not_be_read_is_told_at_once(self):
         os.chmod(self.path(self.write("part.scad", "w=6;\n")), 0)
         self.assertEqual(self.call("part.scad"), (2, b"", b"scad2off: cannot open part.scad: Permission denied\n"))
+
+    def test_a_source_is_no_output_by_whatever_way_it_comes(self):
+        for words, read, written in (
+            (["-", "-o", "part"], "part", None),
+            (["part"], None, "part"),
+            (["-"], "part", "part"),
+        ):
+            with self.subTest(words=words):
+                self.write("part", "w=6;\n")
+                with open(self.path("part"), "rb") as stdin, open(self.path("part"), "ab") as stdout:
+                    done = subprocess.run(
+                        [*SCAD2OFF, *words], cwd=self.folder, env=self.environment, stderr=subprocess.PIPE, timeout=100,
+                        stdin=stdin if read else subprocess.DEVNULL, stdout=stdout if written else subprocess.DEVNULL,
+                    )
+                name = "standard output" if written else "part"
+                said = f"scad2off: cannot write {name}: that is a source\n"
+                self.assertEqual((done.returncode, done.stderr.decode()), (2, said))
+                self.assertEqual(self.read("part"), b"w=6;\n")
+
+    def test_a_file_called_as_a_stream_is_none(self):
+        self.write("-", "w=6;\n")
+        self.assertEqual(self.call("-", stdin=b"w=8;\n"), (0, BOX_8, b""))
+        self.assertEqual(self.call("./-"), (0, BOX_6, b""))
+        os.remove(self.path("-"))
+        os.mkdir(self.path("-"))
+        self.assertEqual(self.call("-", stdin=b"w=8;\n"), (0, BOX_8, b""))
 
     def test_a_dash_is_standard_input(self):
         self.assertEqual(self.call("-", stdin=b"w=6;"), (0, BOX_6, b""))

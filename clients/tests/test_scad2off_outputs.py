@@ -25,6 +25,16 @@ class Outputs(Calls):
         self.assertEqual(self.read("part.4off"), BOX_6)
         self.assertEqual(self.names(), ["old.4off", "part.4off", "part.scad"])
 
+    @unittest.skipIf(os.geteuid() == 0, "the superuser may write every file")
+    def test_a_file_that_may_not_be_written_stays(self):
+        self.write("part.scad", "w=6;\n")
+        os.chmod(self.path(self.write("part.4off", "old\n")), 0o440)
+        for words in (["-o", "part.4off"], ["-d", "."]):
+            status, _, error = self.call(*words, "part.scad")
+            self.assertEqual(status, 2)
+            self.assertTrue(error.startswith(b"scad2off: cannot write ") and b"part.4off: Permission denied\n" in error, error)
+            self.assertEqual((self.read("part.4off"), self.names()), (b"old\n", ["part.4off", "part.scad"]))
+
     def test_a_fault_makes_no_file(self):
         self.assertEqual(self.call("-o", "part.4off", self.write("part.scad", "cube(2.5);\n"))[0], 1)
         self.assertEqual(self.names(), ["part.scad"])
@@ -42,6 +52,31 @@ class Outputs(Calls):
         self.assertFalse(os.path.isfile("/dev/null"))
         self.assertEqual(self.call("-o", "/dev/stdout", "part.scad"), (0, BOX_6, b""))
         self.assertEqual(self.call("-o", "-", "part.scad"), (0, BOX_6, b""))
+
+    def test_the_file_that_standard_output_goes_to_keeps_what_is_in_it(self):
+        self.write("part.scad", "w=6;\n")
+        for out in ("/dev/stdout", "/dev/fd/1", "all.4off"):
+            self.write("all.4off", "old\n")
+            with open(self.path("all.4off"), "ab") as stdout:
+                words = [*SCAD2OFF, "part.scad", "-o", out]
+                subprocess.run(words, stdout=stdout, cwd=self.folder, env=self.environment, check=True, timeout=100)
+            self.assertEqual(self.read("all.4off"), b"old\n" + BOX_6, out)
+
+    def test_a_folder_that_is_gone_is_told(self):
+        part = os.path.join(self.folder, self.write("part.scad", "w=6;\n"))
+        gone = self.path("gone")
+
+        def leave():
+            os.mkdir(gone)
+            os.chdir(gone)
+            os.rmdir(gone)
+
+        for words, wanted in (
+            ([part], (0, BOX_6, b"")),
+            ([part, "-o", "part.4off"], (2, b"", b"scad2off: cannot write part.4off: No such file or directory\n")),
+        ):
+            done = subprocess.run([*SCAD2OFF, *words], capture_output=True, env=self.environment, preexec_fn=leave, timeout=100)
+            self.assertEqual((done.returncode, done.stdout, done.stderr), wanted)
 
     def test_a_full_disk_is_told(self):
         self.write("part.scad", "w=6;\n")

@@ -1,8 +1,11 @@
 """The options of scad2off, and the statuses it ends with."""
 
+import functools
 import os
+import shutil
 import signal
 import subprocess
+import sys
 import time
 import unittest
 
@@ -70,6 +73,7 @@ class Words(Calls):
             (["--nonsense", "a.scad"], "option --nonsense not recognized"),
             (["-x"], "option -x not recognized"),
             (["-o"], "option -o requires argument"),
+            (["--explain", "Empty", "a.scad"], "--explain takes no FILE"),
             (["a.scad", "b/a.scad"], "several FILEs need -d DIR"),
             (["-d", "out", "-o", "out", "a.scad"], "-o and -d can't both be given"),
             (["-d", "out", "--script", "a.scad"], "--script prints one script"),
@@ -78,7 +82,11 @@ class Words(Calls):
             (["-D", "w", "a.scad"], "-D takes NAME=VALUE, and not w"),
             (["-D", "2=w", "a.scad"], "-D takes NAME=VALUE, and not 2=w"),
             (["-D", "w=1\nx=2", "a.scad"], "-D takes NAME=VALUE"),
-            (["-o", "a.scad", "a.scad"], "cannot write a.scad: that is a source"),
+            (["-o", "x.4off", "x.4off"], "cannot write x.4off: that is a source"),
+            (["-o", "a.scad", "b/x.scad"], "a.scad would be a 4OFF text: that is the ending of a source"),
+            (["-o", "a.png", "a.scad"], "a.png would be a 4OFF text: off2svg makes a picture of one, as SVG"),
+            (["-o", "", "a.scad"], "cannot write : No such file or directory"),
+            (["-d", "", "a.scad"], "cannot make the folder : No such file or directory"),
             (["-d", ".", "b/x.scad", "x.4off"], "cannot write ./x.4off: that is a source"),
             (["-o", "a.STL", "a.scad"], "a.STL would be a 4OFF text: off2stl makes such a file of one"),
             (["-o", "a.svg", "a.scad"], "a.svg would be a 4OFF text: off2svg makes such a file of one"),
@@ -140,6 +148,19 @@ class Statuses(Calls):
         for number, status in ((signal.SIGINT, 130), (signal.SIGTERM, 143), (signal.SIGHUP, 129)):
             with self.subTest(status=status):
                 self.assertEqual(self.ended_by(number, ignoring=()), status)
+
+    def test_an_interrupt_while_a_tool_loads_is_no_traceback(self):
+        os.mkdir(self.path("clients"))
+        for name in ("scad2off", "off2stl", "off2svg"):
+            shutil.copy(os.path.join(TOP, name), self.folder)
+            self.write(f"clients/{name}.py", "import time\nprint(flush=True)\ntime.sleep(60)\n")
+            pipes = {"stdout": subprocess.PIPE, "stderr": subprocess.PIPE}
+            prepare = functools.partial(signal.signal, signal.SIGINT, signal.SIG_DFL)
+            tool = subprocess.Popen([sys.executable, "-S", self.path(name)], preexec_fn=prepare, **pipes)
+            tool.stdout.readline()
+            tool.send_signal(signal.SIGINT)
+            self.assertEqual(tool.communicate(timeout=100), (b"", b""))
+            self.assertEqual(tool.returncode, -signal.SIGINT)
 
     def test_a_hangup_that_is_ignored_ends_nothing(self):
         self.write("part.scad", "//= wait\n")

@@ -90,6 +90,16 @@ class Unproved(Calls):
         [said] = error.splitlines()[1:]
         self.assertTrue(said.startswith("scadserve: an unproved run can write 1 MiB at most, and this one would write more"))
 
+    def test_an_output_that_is_not_written_is_no_success(self):
+        self.rt()
+        for redirection in (">/dev/full", ">&-", "| (exec <&-; /bin/sleep 1)"):
+            with self.subTest(redirection=redirection):
+                words = f"{{ echo 'a show' | '{self.top}/scadserve' run; echo $? >'{self.folder}/status'; }} {redirection}"
+                how = {"env": self.environment, "stderr": subprocess.DEVNULL, "timeout": 100}
+                subprocess.run(["/bin/sh", "-c", words], check=False, **how)
+                self.assertEqual(self.read("status"), b"5\n")
+                self.assertEqual(os.listdir(self.log), [])
+
     def test_a_missing_rt_is_told(self):
         status, out, error = self.serve("run")
         self.assertEqual((status, out), (127, b""))
