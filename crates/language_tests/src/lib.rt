@@ -1,18 +1,14 @@
-//! Tests of the language's public calls that no source shows: bytes, places, values, scopes and functions by number. What
+//! Tests of the language's public calls that no source shows: scopes and blocks by number, and values that are too long. What
 //! sources show stands in `language_cases`.
 #![tactic(auto)]
 
 #[cfg(test)]
-mod bytes;
-#[cfg(test)]
-mod evaluating;
-#[cfg(test)]
-mod functions;
-#[cfg(test)]
-mod places;
+mod blocks;
 #[cfg(test)]
 mod reading;
 #[cfg(test)]
 mod scopes;
+#[cfg(test)]
+mod specials;
 #[cfg(test)]
 mod values;

@@ -4,7 +4,7 @@ use scad_ast::Program;
 use scad_lexer::lex;
 use scad_parser::parse;
 use std::alloc::Global;
-use text_place::{NoMemory, Place, Stop};
+use text_place::{Place, Stop};
 
 pub fn at(column: u32) -> Place {
     Place { line: 1, column }
@@ -17,9 +17,4 @@ pub fn read(alloc: Global, source: &[u8]) -> Result<Program, Stop> {
     }
     let tokens = lex(alloc, source)?;
     parse(alloc, &tokens)
-}
-
-pub fn put(out: &mut Vec<u8>, text: &[u8]) -> Result<(), NoMemory> {
-    out.extend_from_slice(text)?;
-    Ok(())
 }

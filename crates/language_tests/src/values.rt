@@ -2,11 +2,11 @@
 
 use scad_ast::{BinaryOp, UnaryOp};
 use scad_builtin::{Builtin, are_bounded};
-use scad_value::{Value, ValueStop, Values, binary, truth, unary};
+use scad_value::{Value, ValueStop, Values, binary, unary};
 use std::alloc::Global;
 use std::process::Abort;
 use std::test::Fail;
-use text_place::{Bytes, FaultKind, NoMemory};
+use text_place::{FaultKind, NoMemory};
 
 fn zeros(alloc: Global, count: u32) -> Result<Value, NoMemory> {
     let mut items = Vec::new(alloc);
@@ -60,43 +60,18 @@ fn joined(rt: &impl Abort, alloc: Global, of: Value) -> Result<Value, ValueStop>
     Builtin::Concat.apply(alloc, given)
 }
 
+fn is_refused(rt: &impl Abort, alloc: Global, value: Value) -> bool {
+    is_too_long(&negative(rt, alloc, &value)) && is_too_long(&joined(rt, alloc, value))
+}
+
 // At most 4,096 parts, and lists in one another at most 64 deep.
 #[test]
 fn keeps_lists_short(rt: HostRuntime) -> Result<(), Fail> {
     let alloc = rt.alloc();
-    let long = zeros(alloc, 4095)?;
-    assert_eq!(rt; long.parts(), 4096);
-    assert!(rt; is_own_negative(&rt, alloc, &long));
+    assert_eq!(rt; zeros(alloc, 4095)?.parts(), 4096);
+    assert!(rt; is_own_negative(&rt, alloc, &zeros(alloc, 4095)?));
     assert!(rt; is_own_negative(&rt, alloc, &nested(alloc, 63)?));
-    for value in [zeros(alloc, 4096)?, nested(alloc, 64)?] {
-        assert!(rt; is_too_long(&negative(&rt, alloc, &value)));
-        assert!(rt; is_too_long(&joined(&rt, alloc, value)));
-    }
-    Ok(())
-}
-
-#[test]
-fn tells_truths_and_copies(rt: HostRuntime) -> Result<(), Fail> {
-    let alloc = rt.alloc();
-    let range = Value::Range {
-        from: 1,
-        by: 1,
-        upto: 0,
-    };
-    let nothing = Value::Text(Bytes::of(Vec::new(alloc)));
-    let empty = Value::List(Values::of(Vec::new(alloc)));
-    let cases = [
-        (&Value::Number(0), false),
-        (&Value::Number(-1), true),
-        (&nothing, false),
-        (&empty, false),
-        (&range, true),
-        (&Value::Undef, false),
-    ];
-    for (value, wanted) in cases {
-        assert_eq!(rt; truth(value), wanted);
-        assert!(rt; are_equal(&rt, alloc, &value.copy(alloc)?, value));
-    }
-    assert!(rt; !are_equal(&rt, alloc, &range, &Value::Undef));
+    assert!(rt; is_refused(&rt, alloc, zeros(alloc, 4096)?));
+    assert!(rt; is_refused(&rt, alloc, nested(alloc, 64)?));
     Ok(())
 }

@@ -1,5 +1,5 @@
 -- What the commands of clients make of their exporters.
-use Rattle.std.specs.Prelude.{◌≡◌, ◌≢◌, ℕ, List, [], ◌∷◌, MatchOption}
+use Rattle.std.specs.Prelude.{◌≡◌, ◌≢◌, ℕ, ◌+◌, ◌≤◌, List, [], ◌∷◌, MatchOption}
 use Rattle.script_reader.specs.declared.script.Command.{Command}
 use Rattle.script_reader.specs.declared.script.Command.TheVariants.{Export}
 use Rattle.script_reader.specs.declared.script.ClientScript.{ClientScript}
@@ -7,6 +7,10 @@ use Rattle.edit_session.specs.Sessions.{State, start, source_of, refusal}
 use Rattle.reply_text.specs.declared.reply.Reply.{Reply}
 use Rattle.reply_text.specs.declared.reply.Reply.TheVariants as reply
 use Rattle.reply_text.specs.Answers.{state_after}
+
+-- an exporter was asked once more at most, and can export as before
+abbrev pub GoesOn : {E : Type 0} → (E → ℕ) → (E → Type 0) → E → E → Type 0
+GoesOn asked can_export old new = (asked new ≤ asked old + 1) × can_export new
 
 -- `Moves` relates a source, the reply to its export, and an exporter before and after it
 module _ {E : Type 0} (Moves : List ℕ → Reply → E → E → Type 0) where

@@ -8,7 +8,7 @@ ghost use Rattle.reply_text.specs.Answers.{Fits, state_after};
 ghost use Rattle.edit_session.specs.Asking.{Refuses};
 ghost use Rattle.reply_text.specs.declared.reply.Reply.TheVariants as replies;
 ghost use Rattle.script_run.specs.Steps.{Obeys, Steps, reply_in};
-ghost use Rattle.script_run.specs.Moves.{MovesAt, MovesAlong};
+ghost use Rattle.script_run.specs.Moves.{GoesOn, MovesAt, MovesAlong};
 
 use crate::exporter::Exporter;
 use edit_session::{Asked, Session, SessionFault};
@@ -43,8 +43,7 @@ fn export<E: Exporter>(
     ensures err { OnErr result (session.new ≡ session.old) }
     ensures has_memory { IfOk result (λ reply. reply ≢ replies.NoMem) }
     ensures moved { IfOk result (λ reply. E.moves unit (source_of session.old) reply exporter.old exporter.new) }
-    ensures asked { E.asked exporter.new ≤ E.asked exporter.old + 1 }
-    ensures can_export { E.can_export exporter.new }
+    ensures goes_on { GoesOn E.asked E.can_export exporter.old exporter.new }
 {
     let source = session.source(alloc)?;
     let reply = exporter.export(alloc, unit, source.as_slice())?;
@@ -67,8 +66,7 @@ fn obey<E: Exporter>(
     ensures refused { IfErr result (λ why. Refuses session.old command.now session.new why) }
     ensures state { session.new ≡ state_after session.old command.now (reply_in result) }
     ensures moved { MovesAt (E.moves unit) session.old command.now (reply_in result) exporter.old exporter.new }
-    ensures asked { E.asked exporter.new ≤ E.asked exporter.old + 1 }
-    ensures can_export { E.can_export exporter.new }
+    ensures goes_on { GoesOn E.asked E.can_export exporter.old exporter.new }
 {
     match session.command(alloc, command)? {
         Asked::Lines(count) => Ok(Reply::Lines(count)),
