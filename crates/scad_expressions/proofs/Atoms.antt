@@ -1,11 +1,11 @@
 -- An atom with which nothing goes on is read as it is: as an operand, between operators and as an expression.
-use Rattle.std.proofs.Common.{◌≡◌, ℕ, List, [], ◌∷◌, ◌++◌, Bool, true, false, not, ◌&&◌, cond, Ok, Err, refl, sym, ap, ◌∙◌, nat_eq}
+use Rattle.std.proofs.Common.{◌≡◌, ℕ, List, [], ◌∷◌, ◌++◌, Bool, true, false, not, ◌&&◌, cond, Ok, Err, Some, refl, sym, ap, ◌∙◌, nat_eq}
 use Rattle.std.proofs.lemmas.Bool.{eqb-true}
 use Rattle.scad_lexer.specs.declared.token.Token.{Token}
 use Rattle.scad_ast.specs.Terms.{Term, NameTerm, ArgTerm}
 use Rattle.scad_grammar.specs.declared.SyntaxFault.{SyntaxFault}
 use Rattle.scad_grammar.specs.Classes.{numeral, text, true_word, false_word, undef_word, child_count, special, name, question_sign, open_parenthesis_sign, class_of, listed, among, is, other_than, bytes_of}
-use Rattle.scad_grammar.specs.Faults.{Reads, one}
+use Rattle.scad_grammar.specs.Faults.{Reads, one, fault_of, left_out}
 use Rattle.scad_grammar.specs.Grammar.{levels}
 use Rattle.scad_grammar.specs.Reading.{Read, after, starts, choice}
 use Rattle.scad_grammar.specs.Reads.{suffix_read, unary_read, chain_read, paren_read, bracket_read, name_read, primary_read, choice_read}
@@ -13,7 +13,7 @@ use Rattle.scad_tokens.specs.declared.class.Level.{Level}
 use Rattle.scad_expressions.specs.Climbing.{climb_read}
 use Rattle.scad_tokens.specs.TokenClasses.{joined, binary_signs, unary_signs, suffix_signs, literals, atoms, continuations, operators_at, levels_below}
 use Rattle.scad_tokens.specs.Views.{has_lone_atom, atom_of}
-use Rattle.scad_expressions.proofs.Given.{both_hold, one_taken}
+use Rattle.scad_expressions.proofs.Given.{both_hold}
 use Rattle.scad_expressions.proofs.Climbs.{chain_climbs, climbs_none, many_none, starts_apart, none_at, none_below}
 
 module _ (us : List Token) (e : starts (among continuations) us ≡ false) where
@@ -70,8 +70,9 @@ literal_is_atom t e = go (nat_eq (class_of t.kind) name)
 pub literal_taken : (ts : List Token) (t : Token) (us : List Token) → starts (among literals) ts ≡ true → one (among literals) ts ≡ Ok (t, us) → (ts ≡ t ∷ us) × (among literals t ≡ true)
 literal_taken [] t us s e = absurd (cc)
 literal_taken (y ∷ l) t us s e =
-    let same = one_taken (among literals) y l t us s e in
-    (ap (λ z. z ∷ l) same.0 ∙ ap (λ m. t ∷ m) same.1, ap (among literals) (sym same.0) ∙ s)
+    let f : ◌≡◌ {A = Read Token SyntaxFault Token} (Ok (y, l)) (Ok (t, us)) = ap (λ b. cond b (Ok (y, l)) (Err (fault_of left_out (Some y), y ∷ l))) (sym s) ∙ e in
+    let g : ◌≡◌ {A = Token × List Token} (y, l) (t, us) = cc in
+    (ap (λ (p : Token × List Token). p.0 ∷ p.1) g, ap (λ (p : Token × List Token). among literals p.0) (sym g) ∙ s)
 
 -- a test that none of a list meets
 abbrev Spares : (ℕ → Bool) → List ℕ → Type 0

@@ -1,37 +1,49 @@
--- An argument that is given by a name is read behind the `=`.
-use Rattle.std.proofs.Common.{◌≡◌, ◌≢◌, ℕ, zero, suc, List, [], ◌∷◌, Bool, true, false, cond, Ok, Err, Some, refl, sym, ap, ◌∙◌, ◌&&◌}
+-- An argument that is given by a name is read behind the `=`, and any other is read as an expression.
+use Rattle.std.proofs.Common.{◌≡◌, ◌≢◌, ℕ, zero, suc, List, [], ◌∷◌, Bool, true, false, cond, Ok, Some, None, Option, refl, ap, ◌&&◌}
 use Rattle.scad_lexer.specs.declared.token.Token.{Token}
-use Rattle.scad_ast.specs.Terms.{Term, PositionalTerm}
+use Rattle.scad_ast.specs.Terms.{PositionalTerm}
 use Rattle.scad_grammar.specs.declared.SyntaxFault.{SyntaxFault}
 use Rattle.scad_grammar.specs.Classes.{argument_names, assign_sign, among, is}
-use Rattle.scad_grammar.specs.Faults.{one, fault_of, left_out}
+use Rattle.scad_grammar.specs.Faults.{Reads}
 use Rattle.scad_grammar.specs.Grammar.{given_of}
-use Rattle.scad_grammar.specs.Reading.{Read, after, mapped}
+use Rattle.scad_grammar.specs.Reading.{Read, after, mapped, ahead}
 use Rattle.scad_grammar.specs.Reads.{given, arg_in, expr_read}
-use Rattle.scad_tokens.specs.Views.{gives_value}
+use Rattle.scad_tokens.specs.Views.{value_assigned}
 
 pub both_hold : (b c : Bool) → (b && c) ≡ true → (b ≡ true) × (c ≡ true)
 both_hold true true e = (refl, refl)
 both_hold true false e = absurd (cc)
 both_hold false c e = absurd (cc)
 
--- a token that is of the test is taken
-pub one_taken : (test : Token → Bool) (y : Token) (l : List Token) (t : Token) (us : List Token) → test y ≡ true → one test (y ∷ l) ≡ Ok (t, us) → (y ≡ t) × (l ≡ us)
-one_taken test y l t us h e =
-    let f : ◌≡◌ {A = Read Token SyntaxFault Token} (Ok (y, l)) (Ok (t, us)) = ap (λ b. cond b (Ok (y, l)) (Err (fault_of left_out (Some y), y ∷ l))) (sym h) ∙ e in
-    let g : ◌≡◌ {A = Token × List Token} (y, l) (t, us) = cc in
-    (ap (λ (p : Token × List Token). p.0) g, ap (λ (p : Token × List Token). p.1) g)
+-- what is read where a token of these classes and a `=` stand, and where they don't
+module _ {X Y : Type 0} (make : Token → X → Y) (classes : List ℕ) (r : Reads X) (q : Reads Y) where
+  assigned_here : (y : Token) (l : List Token) (other : Read Token SyntaxFault Y) (t : Token) (us : List Token) (b : Bool) → cond {A = Option (Token × List Token)} b (Some (y, l)) None ≡ Some (t, us)
+      → cond b (after (r l) (λ x vs. Ok (make y x, vs))) other ≡ after (r us) (λ x vs. Ok (make t x, vs))
+  assigned_here y l other t us true e =
+      let pair : ◌≡◌ {A = Token × List Token} (y, l) (t, us) = cc in
+      ap (λ (p : Token × List Token). after (r p.1) (λ x vs. Ok (make p.0 x, vs))) pair
+  assigned_here y l other t us false e = absurd (cc)
 
-pub arg_given : (d : ℕ) (ts : List Token) (t u : Token) (us vs ws : List Token) (x : Term) → d ≢ 0 → gives_value ts ≡ true → one (among argument_names) ts ≡ Ok (t, us)
-    → one (is assign_sign) us ≡ Ok (u, vs) → expr_read d vs ≡ Ok (x, ws) → arg_in d (expr_read d) ts ≡ Ok (given_of t x, ws)
-arg_given zero ts t u us vs ws x n g a b e = absurd (n refl)
-arg_given (suc d) [] t u us vs ws x n g a b e = absurd (cc)
-arg_given (suc d) (y ∷ []) t u us vs ws x n g a b e = absurd (cc)
-arg_given (suc d) (y ∷ z ∷ l) t u us vs ws x n g a b e =
-    let k = both_hold (among argument_names y) (is assign_sign z) g in
-    let first = one_taken (among argument_names) y (z ∷ l) t us k.0 a in
-    let second = one_taken (is assign_sign) z l u vs k.1 (ap (one (is assign_sign)) first.1 ∙ b) in
-    ap (λ c. cond c (after (expr_read (suc d) l) (λ x us. Ok (given y z x, us))) (mapped PositionalTerm (expr_read (suc d)) (y ∷ z ∷ l))) g
-    ∙ ap (λ l. after (expr_read (suc d) l) (λ x us. Ok (given y z x, us))) second.1
-    ∙ ap (λ q. after q (λ x us. Ok (given y z x, us))) e
-    ∙ ap (λ t. Ok (given_of t x, ws)) first.0
+  pub assigned_ahead : (ts : List Token) (t : Token) (us : List Token) → value_assigned classes ts ≡ Some (t, us)
+      → ahead (λ t u x. make t x) (among classes) (is assign_sign) r q ts ≡ after (r us) (λ x vs. Ok (make t x, vs))
+  assigned_ahead [] t us e = absurd (cc)
+  assigned_ahead (y ∷ []) t us e = absurd (cc)
+  assigned_ahead (y ∷ z ∷ l) t us e = assigned_here y l (q (y ∷ z ∷ l)) t us (among classes y && is assign_sign z) e
+
+  none_here : (y : Token) (l : List Token) (one other : Read Token SyntaxFault Y) (b : Bool) → cond {A = Option (Token × List Token)} b (Some (y, l)) None ≡ None → cond b one other ≡ other
+  none_here y l one other true e = absurd (cc)
+  none_here y l one other false e = refl
+
+  pub none_ahead : (ts : List Token) → value_assigned classes ts ≡ None → ahead (λ t u x. make t x) (among classes) (is assign_sign) r q ts ≡ q ts
+  none_ahead [] e = refl
+  none_ahead (y ∷ []) e = refl
+  none_ahead (y ∷ z ∷ l) e = none_here y l (after (r l) (λ x vs. Ok (make y x, vs))) (q (y ∷ z ∷ l)) (among classes y && is assign_sign z) e
+
+pub arg_given : (d : ℕ) (ts : List Token) (t : Token) (us : List Token) → d ≢ 0 → value_assigned argument_names ts ≡ Some (t, us)
+    → arg_in d (expr_read d) ts ≡ mapped (given_of t) (expr_read d) us
+arg_given zero ts t us n e = absurd (n refl)
+arg_given (suc d) ts t us n e = assigned_ahead given_of argument_names (expr_read (suc d)) (mapped PositionalTerm (expr_read (suc d))) ts t us e
+
+pub arg_positional : (d : ℕ) (ts : List Token) → d ≢ 0 → value_assigned argument_names ts ≡ None → arg_in d (expr_read d) ts ≡ mapped PositionalTerm (expr_read d) ts
+arg_positional zero ts n e = absurd (n refl)
+arg_positional (suc d) ts n e = none_ahead given_of argument_names (expr_read (suc d)) (mapped PositionalTerm (expr_read (suc d))) ts e

@@ -5,12 +5,12 @@ use Rattle.scad_lexer.specs.declared.token.Token.{Token}
 use Rattle.scad_ast.specs.Terms.{Term, ArgTerm, PositionalTerm}
 use Rattle.scad_grammar.specs.declared.SyntaxFault.{SyntaxFault}
 use Rattle.scad_grammar.specs.declared.SyntaxFault.TheVariants.{Nested}
-use Rattle.scad_grammar.specs.Classes.{name, argument_names, open_bracket_sign, close_bracket_sign, close_parenthesis_sign, comma_sign, dot_sign, assign_sign, among, is, other_than}
+use Rattle.scad_grammar.specs.Classes.{name, argument_names, open_bracket_sign, close_bracket_sign, open_parenthesis_sign, close_parenthesis_sign, comma_sign, dot_sign, assign_sign, among, is, other_than}
 use Rattle.scad_grammar.specs.Languages.{Language, first_of, second_of, cons}
 use Rattle.scad_grammar.specs.Grammar.{whole, Statement, link, chain_of, index_of, member_of, mark_of, param_of, binder_of}
 use Rattle.scad_grammar.specs.Faults.{Reads, one, fault_of, left_out, left_out_of_expressions}
 use Rattle.scad_grammar.specs.Reading.{Read, after, starts, mapped, nothing, both, maybe, many, trailing}
-use Rattle.scad_grammar.specs.Reads.{firsts_of_expression, nested, head_of, given, suffix_read, unary_read, primary_read, chain_read, args_read, arg_in, expr_read, operand_read}
+use Rattle.scad_grammar.specs.Reads.{firsts_of_expression, nested, head_of, given, suffix_read, unary_read, primary_read, chain_read, args_read, in_parentheses, arg_in, expr_read, operand_read}
 use Rattle.scad_grammar.specs.StatementReads.{mark_signs, param_in, binder_in, firsts_of_statement, statement_read}
 use Rattle.scad_grammar.proofs.Readers.{Told, IsReader, Opens}
 use Rattle.scad_grammar.proofs.Shrinks.{left, Shrinks, one_shrinks, nothing_shrinks, mapped_shrinks, both_shrinks, choice_shrinks, ahead_shrinks, many_shrinks, trailing_shrinks}
@@ -85,8 +85,12 @@ expr_shorter d = shorter (expr_read d) (expr_shrinks d)
 pub arg_shorter : (d : ℕ) → Shorter (arg_in d (expr_read d))
 arg_shorter d = shorter (arg_in d (expr_read d)) (arg_shrinks d)
 
-pub args_shorter : (d : ℕ) → Shorter (args_read (arg_in d (expr_read d)))
-args_shorter d = shorter (args_read (arg_in d (expr_read d))) (args_shrinks (arg_in d (expr_read d)) (arg_shrinks d))
+pub arguments_shorter : (d : ℕ) → Shorter (in_parentheses (args_read (arg_in d (expr_read d))))
+arguments_shorter d =
+    let args = args_shrinks (arg_in d (expr_read d)) (arg_shrinks d) in
+    shorter (in_parentheses (args_read (arg_in d (expr_read d))))
+    (both_shrinks second_of (one (is open_parenthesis_sign)) (both first_of (args_read (arg_in d (expr_read d))) (one (is close_parenthesis_sign))) (taken_shrinks (is open_parenthesis_sign))
+    (both_shrinks first_of (args_read (arg_in d (expr_read d))) (one (is close_parenthesis_sign)) args (taken_shrinks (is close_parenthesis_sign))))
 
 pub param_shorter : (d : ℕ) → Shorter (param_in d (expr_read d))
 param_shorter zero = shorter (param_in zero (expr_read zero)) (nested_shrinks (name ∷ []) left_out)

@@ -2,8 +2,8 @@
 use Rattle.std.proofs.Common.{◌≡◌, ◌∙◌, List, ◌∷◌, map, ap, sym, Vec, Global}
 use Rattle.std.specs.declared.boxed.Box.{Box}
 use Rattle.text_place.specs.declared.fault.Place.{Place}
-use Rattle.scad_ast.specs.declared.expression.Expr.{Expr, Chain as ChainForm, Postfix as PostfixForm}
-use Rattle.scad_ast.specs.declared.expression.Expr.TheVariants.{rolls-Chain, rolls-Postfix}
+use Rattle.scad_ast.specs.declared.expression.Expr.{Expr, Paren as ParenForm, Chain as ChainForm, Postfix as PostfixForm}
+use Rattle.scad_ast.specs.declared.expression.Expr.TheVariants.{rolls-Paren, rolls-Chain, rolls-Postfix}
 use Rattle.scad_ast.specs.declared.expression.Exprs.{Exprs, roll-Exprs}
 use Rattle.scad_ast.specs.declared.expression.Call.{Call}
 use Rattle.scad_ast.specs.declared.expression.Range.{Range}
@@ -13,12 +13,14 @@ use Rattle.scad_ast.specs.declared.expression.Chain.{Chain, roll-Chain}
 use Rattle.scad_ast.specs.declared.expression.Choice.{Choice}
 use Rattle.scad_ast.specs.declared.expression.Link.{Link}
 use Rattle.scad_ast.specs.declared.expression.Links.{Links, roll-Links}
-use Rattle.scad_ast.specs.declared.expression.Suffix.{Suffix}
+use Rattle.scad_ast.specs.declared.expression.Suffix.{Suffix, Index}
+use Rattle.scad_ast.specs.declared.expression.Suffix.TheVariants.{rolls-Index}
 use Rattle.scad_ast.specs.declared.expression.Suffixes.{Suffixes, roll-Suffixes}
-use Rattle.scad_ast.specs.declared.expression.Arg.{Arg}
+use Rattle.scad_ast.specs.declared.expression.Arg.{Arg, Positional}
+use Rattle.scad_ast.specs.declared.expression.Arg.TheVariants.{rolls-Positional}
 use Rattle.scad_ast.specs.declared.expression.Args.{Args, roll-Args}
-use Rattle.scad_ast.specs.declared.expression.Arg.TheOpen.{Chain as ChainIn, Postfix as PostfixIn, Exprs-F, Links-F, Suffixes-F, Args-F}
-use Rattle.scad_ast.specs.declared.expression.Arg.TheFolds.{fold-roll-Expr, fold-roll-Chain, fold-roll-Postfix, fold-roll-Exprs, fold-roll-Links, fold-roll-Suffixes, fold-roll-Args}
+use Rattle.scad_ast.specs.declared.expression.Arg.TheOpen.{Positional as PositionalIn, Index as IndexIn, Paren as ParenIn, Chain as ChainIn, Postfix as PostfixIn, Exprs-F, Links-F, Suffixes-F, Args-F}
+use Rattle.scad_ast.specs.declared.expression.Arg.TheFolds.{fold-roll-Arg, fold-roll-Suffix, fold-roll-Expr, fold-roll-Chain, fold-roll-Postfix, fold-roll-Exprs, fold-roll-Links, fold-roll-Suffixes, fold-roll-Args}
 use Rattle.scad_ast.specs.declared.statement.Statement.{Statement}
 use Rattle.scad_ast.specs.declared.statement.Statements.{Statements, roll-Statements}
 use Rattle.scad_ast.specs.declared.statement.Instance.{Instance}
@@ -26,7 +28,7 @@ use Rattle.scad_ast.specs.declared.statement.Core.{Core}
 use Rattle.scad_ast.specs.declared.statement.Body.{Body}
 use Rattle.scad_ast.specs.declared.statement.Body.TheOpen.{Statements-F}
 use Rattle.scad_ast.specs.declared.statement.Body.TheFolds.{fold-roll-Statements}
-use Rattle.scad_ast.specs.Terms.{Term, ChainTerm, PostfixTerm, links_from, suffixes_from, ArgTerm, LinkTerm, SuffixTerm, StatementTerm, InstanceTerm, CoreTerm, BodyTerm}
+use Rattle.scad_ast.specs.Terms.{Term, ParenTerm, PositionalTerm, IndexTerm, ChainTerm, PostfixTerm, links_from, suffixes_from, ArgTerm, LinkTerm, SuffixTerm, StatementTerm, InstanceTerm, CoreTerm, BodyTerm}
 use Rattle.scad_ast.specs.ExprView.{Form, arg_step, expr_step, suffix_step, args_step, call_step, chain_step, choice_step, exprs_step, link_step, links_step, postfix_step, range_step, stepped_range_step, suffixes_step, term_of, chain_form_of, postfix_form_of, terms_of, link_of, links_of, suffix_of, suffixes_of, arg_of, args_of}
 use Rattle.scad_ast.specs.StatementView.{body_step, core_step, statement_step, instance_step, statements_step, statement_of, statements_of}
 
@@ -38,6 +40,16 @@ links_roll = fold-roll-Links ArgTerm Term SuffixTerm (List ArgTerm) Form Form Fo
 
 pub suffixes_roll : (ss : Suffixes-F Arg Expr Suffix Args Call Chain Choice Exprs Link Links Postfix Range SteppedRange Suffixes) → suffixes_of (roll-Suffixes ss) ≡ suffix_of ss.first ∷ map suffix_of ss.more.items
 suffixes_roll = fold-roll-Suffixes ArgTerm Term SuffixTerm (List ArgTerm) Form Form Form (List Term) LinkTerm (List LinkTerm) Form Form Form (List SuffixTerm) arg_step expr_step suffix_step args_step call_step chain_step choice_step exprs_step link_step links_step postfix_step range_step stepped_range_step suffixes_step
+
+-- an argument and an index by their expressions, and an expression in parentheses
+pub positional_made : (value : Expr) → arg_of (Positional value) ≡ PositionalTerm (term_of value)
+positional_made value = ap arg_of (sym (rolls-Positional value)) ∙ fold-roll-Arg ArgTerm Term SuffixTerm (List ArgTerm) Form Form Form (List Term) LinkTerm (List LinkTerm) Form Form Form (List SuffixTerm) arg_step expr_step suffix_step args_step call_step chain_step choice_step exprs_step link_step links_step postfix_step range_step stepped_range_step suffixes_step (PositionalIn value)
+
+pub index_made : (at : Place) (index : Expr) → suffix_of (Index at index) ≡ IndexTerm at (term_of index)
+index_made at index = ap suffix_of (sym (rolls-Index at index)) ∙ fold-roll-Suffix ArgTerm Term SuffixTerm (List ArgTerm) Form Form Form (List Term) LinkTerm (List LinkTerm) Form Form Form (List SuffixTerm) arg_step expr_step suffix_step args_step call_step chain_step choice_step exprs_step link_step links_step postfix_step range_step stepped_range_step suffixes_step (IndexIn at index)
+
+pub paren_made : (at : Place) (inner : Box Expr Global) → term_of (ParenForm at inner) ≡ ParenTerm at (term_of inner.value)
+paren_made at inner = ap term_of (sym (rolls-Paren at inner)) ∙ fold-roll-Expr ArgTerm Term SuffixTerm (List ArgTerm) Form Form Form (List Term) LinkTerm (List LinkTerm) Form Form Form (List SuffixTerm) arg_step expr_step suffix_step args_step call_step chain_step choice_step exprs_step link_step links_step postfix_step range_step stepped_range_step suffixes_step (ParenIn at inner)
 
 -- a chain and a postfix, by what their box holds
 pub chain_made : (at : Place) (chain : Box Chain Global) (first : Expr) (next : Link) (more : Vec Link Global)

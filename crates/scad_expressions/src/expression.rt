@@ -1,15 +1,15 @@
 ghost use Rattle.std.specs.Prelude.{◌≡◌, ◌≤◌, ◌∷◌, [], true, Some, IfOk, length, map};
-ghost use Rattle.scad_ast.specs.Terms.{Term, ArgTerm};
+ghost use Rattle.scad_ast.specs.Terms.{ListTerm, terms_from};
 ghost use Rattle.scad_ast.specs.ExprView.{term_of, terms_of, link_of, suffix_of, arg_of, args_of};
 ghost use Rattle.scad_grammar.specs.Classes.{among, is, other_than, symbol_class, bytes_of};
 ghost use Rattle.scad_grammar.specs.Classes.{comma_sign, close_bracket_sign, close_parenthesis_sign, colon_sign, question_sign};
-ghost use Rattle.scad_grammar.specs.Faults.{Reads, one};
-ghost use Rattle.scad_grammar.specs.Grammar.{levels, given_of, link as link_at, chain_of as chain_at, choice_of as choice_at, postfix_of as postfix_at, unary_of as unary_at, named_of, filled_of};
+ghost use Rattle.scad_grammar.specs.Faults.{one};
+ghost use Rattle.scad_grammar.specs.Grammar.{levels, given_of, chain_of as chain_at, choice_of as choice_at, postfix_of as postfix_at, unary_of as unary_at, named_of, bracket_of as bracket_at, filled_of};
 ghost use Rattle.scad_grammar.specs.Languages.{pair_of, second_of};
-ghost use Rattle.scad_grammar.specs.Reading.{starts, both, mapped, many, trailing, in_front};
-ghost use Rattle.scad_grammar.specs.Reads.{expr_read, operand_read, arg_in, args_read, primary_read, unary_read, postfix_read, suffix_read, chain_read, choice_read, name_read, paren_read, bracket_read, range_read, rest_read, in_parentheses};
-ghost use Rattle.scad_expressions.specs.Climbing.{climb_read};
-ghost use Rattle.scad_tokens.specs.TokenClasses.{operators_at, levels_below, atoms, literals, suffix_signs, unary_signs};
+ghost use Rattle.scad_grammar.specs.Reading.{starts, both, mapped, maybe, many, trailing, in_front};
+ghost use Rattle.scad_grammar.specs.Reads.{expr_read, operand_read, arg_in, args_read, postfix_read, suffix_read, chain_read, choice_read, name_read, paren_read, bracket_read, range_read, rest_read, in_parentheses};
+ghost use Rattle.scad_expressions.specs.Climbing.{primary_in, unary_in, link_in, climb_read};
+ghost use Rattle.scad_tokens.specs.TokenClasses.{operators_at, levels_below, atoms, suffix_signs};
 ghost use Rattle.scad_tokens.specs.Views.{Gives, atom_of};
 
 use compact_bytes::CompactBytes;
@@ -19,10 +19,10 @@ use scad_ast::{
 };
 use scad_lexer::{Reserved, Symbol, Token, TokenKind};
 use scad_tokens::{
-    Class, Level, Parsed, behind_comma, binary, bytes, is_before, is_comma_before, is_given,
-    list_of, lone_atom, take, take_first, too_deep, unary_operator, with,
+    Class, Level, Parsed, assigned, behind_comma, binary, boxed, bytes, closed, is_before,
+    is_comma_before, list_of, lone_atom, take, take_first, too_deep, unary_operator, with,
 };
-use std::alloc::{AllocError, Global};
+use std::alloc::Global;
 
 // What is rare stands in functions that are not inlined: the locals of a function are cleared at each call, also
 // those of forms that are not met. What was read is handed on as it is where nothing follows it, rather than taken
@@ -40,7 +40,7 @@ pub fn expr<'a>(alloc: Global, tokens: &'a [Token], depth: u32) -> Parsed<'a, Ex
         return Err(too_deep(Class::Expression, Class::LeftOutOfExpressions, tokens));
     }
     if let Some((token, rest)) = lone_atom(tokens) {
-        return Ok((atom(alloc, token)?, rest));
+        return atom(alloc, token, rest);
     }
     choice(alloc, tokens, depth - 1)
 }
@@ -49,7 +49,7 @@ pub fn expr<'a>(alloc: Global, tokens: &'a [Token], depth: u32) -> Parsed<'a, Ex
 #[cycle(expression)]
 #[inline(never)]
 fn choice<'a>(alloc: Global, tokens: &'a [Token], depth: u32) -> Parsed<'a, Expr>
-    ensures value { Gives (λ p. (term_of p.0, p.1.now)) result (choice_read (expr_read depth) (operand_read depth) (primary_read (expr_read depth) (arg_in depth (expr_read depth))) tokens.now) }
+    ensures value { Gives (λ p. (term_of p.0, p.1.now)) result (choice_read (expr_read depth) (operand_read depth) (primary_in depth) tokens.now) }
 {
     match chain(alloc, tokens, depth) {
         Ok((test, rest)) if Class::Sign(Symbol::Question).begins(rest) => {
@@ -65,7 +65,7 @@ fn choice<'a>(alloc: Global, tokens: &'a [Token], depth: u32) -> Parsed<'a, Expr
 fn chosen<'a>(alloc: Global, test: Expr, tokens: &'a [Token], depth: u32) -> Parsed<'a, Expr>
     ensures value { Gives (λ p. (term_of p.0, p.1.now)) result (mapped (choice_at (term_of test)) (mapped Some (both pair_of (one (is question_sign)) (both pair_of (expr_read depth) (both second_of (one (is colon_sign)) (expr_read depth))))) tokens.now) }
 {
-    let ((test, (mark, (yes, no))), rest) = with(test, sides(alloc, tokens, depth))?;
+    let ((test, ((mark, yes), no)), rest) = with(test, sides(alloc, tokens, depth))?;
     let place = test.place();
     let choice = Choice {
         test,
@@ -83,13 +83,12 @@ fn sides<'a>(
     alloc: Global,
     tokens: &'a [Token],
     depth: u32,
-) -> Parsed<'a, (&'a Token, (Expr, Expr))>
-    ensures value { Gives (λ p. ((p.0.0.now, (term_of p.0.1.0, term_of p.0.1.1)), p.1.now)) result (both pair_of (one (is question_sign)) (both pair_of (expr_read depth) (both second_of (one (is colon_sign)) (expr_read depth))) tokens.now) }
+) -> Parsed<'a, ((&'a Token, Expr), Expr)>
+    ensures value { Gives (λ p. ((p.0.0.0.now, (term_of p.0.0.1, term_of p.0.1)), p.1.now)) result (both pair_of (one (is question_sign)) (both pair_of (expr_read depth) (both second_of (one (is colon_sign)) (expr_read depth))) tokens.now) }
 {
     let (mark, rest) = take(Class::Sign(Symbol::Question), tokens)?;
     let (yes, rest) = expr(alloc, rest, depth)?;
-    let (sides, rest) = with(yes, behind(alloc, Symbol::Colon, rest, depth))?;
-    Ok(((mark, sides), rest))
+    with((mark, yes), behind(alloc, Symbol::Colon, rest, depth))
 }
 
 /// A sign and the expression behind it.
@@ -106,7 +105,7 @@ pub fn behind<'a>(alloc: Global, sign: Symbol, tokens: &'a [Token], depth: u32) 
 // Operands with operators between them.
 #[cycle(expression)]
 fn chain<'a>(alloc: Global, tokens: &'a [Token], depth: u32) -> Parsed<'a, Expr>
-    ensures value { Gives (λ p. (term_of p.0, p.1.now)) result (chain_read levels (unary_read (expr_read depth) (operand_read depth) (primary_read (expr_read depth) (arg_in depth (expr_read depth)))) tokens.now) }
+    ensures value { Gives (λ p. (term_of p.0, p.1.now)) result (chain_read levels (unary_in depth) tokens.now) }
 {
     match unary(alloc, tokens, depth) {
         Ok((first, rest)) if Class::BinaryOperator.begins(rest) => {
@@ -119,10 +118,10 @@ fn chain<'a>(alloc: Global, tokens: &'a [Token], depth: u32) -> Parsed<'a, Expr>
 // What the operators of a level stand between.
 #[cycle(expression)]
 fn side<'a>(alloc: Global, tokens: &'a [Token], depth: u32, level: Level) -> Parsed<'a, Expr>
-    ensures value { Gives (λ p. (term_of p.0, p.1.now)) result (chain_read (levels_below level) (unary_read (expr_read depth) (operand_read depth) (primary_read (expr_read depth) (arg_in depth (expr_read depth)))) tokens.now) }
+    ensures value { Gives (λ p. (term_of p.0, p.1.now)) result (chain_read (levels_below level) (unary_in depth) tokens.now) }
 {
     if let Some((token, rest)) = lone_atom(tokens) {
-        return Ok((atom(alloc, token)?, rest));
+        return atom(alloc, token, rest);
     }
     let (first, rest) = unary(alloc, tokens, depth)?;
     climb_below(alloc, first, rest, depth, level)
@@ -132,7 +131,7 @@ fn side<'a>(alloc: Global, tokens: &'a [Token], depth: u32, level: Level) -> Par
 #[cycle(expression)]
 #[inline(never)]
 fn climbed<'a>(alloc: Global, first: Expr, tokens: &'a [Token], depth: u32) -> Parsed<'a, Expr>
-    ensures value { Gives (λ p. (term_of p.0, p.1.now)) result (climb_read levels (unary_read (expr_read depth) (operand_read depth) (primary_read (expr_read depth) (arg_in depth (expr_read depth)))) (term_of first) tokens.now) }
+    ensures value { Gives (λ p. (term_of p.0, p.1.now)) result (climb_read levels (unary_in depth) (term_of first) tokens.now) }
 {
     match climb_below(alloc, first, tokens, depth, Level::Or) {
         Ok((first, rest)) if Class::Operator(Level::Or).begins(rest) => {
@@ -152,7 +151,7 @@ fn climb_below<'a>(
     depth: u32,
     level: Level,
 ) -> Parsed<'a, Expr>
-    ensures value { Gives (λ p. (term_of p.0, p.1.now)) result (climb_read (levels_below level) (unary_read (expr_read depth) (operand_read depth) (primary_read (expr_read depth) (arg_in depth (expr_read depth)))) (term_of first) tokens.now) }
+    ensures value { Gives (λ p. (term_of p.0, p.1.now)) result (climb_read (levels_below level) (unary_in depth) (term_of first) tokens.now) }
 {
     let levels = level.tighter_levels();
     let mut first = first;
@@ -180,7 +179,7 @@ fn linked<'a>(
     level: Level,
 ) -> Parsed<'a, Expr>
     requires { starts (among (operators_at level)) tokens.now ≡ true }
-    ensures value { Gives (λ p. (term_of p.0, p.1.now)) result (mapped (chain_at (term_of first)) (many (among (operators_at level)) (both link_at (one (among (operators_at level))) (chain_read (levels_below level) (unary_read (expr_read depth) (operand_read depth) (primary_read (expr_read depth) (arg_in depth (expr_read depth))))))) tokens.now) }
+    ensures value { Gives (λ p. (term_of p.0, p.1.now)) result (mapped (chain_at (term_of first)) (many (among (operators_at level)) (link_in level depth)) tokens.now) }
 {
     let ((first, (next, more)), rest) = with(first, some_links(alloc, tokens, depth, level))?;
     let place = first.place();
@@ -199,17 +198,16 @@ fn some_links<'a>(
     level: Level,
 ) -> Parsed<'a, (Link, Vec<Link>)>
     requires { starts (among (operators_at level)) tokens.now ≡ true }
-    ensures value { Gives (λ p. (link_of p.0.0 ∷ map link_of p.0.1.items, p.1.now)) result (many (among (operators_at level)) (both link_at (one (among (operators_at level))) (chain_read (levels_below level) (unary_read (expr_read depth) (operand_read depth) (primary_read (expr_read depth) (arg_in depth (expr_read depth)))))) tokens.now) }
+    ensures value { Gives (λ p. (link_of p.0.0 ∷ map link_of p.0.1.items, p.1.now)) result (many (among (operators_at level)) (link_in level depth) tokens.now) }
 {
     let (next, rest) = link(alloc, tokens, depth, level)?;
-    let (links, rest) = with(next, links(alloc, rest, depth, level))?;
-    Ok((links, rest))
+    with(next, links(alloc, rest, depth, level))
 }
 
 // More operators of a level and what stands behind each.
 #[cycle(expression)]
 fn links<'a>(alloc: Global, tokens: &'a [Token], depth: u32, level: Level) -> Parsed<'a, Vec<Link>>
-    ensures value { Gives (λ p. (map link_of p.0.items, p.1.now)) result (many (among (operators_at level)) (both link_at (one (among (operators_at level))) (chain_read (levels_below level) (unary_read (expr_read depth) (operand_read depth) (primary_read (expr_read depth) (arg_in depth (expr_read depth)))))) tokens.now) }
+    ensures value { Gives (λ p. (map link_of p.0.items, p.1.now)) result (many (among (operators_at level)) (link_in level depth) tokens.now) }
 {
     let mut items = Vec::new(alloc);
     let mut rest = tokens;
@@ -224,7 +222,7 @@ fn links<'a>(alloc: Global, tokens: &'a [Token], depth: u32, level: Level) -> Pa
 // An operator of a level and what stands behind it.
 #[cycle(expression)]
 fn link<'a>(alloc: Global, tokens: &'a [Token], depth: u32, level: Level) -> Parsed<'a, Link>
-    ensures value { Gives (λ p. (link_of p.0, p.1.now)) result (both link_at (one (among (operators_at level))) (chain_read (levels_below level) (unary_read (expr_read depth) (operand_read depth) (primary_read (expr_read depth) (arg_in depth (expr_read depth))))) tokens.now) }
+    ensures value { Gives (λ p. (link_of p.0, p.1.now)) result (link_in level depth tokens.now) }
 {
     let (operator, rest) = take(Class::Operator(level), tokens)?;
     let (right, rest) = side(alloc, rest, depth, level)?;
@@ -236,25 +234,23 @@ fn link<'a>(alloc: Global, tokens: &'a [Token], depth: u32, level: Level) -> Par
 // An operand with its operators before it.
 #[cycle(expression)]
 fn unary<'a>(alloc: Global, tokens: &'a [Token], depth: u32) -> Parsed<'a, Expr>
-    ensures value { Gives (λ p. (term_of p.0, p.1.now)) result (unary_read (expr_read depth) (operand_read depth) (primary_read (expr_read depth) (arg_in depth (expr_read depth))) tokens.now) }
+    ensures value { Gives (λ p. (term_of p.0, p.1.now)) result (unary_in depth tokens.now) }
 {
-    if Class::UnaryOperator.begins(tokens) {
-        signed(alloc, tokens, depth)
-    } else {
-        postfix(alloc, tokens, depth)
+    match Class::UnaryOperator.split_first(tokens) {
+        Some((operator, rest)) => signed(alloc, operator, rest, depth),
+        None => postfix(alloc, tokens, depth),
     }
 }
 
 // An operator and its operand.
 #[cycle(expression)]
 #[inline(never)]
-fn signed<'a>(alloc: Global, tokens: &'a [Token], depth: u32) -> Parsed<'a, Expr>
-    ensures value { Gives (λ p. (term_of p.0, p.1.now)) result (both unary_at (one (among unary_signs)) (operand_read depth) tokens.now) }
+fn signed<'a>(alloc: Global, operator: &Token, tokens: &'a [Token], depth: u32) -> Parsed<'a, Expr>
+    ensures value { Gives (λ p. (term_of p.0, p.1.now)) result (mapped (unary_at operator.now) (operand_read depth) tokens.now) }
 {
-    let (operator, rest) = take(Class::UnaryOperator, tokens)?;
-    let (of, rest) = operand(alloc, rest, depth)?;
+    let (of, rest) = boxed(alloc, operand(alloc, tokens, depth))?;
     let op = unary_operator(&operator.kind);
-    Ok((Expr::Unary(operator.place, op, Box::new(alloc, of)?), rest))
+    Ok((Expr::Unary(operator.place, op, of), rest))
 }
 
 // An operand of a unary operator, whose tokens are less deep than so much.
@@ -266,7 +262,7 @@ fn operand<'a>(alloc: Global, tokens: &'a [Token], depth: u32) -> Parsed<'a, Exp
         return Err(too_deep(Class::Expression, Class::LeftOutOfExpressions, tokens));
     }
     if let Some((token, rest)) = lone_atom(tokens) {
-        return Ok((atom(alloc, token)?, rest));
+        return atom(alloc, token, rest);
     }
     unary(alloc, tokens, depth - 1)
 }
@@ -274,7 +270,7 @@ fn operand<'a>(alloc: Global, tokens: &'a [Token], depth: u32) -> Parsed<'a, Exp
 // A primary with its indexes and members.
 #[cycle(expression)]
 fn postfix<'a>(alloc: Global, tokens: &'a [Token], depth: u32) -> Parsed<'a, Expr>
-    ensures value { Gives (λ p. (term_of p.0, p.1.now)) result (postfix_read (expr_read depth) (primary_read (expr_read depth) (arg_in depth (expr_read depth))) tokens.now) }
+    ensures value { Gives (λ p. (term_of p.0, p.1.now)) result (postfix_read (expr_read depth) (primary_in depth) tokens.now) }
 {
     match primary(alloc, tokens, depth) {
         Ok((of, rest)) if Class::Suffix.begins(rest) => suffixed(alloc, of, rest, depth),
@@ -308,8 +304,7 @@ fn some_suffixes<'a>(
     ensures value { Gives (λ p. (suffix_of p.0.0 ∷ map suffix_of p.0.1.items, p.1.now)) result (many (among suffix_signs) (suffix_read (expr_read depth)) tokens.now) }
 {
     let (next, rest) = suffix(alloc, tokens, depth)?;
-    let (suffixes, rest) = with(next, suffixes(alloc, rest, depth))?;
-    Ok((suffixes, rest))
+    with(next, suffixes(alloc, rest, depth))
 }
 
 // More indexes and members.
@@ -332,26 +327,23 @@ fn suffixes<'a>(alloc: Global, tokens: &'a [Token], depth: u32) -> Parsed<'a, Ve
 fn suffix<'a>(alloc: Global, tokens: &'a [Token], depth: u32) -> Parsed<'a, Suffix>
     ensures value { Gives (λ p. (suffix_of p.0, p.1.now)) result (suffix_read (expr_read depth) tokens.now) }
 {
-    if Class::Sign(Symbol::OpenBracket).begins(tokens) {
-        let (open, rest) = take(Class::Sign(Symbol::OpenBracket), tokens)?;
-        let (index, rest) = expr(alloc, rest, depth)?;
-        let ((index, _), rest) = with(index, take(Class::Sign(Symbol::CloseBracket), rest))?;
-        Ok((Suffix::Index(open.place, index), rest))
-    } else {
-        let (dot, rest) = take(Class::Sign(Symbol::Dot), tokens)?;
-        let (name, rest) = take(Class::Name, rest)?;
-        let bytes = bytes(alloc, &name.kind)?;
-        Ok((Suffix::Member(dot.place, bytes, name.place), rest))
+    if let Some((open, rest)) = Class::Sign(Symbol::OpenBracket).split_first(tokens) {
+        let (index, rest) = closed(expr(alloc, rest, depth), Symbol::CloseBracket)?;
+        return Ok((Suffix::Index(open.place, index), rest));
     }
+    let (dot, rest) = take(Class::Sign(Symbol::Dot), tokens)?;
+    let (name, rest) = take(Class::Name, rest)?;
+    let bytes = bytes(alloc, &name.kind)?;
+    Ok((Suffix::Member(dot.place, bytes, name.place), rest))
 }
 
 // An expression without operators.
 #[cycle(expression)]
 fn primary<'a>(alloc: Global, tokens: &'a [Token], depth: u32) -> Parsed<'a, Expr>
-    ensures value { Gives (λ p. (term_of p.0, p.1.now)) result (primary_read (expr_read depth) (arg_in depth (expr_read depth)) tokens.now) }
+    ensures value { Gives (λ p. (term_of p.0, p.1.now)) result (primary_in depth tokens.now) }
 {
-    if Class::Literal.begins(tokens) {
-        literal(alloc, tokens)
+    if let Some((token, rest)) = Class::Literal.split_first(tokens) {
+        atom(alloc, token, rest)
     } else if Class::Name.begins(tokens) {
         named(alloc, tokens, depth)
     } else if Class::Sign(Symbol::OpenParenthesis).begins(tokens) {
@@ -368,29 +360,21 @@ fn paren<'a>(alloc: Global, tokens: &'a [Token], depth: u32) -> Parsed<'a, Expr>
     ensures value { Gives (λ p. (term_of p.0, p.1.now)) result (paren_read (expr_read depth) tokens.now) }
 {
     let (open, rest) = take(Class::Sign(Symbol::OpenParenthesis), tokens)?;
-    let (inner, rest) = expr(alloc, rest, depth)?;
-    let ((inner, _), rest) = with(inner, take(Class::Sign(Symbol::CloseParenthesis), rest))?;
-    Ok((Expr::Paren(open.place, Box::new(alloc, inner)?), rest))
+    let (inner, rest) = boxed(
+        alloc,
+        closed(expr(alloc, rest, depth), Symbol::CloseParenthesis),
+    )?;
+    Ok((Expr::Paren(open.place, inner), rest))
 }
 
-// A numeral, a text, a truth, `undef` or a special name.
+// A literal or a name alone, and the tokens behind it.
 #[inline(always)]
-fn literal<'a>(alloc: Global, tokens: &'a [Token]) -> Parsed<'a, Expr>
-    requires { starts (among literals) tokens.now ≡ true }
-    ensures value { (e : Reads Term) (a : Reads ArgTerm) → Gives (λ p. (term_of p.0, p.1.now)) result (primary_read e a tokens.now) }
-{
-    let (token, rest) = take(Class::Literal, tokens)?;
-    Ok((atom(alloc, token)?, rest))
-}
-
-// A literal or a name alone.
-#[inline(always)]
-fn atom(alloc: Global, token: &Token) -> Result<Expr, AllocError>
+fn atom<'a>(alloc: Global, token: &Token, rest: &'a [Token]) -> Parsed<'a, Expr>
     requires { among atoms token.now ≡ true }
-    ensures { IfOk result (λ e. term_of e ≡ atom_of token.now) }
+    ensures { Gives (λ p. (term_of p.0, p.1.now)) result (Ok (atom_of token.now, rest.now)) }
 {
     let place = token.place;
-    Ok(match &token.kind {
+    let atom = match &token.kind {
         TokenKind::Name(_) => Expr::Name(place, bytes(alloc, &token.kind)?),
         TokenKind::Numeral(number) => Expr::Number(place, *number),
         TokenKind::Text(_) => Expr::Text(place, bytes(alloc, &token.kind)?),
@@ -399,7 +383,8 @@ fn atom(alloc: Global, token: &Token) -> Result<Expr, AllocError>
         TokenKind::Reserved(Reserved::Undef) => Expr::Undef(place),
         kind if Class::Special.has(kind) => Expr::Special(place, bytes(alloc, kind)?),
         _ => Expr::ChildCount(place),
-    })
+    };
+    Ok((atom, rest))
 }
 
 // A name, and its arguments where it has some.
@@ -411,7 +396,7 @@ fn named<'a>(alloc: Global, tokens: &'a [Token], depth: u32) -> Parsed<'a, Expr>
     if Class::Sign(Symbol::OpenParenthesis).begins(rest) {
         return called(alloc, name, rest, depth);
     }
-    Ok((atom(alloc, name)?, rest))
+    atom(alloc, name, rest)
 }
 
 // A call of a function, by its name.
@@ -433,18 +418,22 @@ fn bracket<'a>(alloc: Global, tokens: &'a [Token], depth: u32) -> Parsed<'a, Exp
     ensures value { Gives (λ p. (term_of p.0, p.1.now)) result (bracket_read (expr_read depth) tokens.now) }
 {
     let (open, rest) = take_first(Class::Sign(Symbol::OpenBracket), tokens)?;
-    if !is_before(Symbol::CloseBracket, rest) {
-        let (_, rest) = take(Class::Sign(Symbol::CloseBracket), rest)?;
-        let items = Box::new(alloc, no_items(alloc))?;
-        return Ok((Expr::List(open.place, items), rest));
-    }
-    let (first, rest) = expr(alloc, rest, depth)?;
-    let (list, rest) = filled(alloc, open, first, rest, depth)?;
-    let ((list, _), rest) = with(list, take(Class::Sign(Symbol::CloseBracket), rest))?;
-    Ok((list, rest))
+    closed(inside(alloc, open, rest, depth), Symbol::CloseBracket)
 }
 
-// What a bracket and its first expression make with what follows: a list or a range.
+// What a bracket makes with what stands in it: a list or a range.
+#[cycle(expression)]
+fn inside<'a>(alloc: Global, bracket: &Token, tokens: &'a [Token], depth: u32) -> Parsed<'a, Expr>
+    ensures value { Gives (λ p. (term_of p.0, p.1.now)) result (mapped (bracket_at bracket.now) (maybe (other_than (close_bracket_sign ∷ [])) (both pair_of (expr_read depth) (rest_read (expr_read depth)))) tokens.now) }
+{
+    if !is_before(Symbol::CloseBracket, tokens) {
+        return list(alloc, bracket, no_items(alloc), tokens);
+    }
+    let (first, rest) = expr(alloc, tokens, depth)?;
+    filled(alloc, bracket, first, rest, depth)
+}
+
+// The same by its first expression.
 #[cycle(expression)]
 fn filled<'a>(
     alloc: Global,
@@ -459,10 +448,17 @@ fn filled<'a>(
         let more = is_comma_before(Symbol::CloseBracket, tokens);
         let items = list_of(alloc, first, if more { 3 } else { 1 })?;
         let (items, rest) = more_items(alloc, items, tokens, depth)?;
-        let items = Box::new(alloc, items)?;
-        return Ok((Expr::List(bracket.place, items), rest));
+        return list(alloc, bracket, items, rest);
     }
     range(alloc, bracket, first, tokens, depth)
+}
+
+// A list by its bracket and its items, and the tokens behind these.
+#[inline(always)]
+fn list<'a>(alloc: Global, bracket: &Token, items: Exprs, rest: &'a [Token]) -> Parsed<'a, Expr>
+    ensures { Gives (λ p. (term_of p.0, p.1.now)) result (Ok (ListTerm bracket.now.place (terms_from (terms_of items)), rest.now)) }
+{
+    Ok((Expr::List(bracket.place, Box::new(alloc, items)?), rest))
 }
 
 // A range, by its bracket and its first expression.
@@ -520,14 +516,12 @@ pub fn arguments<'a>(alloc: Global, tokens: &'a [Token], depth: u32) -> Parsed<'
     ensures rest { IfOk result (λ p. length p.1.now ≤ length tokens.now) }
 {
     let (_, rest) = take(Class::Sign(Symbol::OpenParenthesis), tokens)?;
-    let (args, rest) = args(alloc, rest, depth)?;
-    let ((args, _), rest) = with(args, take(Class::Sign(Symbol::CloseParenthesis), rest))?;
-    Ok((args, rest))
+    closed(arg_list(alloc, rest, depth), Symbol::CloseParenthesis)
 }
 
 // Arguments, and maybe a comma behind the last.
 #[cycle(expression)]
-fn args<'a>(alloc: Global, tokens: &'a [Token], depth: u32) -> Parsed<'a, Args>
+fn arg_list<'a>(alloc: Global, tokens: &'a [Token], depth: u32) -> Parsed<'a, Args>
     ensures value { Gives (λ p. (args_of p.0, p.1.now)) result (args_read (arg_in depth (expr_read depth)) tokens.now) }
 {
     if !is_before(Symbol::CloseParenthesis, tokens) {
@@ -567,12 +561,10 @@ fn arg<'a>(alloc: Global, tokens: &'a [Token], depth: u32) -> Parsed<'a, Arg>
     if depth == 0 {
         return Err(too_deep(Class::Expression, Class::LeftOutOfExpressions, tokens));
     }
-    if !is_given(tokens) {
+    let Some((name, rest)) = assigned(Class::ArgumentName, tokens) else {
         let (value, rest) = expr(alloc, tokens, depth)?;
         return Ok((Arg::Positional(value), rest));
-    }
-    let (name, rest) = take(Class::ArgumentName, tokens)?;
-    let (_, rest) = take(Class::Sign(Symbol::Assign), rest)?;
+    };
     let bytes = bytes(alloc, &name.kind)?;
     let ((bytes, value), rest) = with(bytes, expr(alloc, rest, depth))?;
     Ok((given(name, bytes, value), rest))

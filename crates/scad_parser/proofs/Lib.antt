@@ -1,3 +1,2 @@
-mod Assigned
 mod Parsed
 pub mod Whole

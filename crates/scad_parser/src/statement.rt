@@ -1,15 +1,14 @@
-ghost use Rattle.std.specs.Prelude.{◌≡◌, [], true, map};
-ghost use Rattle.scad_ast.specs.Terms.{StatementTerm};
+ghost use Rattle.std.specs.Prelude.{◌≡◌, [], map};
 ghost use Rattle.scad_ast.specs.ExprView.{term_of};
 ghost use Rattle.scad_ast.specs.StatementView.{statement_of, statements_of, instance_of, core_of, body_of, param_of, params_of, binder_of, binders_of, mark_of, marks_of};
-ghost use Rattle.scad_grammar.specs.Classes.{among, is, name, comma_sign, assign_sign, else_word};
+ghost use Rattle.scad_grammar.specs.Classes.{among, is, name, comma_sign, else_word};
 ghost use Rattle.scad_grammar.specs.Languages.{second_of};
-ghost use Rattle.scad_grammar.specs.Faults.{Reads, one};
-ghost use Rattle.scad_grammar.specs.Grammar.{mark_of as mark_at, instance_of as instance_at};
-ghost use Rattle.scad_grammar.specs.Reading.{ahead, both, many, mapped, trailing, in_front};
+ghost use Rattle.scad_grammar.specs.Faults.{one};
+ghost use Rattle.scad_grammar.specs.Grammar.{mark_of as mark_at, instance_of as instance_at, assignment_of as assignment_at};
+ghost use Rattle.scad_grammar.specs.Reading.{both, many, mapped, trailing, in_front};
 ghost use Rattle.scad_grammar.specs.Reads.{expr_read, arg_in, in_parentheses};
-ghost use Rattle.scad_grammar.specs.StatementReads.{mark_signs, firsts_of_statement, param_in, params_read, binder_in, binders_read, if_read, loop_read, call_read, core_read, marks_read, instance_in, braces_read, body_read, body_over as body_from, module_read, function_read, ended_read, special_read, definition_read, assigned, statement_over as statement_from, statement_read};
-ghost use Rattle.scad_tokens.specs.Views.{Gives, names_value};
+ghost use Rattle.scad_grammar.specs.StatementReads.{firsts_of_statement, param_in, params_read, binder_in, binders_read, if_read, loop_read, call_read, core_read, marks_read, instance_in, braces_read, body_read, body_over as body_from, module_read, function_read, ended_read, special_read, definition_read, statement_over as statement_from, statement_read};
+ghost use Rattle.scad_tokens.specs.Views.{Gives};
 
 use scad_ast::{
     Binder, Binders, Body, Core, Expr, Instance, Mark, Marks, Param, Params, Statement, Statements,
@@ -17,8 +16,8 @@ use scad_ast::{
 use scad_expressions::{arguments, behind, expr};
 use scad_lexer::{Reserved, Symbol, Token};
 use scad_tokens::{
-    Class, Parsed, behind_comma, bytes, is_comma_and_name, is_named, list_of, modifier, take,
-    too_deep, with,
+    Class, Parsed, assigned, behind_comma, boxed, bytes, closed, is_comma_and_name, list_of,
+    modifier, take, too_deep, with,
 };
 use std::alloc::Global;
 
@@ -46,17 +45,15 @@ fn statement_over<'a>(
 ) -> Parsed<'a, Statement>
     ensures value { Gives (λ p. (statement_of p.0, p.1.now)) result (statement_from (expr_read depth) (param_in inner (expr_read inner)) (statement_read inner) (body_read inner) (instance_in inner (body_read inner)) tokens.now) }
 {
-    if Class::Sign(Symbol::Semicolon).begins(tokens) {
-        let (end, rest) = take(Class::Sign(Symbol::Semicolon), tokens)?;
+    if let Some((end, rest)) = Class::Sign(Symbol::Semicolon).split_first(tokens) {
         Ok((Statement::Empty(end.place), rest))
-    } else if Class::Sign(Symbol::OpenBrace).begins(tokens) {
-        let (open, rest) = take(Class::Sign(Symbol::OpenBrace), tokens)?;
+    } else if let Some((open, rest)) = Class::Sign(Symbol::OpenBrace).split_first(tokens) {
         let (statements, rest) = braces(alloc, rest, inner)?;
         Ok((Statement::Block(open.place, statements), rest))
     } else if Class::Special.begins(tokens) {
         special_assignment(alloc, tokens, depth)
-    } else if is_named(tokens) {
-        assignment(alloc, tokens, depth)
+    } else if let Some((name, rest)) = assigned(Class::Name, tokens) {
+        assignment(alloc, name, rest, depth)
     } else {
         definition(alloc, tokens, depth, inner)
     }
@@ -67,9 +64,7 @@ fn statement_over<'a>(
 fn braces<'a>(alloc: Global, tokens: &'a [Token], depth: u32) -> Parsed<'a, Statements>
     ensures value { Gives (λ p. (statements_of p.0, p.1.now)) result (braces_read (statement_read depth) tokens.now) }
 {
-    let (statements, rest) = statements(alloc, tokens, depth)?;
-    let ((statements, _), rest) = with(statements, take(Class::Sign(Symbol::CloseBrace), rest))?;
-    Ok((statements, rest))
+    closed(statements(alloc, tokens, depth), Symbol::CloseBrace)
 }
 
 /// Statements, as long as one may begin.
@@ -87,16 +82,18 @@ pub fn statements<'a>(alloc: Global, tokens: &'a [Token], depth: u32) -> Parsed<
     Ok((Statements { items }, rest))
 }
 
-// `name = value;`, where a name and a `=` stand.
+// `name = value;`, by its name and what stands behind the `=`.
 #[inline(never)]
-fn assignment<'a>(alloc: Global, tokens: &'a [Token], depth: u32) -> Parsed<'a, Statement>
-    requires { names_value tokens.now ≡ true }
-    ensures value { (q : Reads StatementTerm) → Gives (λ p. (statement_of p.0, p.1.now)) result (ahead assigned (is name) (is assign_sign) (ended_read (expr_read depth)) q tokens.now) }
+fn assignment<'a>(
+    alloc: Global,
+    name: &Token,
+    tokens: &'a [Token],
+    depth: u32,
+) -> Parsed<'a, Statement>
+    ensures value { Gives (λ p. (statement_of p.0, p.1.now)) result (mapped (assignment_at name.now) (ended_read (expr_read depth)) tokens.now) }
 {
-    let (name, rest) = take(Class::Name, tokens)?;
-    let (_, rest) = take(Class::Sign(Symbol::Assign), rest)?;
     let bytes = bytes(alloc, &name.kind)?;
-    let (value, rest) = ended(alloc, rest, depth)?;
+    let (value, rest) = ended(alloc, tokens, depth)?;
     Ok((Statement::Assignment(name.place, bytes, value), rest))
 }
 
@@ -116,9 +113,7 @@ fn special_assignment<'a>(alloc: Global, tokens: &'a [Token], depth: u32) -> Par
 fn ended<'a>(alloc: Global, tokens: &'a [Token], depth: u32) -> Parsed<'a, Expr>
     ensures value { Gives (λ p. (term_of p.0, p.1.now)) result (ended_read (expr_read depth) tokens.now) }
 {
-    let (value, rest) = expr(alloc, tokens, depth)?;
-    let ((value, _), rest) = with(value, take(Class::Sign(Symbol::Semicolon), rest))?;
-    Ok((value, rest))
+    closed(expr(alloc, tokens, depth), Symbol::Semicolon)
 }
 
 // A module, a function or an instance.
@@ -184,9 +179,7 @@ fn params<'a>(alloc: Global, tokens: &'a [Token], depth: u32) -> Parsed<'a, Para
     ensures value { Gives (λ p. (params_of p.0, p.1.now)) result (in_parentheses (params_read (param_in depth (expr_read depth))) tokens.now) }
 {
     let (_, rest) = take(Class::Sign(Symbol::OpenParenthesis), tokens)?;
-    let (params, rest) = param_list(alloc, rest, depth)?;
-    let ((params, _), rest) = with(params, take(Class::Sign(Symbol::CloseParenthesis), rest))?;
-    Ok((params, rest))
+    closed(param_list(alloc, rest, depth), Symbol::CloseParenthesis)
 }
 
 // Parameters, and maybe a comma behind the last.
@@ -271,24 +264,21 @@ fn marks<'a>(alloc: Global, tokens: &'a [Token]) -> Parsed<'a, Marks>
 {
     let mut items = Vec::new(alloc);
     let mut rest = tokens;
-    'marks: while Class::Mark.begins(rest) {
-        let (item, after) = mark(rest)?;
-        items.push(item)?;
+    'marks: while let Some((token, after)) = Class::Mark.split_first(rest) {
+        items.push(mark(token))?;
         rest = after;
     }
     Ok((Marks { items }, rest))
 }
 
 // A modifier.
-fn mark<'a>(tokens: &'a [Token]) -> Parsed<'a, Mark>
-    ensures value { Gives (λ p. (mark_of p.0, p.1.now)) result (mapped mark_at (one (among mark_signs)) tokens.now) }
+fn mark(token: &Token) -> Mark
+    ensures { mark_of result ≡ mark_at token.now }
 {
-    let (token, rest) = take(Class::Mark, tokens)?;
-    let mark = Mark {
+    Mark {
         place: token.place,
         modifier: modifier(&token.kind),
-    };
-    Ok((mark, rest))
+    }
 }
 
 // An instance without its modifiers, over what is less deep than so much.
@@ -337,8 +327,7 @@ fn otherwise<'a>(alloc: Global, tokens: &'a [Token], depth: u32) -> Parsed<'a, B
 fn boxed_body<'a>(alloc: Global, tokens: &'a [Token], depth: u32) -> Parsed<'a, Box<Body>>
     ensures value { Gives (λ p. (body_of p.0.value, p.1.now)) result (body_read depth tokens.now) }
 {
-    let (body, rest) = body(alloc, tokens, depth)?;
-    Ok((Box::new(alloc, body)?, rest))
+    boxed(alloc, body(alloc, tokens, depth))
 }
 
 // An expression in parentheses.
@@ -346,9 +335,7 @@ fn condition<'a>(alloc: Global, tokens: &'a [Token], depth: u32) -> Parsed<'a, E
     ensures value { Gives (λ p. (term_of p.0, p.1.now)) result (in_parentheses (expr_read depth) tokens.now) }
 {
     let (_, rest) = take(Class::Sign(Symbol::OpenParenthesis), tokens)?;
-    let (test, rest) = expr(alloc, rest, depth)?;
-    let ((test, _), rest) = with(test, take(Class::Sign(Symbol::CloseParenthesis), rest))?;
-    Ok((test, rest))
+    closed(expr(alloc, rest, depth), Symbol::CloseParenthesis)
 }
 
 // A `for` or an `intersection_for`.
@@ -372,11 +359,16 @@ fn binders<'a>(alloc: Global, tokens: &'a [Token], depth: u32) -> Parsed<'a, Bin
     ensures value { Gives (λ p. (binders_of p.0, p.1.now)) result (in_parentheses (binders_read (binder_in depth (expr_read depth))) tokens.now) }
 {
     let (_, rest) = take(Class::Sign(Symbol::OpenParenthesis), tokens)?;
-    let (first, rest) = binder(alloc, rest, depth)?;
+    closed(binder_list(alloc, rest, depth), Symbol::CloseParenthesis)
+}
+
+// Variables of a loop, and maybe a comma behind the last.
+fn binder_list<'a>(alloc: Global, tokens: &'a [Token], depth: u32) -> Parsed<'a, Binders>
+    ensures value { Gives (λ p. (binders_of p.0, p.1.now)) result (binders_read (binder_in depth (expr_read depth)) tokens.now) }
+{
+    let (first, rest) = binder(alloc, tokens, depth)?;
     let items = list_of(alloc, first, 4)?;
-    let (binders, rest) = more_binders(alloc, items, rest, depth)?;
-    let ((binders, _), rest) = with(binders, take(Class::Sign(Symbol::CloseParenthesis), rest))?;
-    Ok((binders, rest))
+    more_binders(alloc, items, rest, depth)
 }
 
 // More variables of a loop, each behind a comma, and maybe a comma behind the last.
@@ -446,15 +438,13 @@ fn body<'a>(alloc: Global, tokens: &'a [Token], depth: u32) -> Parsed<'a, Body>
 fn body_over<'a>(alloc: Global, tokens: &'a [Token], depth: u32) -> Parsed<'a, Body>
     ensures value { Gives (λ p. (body_of p.0, p.1.now)) result (body_from (statement_read depth) (instance_in depth (body_read depth)) tokens.now) }
 {
-    if Class::Sign(Symbol::Semicolon).begins(tokens) {
-        let (end, rest) = take(Class::Sign(Symbol::Semicolon), tokens)?;
+    if let Some((end, rest)) = Class::Sign(Symbol::Semicolon).split_first(tokens) {
         Ok((Body::Semicolon(end.place), rest))
-    } else if Class::Sign(Symbol::OpenBrace).begins(tokens) {
-        let (open, rest) = take(Class::Sign(Symbol::OpenBrace), tokens)?;
+    } else if let Some((open, rest)) = Class::Sign(Symbol::OpenBrace).split_first(tokens) {
         let (statements, rest) = braces(alloc, rest, depth)?;
         Ok((Body::Braces(open.place, statements), rest))
     } else {
-        let (instance, rest) = instance(alloc, tokens, depth)?;
-        Ok((Body::Single(Box::new(alloc, instance)?), rest))
+        let (instance, rest) = boxed(alloc, instance(alloc, tokens, depth))?;
+        Ok((Body::Single(instance), rest))
     }
 }

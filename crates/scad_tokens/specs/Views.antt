@@ -1,12 +1,14 @@
 -- What the parser's functions give, in the words of the grammar.
-use Rattle.std.specs.Prelude.{◌≡◌, ℕ, List, [], ◌∷◌, Bool, true, false, cond, Result, Ok, Err, ◌&&◌}
+use Rattle.std.specs.Prelude.{◌≡◌, ℕ, List, [], ◌∷◌, Bool, true, false, cond, Result, Ok, Err, Option, Some, None, ◌&&◌}
+use Rattle.std.specs.Borrow.{Bor}
+use Rattle.std.specs.Global.{Box}
 use Rattle.scad_lexer.specs.declared.token.Token.{Token}
 use Rattle.scad_ast.specs.Terms.{Term, NumberTerm, TextTerm, TruthTerm, UndefTerm, ChildCountTerm, SpecialTerm, NameTerm}
 use Rattle.scad_grammar.specs.declared.SyntaxFault.{SyntaxFault}
 use Rattle.scad_grammar.specs.declared.SyntaxFault.TheVariants.{Nested}
-use Rattle.scad_grammar.specs.Classes.{numeral, text, true_word, false_word, undef_word, child_count, special, argument_names, name, comma_sign, assign_sign, among, is, other_than, number_of, bytes_of}
-use Rattle.scad_grammar.specs.Faults.{fault_of}
-use Rattle.scad_grammar.specs.Reading.{Read, starts}
+use Rattle.scad_grammar.specs.Classes.{numeral, text, true_word, false_word, undef_word, child_count, special, comma_sign, assign_sign, among, is, other_than, number_of, bytes_of}
+use Rattle.scad_grammar.specs.Faults.{fault_of, one}
+use Rattle.scad_grammar.specs.Reading.{Read, after, starts}
 use Rattle.scad_grammar.specs.Reads.{head_of}
 use Rattle.scad_tokens.specs.TokenClasses.{atoms, continuations}
 use Rattle.scad_tokens.specs.declared.next.Stopped.{Stopped}
@@ -22,6 +24,25 @@ Gives view (Err NoMemory) read = Unit {0}
 abbrev pub IsStop : Stopped → SyntaxFault → List Token → Type 0
 IsStop (Fault fault at) wanted tokens = (fault ≡ wanted) × (at.now ≡ tokens)
 IsStop NoMemory wanted tokens = ⊥
+
+-- what was read and the tokens behind it, or the fault, with nothing left out
+abbrev pub plain : {A : Type 0} → A × Bor (List Token) → A × List Token
+plain p = (p.0, p.1.now)
+
+-- what was read, where such a token stands behind it
+abbrev pub closed_by : {A : Type 0} → (Token → Bool) → Read Token SyntaxFault A → Read Token SyntaxFault A
+closed_by test read = after read (λ x ts. after (one test ts) (λ close us. Ok (x, us)))
+
+-- the same of what a function of the parser gave
+abbrev pub IsClosed : {A : Type 0} → (Token → Bool) → Result (A × Bor (List Token)) Stopped → Result (A × Bor (List Token)) Stopped → Type 0
+IsClosed test (Ok p) given = Gives plain given (closed_by test (Ok (plain p)))
+IsClosed test (Err stopped) given = given ≡ Err stopped
+
+-- what was read, in a box, unless memory ran out
+abbrev pub IsBoxed : {A : Type 0} → Result (A × Bor (List Token)) Stopped → Result (Box A × Bor (List Token)) Stopped → Type 0
+IsBoxed read (Ok p) = read ≡ Ok (p.0.value, p.1)
+IsBoxed read (Err (Fault fault at)) = read ≡ Err (Fault fault at)
+IsBoxed read (Err NoMemory) = Unit {0}
 
 -- the fault of the next token, by what is left out here
 abbrev pub fault_at : List ℕ → List Token → SyntaxFault
@@ -41,17 +62,11 @@ abbrev pub past_comma : List Token → List Token
 past_comma [] = []
 past_comma (t ∷ ts) = cond (is comma_sign t) ts (t ∷ ts)
 
--- a name and a `=`
-abbrev pub names_value : List Token → Bool
-names_value [] = false
-names_value (t ∷ []) = false
-names_value (t ∷ u ∷ ts) = is name t && is assign_sign u
-
--- a name that an argument may be given by, and a `=`
-abbrev pub gives_value : List Token → Bool
-gives_value [] = false
-gives_value (t ∷ []) = false
-gives_value (t ∷ u ∷ ts) = among argument_names t && is assign_sign u
+-- a token of these classes and what stands behind the `=` that follows it, where both stand
+abbrev pub value_assigned : List ℕ → List Token → Option (Token × List Token)
+value_assigned classes [] = None
+value_assigned classes (t ∷ []) = None
+value_assigned classes (t ∷ u ∷ ts) = cond (among classes t && is assign_sign u) (Some (t, ts)) None
 
 -- an atom, and behind it a token that does not go on with it
 abbrev pub has_lone_atom : List Token → Bool

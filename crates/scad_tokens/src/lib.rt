@@ -7,7 +7,7 @@ mod next;
 
 pub use class::{Class, Level};
 pub use next::{
-    Parsed, Stopped, behind_comma, binary, bytes, is_before, is_comma_and_name, is_comma_before,
-    is_given, is_named, list_of, lone_atom, modifier, not_expected, take, take_first, too_deep,
-    unary_operator, with,
+    Parsed, Stopped, assigned, behind_comma, binary, boxed, bytes, closed, is_before,
+    is_comma_and_name, is_comma_before, list_of, lone_atom, modifier, not_expected, take,
+    take_first, too_deep, unary_operator, with,
 };

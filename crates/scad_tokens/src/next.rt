@@ -1,4 +1,4 @@
-ghost use Rattle.std.specs.Prelude.{◌≡◌, ◌<◌, ◌≤◌, ◌∷◌, [], true, false, Ok, Err, IfOk, IfErr, IfSome, IfNone, length};
+ghost use Rattle.std.specs.Prelude.{◌≡◌, ◌<◌, ◌≤◌, ◌∷◌, [], true, false, Ok, Err, Some, None, IfOk, IfErr, IfSome, IfNone, length};
 ghost use Rattle.scad_grammar.specs.Classes.{class_of, bytes_of, symbol_class, among, is, other_than};
 ghost use Rattle.scad_grammar.specs.Classes.{name};
 ghost use Rattle.scad_grammar.specs.Grammar.{binary_at, unary_at, modifier_at};
@@ -6,7 +6,7 @@ ghost use Rattle.scad_grammar.specs.Faults.{one, first};
 ghost use Rattle.scad_grammar.specs.Reading.{starts};
 ghost use Rattle.scad_tokens.specs.TokenClasses.{classes_of, continuations};
 ghost use Rattle.scad_tokens.specs.declared.class.Class.TheVariants.{LeftOut};
-ghost use Rattle.scad_tokens.specs.Views.{Gives, IsStop, nested_fault, fault_at, item_stands, past_comma, names_value, gives_value, has_lone_atom};
+ghost use Rattle.scad_tokens.specs.Views.{Gives, IsStop, IsClosed, IsBoxed, nested_fault, fault_at, item_stands, past_comma, value_assigned, has_lone_atom};
 
 use crate::class::Class;
 use compact_bytes::CompactBytes;
@@ -60,6 +60,29 @@ pub fn with<'a, A: Drop, B>(before: A, read: Parsed<'a, B>) -> Parsed<'a, (A, B)
     }
 }
 
+/// What was read, where this sign stands behind it.
+#[inline(always)]
+pub fn closed<'a, T: Drop>(read: Parsed<'a, T>, close: Symbol) -> Parsed<'a, T>
+    ensures { IsClosed (is (symbol_class close)) read.entry result }
+{
+    match read {
+        Ok((value, rest)) => match take(Class::Sign(close), rest) {
+            Ok((_, rest)) => Ok((value, rest)),
+            Err(stopped) => Err(stopped),
+        },
+        Err(stopped) => Err(stopped),
+    }
+}
+
+/// What was read, in a box.
+#[inline(always)]
+pub fn boxed<'a, T: Drop>(alloc: Global, read: Parsed<'a, T>) -> Parsed<'a, Box<T>>
+    ensures { IsBoxed read.entry result }
+{
+    let (value, rest) = read?;
+    Ok((Box::new(alloc, value)?, rest))
+}
+
 /// A list of one item, with room for so many.
 #[inline(always)]
 pub fn list_of<T: Drop>(alloc: Global, first: T, room: usize) -> Result<Vec<T>, AllocError>
@@ -79,6 +102,18 @@ impl Class {
         match tokens {
             [] => false,
             [token, ..] => self.has(&token.kind),
+        }
+    }
+
+    /// The next token and those behind it, where it is of this class.
+    #[inline(always)]
+    pub fn split_first<'a>(self, tokens: &'a [Token]) -> Option<(&'a Token, &'a [Token])>
+        ensures some { IfSome result (λ p. (starts (among (classes_of self)) tokens.now ≡ true) × (one (among (classes_of self)) tokens.now ≡ Ok (p.0.now, p.1.now))) }
+        ensures none { IfNone result (starts (among (classes_of self)) tokens.now ≡ false) }
+    {
+        match tokens {
+            [token, rest @ ..] if self.has(&token.kind) => Some((token, rest)),
+            _ => None,
         }
     }
 }
@@ -153,27 +188,17 @@ fn ends_atom(tokens: &[Token]) -> bool
     }
 }
 
-/// Whether a name and a `=` stand here.
-pub fn is_named(tokens: &[Token]) -> bool
-    ensures { result ≡ names_value tokens.now }
+/// A token of a class and the tokens behind the `=` that follows it, where both stand here.
+pub fn assigned<'a>(class: Class, tokens: &'a [Token]) -> Option<(&'a Token, &'a [Token])>
+    ensures some { IfSome result (λ p. value_assigned (classes_of class) tokens.now ≡ Some (p.0.now, p.1.now)) }
+    ensures none { IfNone result (value_assigned (classes_of class) tokens.now ≡ None) }
 {
     match tokens {
-        [token, next, ..] => {
-            Class::Name.has(&token.kind) && Class::Sign(Symbol::Assign).has(&next.kind)
+        [token, sign, rest @ ..]
+            if class.has(&token.kind) && Class::Sign(Symbol::Assign).has(&sign.kind) => {
+            Some((token, rest))
         }
-        _ => false,
-    }
-}
-
-/// Whether a name that an argument may be given by stands here, and a `=` behind it.
-pub fn is_given(tokens: &[Token]) -> bool
-    ensures { result ≡ gives_value tokens.now }
-{
-    match tokens {
-        [token, next, ..] => {
-            Class::ArgumentName.has(&token.kind) && Class::Sign(Symbol::Assign).has(&next.kind)
-        }
-        _ => false,
+        _ => None,
     }
 }
 

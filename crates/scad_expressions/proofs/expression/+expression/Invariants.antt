@@ -1,11 +1,9 @@
 use Rattle.std.proofs.Common.{◌≡◌, ◌+◌, ◌-◌, ◌*◌, ◌≤◌, [], ◌∷◌, map, length, Ok}
 use Rattle.scad_ast.specs.ExprView.{term_of, link_of, suffix_of, arg_of}
 use Rattle.scad_grammar.specs.Classes.{comma_sign, close_bracket_sign, close_parenthesis_sign, among, is, other_than}
-use Rattle.scad_grammar.specs.Faults.{one}
-use Rattle.scad_grammar.specs.Grammar.{link}
-use Rattle.scad_grammar.specs.Reading.{both, many, trailing, in_front}
-use Rattle.scad_grammar.specs.Reads.{expr_read, operand_read, arg_in, primary_read, unary_read, suffix_read, chain_read}
-use Rattle.scad_expressions.specs.Climbing.{climb_read}
+use Rattle.scad_grammar.specs.Reading.{many, trailing, in_front}
+use Rattle.scad_grammar.specs.Reads.{expr_read, arg_in, suffix_read}
+use Rattle.scad_expressions.specs.Climbing.{unary_in, link_in, climb_read}
 use Rattle.scad_tokens.specs.TokenClasses.{levels_below, operators_at, suffix_signs, tighter_levels}
 use Rattle.scad_expressions.proofs.expression.+expression.Given as goal
 
@@ -27,8 +25,8 @@ decreases-arg l = 64 * l.depth + 1
 abbrev pub decreases-more_args : goal.decreases-more_args
 decreases-more_args l = 64 * l.depth + 2
 
-abbrev pub decreases-args : goal.decreases-args
-decreases-args l = 64 * l.depth + 3
+abbrev pub decreases-arg_list : goal.decreases-arg_list
+decreases-arg_list l = 64 * l.depth + 3
 
 abbrev pub decreases-called : goal.decreases-called
 decreases-called l = 64 * l.depth + 5
@@ -45,8 +43,11 @@ decreases-range l = 64 * l.depth + 2
 abbrev pub decreases-filled : goal.decreases-filled
 decreases-filled l = 64 * l.depth + 3
 
+abbrev pub decreases-inside : goal.decreases-inside
+decreases-inside l = 64 * l.depth + 4
+
 abbrev pub decreases-bracket : goal.decreases-bracket
-decreases-bracket l = 64 * l.depth + 4
+decreases-bracket l = 64 * l.depth + 5
 
 abbrev pub decreases-paren : goal.decreases-paren
 decreases-paren l = 64 * l.depth + 1
@@ -110,8 +111,8 @@ decreases-some_links l = 64 * l.depth + (7 * tighter_levels l.level + 13)
 
 abbrev pub invariant-links-links : goal.invariant-links-links
 invariant-links-links l =
-    many (among (operators_at l.level)) (both link (one (among (operators_at l.level))) (chain_read (levels_below l.level) (unary_read (expr_read l.depth) (operand_read l.depth) (primary_read (expr_read l.depth) (arg_in l.depth (expr_read l.depth)))))) l.tokens
-    ≡ in_front (map link_of l.items.items) (many (among (operators_at l.level)) (both link (one (among (operators_at l.level))) (chain_read (levels_below l.level) (unary_read (expr_read l.depth) (operand_read l.depth) (primary_read (expr_read l.depth) (arg_in l.depth (expr_read l.depth)))))) l.rest)
+    many (among (operators_at l.level)) (link_in l.level l.depth) l.tokens
+    ≡ in_front (map link_of l.items.items) (many (among (operators_at l.level)) (link_in l.level l.depth) l.rest)
 
 abbrev pub decreases-links-links : goal.decreases-links-links
 decreases-links-links l = length l.rest
@@ -141,7 +142,7 @@ decreases-more_args-commas l = length l.rest
 
 abbrev pub invariant-climb_below-levels : goal.invariant-climb_below-levels
 invariant-climb_below-levels l = record {
-  told : climb_read (levels_below l.at) (unary_read (expr_read l.depth) (operand_read l.depth) (primary_read (expr_read l.depth) (arg_in l.depth (expr_read l.depth)))) (term_of l.fn.first) l.tokens ≡ Ok (term_of l.first, l.rest);
+  told : climb_read (levels_below l.at) (unary_in l.depth) (term_of l.fn.first) l.tokens ≡ Ok (term_of l.first, l.rest);
   within : tighter_levels l.at ≤ tighter_levels l.fn.level;
 }
 

@@ -1,15 +1,18 @@
-use Rattle.std.proofs.Common.{rules, ◌∙◌, sym, Box, Global}
+use Rattle.std.proofs.Common.{◌≡◌, false, [], ◌∷◌, rules, ◌∙◌, sym}
 use Rattle.std.proofs.lemmas.List.{map-append}
 use Rattle.std.proofs.lemmas.Result.{err_from_is_err_and}
-use Rattle.scad_ast.specs.declared.statement.Body.{Body}
 use Rattle.scad_ast.specs.StatementView.{statement_of, statements_of, core_of, body_of}
-use Rattle.scad_grammar.specs.Classes.{among}
-use Rattle.scad_grammar.specs.StatementReads.{firsts_of_statement}
+use Rattle.scad_grammar.specs.Classes.{name, special, semicolon_sign, open_brace_sign, close_brace_sign, among, is}
+use Rattle.scad_grammar.specs.Grammar.{assignment_of}
+use Rattle.scad_grammar.specs.Reading.{starts}
+use Rattle.scad_grammar.specs.Reads.{expr_read}
+use Rattle.scad_grammar.specs.StatementReads.{firsts_of_statement, param_in, body_read, instance_in, ended_read, definition_read}
 use Rattle.scad_grammar.proofs.Readers.{loop_more, loop_end, loop_fault}
 use Rattle.scad_expressions.proofs.Depths.{statement_none, statement_deeper, body_none, body_deeper}
+use Rattle.scad_expressions.proofs.Given.{assigned_ahead, none_ahead}
 use Rattle.scad_expressions.proofs.Lengths.{statement_strict}
 use Rattle.scad_expressions.proofs.Loops.{many_more, many_end, many_stop}
-use Rattle.scad_expressions.proofs.Stops.{statement_goes, memory_ran_out}
+use Rattle.scad_expressions.proofs.Stops.{same_read, statement_goes, memory_ran_out, boxed_gives, closed_gives}
 use Rattle.scad_expressions.proofs.Trees.{statements_roll}
 use Rattle.scad_parser.proofs.statement.+statement.Goals as goal
 
@@ -50,8 +53,34 @@ module-returns-in_err-bytes t c = record { value = memory_ran_out statement_of c
 pub call-returns-in_err-bytes : goal.call-returns-in_err-bytes
 call-returns-in_err-bytes t c = record { value = memory_ran_out core_of c.from_residual-in_err-bytes.result _ c.from_residual-in_err-bytes.ensures.1 }
 
-pub boxed_body-returns-in_err-new : goal.boxed_body-returns-in_err-new
-boxed_body-returns-in_err-new t c = record { value = memory_ran_out (λ (b : Box Body Global). body_of b.value) c.from_residual-in_err-new.result _ c.from_residual-in_err-new.ensures.1 }
+pub boxed_body-returns : goal.boxed_body-returns
+boxed_body-returns t c = record { value = boxed_gives body_of c.body.result c.boxed.result _ c.body.ensures.value c.boxed.ensures }
 
-pub body_over-returns-in_err-new : goal.body_over-returns-in_err-new
-body_over-returns-in_err-new t c = record { value = memory_ran_out body_of c.from_residual-in_err-new.result _ c.from_residual-in_err-new.ensures.1 }
+pub braces-returns : goal.braces-returns
+braces-returns t c = record { value = closed_gives statements_of (is close_brace_sign) c.statements.result c.closed.result _ c.statements.ensures.value c.closed.ensures }
+
+pub statement_over-returns-in-Some-assigned : goal.statement_over-returns-in-Some-assigned
+statement_over-returns-in-Some-assigned t c = record {
+  value =
+      let inner = c.args.inner in
+      let other = definition_read (expr_read c.args.depth) (param_in inner (expr_read inner)) (body_read inner) (instance_in inner (body_read inner)) in
+      let first : starts (is semicolon_sign) c.args.tokens.now ≡ false = search rules in
+      let second : starts (is open_brace_sign) c.args.tokens.now ≡ false = search rules in
+      let third : starts (is special) c.args.tokens.now ≡ false = search rules in
+      same_read statement_of c.assignment.result _ _
+      (rw (first, second, third) (assigned_ahead assignment_of (name ∷ []) (ended_read (expr_read c.args.depth)) other c.args.tokens.now c.in-Some-assigned.name.now c.in-Some-assigned.rest.now c.in-Some-assigned.ensures.some))
+      c.assignment.ensures.value;
+}
+
+pub statement_over-returns-in_default-assigned : goal.statement_over-returns-in_default-assigned
+statement_over-returns-in_default-assigned t c = record {
+  value =
+      let inner = c.args.inner in
+      let other = definition_read (expr_read c.args.depth) (param_in inner (expr_read inner)) (body_read inner) (instance_in inner (body_read inner)) in
+      let first : starts (is semicolon_sign) c.args.tokens.now ≡ false = search rules in
+      let second : starts (is open_brace_sign) c.args.tokens.now ≡ false = search rules in
+      let third : starts (is special) c.args.tokens.now ≡ false = search rules in
+      same_read statement_of c.definition.result _ _
+      (rw (first, second, third) (none_ahead assignment_of (name ∷ []) (ended_read (expr_read c.args.depth)) other c.args.tokens.now c.in_default-assigned.ensures.none))
+      c.definition.ensures.value;
+}
