@@ -8,7 +8,7 @@ use std::marker::Model;
 use text_place::NoMemory;
 
 /// How many numbers stand in the value itself.
-const FEW: usize = 6;
+pub const FEW: usize = 6;
 
 /// A list of plane numbers, which contracts see as a list. Up to six stand in the value itself, more
 /// on the heap.
@@ -33,6 +33,13 @@ impl Edges {
         Edges {
             numbers: SmallVec::new(alloc),
         }
+    }
+
+    /// These numbers. Takes no memory.
+    pub(crate) fn of_numbers(numbers: SmallVec<u32, FEW>) -> Edges
+        ensures { result ≡ numbers.items }
+    {
+        Edges { numbers }
     }
 
     /// A copy of numbers.

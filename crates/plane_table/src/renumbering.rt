@@ -9,6 +9,7 @@ ghost use Rattle.plane_table.specs.Joins.{number_among, AreNumbersOfUsed, IsFoun
 use crate::numbering::{Numbered, add};
 use crate::{Edges, Face, opposite_number};
 use plane_predicate::Plane;
+use smallvec::SmallVec;
 use std::alloc::Global;
 use text_place::NoMemory;
 
@@ -20,13 +21,14 @@ pub fn renumber(alloc: Global, face: &Face, numbers: &[u32]) -> Result<Face, NoM
     ensures outline { IfOk result (λ f. (from planes : List Coefficients) → IsFound planes numbers.now from face.now → outline_of planes f ≡ outline_of from face.now) }
     ensures face { IfOk result (λ f. (from planes : List Coefficients) → IsFound planes numbers.now from face.now → IsFaceOver from face.now → IsFaceOver planes f) }
 {
-    let mut edges = Edges::new(alloc);
-    for edge in face.edges.numbers() {
-        edges.push(number_among(numbers, *edge))?;
+    let edges = face.edges.numbers();
+    let mut found = SmallVec::with_capacity(alloc, edges.len())?;
+    for edge in edges {
+        found.push_reserved(number_among(numbers, *edge));
     }
     Ok(Face {
         plane: number_among(numbers, face.plane),
-        edges,
+        edges: Edges::of_numbers(found),
     })
 }
 

@@ -12,7 +12,7 @@ use crate::lining::sides_by_line;
 use crate::{Face, PlaneTable, opposite_number};
 use plane_polygon::{Class, class_from, next_index, side_alike, side_at};
 use plane_predicate::Side;
-use smallvec::SmallVec;
+use smallvec::{SmallVec, smallvec};
 use std::alloc::Global;
 use text_place::NoMemory;
 
@@ -62,17 +62,30 @@ pub fn sides(
     }
     if face.edges.len() == 4 {
         let edges = face.edges.numbers();
-        if let Some((first, third)) = both_known(table, edges[0], edges[2], number) {
-            return four_sides(alloc, first, third, third, first);
+        if is_parallel(table, edges[0], number) {
+            if let Some((first, third)) = both_known(table, edges[0], edges[2], number) {
+                return four_sides(alloc, first, third, third, first);
+            }
         }
-        if let Some((second, fourth)) = both_known(table, edges[1], edges[3], number) {
-            return four_sides(alloc, second, second, fourth, fourth);
+        if is_parallel(table, edges[1], number) {
+            if let Some((second, fourth)) = both_known(table, edges[1], edges[3], number) {
+                return four_sides(alloc, second, second, fourth, fourth);
+            }
         }
     }
     if let Some(found) = sides_by_line(alloc, table, face, number)? {
         return Ok(found);
     }
     corner_sides(alloc, table, face, number)
+}
+
+/// Whether the table has one direction for two planes, or for one and the opposite of the other. For speed,
+/// and no promise.
+fn is_parallel(table: &PlaneTable, m: u32, n: u32) -> bool
+    requires m { IsNumberIn table.now m }
+    requires n { IsNumberIn table.now n }
+{
+    table.direction(m) / 2 == table.direction(n) / 2
 }
 
 /// The sides of the plane of a number on which all points of two other planes lie, where both are known.
@@ -110,16 +123,15 @@ fn four_sides(
         fourth.is_ahead(),
     );
     let class = class_from(some_behind, some_ahead);
-    let mut corners = SmallVec::new(alloc);
-    match class {
-        Class::Across => {
-            corners.push(corner_on(first))?;
-            corners.push(corner_on(second))?;
-            corners.push(corner_on(third))?;
-            corners.push(corner_on(fourth))?;
-        }
-        Class::Behind | Class::Ahead | Class::On => {}
-    }
+    let corners = match class {
+        Class::Across => smallvec![in alloc;
+            corner_on(first),
+            corner_on(second),
+            corner_on(third),
+            corner_on(fourth)
+        ]?,
+        Class::Behind | Class::Ahead | Class::On => SmallVec::new(alloc),
+    };
     Ok(CornerSides { class, corners })
 }
 
