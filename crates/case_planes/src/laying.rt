@@ -8,19 +8,29 @@ pub enum Laying {
     Low,
     High,
     Through,
+    Steps,
 }
 
-const LAYINGS: [(&[u8], Laying); 3] = [
+const LAYINGS: [(&[u8], Laying); 4] = [
     (b"low", Laying::Low),
     (b"high", Laying::High),
     (b"through", Laying::Through),
+    (b"steps", Laying::Steps),
 ];
 
 pub fn laying_of(word: &[u8]) -> Option<Laying> {
     found(&LAYINGS, word)
 }
 
-/// Puts the plane of a phrase.
+/// Puts the planes of an axis at so many coordinates from the greatest down to 1, each seen from where it is greater.
+fn lay_steps(walls: &mut Walls, axis: i64, count: i64) -> Result<(), CaseStop> {
+    for below in 0..count {
+        walls.put(high(axis, count.saturating_sub(below)))?;
+    }
+    Ok(())
+}
+
+/// Puts the planes of a phrase.
 pub fn lay(walls: &mut Walls, laying: Laying, numbers: &[i64]) -> Result<(), CaseStop> {
     match (laying, numbers) {
         (Laying::Low, [axis, at]) => walls.put(low(*axis, *at)),
@@ -28,6 +38,7 @@ pub fn lay(walls: &mut Walls, laying: Laying, numbers: &[i64]) -> Result<(), Cas
         (Laying::Through, [a, b, c, d, e, f, g, h, i]) => {
             walls.put(through([*a, *b, *c], [*d, *e, *f], [*g, *h, *i]))
         }
+        (Laying::Steps, [axis, count]) => lay_steps(walls, *axis, *count),
         _ => Err(CaseStop::Unread),
     }
 }

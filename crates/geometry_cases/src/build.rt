@@ -4,6 +4,7 @@ use crate::asking::{ask, asking_of, print, printing_of};
 use crate::faces::put_face;
 use crate::polygons::{Polygons, shaping_of};
 use crate::solids::{Solids, building_of};
+use crate::tables::{put_tabled, tabling_of};
 use case_lines::{CaseStop, Follows, Phrase};
 use case_planes::{Walls, lay, laying_of};
 use std::alloc::Global;
@@ -53,6 +54,8 @@ impl Bench {
         } else if word == b"face".as_slice() {
             let plane = self.walls.last().ok_or(CaseStop::Unread)?;
             put_face(alloc, out, &plane)
+        } else if let Some(tabling) = tabling_of(word) {
+            put_tabled(alloc, out, tabling, numbers, self.walls.planes())
         } else {
             Err(CaseStop::Unread)
         }

@@ -6,8 +6,9 @@ use crate::numbers::planes_of;
 use crate::put::{put_list, put_planes};
 use case_lines::{CaseStop, put, put_number};
 use plane_predicate::Plane;
-use plane_table::{half_face, join};
+use plane_table::{Edges, Face, half_face, join};
 use std::alloc::Global;
+use text_place::NoMemory;
 
 /// The planes that the face of a half space names, the number of its own, those of its edges, and its size.
 pub fn put_face(alloc: Global, out: &mut Vec<u8>, plane: &Plane) -> Result<(), CaseStop>
@@ -15,12 +16,31 @@ pub fn put_face(alloc: Global, out: &mut Vec<u8>, plane: &Plane) -> Result<(), C
 {
     let found = half_face(alloc, plane)?;
     put_planes(alloc, out, &found.planes)?;
-    put(out, b" plane ")?;
-    put_number(alloc, out, i128::from(found.face.plane))?;
-    put(out, b" edges ")?;
-    put_list(alloc, out, found.face.edges.numbers())?;
+    put_numbers_of(alloc, out, &found.face)?;
     put(out, b" size ")?;
     put_number(alloc, out, i128::from(found.face.size()))?;
+    Ok(())
+}
+
+/// The number of a face's plane, and those of its edges.
+pub fn put_numbers_of(alloc: Global, out: &mut Vec<u8>, face: &Face) -> Result<(), NoMemory> {
+    put(out, b" plane ")?;
+    put_number(alloc, out, i128::from(face.plane))?;
+    put(out, b" edges ")?;
+    put_list(alloc, out, face.edges.numbers())
+}
+
+/// A list of edges with these numbers, how many there are, and a copy.
+pub fn put_edges(alloc: Global, out: &mut Vec<u8>, numbers: &[i64]) -> Result<(), CaseStop> {
+    let mut edges = Edges::new(alloc);
+    for number in numbers {
+        edges.push(u32::try_from(*number).ok().ok_or(CaseStop::Unread)?)?;
+    }
+    put_number(alloc, out, edges.len() as i128)?;
+    put(out, b" edges ")?;
+    put_list(alloc, out, edges.numbers())?;
+    put(out, b" copy ")?;
+    put_list(alloc, out, edges.copy(alloc)?.numbers())?;
     Ok(())
 }
 

@@ -6,19 +6,23 @@
 //!   of the first three; `point P Q` for the side of the plane P, and of its opposite, on which the point Q lies.
 //! - `signs P Q R S` asks how often the first three planes, with all signs of their numbers, meet behind S, on it and ahead.
 //! - `join N PLANES` asks for the list in which the first N planes are joined with the others, and for their numbers there.
+//! - `edges NUMBERS` asks for a list of edges with these numbers, and a copy of it.
 //! - `build PHRASES` puts planes, polygons and solids together, and asks for what they are. Each phrase works on what was
 //!   put last.
 //!
 //! Planes: `low AXIS AT` and `high AXIS AT` are square to an axis, seen from where the coordinate is smaller, and greater;
-//! `through P Q R`. `face` asks for the face that the last one has in the world box.
+//! `through P Q R`; `steps AXIS N` stands for `high AXIS N`, and so on down to `high AXIS 1`. `face` asks for the face that the last
+//! one has in the world box, `table` for that of the second last one over the planes that both their faces name, `used` for those
+//! that it names itself, `lies N` for how it lies against the plane of a number, and `alike M N` for how two numbers' planes lie.
 //!
 //! Polygons: `polygon` of the last plane in the world box, `again`, `drop`, `cut` into the parts behind and ahead of the last
 //! plane, `trim` to the part behind it, `facet` puts it among the facets, and `facet N` so many times. `squares N` puts squares
 //! on z = 0 there, as `put_squares` says. `class`, `edges` and `corners` ask.
 //!
 //! Solids: `half` of the last plane, `leaf` of all planes, `box LOW HIGH`, `slabs AXIS FROM N` (the union of N slabs of an axis
-//! that are one step thick, with a step between two of them), `end 1` (all) and `end 0` (nothing), `over` (the second last one
-//! again), `copy`, `exchange`, `part` (both parts by the last polygon), and `+`, `*` and `-` of the last two.
+//! that are one step thick, with a step between two of them), `beyond AXIS FROM N` (beyond N planes of an axis, one step apart),
+//! `node` (one node on the last polygon), `end 1` (all) and `end 0` (nothing), `over` (the second last one again), `copy`,
+//! `exchange`, `part` (both parts by the last polygon), and `+`, `*` and `-` of the last two.
 //! `leaf MOST`, `+ MOST`, `* MOST` and `- MOST` ask for the size within a limit. `size`, `nodes` and `holds POINT` ask.
 //!
 //! Facets: `facets MOST` asks how many the last solid has, and keeps them. `planes`, `around AT` (the corners of one), `text`,
@@ -33,9 +37,10 @@ mod numbers;
 mod polygons;
 mod put;
 mod solids;
+mod tables;
 
 use crate::build::Bench;
-use crate::faces::put_joined;
+use crate::faces::{put_edges, put_joined};
 use crate::numbers::{put_meeting, put_point_side, put_sides, put_signs, put_through};
 use case_lines::{Answers, CaseStop, answers_all, cut, found, phrases_of, put_phrases, unfolded};
 use outside_io::{ReadSource, WriteSink};
@@ -50,15 +55,17 @@ enum Question {
     Signs,
     Point,
     Join,
+    Edges,
 }
 
-const QUESTIONS: [(&[u8], Question); 6] = [
+const QUESTIONS: [(&[u8], Question); 7] = [
     (b"through", Question::Through),
     (b"meet", Question::Meet),
     (b"side", Question::Side),
     (b"signs", Question::Signs),
     (b"point", Question::Point),
     (b"join", Question::Join),
+    (b"edges", Question::Edges),
 ];
 
 /// The answer of a question about numbers.
@@ -73,6 +80,7 @@ fn put_about(alloc: Global, out: &mut Vec<u8>, text: &[u8]) -> Result<(), CaseSt
         Question::Signs => put_signs(alloc, out, numbers),
         Question::Point => put_point_side(out, numbers),
         Question::Join => put_joined(alloc, out, numbers),
+        Question::Edges => put_edges(alloc, out, numbers),
     }
 }
 

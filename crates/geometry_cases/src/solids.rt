@@ -2,12 +2,14 @@
 
 use bsp_boolean::{BuildStop, Builder, PlainBuilder, leaf_solid, merge};
 use bsp_partition::partition;
-use bsp_tree::{Solid, exchange, half};
+use bsp_tree::{Forest, Link, Solid, exchange, half};
 use case_lines::{CaseStop, found, put, put_number};
-use case_planes::{Walls, box_walls, slab_walls};
+use case_planes::{Walls, box_walls, high, slab_walls};
 use csg_tree::Op;
 use plane_polygon::Polygon;
+use plane_table::face_of;
 use std::alloc::Global;
+use text_place::NoMemory;
 
 #[derive(Clone, Copy)]
 pub enum Building {
@@ -15,6 +17,8 @@ pub enum Building {
     Leaf,
     Box,
     Slabs,
+    Beyond,
+    Node,
     End,
     Over,
     Copy,
@@ -23,11 +27,13 @@ pub enum Building {
     Join(Op),
 }
 
-const BUILDINGS: [(&[u8], Building); 12] = [
+const BUILDINGS: [(&[u8], Building); 14] = [
     (b"half", Building::Half),
     (b"leaf", Building::Leaf),
     (b"box", Building::Box),
     (b"slabs", Building::Slabs),
+    (b"beyond", Building::Beyond),
+    (b"node", Building::Node),
     (b"end", Building::End),
     (b"over", Building::Over),
     (b"copy", Building::Copy),
@@ -75,6 +81,27 @@ fn slabs(alloc: Global, axis: i64, from: i64, count: i64) -> Result<Solid, CaseS
         at = at.checked_add(2).ok_or(CaseStop::Unread)?;
     }
     Ok(all)
+}
+
+/// What lies beyond so many planes of an axis, one step apart, from a coordinate on: each node is ahead of the one before it.
+fn beyond(alloc: Global, axis: i64, from: i64, count: i64) -> Result<Solid, CaseStop> {
+    let mut all = Solid::leaf(alloc, true);
+    let mut at = from;
+    for _ in 0..count {
+        let plane = high(axis, at).ok_or(CaseStop::Unread)?;
+        let next = exchange(alloc, &half(alloc, &plane)?)?;
+        all = merge(alloc, Op::Intersection, &all, &next)?;
+        at = at.checked_add(1).ok_or(CaseStop::Unread)?;
+    }
+    Ok(all)
+}
+
+/// One node on a polygon: all behind it is inside, and all ahead of it is outside.
+fn node(alloc: Global, polygon: &Polygon) -> Result<Solid, NoMemory> {
+    let own = face_of(alloc, polygon)?;
+    let mut forest = Forest::new(alloc);
+    let id = forest.add(own.face, Link::End(true), Link::End(false))?;
+    Ok(Solid::of_parts(own.planes, forest, Link::To(id)))
 }
 
 /// The size of a solid, or that it is too big.
@@ -193,6 +220,10 @@ impl Solids {
             (Building::Slabs, [axis, from, count]) => {
                 self.put(slabs(alloc, *axis, *from, *count)?)
             }
+            (Building::Beyond, [axis, from, count]) => {
+                self.put(beyond(alloc, *axis, *from, *count)?)
+            }
+            (Building::Node, []) => self.put(node(alloc, by.ok_or(CaseStop::Unread)?)?),
             (Building::End, [is_inside]) => self.put(Solid::leaf(alloc, *is_inside == 1)),
             (Building::Over, []) => self.over(alloc),
             (Building::Copy, []) => self.copy(alloc),
