@@ -7,7 +7,7 @@ use Rattle.std.proofs.lemmas.List.Elements.{All-head, All-push, All-tail}
 use Rattle.plane_predicate.specs.Space.{Coordinates, point_at}
 use Rattle.plane_predicate.proofs.IntegerRing.{mul_comm_ℤ, one_mul, sums}
 use Rattle.int_transform.specs.declared.affine.Affine.{Affine}
-use Rattle.int_transform.specs.Maps.{composed, coordinates, determinant_of, image, map_of, HasSafeCoordinates, LeavesRange}
+use Rattle.int_transform.specs.Maps.{coordinates, determinant_of, image, map_of, HasSafeCoordinates, LeavesRange}
 use Rattle.int_transform.proofs.Images.{image-identity, image-step, determinant-composed}
 use Rattle.int_transform.proofs.Regular.{no_product}
 

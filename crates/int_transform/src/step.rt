@@ -2,7 +2,7 @@
 
 ghost use Rattle.std.specs.Prelude.{◌≡◌, ◌<◌, ◌≤◌, ◌⊎◌, ◌↔◌, ◌*◌, ◌+ℤ◌, ◌*ℤ◌, pos, unsigned_abs, IfSome, IsNone};
 ghost use Rattle.plane_predicate.specs.Space.{point_at, minor};
-ghost use Rattle.int_transform.specs.Maps.{affine_of, coordinates, determinant_of, cosine_of, diagonal as diagonal_of, image, mirroring, moving, quarter_turn, repeated, rotation_of, row_of, scaling, sine_of, HasSafeCoordinates, IsMatrix, IsMatrixRow};
+ghost use Rattle.int_transform.specs.Maps.{affine_of, coordinates, determinant_of, cosine_of, diagonal as diagonal_of, image, mirroring, moving, quarter_turn, repeated, rotation_of, row_of, scaling, sine_of, HasSafeCoordinates, IsMatrix};
 
 use crate::affine::{Affine, Row};
 use crate::sums::safe_value;

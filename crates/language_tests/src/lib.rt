@@ -1,7 +1,9 @@
-//! Tests of the language's public calls that no source shows: scopes and blocks by number, and values that are too long. What
-//! sources show stands in `language_cases`.
+//! Tests of the language's public calls that no source shows: scopes and blocks by number, arguments by number, and values that are
+//! too long. What sources show stands in `language_cases`.
 #![tactic(auto)]
 
+#[cfg(test)]
+mod arguments;
 #[cfg(test)]
 mod blocks;
 #[cfg(test)]

@@ -1,5 +1,5 @@
 -- Two lists that are cut at one place.
-use Rattle.std.proofs.Common.{◌≡◌, ℕ, List, [], ◌∷◌, ◌++◌, length, ap, refl, arith, pred, subst, sym}
+use Rattle.std.proofs.Common.{◌≡◌, List, [], ◌∷◌, ◌++◌, length, refl, arith, subst, sym}
 use Rattle.pair_work.specs.Pairs.{EachReady, EachWorked}
 
 module _ {A B : Type 0} (P : A → B → Type 0) where

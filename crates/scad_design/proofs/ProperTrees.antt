@@ -9,7 +9,7 @@ use Rattle.shape_planes.specs.Placing.{moved, MeetsReach}
 use Rattle.shape_planes.proofs.Distinct.{some_distinct}
 use Rattle.shape_planes.proofs.Transforms.{planes_meet_reach}
 use Rattle.csg_tree.specs.declared.op.Op.{Op}
-use Rattle.csg_tree.specs.Formulas.{Formula, nothing, leaf}
+use Rattle.csg_tree.specs.Formulas.{Formula, leaf}
 use Rattle.csg_tree.specs.Joins.{join_of}
 use Rattle.csg_tree.specs.ProperTrees.{subtrees, IsProper}
 use Rattle.scad_design.specs.Designs.{Design, empty, a_part, joined, Part}

@@ -1,6 +1,6 @@
 //! The trees of designs in world position.
 
-ghost use Rattle.std.specs.Prelude.{◌≡◌, ◌<◌, ◌≤◌, ◌^◌, All, IfOk, IfErr, OnOk, length, []};
+ghost use Rattle.std.specs.Prelude.{◌<◌, ◌≤◌, ◌^◌, All, IfOk, IfErr, OnOk, length, []};
 ghost use Rattle.shape_planes.specs.Shapes.{IsFace};
 ghost use Rattle.shape_planes.specs.Placing.{moved, ArePlanesOf, MeetsReach};
 ghost use Rattle.int_transform.specs.Maps.{map_of};
@@ -19,7 +19,7 @@ use indexmap::IndexSet;
 use plane_predicate::Plane;
 use shape_planes::ShapeStop;
 use std::alloc::Global;
-use text_place::{Fault, FaultKind, Stop};
+use text_place::{FaultKind, Stop};
 
 // The most distinct planes, up to orientation.
 const PLANES: usize = 1024;
@@ -71,10 +71,7 @@ fn place_part(alloc: Global, known: &mut IndexSet<PlaneKey>, part: &Part) -> Res
     let planes = planes_of(alloc, part)?;
     add_planes(known, &planes)?;
     if known.len() > PLANES {
-        return Err(Stop::Fault(Fault {
-            kind: FaultKind::TooManyPlanes,
-            place: part.place(),
-        }));
+        return Err(FaultKind::TooManyPlanes.at(part.place()));
     }
     Ok(CsgTree::Leaf(Planes::of(planes)))
 }
@@ -92,9 +89,6 @@ fn planes_of(alloc: Global, part: &Part) -> Result<Vec<Plane>, Stop>
     match shape_planes::place(alloc, part.shape(), part.steps()) {
         Ok(planes) => Ok(planes),
         Err(ShapeStop::NoMemory) => Err(Stop::NoMemory),
-        Err(ShapeStop::Kind(kind)) => Err(Stop::Fault(Fault {
-            kind,
-            place: part.place(),
-        })),
+        Err(ShapeStop::Kind(kind)) => Err(kind.at(part.place())),
     }
 }

@@ -28,7 +28,7 @@ use scad_modules::{BuiltinModule, Effect, builtin_module};
 use scad_pieces::{
     InstanceResult, NumberedBody, Position, arguments_for, effect_of, silent, unknown,
 };
-use scad_scope::{GivenArguments, fault_at};
+use scad_scope::GivenArguments;
 use scad_value::Value;
 use text_place::{Place, Stop};
 
@@ -49,7 +49,7 @@ impl InstanceEvaluator<'_, '_> {
         ensures stays { OnOk result (Stays self.old self.new) }
     {
         match builtin_module(name) {
-            None => Err(fault_at(unknown(name), place)),
+            None => Err(unknown(name).at(place)),
             Some(built_in) => {
                 let given = arguments_for(&mut self.evaluation, position.scope, built_in, args)?;
                 self.built_in_made(position, place, built_in, given, body)
@@ -156,7 +156,7 @@ impl InstanceEvaluator<'_, '_> {
         ensures stays { OnOk result (Stays self.old self.new) }
     {
         match size_fault(&[through.height], through.center, self.unit) {
-            Some(kind) => Err(fault_at(kind, place)),
+            Some(kind) => Err(kind.at(place)),
             None => self.body(Op::Union, position.inside_extrusion(through), body),
         }
     }

@@ -19,7 +19,6 @@ use scad_pieces::{
     InstanceResult, MemberResults, NumberedBody, NumberedInstance, Position, is_child, is_marked,
     no_members, nothing_made, set_apart, with_made,
 };
-use scad_scope::fault_at;
 use scad_value::truth;
 use text_place::{FaultKind, Stop};
 
@@ -59,7 +58,7 @@ impl InstanceEvaluator<'_, '_> {
             return self.core(position, instance);
         }
         if position.inside.is_some() {
-            return Err(fault_at(FaultKind::WrongDimension, instance.instance.core.place()));
+            return Err(FaultKind::WrongDimension.at(instance.instance.core.place()));
         }
         if position.under_mark {
             return self.core(position, instance);

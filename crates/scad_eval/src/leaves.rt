@@ -15,7 +15,6 @@ use scad_design::{Design, Part};
 use scad_meaning::Extrusion;
 use scad_modules::{FlatShape, SolidShape};
 use scad_pieces::{InstanceResult, Position, design_hull, flat_shape, is_nothing, solid_shape};
-use scad_scope::fault_at;
 use shape_planes::{Shape, ShapeStop};
 use text_place::{FaultKind, Place, Stop};
 
@@ -49,7 +48,7 @@ impl InstanceEvaluator<'_, '_> {
         ensures stays { Stays self.old self.new }
     {
         match position.inside {
-            None => Err(fault_at(FaultKind::WrongDimension, place)),
+            None => Err(FaultKind::WrongDimension.at(place)),
             Some(through) => self.flat_through(place, through, shape),
         }
     }
@@ -110,7 +109,7 @@ impl InstanceEvaluator<'_, '_> {
         ensures stays { Stays self.old self.new }
     {
         if self.leaves == LEAVES {
-            return Err(fault_at(FaultKind::TooManyParts, place));
+            return Err(FaultKind::TooManyParts.at(place));
         }
         self.leaves += 1;
         Ok(InstanceResult {
@@ -125,7 +124,7 @@ fn stop_at(stop: ShapeStop, place: Place) -> Stop
     ensures { IsStopAt stop place result }
 {
     match stop {
-        ShapeStop::Kind(kind) => fault_at(kind, place),
+        ShapeStop::Kind(kind) => kind.at(place),
         ShapeStop::NoMemory => Stop::NoMemory,
     }
 }

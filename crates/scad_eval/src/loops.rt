@@ -19,7 +19,6 @@ use scad_pieces::{
     InstanceResult, Items, MemberResults, NumberedBody, Position, joined, no_members, with_made,
     with_members,
 };
-use scad_scope::fault_at;
 use scad_value::Value;
 use text_place::{FaultKind, Place, Stop};
 
@@ -71,7 +70,7 @@ impl InstanceEvaluator<'_, '_> {
                     Some(items) => {
                         self.each_item(position, place, binder.name.items(), rest, body, items)
                     }
-                    None => Err(fault_at(FaultKind::TypeMismatch, place)),
+                    None => Err(FaultKind::TypeMismatch.at(place)),
                 }
             }
         }

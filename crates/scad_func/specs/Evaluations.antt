@@ -44,7 +44,8 @@ pub record Keeps (old new : Evaluation) : Type 0 where
   pub same : (scope : ℕ) → setting new scope ≡ setting old scope
 
 -- What a function of the evaluator does in a scope: what it gives, as it is seen, is what its meaning gives there behind
--- the turns so far, or its stop is the meaning's fault; and all but the turns is as before, after a fault too.
+-- the turns so far, or its stop is the meaning's fault, unless memory ran out; and all but the turns is as before, after
+-- a stop too.
 pub record EvaluatesTo {A B : Type 0} (see : A → B) (old new : Evaluation) (scope : ℕ) (result : Result A Stop)
     (meaning : Setting → ℕ → Outcome B) : Type 0 where
   pub value : TellsAs see result new.turns (meaning (setting old scope) old.turns)
@@ -117,7 +118,7 @@ pub record ValuesFit (params : List Param) (values : List Value) : Type 0 where
   pub count : length values ≡ length params
   pub bounded : IsTrue (are_bounded (vals_in values))
 
--- arguments that fit a function's parameters
+-- arguments that fit a function's parameters, each value of them bounded
 pub record ArgumentsFit (function : FunctionLent) (given : GivenArguments Value) : Type 0 where
   pub count : length given.slots.items ≡ length function.params.now.items.items
   pub bounded : IsTrue (arguments_bounded (arguments_of given))

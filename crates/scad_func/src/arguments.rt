@@ -14,7 +14,7 @@ ghost use Rattle.scad_func.specs.View.{TellsAs, IsNoMemory, specials_in};
 
 use scad_ast::{Arg, Args, Expr};
 use scad_builtin::{Builtin, builtin, is_left_out};
-use scad_scope::{Scopes, SpecialArgument, fault_at};
+use scad_scope::{Scopes, SpecialArgument};
 use scad_value::Value;
 use std::alloc::Global;
 use text_place::{FaultKind, Place, Stop};
@@ -83,10 +83,10 @@ pub(crate) fn built_in_for(name: &[u8], place: Place, args: &Args) -> Result<Bui
     ensures refused { IfErr result (λ stop. (here : Setting) (turns n : ℕ) → TellsAs bounded_val (Err stop) n (built_in here place name.now (args_from (args_of args.now)) turns (builtin_of name.now))) }
 {
     let Some(function) = builtin(name) else {
-        return Err(fault_at(unknown(name), place));
+        return Err(unknown(name).at(place));
     };
     if !have_no_names(args) || !function.takes(args.items.len()) {
-        return Err(fault_at(FaultKind::BadArgument, place));
+        return Err(FaultKind::BadArgument.at(place));
     }
     Ok(function)
 }

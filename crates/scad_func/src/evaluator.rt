@@ -29,7 +29,7 @@ use crate::held::{value_alone, with};
 use crate::limits::{CALLS, EVALUATIONS, TURNS};
 use crate::values::BoundedValues;
 use scad_ast::{Args, Expr, Exprs, Link, Links, Param, Params, Suffix, Suffixes, UnaryOp};
-use scad_scope::{ArgumentsSoFar, Function, GivenArguments, Names, fault_at, positional_after};
+use scad_scope::{ArgumentsSoFar, Function, GivenArguments, Names, positional_after};
 use scad_value::{BoundedValue, Value};
 use std::mem;
 use text_place::{FaultKind, Place, Stop};
@@ -67,7 +67,7 @@ impl Evaluation<'_, '_> {
         if let Value::List(_) = &value.value {
             let turns = self.turns + value.value.parts();
             if turns > TURNS {
-                return Err(fault_at(FaultKind::TooManyTurns, place));
+                return Err(FaultKind::TooManyTurns.at(place));
             }
             self.turns = turns;
         }
@@ -81,7 +81,7 @@ impl Evaluation<'_, '_> {
         ensures { EvaluatesTo bounded_val self.old self.new scope result (λ here. value_at here false (term_of expr.now)) }
     {
         if self.depth == EVALUATIONS {
-            return Err(fault_at(FaultKind::TooDeep, expr.place()));
+            return Err(FaultKind::TooDeep.at(expr.place()));
         }
         self.depth += 1;
         let value = self.operand(scope, expr);
@@ -451,10 +451,10 @@ impl Evaluation<'_, '_> {
             TellsAs bounded_val (Err stop) n (one_call_fewer (64 - self.now.calls) place (λ calls. turn place self.now.turns (go calls)))) }
     {
         if self.calls == CALLS {
-            return Err(fault_at(FaultKind::TooDeep, place));
+            return Err(FaultKind::TooDeep.at(place));
         }
         if self.turns == TURNS {
-            return Err(fault_at(FaultKind::TooManyTurns, place));
+            return Err(FaultKind::TooManyTurns.at(place));
         }
         Ok(())
     }

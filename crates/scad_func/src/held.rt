@@ -34,7 +34,7 @@ pub fn with_next<T: Drop>(items: Vec<T>, next: Result<T, Stop>) -> Result<Vec<T>
     }
 }
 
-/// The value alone, without its type, where there is one.
+/// The value without the type that keeps it bounded, where there is one.
 pub(crate) fn value_alone(given: Result<BoundedValue, Stop>) -> Result<Value, Stop>
     ensures { IsAlone given result }
 {

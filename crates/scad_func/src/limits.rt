@@ -4,7 +4,6 @@ ghost use Rattle.scad_scope.specs.ArgumentsView.{IsFault};
 ghost use Rattle.scad_func.specs.Evaluations.{Keeps, CallBegins, EvaluationBegins};
 
 use crate::evaluation::Evaluation;
-use scad_scope::fault_at;
 use text_place::{FaultKind, Place, Stop};
 
 /// The most calls in one another.
@@ -24,7 +23,7 @@ impl Evaluation<'_, '_> {
         ensures kept { Keeps self.old self.new }
     {
         if self.turns == TURNS {
-            return Err(fault_at(FaultKind::TooManyTurns, place));
+            return Err(FaultKind::TooManyTurns.at(place));
         }
         self.turns += 1;
         Ok(())
@@ -37,7 +36,7 @@ impl Evaluation<'_, '_> {
         ensures turns { self.new.turns ≡ self.old.turns }
     {
         if self.calls == CALLS {
-            return Err(fault_at(FaultKind::TooDeep, place));
+            return Err(FaultKind::TooDeep.at(place));
         }
         self.calls += 1;
         Ok(())
@@ -59,7 +58,7 @@ impl Evaluation<'_, '_> {
         ensures turns { self.new.turns ≡ self.old.turns }
     {
         if self.depth == EVALUATIONS {
-            return Err(fault_at(FaultKind::TooDeep, place));
+            return Err(FaultKind::TooDeep.at(place));
         }
         self.depth += 1;
         Ok(())

@@ -1,9 +1,8 @@
 -- The place of a source's first fault is that of one of its bytes.
-use Rattle.std.proofs.Common.{◌≡◌, ℕ, zero, suc, ◌+◌, ◌-◌, ◌<◌, ◌≤◌, ◌^◌, List, [], ◌∷◌, ◌++◌, length, take, drop, Bool, true, false, cond, Option, Some, None, Result, Ok, Err, ◌⊎◌, inl, inr, refl, sym, ap, ◌∙◌, subst, arith, nat_eq, nat_lt, append_assoc, IfErr, length-take-le, length-drop}
+use Rattle.std.proofs.Common.{◌≡◌, ℕ, suc, ◌+◌, ◌-◌, ◌<◌, ◌≤◌, ◌^◌, List, [], ◌∷◌, ◌++◌, length, take, drop, Bool, true, false, cond, Option, Some, None, Result, Ok, Err, ◌⊎◌, inl, inr, refl, sym, ap, ◌∙◌, subst, arith, nat_eq, nat_lt, append_assoc, IfErr, length-take-le, length-drop}
 use Rattle.std.proofs.lemmas.List.{take-append-drop}
 use Rattle.std.specs.Global.{Vec}
 use Rattle.text_place.specs.declared.fault.Place.{Place}
-use Rattle.text_place.specs.declared.fault.FaultKind.{FaultKind}
 use Rattle.text_place.specs.declared.fault.Stop.{Stop}
 use Rattle.text_place.specs.declared.fault.Stop.TheVariants.{Fault as StopFault, NoMemory}
 use Rattle.scad_lexer.specs.declared.token.Token.{Token as TokenIn}
@@ -12,7 +11,7 @@ use Rattle.scad_lexer.specs.declared.word.Word.{Word}
 use Rattle.scad_lexer.specs.declared.word.Word.TheVariants.{Blank as BlankWord, OpenComment, Name, Special, Numeral, NumeralAndLetter, Text, OpenText, Symbol}
 use Rattle.scad_lexer.specs.declared.meaning.Meaning.{Meaning}
 use Rattle.scad_lexer.specs.declared.meaning.Meaning.TheVariants.{Blank, Token, Fault}
-use Rattle.scad_lexer.specs.Words.{has, digit, run_of, word_of}
+use Rattle.scad_lexer.specs.Words.{has, digit, run_of}
 use Rattle.scad_lexer.specs.Tokens.{zero_fraction, number_from, bounded, numeral_of, or_letter, escape_at, with_byte, with_escape, decoded, decoded_escape, inside, text_from, meaning_of, moved, Outcome, Gives, Faults, in_front, tokens_at, IsEnd, IsStray, IsFaulty, Piece, Reads, IsFault, IsPlaceOfByteFrom, StandsAtByte}
 use Rattle.scad_lexer.proofs.Lengths.{some_bytes}
 

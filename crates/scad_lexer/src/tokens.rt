@@ -8,7 +8,7 @@ use crate::scan::{lone_symbol, longest_word};
 use crate::token::{Token, TokenKind};
 use crate::word::Word;
 use std::alloc::Global;
-use text_place::{Fault, FaultKind, NoMemory, Place, Stop};
+use text_place::{FaultKind, NoMemory, Place, Stop};
 
 /// The tokens of a source with fewer than 2^32 - 1 bytes, the last of which is `End`, or its first
 /// fault: `BadCharacter`, `OpenComment`, `OpenText`, `NotWhole` or `TooLarge`.
@@ -63,10 +63,7 @@ fn read_tokens(alloc: Global, text: &[u8]) -> Result<Vec<Token>, Stop>
             continue;
         }
         let Some((word, bytes)) = longest_word(rest) else {
-            return Err(Stop::Fault(Fault {
-                kind: FaultKind::BadCharacter,
-                place,
-            }));
+            return Err(FaultKind::BadCharacter.at(place));
         };
         push_word(alloc, &mut tokens, place, word, rest, bytes)?;
         place = advance(place, &rest[..bytes]);
@@ -97,10 +94,7 @@ fn push_word(
             push_token(tokens, kind, place)?;
             Ok(())
         }
-        Meaning::Fault(kind, before) => Err(Stop::Fault(Fault {
-            kind,
-            place: advance(place, &text[..before]),
-        })),
+        Meaning::Fault(kind, before) => Err(kind.at(advance(place, &text[..before]))),
     }
 }
 

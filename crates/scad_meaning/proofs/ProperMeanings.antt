@@ -16,7 +16,7 @@ use Rattle.scad_design.specs.Placing.{Placed, placed, unplaced, Places}
 use Rattle.scad_design.specs.Trees.{parts_in, pieces_in, IsPlacedAs, IsSound, IsTrim}
 use Rattle.scad_meaning.specs.Verdicts.{Judge, IsRight}
 use Rattle.scad_meaning.specs.Meaning.{design_of}
-use Rattle.scad_meaning.specs.Sources.{a_tree, a_fault, IsMeaning, IsMeaningOf, IsMeaningOfDesign}
+use Rattle.scad_meaning.specs.Sources.{a_tree, IsMeaning, IsMeaningOf, IsMeaningOfDesign}
 use Rattle.scad_meaning.proofs.HeldPlaces.{Keeps}
 use Rattle.scad_meaning.proofs.InstancePlaces.{DesignHeld}
 use Rattle.scad_meaning.proofs.Parts.{design_small}

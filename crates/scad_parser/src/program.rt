@@ -17,7 +17,7 @@ use scad_grammar::SyntaxFault;
 use scad_lexer::Token;
 use scad_tokens::{Class, Parsed, Stopped, not_expected, take};
 use std::alloc::Global;
-use text_place::{Fault, FaultKind, Place, Stop};
+use text_place::{FaultKind, Place, Stop};
 
 // One more than the most that a token may be deep.
 const DEPTH: u32 = 65;
@@ -54,10 +54,7 @@ fn read_program(alloc: Global, tokens: &[Token]) -> Result<Program, Stop>
 {
     match program(alloc, tokens) {
         Ok((statements, _)) => Ok(Program { statements }),
-        Err(Stopped::Fault(fault, at)) => Err(Stop::Fault(Fault {
-            kind: kind_of(fault),
-            place: place_of(at),
-        })),
+        Err(Stopped::Fault(fault, at)) => Err(kind_of(fault).at(place_of(at))),
         Err(Stopped::NoMemory) => Err(Stop::NoMemory),
     }
 }

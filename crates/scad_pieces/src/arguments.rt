@@ -26,7 +26,7 @@ use plane_predicate::Unit;
 use scad_ast::{Arg, Args, Body};
 use scad_func::{Evaluation, with};
 use scad_modules::{BuiltinModule, Effect, effect, is_left_out};
-use scad_scope::{ArgumentsSoFar, GivenArguments, Names, fault_at};
+use scad_scope::{ArgumentsSoFar, GivenArguments, Names};
 use scad_value::{Value, ValueStop};
 use text_place::{FaultKind, Place, Stop};
 
@@ -51,7 +51,7 @@ pub fn effect_of(
     let inside = position.inside.is_some();
     match effect(evaluation.alloc, unit, inside, fragments, built_in, &slots) {
         Ok(effect) => Ok(effect),
-        Err(ValueStop::Kind(kind)) => Err(fault_at(kind, place)),
+        Err(ValueStop::Kind(kind)) => Err(kind.at(place)),
         Err(ValueStop::NoMemory) => Err(Stop::NoMemory),
     }
 }
@@ -139,5 +139,5 @@ pub fn silent(place: Place, body: &Body) -> Result<InstanceResult, Stop>
     if is_bare(body) {
         return Ok(nothing_made());
     }
-    Err(fault_at(FaultKind::NotInProfile, place))
+    Err(FaultKind::NotInProfile.at(place))
 }

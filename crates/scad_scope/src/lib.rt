@@ -15,7 +15,6 @@ mod text;
 mod walk;
 
 pub use blocks::Blocks;
-pub use fault::fault_at;
 pub use parameters::{
     Destination, GivenArguments, Matching, Names, SpecialArgument, arguments, has_special, name_of,
     positional_after,

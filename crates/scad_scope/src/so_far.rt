@@ -4,7 +4,6 @@ ghost use Rattle.newest_names.specs.Names.{newest_first};
 ghost use Rattle.scad_scope.specs.ArgumentsView.{names_in, special_pairs};
 ghost use Rattle.scad_scope.specs.Lookup.{names_told, numbered_from};
 
-use crate::fault::fault_at;
 use crate::lookup::{NameIndex, are_many, index_of};
 use crate::parameters::{
     Destination, GivenArguments, Names, argument_place, count_of, first_named, free_parameter,
@@ -64,7 +63,7 @@ impl<'n, 'a, T: Drop> ArgumentsSoFar<'n, 'a, T> {
     {
         match self.free_destination(positional, arg) {
             Some(destination) => Ok(destination),
-            None => Err(fault_at(FaultKind::BadArgument, argument_place(arg))),
+            None => Err(FaultKind::BadArgument.at(argument_place(arg))),
         }
     }
 

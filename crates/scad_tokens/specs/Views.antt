@@ -25,7 +25,7 @@ abbrev pub IsStop : Stopped → SyntaxFault → List Token → Type 0
 IsStop (Fault fault at) wanted tokens = (fault ≡ wanted) × (at.now ≡ tokens)
 IsStop NoMemory wanted tokens = ⊥
 
--- what was read and the tokens behind it, or the fault, with nothing left out
+-- what was read, and the tokens behind it
 abbrev pub plain : {A : Type 0} → A × Bor (List Token) → A × List Token
 plain p = (p.0, p.1.now)
 

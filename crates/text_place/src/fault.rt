@@ -95,6 +95,15 @@ pub enum Stop {
     NoMemory,
 }
 
+impl FaultKind {
+    /// A fault of this kind at a place, which stops what asked. Takes no memory.
+    pub fn at(self, place: Place) -> Stop
+        ensures { result ≡ Stop.Fault (record { kind = self; place = place }) }
+    {
+        Stop::Fault(Fault { kind: self, place })
+    }
+}
+
 /// The name of a kind, as it is printed.
 pub fn word(kind: FaultKind) -> &'static str
     ensures { result.now ≡ word_of kind }

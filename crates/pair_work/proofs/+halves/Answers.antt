@@ -1,6 +1,5 @@
-use Rattle.std.proofs.Common.{rules, arith, ◌≡◌, length, ◌/◌, ◌≤◌, sym, subst, List, ◌++◌, ◌∙◌, ap}
-use Rattle.pair_work.specs.Pairs.{EachReady, EachWorked}
-use Rattle.pair_work.proofs.Halves.{ready_length, ready_apart, ready_at, worked_together, worked_at}
+use Rattle.std.proofs.Common.{arith, sym, ◌∙◌}
+use Rattle.pair_work.proofs.Halves.{ready_length, ready_at, worked_at}
 use Rattle.pair_work.proofs.+halves.Goals as goal
 
 pub work_each-split_at_mut-left-requires : goal.work_each-split_at_mut-left-requires

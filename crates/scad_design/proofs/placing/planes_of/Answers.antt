@@ -22,7 +22,7 @@ returns-in-Err-Kind-clause-stop c =
     let stop : IsPlacingStop (Kind c.in-Err-Kind.kind) = search rules in
     let is : c.place.result ≡ Err (Kind c.in-Err-Kind.kind) = search rules in
     let steps = c.steps.result.now in
-    let mesh = c.args.part.now.mesh in (
+    let mesh = c.args.part.now.mesh in rw (c.at.ensures) (
       λ known. range_fault c.args.part.now known c.in-Err-Kind.kind stop
           (λ e. subst (λ (s : List Affine). Leaves s mesh) c.steps.ensures (subst (Leaves steps) c.shape.ensures (c.place.ensures.too_large (is ∙ ap (λ (k : FaultKind). Err (Kind k)) e))))
           (λ e. subst (λ (s : List Affine). EndsFar s mesh) c.steps.ensures (subst (EndsFar steps) c.shape.ensures (c.place.ensures.out_of_range (is ∙ ap (λ (k : FaultKind). Err (Kind k)) e)))),

@@ -21,7 +21,7 @@ returns-clause-called c = λ here turns.
     c.in-Some.function true (sym c.if-not-have_no_names.ensures) taken
 
 pub returns-then-not-have_no_names-clause-refused : goal.returns-then-not-have_no_names-clause-refused
-returns-then-not-have_no_names-clause-refused c = λ here turns k. rw (c.fault_at-then-not-have_no_names.ensures)
+returns-then-not-have_no_names-clause-refused c = λ here turns k. rw (c.at-then-not-have_no_names.ensures)
     (ap (λ o. built_in here c.args.place c.args.name.now (args_from (args_of c.args.args.now)) turns o)
     (sym c.in-Some.ensures) ∙ elim
     c.then-not-have_no_names.branch [

@@ -52,4 +52,4 @@ pub returns-clause-found : goal.returns-clause-found
 returns-clause-found c = rw c.in_ok-push_token-2.ensures (goes_end c.args.text.now c.words.tokens.items c.words.place c.words.rest.now c.words.invariant.told (eqb-true _ _ (sym c.words-test.ensures)))
 
 pub returns-in_default-longest_word-clause-fault : goal.returns-in_default-longest_word-clause-fault
-returns-in_default-longest_word-clause-fault c = c.words.invariant.told (Faults BadCharacter c.words.place) (stray c.words.place c.words.rest.now (search rules) c.in_default-longest_word.ensures.none)
+returns-in_default-longest_word-clause-fault c = rw c.at.ensures (c.words.invariant.told (Faults BadCharacter c.words.place) (stray c.words.place c.words.rest.now (search rules) c.in_default-longest_word.ensures.none))

@@ -69,7 +69,7 @@ evaluate-returns t c =
 
 pub deeper-returns-then-self-eq-EVALUATIONS : goal.deeper-returns-then-self-eq-EVALUATIONS
 deeper-returns-then-self-eq-EVALUATIONS t c = record {
-  value = rw (c.fault_at.ensures) (evaluated_too_deep _ _ _ _ _ _ c.if-self-eq-EVALUATIONS.true ∙ ap (λ p. Faults TooDeep p) (sym c.place.ensures));
+  value = rw (c.at.ensures) (evaluated_too_deep _ _ _ _ _ _ c.if-self-eq-EVALUATIONS.true ∙ ap (λ p. Faults TooDeep p) (sym c.place.ensures));
   kept = keeps_same _;
 }
 
