@@ -220,3 +220,10 @@ after_next k i h = elim (eqb (suc i) k) as (λ b. eqb (suc i) k ≡ b → cond b
   | true ↦ λ e. absurd (let n : suc i ≡ k = eqb-true (suc i) k e in omega arith)
   | false ↦ λ e. omega arith
 ] refl
+
+-- and that of the last one is the first
+pub after_last : (k i : ℕ) → i + 1 ≡ k → after k i ≡ 0
+after_last k i h = elim (eqb (suc i) k) as (λ b. eqb (suc i) k ≡ b → cond b 0 (suc i) ≡ 0) [
+  | true ↦ λ e. refl
+  | false ↦ λ e. absurd (let m : suc i ≢ k = eqb-false (suc i) k e in m (omega arith))
+] refl

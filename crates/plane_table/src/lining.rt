@@ -1,16 +1,15 @@
 //! The sides of a face's corners by the line in which its plane meets another one.
 
-ghost use Rattle.std.specs.Prelude.{◌≡◌, ◌<◌, length, map, get_or, All, IfOk, IfSome};
+ghost use Rattle.std.specs.Prelude.{◌≡◌, map, IfOk, IfSome};
 ghost use Rattle.plane_predicate.specs.Space.{Coefficients};
-ghost use Rattle.plane_line.specs.Lines.{IsAxisOf, IsPlaceOf};
-ghost use Rattle.plane_polygon.specs.Polygons.{after};
+ghost use Rattle.plane_line.specs.Lines.{IsAxisOf};
 ghost use Rattle.plane_polygon.specs.Parts.{class_of, corners};
 ghost use Rattle.plane_table.specs.Tables.{named, AreNumbersSmall, IsNumberIn};
 ghost use Rattle.plane_table.specs.Faces.{outline_of, side_against, AreSidesOf, IsFaceOver};
 
 use crate::sorting::{CornerList, corner_on, either};
 use crate::{CornerSides, Face, PlaneTable};
-use plane_line::{Line, Place, line_of, place_on, side_between};
+use plane_line::{Line, line_of, place_on, side_between};
 use plane_polygon::{Class, class_from};
 use smallvec::SmallVec;
 use std::alloc::Global;
@@ -54,14 +53,18 @@ fn class_along(table: &PlaneTable, face: &Face, line: &Line) -> Class
     let mut some_ahead = false;
     let first = place_on(line, table.plane(edges[0]));
     let mut ends = first;
-    for i in 0..edges.len() {
-        let begins = next_place(table, edges, i, line, first);
+    for i in 0..edges.len() - 1 {
+        let begins = place_on(line, table.plane(edges[i + 1]));
         let side = side_between(ends, begins);
         some_behind = either(some_behind, side.is_behind());
         some_ahead = either(some_ahead, side.is_ahead());
         ends = begins;
     }
-    class_from(some_behind, some_ahead)
+    let last = side_between(ends, first);
+    class_from(
+        either(some_behind, last.is_behind()),
+        either(some_ahead, last.is_ahead()),
+    )
 }
 
 /// The sides of the corners of a face against a plane that meets its own in a line.
@@ -76,28 +79,14 @@ fn corners_along(
     ensures { IfOk result (λ r. (m : Coefficients) → IsAxisOf (named table.now face.now.plane) m line.now → r.items ≡ map (side_against m) (corners (outline_of table.now face.now))) }
 {
     let edges = face.edges.numbers();
-    let mut found = SmallVec::new(alloc);
+    let mut found = SmallVec::with_capacity(alloc, edges.len())?;
     let first = place_on(line, table.plane(edges[0]));
     let mut ends = first;
-    for i in 0..edges.len() {
-        let begins = next_place(table, edges, i, line, first);
-        found.push(corner_on(side_between(ends, begins)))?;
+    for i in 0..edges.len() - 1 {
+        let begins = place_on(line, table.plane(edges[i + 1]));
+        found.push_reserved(corner_on(side_between(ends, begins)));
         ends = begins;
     }
+    found.push_reserved(corner_on(side_between(ends, first)));
     Ok(found)
-}
-
-/// The place of the edge after edge `i`, where that of the first one is known.
-fn next_place(table: &PlaneTable, edges: &[u32], i: usize, line: &Line, first: Place) -> Place
-    requires index { i < length edges.now }
-    requires edges { All (IsNumberIn table.now) edges.now }
-    requires small { AreNumbersSmall table.now }
-    requires first { IsPlaceOf (named table.now (get_or edges.now 0 0)) line.now first }
-    ensures { IsPlaceOf (named table.now (get_or edges.now (after (length edges.now) i) 0)) line.now result }
-{
-    if i + 1 == edges.len() {
-        first
-    } else {
-        place_on(line, table.plane(edges[i + 1]))
-    }
 }

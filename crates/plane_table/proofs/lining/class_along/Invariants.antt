@@ -1,4 +1,4 @@
-use Rattle.std.proofs.Common.{◌≡◌, ◌<◌, length, get_or, map}
+use Rattle.std.proofs.Common.{◌≡◌, get_or, map}
 use Rattle.plane_predicate.specs.Space.{Coefficients}
 use Rattle.plane_line.specs.Lines.{IsAxisOf, IsPlaceOf}
 use Rattle.plane_polygon.specs.Polygons.{corner}
@@ -11,5 +11,5 @@ abbrev pub invariant-loop-i : goal.invariant-loop-i
 invariant-loop-i l = record {
   behind : (m : Coefficients) → IsAxisOf (named l.table l.face.plane) m l.line → l.some_behind ≡ some_of (is_behind m) (map (corner (outline_of l.table l.face)) (up_to l.i));
   ahead : (m : Coefficients) → IsAxisOf (named l.table l.face.plane) m l.line → l.some_ahead ≡ some_of (is_ahead m) (map (corner (outline_of l.table l.face)) (up_to l.i));
-  ends : l.i < length l.face.edges → IsPlaceOf (named l.table (get_or l.face.edges l.i 0)) l.line l.ends;
+  ends : IsPlaceOf (named l.table (get_or l.face.edges l.i 0)) l.line l.ends;
 }

@@ -1,4 +1,4 @@
-use Rattle.std.proofs.Common.{◌≡◌, ◌<◌, length, get_or, map}
+use Rattle.std.proofs.Common.{◌≡◌, ◌≤◌, length, get_or, map}
 use Rattle.plane_predicate.specs.Space.{Coefficients}
 use Rattle.plane_line.specs.Lines.{IsAxisOf, IsPlaceOf}
 use Rattle.plane_polygon.specs.Polygons.{corner}
@@ -10,5 +10,7 @@ use Rattle.plane_table.proofs.lining.corners_along.Given as goal
 abbrev pub invariant-loop-i : goal.invariant-loop-i
 invariant-loop-i l = record {
   found : (m : Coefficients) → IsAxisOf (named l.table l.face.plane) m l.line → l.found.items ≡ map (λ i. side_against m (corner (outline_of l.table l.face) i)) (up_to l.i);
-  ends : l.i < length l.face.edges → IsPlaceOf (named l.table (get_or l.face.edges l.i 0)) l.line l.ends;
+  ends : IsPlaceOf (named l.table (get_or l.face.edges l.i 0)) l.line l.ends;
+  count : length l.found.items ≡ l.i;
+  room : length l.face.edges ≤ l.found.capacity;
 }
