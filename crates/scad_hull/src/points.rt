@@ -9,6 +9,9 @@ use std::alloc::{AllocError, Global};
 use std::cmp::Ordering;
 use text_place::FaultKind;
 
+// How many different points a hull has at most.
+const POINTS: usize = 128;
+
 /// The different points in ascending order of x, then y, then z. `LongList` comes exactly where
 /// there are more than 128 of them.
 pub fn different_points(alloc: Global, points: &[[i64; 3]]) -> Result<Vec<[i64; 3]>, ShapeStop>
@@ -19,7 +22,7 @@ pub fn different_points(alloc: Global, points: &[[i64; 3]]) -> Result<Vec<[i64; 
     let mut found = Vec::new(alloc);
     for point in points {
         put_point(&mut found, *point)?;
-        if found.len() > 128 {
+        if found.len() > POINTS {
             return Err(ShapeStop::Kind(FaultKind::LongList));
         }
     }

@@ -9,7 +9,7 @@ use crate::word::Word;
 use compact_bytes::CompactBytes;
 use std::alloc::Global;
 use text_place::{FaultKind, NoMemory};
-use whole_numeral::Numeral;
+use whole_numeral::{Numeral, TOO_LARGE};
 
 /// What a word stands for.
 #[derive(Drop)]
@@ -124,7 +124,7 @@ fn number(digits: &[u8]) -> Option<Numeral>
     let mut number: u64 = 0;
     for digit in digits {
         number = number * 10 + u64::from(digit.saturating_sub(b'0'));
-        if number >= 1 << 53 {
+        if number >= TOO_LARGE {
             return None;
         }
     }

@@ -4,6 +4,7 @@ ghost use Rattle.scad_value.specs.Operators.{sized as sized_at, by_parts as by_p
 ghost use Rattle.scad_value.specs.View.{val_of, vals_of, Tells, TellsAll};
 ghost use Rattle.scad_value.specs.Rows.{pair_row, part_row};
 
+use crate::limits::TOO_LARGE;
 use crate::stop::ValueStop;
 use crate::value::{Value, Values};
 use std::alloc::Global;
@@ -29,7 +30,7 @@ pub(crate) enum PartRow {
 pub fn sized(n: i128) -> Result<i64, FaultKind>
     ensures { result ≡ sized_at n }
 {
-    if n.unsigned_abs() < 1 << 53 {
+    if n.unsigned_abs() < u128::from(TOO_LARGE) {
         Ok(n as i64)
     } else {
         Err(FaultKind::TooLarge)

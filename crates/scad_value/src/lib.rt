@@ -4,6 +4,7 @@
 mod arithmetic;
 mod bounded_value;
 mod compare;
+mod limits;
 mod operator;
 mod stop;
 mod value;

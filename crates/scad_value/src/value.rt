@@ -2,6 +2,7 @@ ghost use Rattle.std.specs.Prelude.{◌≡◌, ◌-◌, ◌^◌, min, IfOk};
 ghost use Rattle.scad_value.specs.Values.{parts_of, parts_in, nesting_of, nesting_in, truth_of, vals_from, ListVal, is_small, is_bounded as bounded, has_small_numbers as with_small_numbers, have_small_numbers as all_have_small_numbers};
 ghost use Rattle.scad_value.specs.View.{val_of, vals_of, vals_in};
 
+use crate::limits::{TOO_LARGE, TOO_MANY_PARTS};
 use std::alloc::Global;
 use text_place::{Bytes, NoMemory};
 
@@ -106,7 +107,7 @@ impl Value {
     pub fn is_bounded(&self) -> bool
         ensures { result ≡ bounded (val_of self.now) }
     {
-        self.has_small_numbers() && self.parts() < 1 << 20
+        self.has_small_numbers() && self.parts() < TOO_MANY_PARTS
     }
 
     #[cycle(small)]
@@ -182,5 +183,5 @@ pub fn truth(of: &Value) -> bool
 fn small(n: i64) -> bool
     ensures { result ≡ is_small n }
 {
-    n.unsigned_abs() < 1 << 53
+    n.unsigned_abs() < TOO_LARGE
 }

@@ -6,6 +6,9 @@ ghost use Rattle.std.specs.Prelude.{◌≡◌, ◌-◌, ◌^◌, ◌≤◌, Matc
 use std::marker::Model;
 use std::mem::size_of;
 
+/// The least number that is too large for a numeral.
+pub const TOO_LARGE: u64 = 1 << 53;
+
 /// A whole number from 0 to 2^53 - 1, which contracts see as that number. The type keeps the bound, so that whoever has
 /// one need not ask for it.
 #[derive(Clone, Copy)]
@@ -32,7 +35,7 @@ impl Numeral {
     pub fn of(number: u64) -> Option<Self>
         ensures { MatchOption result (2 ^ 53 ≤ number) (λ numeral. (numeral ≡ number) × (number ≤ 2 ^ 53 - 1)) }
     {
-        if number < 1 << 53 {
+        if number < TOO_LARGE {
             Some(Numeral { value: number })
         } else {
             None

@@ -3,8 +3,8 @@ use Rattle.scad_hull.specs.Hulls.{different, put}
 use Rattle.scad_hull.proofs.Orders.{more_different, next_different}
 use Rattle.scad_hull.proofs.points.different_points.Goals as goal
 
-pub returns-then-len-gt128-clause-stops : goal.returns-then-len-gt128-clause-stops
-returns-then-len-gt128-clause-stops c =
+pub returns-then-len-gt-POINTS-clause-stops : goal.returns-then-len-gt-POINTS-clause-stops
+returns-then-len-gt-POINTS-clause-stops c =
     let given = c.args.points.now in
     let i = c.loop-point.point-index in
     let e : c.put_point.new.points.items ≡ different (take (i + 1) given) = c.in_ok-put_point.ensures ∙ ap (put (get_or given i [])) c.loop-point.invariant.0 ∙ next_different given i [] (omega arith) in
