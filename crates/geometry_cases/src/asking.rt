@@ -1,14 +1,14 @@
 //! Phrases that ask what a solid or a list of facets is.
 
-use crate::numbers::point;
-use crate::put::{put_corners, put_facets};
 use bsp_tree::{Link, Solid, holds};
+use case_faces::{point, put_corners, put_plane};
 use case_lines::{CaseStop, found, put, put_number};
 use case_planes::{put_stroked, unit_of};
 use facet_cut::{CutStop, Facet, facets};
 use off_text::{OffStop, off_bytes};
 use plane_predicate::Unit;
 use std::alloc::Global;
+use text_place::NoMemory;
 
 #[derive(Clone, Copy)]
 pub enum Asking {
@@ -116,6 +116,16 @@ fn put_text(
         Err(OffStop::TooManyVertices) => Ok(put(out, b"too many vertices")?),
         Err(OffStop::NoMemory) => Err(CaseStop::NoMemory),
     }
+}
+
+/// The planes of facets.
+fn put_facets(alloc: Global, out: &mut Vec<u8>, facets: &[Facet]) -> Result<(), NoMemory> {
+    for facet in facets {
+        put(out, b"(")?;
+        put_plane(alloc, out, &facet.plane)?;
+        put(out, b")")?;
+    }
+    Ok(())
 }
 
 /// What a phrase writes of facets.

@@ -32,57 +32,15 @@
 
 mod asking;
 mod build;
-mod faces;
-mod numbers;
 mod polygons;
-mod put;
 mod solids;
-mod tables;
 
 use crate::build::Bench;
-use crate::faces::{put_edges, put_joined};
-use crate::numbers::{put_meeting, put_point_side, put_sides, put_signs, put_through};
-use case_lines::{Answers, CaseStop, answers_all, cut, found, phrases_of, put_phrases, unfolded};
+use case_faces::put_about;
+use case_lines::{Answers, CaseStop, answers_all, cut, phrases_of, put_phrases, unfolded};
 use outside_io::{ReadSource, WriteSink};
 use std::alloc::Global;
 use std::process::ExitCode;
-
-#[derive(Clone, Copy)]
-enum Question {
-    Through,
-    Meet,
-    Side,
-    Signs,
-    Point,
-    Join,
-    Edges,
-}
-
-const QUESTIONS: [(&[u8], Question); 7] = [
-    (b"through", Question::Through),
-    (b"meet", Question::Meet),
-    (b"side", Question::Side),
-    (b"signs", Question::Signs),
-    (b"point", Question::Point),
-    (b"join", Question::Join),
-    (b"edges", Question::Edges),
-];
-
-/// The answer of a question about numbers.
-fn put_about(alloc: Global, out: &mut Vec<u8>, text: &[u8]) -> Result<(), CaseStop> {
-    let phrases = phrases_of(alloc, text)?;
-    let phrase = phrases.first().ok_or(CaseStop::Unread)?;
-    let numbers = phrase.numbers.as_slice();
-    match found(&QUESTIONS, &phrase.word).ok_or(CaseStop::Unread)? {
-        Question::Through => put_through(alloc, out, numbers),
-        Question::Meet => put_meeting(alloc, out, numbers),
-        Question::Side => put_sides(alloc, out, numbers),
-        Question::Signs => put_signs(alloc, out, numbers),
-        Question::Point => put_point_side(out, numbers),
-        Question::Join => put_joined(alloc, out, numbers),
-        Question::Edges => put_edges(alloc, out, numbers),
-    }
-}
 
 /// The answers of questions about numbers and of phrases that build.
 #[derive(Drop)]
@@ -95,7 +53,8 @@ impl Answers for Geometry {
         if asked == b"build".as_slice() {
             put_phrases(alloc, out, &mut Bench::new(alloc), rest)
         } else {
-            put_about(alloc, out, &text)
+            let phrases = phrases_of(alloc, &text)?;
+            put_about(alloc, out, phrases.first().ok_or(CaseStop::Unread)?)
         }
     }
 }

@@ -2,7 +2,7 @@
 
 ghost use Rattle.plane_predicate.specs.Space.{ComesInReach};
 
-use crate::put::{put_class, put_corners};
+use case_faces::{put_class, put_corners};
 use case_lines::{CaseStop, found, put_number};
 use case_planes::{high, low};
 use facet_cut::Facet;

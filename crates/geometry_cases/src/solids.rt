@@ -71,29 +71,52 @@ fn within(built: Result<Solid, BuildStop>) -> Result<Option<Solid>, CaseStop> {
     }
 }
 
+/// A solid with one slab of an axis more.
+fn with_slab(alloc: Global, all: &Solid, axis: i64, at: i64) -> Result<Solid, CaseStop> {
+    let next = leaf(alloc, &slab_walls(alloc, axis, at)?)?;
+    Ok(merge(alloc, Op::Union, all, &next)?)
+}
+
 /// The union of so many slabs of an axis from a coordinate on, with a step between them.
 fn slabs(alloc: Global, axis: i64, from: i64, count: i64) -> Result<Solid, CaseStop> {
     let mut all = Solid::leaf(alloc, false);
-    let mut at = from;
-    for _ in 0..count {
-        let next = leaf(alloc, &slab_walls(alloc, axis, at)?)?;
-        all = merge(alloc, Op::Union, &all, &next)?;
-        at = at.checked_add(2).ok_or(CaseStop::Unread)?;
+    for step in 0..count {
+        let at = from.saturating_add(step.saturating_mul(2));
+        all = with_slab(alloc, &all, axis, at)?;
     }
     Ok(all)
+}
+
+/// What of a solid lies beyond a plane of an axis.
+fn past(alloc: Global, all: &Solid, axis: i64, at: i64) -> Result<Solid, CaseStop> {
+    let plane = high(axis, at).ok_or(CaseStop::Unread)?;
+    let next = exchange(alloc, &half(alloc, &plane)?)?;
+    Ok(merge(alloc, Op::Intersection, all, &next)?)
 }
 
 /// What lies beyond so many planes of an axis, one step apart, from a coordinate on: each node is ahead of the one before it.
 fn beyond(alloc: Global, axis: i64, from: i64, count: i64) -> Result<Solid, CaseStop> {
     let mut all = Solid::leaf(alloc, true);
-    let mut at = from;
-    for _ in 0..count {
-        let plane = high(axis, at).ok_or(CaseStop::Unread)?;
-        let next = exchange(alloc, &half(alloc, &plane)?)?;
-        all = merge(alloc, Op::Intersection, &all, &next)?;
-        at = at.checked_add(1).ok_or(CaseStop::Unread)?;
+    for step in 0..count {
+        all = past(alloc, &all, axis, from.saturating_add(step))?;
     }
     Ok(all)
+}
+
+/// The solid behind the last plane.
+fn half_of(alloc: Global, walls: &Walls) -> Result<Solid, CaseStop> {
+    let plane = walls.last().ok_or(CaseStop::Unread)?;
+    Ok(half(alloc, &plane)?)
+}
+
+/// The box between two corners.
+fn box_of(alloc: Global, numbers: &[i64]) -> Result<Solid, CaseStop> {
+    leaf(alloc, &box_walls(alloc, numbers)?)
+}
+
+/// One node on the last polygon, where there is one.
+fn node_on(alloc: Global, by: Option<&Polygon>) -> Result<Solid, CaseStop> {
+    Ok(node(alloc, by.ok_or(CaseStop::Unread)?)?)
 }
 
 /// One node on a polygon: all behind it is inside, and all ahead of it is outside.
@@ -111,6 +134,12 @@ fn put_size(alloc: Global, out: &mut Vec<u8>, solid: Option<Solid>) -> Result<()
         None => put(out, b"too big")?,
     }
     Ok(())
+}
+
+/// The size that the leaf of some planes has within a limit.
+fn put_leaf(alloc: Global, out: &mut Vec<u8>, walls: &Walls, most: i64) -> Result<(), CaseStop> {
+    let most = u64::try_from(most).unwrap_or(0);
+    put_size(alloc, out, leaf_within(alloc, walls, most)?)
 }
 
 /// The size that the merge of two solids has within a limit, by a builder of its own.
@@ -183,11 +212,32 @@ impl Solids {
     }
 
     /// The parts of the last solid behind a polygon and ahead of it, in its place.
-    fn part(&mut self, alloc: Global, by: &Polygon) -> Result<(), CaseStop> {
+    fn part(&mut self, alloc: Global, by: Option<&Polygon>) -> Result<(), CaseStop> {
+        let by = by.ok_or(CaseStop::Unread)?;
         let (behind, ahead) = partition(alloc, self.last()?, by)?;
         self.items.pop();
         self.items.push(behind)?;
         self.put(ahead)
+    }
+
+    /// The solid that a phrase makes of numbers, of the planes or of the last polygon.
+    fn made(
+        alloc: Global,
+        building: Building,
+        numbers: &[i64],
+        walls: &Walls,
+        by: Option<&Polygon>,
+    ) -> Result<Solid, CaseStop> {
+        match (building, numbers) {
+            (Building::Leaf, []) => leaf(alloc, walls),
+            (Building::Half, []) => half_of(alloc, walls),
+            (Building::Box, _) => box_of(alloc, numbers),
+            (Building::Slabs, [axis, from, count]) => slabs(alloc, *axis, *from, *count),
+            (Building::Beyond, [axis, from, count]) => beyond(alloc, *axis, *from, *count),
+            (Building::Node, []) => node_on(alloc, by),
+            (Building::End, [is_inside]) => Ok(Solid::leaf(alloc, *is_inside == 1)),
+            _ => Err(CaseStop::Unread),
+        }
     }
 
     /// What a phrase makes of the solids, the planes and the last polygon, and what it writes.
@@ -201,37 +251,20 @@ impl Solids {
         by: Option<&Polygon>,
     ) -> Result<(), CaseStop> {
         match (building, numbers) {
-            (Building::Leaf, []) => {
-                self.put(leaf(alloc, walls)?)?;
-                walls.clear();
-                Ok(())
-            }
-            (Building::Leaf, [most]) => {
-                let most = u64::try_from(*most).unwrap_or(0);
-                put_size(alloc, out, leaf_within(alloc, walls, most)?)
-            }
-            (Building::Half, []) => {
-                let plane = walls.last().ok_or(CaseStop::Unread)?;
-                self.put(half(alloc, &plane)?)?;
-                walls.clear();
-                Ok(())
-            }
-            (Building::Box, _) => self.put(leaf(alloc, &box_walls(alloc, numbers)?)?),
-            (Building::Slabs, [axis, from, count]) => {
-                self.put(slabs(alloc, *axis, *from, *count)?)
-            }
-            (Building::Beyond, [axis, from, count]) => {
-                self.put(beyond(alloc, *axis, *from, *count)?)
-            }
-            (Building::Node, []) => self.put(node(alloc, by.ok_or(CaseStop::Unread)?)?),
-            (Building::End, [is_inside]) => self.put(Solid::leaf(alloc, *is_inside == 1)),
             (Building::Over, []) => self.over(alloc),
             (Building::Copy, []) => self.copy(alloc),
             (Building::Exchange, []) => self.exchange(alloc),
-            (Building::Part, []) => self.part(alloc, by.ok_or(CaseStop::Unread)?),
+            (Building::Part, []) => self.part(alloc, by),
             (Building::Join(op), []) => self.join(alloc, op),
             (Building::Join(op), [most]) => put_joined(alloc, out, op, &self.items, *most),
-            _ => Err(CaseStop::Unread),
+            (Building::Leaf, [most]) => put_leaf(alloc, out, walls, *most),
+            _ => {
+                let made = Solids::made(alloc, building, numbers, walls, by)?;
+                if let Building::Leaf | Building::Half = building {
+                    walls.clear();
+                }
+                self.put(made)
+            }
         }
     }
 }

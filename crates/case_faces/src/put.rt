@@ -1,7 +1,6 @@
 //! Planes, points and polygons in words.
 
 use case_lines::{put, put_number, put_numbers};
-use facet_cut::Facet;
 use plane_polygon::{Class, Polygon, corners};
 use plane_predicate::{Plane, Point, Side};
 use std::alloc::Global;
@@ -36,16 +35,6 @@ pub fn put_corners(alloc: Global, out: &mut Vec<u8>, polygon: &Polygon) -> Resul
     for corner in &corners(alloc, polygon)? {
         put(out, b"(")?;
         put_point(alloc, out, corner)?;
-        put(out, b")")?;
-    }
-    Ok(())
-}
-
-/// The planes of facets.
-pub fn put_facets(alloc: Global, out: &mut Vec<u8>, facets: &[Facet]) -> Result<(), NoMemory> {
-    for facet in facets {
-        put(out, b"(")?;
-        put_plane(alloc, out, &facet.plane)?;
         put(out, b")")?;
     }
     Ok(())

@@ -5,6 +5,7 @@ use case_lines::{CaseStop, put, put_numbers};
 use case_planes::through;
 use plane_predicate::{Plane, Point, Side, meet, opposite, plane_of, point_side, reduce, side};
 use std::alloc::Global;
+use text_place::NoMemory;
 
 /// The greatest size of a direction, and of an offset.
 const MOST: u64 = 134_152_200;
@@ -51,20 +52,30 @@ pub fn put_through(alloc: Global, out: &mut Vec<u8>, numbers: &[i64]) -> Result<
 }
 
 /// The point on three planes, as it is found and in lowest terms.
-pub fn put_meeting(alloc: Global, out: &mut Vec<u8>, numbers: &[i64]) -> Result<(), CaseStop> {
-    let planes = planes_of(alloc, numbers)?;
-    let [p, q, r] = planes.as_slice() else {
-        return Err(CaseStop::Unread);
-    };
+fn put_point_on(
+    alloc: Global,
+    out: &mut Vec<u8>,
+    p: &Plane,
+    q: &Plane,
+    r: &Plane,
+) -> Result<(), NoMemory> {
     match meet(p, q, r) {
         Some(point) => {
             put_point(alloc, out, &point)?;
             put(out, b" least ")?;
-            put_point(alloc, out, &reduce(&point))?;
+            put_point(alloc, out, &reduce(&point))
         }
-        None => put(out, b"none")?,
+        None => put(out, b"none"),
     }
-    Ok(())
+}
+
+/// The same of three planes by their numbers.
+pub fn put_meeting(alloc: Global, out: &mut Vec<u8>, numbers: &[i64]) -> Result<(), CaseStop> {
+    let planes = planes_of(alloc, numbers)?;
+    match planes.as_slice() {
+        [p, q, r] => Ok(put_point_on(alloc, out, p, q, r)?),
+        _ => Err(CaseStop::Unread),
+    }
 }
 
 /// The side of the fourth plane on which the first three meet, where they do.
@@ -75,20 +86,41 @@ fn side_of_meeting(p: &Plane, q: &Plane, r: &Plane, s: &Plane) -> Option<Side> {
     }
 }
 
+/// The same, written.
+fn put_side_of(
+    out: &mut Vec<u8>,
+    p: &Plane,
+    q: &Plane,
+    r: &Plane,
+    s: &Plane,
+) -> Result<(), CaseStop> {
+    put_side(out, side_of_meeting(p, q, r, s).ok_or(CaseStop::Unread)?)?;
+    Ok(put(out, b" ")?)
+}
+
 /// The side of the last plane on which the first three meet; then that with the first two exchanged, with the first one
 /// turned, and with the turned one last.
+fn put_turned(
+    out: &mut Vec<u8>,
+    p: &Plane,
+    q: &Plane,
+    r: &Plane,
+    s: &Plane,
+) -> Result<(), CaseStop> {
+    let turned = opposite(p);
+    put_side_of(out, p, q, r, s)?;
+    put_side_of(out, q, p, r, s)?;
+    put_side_of(out, &turned, q, r, s)?;
+    put_side_of(out, q, r, &turned, s)
+}
+
+/// The same of four planes by their numbers.
 pub fn put_sides(alloc: Global, out: &mut Vec<u8>, numbers: &[i64]) -> Result<(), CaseStop> {
     let planes = planes_of(alloc, numbers)?;
-    let [p, q, r, s] = planes.as_slice() else {
-        return Err(CaseStop::Unread);
-    };
-    let turned = opposite(p);
-    for (first, second, third) in [(p, q, r), (q, p, r), (&turned, q, r), (q, r, &turned)] {
-        let found = side_of_meeting(first, second, third, s).ok_or(CaseStop::Unread)?;
-        put_side(out, found)?;
-        put(out, b" ")?;
+    match planes.as_slice() {
+        [p, q, r, s] => put_turned(out, p, q, r, s),
+        _ => Err(CaseStop::Unread),
     }
-    Ok(())
 }
 
 /// The side of a plane, and that of its opposite, on which a point lies.
@@ -174,11 +206,7 @@ fn count_sides(
 }
 
 /// How often the first three planes, with all signs of their numbers, meet behind the last one, on it and ahead of it.
-pub fn put_signs(alloc: Global, out: &mut Vec<u8>, numbers: &[i64]) -> Result<(), CaseStop> {
-    let planes = planes_of(alloc, numbers)?;
-    let [p, q, r, s] = planes.as_slice() else {
-        return Err(CaseStop::Unread);
-    };
+fn counted(p: &Plane, q: &Plane, r: &Plane, s: &Plane) -> Result<Counts, CaseStop> {
     let mut counts = Counts {
         behind: 0,
         on: 0,
@@ -187,11 +215,20 @@ pub fn put_signs(alloc: Global, out: &mut Vec<u8>, numbers: &[i64]) -> Result<()
     for first in 0..16 {
         count_sides(&mut counts, &signed(p, first)?, q, r, s)?;
     }
+    Ok(counts)
+}
+
+/// The same of four planes by their numbers.
+pub fn put_signs(alloc: Global, out: &mut Vec<u8>, numbers: &[i64]) -> Result<(), CaseStop> {
+    let planes = planes_of(alloc, numbers)?;
+    let [p, q, r, s] = planes.as_slice() else {
+        return Err(CaseStop::Unread);
+    };
+    let counts = counted(p, q, r, s)?;
     let found = [
         i128::from(counts.behind),
         i128::from(counts.on),
         i128::from(counts.ahead),
     ];
-    put_numbers(alloc, out, &found)?;
-    Ok(())
+    Ok(put_numbers(alloc, out, &found)?)
 }

@@ -4,6 +4,7 @@ ghost use Rattle.std.specs.Prelude.{All, IfOk};
 ghost use Rattle.plane_predicate.specs.Space.{ComesInReach};
 ghost use Rattle.plane_table.specs.Tables.{IsNumberIn};
 ghost use Rattle.plane_table.specs.Faces.{IsFaceOver};
+ghost use Rattle.plane_table.specs.Cuts.{IsCrossing};
 ghost use Rattle.plane_table.specs.Joins.{AreNumbersOf};
 
 use crate::faces::put_numbers_of;
@@ -12,8 +13,8 @@ use case_lines::{CaseStop, found, put};
 use plane_polygon::Class;
 use plane_predicate::Plane;
 use plane_table::{
-    Crossing, Face, Half, PlaneTable, cut, faces_are_found, half_face, join, keep_used, mark_used,
-    polygon_of, renumber, sides,
+    Crossing, Face, Half, Numbered, PlaneTable, cut, faces_are_found, half_face, join, keep_used,
+    mark_used, polygon_of, renumber, sides,
 };
 use std::alloc::Global;
 use text_place::NoMemory;
@@ -53,6 +54,22 @@ fn moved(
     renumber(alloc, face, numbers)
 }
 
+/// The table of the planes of two lists, and a face of the first list over it.
+fn tabled_by(
+    alloc: Global,
+    face: &Face,
+    from: &[Plane],
+    others: &[Plane],
+) -> Result<(PlaneTable, Face), NoMemory>
+    requires over { IsFaceOver from.now face.now }
+    ensures { IfOk result (λ r. IsFaceOver r.0 r.1) }
+{
+    let joined = join(alloc, from, others)?;
+    let face = moved(alloc, face, from, &joined.planes, &joined.left)?;
+    let table = PlaneTable::of(alloc, joined.planes)?;
+    Ok((table, face))
+}
+
 /// The table of the planes that the faces of two planes name, and the first of these faces over it.
 fn tabled(alloc: Global, first: &Plane, second: &Plane) -> Result<(PlaneTable, Face), NoMemory>
     requires first { ComesInReach first.now }
@@ -61,10 +78,7 @@ fn tabled(alloc: Global, first: &Plane, second: &Plane) -> Result<(PlaneTable, F
 {
     let own = half_face(alloc, first)?;
     let other = half_face(alloc, second)?;
-    let joined = join(alloc, &own.planes, &other.planes)?;
-    let face = moved(alloc, &own.face, &own.planes, &joined.planes, &joined.left)?;
-    let table = PlaneTable::of(alloc, joined.planes)?;
-    Ok((table, face))
+    tabled_by(alloc, &own.face, &own.planes, &other.planes)
 }
 
 /// A number that names a plane of a table.
@@ -83,14 +97,14 @@ fn put_table(
     out: &mut Vec<u8>,
     table: &PlaneTable,
     face: &Face,
-) -> Result<(), CaseStop>
+) -> Result<(), NoMemory>
     requires { IsFaceOver table.now face.now }
 {
     put_planes(alloc, out, table.planes())?;
     put_numbers_of(alloc, out, face)?;
     put(out, b" corners ")?;
-    put_corners(alloc, out, &polygon_of(alloc, table, face)?)?;
-    Ok(())
+    let polygon = polygon_of(alloc, table, face)?;
+    put_corners(alloc, out, &polygon)
 }
 
 /// Whether two numbers name the same plane, opposite planes or others, and whether these have one direction.
@@ -112,6 +126,22 @@ fn put_alike(out: &mut Vec<u8>, table: &PlaneTable, first: u32, second: u32) -> 
     }
 }
 
+/// The parts of a face behind a plane and ahead of it.
+fn put_parts(
+    alloc: Global,
+    out: &mut Vec<u8>,
+    table: &PlaneTable,
+    crossing: Crossing<'_>,
+) -> Result<(), NoMemory>
+    requires { IsCrossing table.now crossing }
+{
+    let behind = cut(alloc, table, crossing, Half::Behind)?;
+    put_numbers_of(alloc, out, &behind)?;
+    put(out, b" and")?;
+    let ahead = cut(alloc, table, crossing, Half::Ahead)?;
+    put_numbers_of(alloc, out, &ahead)
+}
+
 /// How the face lies against the plane of a number; where that is across, the parts behind and ahead.
 fn put_lying(
     alloc: Global,
@@ -119,26 +149,33 @@ fn put_lying(
     table: &PlaneTable,
     face: &Face,
     number: u32,
-) -> Result<(), CaseStop>
+) -> Result<(), NoMemory>
     requires face { IsFaceOver table.now face.now }
     requires number { IsNumberIn table.now number }
 {
     let found = sides(alloc, table, face, number)?;
     put_class(out, found.class)?;
-    match found.class {
-        Class::Across => {
-            let crossing = Crossing {
+    if let Class::Across = found.class {
+        let sides = &found;
+        put_parts(
+            alloc,
+            out,
+            table,
+            Crossing {
                 face,
                 number,
-                sides: &found,
-            };
-            put_numbers_of(alloc, out, &cut(alloc, table, crossing, Half::Behind)?)?;
-            put(out, b" and")?;
-            put_numbers_of(alloc, out, &cut(alloc, table, crossing, Half::Ahead)?)?;
-        }
-        Class::Behind | Class::Ahead | Class::On => {}
+                sides,
+            },
+        )?;
     }
     Ok(())
+}
+
+/// Planes that are kept, and the numbers that others have among them.
+fn put_kept(alloc: Global, out: &mut Vec<u8>, kept: &Numbered) -> Result<(), NoMemory> {
+    put_planes(alloc, out, &kept.planes)?;
+    put(out, b" numbers ")?;
+    put_list(alloc, out, &kept.numbers)
 }
 
 /// The planes of the table without those that the face does not name, and the numbers that they have in that list.
@@ -147,19 +184,42 @@ fn put_used(
     out: &mut Vec<u8>,
     table: &PlaneTable,
     face: &Face,
-) -> Result<(), CaseStop>
+) -> Result<(), NoMemory>
     requires { IsFaceOver table.now face.now }
 {
     let mut used = vec![in alloc; false; table.planes().len()]?;
     mark_used(face, &mut used);
     let kept = keep_used(alloc, table.planes(), &used)?;
-    put_planes(alloc, out, &kept.planes)?;
-    put(out, b" numbers ")?;
-    put_list(alloc, out, &kept.numbers)?;
-    Ok(())
+    put_kept(alloc, out, &kept)
 }
 
-/// What a phrase asks of the face of the second last plane over that table.
+/// What a phrase asks of a face over a table.
+fn put_asked(
+    alloc: Global,
+    out: &mut Vec<u8>,
+    tabling: Tabling,
+    numbers: &[i64],
+    table: &PlaneTable,
+    face: &Face,
+) -> Result<(), CaseStop>
+    requires { IsFaceOver table.now face.now }
+{
+    match (tabling, numbers) {
+        (Tabling::Table, []) => Ok(put_table(alloc, out, table, face)?),
+        (Tabling::Alike, [one, other]) => {
+            let (one, other) = (number_in(table, *one)?, number_in(table, *other)?);
+            Ok(put_alike(out, table, one, other)?)
+        }
+        (Tabling::Lies, [number]) => {
+            let number = number_in(table, *number)?;
+            Ok(put_lying(alloc, out, table, face, number)?)
+        }
+        (Tabling::Used, []) => Ok(put_used(alloc, out, table, face)?),
+        _ => Err(CaseStop::Unread),
+    }
+}
+
+/// The same of the face of the second last plane over the table that it has with the last one.
 pub fn put_tabled(
     alloc: Global,
     out: &mut Vec<u8>,
@@ -173,17 +233,5 @@ pub fn put_tabled(
         return Err(CaseStop::Unread);
     };
     let (table, face) = tabled(alloc, first, second)?;
-    match (tabling, numbers) {
-        (Tabling::Table, []) => put_table(alloc, out, &table, &face),
-        (Tabling::Alike, [one, other]) => {
-            let (one, other) = (number_in(&table, *one)?, number_in(&table, *other)?);
-            Ok(put_alike(out, &table, one, other)?)
-        }
-        (Tabling::Lies, [number]) => {
-            let number = number_in(&table, *number)?;
-            put_lying(alloc, out, &table, &face, number)
-        }
-        (Tabling::Used, []) => put_used(alloc, out, &table, &face),
-        _ => Err(CaseStop::Unread),
-    }
+    put_asked(alloc, out, tabling, numbers, &table, &face)
 }

@@ -6,7 +6,7 @@ use crate::numbers::planes_of;
 use crate::put::{put_list, put_planes};
 use case_lines::{CaseStop, put, put_number};
 use plane_predicate::Plane;
-use plane_table::{Edges, Face, half_face, join};
+use plane_table::{Edges, Face, Joined, OwnFace, half_face, join};
 use std::alloc::Global;
 use text_place::NoMemory;
 
@@ -15,11 +15,15 @@ pub fn put_face(alloc: Global, out: &mut Vec<u8>, plane: &Plane) -> Result<(), C
     requires { ComesInReach plane.now }
 {
     let found = half_face(alloc, plane)?;
-    put_planes(alloc, out, &found.planes)?;
-    put_numbers_of(alloc, out, &found.face)?;
+    Ok(put_own(alloc, out, &found)?)
+}
+
+/// The same of a face over the planes that it names.
+fn put_own(alloc: Global, out: &mut Vec<u8>, own: &OwnFace) -> Result<(), NoMemory> {
+    put_planes(alloc, out, &own.planes)?;
+    put_numbers_of(alloc, out, &own.face)?;
     put(out, b" size ")?;
-    put_number(alloc, out, i128::from(found.face.size()))?;
-    Ok(())
+    put_number(alloc, out, i128::from(own.face.size()))
 }
 
 /// The number of a face's plane, and those of its edges.
@@ -30,18 +34,38 @@ pub fn put_numbers_of(alloc: Global, out: &mut Vec<u8>, face: &Face) -> Result<(
     put_list(alloc, out, face.edges.numbers())
 }
 
-/// A list of edges with these numbers, how many there are, and a copy.
-pub fn put_edges(alloc: Global, out: &mut Vec<u8>, numbers: &[i64]) -> Result<(), CaseStop> {
+/// A list of edges with these numbers.
+fn edges_of(alloc: Global, numbers: &[i64]) -> Result<Edges, CaseStop> {
     let mut edges = Edges::new(alloc);
     for number in numbers {
         edges.push(u32::try_from(*number).ok().ok_or(CaseStop::Unread)?)?;
     }
+    Ok(edges)
+}
+
+/// How many edges a list has, and their numbers.
+fn put_counted(alloc: Global, out: &mut Vec<u8>, edges: &Edges) -> Result<(), NoMemory> {
     put_number(alloc, out, edges.len() as i128)?;
     put(out, b" edges ")?;
     put_list(alloc, out, edges.numbers())?;
-    put(out, b" copy ")?;
-    put_list(alloc, out, edges.copy(alloc)?.numbers())?;
-    Ok(())
+    put(out, b" copy ")
+}
+
+/// A list of edges with these numbers, how many there are, and a copy.
+pub fn put_edges(alloc: Global, out: &mut Vec<u8>, numbers: &[i64]) -> Result<(), CaseStop> {
+    let edges = edges_of(alloc, numbers)?;
+    put_counted(alloc, out, &edges)?;
+    let copied = edges.copy(alloc)?;
+    Ok(put_list(alloc, out, copied.numbers())?)
+}
+
+/// A list in which two lists were joined, and the numbers that each of them has there.
+fn put_join(alloc: Global, out: &mut Vec<u8>, joined: &Joined) -> Result<(), NoMemory> {
+    put_planes(alloc, out, &joined.planes)?;
+    put(out, b" left ")?;
+    put_list(alloc, out, &joined.left)?;
+    put(out, b" right ")?;
+    put_list(alloc, out, &joined.right)
 }
 
 /// The list in which two lists of planes are joined, and the numbers that each of them has there.
@@ -49,16 +73,11 @@ pub fn put_joined(alloc: Global, out: &mut Vec<u8>, numbers: &[i64]) -> Result<(
     let [count, rest @ ..] = numbers else {
         return Err(CaseStop::Unread);
     };
-    let planes = planes_of(alloc, rest)?;
     let count = usize::try_from(*count).unwrap_or(usize::MAX);
+    let planes = planes_of(alloc, rest)?;
     if count > planes.len() {
         return Err(CaseStop::Unread);
     }
     let joined = join(alloc, &planes[..count], &planes[count..])?;
-    put_planes(alloc, out, &joined.planes)?;
-    put(out, b" left ")?;
-    put_list(alloc, out, &joined.left)?;
-    put(out, b" right ")?;
-    put_list(alloc, out, &joined.right)?;
-    Ok(())
+    Ok(put_join(alloc, out, &joined)?)
 }
