@@ -16,7 +16,7 @@ mod walk;
 
 pub use blocks::Blocks;
 pub use parameters::{
-    Destination, GivenArguments, Matching, Names, SpecialArgument, arguments, has_special, name_of,
+    Destination, GivenArguments, Matching, Names, SpecialArgument, arguments, name_of,
     positional_after,
 };
 pub use scopes::Scopes;

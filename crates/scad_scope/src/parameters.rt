@@ -134,7 +134,7 @@ fn no_slots<T: Drop>(alloc: Global, params: usize) -> Result<Vec<Option<T>>, NoM
 }
 
 /// Whether one of these is the special argument of a name. Takes no memory.
-pub fn has_special<T>(specials: &[SpecialArgument<'_, T>], name: &[u8]) -> bool
+pub(crate) fn has_special<T>(specials: &[SpecialArgument<'_, T>], name: &[u8]) -> bool
     ensures { result ≡ is_some (find_in (special_pairs specials.now) name.now) }
 {
     let mut n = specials.len();
