@@ -14,7 +14,8 @@ use Rattle.scad_scope.specs.Blocks.{Function}
 use Rattle.scad_func.specs.Meaning.{Outcome, Setting, answered, evaluated, each_argument, function_called, called, function_in, then_with}
 use Rattle.scad_func.specs.declared.source.Source.{Source}
 use Rattle.scad_func.specs.declared.evaluation.Evaluation.{Evaluation}
-use Rattle.scad_func.specs.View.{TellsAs, TellsAnswer, deepest, seen}
+use Rattle.scad_func.specs.View.{TellsAs, deepest, seen}
+use Rattle.scad_answer.specs.View.{TellsAnswer}
 use Rattle.scad_func.specs.Evaluations.{Keeps, EvaluatesTo, setting, work_left}
 use Rattle.scad_func.proofs.Outcomes.{fault_goes, value_goes, tells_answer}
 

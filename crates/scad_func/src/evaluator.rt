@@ -10,24 +10,26 @@ ghost use Rattle.scad_scope.specs.Names.{env_of};
 ghost use Rattle.scad_scope.specs.Table.{rows_of};
 ghost use Rattle.scad_scope.specs.Arguments.{nothing_given};
 ghost use Rattle.scad_scope.specs.ArgumentsView.{names_in};
-ghost use Rattle.scad_func.specs.Meaning.{Outcome, Gives, one_call_fewer, turn, then_with, answered, value_at, operand as operand_at, each_value as values_at, each_argument as arguments_at, each_parameter as parameters_at, parameter_value, function_value as function_value_at, function_called, each_suffix, each_link, called, function_in, range_of, stepped_range_of, counted as counted_at};
+ghost use Rattle.scad_func.specs.Meaning.{Outcome, Gives, one_call_fewer, turn, then_with, answered, value_at, operand as operand_at, each_value as values_at, each_argument as arguments_at, each_parameter as parameters_at, parameter_value, function_value as function_value_at, function_called, each_suffix, each_link, called, function_in, counted as counted_at};
+ghost use Rattle.scad_answer.specs.Answers.{range_of, stepped_range_of};
 ghost use Rattle.scad_func.specs.Steps.{all_values, suffixed, linked, with_parameters};
 ghost use Rattle.scad_scope.specs.TextView.{function_of};
 ghost use Rattle.scad_func.specs.View.{Tells, TellsAs, TellsAll, TellsArguments, values_seen, indexed_val, IsThere, slot_of, slots_in, slots_bounded, slot_is_bounded, arguments_of};
 ghost use Rattle.scad_func.specs.Evaluations.{Keeps, EvaluatesTo, SlotsFit, ValuesFit, ArgumentsFit, CallFits, scopes_there, setting};
 
 use crate::answer::{
-    Indexed, applied_to, binary_value, binary_with_variable, child_count, is_true, item_of, listed,
-    member_item, range_value, special_of, stepped_range_value, text_of, unary_value, variable_of,
-    variable_there, wants_right,
+    Indexed, applied_to, binary_with_variable, child_count, item_of, listed, member_item, special_of,
+    text_of, variable_of, variable_there,
 };
 use crate::arguments::{argument_value, bind_specials, built_in_for};
 use crate::bind::bind_all;
 use crate::evaluation::Evaluation;
 use crate::functions::find;
-use crate::held::{value_alone, with};
 use crate::limits::{CALLS, EVALUATIONS, TURNS};
 use crate::values::BoundedValues;
+use scad_answer::{
+    binary_value, is_true, range_value, stepped_range_value, unary_value, value_alone, wants_right, with,
+};
 use scad_ast::{Args, Expr, Exprs, Link, Links, Param, Params, Suffix, Suffixes, UnaryOp};
 use scad_scope::{ArgumentsSoFar, Function, GivenArguments, Names, positional_after};
 use scad_value::{BoundedValue, Value};

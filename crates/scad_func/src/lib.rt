@@ -7,7 +7,6 @@ mod bind;
 mod evaluation;
 mod evaluator;
 mod functions;
-mod held;
 mod laws;
 mod limits;
 mod meter;
@@ -18,8 +17,8 @@ mod values;
 
 pub use evaluation::Evaluation;
 pub use functions::find_module;
-pub use held::{with, with_next};
 pub use laws::{arguments_are_evaluated_as_matched, enter_what_stands};
 pub use meter::Meter;
+pub use scad_answer::{with, with_next};
 pub use source::Source;
 pub use value::{value_in, value_of};

@@ -2,7 +2,7 @@ ghost use Rattle.std.specs.Prelude.{◌≡◌, [], IsTrue};
 ghost use Rattle.scad_value.specs.View.{vals_in};
 ghost use Rattle.scad_builtin.specs.Builtins.{are_bounded};
 
-use crate::held::{value_alone, with_next};
+use scad_answer::{value_alone, with_next};
 use scad_value::{BoundedValue, Value};
 use std::alloc::Global;
 use text_place::Stop;

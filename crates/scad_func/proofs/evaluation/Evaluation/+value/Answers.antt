@@ -25,23 +25,25 @@ use Rattle.scad_scope.specs.ArgumentsView.{given_of, names_in, taker_seen, IsGiv
 use Rattle.scad_scope.specs.Names.{env_of, empty_row, find_in, variable_in as numbered_variable_in}
 use Rattle.scad_scope.specs.Table.{rows_of, chain_of}
 use Rattle.scad_scope.specs.TextView.{function_of}
-use Rattle.scad_func.specs.Meaning.{Outcome, Gives, Faults, value_at, with_calls, one_call_fewer, turn, Arguments, each_argument, each_parameter, parameter_value, function_value, operand, each_value, each_suffix, each_link, called, answered, or_fault, or_zero, Setting, then_with, range_of}
-use Rattle.scad_func.specs.Steps.{all_values, suffixed, linked, argument_of}
+use Rattle.scad_func.specs.Meaning.{Outcome, Gives, Faults, value_at, with_calls, one_call_fewer, turn, Arguments, each_argument, each_parameter, parameter_value, function_value, operand, each_value, each_suffix, each_link, called, answered, or_fault, or_zero, Setting, then_with}
+use Rattle.scad_answer.specs.Answers.{range_of}
+use Rattle.scad_answer.specs.View.{TellsAnswer}
+use Rattle.scad_func.specs.Steps.{all_values, suffixed, linked}
 use Rattle.scad_func.specs.declared.values.BoundedValues.{BoundedValues}
-use Rattle.scad_func.specs.View.{TellsAs, TellsAnswer, TellsArguments, IsOneMore, values_seen, text_of, slots_in, slot_of, indexed_val, arguments_of, arguments_bounded}
+use Rattle.scad_func.specs.View.{TellsAs, TellsArguments, IsOneMore, values_seen, text_of, slots_in, slot_of, indexed_val, arguments_of, arguments_bounded}
 use Rattle.scad_scope.specs.declared.parameters.GivenArguments.{GivenArguments}
 use Rattle.scad_scope.specs.declared.parameters.Names.{Names}
 use Rattle.scad_scope.specs.declared.so_far.ArgumentsSoFar.{ArgumentsSoFar}
 use Rattle.scad_scope.specs.declared.parameters.Destination.{Destination}
 use Rattle.scad_func.specs.Evaluations.{ArgumentsFit, EvaluatesTo, setting}
-use Rattle.scad_func.proofs.Outcomes.{tells_along, evaluated_deeper, evaluated_too_deep, value_counted, fault_counted, values_end, terms_here, terms_end, args_here, args_end, values_of_arg, suffixes_here, suffix_step, links_here, step_more, step_fault, name_then, fault_at, link_wants}
+use Rattle.scad_func.proofs.Outcomes.{tells_along, evaluated_deeper, evaluated_too_deep, value_counted, fault_counted, values_end, terms_here, terms_end, args_here, args_end, values_here, suffixes_here, suffix_step, links_here, step_more, step_fault, name_then, fault_at, link_wants}
 use Rattle.scad_func.proofs.Environments.{variable_same}
 use Rattle.scad_func.proofs.Steps.{deep_enough, param_deep, params_here, params_end, slots_here, slots_parts, filled_end, fault_of_arguments, argument_none}
 use Rattle.scad_func.proofs.Forms.{name_form, special_form, count_form, postfix_form, chain_form, choice_form, link_form, member_form, args_form}
 use Rattle.scad_func.proofs.Again.{nothing_bounded}
 use Rattle.scad_func.proofs.Kept.{stops, goes, answers, keeps_from, keeps_same, keeps_trans, call_found, moved, work_falls}
 use Rattle.scad_func.proofs.GivenSeen.{taker_given, nothing_seen, held_seen}
-use Rattle.scad_func.proofs.Holding.{told_bounded, argument_refused, argument_stops, alone_tells, longer_told, longer_fault, longer_length, argument_held, argument_held_bounded, argument_held_length, if_err_at, if_ok_at}
+use Rattle.scad_func.proofs.Holding.{told_bounded, argument_refused, argument_stops, alone_tells, item_told, item_stops, longer_length, argument_held, argument_held_bounded, argument_held_length, if_err_at, if_ok_at}
 use Rattle.scad_func.proofs.evaluation.Evaluation.+value.Goals.{in_new_scope-in-Ok, in_new_scope-in-Err}
 use Rattle.scad_func.proofs.evaluation.Evaluation.+value.Goals as goal
 
@@ -232,18 +234,16 @@ each_value-each-preserved t c =
     let x = c.expr-item.result in
     let is : x ≡ get_or xs i x = c.expr-item.is ∙ ap (λ (l : List Expr). get_or l i x)
     c.deref-expr-items.ensures.value in
-    let next = terms_here xs i x h is in
     let inv = c.each.invariant in
     let g = c.evaluate-next.ensures in
     let here = setting c.args.self.now c.args.scope in
     let rest = terms_from (map term_of (drop (i + 1) xs)) in
     record {
-      told = longer_told _ c.each.values
+      told = item_told _ _ c.args.scope inv.kept c.each.values _
           (each_value here (terms_from (map term_of (drop i xs))) c.each.self.turns)
-          (value_at here true (term_of x) c.each.self.turns) (each_value here rest) inv.told
-          (ap (λ t. each_value here t c.each.self.turns) next) c.evaluate-next.result c.in_ok-values.values
-          c.evaluate-next.new.self.turns c.in_ok-values.ensures
-          (tells_along c.evaluate-next.result _ _ _ (moved (λ s. value_at s true (term_of x) c.each.self.turns) c.args.scope inv.kept) g.value);
+          (λ here. value_at here true (term_of x)) (each_value here rest) inv.told
+          (ap (λ t. each_value here t c.each.self.turns) (terms_here xs i x h is))
+          _ c.evaluate-next.result c.in_ok-values.values c.in_ok-values.ensures g;
       kept = keeps_trans inv.kept g.kept;
     }
 
@@ -272,12 +272,11 @@ each_value-returns-in_err-values t c =
     let here = setting c.args.self.now c.args.scope in
     let rest = terms_from (map term_of (drop (i + 1) xs)) in
     record {
-      value = rw (p.1, p.2) (longer_fault _ c.each.values
+      value = rw (p.1, p.2) (item_stops _ _ c.args.scope inv.kept c.each.values _
           (each_value here (terms_from (map term_of (drop i xs))) c.each.self.turns)
-          (value_at here true (term_of x) c.each.self.turns) (each_value here rest) inv.told
-          (ap (λ t. each_value here t c.each.self.turns) (terms_here xs i x h is)) c.evaluate-next.result
-          c.in_err-values.field-0.0 c.evaluate-next.new.self.turns c.evaluate-next.new.self.turns c.in_err-values.ensures
-          (tells_along c.evaluate-next.result _ _ _ (moved (λ s. value_at s true (term_of x) c.each.self.turns) c.args.scope inv.kept) g.value));
+          (λ here. value_at here true (term_of x)) (each_value here rest) inv.told
+          (ap (λ t. each_value here t c.each.self.turns) (terms_here xs i x h is))
+          c.evaluate-next.new.self c.evaluate-next.result c.in_err-values.field-0.0 c.evaluate-next.new.self.turns c.in_err-values.ensures g);
       kept = keeps_trans inv.kept g.kept;
     }
 
@@ -289,20 +288,16 @@ each_positional-each-preserved t c =
     let x = c.arg-item.result in
     let is : x ≡ get_or xs i x = c.arg-item.is ∙ ap (λ (l : List Arg). get_or l i x)
     c.deref-arg-items.ensures.value in
-    let next = args_here xs i x h is in
     let inv = c.each.invariant in
     let g = c.evaluate-next.ensures in
     let here = setting c.args.self.now c.args.scope in
     let rest = args_from (map arg_of (drop (i + 1) xs)) in
     record {
-      told = longer_told _ c.each.values
+      told = item_told _ _ c.args.scope inv.kept c.each.values _
           (each_value here (all_values (args_from (map arg_of (drop i xs)))) c.each.self.turns)
-          (value_at here true (argument_of (arg_of x)) c.each.self.turns) (each_value here (all_values rest)) inv.told
-          (ap (λ t. each_value here t c.each.self.turns) (ap all_values next ∙ values_of_arg (arg_of x) rest))
-          c.evaluate-next.result c.in_ok-values.values c.evaluate-next.new.self.turns c.in_ok-values.ensures
-          (tells_along c.evaluate-next.result _ _ _ (ap (λ e. value_at here true e c.each.self.turns)
-          (sym c.argument_value.ensures.value) ∙ moved (λ s. value_at s true (term_of c.argument_value.result.now) c.each.self.turns)
-          c.args.scope inv.kept) g.value);
+          (λ here. value_at here true (term_of c.argument_value.result.now)) (each_value here (all_values rest)) inv.told
+          (ap (λ t. each_value here t c.each.self.turns) (values_here xs i x h is _ c.argument_value.ensures.value))
+          _ c.evaluate-next.result c.in_ok-values.values c.in_ok-values.ensures g;
       kept = keeps_trans inv.kept g.kept;
     }
 
@@ -332,15 +327,11 @@ each_positional-returns-in_err-values t c =
     let here = setting c.args.self.now c.args.scope in
     let rest = args_from (map arg_of (drop (i + 1) xs)) in
     record {
-      value = rw (p.1, p.2) (longer_fault _ c.each.values
+      value = rw (p.1, p.2) (item_stops _ _ c.args.scope inv.kept c.each.values _
           (each_value here (all_values (args_from (map arg_of (drop i xs)))) c.each.self.turns)
-          (value_at here true (argument_of (arg_of x)) c.each.self.turns) (each_value here (all_values rest)) inv.told
-          (ap (λ t. each_value here t c.each.self.turns) (ap all_values (args_here xs i x h is) ∙ values_of_arg (arg_of x) rest))
-          c.evaluate-next.result c.in_err-values.field-0.0 c.evaluate-next.new.self.turns c.evaluate-next.new.self.turns
-          c.in_err-values.ensures
-          (tells_along c.evaluate-next.result _ _ _ (ap (λ e. value_at here true e c.each.self.turns)
-          (sym c.argument_value.ensures.value) ∙ moved (λ s. value_at s true (term_of c.argument_value.result.now) c.each.self.turns)
-          c.args.scope inv.kept) g.value));
+          (λ here. value_at here true (term_of c.argument_value.result.now)) (each_value here (all_values rest)) inv.told
+          (ap (λ t. each_value here t c.each.self.turns) (values_here xs i x h is _ c.argument_value.ensures.value))
+          c.evaluate-next.new.self c.evaluate-next.result c.in_err-values.field-0.0 c.evaluate-next.new.self.turns c.in_err-values.ensures g);
       kept = keeps_trans inv.kept g.kept;
     }
 
@@ -701,13 +692,12 @@ each_parameter-each-preserved t c =
     let here = setting c.args.self.now c.args.scope in
     let ps = map param_of (drop (i + 1) xs) in
     record {
-      told = longer_told _ c.each.values
+      told = item_told _ _ c.args.scope inv.kept c.each.values _
           (each_parameter here (map param_of (drop i xs)) (slots_in (drop i still)) c.each.self.turns)
-          (parameter_value here (param_of x) s c.each.self.turns) (each_parameter here ps (slots_in (drop (i + 1) unfilled.items))) inv.told
+          (λ here. parameter_value here (param_of x) s) (each_parameter here ps (slots_in (drop (i + 1) unfilled.items))) inv.told
           (ap (λ l. each_parameter here l (slots_in (drop i still)) c.each.self.turns) next
-          ∙ ap (λ l. each_parameter here (param_of x ∷ ps) l c.each.self.turns) slots) r values
-          c.parameter-next.new.self.turns longer
-          (tells_along r _ _ _ (moved (λ h. parameter_value h (param_of x) s c.each.self.turns) c.args.scope inv.kept) g.value);
+          ∙ ap (λ l. each_parameter here (param_of x ∷ ps) l c.each.self.turns) slots)
+          _ r values longer g;
       count = ap length same ∙ length-set still i dest ∙ inv.count;
       got = longer_length c.each.values r values longer ∙ ap (λ n. n + 1) inv.got;
       filled = (slots_parts _ _ _ slots inv.filled).1;

@@ -2,7 +2,7 @@
 //! and not in each function that holds something.
 
 ghost use Rattle.std.specs.Prelude.{◌≡◌, Ok, Err, IfOk, IfErr};
-ghost use Rattle.scad_func.specs.View.{IsLonger, IsAlone};
+ghost use Rattle.scad_answer.specs.View.{IsLonger, IsAlone};
 
 use scad_value::{BoundedValue, Value};
 use text_place::Stop;
@@ -35,7 +35,7 @@ pub fn with_next<T: Drop>(items: Vec<T>, next: Result<T, Stop>) -> Result<Vec<T>
 }
 
 /// The value without the type that keeps it bounded, where there is one.
-pub(crate) fn value_alone(given: Result<BoundedValue, Stop>) -> Result<Value, Stop>
+pub fn value_alone(given: Result<BoundedValue, Stop>) -> Result<Value, Stop>
     ensures { IsAlone given result }
 {
     match given {

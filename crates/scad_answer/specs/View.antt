@@ -1,0 +1,32 @@
+-- What an answer tells of values alone, and what is held meanwhile.
+use Rattle.std.specs.Prelude.{◌≡◌, List, [], ◌∷◌, ◌++◌, Result, Ok, Err}
+use Rattle.std.specs.declared.vec.Vec.{Vec}
+use Rattle.std.specs.declared.alloc.Global.{Global}
+use Rattle.text_place.specs.declared.fault.Stop.{Stop}
+use Rattle.text_place.specs.declared.fault.Stop.TheVariants.{Fault, NoMemory}
+use Rattle.text_place.specs.declared.fault.Place.{Place}
+use Rattle.scad_value.specs.declared.value.Value.{Value}
+use Rattle.scad_value.specs.declared.bounded_value.BoundedValue.{BoundedValue}
+use Rattle.scad_value.specs.BoundedView.{bounded_val}
+use Rattle.scad_value.specs.Values.{Val}
+use Rattle.scad_value.specs.Operators.{Answer}
+
+-- an operator's answer, with its faults at a place
+abbrev pub TellsAnswer : Result BoundedValue Stop → Answer Val → Place → Type 0
+TellsAnswer (Ok v) answer at = answer ≡ Ok (bounded_val v)
+TellsAnswer (Err (Fault fault)) answer at = (answer ≡ Err fault.kind) × (fault.place ≡ at)
+TellsAnswer (Err NoMemory) answer at = Unit {0}
+
+-- the value alone, or the stop
+abbrev pub IsAlone : Result BoundedValue Stop → Result Value Stop → Type 0
+IsAlone (Ok bounded) (Ok v) = v ≡ bounded.value
+IsAlone (Ok bounded) (Err stop) = ⊥
+IsAlone (Err fault) (Ok v) = ⊥
+IsAlone (Err fault) (Err stop) = stop ≡ fault
+
+-- a list with one item more, unless memory ran out or there is none
+abbrev pub IsLonger : {A : Type 0} → List A → Result A Stop → Result (Vec A Global) Stop → Type 0
+IsLonger items (Ok x) (Ok longer) = longer.items ≡ items ++ x ∷ []
+IsLonger items (Ok x) (Err stop) = stop ≡ NoMemory
+IsLonger items (Err fault) (Ok longer) = ⊥
+IsLonger items (Err fault) (Err stop) = stop ≡ fault
