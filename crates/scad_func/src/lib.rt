@@ -19,6 +19,6 @@ pub use evaluation::Evaluation;
 pub use functions::find_module;
 pub use laws::{arguments_are_evaluated_as_matched, enter_what_stands};
 pub use meter::Meter;
-pub use scad_answer::{with, with_next};
+pub use scad_answer::with;
 pub use source::Source;
 pub use value::{value_in, value_of};

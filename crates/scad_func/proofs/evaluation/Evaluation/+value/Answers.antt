@@ -4,7 +4,7 @@ use Rattle.std.specs.declared.vec.Vec.{Vec}
 use Rattle.std.specs.declared.alloc.Global.{Global}
 use Rattle.std.proofs.lemmas.Result.{err_from_is_err_and}
 use Rattle.std.proofs.Math.Seq.{take-append_seam}
-use Rattle.std.proofs.lemmas.List.{length-map, length-replicate, length-set, drop-set-lt}
+use Rattle.std.proofs.lemmas.List.{length-map, length-set, drop-set-lt}
 use Rattle.text_place.specs.declared.fault.Stop.{Stop}
 use Rattle.text_place.specs.declared.fault.FaultKind.TheVariants.{TooDeep, UnknownName, BadArgument}
 use Rattle.scad_ast.specs.declared.expression.Expr.{Expr}
@@ -25,7 +25,7 @@ use Rattle.scad_scope.specs.ArgumentsView.{given_of, names_in, taker_seen, IsGiv
 use Rattle.scad_scope.specs.Names.{env_of, empty_row, find_in, variable_in as numbered_variable_in}
 use Rattle.scad_scope.specs.Table.{rows_of, chain_of}
 use Rattle.scad_scope.specs.TextView.{function_of}
-use Rattle.scad_func.specs.Meaning.{Outcome, Gives, Faults, value_at, with_calls, one_call_fewer, turn, Arguments, each_argument, each_parameter, parameter_value, function_value, operand, each_value, each_suffix, each_link, called, answered, or_fault, or_zero, Setting, then_with}
+use Rattle.scad_func.specs.Meaning.{Outcome, Gives, Faults, value_at, with_calls, one_call_fewer, turn, each_argument, each_parameter, parameter_value, function_value, operand, each_value, each_suffix, each_link, called, answered, or_fault, or_zero, Setting, then_with}
 use Rattle.scad_answer.specs.Answers.{range_of}
 use Rattle.scad_answer.specs.View.{TellsAnswer}
 use Rattle.scad_func.specs.Steps.{all_values, suffixed, linked}
@@ -43,7 +43,7 @@ use Rattle.scad_func.proofs.Forms.{name_form, special_form, count_form, postfix_
 use Rattle.scad_func.proofs.Again.{nothing_bounded}
 use Rattle.scad_func.proofs.Kept.{stops, goes, answers, keeps_from, keeps_same, keeps_trans, call_found, moved, work_falls}
 use Rattle.scad_func.proofs.GivenSeen.{taker_given, nothing_seen, held_seen}
-use Rattle.scad_func.proofs.Holding.{told_bounded, argument_refused, argument_stops, alone_tells, item_told, item_stops, longer_length, argument_held, argument_held_bounded, argument_held_length, if_err_at, if_ok_at}
+use Rattle.scad_func.proofs.Holding.{told_bounded, argument_refused, argument_stops, alone_tells, item_told, item_stops, longer_length, argument_held, argument_held_bounded, if_err_at, if_ok_at}
 use Rattle.scad_func.proofs.evaluation.Evaluation.+value.Goals.{in_new_scope-in-Ok, in_new_scope-in-Err}
 use Rattle.scad_func.proofs.evaluation.Evaluation.+value.Goals as goal
 
