@@ -15,5 +15,4 @@ mod transforms;
 pub use calls::effect;
 pub use effects::{Chosen, Effect, FlatShape, SolidShape};
 pub use name::{builtin_module, is_left_out};
-pub use slots::are_bounded;
 pub use table::BuiltinModule;

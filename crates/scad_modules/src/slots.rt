@@ -1,37 +1,16 @@
 //! The values that a call gives for the parameters of its module.
 
-ghost use Rattle.std.specs.Prelude.{◌≡◌, None, Some, is_some, option_map, MatchOption, MatchResult, IfOk, IsTrue, false};
+ghost use Rattle.std.specs.Prelude.{◌≡◌, None, Some, is_some, MatchOption, MatchResult, IfOk, IsTrue, false};
 ghost use Rattle.text_place.specs.declared.fault.FaultKind.TheVariants.{BadArgument};
 ghost use Rattle.scad_value.specs.View.{val_of};
 ghost use Rattle.primitives.specs.Sizes.{IsSafe};
-ghost use Rattle.scad_modules.specs.Bounds.{are_bounded as are_all_bounded, is_slot_bounded as is_given_bounded};
+ghost use Rattle.scad_modules.specs.Bounds.{are_bounded};
 ghost use Rattle.scad_modules.specs.Reading.{slot, number_in, truth_in, or_default};
 ghost use Rattle.scad_modules.specs.View.{slots_of, Reads};
 
 use crate::numbers::{number, truth_value};
 use scad_value::Value;
 use text_place::FaultKind;
-
-/// Whether each value that a call gives is bounded, as `effect` wants it. Takes no memory.
-pub fn are_bounded(slots: &[Option<Value>]) -> bool
-    ensures { result ≡ are_all_bounded (slots_of slots.now) }
-{
-    for slot in slots {
-        if !is_slot_bounded(slot) {
-            return false;
-        }
-    }
-    true
-}
-
-fn is_slot_bounded(slot: &Option<Value>) -> bool
-    ensures { result ≡ is_given_bounded (option_map val_of slot.now) }
-{
-    match slot {
-        Some(value) => value.is_bounded(),
-        None => true,
-    }
-}
 
 /// The value of a parameter, where the call gives one.
 pub(crate) fn given(slots: &[Option<Value>], parameter: usize) -> Option<&Value>
@@ -68,7 +47,7 @@ pub(crate) fn number_or(
     parameter: usize,
     default: i64,
 ) -> Result<i64, FaultKind>
-    requires slots { IsTrue (are_all_bounded (slots_of slots.now)) }
+    requires slots { IsTrue (are_bounded (slots_of slots.now)) }
     requires default { IsSafe default }
     ensures value { Reads result (or_default default number_in (slot (slots_of slots.now) parameter)) }
     ensures safe { IfOk result IsSafe }
