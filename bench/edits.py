@@ -16,7 +16,7 @@ import time
 from pathlib import Path
 from typing import NamedTuple
 
-ROUNDS = 5
+ROUNDS = 25
 
 # The functions between the phases: what they call of a phase's functions is that phase's cost.
 FRAME = (

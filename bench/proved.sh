@@ -1,7 +1,8 @@
 #!/bin/sh
 # Builds a program of this folder over the proved crates and runs it: proved.sh PROGRAM CRATE... [-- WORD...]. With words
-# it runs once for each of them, as its argument. The program stands in PROGRAM.txt, since the gate reads each .rt file as a
-# crate's. It is built in a folder of its own, which is removed.
+# it runs once for each of them, as its argument. Where MEASURE names a script of this folder, that is run instead, with the
+# program as its argument. The program stands in PROGRAM.txt, since the gate reads each .rt file as a crate's. It is built in
+# a folder of its own, which is removed.
 set -eu
 top=$(cd "$(dirname "$0")/.." && pwd)
 . "$top/memory.sh"
@@ -21,6 +22,10 @@ echo "$program:$crates" >> "$work/crates.txt"
 if ! (cd "$work/crates/$program" && rt run > "$work/log" 2>&1); then
     tail -20 "$work/log"
     exit 1
+fi
+if [ -n "${MEASURE-}" ]; then
+    sh "$top/bench/$MEASURE" "$work/crates/$program/out/$program"
+    exit
 fi
 if [ $# -eq 0 ]; then
     "$work/crates/$program/out/$program"
