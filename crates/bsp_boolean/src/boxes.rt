@@ -20,7 +20,7 @@ use plane_table::PlaneTable;
 use std::alloc::Global;
 use text_place::NoMemory;
 
-/// The offset of the world box's planes.
+// The offset of the world box's planes.
 const WORLD: i64 = 4096;
 
 /// Whether the planes of a leaf are those of an upright box within the world box, in the order of the
@@ -35,7 +35,7 @@ pub fn is_box(planes: &[Plane], world: &[Plane]) -> bool
         && is_pair_at(planes, world, 4)
 }
 
-/// Whether planes `i` and `i + 1` face away from each other as those of the world box do.
+// Whether planes `i` and `i + 1` face away from each other as those of the world box do.
 fn is_pair_at(planes: &[Plane], world: &[Plane], i: usize) -> bool
     requires planes { i + 1 < length planes.now }
     requires world { i + 1 < length world.now }
@@ -49,8 +49,8 @@ fn is_pair_at(planes: &[Plane], world: &[Plane], i: usize) -> bool
     )
 }
 
-/// Whether two planes face away from each other as two of the world box do, with room between them, and
-/// lie within it.
+// Whether two planes face away from each other as two of the world box do, with room between them, and
+// lie within it.
 #[tactic(auto, using(crate::proofs::BoxPairs::pair_of))]
 fn is_pair(low: &Plane, high: &Plane, low_world: &Plane, high_world: &Plane) -> bool
     ensures { IsTrue result → IsPair low.now high.now low_world.now high_world.now }
@@ -64,7 +64,7 @@ fn is_pair(low: &Plane, high: &Plane, low_world: &Plane, high_world: &Plane) -> 
     have_room(low, high)
 }
 
-/// Whether a plane has the direction of another one.
+// Whether a plane has the direction of another one.
 fn is_along(plane: &Plane, world: &Plane) -> bool
     ensures alike { IsTrue result → IsAlike plane.now world.now }
     ensures plane { IsPlane plane.now }
@@ -74,22 +74,22 @@ fn is_along(plane: &Plane, world: &Plane) -> bool
     is_alike(plane, world)
 }
 
-/// Whether there is room between two planes that face away from each other, and both lie within the
-/// world box.
+// Whether there is room between two planes that face away from each other, and both lie within the
+// world box.
 fn have_room(low: &Plane, high: &Plane) -> bool
     ensures { IsTrue result → HasRoom low.now.d high.now.d }
 {
     has_room(low.d, high.d)
 }
 
-/// The same, by their offsets.
+// The same, by their offsets.
 fn has_room(low: i64, high: i64) -> bool
     ensures { IsTrue result → HasRoom low high }
 {
     -WORLD < low && low < WORLD && -WORLD < high && high < WORLD && 0 < low + high
 }
 
-/// Plane `i` of a list.
+// Plane `i` of a list.
 fn wall(planes: &[Plane], i: usize) -> Plane
     requires { i < length planes.now }
     ensures { result ≡ wall planes.now i }
@@ -115,7 +115,7 @@ pub fn box_solid(
     chained_solid(alloc, &table, &faces, most)
 }
 
-/// The planes that a box's faces name, in ascending order.
+// The planes that a box's faces name, in ascending order.
 fn box_table(alloc: Global, planes: &[Plane], world: &[Plane]) -> Result<Vec<Plane>, NoMemory>
     requires six { length planes.now ≡ 6 }
     requires world { world.now ≡ world_walls }
@@ -136,7 +136,7 @@ fn box_table(alloc: Global, planes: &[Plane], world: &[Plane]) -> Result<Vec<Pla
     Ok(Vec::from_slice(alloc, &table)?)
 }
 
-/// The faces of a box over that list, in the order of its planes.
+// The faces of a box over that list, in the order of its planes.
 fn faces_of_box(alloc: Global) -> Result<Vec<Face>, NoMemory>
     ensures { IfOk result (λ v. v.items ≡ box_faces) }
 {
@@ -150,7 +150,7 @@ fn faces_of_box(alloc: Global) -> Result<Vec<Face>, NoMemory>
     Ok(faces)
 }
 
-/// A face by the numbers of its plane and its edges.
+// A face by the numbers of its plane and its edges.
 fn face(alloc: Global, plane: u32, edges: &[u32]) -> Result<Face, NoMemory>
     ensures { IfOk result (λ f. f ≡ record { plane = plane; edges = edges.now }) }
 {
@@ -160,7 +160,7 @@ fn face(alloc: Global, plane: u32, edges: &[u32]) -> Result<Face, NoMemory>
     })
 }
 
-/// The solid of faces one behind another, where its size is within the limit.
+// The solid of faces one behind another, where its size is within the limit.
 fn chained_solid(
     alloc: Global,
     table: &PlaneTable,

@@ -59,7 +59,7 @@ impl<'a> Merge<'a> {
         }
     }
 
-    /// The same for two nodes: the left one's face divides the right tree.
+    // The same for two nodes: the left one's face divides the right tree.
     #[cycle(branches)]
     fn node(
         &self,

@@ -80,7 +80,7 @@ impl Model for PlainBuilder {
 }
 
 impl PlainBuilder {
-    /// A builder with the count 0. Takes no memory.
+    /// A builder with the count 0.
     pub fn new() -> PlainBuilder
         ensures { result ≡ 0 }
     {

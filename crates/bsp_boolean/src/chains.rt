@@ -25,8 +25,8 @@ pub enum Step {
     Nothing,
 }
 
-/// What lies behind the planes of all of some faces, as the faces one behind another, or `None` where
-/// nothing does.
+// What lies behind the planes of all of some faces, as the faces one behind another, or `None` where
+// nothing does.
 fn chain_behind(
     alloc: Global,
     table: &PlaneTable,
@@ -46,7 +46,7 @@ fn chain_behind(
     }
 }
 
-/// A face, and behind it the part of a chain behind its plane.
+// A face, and behind it the part of a chain behind its plane.
 fn behind_first(
     alloc: Global,
     table: &PlaneTable,
@@ -76,7 +76,7 @@ fn behind_first(
     Ok(Some(low))
 }
 
-/// Adds a face, if there is one.
+// Adds a face, if there is one.
 fn push_kept(low: &mut Vec<Face>, kept: Option<Face>) -> Result<(), NoMemory>
     ensures { OnOk result (low.new.items ≡ low.old.items ++ kept_items kept) }
 {
@@ -86,7 +86,7 @@ fn push_kept(low: &mut Vec<Face>, kept: Option<Face>) -> Result<(), NoMemory>
     Ok(())
 }
 
-/// How a face goes on behind another one's plane, if there is another one.
+// How a face goes on behind another one's plane, if there is another one.
 fn next_step(
     alloc: Global,
     table: &PlaneTable,
@@ -104,7 +104,7 @@ fn next_step(
     }
 }
 
-/// How a face goes on behind another one's plane.
+// How a face goes on behind another one's plane.
 fn step_behind(alloc: Global, table: &PlaneTable, face: Face, by: Face) -> Result<Step, NoMemory>
     requires face { IsFaceOver table.now face }
     requires by { IsFaceOver table.now by }
@@ -158,7 +158,7 @@ pub fn grow_behind(
     grow_chain(alloc, growing, &chain)
 }
 
-/// Adds the solid of a chain, or of none, to what grows.
+// Adds the solid of a chain, or of none, to what grows.
 fn grow_chain(
     alloc: Global,
     growing: &mut Growing<'_>,

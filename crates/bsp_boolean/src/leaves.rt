@@ -35,7 +35,7 @@ pub fn leaf_solid(alloc: Global, planes: &[Plane], most: u64) -> Result<Solid, B
     }
 }
 
-/// The solid of a leaf, face by face.
+// The solid of a leaf, face by face.
 fn chain_solid(alloc: Global, planes: &[Plane], most: u64) -> Result<Solid, BuildStop>
     requires reach { All ComesInReach planes.now }
     ensures built { IsBuilt (convex planes.now) most result }
@@ -46,8 +46,8 @@ fn chain_solid(alloc: Global, planes: &[Plane], most: u64) -> Result<Solid, Buil
     behind_all(alloc, &table, &faces, most)
 }
 
-/// The points behind the planes of all of some faces, in the world box, where their size is within the
-/// limit.
+// The points behind the planes of all of some faces, in the world box, where their size is within the
+// limit.
 fn behind_all(
     alloc: Global,
     table: &PlaneTable,

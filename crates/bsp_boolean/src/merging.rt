@@ -41,8 +41,8 @@ pub fn merge_within(
     merged_within(alloc, op, left, right, most)
 }
 
-/// What was built within the limit of all numbers. A solid above that limit is larger than any
-/// memory: each node and each edge takes more than one byte.
+// What was built within the limit of all numbers. A solid above that limit is larger than any
+// memory: each node and each edge takes more than one byte.
 fn in_all_memory(built: Result<Solid, BuildStop>) -> Result<Solid, NoMemory>
     requires { (wanted : Tree) × IsBuilt wanted (2 ^ 64 - 1) built }
     ensures { IfOk result (λ s. built ≡ Ok s) }
@@ -53,8 +53,8 @@ fn in_all_memory(built: Result<Solid, BuildStop>) -> Result<Solid, NoMemory>
     }
 }
 
-/// The merge, by the definition: the left solid is gone through, its faces over the joined table, and the
-/// right one, which stands over that table, is divided by them.
+// The merge, by the definition: the left solid is gone through, its faces over the joined table, and the
+// right one, which stands over that table, is divided by them.
 fn merged_within(
     alloc: Global,
     op: Op,
@@ -82,9 +82,9 @@ fn merged_within(
     Ok(finish(alloc, growing, root)?)
 }
 
-/// For how many nodes a merge of so many takes room before it begins: it may have more nodes than both solids, and one of
-/// at most `most` in size has no more than a quarter of that, since a node has three edges at least. What is left of the
-/// room in the end is given back.
+// For how many nodes a merge of so many takes room before it begins: it may have more nodes than both solids, and one of
+// at most `most` in size has no more than a quarter of that, since a node has three edges at least. What is left of the
+// room in the end is given back.
 fn room(nodes: usize, most: u64) -> usize {
     let twice = nodes.saturating_mul(2);
     let limit = most / 4;
@@ -95,7 +95,7 @@ fn room(nodes: usize, most: u64) -> usize {
     }
 }
 
-/// Whether an operation is a union, in which the leaf inside decides.
+// Whether an operation is a union, in which the leaf inside decides.
 fn is_union(op: Op) -> bool
     ensures { result ≡ decides op }
 {
@@ -105,7 +105,7 @@ fn is_union(op: Op) -> bool
     }
 }
 
-/// Whether an operation is a difference, in which the right solid's inside and outside are exchanged.
+// Whether an operation is a difference, in which the right solid's inside and outside are exchanged.
 fn is_difference(op: Op) -> bool
     ensures { result ≡ exchanges op }
 {

@@ -16,10 +16,10 @@ use csg_tree::{CsgNode, CsgStore};
 use std::alloc::Global;
 use text_place::NoMemory;
 
-/// The most that the size of one node's solid may be.
+// The most that the size of one node's solid may be.
 const MOST_OF_ONE: u64 = 50_000;
 
-/// The most that the sizes of all nodes' solids may be together.
+// The most that the sizes of all nodes' solids may be together.
 const MOST_OF_ALL: u64 = 500_000;
 
 /// Why a tree has no solid.
@@ -75,7 +75,7 @@ pub fn tree_solid<B: Builder>(
     Ok(growth.solids.pop().unwrap())
 }
 
-/// Appends the solid of the node of this number, those before it being there.
+// Appends the solid of the node of this number, those before it being there.
 fn grow<B: Builder>(
     alloc: Global,
     store: &CsgStore,
@@ -106,7 +106,7 @@ fn grow<B: Builder>(
     Ok(())
 }
 
-/// The solid of one node, over those of the nodes before it.
+// The solid of one node, over those of the nodes before it.
 fn node_solid<B: Builder>(
     alloc: Global,
     node: CsgNode<'_>,

@@ -27,7 +27,7 @@ pub fn partition(alloc: Global, solid: &Solid, by: &Polygon) -> Result<(Solid, S
     parts_of(alloc, solid, by)
 }
 
-/// The parts, by the definition: the solid and the polygon stand over one table.
+// The parts, by the definition: the solid and the polygon stand over one table.
 fn parts_of(alloc: Global, solid: &Solid, by: &Polygon) -> Result<(Solid, Solid), NoMemory>
     ensures { IfOk result (λ r. (tree_of r.0, tree_of r.1) ≡ divide (tree_of solid.now) by.now) }
 {

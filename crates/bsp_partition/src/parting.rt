@@ -40,7 +40,7 @@ pub fn add_parts(
     }
 }
 
-/// The parts of a node's tree. On its own plane it has its two sides as its parts.
+// The parts of a node's tree. On its own plane it has its two sides as its parts.
 #[cycle(parts)]
 fn node_parts(
     alloc: Global,
@@ -69,8 +69,8 @@ fn node_parts(
     other_parts(alloc, nodes, node, by)
 }
 
-/// The parts of a node on another plane, by how its face and the other one lie against each other's
-/// planes.
+// The parts of a node on another plane, by how its face and the other one lie against each other's
+// planes.
 #[cycle(parts)]
 fn other_parts(
     alloc: Global,
@@ -98,8 +98,8 @@ fn other_parts(
     }
 }
 
-/// The parts of what lies behind and ahead of a node's plane, by the parts of another face that is
-/// across that plane.
+// The parts of what lies behind and ahead of a node's plane, by the parts of another face that is
+// across that plane.
 #[cycle(parts)]
 fn side_parts(
     alloc: Global,
@@ -124,7 +124,7 @@ fn side_parts(
     Ok((low, high))
 }
 
-/// The parts of the tree at a link, by the part of a face in a half space. A leaf is both its parts.
+// The parts of the tree at a link, by the part of a face in a half space. A leaf is both its parts.
 #[cycle(parts)]
 fn half_parts(
     alloc: Global,
@@ -146,7 +146,7 @@ fn half_parts(
     }
 }
 
-/// The two parts of a face that is across another one's plane, in nodes with the parts of its sides.
+// The two parts of a face that is across another one's plane, in nodes with the parts of its sides.
 fn made_across(
     alloc: Global,
     nodes: &mut Nodes<'_>,
@@ -173,7 +173,7 @@ fn made_across(
     Ok((first, second))
 }
 
-/// A node of the part of a face in a half space, or the leaf where both its sides are the same leaf.
+// A node of the part of a face in a half space, or the leaf where both its sides are the same leaf.
 fn make_half(
     alloc: Global,
     nodes: &mut Nodes<'_>,
@@ -194,7 +194,7 @@ fn make_half(
     make_node(nodes, part, behind, ahead)
 }
 
-/// The parts of a node by a face that lies behind its plane, where its own face lies in this part.
+// The parts of a node by a face that lies behind its plane, where its own face lies in this part.
 #[cycle(parts)]
 fn behind_parts(
     alloc: Global,
@@ -214,7 +214,7 @@ fn behind_parts(
     }
 }
 
-/// The parts of a node by a face that lies ahead of its plane, where its own face lies in this part.
+// The parts of a node by a face that lies ahead of its plane, where its own face lies in this part.
 #[cycle(parts)]
 fn ahead_parts(
     alloc: Global,
@@ -234,7 +234,7 @@ fn ahead_parts(
     }
 }
 
-/// A node over two links, or the leaf where both are the same leaf.
+// A node over two links, or the leaf where both are the same leaf.
 fn make_node(nodes: &mut Nodes<'_>, face: Face, behind: Link, ahead: Link) -> Result<Link, NoMemory>
     requires face { IsFaceOver nodes.old.planes face }
     requires behind { IsLinkOf nodes.old.nodes behind }

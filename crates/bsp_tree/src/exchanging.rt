@@ -23,7 +23,7 @@ pub fn exchange(alloc: Global, solid: &Solid) -> Result<Solid, NoMemory>
     exchanged(alloc, solid)
 }
 
-/// A solid with In and Out exchanged.
+// A solid with In and Out exchanged.
 fn exchanged(alloc: Global, solid: &Solid) -> Result<Solid, NoMemory>
     ensures { IfOk result (λ s. tree_of s ≡ complement (tree_of solid.now)) }
 {

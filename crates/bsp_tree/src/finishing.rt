@@ -48,7 +48,7 @@ pub fn finish(alloc: Global, growing: Growing<'_>, root: Link) -> Result<Solid, 
     whole(alloc, nodes, root, size)
 }
 
-/// The solid with all planes of its table. Room for more nodes is given back, since a solid never grows.
+// The solid with all planes of its table. Room for more nodes is given back, since a solid never grows.
 fn whole(alloc: Global, nodes: Nodes<'_>, root: Link, size: u64) -> Result<Solid, NoMemory>
     requires { HasGrownWhole nodes root size }
     ensures { IfOk result (λ s. tree_of s ≡ tree_on nodes.entry root) }
@@ -60,7 +60,7 @@ fn whole(alloc: Global, nodes: Nodes<'_>, root: Link, size: u64) -> Result<Solid
     Ok(Solid::grown(planes, forest, root, size))
 }
 
-/// The solid with those planes that are used.
+// The solid with those planes that are used.
 fn trimmed(
     alloc: Global,
     nodes: &Nodes<'_>,
@@ -79,13 +79,13 @@ fn trimmed(
     whole(alloc, over, root, size)
 }
 
-/// Whether more than a third of the planes is not used.
+// Whether more than a third of the planes is not used.
 fn has_many_unused(used: &[bool]) -> bool {
     let unused = used.iter().filter(|is_used| !**is_used).count();
     unused > used.len() / 3
 }
 
-/// Which planes of their table some nodes name.
+// Which planes of their table some nodes name.
 fn used_planes(alloc: Global, nodes: &Nodes<'_>) -> Result<Vec<bool>, NoMemory>
     ensures { IfOk result (λ v. AreUsed nodes.now v.items) }
 {
@@ -94,7 +94,7 @@ fn used_planes(alloc: Global, nodes: &Nodes<'_>) -> Result<Vec<bool>, NoMemory>
     Ok(used)
 }
 
-/// Marks the planes that some nodes name as used.
+// Marks the planes that some nodes name as used.
 fn mark_nodes(nodes: &Nodes<'_>, used: &mut [bool])
     requires { length used.old ≡ length nodes.now.planes }
     ensures { AreUsed nodes.now used.new }

@@ -25,7 +25,7 @@ pub fn half(alloc: Global, plane: &Plane) -> Result<Solid, NoMemory>
     half_of(alloc, plane)
 }
 
-/// The node of a half space.
+// The node of a half space.
 fn half_of(alloc: Global, plane: &Plane) -> Result<Solid, NoMemory>
     requires { ComesInReach plane.now }
     ensures { IfOk result (λ s. tree_of s ≡ half_space plane.now) }

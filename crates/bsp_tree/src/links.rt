@@ -15,7 +15,7 @@ pub fn is_same_leaf(behind: Link, ahead: Link) -> bool
     }
 }
 
-/// Whether a link is an end of this kind.
+// Whether a link is an end of this kind.
 fn is_leaf(link: Link, is_inside: bool) -> bool
     ensures { result ≡ is_leaf is_inside link }
 {

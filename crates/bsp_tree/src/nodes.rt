@@ -32,7 +32,7 @@ impl<'t> Nodes<'t> {
     ghost use Rattle.plane_table.specs.Faces.{outline_of, IsFaceOver};
     ghost use Rattle.bsp_tree.specs.Shapes.{AreFacesOver};
 
-    /// No nodes yet, over a table. Takes no memory.
+    /// No nodes yet, over a table.
     pub fn new(alloc: Global, table: &'t PlaneTable) -> Nodes<'t>
         ensures { result ≡ record { planes = table.now; nodes = [] } }
     {
@@ -84,7 +84,7 @@ impl<'t> Nodes<'t> {
         self.forest.reserve(n)
     }
 
-    /// Keeps the first `len` nodes. Takes no memory.
+    /// Keeps the first `len` nodes.
     pub fn cut_back(&mut self, len: usize)
         ensures planes { self.new.planes ≡ self.old.planes }
         ensures nodes { self.new.nodes ≡ take len self.old.nodes }

@@ -46,7 +46,7 @@ impl Solid {
     ghost use Rattle.bsp_tree.specs.Growths.{HasGrownWhole};
     ghost use Rattle.bsp_tree.specs.Kept.{IsKept};
 
-    /// A leaf: all of the cell is inside, or all of it is outside. Takes no memory.
+    /// A leaf: all of the cell is inside, or all of it is outside.
     pub fn leaf(alloc: Global, is_inside: bool) -> Solid
         ensures { tree_of result ≡ leaf_of is_inside }
     {
@@ -73,7 +73,7 @@ impl Solid {
         }
     }
 
-    /// A solid that has grown over a table from nothing, with its size. Takes no memory.
+    /// A solid that has grown over a table from nothing, with its size.
     pub(crate) fn grown(planes: Vec<Plane>, forest: Forest<Face>, root: Link, size: u64) -> Solid
         requires apart { HasNoTwoAlike planes.items }
         requires faces { AreFacesOver planes.items forest.nodes }
@@ -89,7 +89,7 @@ impl Solid {
     }
 
     /// The table, the forest of faces over it, and the link at which the solid's tree begins. An end
-    /// of a link is a leaf, which is inside the solid where it is true. Takes no memory.
+    /// of a link is a leaf, which is inside the solid where it is true.
     pub fn parts(&self) -> (&[Plane], &Forest<Face>, Link)
         ensures parts { self.now ≡ record { planes = result.0.now; nodes = result.1.now.nodes; root = result.2 } }
         ensures tree { tree_of self.now ≡ tree_over result.0.now result.1.now.nodes result.2 }
@@ -120,7 +120,7 @@ impl Solid {
     }
 }
 
-/// What the tree at a link of a forest is in size, which stops at the greatest number.
+// What the tree at a link of a forest is in size, which stops at the greatest number.
 fn size_at(forest: &Forest<Face>, at: Link) -> u64
     requires { IsLinkOf forest.now.nodes at }
     ensures { (planes : List Coefficients) → result ≡ min (size (tree_over planes forest.now.nodes at)) (2 ^ 64 - 1) }
@@ -135,7 +135,7 @@ fn size_at(forest: &Forest<Face>, at: Link) -> u64
     }
 }
 
-/// An equal forest. Its room is taken first.
+// An equal forest. Its room is taken first.
 fn forest_copy(alloc: Global, forest: &Forest<Face>) -> Result<Forest<Face>, NoMemory>
     ensures { IfOk result (λ f. f.nodes ≡ forest.now.nodes) }
 {

@@ -21,7 +21,7 @@ pub fn holds(solid: &Solid, point: &Point) -> bool
     holds_at(planes, forest, root, point)
 }
 
-/// The same from a link on.
+// The same from a link on.
 fn holds_at(planes: &[Plane], forest: &Forest<Face>, at: Link, point: &Point) -> bool
     requires faces { AreFacesOver planes.now forest.now.nodes }
     requires link { IsLinkOf forest.now.nodes at }
@@ -40,7 +40,7 @@ fn holds_at(planes: &[Plane], forest: &Forest<Face>, at: Link, point: &Point) ->
     }
 }
 
-/// The plane that a number names over a list.
+// The plane that a number names over a list.
 #[tactic(auto, unfolding(plane_table::specs::Tables::turned_by_number))]
 fn plane_named(planes: &[Plane], number: u32) -> Plane
     requires { IsNumberIn planes.now number }
@@ -54,7 +54,7 @@ fn plane_named(planes: &[Plane], number: u32) -> Plane
     }
 }
 
-/// Whether a point is strictly behind a plane.
+// Whether a point is strictly behind a plane.
 fn lies_behind(plane: &Plane, point: &Point) -> bool
     ensures { result ≡ is_behind plane.now point.now }
 {

@@ -18,7 +18,7 @@ pub fn put_face(alloc: Global, out: &mut Vec<u8>, plane: &Plane) -> Result<(), C
     Ok(put_own(alloc, out, &found)?)
 }
 
-/// The same of a face over the planes that it names.
+// The same of a face over the planes that it names.
 fn put_own(alloc: Global, out: &mut Vec<u8>, own: &OwnFace) -> Result<(), NoMemory> {
     put_planes(alloc, out, &own.planes)?;
     put_numbers_of(alloc, out, &own.face)?;
@@ -34,7 +34,7 @@ pub fn put_numbers_of(alloc: Global, out: &mut Vec<u8>, face: &Face) -> Result<(
     put_list(alloc, out, face.edges.numbers())
 }
 
-/// A list of edges with these numbers.
+// A list of edges with these numbers.
 fn edges_of(alloc: Global, numbers: &[i64]) -> Result<Edges, CaseStop> {
     let mut edges = Edges::new(alloc);
     for number in numbers {
@@ -43,7 +43,7 @@ fn edges_of(alloc: Global, numbers: &[i64]) -> Result<Edges, CaseStop> {
     Ok(edges)
 }
 
-/// How many edges a list has, and their numbers.
+// How many edges a list has, and their numbers.
 fn put_counted(alloc: Global, out: &mut Vec<u8>, edges: &Edges) -> Result<(), NoMemory> {
     put_number(alloc, out, edges.len() as i128)?;
     put(out, b" edges ")?;
@@ -59,7 +59,7 @@ pub fn put_edges(alloc: Global, out: &mut Vec<u8>, numbers: &[i64]) -> Result<()
     Ok(put_list(alloc, out, copied.numbers())?)
 }
 
-/// A list in which two lists were joined, and the numbers that each of them has there.
+// A list in which two lists were joined, and the numbers that each of them has there.
 fn put_join(alloc: Global, out: &mut Vec<u8>, joined: &Joined) -> Result<(), NoMemory> {
     put_planes(alloc, out, &joined.planes)?;
     put(out, b" left ")?;

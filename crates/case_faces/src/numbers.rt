@@ -7,12 +7,12 @@ use plane_predicate::{Plane, Point, Side, meet, opposite, plane_of, point_side, 
 use std::alloc::Global;
 use text_place::NoMemory;
 
-/// The greatest size of a direction, and of an offset.
+// The greatest size of a direction, and of an offset.
 const MOST: u64 = 134_152_200;
 
 const MOST_OFFSET: u64 = 1_648_059_777_000;
 
-/// The plane of four numbers that have no common factor.
+// The plane of four numbers that have no common factor.
 fn plane(a: i64, b: i64, c: i64, d: i64) -> Result<Plane, CaseStop> {
     let is_small = a.unsigned_abs() <= MOST
         && b.unsigned_abs() <= MOST
@@ -51,7 +51,7 @@ pub fn put_through(alloc: Global, out: &mut Vec<u8>, numbers: &[i64]) -> Result<
     Ok(())
 }
 
-/// The point on three planes, as it is found and in lowest terms.
+// The point on three planes, as it is found and in lowest terms.
 fn put_point_on(
     alloc: Global,
     out: &mut Vec<u8>,
@@ -78,7 +78,7 @@ pub fn put_meeting(alloc: Global, out: &mut Vec<u8>, numbers: &[i64]) -> Result<
     }
 }
 
-/// The side of the fourth plane on which the first three meet, where they do.
+// The side of the fourth plane on which the first three meet, where they do.
 fn side_of_meeting(p: &Plane, q: &Plane, r: &Plane, s: &Plane) -> Option<Side> {
     match meet(p, q, r) {
         None => None,
@@ -86,7 +86,7 @@ fn side_of_meeting(p: &Plane, q: &Plane, r: &Plane, s: &Plane) -> Option<Side> {
     }
 }
 
-/// The same, written.
+// The same, written.
 fn put_side_of(
     out: &mut Vec<u8>,
     p: &Plane,
@@ -98,8 +98,8 @@ fn put_side_of(
     Ok(put(out, b" ")?)
 }
 
-/// The side of the last plane on which the first three meet; then that with the first two exchanged, with the first one
-/// turned, and with the turned one last.
+// The side of the last plane on which the first three meet; then that with the first two exchanged, with the first one
+// turned, and with the turned one last.
 fn put_turned(
     out: &mut Vec<u8>,
     p: &Plane,
@@ -150,7 +150,7 @@ pub fn point(x: i64, y: i64, z: i64, w: i64) -> Result<Point, CaseStop> {
     })
 }
 
-/// A number, turned round where a bit of `signs` says so.
+// A number, turned round where a bit of `signs` says so.
 fn turned(number: i64, signs: u32, bit: u32) -> i64 {
     if signs & bit == 0 {
         number
@@ -159,7 +159,7 @@ fn turned(number: i64, signs: u32, bit: u32) -> i64 {
     }
 }
 
-/// A plane, where bits of `signs` turn its numbers round.
+// A plane, where bits of `signs` turn its numbers round.
 fn signed(p: &Plane, signs: u32) -> Result<Plane, CaseStop> {
     plane(
         turned(p.a, signs, 1),
@@ -169,7 +169,7 @@ fn signed(p: &Plane, signs: u32) -> Result<Plane, CaseStop> {
     )
 }
 
-/// How often something lay behind a plane, on it and ahead of it.
+// How often something lay behind a plane, on it and ahead of it.
 #[derive(Clone, Copy)]
 struct Counts {
     behind: u32,
@@ -187,7 +187,7 @@ impl Counts {
     }
 }
 
-/// Counts the sides on which a plane meets the others with all their signs.
+// Counts the sides on which a plane meets the others with all their signs.
 fn count_sides(
     counts: &mut Counts,
     p: &Plane,
@@ -205,7 +205,7 @@ fn count_sides(
     Ok(())
 }
 
-/// How often the first three planes, with all signs of their numbers, meet behind the last one, on it and ahead of it.
+// How often the first three planes, with all signs of their numbers, meet behind the last one, on it and ahead of it.
 fn counted(p: &Plane, q: &Plane, r: &Plane, s: &Plane) -> Result<Counts, CaseStop> {
     let mut counts = Counts {
         behind: 0,

@@ -38,7 +38,7 @@ pub fn tabling_of(word: &[u8]) -> Option<Tabling> {
     found(&TABLINGS, word)
 }
 
-/// A face over a list in which the planes of its own list have these numbers.
+// A face over a list in which the planes of its own list have these numbers.
 fn moved(
     alloc: Global,
     face: &Face,
@@ -54,7 +54,7 @@ fn moved(
     renumber(alloc, face, numbers)
 }
 
-/// The table of the planes of two lists, and a face of the first list over it.
+// The table of the planes of two lists, and a face of the first list over it.
 fn tabled_by(
     alloc: Global,
     face: &Face,
@@ -70,7 +70,7 @@ fn tabled_by(
     Ok((table, face))
 }
 
-/// The table of the planes that the faces of two planes name, and the first of these faces over it.
+// The table of the planes that the faces of two planes name, and the first of these faces over it.
 fn tabled(alloc: Global, first: &Plane, second: &Plane) -> Result<(PlaneTable, Face), NoMemory>
     requires first { ComesInReach first.now }
     requires second { ComesInReach second.now }
@@ -81,7 +81,7 @@ fn tabled(alloc: Global, first: &Plane, second: &Plane) -> Result<(PlaneTable, F
     tabled_by(alloc, &own.face, &own.planes, &other.planes)
 }
 
-/// A number that names a plane of a table.
+// A number that names a plane of a table.
 fn number_in(table: &PlaneTable, number: i64) -> Result<u32, CaseStop>
     ensures { IfOk result (IsNumberIn table.now) }
 {
@@ -91,7 +91,7 @@ fn number_in(table: &PlaneTable, number: i64) -> Result<u32, CaseStop>
     }
 }
 
-/// The planes of the table, the face's numbers, and its corners.
+// The planes of the table, the face's numbers, and its corners.
 fn put_table(
     alloc: Global,
     out: &mut Vec<u8>,
@@ -107,7 +107,7 @@ fn put_table(
     put_corners(alloc, out, &polygon)
 }
 
-/// Whether two numbers name the same plane, opposite planes or others, and whether these have one direction.
+// Whether two numbers name the same plane, opposite planes or others, and whether these have one direction.
 fn put_alike(out: &mut Vec<u8>, table: &PlaneTable, first: u32, second: u32) -> Result<(), NoMemory>
     requires first { IsNumberIn table.now first }
     requires second { IsNumberIn table.now second }
@@ -126,7 +126,7 @@ fn put_alike(out: &mut Vec<u8>, table: &PlaneTable, first: u32, second: u32) -> 
     }
 }
 
-/// The parts of a face behind a plane and ahead of it.
+// The parts of a face behind a plane and ahead of it.
 fn put_parts(
     alloc: Global,
     out: &mut Vec<u8>,
@@ -142,7 +142,7 @@ fn put_parts(
     put_numbers_of(alloc, out, &ahead)
 }
 
-/// How the face lies against the plane of a number; where that is across, the parts behind and ahead.
+// How the face lies against the plane of a number; where that is across, the parts behind and ahead.
 fn put_lying(
     alloc: Global,
     out: &mut Vec<u8>,
@@ -171,14 +171,14 @@ fn put_lying(
     Ok(())
 }
 
-/// Planes that are kept, and the numbers that others have among them.
+// Planes that are kept, and the numbers that others have among them.
 fn put_kept(alloc: Global, out: &mut Vec<u8>, kept: &Numbered) -> Result<(), NoMemory> {
     put_planes(alloc, out, &kept.planes)?;
     put(out, b" numbers ")?;
     put_list(alloc, out, &kept.numbers)
 }
 
-/// The planes of the table without those that the face does not name, and the numbers that they have in that list.
+// The planes of the table without those that the face does not name, and the numbers that they have in that list.
 fn put_used(
     alloc: Global,
     out: &mut Vec<u8>,
@@ -193,7 +193,7 @@ fn put_used(
     put_kept(alloc, out, &kept)
 }
 
-/// What a phrase asks of a face over a table.
+// What a phrase asks of a face over a table.
 fn put_asked(
     alloc: Global,
     out: &mut Vec<u8>,

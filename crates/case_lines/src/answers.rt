@@ -8,7 +8,7 @@ use outside_io::{Sink, Source, read_to_end, write_all};
 use std::alloc::Global;
 use text_place::{Bytes, NoMemory};
 
-/// The most bytes of all cases.
+// The most bytes of all cases.
 const MOST_BYTES: usize = 1 << 20;
 
 /// What a program answers.
@@ -74,7 +74,7 @@ pub fn read_lines<S: Source>(alloc: Global, source: &mut S) -> Option<Vec<Bytes>
     }
 }
 
-/// Each line, with its answer below where it is a case.
+// Each line, with its answer below where it is a case.
 fn put_lines<A: Answers>(
     alloc: Global,
     out: &mut Vec<u8>,

@@ -11,7 +11,7 @@ pub struct Phrase {
     pub numbers: Vec<i64>,
 }
 
-/// A number with one digit more, where it is one.
+// A number with one digit more, where it is one.
 fn grown(number: i64, digit: u8) -> Option<i64> {
     if digit.is_ascii_digit() {
         number.checked_mul(10)?.checked_add(i64::from(digit - b'0'))
@@ -20,7 +20,7 @@ fn grown(number: i64, digit: u8) -> Option<i64> {
     }
 }
 
-/// A number in decimal digits, with a minus sign where it is negative.
+// A number in decimal digits, with a minus sign where it is negative.
 fn number_of(text: &[u8]) -> Option<i64> {
     let (is_negative, digits) = match text {
         [b'-', rest @ ..] => (true, rest),
@@ -39,7 +39,7 @@ fn number_of(text: &[u8]) -> Option<i64> {
     }
 }
 
-/// The numbers of words, one space between two of them, up to the first word that is none.
+// The numbers of words, one space between two of them, up to the first word that is none.
 fn numbers_of(alloc: Global, text: &[u8]) -> Result<Vec<i64>, NoMemory> {
     let mut numbers = Vec::new(alloc);
     for word in text.split(|byte| *byte == b' ') {

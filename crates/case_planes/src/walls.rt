@@ -9,7 +9,7 @@ use std::alloc::Global;
 use std::marker::Model;
 use text_place::NoMemory;
 
-/// The plane through three points whose coordinates are at most 4095 in size.
+// The plane through three points whose coordinates are at most 4095 in size.
 fn laid(p: [i64; 3], q: [i64; 3], r: [i64; 3]) -> Option<Plane>
     requires p_reach { IsInReach (point_at p) }
     requires q_reach { IsInReach (point_at q) }
@@ -22,7 +22,7 @@ fn laid(p: [i64; 3], q: [i64; 3], r: [i64; 3]) -> Option<Plane>
     }
 }
 
-/// A point whose coordinates are at most 4095 in size, or nothing.
+// A point whose coordinates are at most 4095 in size, or nothing.
 fn near(p: [i64; 3]) -> Option<[i64; 3]>
     ensures { IfSome result (λ p. IsInReach (point_at p)) }
 {

@@ -7,7 +7,7 @@ use std::alloc::{AllocError, Global};
 use std::marker::Model;
 use std::mem::size_of;
 
-/// The most bytes that lie in the value itself.
+// The most bytes that lie in the value itself.
 const ROOM: usize = 14;
 
 /// Bytes, which contracts see as a list. The value takes 16 bytes, and up to 14 bytes lie in it; more are allocated.
@@ -16,7 +16,7 @@ pub struct CompactBytes {
     stored: Stored,
 }
 
-/// Where the bytes lie.
+// Where the bytes lie.
 #[derive(Drop)]
 enum Stored {
     /// How many bytes of the room count, and the room.
@@ -72,7 +72,7 @@ impl CompactBytes {
         }
     }
 
-    /// The bytes in order. Takes no memory.
+    /// The bytes in order.
     pub fn items(&self) -> &[u8]
         ensures { result.now ≡ self.now }
     {

@@ -33,7 +33,7 @@ impl CsgStore {
     }
 }
 
-/// The numbers of the nodes of a store by their keys.
+// The numbers of the nodes of a store by their keys.
 fn numbers_by_key(alloc: Global, store: &CsgStore) -> Result<BTreeMap<NodeKey, u32>, NoMemory>
     ensures { IfOk result (AreFound store.now (length store.now)) }
 {
@@ -45,7 +45,7 @@ fn numbers_by_key(alloc: Global, store: &CsgStore) -> Result<BTreeMap<NodeKey, u
     Ok(found)
 }
 
-/// The number of a node's tree among those that are found, where the numbers of its two trees are known.
+// The number of a node's tree among those that are found, where the numbers of its two trees are known.
 fn number_in(
     alloc: Global,
     node: CsgNode<'_>,
@@ -65,7 +65,7 @@ fn number_in(
     }
 }
 
-/// A node with the numbers of its two trees in an earlier store, where they have one.
+// A node with the numbers of its two trees in an earlier store, where they have one.
 fn among<'a>(node: CsgNode<'a>, numbers: &[Option<u32>]) -> Option<CsgNode<'a>>
     requires { IsOver numbers.now (node_of node) }
     ensures { (earlier trees : List Formula) → AreNumbered earlier → AreNumbersIn earlier trees numbers.now →

@@ -39,7 +39,7 @@ pub struct Interner {
 }
 
 impl Interner {
-    /// No nodes. Takes no memory.
+    /// No nodes.
     pub fn new(alloc: Global) -> Interner
         ensures interned { AreInterned result.found result.nodes.items }
         ensures none { result.nodes.items ≡ [] }
@@ -72,7 +72,7 @@ impl Interner {
         }
     }
 
-    /// Adds a node with a key that is not found, and answers its number.
+    // Adds a node with a key that is not found, and answers its number.
     fn add(&mut self, alloc: Global, key: NodeKey, node: CsgNode<'_>) -> Result<u32, NoMemory>
         requires few { length self.old.nodes.items + 1 < 2 ^ 32 }
         ensures nodes { OnOk result (self.new.nodes.items ≡ self.old.nodes.items ++ node_of node.entry ∷ []) }
@@ -112,7 +112,7 @@ pub fn key_of_node(alloc: Global, node: CsgNode<'_>) -> Result<NodeKey, NoMemory
     }
 }
 
-/// The numbers of planes.
+// The numbers of planes.
 fn plane_numbers(alloc: Global, planes: &[Plane]) -> Result<Vec<PlaneNumbers>, NoMemory>
     ensures { IfOk result (λ numbers. map plane_of_numbers numbers.items ≡ planes.now) }
 {
@@ -123,7 +123,7 @@ fn plane_numbers(alloc: Global, planes: &[Plane]) -> Result<Vec<PlaneNumbers>, N
     Ok(numbers)
 }
 
-/// The four numbers of a plane.
+// The four numbers of a plane.
 fn numbers_of(plane: &Plane) -> PlaneNumbers
     ensures { plane_of_numbers result ≡ plane.now }
 {

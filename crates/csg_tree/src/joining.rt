@@ -41,7 +41,7 @@ pub fn balanced(alloc: Global, op: Op, list: Vec<CsgTree>) -> Result<CsgTree, No
     join_next(alloc, op, &mut trees, count)
 }
 
-/// The next trees joined by halves.
+// The next trees joined by halves.
 fn join_next(
     alloc: Global,
     op: Op,
@@ -61,7 +61,7 @@ fn join_next(
     join(alloc, op, first, rest)
 }
 
-/// The next tree where one is wanted, else Nothing.
+// The next tree where one is wanted, else Nothing.
 fn next_or_nothing(trees: &mut IntoIter<CsgTree>, count: usize) -> CsgTree
     requires one { count < 2 }
     requires within { count ≤ length (into_iter_items trees.old) }

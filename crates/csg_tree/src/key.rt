@@ -24,7 +24,7 @@ impl CsgTree {
     }
 }
 
-/// Appends the bytes of a tree.
+// Appends the bytes of a tree.
 fn push_key(tree: &CsgTree, bytes: &mut Vec<u8>) -> Result<(), NoMemory>
     ensures { OnOk result (bytes.new.items ≡ bytes.old.items ++ key_of (formula_of tree.now)) }
 {
@@ -45,7 +45,7 @@ fn push_key(tree: &CsgTree, bytes: &mut Vec<u8>) -> Result<(), NoMemory>
     Ok(())
 }
 
-/// Appends the four numbers of each plane.
+// Appends the four numbers of each plane.
 fn push_planes(planes: &[Plane], bytes: &mut Vec<u8>) -> Result<(), NoMemory>
     ensures { OnOk result (bytes.new.items ≡ bytes.old.items ++ flat_map plane_bytes planes.now) }
 {
@@ -55,7 +55,7 @@ fn push_planes(planes: &[Plane], bytes: &mut Vec<u8>) -> Result<(), NoMemory>
     Ok(())
 }
 
-/// Appends the four numbers of a plane.
+// Appends the four numbers of a plane.
 fn push_plane(plane: &Plane, bytes: &mut Vec<u8>) -> Result<(), NoMemory>
     ensures { OnOk result (bytes.new.items ≡ bytes.old.items ++ plane_bytes plane.now) }
 {
@@ -66,7 +66,7 @@ fn push_plane(plane: &Plane, bytes: &mut Vec<u8>) -> Result<(), NoMemory>
     Ok(())
 }
 
-/// Appends a number in eight bytes.
+// Appends a number in eight bytes.
 #[tactic(auto, unfolding(crate::specs::Keys::number_bytes))]
 fn push_number(number: i64, bytes: &mut Vec<u8>) -> Result<(), NoMemory>
     ensures { OnOk result (bytes.new.items ≡ bytes.old.items ++ number_bytes number) }

@@ -24,7 +24,7 @@ pub fn levels_of(alloc: Global, parts: &[CsgNode<'_>]) -> Result<Vec<Vec<u32>>, 
     Ok(levels)
 }
 
-/// The height of a node, where the heights of the nodes before it are known.
+// The height of a node, where the heights of the nodes before it are known.
 fn height_of(node: CsgNode<'_>, heights: &[usize]) -> usize
     requires over { IsOver heights.now (node_of node) }
     requires small { (k : ℕ) → k < length heights.now → get_or heights.now k 0 < 2 ^ 63 }
@@ -38,7 +38,7 @@ fn height_of(node: CsgNode<'_>, heights: &[usize]) -> usize
     }
 }
 
-/// Puts a number at the end of the level of a height, which may be the first above all levels.
+// Puts a number at the end of the level of a height, which may be the first above all levels.
 fn put(
     alloc: Global,
     levels: &mut Vec<Vec<u32>>,
@@ -56,7 +56,7 @@ fn put(
     append(levels, height, number)
 }
 
-/// Puts a number at the end of one of the levels.
+// Puts a number at the end of one of the levels.
 fn append(levels: &mut Vec<Vec<u32>>, height: usize, number: u32) -> Result<(), NoMemory>
     requires { height < length levels.old.items }
     ensures level { OnOk result ((h : ℕ) → level_at levels.new.items h ≡ (if nat_eq height h then level_at levels.old.items h ++ number ∷ [] else level_at levels.old.items h)) }

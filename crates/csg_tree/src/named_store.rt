@@ -97,7 +97,7 @@ impl NamedStore {
         })
     }
 
-    /// The store. Takes no memory.
+    /// The store.
     pub fn store(&self) -> &CsgStore
         ensures { result.now ≡ self.now }
     {
@@ -115,7 +115,7 @@ impl NamedStore {
         }
     }
 
-    /// The name of a node that is a join.
+    // The name of a node that is a join.
     fn name(&self, number: u32) -> Option<[u8; 32]>
         requires { IsNumberIn self.now number }
         ensures { result ≡ name_of_join (tree_numbered self.now number) }
@@ -123,7 +123,7 @@ impl NamedStore {
         self.names[number as usize - 1]
     }
 
-    /// The hash of a join behind its front, where it is kept.
+    // The hash of a join behind its front, where it is kept.
     fn front(&self, number: u32) -> Result<Option<Sha256>, NoMemory>
         requires { IsNumberIn self.now number }
         ensures { IfOk result (HoldsFrontIfThere (tree_numbered self.now number)) }
@@ -134,8 +134,8 @@ impl NamedStore {
         }
     }
 
-    /// The hash of a join behind its front, where one is kept whose front has this operation, a first tree of this number
-    /// and this part of a second tree.
+    // The hash of a join behind its front, where one is kept whose front has this operation, a first tree of this number
+    // and this part of a second tree.
     fn front_with(
         &self,
         joins: &[u32],
@@ -163,7 +163,7 @@ impl NamedStore {
         }
     }
 
-    /// Whether this is what of a second tree belongs to the front.
+    // Whether this is what of a second tree belongs to the front.
     fn has_front_of_second(
         &self,
         op: Op,
@@ -182,7 +182,7 @@ impl NamedStore {
     }
 }
 
-/// What of a second tree belongs to the front, with the number of its tree in an earlier store.
+// What of a second tree belongs to the front, with the number of its tree in an earlier store.
 fn second_front_in(
     store: &CsgStore,
     op: Op,
@@ -200,8 +200,8 @@ fn second_front_in(
     }
 }
 
-/// For each number the number of a join whose first tree has it, or 0. It is where a hash is looked for, and who reads it looks
-/// at the join again.
+// For each number the number of a join whose first tree has it, or 0. It is where a hash is looked for, and who reads it looks
+// at the join again.
 fn joins_by_left(alloc: Global, store: &CsgStore) -> Result<Vec<u32>, NoMemory>
     ensures many { IfOk result (λ v. length v.items ≡ length store.now) }
     ensures within { IfOk result (λ v. All (λ n. n ≤ length store.now) v.items) }
@@ -215,7 +215,7 @@ fn joins_by_left(alloc: Global, store: &CsgStore) -> Result<Vec<u32>, NoMemory>
     Ok(joins)
 }
 
-/// The hash of a node that is a join, behind its front.
+// The hash of a node that is a join, behind its front.
 fn front_made(store: &CsgStore, number: u32) -> Option<Sha256>
     requires { IsNumberIn store.now number }
     ensures { HoldsFrontIfThere (tree_numbered store.now number) result }
@@ -226,7 +226,7 @@ fn front_made(store: &CsgStore, number: u32) -> Option<Sha256>
     }
 }
 
-/// The same, taken from an earlier store where that has the join, or one with the same front.
+// The same, taken from an earlier store where that has the join, or one with the same front.
 fn front_over(
     store: &CsgStore,
     number: u32,
@@ -255,7 +255,7 @@ fn front_over(
     }
 }
 
-/// The name of a node that is a join: that of its number in an earlier store, where it has one.
+// The name of a node that is a join: that of its number in an earlier store, where it has one.
 fn name_over(
     store: &CsgStore,
     number: u32,
@@ -275,7 +275,7 @@ fn name_over(
     Ok(name)
 }
 
-/// The name of a node that is a join, made of the bytes of its tree, from where its front left the hash.
+// The name of a node that is a join, made of the bytes of its tree, from where its front left the hash.
 #[tactic(auto, using(crate::proofs::Fronts::front_and_end))]
 fn name_made(
     store: &CsgStore,

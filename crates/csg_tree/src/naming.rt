@@ -19,7 +19,7 @@ use plane_predicate::Plane;
 use sha2::{Digest, Sha256};
 use text_place::NoMemory;
 
-/// The SHA-256 of the bytes of a node's tree. Takes no memory.
+/// The SHA-256 of the bytes of a node's tree.
 pub fn name_of_node(store: &CsgStore, number: u32) -> [u8; 32]
     requires { IsNumberIn store.now number }
     ensures { result ≡ name_of (tree_numbered store.now number) }
@@ -43,7 +43,7 @@ pub fn hash_of_front(store: &CsgStore, op: Op, left: u32, right: u32) -> Sha256
     hasher
 }
 
-/// Feeds what of a second tree belongs to the front.
+// Feeds what of a second tree belongs to the front.
 fn feed_front_of_second<D: Digest>(store: &CsgStore, op: Op, right: u32, hasher: &mut D)
     requires { IsNumberIn store.now right }
     ensures { (m : List ℕ) → D.holds hasher.old m → D.holds hasher.new (m ++ front_of_second op (tree_numbered store.now right)) }
@@ -98,7 +98,7 @@ pub fn second_join(store: &CsgStore, op: Op, right: u32) -> Option<SecondJoin>
     }
 }
 
-/// Feeds the bytes of a node's tree.
+// Feeds the bytes of a node's tree.
 fn feed<D: Digest>(store: &CsgStore, number: u32, hasher: &mut D)
     requires { IsNumberIn store.now number }
     ensures { (m : List ℕ) → D.holds hasher.old m → D.holds hasher.new (m ++ key_of (tree_numbered store.now number)) }
@@ -113,7 +113,7 @@ fn feed<D: Digest>(store: &CsgStore, number: u32, hasher: &mut D)
     }
 }
 
-/// Feeds the bytes of a leaf.
+// Feeds the bytes of a leaf.
 fn feed_leaf<D: Digest>(planes: &[Plane], hasher: &mut D)
     ensures { (m : List ℕ) → D.holds hasher.old m → D.holds hasher.new (m ++ key_of (leaf planes.now)) }
 {
@@ -121,7 +121,7 @@ fn feed_leaf<D: Digest>(planes: &[Plane], hasher: &mut D)
     feed_planes(planes, hasher);
 }
 
-/// The bytes of a leaf in front of its planes, which are so many.
+// The bytes of a leaf in front of its planes, which are so many.
 fn leaf_head(count: u64) -> [u8; 9]
     ensures { result ≡ 1 ∷ to_be_bytes w64 count }
 {
@@ -129,7 +129,7 @@ fn leaf_head(count: u64) -> [u8; 9]
     [1, n[0], n[1], n[2], n[3], n[4], n[5], n[6], n[7]]
 }
 
-/// Feeds the four numbers of each plane.
+// Feeds the four numbers of each plane.
 fn feed_planes<D: Digest>(planes: &[Plane], hasher: &mut D)
     ensures { (m : List ℕ) → D.holds hasher.old m → D.holds hasher.new (m ++ flat_map plane_bytes planes.now) }
 {
@@ -138,14 +138,14 @@ fn feed_planes<D: Digest>(planes: &[Plane], hasher: &mut D)
     }
 }
 
-/// Feeds the four numbers of a plane, in one piece: a piece costs the hash as much as a few bytes do.
+// Feeds the four numbers of a plane, in one piece: a piece costs the hash as much as a few bytes do.
 fn feed_plane<D: Digest>(plane: &Plane, hasher: &mut D)
     ensures { (m : List ℕ) → D.holds hasher.old m → D.holds hasher.new (m ++ plane_bytes plane.now) }
 {
     hasher.update(&bytes_of_plane(plane));
 }
 
-/// The bytes of the four numbers of a plane.
+// The bytes of the four numbers of a plane.
 fn bytes_of_plane(plane: &Plane) -> [u8; 32]
     ensures { result ≡ plane_bytes plane.now }
 {

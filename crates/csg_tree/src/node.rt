@@ -38,7 +38,7 @@ impl StoredNode {
         }
     }
 
-    /// The node, lent. Takes no memory.
+    /// The node, lent.
     pub fn lent(&self) -> CsgNode<'_>
         ensures { node_of result ≡ self.now }
     {

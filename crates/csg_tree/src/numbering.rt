@@ -35,7 +35,7 @@ pub fn nodes_of_levels(
     Ok(interner.nodes)
 }
 
-/// Numbers the parts of one level, where the two parts of each of them are numbered.
+// Numbers the parts of one level, where the two parts of each of them are numbered.
 fn number_level(
     alloc: Global,
     parts: &[CsgNode<'_>],
@@ -61,7 +61,7 @@ fn number_level(
     Ok(())
 }
 
-/// Numbers a part, where its two parts are numbered.
+// Numbers a part, where its two parts are numbered.
 fn number_part(
     alloc: Global,
     parts: &[CsgNode<'_>],
@@ -89,7 +89,7 @@ fn number_part(
     Ok(())
 }
 
-/// A part with the numbers of its two trees among the nodes.
+// A part with the numbers of its two trees among the nodes.
 fn linked<'a>(part: CsgNode<'a>, numbers: &[u32]) -> CsgNode<'a>
     requires { IsOver numbers.now (node_of part) }
     ensures { node_of result ≡ renumbered numbers.now (node_of part.entry) }

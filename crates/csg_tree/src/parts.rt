@@ -30,7 +30,7 @@ pub fn parts_of(alloc: Global, tree: &CsgTree) -> Result<Vec<CsgNode<'_>>, NoMem
     Ok(parts)
 }
 
-/// How many subtrees a tree has, with itself.
+// How many subtrees a tree has, with itself.
 fn count_of(tree: &CsgTree) -> u32
     requires { subtrees (formula_of tree.now) < 2 ^ 32 }
     ensures { result ≡ subtrees (formula_of tree.now) }
@@ -41,7 +41,7 @@ fn count_of(tree: &CsgTree) -> u32
     }
 }
 
-/// Appends the parts of a tree, and answers the number of the last of them.
+// Appends the parts of a tree, and answers the number of the last of them.
 fn push_parts<'a>(tree: &'a CsgTree, parts: &mut Vec<CsgNode<'a>>) -> Result<u32, NoMemory>
     requires something { IsSomething (formula_of tree.now) }
     requires joins { HasFullJoins (formula_of tree.now) }
@@ -63,7 +63,7 @@ fn push_parts<'a>(tree: &'a CsgTree, parts: &mut Vec<CsgNode<'a>>) -> Result<u32
     }
 }
 
-/// Appends a node over the nodes before it, and answers its number.
+// Appends a node over the nodes before it, and answers its number.
 fn push_node<'a>(node: CsgNode<'a>, parts: &mut Vec<CsgNode<'a>>) -> Result<u32, NoMemory>
     requires over { IsOver (trees_of_lent parts.old.items) (node_of node) }
     requires linked { AreLinkedLent parts.old.items }

@@ -19,14 +19,14 @@ impl Model for Planes {
 }
 
 impl Planes {
-    /// The planes of a vector. Takes no memory.
+    /// The planes of a vector.
     pub fn of(items: Vec<Plane>) -> Self
         ensures { result ≡ items.items }
     {
         Planes { items }
     }
 
-    /// The planes in order. Takes no memory.
+    /// The planes in order.
     pub fn items(&self) -> &[Plane]
         ensures { result.now ≡ self.now }
     {

@@ -52,7 +52,7 @@ impl CsgStore {
         Ok(CsgStore { nodes })
     }
 
-    /// The number of nodes. Takes no memory.
+    /// The number of nodes.
     pub fn len(&self) -> u32
         ensures is { result ≡ length self.now }
         ensures proper { All IsProper self.now }
@@ -61,7 +61,7 @@ impl CsgStore {
         self.nodes.len() as u32
     }
 
-    /// The node of a number, from 1. The numbers of its two trees are smaller. Takes no memory.
+    /// The node of a number, from 1. The numbers of its two trees are smaller.
     pub fn node(&self, number: u32) -> CsgNode<'_>
         requires { IsNumberIn self.now number }
         ensures node { IsNodeOf self.now number result }

@@ -61,7 +61,7 @@ impl TreeKey {
         })
     }
 
-    /// The store and the number of the node, whose tree is the key's. Takes no memory.
+    /// The store and the number of the node, whose tree is the key's.
     pub fn at(&self) -> (&CsgStore, u32)
         ensures within { IsNumberIn result.0.now result.1 }
         ensures tree { tree_numbered result.0.now result.1 ≡ self.now }
@@ -69,7 +69,7 @@ impl TreeKey {
         (&self.store, self.number)
     }
 
-    /// The SHA-256 of the tree's bytes. Takes no memory.
+    /// The SHA-256 of the tree's bytes.
     pub fn name(&self) -> [u8; 32]
         ensures { result ≡ name_of self.now }
     {
@@ -77,7 +77,7 @@ impl TreeKey {
     }
 
     /// Whether two keys are the same tree. Trees with different names differ, and others are
-    /// compared. Takes no memory.
+    /// compared.
     pub fn is_same(&self, other: &TreeKey) -> bool
         ensures { result ≡ is_same_tree self.now other.now }
     {
@@ -85,7 +85,7 @@ impl TreeKey {
     }
 }
 
-/// Whether two nodes are the same tree.
+// Whether two nodes are the same tree.
 fn are_same(store: &CsgStore, number: u32, other: &CsgStore, second: u32) -> bool
     requires first { IsNumberIn store.now number }
     requires second { IsNumberIn other.now second }

@@ -40,7 +40,7 @@ impl Model for Session {
 }
 
 impl Session {
-    /// A session with no lines. Takes no memory.
+    /// A session with no lines.
     pub fn new(alloc: Global) -> Session
         ensures { result ≡ start }
     {
@@ -51,7 +51,7 @@ impl Session {
         }
     }
 
-    /// The lines in order. Takes no memory.
+    /// The lines in order.
     pub fn lines(&self) -> &[Bytes]
         ensures lines { result.now ≡ self.now.lines }
         ensures within { IsWithin self.now }
@@ -106,7 +106,7 @@ impl Session {
     }
 
     /// Removes the lines from one number up to another, and answers the number of lines. An error
-    /// changes nothing. Takes no memory.
+    /// changes nothing.
     pub fn cut(&mut self, from: u32, upto: u32) -> Result<u32, SessionFault>
         ensures done { IfOk result (λ count. Edits self.old (Cut from upto) self.new count) }
         ensures refused { IfErr result (λ why. (refusal self.old (Cut from upto) ≡ Some why) × (self.new ≡ self.old)) }
@@ -139,21 +139,21 @@ impl Session {
         }
     }
 
-    /// Whether fewer than 16 shows were booked. Takes no memory.
+    /// Whether fewer than 16 shows were booked.
     pub fn may_show(&self) -> bool
         ensures { IsTrue result ↔ (refusal self.now Show ≡ None) }
     {
         self.shows != REPLIES
     }
 
-    /// Whether fewer than 16 exports were booked. Takes no memory.
+    /// Whether fewer than 16 exports were booked.
     pub fn may_export(&self) -> bool
         ensures { IsTrue result ↔ (refusal self.now Export ≡ None) }
     {
         self.exports != REPLIES
     }
 
-    /// Counts a show that was answered with a text. Takes no memory.
+    /// Counts a show that was answered with a text.
     pub fn book_show(&mut self)
         requires { refusal self.old Show ≡ None }
         ensures { self.new ≡ accepted self.old Show }
@@ -161,7 +161,7 @@ impl Session {
         self.shows += 1;
     }
 
-    /// Counts an export that was answered. Takes no memory.
+    /// Counts an export that was answered.
     pub fn book_export(&mut self)
         requires { refusal self.old Export ≡ None }
         ensures { self.new ≡ accepted self.old Export }

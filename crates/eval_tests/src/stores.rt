@@ -26,7 +26,7 @@ const NUMBERS: [u8; 4] = [1, 2, 8, 64];
 // The budgets of a memo that keeps nothing, little and all.
 const BUDGETS: [u64; 3] = [0, 100, 2_000_000];
 
-// The nodes of a tree, of which no solid is known.
+/// The nodes of a tree, of which no solid is known.
 pub fn store(rt: &impl Abort, alloc: Global, tree: &CsgTree) -> KnownStore
     requires { IsProper (formula_of tree.now) }
 {
@@ -35,7 +35,7 @@ pub fn store(rt: &impl Abort, alloc: Global, tree: &CsgTree) -> KnownStore
     KnownStore::new(alloc, store).expect(rt, "memory")
 }
 
-// So many builders that have built nothing.
+/// So many builders that have built nothing.
 pub fn builders(rt: &impl Abort, alloc: Global, count: u8) -> Vec<PlainBuilder>
     ensures few { All (λ b. b ≤ 2 ^ 46) result.items }
     ensures many { length result.items ≡ count }
@@ -97,7 +97,7 @@ fn run<
     (once, again, tally)
 }
 
-// The same with a memo of this budget, for a caller that has no ledgers.
+/// The same with a memo of this budget, for a caller that has no ledgers.
 pub fn made<N: Namer<TreeKey> + Send + Sync, G: Gate + Sync, R: Abort + Threads + Wait + Sync>(
     rt: &R,
     alloc: Global,

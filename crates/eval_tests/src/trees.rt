@@ -115,7 +115,7 @@ fn slab(rt: &impl Abort, alloc: Global, axis: u8, at: u16) -> CsgTree
     )
 }
 
-// The union of so many slabs of an axis, each joined to those before it, with a step between them.
+/// The union of so many slabs of an axis, each joined to those before it, with a step between them.
 pub fn slabs(rt: &impl Abort, alloc: Global, axis: u8, count: u16) -> CsgTree
     ensures { IsProper (formula_of result) }
 {
@@ -127,7 +127,7 @@ pub fn slabs(rt: &impl Abort, alloc: Global, axis: u8, count: u16) -> CsgTree
     all
 }
 
-// The union of so many pairs of slabs of an axis, each joined to those before it.
+/// The union of so many pairs of slabs of an axis, each joined to those before it.
 pub fn pairs(rt: &impl Abort, alloc: Global, axis: u8, count: u16) -> CsgTree
     ensures { IsProper (formula_of result) }
 {
@@ -148,7 +148,7 @@ fn pair(rt: &impl Abort, alloc: Global, axis: u8, at: u16) -> CsgTree
     joined(rt, alloc, Op::Union, first, second)
 }
 
-// Cuboids, where slabs of x and of y meet one slab of z.
+/// Cuboids, where slabs of x and of y meet one slab of z.
 pub fn cuboids(rt: &impl Abort, alloc: Global, of_x: u16, of_y: u16) -> CsgTree
     ensures { IsProper (formula_of result) }
 {
@@ -158,7 +158,7 @@ pub fn cuboids(rt: &impl Abort, alloc: Global, of_x: u16, of_y: u16) -> CsgTree
     joined(rt, alloc, Op::Intersection, bars, slab(rt, alloc, 2, 0))
 }
 
-// The cubes in which so many slabs of each axis meet.
+/// The cubes in which so many slabs of each axis meet.
 pub fn combs(rt: &impl Abort, alloc: Global, count: u16) -> CsgTree
     ensures { IsProper (formula_of result) }
 {
@@ -194,7 +194,7 @@ fn cuboid(rt: &impl Abort, alloc: Global, from: [u16; 3], to: [u16; 3]) -> CsgTr
     )
 }
 
-// A plate of 6 by 3 by 1 with two holes of 1 by 1. The union of the holes is 60 in size, and the whole 70.
+/// A plate of 6 by 3 by 1 with two holes of 1 by 1. The union of the holes is 60 in size, and the whole 70.
 pub fn plate_with_two_holes(rt: &impl Abort, alloc: Global) -> CsgTree
     ensures { IsProper (formula_of result) }
 {
@@ -205,8 +205,8 @@ pub fn plate_with_two_holes(rt: &impl Abort, alloc: Global) -> CsgTree
     joined(rt, alloc, Op::Difference, plate, holes)
 }
 
-// The union of a cube of 2 and of one of 3, each without the cube of 1 in its corner. It has three leaves,
-// two joins of one height, and one over them.
+/// The union of a cube of 2 and of one of 3, each without the cube of 1 in its corner. It has three leaves,
+/// two joins of one height, and one over them.
 pub fn two_shells(rt: &impl Abort, alloc: Global) -> CsgTree
     ensures { IsProper (formula_of result) }
 {

@@ -27,7 +27,7 @@ pub fn push_facing(
     }
 }
 
-/// Adds a facet.
+// Adds a facet.
 fn push_one(facet: Facet, most: u64, found: &mut Vec<Facet>) -> Result<(), CutStop>
     requires { length found.old.items ≤ most }
     ensures { Adds (facet ∷ []) most found.old.items found.new.items result }

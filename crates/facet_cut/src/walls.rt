@@ -50,7 +50,7 @@ impl<'a> Walls<'a> {
         }
     }
 
-    /// Adds the facets on a face between the solids behind and ahead of its plane.
+    // Adds the facets on a face between the solids behind and ahead of its plane.
     fn push_between(
         &self,
         alloc: Global,
@@ -93,7 +93,7 @@ impl<'a> Walls<'a> {
         }
     }
 
-    /// Adds the facets on a face that has a leaf just behind it, from the solid ahead of its plane.
+    // Adds the facets on a face that has a leaf just behind it, from the solid ahead of its plane.
     #[cycle(ahead)]
     fn push_ahead(
         &self,
@@ -136,8 +136,8 @@ impl<'a> Walls<'a> {
         }
     }
 
-    /// Adds the facets on the part of a face in a half space, where a leaf is just behind it. A leaf of
-    /// the same kind ahead of it gives none, and needs no part.
+    // Adds the facets on the part of a face in a half space, where a leaf is just behind it. A leaf of
+    // the same kind ahead of it gives none, and needs no part.
     #[cycle(ahead)]
     fn push_half(
         &self,
@@ -162,7 +162,7 @@ impl<'a> Walls<'a> {
         self.push_ahead(alloc, is_inside, ahead, &part, most, found)
     }
 
-    /// Adds the facet on a face between two leaves, if there is one.
+    // Adds the facet on a face between two leaves, if there is one.
     fn push_wall(
         &self,
         alloc: Global,

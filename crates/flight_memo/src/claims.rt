@@ -106,7 +106,7 @@ impl<F: Fit> Claims<F> {
         }
     }
 
-    /// How claims began and ended so far: at no moment of it had a key two live claims. Takes no memory.
+    /// How claims began and ended so far: at no moment of it had a key two live claims.
     pub fn log(&self) -> &[LogItem<F::Key>]
         ensures is { events_of result.now ≡ self.now.log }
         ensures legal { IsLegalLog self.now.log }
@@ -116,7 +116,7 @@ impl<F: Fit> Claims<F> {
         self.log.as_slice()
     }
 
-    /// Whether no live claim has a key. Takes no memory.
+    /// Whether no live claim has a key.
     pub(crate) fn is_free(&self, key: &F::Key) -> bool
         ensures { Decides result (IsFree key.now self.now.live) }
     {
@@ -166,7 +166,7 @@ impl<F: Fit> Claims<F> {
         Claim { number, key: own }
     }
 
-    /// Ends the claim of a number where it is live, and says whether it was. Takes no memory.
+    /// Ends the claim of a number where it is live, and says whether it was.
     pub(crate) fn end(&mut self, number: u64, filled: bool) -> bool
         ensures live { result ≡ is_live number self.old.live }
         ensures log { self.new.log ≡ ended_log result number filled self.old.log }

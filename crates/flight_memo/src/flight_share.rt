@@ -31,14 +31,14 @@ impl<B: FlightBooks> Model for FlightShare<B> {
 }
 
 impl<B: FlightBooks> FlightShare<B> {
-    /// The caller's number. Takes no memory.
+    /// The caller's number.
     pub fn caller(&self) -> u32
         ensures { result ≡ self.now.share.caller }
     {
         self.share.caller()
     }
 
-    /// A share of the same caller with one of the parts, and nothing booked. Takes no memory.
+    /// A share of the same caller with one of the parts, and nothing booked.
     pub fn split(&mut self) -> FlightShare<B>
         requires { 2 ≤ self.old.share.parts }
         ensures new { result ≡ fresh_flight self.old.share.caller 1 }
@@ -51,7 +51,7 @@ impl<B: FlightBooks> FlightShare<B> {
         }
     }
 
-    /// Adds the parts and numbers of a share of the same caller. Takes no memory.
+    /// Adds the parts and numbers of a share of the same caller.
     pub fn absorb(&mut self, other: FlightShare<B>)
         requires { other.share.caller ≡ self.old.share.caller }
         ensures { self.new ≡ joined_flights self.old other }
@@ -97,7 +97,7 @@ pub fn flights_of<B: FlightBooks>(
     Ok(flights)
 }
 
-/// All shares put together, or none where there are none. Takes no memory.
+/// All shares put together, or none where there are none.
 pub fn all_flights<B: FlightBooks>(mut flights: Vec<FlightShare<B>>) -> Option<FlightShare<B>>
     ensures all { IfSome result (λ s. IsAllOf flights.items s) }
     ensures none { IfNone result (flights.items ≡ []) }

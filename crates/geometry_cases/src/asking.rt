@@ -29,7 +29,7 @@ pub fn asking_of(word: &[u8]) -> Option<Asking> {
     found(&ASKINGS, word)
 }
 
-/// How many planes and nodes a solid has, and where its walks begin.
+// How many planes and nodes a solid has, and where its walks begin.
 fn put_nodes(alloc: Global, out: &mut Vec<u8>, solid: &Solid) -> Result<(), CaseStop> {
     let (planes, forest, root) = solid.parts();
     put_number(alloc, out, planes.len() as i128)?;
@@ -44,7 +44,7 @@ fn put_nodes(alloc: Global, out: &mut Vec<u8>, solid: &Solid) -> Result<(), Case
     Ok(())
 }
 
-/// The facets of a solid, of which there are so many at most, and how many there are.
+// The facets of a solid, of which there are so many at most, and how many there are.
 fn put_count(
     alloc: Global,
     out: &mut Vec<u8>,
@@ -102,7 +102,7 @@ pub fn printing_of(word: &[u8]) -> Option<Printing> {
     found(&PRINTINGS, word)
 }
 
-/// The first bytes of the text of facets.
+// The first bytes of the text of facets.
 fn put_text(
     alloc: Global,
     out: &mut Vec<u8>,
@@ -118,7 +118,7 @@ fn put_text(
     }
 }
 
-/// The planes of facets.
+// The planes of facets.
 fn put_facets(alloc: Global, out: &mut Vec<u8>, facets: &[Facet]) -> Result<(), NoMemory> {
     for facet in facets {
         put(out, b"(")?;

@@ -30,7 +30,7 @@ impl Bench {
         }
     }
 
-    /// Writes what is asked.
+    // Writes what is asked.
     fn tell(
         &mut self,
         alloc: Global,

@@ -42,7 +42,7 @@ use outside_io::{ReadSource, WriteSink};
 use std::alloc::Global;
 use std::process::ExitCode;
 
-/// The answers of questions about numbers and of phrases that build.
+// The answers of questions about numbers and of phrases that build.
 #[derive(Drop)]
 struct Geometry {}
 

@@ -57,7 +57,7 @@ impl Polygons {
         Ok(())
     }
 
-    /// The part behind a plane and then the one ahead of it, in place of the last polygon.
+    // The part behind a plane and then the one ahead of it, in place of the last polygon.
     fn cut(&mut self, alloc: Global, plane: &Plane) -> Result<(), CaseStop> {
         let polygon = self.items.pop().ok_or(CaseStop::Unread)?;
         match sort_by(&polygon, plane) {
@@ -71,7 +71,7 @@ impl Polygons {
         }
     }
 
-    /// The part behind a plane, in place of the last polygon where the plane is across it.
+    // The part behind a plane, in place of the last polygon where the plane is across it.
     fn trim(&mut self, alloc: Global, plane: &Plane) -> Result<(), CaseStop> {
         match sort_by(self.last()?, plane) {
             Class::Across => {
@@ -83,7 +83,7 @@ impl Polygons {
         }
     }
 
-    /// Adds a polygon as a facet that it faces.
+    // Adds a polygon as a facet that it faces.
     fn add_facet(&mut self, polygon: Polygon) -> Result<(), CaseStop> {
         self.facets.push(Facet {
             plane: *polygon.plane(),
@@ -92,7 +92,7 @@ impl Polygons {
         Ok(())
     }
 
-    /// The last polygon, so many times, as facets that it faces.
+    // The last polygon, so many times, as facets that it faces.
     fn end_facet(&mut self, alloc: Global, times: i64) -> Result<(), CaseStop> {
         let polygon = self.items.pop().ok_or(CaseStop::Unread)?;
         for _ in 0..times {
@@ -101,7 +101,7 @@ impl Polygons {
         Ok(())
     }
 
-    /// Adds the square on z = 0 from x to x + 1 and from y to y + 1 as a facet that faces down.
+    // Adds the square on z = 0 from x to x + 1 and from y to y + 1 as a facet that faces down.
     fn put_square(&mut self, alloc: Global, x: i64, y: i64) -> Result<(), CaseStop> {
         let floor = low(2, 0).ok_or(CaseStop::Unread)?;
         self.items.push(box_polygon(alloc, &floor)?)?;

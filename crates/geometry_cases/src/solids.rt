@@ -48,12 +48,12 @@ pub fn building_of(word: &[u8]) -> Option<Building> {
     found(&BUILDINGS, word)
 }
 
-/// The solid behind all planes of a list, of any size.
+// The solid behind all planes of a list, of any size.
 fn leaf(alloc: Global, walls: &Walls) -> Result<Solid, CaseStop> {
     leaf_within(alloc, walls, u64::MAX)?.ok_or(CaseStop::Unread)
 }
 
-/// The same of a size at most, or nothing where it is larger.
+// The same of a size at most, or nothing where it is larger.
 fn leaf_within(alloc: Global, walls: &Walls, most: u64) -> Result<Option<Solid>, CaseStop> {
     let planes = walls.planes();
     if planes.is_empty() {
@@ -62,7 +62,7 @@ fn leaf_within(alloc: Global, walls: &Walls, most: u64) -> Result<Option<Solid>,
     within(leaf_solid(alloc, planes, most))
 }
 
-/// A solid where one was built, or nothing where it is too big.
+// A solid where one was built, or nothing where it is too big.
 fn within(built: Result<Solid, BuildStop>) -> Result<Option<Solid>, CaseStop> {
     match built {
         Ok(solid) => Ok(Some(solid)),
@@ -71,13 +71,13 @@ fn within(built: Result<Solid, BuildStop>) -> Result<Option<Solid>, CaseStop> {
     }
 }
 
-/// A solid with one slab of an axis more.
+// A solid with one slab of an axis more.
 fn with_slab(alloc: Global, all: &Solid, axis: i64, at: i64) -> Result<Solid, CaseStop> {
     let next = leaf(alloc, &slab_walls(alloc, axis, at)?)?;
     Ok(merge(alloc, Op::Union, all, &next)?)
 }
 
-/// The union of so many slabs of an axis from a coordinate on, with a step between them.
+// The union of so many slabs of an axis from a coordinate on, with a step between them.
 fn slabs(alloc: Global, axis: i64, from: i64, count: i64) -> Result<Solid, CaseStop> {
     let mut all = Solid::leaf(alloc, false);
     for step in 0..count {
@@ -87,14 +87,14 @@ fn slabs(alloc: Global, axis: i64, from: i64, count: i64) -> Result<Solid, CaseS
     Ok(all)
 }
 
-/// What of a solid lies beyond a plane of an axis.
+// What of a solid lies beyond a plane of an axis.
 fn past(alloc: Global, all: &Solid, axis: i64, at: i64) -> Result<Solid, CaseStop> {
     let plane = high(axis, at).ok_or(CaseStop::Unread)?;
     let next = exchange(alloc, &half(alloc, &plane)?)?;
     Ok(merge(alloc, Op::Intersection, all, &next)?)
 }
 
-/// What lies beyond so many planes of an axis, one step apart, from a coordinate on: each node is ahead of the one before it.
+// What lies beyond so many planes of an axis, one step apart, from a coordinate on: each node is ahead of the one before it.
 fn beyond(alloc: Global, axis: i64, from: i64, count: i64) -> Result<Solid, CaseStop> {
     let mut all = Solid::leaf(alloc, true);
     for step in 0..count {
@@ -103,23 +103,23 @@ fn beyond(alloc: Global, axis: i64, from: i64, count: i64) -> Result<Solid, Case
     Ok(all)
 }
 
-/// The solid behind the last plane.
+// The solid behind the last plane.
 fn half_of(alloc: Global, walls: &Walls) -> Result<Solid, CaseStop> {
     let plane = walls.last().ok_or(CaseStop::Unread)?;
     Ok(half(alloc, &plane)?)
 }
 
-/// The box between two corners.
+// The box between two corners.
 fn box_of(alloc: Global, numbers: &[i64]) -> Result<Solid, CaseStop> {
     leaf(alloc, &box_walls(alloc, numbers)?)
 }
 
-/// One node on the last polygon, where there is one.
+// One node on the last polygon, where there is one.
 fn node_on(alloc: Global, by: Option<&Polygon>) -> Result<Solid, CaseStop> {
     Ok(node(alloc, by.ok_or(CaseStop::Unread)?)?)
 }
 
-/// One node on a polygon: all behind it is inside, and all ahead of it is outside.
+// One node on a polygon: all behind it is inside, and all ahead of it is outside.
 fn node(alloc: Global, polygon: &Polygon) -> Result<Solid, NoMemory> {
     let own = face_of(alloc, polygon)?;
     let mut forest = Forest::new(alloc);
@@ -127,7 +127,7 @@ fn node(alloc: Global, polygon: &Polygon) -> Result<Solid, NoMemory> {
     Ok(Solid::of_parts(own.planes, forest, Link::To(id)))
 }
 
-/// The size of a solid, or that it is too big.
+// The size of a solid, or that it is too big.
 fn put_size(alloc: Global, out: &mut Vec<u8>, solid: Option<Solid>) -> Result<(), CaseStop> {
     match solid {
         Some(solid) => put_number(alloc, out, i128::from(solid.count()))?,
@@ -136,13 +136,13 @@ fn put_size(alloc: Global, out: &mut Vec<u8>, solid: Option<Solid>) -> Result<()
     Ok(())
 }
 
-/// The size that the leaf of some planes has within a limit.
+// The size that the leaf of some planes has within a limit.
 fn put_leaf(alloc: Global, out: &mut Vec<u8>, walls: &Walls, most: i64) -> Result<(), CaseStop> {
     let most = u64::try_from(most).unwrap_or(0);
     put_size(alloc, out, leaf_within(alloc, walls, most)?)
 }
 
-/// The size that the merge of two solids has within a limit, by a builder of its own.
+// The size that the merge of two solids has within a limit, by a builder of its own.
 fn put_joined(
     alloc: Global,
     out: &mut Vec<u8>,
@@ -178,7 +178,7 @@ impl Solids {
         Ok(())
     }
 
-    /// The join of the last two solids, in their place.
+    // The join of the last two solids, in their place.
     fn join(&mut self, alloc: Global, op: Op) -> Result<(), CaseStop> {
         let [.., left, right] = self.items.as_slice() else {
             return Err(CaseStop::Unread);
@@ -189,7 +189,7 @@ impl Solids {
         self.put(joined)
     }
 
-    /// The second last solid once more.
+    // The second last solid once more.
     fn over(&mut self, alloc: Global) -> Result<(), CaseStop> {
         let [.., left, _] = self.items.as_slice() else {
             return Err(CaseStop::Unread);
@@ -198,20 +198,20 @@ impl Solids {
         self.put(copied)
     }
 
-    /// A copy of the last solid behind it.
+    // A copy of the last solid behind it.
     fn copy(&mut self, alloc: Global) -> Result<(), CaseStop> {
         let copied = self.last()?.copy(alloc)?;
         self.put(copied)
     }
 
-    /// The last solid with inside and outside exchanged, in its place.
+    // The last solid with inside and outside exchanged, in its place.
     fn exchange(&mut self, alloc: Global) -> Result<(), CaseStop> {
         let exchanged = exchange(alloc, self.last()?)?;
         self.items.pop();
         self.put(exchanged)
     }
 
-    /// The parts of the last solid behind a polygon and ahead of it, in its place.
+    // The parts of the last solid behind a polygon and ahead of it, in its place.
     fn part(&mut self, alloc: Global, by: Option<&Polygon>) -> Result<(), CaseStop> {
         let by = by.ok_or(CaseStop::Unread)?;
         let (behind, ahead) = partition(alloc, self.last()?, by)?;
@@ -220,7 +220,7 @@ impl Solids {
         self.put(ahead)
     }
 
-    /// The solid that a phrase makes of numbers, of the planes or of the last polygon.
+    // The solid that a phrase makes of numbers, of the planes or of the last polygon.
     fn made(
         alloc: Global,
         building: Building,

@@ -27,7 +27,7 @@ pub fn apply(alloc: Global, steps: &[Step], points: &[[i64; 3]]) -> Result<Vec<[
     Ok(images)
 }
 
-/// The image of one point. `None` exactly where it leaves the range of numbers after some step.
+// The image of one point. `None` exactly where it leaves the range of numbers after some step.
 fn image_under(steps: &[Step], point: [i64; 3]) -> Option<[i64; 3]>
     requires { HasSafeCoordinates (point_at point) }
     ensures some { IfSome result (λ q. (q ≡ coordinates (image (map_of steps.now) (point_at point))) × StaysInRange steps.now (point_at point)) }

@@ -112,7 +112,7 @@ impl Step {
     }
 }
 
-/// Each coordinate times a number, and another one added.
+// Each coordinate times a number, and another one added.
 fn diagonal(by: [i64; 3], plus: [i64; 3]) -> Affine
     ensures { result ≡ diagonal_of (point_at by).x (point_at by).y (point_at by).z (point_at plus).x (point_at plus).y (point_at plus).z }
 {
@@ -123,7 +123,7 @@ fn diagonal(by: [i64; 3], plus: [i64; 3]) -> Affine
     }
 }
 
-/// The row with these numbers.
+// The row with these numbers.
 fn row(numbers: [i64; 4]) -> Row
     ensures { result ≡ row_of numbers }
 {
@@ -131,7 +131,7 @@ fn row(numbers: [i64; 4]) -> Row
     Row { a, b, c, d }
 }
 
-/// The turn about an axis by an angle with this cosine and sine.
+// The turn about an axis by an angle with this cosine and sine.
 fn rotation(axis: u8, cos: i64, sin: i64) -> Affine
     requires axis_is { axis < 3 }
     requires sine_size { unsigned_abs sin ≤ 1 }
@@ -156,7 +156,7 @@ fn rotation(axis: u8, cos: i64, sin: i64) -> Affine
     }
 }
 
-/// The cosine of so many quarter turns.
+// The cosine of so many quarter turns.
 fn cosine(turns: u8) -> i64
     requires { turns < 4 }
     ensures { result ≡ cosine_of turns }
@@ -168,7 +168,7 @@ fn cosine(turns: u8) -> i64
     }
 }
 
-/// The sine of so many quarter turns.
+// The sine of so many quarter turns.
 fn sine(turns: u8) -> i64
     requires { turns < 4 }
     ensures value { result ≡ sine_of turns }
@@ -181,7 +181,7 @@ fn sine(turns: u8) -> i64
     }
 }
 
-/// The determinant of the linear part.
+// The determinant of the linear part.
 fn determinant(map: &Affine) -> i64
     requires { IsMatrix map.now }
     ensures { result ≡ determinant_of map.now }
@@ -193,7 +193,7 @@ fn determinant(map: &Affine) -> i64
     expansion(x.a, x.b, x.c, a, b, c)
 }
 
-/// `a d - b c`
+// `a d - b c`
 fn minor_of(a: i64, b: i64, c: i64, d: i64) -> i64
     requires a_size { unsigned_abs a ≤ 65535 }
     requires b_size { unsigned_abs b ≤ 65535 }
@@ -205,7 +205,7 @@ fn minor_of(a: i64, b: i64, c: i64, d: i64) -> i64
     a * d - b * c
 }
 
-/// `a x + b y + c z` of a row and minors of the others.
+// `a x + b y + c z` of a row and minors of the others.
 fn expansion(a: i64, b: i64, c: i64, x: i64, y: i64, z: i64) -> i64
     requires a_size { unsigned_abs a ≤ 65535 }
     requires b_size { unsigned_abs b ≤ 65535 }

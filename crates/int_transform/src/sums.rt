@@ -6,7 +6,7 @@ ghost use Rattle.int_transform.specs.Maps.{row_at, HasSafeCoordinates, IsSafeRow
 
 use crate::affine::Row;
 
-/// 2^53 - 1, the largest size of a number.
+// 2^53 - 1, the largest size of a number.
 const LARGEST: u128 = 9_007_199_254_740_991;
 
 /// A coordinate of the image of a point. `None` exactly where it is past 2^53 - 1 in size.
@@ -29,7 +29,7 @@ pub fn safe_value(row: &Row, point: [i64; 3]) -> Option<i64>
     Some(sum as i64)
 }
 
-/// The product of two numbers that are at most 2^53 - 1 in size.
+// The product of two numbers that are at most 2^53 - 1 in size.
 fn product(a: i64, b: i64) -> i128
     requires a_size { unsigned_abs a ≤ 9007199254740991 }
     requires b_size { unsigned_abs b ≤ 9007199254740991 }
@@ -39,7 +39,7 @@ fn product(a: i64, b: i64) -> i128
     i128::from(a) * i128::from(b)
 }
 
-/// The sum of four numbers.
+// The sum of four numbers.
 fn sum_of(a: i128, b: i128, c: i128, d: i128) -> i128
     requires a_size { unsigned_abs a ≤ 9007199254740991 * 9007199254740991 }
     requires b_size { unsigned_abs b ≤ 9007199254740991 * 9007199254740991 }

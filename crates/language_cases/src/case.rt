@@ -10,10 +10,10 @@ use plane_predicate::Unit;
 use std::alloc::Global;
 use text_place::{NoMemory, read_decimal};
 
-/// The most bytes of a source.
+// The most bytes of a source.
 const SOURCE_BYTES: usize = 1 << 20;
 
-/// The answer of a case of a source.
+// The answer of a case of a source.
 fn put_answer(
     alloc: Global,
     out: &mut Vec<u8>,
@@ -41,7 +41,7 @@ fn put_answer(
     }
 }
 
-/// The value of a source where the turns were counted that stand before it.
+// The value of a source where the turns were counted that stand before it.
 fn put_turns(alloc: Global, out: &mut Vec<u8>, text: &[u8]) -> Result<(), NoMemory> {
     let (turns, source) = cut(text);
     let source = unfolded(alloc, source)?;

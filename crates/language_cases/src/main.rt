@@ -26,7 +26,7 @@ use outside_io::{ReadSource, WriteSink};
 use std::alloc::Global;
 use std::process::ExitCode;
 
-/// The answers of sources.
+// The answers of sources.
 #[derive(Drop)]
 struct Language {}
 

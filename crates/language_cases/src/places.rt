@@ -15,7 +15,7 @@ fn column(place: Place) -> i128 {
     i128::from(place.column)
 }
 
-/// The column of a statement, and of a choice those of its instance, its core and its two bodies, in parentheses.
+// The column of a statement, and of a choice those of its instance, its core and its two bodies, in parentheses.
 fn put_columns(alloc: Global, out: &mut Vec<u8>, statement: &Statement) -> Result<(), NoMemory> {
     put_numbers(alloc, out, &[column(statement.place())])?;
     let Statement::Instantiation(instance) = statement else {
@@ -55,7 +55,7 @@ pub fn put_places(alloc: Global, out: &mut Vec<u8>, source: &[u8]) -> Result<(),
     }
 }
 
-/// The program of a source's tokens with those of another source behind their end, of at most 100 bytes each.
+// The program of a source's tokens with those of another source behind their end, of at most 100 bytes each.
 fn read_behind(alloc: Global, source: &[u8], more: &[u8]) -> Result<Program, Stop> {
     if source.len() > 100 || more.len() > 100 {
         return Err(Stop::NoMemory);

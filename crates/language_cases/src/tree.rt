@@ -12,7 +12,7 @@ use scad_eval::evaluate;
 use std::alloc::Global;
 use text_place::{NoMemory, Stop, push_decimal};
 
-/// Where the first of some planes with a normal stands.
+// Where the first of some planes with a normal stands.
 fn bound(planes: &[Plane], normal: (i64, i64, i64)) -> Option<i64> {
     for p in planes {
         if p.a == normal.0 && p.b == normal.1 && p.c == normal.2 {
@@ -26,7 +26,7 @@ fn put_number(alloc: Global, out: &mut Vec<u8>, number: i64) -> Result<(), NoMem
     push_decimal(alloc, out, i128::from(number))
 }
 
-/// The two sides across an axis.
+// The two sides across an axis.
 fn put_sides(alloc: Global, out: &mut Vec<u8>, sides: (i64, i64)) -> Result<(), NoMemory> {
     push_decimal(alloc, out, -i128::from(sides.0))?;
     put(out, b"..")?;
@@ -37,7 +37,7 @@ fn sides(planes: &[Plane], low: (i64, i64, i64), high: (i64, i64, i64)) -> Optio
     Some((bound(planes, low)?, bound(planes, high)?))
 }
 
-/// The sides of a box across the axes.
+// The sides of a box across the axes.
 #[derive(Clone, Copy)]
 struct BoxSides {
     x: (i64, i64),
@@ -45,7 +45,7 @@ struct BoxSides {
     z: (i64, i64),
 }
 
-/// The sides of a leaf of six planes that are all across axes.
+// The sides of a leaf of six planes that are all across axes.
 fn box_sides(planes: &[Plane]) -> Option<BoxSides> {
     if planes.len() != 6 {
         return None;

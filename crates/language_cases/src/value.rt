@@ -16,7 +16,7 @@ fn put_number(alloc: Global, out: &mut Vec<u8>, number: i64) -> Result<(), NoMem
     push_decimal(alloc, out, i128::from(number))
 }
 
-/// A value, whose lists are shown to a depth.
+// A value, whose lists are shown to a depth.
 #[cycle(values)]
 fn put_value(alloc: Global, out: &mut Vec<u8>, value: &Value, depth: u32) -> Result<(), NoMemory> {
     match value {
@@ -52,14 +52,14 @@ fn put_values(
     put(out, b"]")
 }
 
-/// A fault with its column, counted from the one behind `x = `.
+// A fault with its column, counted from the one behind `x = `.
 fn put_fault(alloc: Global, out: &mut Vec<u8>, fault: Fault) -> Result<(), NoMemory> {
     put_number(alloc, out, i64::from(fault.place.column) - 4)?;
     put(out, b" ")?;
     put(out, word(fault.kind).as_bytes())
 }
 
-/// A value, or why there is none.
+// A value, or why there is none.
 fn put_answer(
     alloc: Global,
     out: &mut Vec<u8>,
@@ -81,7 +81,7 @@ fn first_value(program: &Program) -> Option<&Expr> {
     None
 }
 
-/// The value where so many turns were counted, and `later` is 7.
+// The value where so many turns were counted, and `later` is 7.
 fn value_after(alloc: Global, program: &Program, expr: &Expr, turns: u64) -> Result<Value, Stop> {
     if turns > 100_000 {
         return Ok(Value::Undef);

@@ -10,7 +10,7 @@ pub fn at(column: u32) -> Place {
     Place { line: 1, column }
 }
 
-// The program of a source of at most 100,000 bytes, or its first fault.
+/// The program of a source of at most 100,000 bytes, or its first fault.
 pub fn read(alloc: Global, source: &[u8]) -> Result<Program, Stop> {
     if source.len() > 100_000 {
         return Err(Stop::NoMemory);

@@ -38,7 +38,7 @@ impl<T: Drop> Forest<T> {
     ghost use Rattle.link_forest.specs.declared.forest.Entry.{Entry};
     ghost use Rattle.link_forest.specs.Forests.{Adds, AreLinked, Extends, IsLinkOf, IsNode};
 
-    /// No nodes. Takes no memory.
+    /// No nodes.
     pub fn new(alloc: Global) -> Self
         ensures { result.nodes ≡ [] }
     {
@@ -72,7 +72,7 @@ impl<T: Drop> Forest<T> {
         Ok(())
     }
 
-    /// Adds a node, whose links are of this forest, in room that is there. Takes no memory.
+    /// Adds a node, whose links are of this forest, in room that is there.
     pub fn add_reserved(&mut self, payload: T, behind: Link, ahead: Link) -> NodeId
         requires spare { 0 < self.old.spare }
         requires behind { IsLinkOf self.old.nodes behind }
@@ -89,7 +89,7 @@ impl<T: Drop> Forest<T> {
         NodeId { index }
     }
 
-    /// The payload and the links of a node. Takes no memory.
+    /// The payload and the links of a node.
     pub fn at(&self, id: NodeId) -> (&T, Link, Link)
         requires { id.index < length self.now.nodes }
         ensures { IsNode self.now.nodes id result.0.now result.1 result.2 }
@@ -120,7 +120,7 @@ impl<T: Drop> Forest<T> {
         self.entries.capacity() - self.entries.len()
     }
 
-    /// Keeps the first `len` nodes, and the room of the others. Takes no memory.
+    /// Keeps the first `len` nodes, and the room of the others.
     pub fn cut_back(&mut self, len: usize)
         ensures nodes { self.new.nodes ≡ take len self.old.nodes }
         ensures kept { Extends self.new.nodes self.old.nodes }
@@ -131,7 +131,7 @@ impl<T: Drop> Forest<T> {
         self.entries.truncate(len);
     }
 
-    /// Gives back the room that no node takes. Takes no memory.
+    /// Gives back the room that no node takes.
     pub fn shrink_to_fit(&mut self)
         ensures nodes { self.new.nodes ≡ self.old.nodes }
         ensures spare { self.new.spare ≤ self.old.spare }

@@ -32,14 +32,14 @@ impl<K, V> Dropped<K, V> {
         Dropped { slots }
     }
 
-    /// How many there are. Takes no memory.
+    /// How many there are.
     pub fn len(&self) -> usize
         ensures { result ≡ length self.now }
     {
         self.slots.len()
     }
 
-    /// The key of one of them. Takes no memory.
+    /// The key of one of them.
     pub fn key(&self, place: usize) -> &Arc<K>
         requires { place < length self.now }
         ensures { option_map (λ e. e.mark.key) (slice_get self.now place) ≡ Some (arc_value result.now) }

@@ -21,7 +21,7 @@ pub trait Fit: Drop {
     /// Whether two keys are equal as contracts see them.
     ghost same_key: { Self.Key → Self.Key → Bool };
 
-    /// Whether two keys are equal. Takes no memory.
+    /// Whether two keys are equal.
     fn same(&self, a: &Self::Key, b: &Self::Key) -> bool
         ensures { result ≡ same_key a.now b.now };
 
@@ -36,7 +36,7 @@ pub trait Fit: Drop {
 pub trait Namer<K>: Drop {
     ghost name_of: { K → List ℕ };
 
-    /// The name of a key. Takes no memory.
+    /// The name of a key.
     fn name(&self, key: &K) -> Name
         ensures { result ≡ name_of key.now };
 }

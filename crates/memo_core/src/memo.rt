@@ -121,7 +121,7 @@ impl<F: Fit, N: Namer<F::Key>> MemoCore<F, N> {
         Ok(())
     }
 
-    /// The sum of the weights of the entries, which is at most the budget. Takes no memory.
+    /// The sum of the weights of the entries, which is at most the budget.
     pub fn weight(&self) -> u64
         ensures is { result ≡ sum_by (λ e. e.mark.weight) self.now.entries }
         ensures within { result ≤ self.now.budget }
@@ -130,14 +130,14 @@ impl<F: Fit, N: Namer<F::Key>> MemoCore<F, N> {
         self.shelf.weight
     }
 
-    /// The sum of the weights of this owner's entries. Takes no memory.
+    /// The sum of the weights of this owner's entries.
     pub fn weight_of(&self, owner: u32) -> u64
         ensures { result ≡ owned mark_in owner self.now.entries }
     {
         weight_in(self.shelf.owners.as_slice(), owner)
     }
 
-    /// How many entries were dropped so far. Takes no memory.
+    /// How many entries were dropped so far.
     pub fn evicted(&self) -> u64
         ensures is { result ≡ evicted_in self.now.journal }
     {
@@ -145,7 +145,7 @@ impl<F: Fit, N: Namer<F::Key>> MemoCore<F, N> {
     }
 
     /// The calls so far, each with what it said. With a share above 0, at each of them the entries of
-    /// another caller that weigh at most the share together all stand after it. Takes no memory.
+    /// another caller that weigh at most the share together all stand after it.
     pub fn journal(&self) -> &[JournalItem<F::Key>]
         ensures is { items_of result.now ≡ self.now.journal }
         ensures sound { IsSound F.same_key N.name_of F.fits F.weighs self.now }
@@ -246,7 +246,7 @@ impl<F: Fit, N: Namer<F::Key>> MemoCore<F, N> {
     }
 
     /// Hands out what the fills dropped since it was last taken, so that the caller frees it where no
-    /// lock is held. Takes no memory.
+    /// lock is held.
     pub fn take_dropped(&mut self, alloc: Global) -> Dropped<F::Key, F::Value>
         ensures gives { result ≡ self.old.dropped }
         ensures rest { self.new ≡ record self.old { dropped = [] } }

@@ -19,7 +19,7 @@ pub enum JournalVerdict {
     Differs(u32),
 }
 
-/// The sum of the weights of a caller's entries. Takes no memory.
+/// The sum of the weights of a caller's entries.
 pub fn owned<F: Fit, N: Namer<F::Key>>(core: &MemoCore<F, N>, caller: u32) -> u64
     ensures { result ≡ owned mark_in caller core.now.entries }
 {

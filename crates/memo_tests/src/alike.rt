@@ -2,7 +2,7 @@ ghost use Rattle.std.specs.Prelude.{replicate};
 
 use memo_core::{NAME_BYTES, Name, Namer};
 
-// Names all keys alike.
+/// Names all keys alike.
 #[derive(Drop)]
 pub struct Alike;
 

@@ -3,13 +3,13 @@ ghost use Rattle.std.proofs.Common.{rules};
 
 use memo_core::{Fit, NAME_BYTES, Name, Namer};
 
-// A value with a weight of its own.
+/// A value with a weight of its own.
 #[derive(Drop)]
 pub struct Piece {
     pub weight: u64,
 }
 
-// Any piece fits any number.
+/// Any piece fits any number.
 #[derive(Drop)]
 pub struct Pieces;
 
@@ -33,7 +33,7 @@ impl Fit for Pieces {
     ghost same_refl = { Prim.search rules };
 }
 
-// Names a key by two of its bytes.
+/// Names a key by two of its bytes.
 #[derive(Drop)]
 pub struct Bytes;
 

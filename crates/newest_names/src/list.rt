@@ -8,8 +8,8 @@ use std::alloc::Global;
 use std::collections::BTreeMap;
 use text_place::{Bytes, NoMemory};
 
-/// How many of the newest names are searched one after another. The others are found by an index, which few names
-/// don't need.
+// How many of the newest names are searched one after another. The others are found by an index, which few names
+// don't need.
 const RECENT: usize = 8;
 
 /// A name with what it stands for.
@@ -37,7 +37,7 @@ impl<T> NameList<T> {
     ghost use Rattle.newest_names.specs.Newest.{find_in, oldest};
     ghost use Rattle.newest_names.specs.Names.{newest_first};
 
-    /// No names. Takes no memory.
+    /// No names.
     pub fn new(alloc: Global) -> NameList<T>
         ensures { newest_first result ≡ [] }
     {
@@ -48,7 +48,7 @@ impl<T> NameList<T> {
         }
     }
 
-    /// How many names there are. Takes no memory.
+    /// How many names there are.
     pub fn len(&self) -> usize
         ensures { result ≡ length (newest_first self.now) }
     {
@@ -69,7 +69,7 @@ impl<T> NameList<T> {
         Ok(())
     }
 
-    /// The index covers one name more.
+    // The index covers one name more.
     fn cover_one(&mut self, alloc: Global) -> Result<(), NoMemory>
         requires { length self.old.hidden.items < length self.old.items.items }
         ensures { self.new.items.items ≡ self.old.items.items }
@@ -86,7 +86,7 @@ impl<T> NameList<T> {
         }
     }
 
-    /// The index covers one name less.
+    // The index covers one name less.
     fn uncover_one(&mut self)
         requires { 0 < length self.old.hidden.items }
         ensures items { self.new.items.items ≡ self.old.items.items }
@@ -98,7 +98,7 @@ impl<T> NameList<T> {
         }
     }
 
-    /// Cuts the names to the oldest, so many of them. Takes no memory.
+    /// Cuts the names to the oldest, so many of them.
     pub fn truncate(&mut self, to: usize)
     where
         T: Drop,
@@ -111,7 +111,7 @@ impl<T> NameList<T> {
         self.items.truncate(to);
     }
 
-    /// What the newest of a name stands for. Takes no memory.
+    /// What the newest of a name stands for.
     pub fn find(&self, name: &[u8]) -> Option<&T>
         ensures { option_copied result ≡ find_in (newest_first self.now) name.now }
     {

@@ -24,7 +24,7 @@ pub fn put_corners(corners: &mut Vec<Vertex>, polygon: &Polygon, unit: Unit) -> 
     Ok(())
 }
 
-/// Adds to an empty list the corners of a plane and edges that meet what a polygon keeps.
+// Adds to an empty list the corners of a plane and edges that meet what a polygon keeps.
 fn push_meetings(
     corners: &mut Vec<Vertex>,
     plane: &Plane,
@@ -41,7 +41,7 @@ fn push_meetings(
     Ok(())
 }
 
-/// Corner `i`, in units and reduced.
+// Corner `i`, in units and reduced.
 fn corner_at(plane: &Plane, edges: &[Plane], i: usize, unit: Unit) -> Vertex
     requires index { i < length edges.now }
     requires polygon { IsPolygon (record { plane = plane.now; edges = edges.now }) }
@@ -51,7 +51,7 @@ fn corner_at(plane: &Plane, edges: &[Plane], i: usize, unit: Unit) -> Vertex
     vertex_at(plane, &edges[i], &edges[next_index(i, edges.len())], unit)
 }
 
-/// The vertex where three planes meet whose determinant is above 0.
+// The vertex where three planes meet whose determinant is above 0.
 fn vertex_at(p: &Plane, q: &Plane, r: &Plane, unit: Unit) -> Vertex
     requires { pos 0 <ℤ (cramer p.now q.now r.now).w }
     ensures times { IsPointTimes (in_units unit (cramer p.now q.now r.now)) result }

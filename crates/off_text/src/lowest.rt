@@ -23,7 +23,7 @@ pub fn lowest_terms(point: &Point) -> Point
     }
 }
 
-/// A point whose four numbers fit 64 bits.
+// A point whose four numbers fit 64 bits.
 #[derive(Clone, Copy)]
 struct Small {
     x: i64,
@@ -45,7 +45,7 @@ impl Model for Small {
 }
 
 impl Small {
-    /// The same point, where its numbers fit.
+    // The same point, where its numbers fit.
     fn of(point: &Point) -> Option<Small>
         ensures { IfSome result (λ small. small ≡ point.now) }
     {
@@ -57,7 +57,7 @@ impl Small {
         })
     }
 
-    /// The same point without a common factor above 1 in its four numbers.
+    // The same point without a common factor above 1 in its four numbers.
     fn lowest_terms(&self) -> Point
         ensures same { IsPointTimes self.now result }
         ensures reduced { IsReduced result }
@@ -77,7 +77,7 @@ impl Small {
     }
 }
 
-/// A number divided by one of its divisors.
+// A number divided by one of its divisors.
 fn quotient(x: i64, by: u64) -> i128
     requires above { 0 < by }
     requires divides { by ∣ unsigned_abs x }
@@ -87,7 +87,7 @@ fn quotient(x: i64, by: u64) -> i128
     if x < 0 { -size } else { size }
 }
 
-/// The greatest common divisor of four numbers, beginning with the weight, which is often the least.
+// The greatest common divisor of four numbers, beginning with the weight, which is often the least.
 fn common_factor(x: u64, y: u64, z: u64, w: u64) -> u64
     ensures factor { IsCommonFactor x y z w result }
     ensures above { 0 < x + y + z + w → 0 < result }
@@ -97,7 +97,7 @@ fn common_factor(x: u64, y: u64, z: u64, w: u64) -> u64
     greatest_divisor(z, with_y)
 }
 
-/// The greatest common divisor of two numbers, by Euclid's algorithm.
+// The greatest common divisor of two numbers, by Euclid's algorithm.
 fn greatest_divisor(a: u64, b: u64) -> u64
     ensures { IsGcd a b result }
 {

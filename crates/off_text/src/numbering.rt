@@ -11,7 +11,7 @@ use indexmap::IndexSet;
 use std::alloc::Global;
 use text_place::NoMemory;
 
-/// Appends the numbers of corners, of which those that are new become vertices, each after a space.
+// Appends the numbers of corners, of which those that are new become vertices, each after a space.
 fn push_numbers(
     alloc: Global,
     vertices: &mut IndexSet<Vertex>,

@@ -49,8 +49,8 @@ impl Vertex {
     }
 }
 
-/// The vertex at a corner where a unit has two grid steps. The weight is doubled, or else the three
-/// coordinates are halved: no other factor can be common.
+// The vertex at a corner where a unit has two grid steps. The weight is doubled, or else the three
+// coordinates are halved: no other factor can be common.
 fn in_halves(corner: &Point) -> Vertex
     ensures { IsVertexAt Half corner.now result }
 {
@@ -71,21 +71,21 @@ fn in_halves(corner: &Point) -> Vertex
     }
 }
 
-/// Whether a number is even.
+// Whether a number is even.
 fn is_even(x: i128) -> bool
     ensures { result ≡ is_even x }
 {
     x % 2 == 0
 }
 
-/// Whether the three coordinates are even.
+// Whether the three coordinates are even.
 fn has_even_coordinates(corner: &Point) -> bool
     ensures { result ≡ ((is_even corner.now.x && is_even corner.now.y) && is_even corner.now.z) }
 {
     is_even(corner.x) && is_even(corner.y) && is_even(corner.z)
 }
 
-/// Half of an even number.
+// Half of an even number.
 fn halved(x: i128) -> i128
     requires { is_even x ≡ true }
     ensures { x ≡ pos 2 *ℤ result }
@@ -93,7 +93,7 @@ fn halved(x: i128) -> i128
     x / 2
 }
 
-/// Whether `p` comes before `q`: by x, then by y, z and w, as whole numbers.
+// Whether `p` comes before `q`: by x, then by y, z and w, as whole numbers.
 fn comes_before(p: &Vertex, q: &Vertex) -> bool
     ensures { result ≡ comes_before p.now q.now }
 {

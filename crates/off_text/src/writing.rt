@@ -15,7 +15,7 @@ pub fn push_count(alloc: Global, out: &mut Vec<u8>, count: usize) -> Result<(), 
     push_decimal(alloc, out, i128::from(count as u64))
 }
 
-/// Appends a vertex's line.
+// Appends a vertex's line.
 fn push_vertex(alloc: Global, out: &mut Vec<u8>, vertex: &Vertex) -> Result<(), NoMemory>
     ensures { OnOk result (out.new.items ≡ out.old.items ++ vertex_line vertex.now) }
 {
@@ -30,7 +30,7 @@ fn push_vertex(alloc: Global, out: &mut Vec<u8>, vertex: &Vertex) -> Result<(), 
     Ok(())
 }
 
-/// Appends the line of the counts, with a 0 for the edges.
+// Appends the line of the counts, with a 0 for the edges.
 fn push_counts(
     alloc: Global,
     out: &mut Vec<u8>,

@@ -24,7 +24,7 @@ impl<R: Read> Model for ReadSource<R> {
 }
 
 impl<R: Read> ReadSource<R> {
-    /// A source over a reader, with no fault yet. Takes no memory.
+    /// A source over a reader, with no fault yet.
     pub fn new(reader: R) -> Self
         ensures { result ≡ record { reader = reader; faults = 0 } }
     {
@@ -80,7 +80,7 @@ impl<W: Write> Model for WriteSink<W> {
 }
 
 impl<W: Write> WriteSink<W> {
-    /// A sink over a writer, with no fault yet. Takes no memory.
+    /// A sink over a writer, with no fault yet.
     pub fn new(writer: W) -> Self
         ensures { result ≡ record { writer = writer; faults = 0 } }
     {

@@ -48,7 +48,7 @@ impl MemorySink {
         })
     }
 
-    /// The bytes held, in the order in which they were written. Takes no memory.
+    /// The bytes held, in the order in which they were written.
     pub fn held(&self) -> &[u8]
         ensures held { result.now ≡ self.now.held }
         ensures fits { length result.now ≤ self.now.room }
@@ -64,7 +64,7 @@ impl Sink for MemorySink {
 
     ghost faults = { λ s. s.faults };
 
-    /// Takes as many bytes as a piece, `from` and the room that is left allow. Takes no memory.
+    /// Takes as many bytes as a piece, `from` and the room that is left allow.
     fn write(&mut self, from: &[u8]) -> Result<usize, Failed>
         requires { 0 < length from.now }
         ensures bound { IfOk result (λ n. (0 < n) × (n ≤ length from.now)) }

@@ -31,7 +31,6 @@ impl Model for MemorySource {
 impl MemorySource {
     /// A source that gives `bytes`, at most `piece` of them at a call. Call number `k`, counted
     /// from 1 up to 2^64 - 1, fails exactly where `k` is in `failing`. No fault is counted yet.
-    /// Takes no memory.
     pub fn new(bytes: Vec<u8>, failing: Vec<u64>, piece: u32) -> Self
         requires { 0 < piece }
         ensures { result ≡ record { left = bytes.items; failing = failing.items; piece = piece; calls = 0; faults = 0 } }

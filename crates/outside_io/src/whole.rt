@@ -63,7 +63,7 @@ pub fn read_to_end<S: Source>(
     }
 }
 
-/// Writes all of `bytes` into a sink, in as many calls as it takes. Takes no memory.
+/// Writes all of `bytes` into a sink, in as many calls as it takes.
 ///
 /// `Failed` comes at the first write that fails: the sink holds a proper prefix of `bytes` then,
 /// maybe none of them.

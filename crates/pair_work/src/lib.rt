@@ -21,7 +21,7 @@ pub trait PairWork<A, B> {
 }
 
 /// Does the work at each place of two slices that are equally long. The halves are worked on at the same
-/// time where a thread can be made, and else one after another. Takes no memory.
+/// time where a thread can be made, and else one after another.
 #[cycle(halves)]
 pub fn work_each<R: Threads + Sync, W: PairWork<A, B> + Sync, A: Send, B: Send>(
     rt: &R,

@@ -17,7 +17,7 @@ use std::marker::Model;
 use std::sync::Arc;
 use text_place::NoMemory;
 
-/// The most that the solids of leaves which are kept may be in size together: 2 MiB at 64 bytes each.
+// The most that the solids of leaves which are kept may be in size together: 2 MiB at 64 bytes each.
 const MOST_KEPT: u64 = 32_768;
 
 /// A store with the names of its joins and the solids of leaves, which contracts see as the store is seen.
@@ -75,7 +75,7 @@ impl KnownStore {
         Ok(KnownStore { named, leaves })
     }
 
-    /// The store. Takes no memory.
+    /// The store.
     pub fn store(&self) -> &CsgStore
         ensures { result.now ≡ self.now }
     {
@@ -101,7 +101,7 @@ impl KnownStore {
         }
     }
 
-    /// The solid of a tree by its number here, where it has one and the solid is known.
+    // The solid of a tree by its number here, where it has one and the solid is known.
     fn leaf_in(&self, number: Option<u32>) -> Result<Option<Arc<Solid>>, NoMemory>
         requires { IfSome number (IsNumberIn self.now) }
         ensures { (tree : Formula) → IsNumberOf self.now tree number → IfOk result (IsKnown tree) }
@@ -125,7 +125,7 @@ impl KnownStore {
     }
 }
 
-/// The solids of the leaves of a store among those of its nodes, within 2 MiB.
+// The solids of the leaves of a store among those of its nodes, within 2 MiB.
 fn leaves_of(
     alloc: Global,
     store: &CsgStore,
@@ -144,7 +144,7 @@ fn leaves_of(
     Ok(leaves)
 }
 
-/// The solid of a node, where that is a leaf and there is room for it.
+// The solid of a node, where that is a leaf and there is room for it.
 fn leaf_within(
     node: CsgNode<'_>,
     solid: &Arc<Solid>,

@@ -7,7 +7,7 @@ use csg_tree::{CsgNode, CsgStore};
 use std::alloc::Global;
 use text_place::NoMemory;
 
-/// The most nodes that a run has.
+// The most nodes that a run has.
 const MOST_OF_RUN: u32 = 64;
 
 /// The nodes behind the first `start` ones, up to 64, that are over these alone: none is over another

@@ -32,7 +32,7 @@ impl Model for Line {
     ghost invariant = { λ l. HasAxisSizes (record { a = l.a; b = l.b; c = l.c; point = record { x = l.x; y = l.y; z = l.z; w = l.w } }) };
 }
 
-/// The point `(x / w, y / w, z / w)` of a line.
+// The point `(x / w, y / w, z / w)` of a line.
 #[derive(Clone, Copy)]
 struct Spot {
     x: i64,
@@ -75,7 +75,7 @@ pub fn line_of(p: &Plane, m: &Plane) -> Option<Line>
     })
 }
 
-/// A point on two planes, by the cross product of their directions.
+// A point on two planes, by the cross product of their directions.
 fn spot_on(p: &Plane, m: &Plane, a: i64, b: i64, c: i64) -> Option<Spot>
     requires first { IsSmall p.now }
     requires second { IsSmall m.now }
@@ -98,7 +98,7 @@ fn spot_on(p: &Plane, m: &Plane, a: i64, b: i64, c: i64) -> Option<Spot>
     }
 }
 
-/// The point at which two planes meet the plane x = 0.
+// The point at which two planes meet the plane x = 0.
 fn at_no_x(p: &Plane, m: &Plane, w: i64) -> Spot
     requires first { IsSmall p.now }
     requires second { IsSmall m.now }
@@ -112,7 +112,7 @@ fn at_no_x(p: &Plane, m: &Plane, w: i64) -> Spot
     spot_of(0, y, z, w)
 }
 
-/// The point at which two planes meet the plane y = 0.
+// The point at which two planes meet the plane y = 0.
 fn at_no_y(p: &Plane, m: &Plane, w: i64) -> Spot
     requires first { IsSmall p.now }
     requires second { IsSmall m.now }
@@ -126,7 +126,7 @@ fn at_no_y(p: &Plane, m: &Plane, w: i64) -> Spot
     spot_of(x, 0, z, w)
 }
 
-/// The point at which two planes meet the plane z = 0.
+// The point at which two planes meet the plane z = 0.
 fn at_no_z(p: &Plane, m: &Plane, w: i64) -> Spot
     requires first { IsSmall p.now }
     requires second { IsSmall m.now }
@@ -140,7 +140,7 @@ fn at_no_z(p: &Plane, m: &Plane, w: i64) -> Spot
     spot_of(x, y, 0, w)
 }
 
-/// The point with these numbers, and with its `w` above 0.
+// The point with these numbers, and with its `w` above 0.
 fn spot_of(x: i64, y: i64, z: i64, w: i64) -> Spot
     requires x_size { unsigned_abs x ≤ 2 * (small_direction * small_offset) }
     requires y_size { unsigned_abs y ≤ 2 * (small_direction * small_offset) }

@@ -42,14 +42,14 @@ pub fn side_between(ends: Place, begins: Place) -> Side
     )
 }
 
-/// `a b`
+// `a b`
 fn product(a: i64, b: i64) -> i128
     ensures { result ≡ a *ℤ b }
 {
     i128::from(a) * i128::from(b)
 }
 
-/// The side of a number on which another one lies.
+// The side of a number on which another one lies.
 fn side_past(number: i128, other: i128) -> Side
     ensures { result ≡ side_of (number -ℤ other) }
 {

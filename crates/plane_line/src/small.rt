@@ -5,10 +5,10 @@ ghost use Rattle.plane_line.specs.Lines.{IsSmall};
 
 use plane_predicate::Plane;
 
-/// The greatest size of a part of the direction of a small plane.
+// The greatest size of a part of the direction of a small plane.
 const MOST_DIRECTION: i64 = 100_000;
 
-/// The greatest size of the offset of a small plane.
+// The greatest size of the offset of a small plane.
 const MOST_OFFSET: i64 = 100_000_000;
 
 /// Whether a plane's numbers are small: at most 100,000 for `a`, `b` and `c`, and at most 100,000,000 for
@@ -22,7 +22,7 @@ pub fn is_small(m: &Plane) -> bool
         && is_within(m.d, MOST_OFFSET)
 }
 
-/// Whether a number is at most another one in size.
+// Whether a number is at most another one in size.
 fn is_within(number: i64, most: i64) -> bool
     requires { pos 0 ≤ℤ most }
     ensures { result ≡ true → unsigned_abs number ≤ unsigned_abs most }

@@ -27,7 +27,7 @@ pub fn box_polygon(alloc: Global, plane: &Plane) -> Result<Polygon, NoMemory>
     }
 }
 
-/// The box polygon over z.
+// The box polygon over z.
 #[tactic(auto, using(crate::proofs::BoxPoints::start_z))]
 fn over_z(alloc: Global, plane: &Plane) -> Result<Polygon, NoMemory>
     requires { plane.now.c ≢ pos 0 }
@@ -39,7 +39,7 @@ fn over_z(alloc: Global, plane: &Plane) -> Result<Polygon, NoMemory>
     trim(alloc, below, &low_z())
 }
 
-/// The box polygon over y.
+// The box polygon over y.
 #[tactic(auto, using(crate::proofs::BoxPoints::start_y))]
 fn over_y(alloc: Global, plane: &Plane) -> Result<Polygon, NoMemory>
     requires { plane.now.b ≢ pos 0 }
@@ -51,7 +51,7 @@ fn over_y(alloc: Global, plane: &Plane) -> Result<Polygon, NoMemory>
     trim(alloc, below, &low_y())
 }
 
-/// The box polygon over x.
+// The box polygon over x.
 #[tactic(auto, using(crate::proofs::BoxPoints::start_x))]
 fn over_x(alloc: Global, plane: &Plane) -> Result<Polygon, NoMemory>
     requires { plane.now.a ≢ pos 0 }
@@ -63,7 +63,7 @@ fn over_x(alloc: Global, plane: &Plane) -> Result<Polygon, NoMemory>
     trim(alloc, below, &low_x())
 }
 
-/// The polygon of four edges, which are turned round where `part` is below 0.
+// The polygon of four edges, which are turned round where `part` is below 0.
 fn four_edges(
     alloc: Global,
     plane: &Plane,
@@ -83,7 +83,7 @@ fn four_edges(
     }
 }
 
-/// The part behind a plane where the polygon is across it, else the polygon.
+// The part behind a plane where the polygon is across it, else the polygon.
 fn trim(alloc: Global, polygon: Polygon, plane: &Plane) -> Result<Polygon, NoMemory>
     ensures { IfOk result (λ s. s ≡ trimmed polygon plane.now) }
 {

@@ -33,14 +33,14 @@ pub fn cut(alloc: Global, polygon: &Polygon, plane: &Plane) -> Result<(Polygon, 
     ))
 }
 
-/// The edges of the two parts.
+// The edges of the two parts.
 #[derive(Drop)]
 struct PartEdges {
     behind: Vec<Plane>,
     ahead: Vec<Plane>,
 }
 
-/// The edges of both parts, in one pass in which each corner's side is tested once.
+// The edges of both parts, in one pass in which each corner's side is tested once.
 fn part_edges(
     alloc: Global,
     plane: &Plane,
@@ -71,7 +71,7 @@ fn part_edges(
     Ok(PartEdges { behind, ahead })
 }
 
-/// Adds what an edge gives to the part behind `m`, by whether its ends are strictly behind it.
+// Adds what an edge gives to the part behind `m`, by whether its ends are strictly behind it.
 fn push_kept(
     found: &mut Vec<Plane>,
     from: bool,

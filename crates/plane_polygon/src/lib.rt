@@ -67,7 +67,7 @@ impl Polygon {
         })
     }
 
-    /// The same of edges that are given away. Takes no memory.
+    /// The same of edges that are given away.
     pub fn of_edges(plane: &Plane, edges: Vec<Plane>) -> Polygon
         requires { IsPolygon (record { plane = plane.now; edges = edges.items }) }
         ensures { result ≡ record { plane = plane.now; edges = edges.items } }
@@ -99,7 +99,7 @@ impl Polygon {
         &self.edges
     }
 
-    /// Its edge planes in order, given away. Takes no memory.
+    /// Its edge planes in order, given away.
     pub fn into_edges(self) -> Vec<Plane>
         ensures { result.items ≡ self.edges }
     {

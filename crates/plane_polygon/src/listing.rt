@@ -20,7 +20,7 @@ pub fn corners(alloc: Global, polygon: &Polygon) -> Result<Vec<Point>, NoMemory>
     Ok(corners_of(alloc, &polygon.plane, &polygon.edges)?)
 }
 
-/// The same, of a plane and edges that meet what a polygon keeps.
+// The same, of a plane and edges that meet what a polygon keeps.
 fn corners_of(alloc: Global, plane: &Plane, edges: &[Plane]) -> Result<Vec<Point>, AllocError>
     requires { IsPolygon (record { plane = plane.now; edges = edges.now }) }
     ensures { IfOk result (λ v. AreReducedFrom (corners (record { plane = plane.now; edges = edges.now })) v.items) }
@@ -32,7 +32,7 @@ fn corners_of(alloc: Global, plane: &Plane, edges: &[Plane]) -> Result<Vec<Point
     Ok(found)
 }
 
-/// Corner `i`, reduced.
+// Corner `i`, reduced.
 fn corner_point(plane: &Plane, edges: &[Plane], i: usize) -> Point
     requires index { i < length edges.now }
     requires polygon { IsPolygon (record { plane = plane.now; edges = edges.now }) }

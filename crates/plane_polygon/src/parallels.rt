@@ -38,7 +38,7 @@ pub fn side_alike(p: &Plane, m: &Plane) -> Side
     side_past(p, m)
 }
 
-/// The side of the offset of `m` on which that of `p` lies.
+// The side of the offset of `m` on which that of `p` lies.
 fn side_past(p: &Plane, m: &Plane) -> Side
     ensures { result ≡ side_past p.now.d m.now.d }
 {

@@ -25,7 +25,7 @@ pub fn side_at(p: &Plane, q: &Plane, r: &Plane, m: &Plane) -> Side
     side(p, q, r, m)
 }
 
-/// The same, where `m` is parallel to one of the planes that meet.
+// The same, where `m` is parallel to one of the planes that meet.
 fn parallel_to_one(p: &Plane, q: &Plane, r: &Plane, m: &Plane) -> Option<Side>
     requires { pos 0 <ℤ (cramer p.now q.now r.now).w }
     ensures { IfSome result (λ s. s ≡ side_of (value m.now (cramer p.now q.now r.now))) }

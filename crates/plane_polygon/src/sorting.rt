@@ -16,7 +16,7 @@ pub fn sort_by(polygon: &Polygon, plane: &Plane) -> Class
     class_among(&polygon.plane, &polygon.edges, plane)
 }
 
-/// The same, of a plane and edges that meet what a polygon keeps.
+// The same, of a plane and edges that meet what a polygon keeps.
 fn class_among(plane: &Plane, edges: &[Plane], m: &Plane) -> Class
     requires { IsPolygon (record { plane = plane.now; edges = edges.now }) }
     ensures { result ≡ class_of (record { plane = plane.now; edges = edges.now }) m.now }
@@ -31,7 +31,7 @@ fn class_among(plane: &Plane, edges: &[Plane], m: &Plane) -> Class
     class_from(some_behind, some_ahead)
 }
 
-/// Whether one of two holds.
+// Whether one of two holds.
 fn either(a: bool, b: bool) -> bool
     ensures { result ≡ (a || b) }
 {

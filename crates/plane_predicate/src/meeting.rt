@@ -55,7 +55,7 @@ pub fn point_side(m: &Plane, point: &Point) -> Side
     side_by(at.w, value_at(m, &at))
 }
 
-/// The cross product of two directions.
+// The cross product of two directions.
 #[derive(Clone, Copy)]
 struct Cross {
     a: i64,
@@ -63,7 +63,7 @@ struct Cross {
     c: i64,
 }
 
-/// The cross product of the directions of two planes.
+// The cross product of the directions of two planes.
 fn cross_of(p: &Plane, q: &Plane) -> Cross
     ensures a { result.a ≡ minor p.now.b p.now.c q.now.b q.now.c }
     ensures b { result.b ≡ minor p.now.c p.now.a q.now.c q.now.a }
@@ -79,8 +79,8 @@ fn cross_of(p: &Plane, q: &Plane) -> Cross
     }
 }
 
-/// What Cramer's rule gives for three planes: the numbers of their meeting, with a `w` that is 0 or
-/// has either sign.
+// What Cramer's rule gives for three planes: the numbers of their meeting, with a `w` that is 0 or
+// has either sign.
 #[derive(Clone, Copy)]
 struct Cramer {
     x: i128,
@@ -101,7 +101,7 @@ impl Model for Cramer {
     ghost invariant = { λ p. HasMeetingSizes (record { x = p.x; y = p.y; z = p.z; w = p.w }) };
 }
 
-/// Cramer's rule.
+// Cramer's rule.
 fn cramer_of(p: &Plane, q: &Plane, r: &Plane) -> Cramer
     ensures { result ≡ cramer p.now q.now r.now }
 {
@@ -116,7 +116,7 @@ fn cramer_of(p: &Plane, q: &Plane, r: &Plane) -> Cramer
     }
 }
 
-/// The value of a plane at what Cramer's rule gives.
+// The value of a plane at what Cramer's rule gives.
 fn value_at(m: &Plane, at: &Cramer) -> i128
     ensures value { result ≡ value m.now at.now }
     ensures size { unsigned_abs result < 2 ^ 127 }
@@ -130,7 +130,7 @@ fn value_at(m: &Plane, at: &Cramer) -> i128
     )
 }
 
-/// `a x + b y + c z - d w`
+// `a x + b y + c z - d w`
 fn value_of(a: i128, b: i128, c: i128, d: i128, at: &Cramer) -> i128
     requires a_size { unsigned_abs a ≤ most_direction }
     requires b_size { unsigned_abs b ≤ most_direction }
@@ -144,7 +144,7 @@ fn value_of(a: i128, b: i128, c: i128, d: i128, at: &Cramer) -> i128
     minus(high, low)
 }
 
-/// The point with these numbers, and with its `w` above 0.
+// The point with these numbers, and with its `w` above 0.
 fn point_of(at: &Cramer) -> Point
     requires { at.now.w ≢ pos 0 }
     ensures { result ≡ signed_by at.now.w at.now }
@@ -166,7 +166,7 @@ fn point_of(at: &Cramer) -> Point
     }
 }
 
-/// The side that a value says, where the point was taken with the sign of `w`.
+// The side that a value says, where the point was taken with the sign of `w`.
 fn side_by(w: i128, value: i128) -> Side
     requires { unsigned_abs value < 2 ^ 127 }
     ensures { result ≡ side_of (turned_by w value) }

@@ -53,7 +53,7 @@ pub fn quotients(x: i128, y: i128, z: i128, w: i128) -> Reduced
     }
 }
 
-/// The greatest common divisor of two numbers, by Euclid's algorithm.
+// The greatest common divisor of two numbers, by Euclid's algorithm.
 fn greatest_divisor(a: u128, b: u128) -> u128
     ensures { IsGcd a b result }
 {
@@ -67,7 +67,7 @@ fn greatest_divisor(a: u128, b: u128) -> u128
     x
 }
 
-/// The greatest common divisor of four numbers.
+// The greatest common divisor of four numbers.
 fn common_factor(x: u128, y: u128, z: u128, w: u128) -> u128
     ensures factor { IsCommonFactor x y z w result }
     ensures above { 0 < x + y + z + w → 0 < result }
@@ -75,7 +75,7 @@ fn common_factor(x: u128, y: u128, z: u128, w: u128) -> u128
     greatest_divisor(greatest_divisor(x, y), greatest_divisor(z, w))
 }
 
-/// A number divided by one of its divisors.
+// A number divided by one of its divisors.
 fn divided(x: i128, by: u128) -> i128
     requires above { 0 < by }
     requires divides { by ∣ unsigned_abs x }

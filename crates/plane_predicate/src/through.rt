@@ -23,7 +23,7 @@ pub fn plane_through(p: [i64; 3], q: [i64; 3], r: [i64; 3]) -> Option<Plane>
     plane_of(a, b, c, d)
 }
 
-/// One part of the cross product `(q - p) x (r - p)`, from two coordinates of each point.
+// One part of the cross product `(q - p) x (r - p)`, from two coordinates of each point.
 fn minor_between(py: i64, pz: i64, qy: i64, qz: i64, ry: i64, rz: i64) -> i64
     requires py_size { unsigned_abs py ≤ 4095 }
     requires pz_size { unsigned_abs pz ≤ 4095 }
@@ -37,7 +37,7 @@ fn minor_between(py: i64, pz: i64, qy: i64, qz: i64, ry: i64, rz: i64) -> i64
     small_minor(qy - py, qz - pz, ry - py, rz - pz)
 }
 
-/// `a d - b c` of differences of coordinates.
+// `a d - b c` of differences of coordinates.
 fn small_minor(a: i64, b: i64, c: i64, d: i64) -> i64
     requires a_size { unsigned_abs a ≤ 8190 }
     requires b_size { unsigned_abs b ≤ 8190 }
@@ -49,7 +49,7 @@ fn small_minor(a: i64, b: i64, c: i64, d: i64) -> i64
     a * d - b * c
 }
 
-/// `a x + b y + c z` of a direction and a point.
+// `a x + b y + c z` of a direction and a point.
 fn offset(a: i64, b: i64, c: i64, x: i64, y: i64, z: i64) -> i64
     requires a_size { unsigned_abs a ≤ most_direction }
     requires b_size { unsigned_abs b ≤ most_direction }
@@ -79,7 +79,7 @@ pub fn plane_of(a: i64, b: i64, c: i64, d: i64) -> Option<Plane>
     }
 }
 
-/// The plane with these numbers, divided by their common factor.
+// The plane with these numbers, divided by their common factor.
 fn reduced_plane(a: i64, b: i64, c: i64, d: i64) -> Plane
     requires a_size { unsigned_abs a ≤ most_direction }
     requires b_size { unsigned_abs b ≤ most_direction }

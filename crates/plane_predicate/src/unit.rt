@@ -11,7 +11,7 @@ pub enum Unit {
 }
 
 impl Unit {
-    /// The grid steps of one unit: 1 or 2. Takes no memory.
+    /// The grid steps of one unit: 1 or 2.
     pub fn per(self) -> i64
         ensures { result ≡ steps_of self }
     {

@@ -61,7 +61,7 @@ pub fn cut(
     })
 }
 
-/// The edges of the part, by the sides of the corners.
+// The edges of the part, by the sides of the corners.
 fn part_edges(
     alloc: Global,
     edges: &[u32],
@@ -84,7 +84,7 @@ fn part_edges(
     Ok(kept)
 }
 
-/// Whether a corner lies strictly in a half space.
+// Whether a corner lies strictly in a half space.
 fn is_within(side: CornerSide, half: Half) -> bool
     ensures { result ≡ is_within half side }
 {
@@ -94,7 +94,7 @@ fn is_within(side: CornerSide, half: Half) -> bool
     }
 }
 
-/// The number of the plane that has a half space of another one behind it.
+// The number of the plane that has a half space of another one behind it.
 fn side_number(number: u32, half: Half) -> u32
     ensures { result ≡ side_number half number }
 {
@@ -104,8 +104,8 @@ fn side_number(number: u32, half: Half) -> u32
     }
 }
 
-/// Adds what an edge gives to the part in a half space, by whether its ends are strictly within, and by
-/// the number of the plane that has the half space behind it.
+// Adds what an edge gives to the part in a half space, by whether its ends are strictly within, and by
+// the number of the plane that has the half space behind it.
 fn push_kept(
     found: &mut Edges,
     from: bool,

@@ -45,8 +45,8 @@ pub fn by_number(alloc: Global, planes: &[Plane]) -> Result<Vec<Oriented>, NoMem
     Ok(found)
 }
 
-/// The direction of plane `i`: that of the plane before it or of its opposite, where it has it too, else
-/// its own number.
+// The direction of plane `i`: that of the plane before it or of its opposite, where it has it too, else
+// its own number.
 fn direction_of(planes: &[Plane], found: &[Oriented], i: usize) -> u32
     requires index { i < length planes.now }
     requires range { i < 2 ^ 31 }

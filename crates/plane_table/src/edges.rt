@@ -26,7 +26,7 @@ impl Model for Edges {
 }
 
 impl Edges {
-    /// No numbers. Takes no memory.
+    /// No numbers.
     pub fn new(alloc: Global) -> Edges
         ensures { result ≡ [] }
     {
@@ -35,7 +35,7 @@ impl Edges {
         }
     }
 
-    /// These numbers. Takes no memory.
+    /// These numbers.
     pub(crate) fn of_numbers(numbers: SmallVec<u32, FEW>) -> Edges
         ensures { result ≡ numbers.items }
     {
@@ -81,7 +81,7 @@ impl Edges {
         self.numbers()[i]
     }
 
-    /// The numbers in order. Takes no memory.
+    /// The numbers in order.
     pub fn numbers(&self) -> &[u32]
         ensures { result.now ≡ self.now }
     {

@@ -36,7 +36,7 @@ pub fn join(alloc: Global, left: &[Plane], right: &[Plane]) -> Result<Joined, No
     }
 }
 
-/// Joins two lists in one walk of both. Where both are ascending, so is the joined one.
+// Joins two lists in one walk of both. Where both are ascending, so is the joined one.
 fn walked(alloc: Global, left: &[Plane], right: &[Plane]) -> Result<Joined, NoMemory>
     ensures left { IfOk result (λ r. AreNumbersOf r.planes.items r.left.items left.now) }
     ensures right { IfOk result (λ r. AreNumbersOf r.planes.items r.right.items right.now) }
@@ -54,7 +54,7 @@ fn walked(alloc: Global, left: &[Plane], right: &[Plane]) -> Result<Joined, NoMe
     })
 }
 
-/// Adds the next plane of both lists to the joined one.
+// Adds the next plane of both lists to the joined one.
 #[tactic(auto, using(crate::proofs::Joins::first_on))]
 fn put_next(
     left: &[Plane],
@@ -79,8 +79,8 @@ fn put_next(
     Ok(())
 }
 
-/// Whether the next plane of the left list comes before the next one of the right list, or is equal or
-/// opposite to it; one of the lists has a next plane.
+// Whether the next plane of the left list comes before the next one of the right list, or is equal or
+// opposite to it; one of the lists has a next plane.
 fn is_left_next(left: &[Plane], i: usize, right: &[Plane], j: usize) -> bool
     ensures left { IsTrue result → i < length left.now }
     ensures right { IsFalse result → (i < length left.now) ⊎ (j < length right.now) → j < length right.now }
@@ -91,7 +91,7 @@ fn is_left_next(left: &[Plane], i: usize, right: &[Plane], j: usize) -> bool
     i < left.len()
 }
 
-/// Adds the next plane of a list to the joined one.
+// Adds the next plane of a list to the joined one.
 fn put(from: &[Plane], planes: &mut Vec<Plane>, numbers: &mut Vec<u32>) -> Result<(), NoMemory>
     requires next { length numbers.old.items < length from.now }
     requires first { AreFirstNumbersOf planes.old.items numbers.old.items from.now }
@@ -104,8 +104,8 @@ fn put(from: &[Plane], planes: &mut Vec<Plane>, numbers: &mut Vec<u32>) -> Resul
     Ok(())
 }
 
-/// Gives the next plane of a list its number, if it is equal or opposite to the last one of the
-/// joined list.
+// Gives the next plane of a list its number, if it is equal or opposite to the last one of the
+// joined list.
 fn put_alike(from: &[Plane], planes: &[Plane], numbers: &mut Vec<u32>) -> Result<(), NoMemory>
     requires { AreFirstNumbersOf planes.now numbers.old.items from.now }
     ensures first { OnOk result (AreFirstNumbersOf planes.now numbers.new.items from.now) }
@@ -124,7 +124,7 @@ fn put_alike(from: &[Plane], planes: &[Plane], numbers: &mut Vec<u32>) -> Result
     Ok(())
 }
 
-/// Joins two lists in any order by a search for each plane.
+// Joins two lists in any order by a search for each plane.
 #[tactic(auto, using(crate::proofs::Joins::numbers_on))]
 fn searched(alloc: Global, left: &[Plane], right: &[Plane]) -> Result<Joined, NoMemory>
     ensures apart { IfOk result (λ r. HasNoTwoAlike r.planes.items) }

@@ -42,7 +42,7 @@ pub fn sides_by_line(
     Ok(Some(CornerSides { class, corners }))
 }
 
-/// How a face lies against a plane that meets its own in a line.
+// How a face lies against a plane that meets its own in a line.
 fn class_along(table: &PlaneTable, face: &Face, line: &Line) -> Class
     requires small { AreNumbersSmall table.now }
     requires face { IsFaceOver table.now face.now }
@@ -67,7 +67,7 @@ fn class_along(table: &PlaneTable, face: &Face, line: &Line) -> Class
     )
 }
 
-/// The sides of the corners of a face against a plane that meets its own in a line.
+// The sides of the corners of a face against a plane that meets its own in a line.
 fn corners_along(
     alloc: Global,
     table: &PlaneTable,

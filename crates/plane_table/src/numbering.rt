@@ -64,7 +64,7 @@ pub fn half_faces(alloc: Global, from: &[Plane]) -> Result<HalfFaces, NoMemory>
     half_faces_over(alloc, in_order(alloc, planes)?, from)
 }
 
-/// The same over a list to which the planes that it lacks are added.
+// The same over a list to which the planes that it lacks are added.
 fn half_faces_over(alloc: Global, known: Vec<Plane>, from: &[Plane]) -> Result<HalfFaces, NoMemory>
     requires apart { HasNoTwoAlike known.items }
     requires reach { All ComesInReach from.now }
@@ -82,7 +82,7 @@ fn half_faces_over(alloc: Global, known: Vec<Plane>, from: &[Plane]) -> Result<H
     Ok(HalfFaces { planes, faces })
 }
 
-/// A polygon as a face over a list to which the planes that it lacks are added.
+// A polygon as a face over a list to which the planes that it lacks are added.
 fn own_face(alloc: Global, known: Vec<Plane>, polygon: &Polygon) -> Result<OwnFace, NoMemory>
     requires { HasNoTwoAlike known.items }
     ensures face { IfOk result (λ r. IsFaceOf polygon.now r) }
@@ -121,8 +121,8 @@ pub fn numbers_of(alloc: Global, known: Vec<Plane>, from: &[Plane]) -> Result<Nu
     Ok(Numbered { planes, numbers })
 }
 
-/// The number of a plane over a list, to which it is added where neither it nor its opposite stands
-/// there.
+// The number of a plane over a list, to which it is added where neither it nor its opposite stands
+// there.
 fn number_of(plane: &Plane, planes: &mut Vec<Plane>) -> Result<u32, NoMemory>
     requires { HasNoTwoAlike planes.old.items }
     ensures { IfOk result (λ n. IsNumbered plane.now planes.old.items planes.new.items n) }
@@ -150,7 +150,7 @@ pub fn add(plane: &Plane, planes: &mut Vec<Plane>) -> Result<u32, NoMemory>
     Ok(number)
 }
 
-/// The number that a plane has over a list, if it or its opposite stands there.
+// The number that a plane has over a list, if it or its opposite stands there.
 fn find(plane: &Plane, planes: &[Plane]) -> Option<u32>
     requires { length planes.now < 2 ^ 31 }
     ensures some { IfSome result (λ n. IsNumberIn planes.now n × (named planes.now n ≡ plane.now)) }

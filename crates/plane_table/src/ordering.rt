@@ -19,7 +19,7 @@ pub fn in_order(alloc: Global, planes: Vec<Plane>) -> Result<Vec<Plane>, NoMemor
     rising(alloc, &sorted)
 }
 
-/// Those planes of a list that come after all that are taken before them.
+// Those planes of a list that come after all that are taken before them.
 fn rising(alloc: Global, planes: &[Plane]) -> Result<Vec<Plane>, NoMemory>
     ensures { IfOk result (λ v. IsAscending v.items) }
 {
@@ -32,7 +32,7 @@ fn rising(alloc: Global, planes: &[Plane]) -> Result<Vec<Plane>, NoMemory>
     Ok(taken)
 }
 
-/// Whether a plane comes after the last one of a list, or the list has none.
+// Whether a plane comes after the last one of a list, or the list has none.
 fn comes_next(taken: &[Plane], plane: &Plane) -> bool
     ensures { IsTrue result → ComesNext taken.now plane.now }
 {
@@ -63,7 +63,7 @@ pub fn compare(m: &Plane, n: &Plane) -> Ordering
     by_numbers(&normalized(m), &normalized(n))
 }
 
-/// The order of four numbers, by their first difference.
+// The order of four numbers, by their first difference.
 fn by_numbers(m: &Plane, n: &Plane) -> Ordering
     ensures { result ≡ by_numbers m.now n.now }
 {
@@ -71,7 +71,7 @@ fn by_numbers(m: &Plane, n: &Plane) -> Ordering
     m.a.cmp(&n.a).then(m.b.cmp(&n.b).then(last))
 }
 
-/// A plane or its opposite, so that the first number that isn't 0 is above 0.
+// A plane or its opposite, so that the first number that isn't 0 is above 0.
 #[tactic(auto, unfolding(crate::specs::Orders::normalized))]
 fn normalized(m: &Plane) -> Plane
     ensures { result ≡ normalized m.now }
@@ -79,7 +79,7 @@ fn normalized(m: &Plane) -> Plane
     if is_low(m) { opposite(m) } else { *m }
 }
 
-/// Whether the first number that isn't 0 is below 0.
+// Whether the first number that isn't 0 is below 0.
 fn is_low(m: &Plane) -> bool
     ensures { result ≡ is_low m.now }
 {

@@ -32,8 +32,8 @@ pub fn renumber(alloc: Global, face: &Face, numbers: &[u32]) -> Result<Face, NoM
     })
 }
 
-/// The number that the plane of a number has over another list, by the numbers that the planes have
-/// there.
+// The number that the plane of a number has over another list, by the numbers that the planes have
+// there.
 #[tactic(auto, unfolding(crate::specs::Joins::number_among))]
 fn number_among(numbers: &[u32], number: u32) -> u32
     requires { number < 2 * length numbers.now }
@@ -78,7 +78,7 @@ pub fn keep_used(alloc: Global, planes: &[Plane], used: &[bool]) -> Result<Numbe
     })
 }
 
-/// The number of a plane that is added to a list where it is used, else 0.
+// The number of a plane that is added to a list where it is used, else 0.
 fn keep(plane: &Plane, is_used: bool, kept: &mut Vec<Plane>) -> Result<u32, NoMemory>
     ensures { IfOk result (λ n. IsKept is_used plane.now kept.old.items kept.new.items n) }
 {

@@ -16,7 +16,7 @@ use smallvec::{SmallVec, smallvec};
 use std::alloc::Global;
 use text_place::NoMemory;
 
-/// How many sides stand in the value itself.
+// How many sides stand in the value itself.
 const FEW: usize = 8;
 
 /// On which side of a plane a corner lies; on the plane where it is on neither.
@@ -79,8 +79,8 @@ pub fn sides(
     corner_sides(alloc, table, face, number)
 }
 
-/// Whether the table has one direction for two planes, or for one and the opposite of the other. For speed,
-/// and no promise.
+// Whether the table has one direction for two planes, or for one and the opposite of the other. For speed,
+// and no promise.
 fn is_parallel(table: &PlaneTable, m: u32, n: u32) -> bool
     requires m { IsNumberIn table.now m }
     requires n { IsNumberIn table.now n }
@@ -88,7 +88,7 @@ fn is_parallel(table: &PlaneTable, m: u32, n: u32) -> bool
     table.direction(m) / 2 == table.direction(n) / 2
 }
 
-/// The sides of the plane of a number on which all points of two other planes lie, where both are known.
+// The sides of the plane of a number on which all points of two other planes lie, where both are known.
 fn both_known(table: &PlaneTable, one: u32, other: u32, number: u32) -> Option<(Side, Side)>
     requires one { IsNumberIn table.now one }
     requires other { IsNumberIn table.now other }
@@ -100,7 +100,7 @@ fn both_known(table: &PlaneTable, one: u32, other: u32, number: u32) -> Option<(
     Some((first, second))
 }
 
-/// How a face of four corners lies, by their sides in order.
+// How a face of four corners lies, by their sides in order.
 fn four_sides(
     alloc: Global,
     first: Side,
@@ -135,7 +135,7 @@ fn four_sides(
     Ok(CornerSides { class, corners })
 }
 
-/// Whether one of four holds.
+// Whether one of four holds.
 fn some_of_four(a: bool, b: bool, c: bool, d: bool) -> bool
     ensures { result ≡ (a || (b || (c || d))) }
 {
@@ -152,7 +152,7 @@ pub fn corner_on(side: Side) -> CornerSide
     }
 }
 
-/// How a face lies that has all its corners on one side.
+// How a face lies that has all its corners on one side.
 fn class_on(side: Side) -> Class
     ensures { result ≡ class_by (is_side_behind side) (is_side_ahead side) }
 {
@@ -163,7 +163,7 @@ fn class_on(side: Side) -> Class
     }
 }
 
-/// How a face lies, by the side of each corner.
+// How a face lies, by the side of each corner.
 fn corner_sides(
     alloc: Global,
     table: &PlaneTable,
@@ -195,8 +195,8 @@ fn corner_sides(
     })
 }
 
-/// The side of the plane of a number on which corner `i` lies: the known one, else by the meeting of the
-/// planes there.
+// The side of the plane of a number on which corner `i` lies: the known one, else by the meeting of the
+// planes there.
 fn corner_side(
     table: &PlaneTable,
     face: &Face,
@@ -217,7 +217,7 @@ fn corner_side(
     corner_on(side)
 }
 
-/// The side of the plane of a number on which corner `i` lies.
+// The side of the plane of a number on which corner `i` lies.
 fn meeting_side(table: &PlaneTable, face: &Face, i: usize, number: u32) -> Side
     requires index { i < length face.now.edges }
     requires face { IsFaceOver table.now face.now }
@@ -230,7 +230,7 @@ fn meeting_side(table: &PlaneTable, face: &Face, i: usize, number: u32) -> Side
     side_at(table.plane(face.plane), ends, begins, table.plane(number))
 }
 
-/// The first of two sides that is known.
+// The first of two sides that is known.
 fn first_known(ends: Option<Side>, begins: Option<Side>) -> Option<Side>
     ensures { (result ≡ ends) ⊎ (result ≡ begins) }
 {
@@ -240,8 +240,8 @@ fn first_known(ends: Option<Side>, begins: Option<Side>) -> Option<Side>
     }
 }
 
-/// The side of the plane of a number on which all points of another plane lie, where the table has one
-/// direction for them or their opposites.
+// The side of the plane of a number on which all points of another plane lie, where the table has one
+// direction for them or their opposites.
 fn side_of_all(table: &PlaneTable, of: u32, number: u32) -> Option<Side>
     requires of { IsNumberIn table.now of }
     requires number { IsNumberIn table.now number }

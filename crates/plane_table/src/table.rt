@@ -50,7 +50,7 @@ impl PlaneTable {
         })
     }
 
-    /// The list of planes, without their opposites. Takes no memory.
+    /// The list of planes, without their opposites.
     pub fn planes(&self) -> &[Plane]
         ensures planes { result.now ≡ self.now }
         ensures apart { HasNoTwoAlike self.now }

@@ -42,8 +42,8 @@ pub fn is_bounded_by(
     bounds(points, faces, face, ways, &turned, plane)
 }
 
-/// Whether, as seen from ahead of a plane, a face goes round clockwise, no point of a face is ahead,
-/// and some point is ahead of the opposite plane.
+// Whether, as seen from ahead of a plane, a face goes round clockwise, no point of a face is ahead,
+// and some point is ahead of the opposite plane.
 fn bounds(
     points: &[[i64; 3]],
     faces: &[Corners],
@@ -70,7 +70,7 @@ fn bounds(
     is_clockwise(points, face, ways, plane)
 }
 
-/// Whether no corner of a face is strictly to the left of some ways as seen from ahead of a plane.
+// Whether no corner of a face is strictly to the left of some ways as seen from ahead of a plane.
 fn is_clockwise(points: &[[i64; 3]], face: &[u32], ways: &[Way], plane: &FacePlane) -> bool
     requires grid { All (λ p. IsOnGrid (point_at p)) points.now }
     requires there { All (λ i. i < length points.now) face.now }
@@ -86,7 +86,7 @@ fn is_clockwise(points: &[[i64; 3]], face: &[u32], ways: &[Way], plane: &FacePla
     true
 }
 
-/// Whether no corner of a face is strictly to the left of one way as seen from ahead of a plane.
+// Whether no corner of a face is strictly to the left of one way as seen from ahead of a plane.
 fn has_none_left(points: &[[i64; 3]], face: &[u32], way: Way, plane: &FacePlane) -> bool
     requires grid { All (λ p. IsOnGrid (point_at p)) points.now }
     requires there { All (λ i. i < length points.now) face.now }

@@ -21,7 +21,7 @@ pub fn are_closed(alloc: Global, points: &[[i64; 3]], faces: &[Corners]) -> Resu
     are_met_both_ways(alloc, &ways)
 }
 
-/// Whether each of some ways is met exactly once, and so is its way back.
+// Whether each of some ways is met exactly once, and so is its way back.
 fn are_met_both_ways(alloc: Global, ways: &[Way]) -> Result<bool, AllocError>
     ensures all { IfOk result (λ b. OnTrue b (AreMetBothWays ways.now)) }
     ensures past { IfOk result (λ b. OnFalse b (AreMetBothWays ways.now → ⊥)) }
@@ -32,7 +32,7 @@ fn are_met_both_ways(alloc: Global, ways: &[Way]) -> Result<bool, AllocError>
     }
 }
 
-/// The set of some ways. `None` where two of them are the same.
+// The set of some ways. `None` where two of them are the same.
 fn met(alloc: Global, ways: &[Way]) -> Result<Option<BTreeSet<Way>>, AllocError>
     ensures set { IfOk result (λ o. IfSome o (λ s. (w : Way) → IsTrue (contains ⟦<Way as Ord>⟧.cmp s w) ↔ IsMet ways.now w)) }
     ensures different { IfOk result (λ o. IfSome o (λ s. AreDifferent ways.now)) }
@@ -47,7 +47,7 @@ fn met(alloc: Global, ways: &[Way]) -> Result<Option<BTreeSet<Way>>, AllocError>
     Ok(Some(met))
 }
 
-/// Whether each of some ways has its way back in a set.
+// Whether each of some ways has its way back in a set.
 fn are_met_back(met: &BTreeSet<Way>, ways: &[Way]) -> bool
     ensures all { OnTrue result (All (λ w. IsTrue (contains ⟦<Way as Ord>⟧.cmp met.now (turned w))) ways.now) }
     ensures past { OnFalse result (All (λ w. IsTrue (contains ⟦<Way as Ord>⟧.cmp met.now (turned w))) ways.now → ⊥) }

@@ -31,8 +31,8 @@ pub fn are_convex(alloc: Global, points: &[[i64; 3]], faces: &[Corners]) -> Resu
     Ok(true)
 }
 
-/// Whether one face is convex with no point of a face ahead of it, and some point of a face is off
-/// its plane.
+// Whether one face is convex with no point of a face ahead of it, and some point of a face is off
+// its plane.
 fn is_bounded(
     alloc: Global,
     points: &[[i64; 3]],

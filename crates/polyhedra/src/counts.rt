@@ -35,7 +35,7 @@ pub fn are_there(points: usize, faces: &[Corners]) -> bool
     true
 }
 
-/// Whether each corner of one face is one of the points.
+// Whether each corner of one face is one of the points.
 fn is_there(points: usize, face: &[u32]) -> bool
     ensures all { OnTrue result (All (λ i. i < points) face.now) }
     ensures past { OnFalse result (All (λ i. i < points) face.now → ⊥) }
@@ -48,7 +48,7 @@ fn is_there(points: usize, face: &[u32]) -> bool
     true
 }
 
-/// Whether each face has at most so many corners.
+// Whether each face has at most so many corners.
 fn have_at_most(faces: &[Corners], most: usize) -> bool
     ensures all { OnTrue result (All (λ f. length f ≤ most) faces.now) }
     ensures past { OnFalse result (All (λ f. length f ≤ most) faces.now → ⊥) }
@@ -61,7 +61,7 @@ fn have_at_most(faces: &[Corners], most: usize) -> bool
     true
 }
 
-/// Whether each face has at least so many corners.
+// Whether each face has at least so many corners.
 fn have_at_least(faces: &[Corners], least: usize) -> bool
     ensures all { OnTrue result (All (λ f. least ≤ length f) faces.now) }
     ensures past { OnFalse result (All (λ f. least ≤ length f) faces.now → ⊥) }

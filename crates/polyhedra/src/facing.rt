@@ -18,8 +18,8 @@ pub fn turns_left(m: &FacePlane, p: [i64; 3], q: [i64; 3], r: [i64; 3]) -> bool
     turn_at(m, p, q, r) > 0
 }
 
-/// How the way from `p` by `q` to `r` turns as seen from ahead of a plane: above 0 where it turns
-/// left.
+// How the way from `p` by `q` to `r` turns as seen from ahead of a plane: above 0 where it turns
+// left.
 fn turn_at(m: &FacePlane, p: [i64; 3], q: [i64; 3], r: [i64; 3]) -> i128
     requires p_grid { IsOnGrid (point_at p) }
     requires q_grid { IsOnGrid (point_at q) }
@@ -30,7 +30,7 @@ fn turn_at(m: &FacePlane, p: [i64; 3], q: [i64; 3], r: [i64; 3]) -> i128
     directions_dot(m.a, m.b, m.c, n.a, n.b, n.c)
 }
 
-/// `a x + b y + c z` of two directions.
+// `a x + b y + c z` of two directions.
 fn directions_dot(a: i64, b: i64, c: i64, x: i64, y: i64, z: i64) -> i128
     requires a_size { unsigned_abs a ≤ 137434759200 }
     requires b_size { unsigned_abs b ≤ 137434759200 }
@@ -43,7 +43,7 @@ fn directions_dot(a: i64, b: i64, c: i64, x: i64, y: i64, z: i64) -> i128
     product(a, x) + product(b, y) + product(c, z)
 }
 
-/// The product of parts of two directions.
+// The product of parts of two directions.
 fn product(a: i64, b: i64) -> i128
     requires a_size { unsigned_abs a ≤ 137434759200 }
     requires b_size { unsigned_abs b ≤ 137434759200 }

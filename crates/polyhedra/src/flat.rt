@@ -27,7 +27,7 @@ pub fn are_flat(points: &[[i64; 3]], faces: &[Corners]) -> bool
     true
 }
 
-/// Whether a face has three corners that are not on one line, and all its corners on one plane.
+// Whether a face has three corners that are not on one line, and all its corners on one plane.
 fn is_flat(points: &[[i64; 3]], face: &[u32]) -> bool
     requires grid { All (λ p. IsOnGrid (point_at p)) points.now }
     requires there { All (λ i. i < length points.now) face.now }
@@ -41,7 +41,7 @@ fn is_flat(points: &[[i64; 3]], face: &[u32]) -> bool
     }
 }
 
-/// Whether a plane goes through all corners of a face.
+// Whether a plane goes through all corners of a face.
 fn holds_all(points: &[[i64; 3]], face: &[u32], plane: &FacePlane) -> bool
     requires grid { All (λ p. IsOnGrid (point_at p)) points.now }
     requires there { All (λ i. i < length points.now) face.now }

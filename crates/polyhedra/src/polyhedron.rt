@@ -34,7 +34,7 @@ pub fn polyhedron_shape(
     Ok(Shape::of(placed, copied(alloc, faces)?))
 }
 
-/// The points in grid steps, if all checks pass.
+// The points in grid steps, if all checks pass.
 fn checked_points(
     alloc: Global,
     points: &[[i64; 3]],
@@ -52,7 +52,7 @@ fn checked_points(
     Ok(placed)
 }
 
-/// The checks of the arguments as they are written.
+// The checks of the arguments as they are written.
 fn check_written(points: &[[i64; 3]], faces: &[Corners]) -> Result<(), ShapeStop>
     ensures written { OnOk result (IsWritten points.now faces.now) }
     ensures fault { IfErr result (IsWrittenFault points.now faces.now) }
@@ -72,7 +72,7 @@ fn check_written(points: &[[i64; 3]], faces: &[Corners]) -> Result<(), ShapeStop
     Ok(())
 }
 
-/// The checks of the surface that the faces form.
+// The checks of the surface that the faces form.
 fn check_surface(alloc: Global, points: &[[i64; 3]], faces: &[Corners]) -> Result<(), ShapeStop>
     requires grid { All (λ p. IsOnGrid (point_at p)) points.now }
     requires there { AreThere (length points.now) faces.now }

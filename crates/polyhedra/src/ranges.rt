@@ -25,7 +25,7 @@ pub fn points_in_grid_steps(
     Ok(steps)
 }
 
-/// One point in grid steps.
+// One point in grid steps.
 fn point_in_grid_steps(at: [i64; 3], unit: Unit) -> [i64; 3]
     requires { IsInRange (point_at at) }
     ensures { result ≡ grid_steps unit at }

@@ -53,7 +53,7 @@ pub fn push_ways(ways: &mut Vec<Way>, points: &[[i64; 3]], face: &[u32]) -> Resu
     Ok(())
 }
 
-/// The place that follows in a face of so many corners: the first follows the last.
+// The place that follows in a face of so many corners: the first follows the last.
 fn next_place(place: usize, corners: usize) -> usize
     requires { place < corners }
     ensures next { result ≡ after place corners }
@@ -62,7 +62,7 @@ fn next_place(place: usize, corners: usize) -> usize
     if place + 1 == corners { 0 } else { place + 1 }
 }
 
-/// Adds the way between two points, if they are different.
+// Adds the way between two points, if they are different.
 fn push_way(ways: &mut Vec<Way>, from: [i64; 3], to: [i64; 3]) -> Result<(), AllocError>
     ensures { OnOk result (ways.new.items ≡ ways.old.items ++ way_between from to) }
 {

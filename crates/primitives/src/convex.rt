@@ -16,7 +16,7 @@ pub fn is_convex(points: &[[i64; 2]]) -> bool
     has_corner(points) && (goes_left(points) || goes_right(points))
 }
 
-/// Whether the first point and two others are not on one line.
+// Whether the first point and two others are not on one line.
 fn has_corner(points: &[[i64; 2]]) -> bool
     requires some { 0 < length points.now }
     requires near { All IsNear points.now }
@@ -31,7 +31,7 @@ fn has_corner(points: &[[i64; 2]]) -> bool
     false
 }
 
-/// Whether some point is not on one line with two others.
+// Whether some point is not on one line with two others.
 fn bends(points: &[[i64; 2]], first: [i64; 2], second: [i64; 2]) -> bool
     requires near { All IsNear points.now }
     requires first_near { IsNear first }
@@ -47,7 +47,7 @@ fn bends(points: &[[i64; 2]], first: [i64; 2], second: [i64; 2]) -> bool
     false
 }
 
-/// Whether no point lies strictly to the right of a way from a point to the next.
+// Whether no point lies strictly to the right of a way from a point to the next.
 fn goes_left(points: &[[i64; 2]]) -> bool
     requires { All IsNear points.now }
     ensures yes { OnTrue result (GoesLeft points.now) }
@@ -61,7 +61,7 @@ fn goes_left(points: &[[i64; 2]]) -> bool
     true
 }
 
-/// Whether no point lies strictly to the right of a way from a point back to the one before.
+// Whether no point lies strictly to the right of a way from a point back to the one before.
 fn goes_right(points: &[[i64; 2]]) -> bool
     requires { All IsNear points.now }
     ensures yes { OnTrue result (GoesRight points.now) }
@@ -84,7 +84,7 @@ pub fn after(count: usize, i: usize) -> usize
     if i + 1 == count { 0 } else { i + 1 }
 }
 
-/// Whether no point lies strictly to the right of one way.
+// Whether no point lies strictly to the right of one way.
 fn stays_left(points: &[[i64; 2]], from: [i64; 2], to: [i64; 2]) -> bool
     requires near { All IsNear points.now }
     requires from_near { IsNear from }
@@ -100,7 +100,7 @@ fn stays_left(points: &[[i64; 2]], from: [i64; 2], to: [i64; 2]) -> bool
     true
 }
 
-/// The turn of the way from `p` to `q`, and on to `r`: above 0 where it goes left.
+// The turn of the way from `p` to `q`, and on to `r`: above 0 where it goes left.
 fn turn_of(p: [i64; 2], q: [i64; 2], r: [i64; 2]) -> i64
     requires p_near { IsNear p }
     requires q_near { IsNear q }
@@ -113,7 +113,7 @@ fn turn_of(p: [i64; 2], q: [i64; 2], r: [i64; 2]) -> i64
     minor_between(px, py, qx, qy, rx, ry)
 }
 
-/// The cross product of the ways from `p` to `q` and from `p` to `r`.
+// The cross product of the ways from `p` to `q` and from `p` to `r`.
 fn minor_between(px: i64, py: i64, qx: i64, qy: i64, rx: i64, ry: i64) -> i64
     requires px_size { unsigned_abs px ≤ 131070 }
     requires py_size { unsigned_abs py ≤ 131070 }
@@ -126,7 +126,7 @@ fn minor_between(px: i64, py: i64, qx: i64, qy: i64, rx: i64, ry: i64) -> i64
     minor_of(qx - px, qy - py, rx - px, ry - py)
 }
 
-/// `a d - b c` of differences of coordinates.
+// `a d - b c` of differences of coordinates.
 fn minor_of(a: i64, b: i64, c: i64, d: i64) -> i64
     requires a_size { unsigned_abs a ≤ 262140 }
     requires b_size { unsigned_abs b ≤ 262140 }

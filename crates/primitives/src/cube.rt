@@ -9,7 +9,7 @@ use plane_predicate::Unit;
 use shape_planes::{Corners, Shape, ShapeStop};
 use std::alloc::{AllocError, Global};
 
-/// The faces of a box by the corners round them: low x, high x, low y, high y, low z, high z.
+// The faces of a box by the corners round them: low x, high x, low y, high y, low z, high z.
 const FACES: [[u32; 4]; 6] = [
     [0, 2, 6, 4],
     [1, 3, 7, 5],
@@ -46,7 +46,7 @@ pub fn cube_shape(
     Ok(Shape::of(points, faces))
 }
 
-/// The corners of a box: x changes first, then y, then z.
+// The corners of a box: x changes first, then y, then z.
 fn corners_of(alloc: Global, x: Ends, y: Ends, z: Ends) -> Result<Vec<[i64; 3]>, AllocError>
     ensures { IfOk result (λ v. v.items ≡ box_points x.low x.high y.low y.high z.low z.high) }
 {
@@ -65,7 +65,7 @@ fn corners_of(alloc: Global, x: Ends, y: Ends, z: Ends) -> Result<Vec<[i64; 3]>,
     )?)
 }
 
-/// The faces with these corners.
+// The faces with these corners.
 fn faces_of(alloc: Global, table: &[[u32; 4]]) -> Result<Vec<Corners>, AllocError>
     ensures { IfOk result (λ v. v.items ≡ table.now) }
 {
@@ -76,7 +76,7 @@ fn faces_of(alloc: Global, table: &[[u32; 4]]) -> Result<Vec<Corners>, AllocErro
     Ok(faces)
 }
 
-/// The face with these corners.
+// The face with these corners.
 fn face_of(alloc: Global, corners: [u32; 4]) -> Result<Corners, AllocError>
     ensures { IfOk result (λ face. face ≡ corners) }
 {

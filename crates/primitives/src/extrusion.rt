@@ -40,7 +40,7 @@ pub fn extrude(
     Ok(Shape::of(points, faces))
 }
 
-/// The points at the low end, then those at the high end.
+// The points at the low end, then those at the high end.
 fn corners_of(alloc: Global, points: &[[i64; 2]], z: Ends) -> Result<Vec<[i64; 3]>, AllocError>
     ensures { IfOk result (λ v. v.items ≡ prism_points points.now z.low z.high) }
 {
@@ -50,7 +50,7 @@ fn corners_of(alloc: Global, points: &[[i64; 2]], z: Ends) -> Result<Vec<[i64; 3
     Ok(corners)
 }
 
-/// Appends the points at a height.
+// Appends the points at a height.
 fn push_end(corners: &mut Vec<[i64; 3]>, points: &[[i64; 2]], z: i64) -> Result<(), AllocError>
     ensures { OnOk result (corners.new.items ≡ corners.old.items ++ map (at_height z) points.now) }
 {
@@ -61,7 +61,7 @@ fn push_end(corners: &mut Vec<[i64; 3]>, points: &[[i64; 2]], z: i64) -> Result<
     Ok(())
 }
 
-/// The sides in order, then the low and the high end.
+// The sides in order, then the low and the high end.
 fn faces_of(alloc: Global, points: &[[i64; 2]]) -> Result<Vec<Corners>, AllocError>
     requires { length points.now ≤ 64 }
     ensures { IfOk result (λ v. v.items ≡ prism_faces points.now) }
@@ -73,7 +73,7 @@ fn faces_of(alloc: Global, points: &[[i64; 2]]) -> Result<Vec<Corners>, AllocErr
     Ok(faces)
 }
 
-/// The sides over the ways from a point to the next, where the two differ.
+// The sides over the ways from a point to the next, where the two differ.
 fn sides_of(alloc: Global, points: &[[i64; 2]]) -> Result<Vec<Corners>, AllocError>
     requires { length points.now ≤ 64 }
     ensures { IfOk result (λ v. v.items ≡ sides_over points.now (length points.now)) }
@@ -88,14 +88,14 @@ fn sides_of(alloc: Global, points: &[[i64; 2]]) -> Result<Vec<Corners>, AllocErr
     Ok(sides)
 }
 
-/// Whether two points of the plane are the same.
+// Whether two points of the plane are the same.
 fn is_same_point(p: [i64; 2], q: [i64; 2]) -> bool
     ensures { result ≡ is_same p q }
 {
     p[0] == q[0] && p[1] == q[1]
 }
 
-/// The side over the way from one point to another one of so many.
+// The side over the way from one point to another one of so many.
 fn side_of(alloc: Global, i: usize, next: usize, count: usize) -> Result<Corners, AllocError>
     requires i_there { i < count }
     requires next_there { next < count }
@@ -111,7 +111,7 @@ fn side_of(alloc: Global, i: usize, next: usize, count: usize) -> Result<Corners
     Ok(Corners::of(Vec::from_array(alloc, corners)?))
 }
 
-/// So many corners from a first one on.
+// So many corners from a first one on.
 fn end_of(alloc: Global, first: u32, count: u32) -> Result<Corners, AllocError>
     requires { first + count ≤ 128 }
     ensures { IfOk result (λ face. face ≡ range_with_len first count) }

@@ -25,7 +25,7 @@ impl Model for Flat {
 }
 
 impl Flat {
-    /// The flat of points that meet what a flat keeps. Takes no memory.
+    /// The flat of points that meet what a flat keeps.
     pub fn of(points: Vec<[i64; 2]>) -> Self
         requires { IsFlat points.items }
         ensures { result ≡ points.items }
@@ -33,7 +33,7 @@ impl Flat {
         Flat { points }
     }
 
-    /// Its points in grid steps, in order. Takes no memory.
+    /// Its points in grid steps, in order.
     pub fn points(&self) -> &[[i64; 2]]
         ensures points { result.now ≡ self.now }
         ensures flat { IsFlat self.now }

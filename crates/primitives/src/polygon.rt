@@ -38,7 +38,7 @@ pub fn polygon_flat(alloc: Global, points: &[[i64; 2]], unit: Unit) -> Result<Fl
     Ok(Flat::of(grid))
 }
 
-/// Whether all coordinates are at most 65,535 in size.
+// Whether all coordinates are at most 65,535 in size.
 fn are_in_range(points: &[[i64; 2]]) -> bool
     ensures all { OnTrue result (All IsInRange points.now) }
     ensures past { OnFalse result (Any (λ p. IsInRange p → ⊥) points.now) }
@@ -51,7 +51,7 @@ fn are_in_range(points: &[[i64; 2]]) -> bool
     true
 }
 
-/// Whether the coordinates of a point are at most 65,535 in size.
+// Whether the coordinates of a point are at most 65,535 in size.
 fn is_in_range(point: [i64; 2]) -> bool
     ensures all { OnTrue result (IsInRange point) }
     ensures past { OnFalse result (IsInRange point → ⊥) }
@@ -59,7 +59,7 @@ fn is_in_range(point: [i64; 2]) -> bool
     point[0].unsigned_abs() <= 65535 && point[1].unsigned_abs() <= 65535
 }
 
-/// Written points in grid steps.
+// Written points in grid steps.
 fn grid_points(alloc: Global, points: &[[i64; 2]], unit: Unit) -> Result<Vec<[i64; 2]>, AllocError>
     requires { All IsInRange points.now }
     ensures { IfOk result (λ v. v.items ≡ polygon_of unit points.now) }
@@ -71,7 +71,7 @@ fn grid_points(alloc: Global, points: &[[i64; 2]], unit: Unit) -> Result<Vec<[i6
     Ok(grid)
 }
 
-/// A written point in grid steps.
+// A written point in grid steps.
 fn on_grid(point: [i64; 2], unit: Unit) -> [i64; 2]
     requires { IsInRange point }
     ensures { result ≡ on_grid_of unit point }

@@ -8,7 +8,7 @@ ghost use Rattle.primitives.specs.Sizes.{grid_steps, high_end, low_at, low_end, 
 use plane_predicate::Unit;
 use text_place::FaultKind;
 
-/// The largest size of a number, 2^53 - 1.
+// The largest size of a number, 2^53 - 1.
 const LARGEST: u64 = 9_007_199_254_740_991;
 
 /// Where a side or height begins and ends, in grid steps.
@@ -36,7 +36,7 @@ pub fn size_fault(sides: &[i64], center: bool, unit: Unit) -> Option<FaultKind>
     None
 }
 
-/// Whether all sides are at least 1.
+// Whether all sides are at least 1.
 fn are_long(sides: &[i64]) -> bool
     ensures all { OnTrue result (All IsLong sides.now) }
     ensures some { OnFalse result (Any (λ s. s <ℤ pos 1) sides.now) }
@@ -49,7 +49,7 @@ fn are_long(sides: &[i64]) -> bool
     true
 }
 
-/// Whether all sides have an even number of grid steps.
+// Whether all sides have an even number of grid steps.
 fn are_even(sides: &[i64], unit: Unit) -> bool
     requires { All IsSafe sides.now }
     ensures all { OnTrue result (All (IsEven unit) sides.now) }
@@ -63,7 +63,7 @@ fn are_even(sides: &[i64], unit: Unit) -> bool
     true
 }
 
-/// Whether all sides have at most 2^53 - 1 grid steps.
+// Whether all sides have at most 2^53 - 1 grid steps.
 fn are_safe(sides: &[i64], unit: Unit) -> bool
     requires { All IsSafe sides.now }
     ensures all { OnTrue result (All (λ s. IsSafe (grid_steps unit s)) sides.now) }
@@ -77,7 +77,7 @@ fn are_safe(sides: &[i64], unit: Unit) -> bool
     true
 }
 
-/// Whether a number is at most 2^53 - 1 in size.
+// Whether a number is at most 2^53 - 1 in size.
 fn is_safe(number: i64) -> bool
     ensures small { OnTrue result (IsSafe number) }
     ensures large { OnFalse result (IsSafe number → ⊥) }
@@ -107,7 +107,7 @@ pub fn ends_of(side: i64, center: bool, unit: Unit) -> Ends
     }
 }
 
-/// Where so many grid steps begin: at 0, or where centred at minus one half of them.
+// Where so many grid steps begin: at 0, or where centred at minus one half of them.
 fn low_of(steps: i64, center: bool) -> i64
     // (twice 2^53 - 1)
     requires { unsigned_abs steps ≤ 18014398509481982 }

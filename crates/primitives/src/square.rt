@@ -35,7 +35,7 @@ pub fn square_flat(
     Ok(Flat::of(points))
 }
 
-/// The corners of a rectangle, counterclockwise from the lowest one on.
+// The corners of a rectangle, counterclockwise from the lowest one on.
 fn corners_of(alloc: Global, x: Ends, y: Ends) -> Result<Vec<[i64; 2]>, AllocError>
     ensures { IfOk result (λ v. v.items ≡ rectangle_of x.low x.high y.low y.high) }
 {

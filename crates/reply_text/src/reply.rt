@@ -53,14 +53,14 @@ impl Model for Replies {
 }
 
 impl Replies {
-    /// The replies of a vector. Takes no memory.
+    /// The replies of a vector.
     pub fn of(items: Vec<Reply>) -> Self
         ensures { result ≡ items.items }
     {
         Replies { items }
     }
 
-    /// The replies in order. Takes no memory.
+    /// The replies in order.
     pub fn items(&self) -> &[Reply]
         ensures { result.now ≡ self.now }
     {

@@ -33,7 +33,7 @@ pub fn circle_flat(alloc: Global, radius: i64, unit: Unit) -> Result<Flat, Shape
     Ok(Flat::of(points))
 }
 
-/// The corners of the circle with this radius in grid steps.
+// The corners of the circle with this radius in grid steps.
 fn corners_of(alloc: Global, radius: i64) -> Result<Vec<[i64; 2]>, AllocError>
     requires { unsigned_abs radius ≤ 65535 }
     ensures { IfOk result (λ v. v.items ≡ circle_points radius) }

@@ -42,7 +42,7 @@ pub fn cylinder_shape(
     Ok(Shape::of(points, faces))
 }
 
-/// The corners of the low end, and then those of the high end.
+// The corners of the low end, and then those of the high end.
 fn points_of(alloc: Global, low: i64, high: i64, ends: Ends) -> Result<Vec<[i64; 3]>, AllocError>
     requires low_size { unsigned_abs low ≤ 65535 }
     requires high_size { unsigned_abs high ≤ 65535 }
@@ -53,7 +53,7 @@ fn points_of(alloc: Global, low: i64, high: i64, ends: Ends) -> Result<Vec<[i64;
     Ok(points)
 }
 
-/// The corners of one end: those of its circle, or one apex where the radius is 0.
+// The corners of one end: those of its circle, or one apex where the radius is 0.
 fn end_of(alloc: Global, radius: i64, height: i64) -> Result<Vec<[i64; 3]>, AllocError>
     requires { unsigned_abs radius ≤ 65535 }
     ensures { IfOk result (λ v. v.items ≡ end_points radius height) }
@@ -72,7 +72,7 @@ fn end_of(alloc: Global, radius: i64, height: i64) -> Result<Vec<[i64; 3]>, Allo
     )?)
 }
 
-/// The faces of a cylinder whose ends have these radii.
+// The faces of a cylinder whose ends have these radii.
 fn faces_of(alloc: Global, low: i64, high: i64) -> Result<Vec<Corners>, AllocError>
     ensures { IfOk result (λ v. v.items ≡ cylinder_faces low high) }
 {
@@ -113,7 +113,7 @@ fn faces_of(alloc: Global, low: i64, high: i64) -> Result<Vec<Corners>, AllocErr
     )
 }
 
-/// The faces with these corners.
+// The faces with these corners.
 fn listed(alloc: Global, table: &[&[u32]]) -> Result<Vec<Corners>, AllocError>
     ensures { IfOk result (λ v. v.items ≡ map (λ face. face.now) table.now) }
 {
@@ -124,7 +124,7 @@ fn listed(alloc: Global, table: &[&[u32]]) -> Result<Vec<Corners>, AllocError>
     Ok(faces)
 }
 
-/// The face with these corners.
+// The face with these corners.
 fn face_of(alloc: Global, corners: &[u32]) -> Result<Corners, AllocError>
     ensures { IfOk result (λ face. face ≡ corners.now) }
 {

@@ -35,7 +35,7 @@ pub fn cylinder_fault(
     None
 }
 
-/// Whether a height and two radii make a body.
+// Whether a height and two radii make a body.
 fn has_body(height: i64, low_radius: i64, high_radius: i64) -> bool
     ensures all { OnTrue result (HasBody height low_radius high_radius) }
     ensures none { OnFalse result (HasBody height low_radius high_radius → ⊥) }
@@ -43,7 +43,7 @@ fn has_body(height: i64, low_radius: i64, high_radius: i64) -> bool
     height >= 1 && low_radius >= 0 && high_radius >= 0 && (low_radius > 0 || high_radius > 0)
 }
 
-/// Whether the ends of a height lie on grid points.
+// Whether the ends of a height lie on grid points.
 fn is_on_grid(height: i64, center: bool, unit: Unit) -> bool
     requires { IsSafe height }
     ensures all { OnTrue result (IsOnGrid unit center height) }
@@ -52,7 +52,7 @@ fn is_on_grid(height: i64, center: bool, unit: Unit) -> bool
     !center || is_even(height, unit)
 }
 
-/// Whether a height has an even number of grid steps.
+// Whether a height has an even number of grid steps.
 fn is_even(height: i64, unit: Unit) -> bool
     requires { IsSafe height }
     ensures even { OnTrue result (IsEven unit height) }
@@ -61,7 +61,7 @@ fn is_even(height: i64, unit: Unit) -> bool
     in_steps(height, unit).unsigned_abs() % 2 == 0
 }
 
-/// Whether the radii and the heights of both ends are at most 65535 grid steps in size.
+// Whether the radii and the heights of both ends are at most 65535 grid steps in size.
 fn is_in_range(height: i64, low_radius: i64, high_radius: i64, center: bool, unit: Unit) -> bool
     requires height_safe { IsSafe height }
     requires low_safe { IsSafe low_radius }
@@ -76,7 +76,7 @@ fn is_in_range(height: i64, low_radius: i64, high_radius: i64, center: bool, uni
     )
 }
 
-/// Whether two radii and the heights of two ends are at most 65535 in size.
+// Whether two radii and the heights of two ends are at most 65535 in size.
 fn are_near(low_radius: i64, high_radius: i64, ends: Ends) -> bool
     ensures all { OnTrue result (AreNear low_radius high_radius ends.low ends.high) }
     ensures none { OnFalse result (AreNear low_radius high_radius ends.low ends.high → ⊥) }

@@ -4,7 +4,7 @@ ghost use Rattle.scad_builtin.specs.Builtins.{are_bounded as are_all_bounded};
 
 use scad_value::{Value, Values};
 
-/// Whether each of the values is bounded, as the functions want it. Takes no memory.
+/// Whether each of the values is bounded, as the functions want it.
 pub fn are_bounded(values: &Values) -> bool
     ensures { result ≡ are_all_bounded (vals_of values.now) }
 {

@@ -32,7 +32,7 @@ pub enum Builtin {
 }
 
 impl Builtin {
-    /// Whether the function takes so many arguments. Takes no memory.
+    /// Whether the function takes so many arguments.
     pub fn takes(self, count: usize) -> bool
         ensures { result ≡ takes_so_many self count }
     {

@@ -27,7 +27,7 @@ const BUILTINS: [(&[u8], Builtin); 14] = [
     (b"is_list", Builtin::IsList),
 ];
 
-/// The built-in function of a name. Takes no memory.
+/// The built-in function of a name.
 pub fn builtin(name: &[u8]) -> Option<Builtin>
     ensures { result ≡ builtin_of name.now }
 {
@@ -72,7 +72,7 @@ const LEFT_OUT: [&[u8]; 24] = [
     b"parent_module",
 ];
 
-/// Whether a name is a function of OpenSCAD that the profile leaves out. Takes no memory.
+/// Whether a name is a function of OpenSCAD that the profile leaves out.
 pub fn is_left_out(name: &[u8]) -> bool
     ensures { result ≡ leaves_out name.now }
 {

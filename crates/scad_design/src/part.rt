@@ -24,7 +24,7 @@ impl Model for Part {
 }
 
 impl Part {
-    /// A shape where it is, without steps. Takes no memory.
+    /// A shape where it is, without steps.
     pub fn of(alloc: Global, shape: Shape, at: Place) -> Part
         ensures { result ≡ record { mesh = shape; steps = []; at = at } }
     {
@@ -35,14 +35,14 @@ impl Part {
         }
     }
 
-    /// The shape before its steps. Takes no memory.
+    /// The shape before its steps.
     pub fn shape(&self) -> &Shape
         ensures { result.now ≡ self.now.mesh }
     {
         &self.shape
     }
 
-    /// The steps, of which the first is done first. Takes no memory.
+    /// The steps, of which the first is done first.
     pub fn steps(&self) -> &[Step]
         ensures { result.now ≡ self.now.steps }
     {

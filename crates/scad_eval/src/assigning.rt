@@ -16,7 +16,7 @@ use scad_scope::Assignment;
 use text_place::Stop;
 
 impl InstanceEvaluator<'_, '_> {
-    // Gives the names of a block's assignments their values, from the first on.
+    /// Gives the names of a block's assignments their values, from the first on.
     pub(crate) fn assign_all(&mut self, position: Position, block: u32) -> Result<(), Stop>
         requires position { IsPosition self.old position }
         requires newest { position.scope + 1 ≡ scopes_there self.old.evaluation }

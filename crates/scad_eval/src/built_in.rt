@@ -33,7 +33,7 @@ use scad_value::Value;
 use text_place::{Place, Stop};
 
 impl InstanceEvaluator<'_, '_> {
-    // A call of a built-in module.
+    /// A call of a built-in module.
     #[cycle(instances)]
     pub(crate) fn built_in_called(
         &mut self,

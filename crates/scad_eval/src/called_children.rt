@@ -16,7 +16,7 @@ use scad_pieces::{InstanceResult, Position, joined, nothing_made};
 use text_place::{Place, Stop};
 
 impl InstanceEvaluator<'_, '_> {
-    // The chosen children of the enclosing call, one call deeper.
+    /// The chosen children of the enclosing call, one call deeper.
     #[cycle(instances)]
     pub(crate) fn children_called(
         &mut self,

@@ -23,7 +23,7 @@ use scad_value::Value;
 use text_place::{Place, Stop};
 
 impl InstanceEvaluator<'_, '_> {
-    // A call of a module: the source's go before built-in ones.
+    /// A call of a module: the source's go before built-in ones.
     #[cycle(instances)]
     pub(crate) fn called(
         &mut self,

@@ -16,7 +16,7 @@ use scad_value::Value;
 use text_place::{NoMemory, Place, Stop};
 
 impl InstanceEvaluator<'_, '_> {
-    // One call deeper, and one turn more. TooDeep goes before TooManyTurns.
+    /// One call deeper, and one turn more. TooDeep goes before TooManyTurns.
     pub(crate) fn begin_counted_call(&mut self, place: Place) -> Result<(), Stop>
         ensures counted { OnOk result (CountsCall self.old self.new) }
         ensures refused { IfErr result (StopsBefore self.old.evaluation place) }
@@ -25,8 +25,8 @@ impl InstanceEvaluator<'_, '_> {
         self.evaluation.turn(place)
     }
 
-    // A new scope of a module's body, with the values of its parameters and the number of its call's
-    // children, and its number.
+    /// A new scope of a module's body, with the values of its parameters and the number of its call's
+    /// children, and its number.
     pub(crate) fn enter_module(
         &mut self,
         position: Position,

@@ -23,7 +23,7 @@ use scad_value::truth;
 use text_place::{FaultKind, Stop};
 
 impl InstanceEvaluator<'_, '_> {
-    // What an instance gives, one evaluation deeper.
+    /// What an instance gives, one evaluation deeper.
     #[cycle(instances)]
     pub(crate) fn instance(
         &mut self,
@@ -157,7 +157,7 @@ impl InstanceEvaluator<'_, '_> {
         self.body(Op::Union, position, other)
     }
 
-    // What instances give, from the first on. Those that only say something are no members.
+    /// What instances give, from the first on. Those that only say something are no members.
     #[cycle(instances)]
     pub(crate) fn members(
         &mut self,

@@ -22,7 +22,7 @@ use text_place::{FaultKind, Place, Stop};
 const LEAVES: u32 = 1024;
 
 impl InstanceEvaluator<'_, '_> {
-    // A solid, as one leaf more.
+    /// A solid, as one leaf more.
     pub(crate) fn solid(&mut self, place: Place, shape: &SolidShape) -> Result<InstanceResult, Stop>
         requires { IsSafeSolid (solid_call shape.now) }
         ensures made { (s : Position) → Meets instance_design_of self.old self.new s result (λ evaluator here turns leaves.
@@ -35,7 +35,7 @@ impl InstanceEvaluator<'_, '_> {
         }
     }
 
-    // A shape in the plane, which stands inside an extrusion, as one leaf more.
+    /// A shape in the plane, which stands inside an extrusion, as one leaf more.
     pub(crate) fn flat(
         &mut self,
         position: Position,
@@ -76,8 +76,8 @@ impl InstanceEvaluator<'_, '_> {
         }
     }
 
-    // The hull of what children give, as one leaf more in place of their design. Where that is
-    // nothing, it stays so.
+    /// The hull of what children give, as one leaf more in place of their design. Where that is
+    /// nothing, it stays so.
     pub(crate) fn hull(
         &mut self,
         place: Place,

@@ -27,7 +27,7 @@ use text_place::{FaultKind, Place, Stop};
 const SCOPES: u32 = 2048;
 
 impl InstanceEvaluator<'_, '_> {
-    // The members of a loop's turns, joined by an operation.
+    /// The members of a loop's turns, joined by an operation.
     #[cycle(instances)]
     pub(crate) fn looped(
         &mut self,

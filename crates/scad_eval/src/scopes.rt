@@ -20,7 +20,7 @@ use scad_pieces::{
 use text_place::Stop;
 
 impl InstanceEvaluator<'_, '_> {
-    // A body's members, in a new scope inside where it stands, joined by an operation.
+    /// A body's members, in a new scope inside where it stands, joined by an operation.
     #[cycle(instances)]
     pub(crate) fn body(
         &mut self,
@@ -38,8 +38,8 @@ impl InstanceEvaluator<'_, '_> {
         Ok(joined(self.evaluation.alloc, op, members)?)
     }
 
-    // The members of a block whose scope is the newest one: its assignments, then its instances, or of
-    // its children those that are chosen. Its special names are on the chain meanwhile.
+    /// The members of a block whose scope is the newest one: its assignments, then its instances, or of
+    /// its children those that are chosen. Its special names are on the chain meanwhile.
     #[cycle(instances)]
     pub(crate) fn members_in_scope(
         &mut self,

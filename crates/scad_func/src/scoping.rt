@@ -24,7 +24,7 @@ use text_place::{NoMemory, Stop};
 
 impl<'a> Evaluation<'a, '_> {
     /// The module that a name stands for, the newest of its name from a scope outward, with its body's block,
-    /// and the number of the scope in which it stands. None where no scope outward has one. Takes no memory.
+    /// and the number of the scope in which it stands. None where no scope outward has one.
     pub fn module(&self, scope: u32, name: &[u8]) -> Option<(Module<'a>, u32)>
         requires { scope < scopes_there self.now }
         ensures found { IsModuleFound self.now.source.now (rows_of self.now.scopes.now)
@@ -38,7 +38,7 @@ impl<'a> Evaluation<'a, '_> {
 
     /// The assignments of a block, each name once, in the order of the text: a name that is assigned more than
     /// once has the place of its first assignment and the expression of its last. A block that isn't there has
-    /// none. Takes no memory.
+    /// none.
     pub fn assignments(&self, block: u32) -> &'a [Assignment<'a>]
         ensures { IsWhole (text_of self.now.source.now) →
             map assigned_of result.now ≡ assignments_of (statements_at (text_of self.now.source.now) block) }
@@ -197,7 +197,7 @@ impl<'a> Evaluation<'a, '_> {
     }
 
     /// The innermost call of a module whose scope a scope is or stands in, with the block of its children
-    /// and the scope of its caller. Takes no memory.
+    /// and the scope of its caller.
     pub fn enclosing_call(&self, scope: u32) -> Option<Call>
         requires { scope < scopes_there self.now }
         ensures value { IsCallFound (text_of self.now.source.now) (rows_of self.now.scopes.now) (call_in (seen self.now.source.now (rows_of self.now.scopes.now) scope)) result }

@@ -35,7 +35,7 @@ pub fn hull_faces(
     Ok(faces)
 }
 
-/// Adds the faces that begin with one point.
+// Adds the faces that begin with one point.
 fn push_from(
     faces: &mut Vec<[u32; 3]>,
     points: &[[i64; 3]],
@@ -54,7 +54,7 @@ fn push_from(
     Ok(())
 }
 
-/// Adds the faces that begin with two points.
+// Adds the faces that begin with two points.
 fn push_by(
     faces: &mut Vec<[u32; 3]>,
     points: &[[i64; 3]],
@@ -80,7 +80,7 @@ fn push_by(
     Ok(())
 }
 
-/// Adds a triple, if it is supporting and its plane is that of no face so far.
+// Adds a triple, if it is supporting and its plane is that of no face so far.
 fn push_triple(
     faces: &mut Vec<[u32; 3]>,
     points: &[[i64; 3]],

@@ -27,7 +27,7 @@ pub fn are_on_one_plane(points: &[[i64; 3]], all: &[u32]) -> bool
     }
 }
 
-/// Whether a plane goes through all points.
+// Whether a plane goes through all points.
 fn holds_all(points: &[[i64; 3]], plane: &FacePlane) -> bool
     requires { All (λ p. IsOnGrid (point_at p)) points.now }
     ensures all { OnTrue result (All (λ p. value plane.now (point_at p) ≡ pos 0) points.now) }

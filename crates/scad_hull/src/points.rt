@@ -29,7 +29,7 @@ pub fn different_points(alloc: Global, points: &[[i64; 3]]) -> Result<Vec<[i64; 
     Ok(found)
 }
 
-/// Puts a point into its place among ascending points, unless it is among them.
+// Puts a point into its place among ascending points, unless it is among them.
 fn put_point(points: &mut Vec<[i64; 3]>, point: [i64; 3]) -> Result<(), AllocError>
     ensures { OnOk result (points.new.items ≡ put point points.old.items) }
 {
@@ -39,7 +39,7 @@ fn put_point(points: &mut Vec<[i64; 3]>, point: [i64; 3]) -> Result<(), AllocErr
     Ok(())
 }
 
-/// The place of a point among ascending points. `None` where it is among them.
+// The place of a point among ascending points. `None` where it is among them.
 fn place_of(points: &[[i64; 3]], point: [i64; 3]) -> Option<usize>
     ensures within { IfSome result (λ i. i ≤ length points.now) }
     ensures some { IfSome result (λ i. put point points.now ≡ insert points.now i point) }

@@ -27,14 +27,14 @@ pub fn supports(points: &[[i64; 3]], all: &[u32], triple: [u32; 3]) -> bool
     has_free_side(points, all, &opposite(&plane))
 }
 
-/// Whether a direction is not 0.
+// Whether a direction is not 0.
 fn is_directed(plane: &FacePlane) -> bool
     ensures { result ≡ directed_of plane.now }
 {
     has_direction(plane)
 }
 
-/// Whether no point is strictly ahead of a plane.
+// Whether no point is strictly ahead of a plane.
 fn has_free_side(points: &[[i64; 3]], all: &[u32], plane: &FacePlane) -> bool
     requires { AreNumbered points.now all.now }
     ensures { result ≡ has_none_ahead points.now plane.now }
@@ -42,7 +42,7 @@ fn has_free_side(points: &[[i64; 3]], all: &[u32], plane: &FacePlane) -> bool
     !face_has_ahead(points, all, plane)
 }
 
-/// The plane through three points.
+// The plane through three points.
 fn through(points: &[[i64; 3]], triple: [u32; 3]) -> FacePlane
     requires grid { All (λ p. IsOnGrid (point_at p)) points.now }
     requires three { AreThree (length points.now) triple }
@@ -67,7 +67,7 @@ pub fn is_listed(points: &[[i64; 3]], faces: &[[u32; 3]], triple: [u32; 3]) -> b
     false
 }
 
-/// Whether the plane of one triple goes through the points of another.
+// Whether the plane of one triple goes through the points of another.
 fn is_on_plane(points: &[[i64; 3]], of: [u32; 3], triple: [u32; 3]) -> bool
     requires grid { All (λ p. IsOnGrid (point_at p)) points.now }
     requires of_three { AreThree (length points.now) of }
@@ -85,7 +85,7 @@ fn is_on_plane(points: &[[i64; 3]], of: [u32; 3], triple: [u32; 3]) -> bool
     holds(&plane, points[k as usize])
 }
 
-/// Whether a plane goes through a point.
+// Whether a plane goes through a point.
 fn holds(plane: &FacePlane, at: [i64; 3]) -> bool
     requires { IsOnGrid (point_at at) }
     ensures { result ≡ int_eq (value plane.now (point_at at)) (pos 0) }

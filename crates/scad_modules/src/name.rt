@@ -35,7 +35,7 @@ const MODULES: [(&[u8], BuiltinModule); 21] = [
     (b"children", BuiltinModule::Children),
 ];
 
-/// The built-in module of a name. Takes no memory.
+/// The built-in module of a name.
 pub fn builtin_module(name: &[u8]) -> Option<BuiltinModule>
     ensures { result ≡ module_named name.now }
 {
@@ -65,7 +65,7 @@ const LEFT_OUT: [&[u8]; 9] = [
     b"rotate_extrude",
 ];
 
-/// Whether a name is a module of OpenSCAD that the profile leaves out. Takes no memory.
+/// Whether a name is a module of OpenSCAD that the profile leaves out.
 pub fn is_left_out(name: &[u8]) -> bool
     ensures { result ≡ leaves_out name.now }
 {

@@ -29,7 +29,7 @@ pub enum BuiltinModule {
 
 impl BuiltinModule {
     /// The names of its parameters in order. Those of `echo` may be any, and it has none of its
-    /// own. Takes no memory.
+    /// own.
     pub fn parameters(self) -> &'static [&'static [u8]]
         ensures { map (λ parameter. parameter.now) result.now ≡ parameters_of self }
     {

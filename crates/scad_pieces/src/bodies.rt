@@ -7,14 +7,14 @@ ghost use Rattle.scad_meaning.specs.Bodies.{switches_off as switches_off_at, is_
 
 use scad_ast::{Body, Instance, Marks, Modifier, Statements};
 
-// Whether an instance is evaluated: one marked `*` or `%` counts as not written. Takes no memory.
+/// Whether an instance is evaluated: one marked `*` or `%` counts as not written.
 pub(crate) fn is_on(instance: &Instance) -> bool
     ensures { result ≡ is_on_at (instance_of instance.now) }
 {
     !any_off(&instance.marks)
 }
 
-/// Whether an instance is marked `!`. Takes no memory.
+/// Whether an instance is marked `!`.
 pub fn is_marked(instance: &Instance) -> bool
     ensures { result ≡ is_marked_at (instance_of instance.now) }
 {
@@ -61,7 +61,7 @@ fn is_root(modifier: Modifier) -> bool
     }
 }
 
-/// Whether a body is `;` or `{ }`, with no token between its braces. Takes no memory.
+/// Whether a body is `;` or `{ }`, with no token between its braces.
 pub fn is_bare(body: &Body) -> bool
     ensures { result ≡ is_bare_at (body_of body.now) }
 {

@@ -24,7 +24,7 @@ use text_place::NoMemory;
 const CHILDREN: usize = (1 << 53) - 1;
 
 /// Whether an instance of a scope is a child: `echo` and `assert` are none, where the source defines no
-/// module of that name. Takes no memory.
+/// module of that name.
 pub fn is_child(evaluation: &Evaluation<'_, '_>, scope: u32, instance: &Instance) -> bool
     requires { scope < scopes_there evaluation.now }
     ensures { result ≡ is_child_at (seen evaluation.now.source.now (rows_of evaluation.now.scopes.now) scope) (instance_of instance.now) }

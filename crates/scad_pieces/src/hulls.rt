@@ -17,7 +17,7 @@ use shape_planes::{Shape, ShapeStop};
 use std::alloc::Global;
 use text_place::FaultKind;
 
-/// Whether a design is empty. Takes no memory.
+/// Whether a design is empty.
 pub fn is_nothing(design: &Design) -> bool
     ensures { result ≡ is_nothing_at (plain_of design.now) }
 {

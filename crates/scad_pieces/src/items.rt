@@ -21,7 +21,7 @@ pub struct Numbers {
 }
 
 impl Numbers {
-    // The numbers from one on, by a step, up to another one.
+    /// The numbers from one on, by a step, up to another one.
     pub(crate) fn of_range(from: i64, by: i64, upto: i64) -> Numbers
         requires from { IsTrue (is_small from) }
         requires upto { IsTrue (is_small upto) }
@@ -35,7 +35,7 @@ impl Numbers {
         }
     }
 
-    // The next number, where one is left.
+    /// The next number, where one is left.
     pub(crate) fn next(&mut self) -> Option<i64>
         requires { IsTrue (all_bounded (number_vals (numbers_left self.old))) }
         ensures { MatchOption result ((numbers_left self.old ≡ []) × (numbers_left self.new ≡ []))
@@ -82,7 +82,7 @@ pub struct Items {
 
 impl Items {
     /// The items of a list, which are moved and not copied, or the numbers of a range. None where a
-    /// value has none. Takes no memory.
+    /// value has none.
     pub fn of(value: Value) -> Option<Items>
         requires { IsTrue (is_bounded (val_of value)) }
         ensures { option_map (λ items. remaining_in items.remaining) result ≡ items_of (val_of value) }
@@ -112,7 +112,7 @@ impl Items {
         }
     }
 
-    /// The next item, where one is left. Takes no memory.
+    /// The next item, where one is left.
     pub fn next(&mut self) -> Option<Value>
         ensures next { MatchOption result ((remaining_in self.old.remaining ≡ no_vals) × (remaining_in self.new.remaining ≡ no_vals))
             (λ v. remaining_in self.old.remaining ≡ and_val (val_of v) (remaining_in self.new.remaining)) }

@@ -43,14 +43,14 @@ impl<'a> Blocks<'a> {
         })
     }
 
-    /// How many blocks there are. Takes no memory.
+    /// How many blocks there are.
     pub fn count(&self) -> usize
         ensures { result ≡ length (text_held self.now).entries }
     {
         self.entries.len()
     }
 
-    /// The function of a number. Takes no memory.
+    /// The function of a number.
     pub fn function(&self, number: u32) -> Function<'a>
         requires { number < length (functions_held self.now) }
         ensures same { function_of result ≡ slice_index_or (functions_held self.now) number (function_of result) }
@@ -59,7 +59,7 @@ impl<'a> Blocks<'a> {
         self.functions[number as usize]
     }
 
-    /// The module of a number, with the number of its body's block. Takes no memory.
+    /// The module of a number, with the number of its body's block.
     pub fn module(&self, number: u32) -> Module<'a>
         requires { number < length (modules_held self.now) }
         ensures same { module_of result ≡ slice_index_or (modules_held self.now) number (module_of result) }
@@ -69,7 +69,7 @@ impl<'a> Blocks<'a> {
         self.modules[number as usize]
     }
 
-    /// What stands in a block. Takes no memory.
+    /// What stands in a block.
     pub fn text(&self, number: u32) -> BlockText<'a>
         requires { number < length (text_held self.now).entries }
         ensures { text_of result ≡ (slice_index_or (text_held self.now).entries number nothing_there).statements }
@@ -77,7 +77,7 @@ impl<'a> Blocks<'a> {
         self.entries[number as usize].text
     }
 
-    /// The number of the first block behind a block and all that stands in it. Takes no memory.
+    /// The number of the first block behind a block and all that stands in it.
     pub fn behind(&self, number: u32) -> u32
         requires { number < length (text_held self.now).entries }
         ensures { result ≡ (slice_index_or (text_held self.now).entries number nothing_there).behind }
@@ -86,7 +86,7 @@ impl<'a> Blocks<'a> {
     }
 
     /// A block's assignments, each name once, in the order of the text: a name that is assigned more than
-    /// once has the place of its first assignment and the expression of its last. Takes no memory.
+    /// once has the place of its first assignment and the expression of its last.
     pub fn assignments(&self, number: u32) -> &[Assignment<'a>]
         requires { number < length (text_held self.now).entries }
         ensures { map assigned_of result.now ≡ (slice_index_or (text_held self.now).entries number nothing_there).own.assignments }

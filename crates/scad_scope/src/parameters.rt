@@ -27,14 +27,14 @@ impl Model for Matching {
 }
 
 impl Matching {
-    /// The number of parameters. Takes no memory.
+    /// The number of parameters.
     pub fn count(&self) -> usize
         ensures { result ≡ length self.now }
     {
         self.given.len()
     }
 
-    /// The number of a parameter's argument, from 0, or none. Takes no memory.
+    /// The number of a parameter's argument, from 0, or none.
     pub fn argument(&self, param: u32) -> Option<u32>
         requires { param < length self.now }
         ensures { result ≡ slice_index_or self.now param None }
@@ -99,7 +99,7 @@ pub fn arguments(
     Ok(Matching { given: given.slots })
 }
 
-/// How many names there are. Takes no memory.
+/// How many names there are.
 pub(crate) fn count_of(names: Names<'_>) -> usize
     ensures { result ≡ length (names_in names.entry) }
 {
@@ -133,7 +133,7 @@ fn no_slots<T: Drop>(alloc: Global, params: usize) -> Result<Vec<Option<T>>, NoM
     Ok(slots)
 }
 
-/// Whether one of these is the special argument of a name. Takes no memory.
+/// Whether one of these is the special argument of a name.
 pub(crate) fn has_special<T>(specials: &[SpecialArgument<'_, T>], name: &[u8]) -> bool
     ensures { result ≡ is_some (find_in (special_pairs specials.now) name.now) }
 {
@@ -220,7 +220,7 @@ pub(crate) fn with_argument<'a, T: Drop>(
     }
 }
 
-/// How many positional arguments there are with this one. Takes no memory.
+/// How many positional arguments there are with this one.
 pub fn positional_after(positional: usize, arg: &Arg) -> usize
     requires { positional + 1 < 2 ^ 64 }
     ensures value { result ≡ positional_at positional (arg_of arg.now) }
@@ -244,7 +244,7 @@ pub(crate) fn name_at<'a>(names: Names<'a>, number: usize) -> &'a [u8]
     }
 }
 
-/// The name of a parameter. Takes no memory.
+/// The name of a parameter.
 pub fn name_of(param: &Param) -> &[u8]
     ensures { result.now ≡ name_at (param_of param.now) }
 {

@@ -134,7 +134,7 @@ impl Scopes {
         Ok(number as u32)
     }
 
-    /// Cuts the table to its first scopes, so many of them. Takes no memory.
+    /// Cuts the table to its first scopes, so many of them.
     pub fn leave(&mut self, to: u32)
         requires some { 1 ≤ to }
         requires there { to ≤ length (rows_of self.old) }
@@ -147,7 +147,7 @@ impl Scopes {
         self.scopes.truncate(to as usize);
     }
 
-    /// How many scopes there are. Takes no memory.
+    /// How many scopes there are.
     pub fn count(&self) -> usize
         ensures { result ≡ length (rows_of self.now) }
     {
@@ -155,7 +155,7 @@ impl Scopes {
     }
 
     /// The innermost call, from a scope outward, whose scope is one of them: the call that encloses
-    /// what is evaluated in the scope. None where there is no such call. Takes no memory.
+    /// what is evaluated in the scope. None where there is no such call.
     pub fn call_of(&self, scope: u32) -> Option<Call>
         requires { scope < length (rows_of self.now) }
         ensures value { enclosing_call (env_of (rows_of self.now) scope) ≡ call_told (env_of (rows_of self.now)) result }
@@ -213,7 +213,7 @@ impl Scopes {
     }
 
     /// The value of a name, from a scope outward, which is bounded. UnknownName exactly where no
-    /// scope outward has it. Takes no memory.
+    /// scope outward has it.
     pub fn variable(&self, scope: u32, name: &[u8], place: Place) -> Result<&Value, Fault>
         requires { scope < length (rows_of self.now) }
         ensures { MatchResult result (λ v. IsVariable (variable_in (env_of (rows_of self.now) scope) name.now) v.now)
@@ -257,7 +257,7 @@ impl Scopes {
     }
 
     /// The newest value of a special name, given without its `$`; it is bounded. UnknownName at the
-    /// place exactly where the chain has no such name. Takes no memory.
+    /// place exactly where the chain has no such name.
     pub fn special(&self, name: &[u8], place: Place) -> Result<&Value, Fault>
         ensures { MatchResult result (λ v. IsVariable (find_in (chain_of self.now) name.now) v.now)
             (IsMissing UnknownName place (find_in (chain_of self.now) name.now)) }
@@ -268,14 +268,14 @@ impl Scopes {
         }
     }
 
-    /// How many pairs the chain has. Takes no memory.
+    /// How many pairs the chain has.
     pub fn chain_length(&self) -> usize
         ensures { result ≡ length (chain_of self.now) }
     {
         self.chain.len()
     }
 
-    /// Cuts the chain to its oldest pairs, so many of them. Takes no memory.
+    /// Cuts the chain to its oldest pairs, so many of them.
     pub fn unwind(&mut self, to: u32)
         requires { to ≤ length (chain_of self.old) }
         ensures chain { chain_of self.new ≡ oldest to (chain_of self.old) }
@@ -286,7 +286,7 @@ impl Scopes {
     }
 
     /// The function of a name, from a scope outward. UnknownFunction exactly where no scope outward
-    /// has one. Takes no memory.
+    /// has one.
     pub fn function(&self, scope: u32, name: &[u8], place: Place) -> Result<Found, Fault>
         requires { scope < length (rows_of self.now) }
         ensures { MatchResult result (IsFound (rows_of self.now) (function_in (env_of (rows_of self.now) scope) name.now))
@@ -299,7 +299,7 @@ impl Scopes {
     }
 
     /// The module of a name, from a scope outward. UnknownModule exactly where no scope outward has
-    /// one. Takes no memory.
+    /// one.
     pub fn module(&self, scope: u32, name: &[u8], place: Place) -> Result<Found, Fault>
         requires { scope < length (rows_of self.now) }
         ensures { MatchResult result (IsFound (rows_of self.now) (module_in (env_of (rows_of self.now) scope) name.now))

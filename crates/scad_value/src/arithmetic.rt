@@ -26,7 +26,7 @@ pub(crate) enum PartRow {
     Keep,
 }
 
-/// The number, unless it is TooLarge: past 2^53 - 1 in size. Takes no memory.
+/// The number, unless it is TooLarge: past 2^53 - 1 in size.
 pub fn sized(n: i128) -> Result<i64, FaultKind>
     ensures { result ≡ sized_at n }
 {
@@ -46,7 +46,7 @@ fn pair(row: PairRow, left: i64, right: i64) -> Result<i64, FaultKind>
     }
 }
 
-/// The product, unless it is TooLarge: past 2^53 - 1 in size. Takes no memory.
+/// The product, unless it is TooLarge: past 2^53 - 1 in size.
 pub fn product_of_two(left: i64, right: i64) -> Result<i64, FaultKind>
     ensures { result ≡ product_row left right }
 {

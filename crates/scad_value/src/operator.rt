@@ -138,7 +138,7 @@ fn text(bytes: Vec<u8>) -> Value
 }
 
 /// A value that an operator, a function or a bracket makes, unless it is LongList: it has more than
-/// 4,096 parts, or lists that are more than 64 deep in one another. Takes no memory.
+/// 4,096 parts, or lists that are more than 64 deep in one another.
 pub fn made(value: Value) -> Result<Value, FaultKind>
     ensures value { Answers result (made_at (Ok (val_of value))) }
     ensures bounded { IsTrue (has_small_numbers (val_of value)) → IfOk result (λ v. IsTrue (is_bounded (val_of v))) }

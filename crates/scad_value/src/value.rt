@@ -28,21 +28,21 @@ pub struct Values {
 }
 
 impl Values {
-    /// The values of a vector. Takes no memory.
+    /// The values of a vector.
     pub fn of(items: Vec<Value>) -> Self
         ensures { vals_of result ≡ vals_in items.items }
     {
         Values { items }
     }
 
-    /// The vector of the values, which are moved and not copied. Takes no memory.
+    /// The vector of the values, which are moved and not copied.
     pub fn into_items(self) -> Vec<Value>
         ensures { vals_in result.items ≡ vals_of self }
     {
         self.items
     }
 
-    /// The values in order. Takes no memory.
+    /// The values in order.
     pub fn items(&self) -> &[Value]
         ensures { vals_in result.now ≡ vals_of self.now }
     {
@@ -103,7 +103,7 @@ impl Values {
 
 impl Value {
     /// Whether its numbers are at most 2^53 - 1 in size and it has fewer than 2^20 parts, as the
-    /// operators want it. Takes no memory.
+    /// operators want it.
     pub fn is_bounded(&self) -> bool
         ensures { result ≡ bounded (val_of self.now) }
     {
@@ -142,7 +142,6 @@ impl Value {
     }
 
     /// The number of parts: 1, and for a list those of its items besides. It stops at 2^64 - 1.
-    /// Takes no memory.
     #[cycle(parts)]
     pub fn parts(&self) -> u64
         ensures { result ≡ min (parts_of (val_of self.now)) (2 ^ 64 - 1) }
@@ -166,7 +165,6 @@ impl Value {
 }
 
 /// What a value counts as: all are true but `false`, 0, the empty text, the empty list and undef.
-/// Takes no memory.
 pub fn truth(of: &Value) -> bool
     ensures { result ≡ truth_of (val_of of.now) }
 {

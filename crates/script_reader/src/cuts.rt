@@ -19,7 +19,7 @@ pub fn trimmed(raw: &[u8]) -> &[u8]
     }
 }
 
-/// What stands before and after the first byte that is this one, if there is one. Takes no memory.
+/// What stands before and after the first byte that is this one, if there is one.
 pub fn split_at_byte(bytes: &[u8], at: u8) -> Option<(&[u8], &[u8])>
     ensures around { IfSome result (λ cut. bytes.now ≡ cut.0.now ++ at ∷ cut.1.now) }
     ensures first { IfSome result (λ cut. All (λ b. b ≢ at) cut.0.now) }

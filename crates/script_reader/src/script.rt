@@ -38,21 +38,21 @@ impl Model for Commands {
 }
 
 impl Commands {
-    /// The commands of a vector. Takes no memory.
+    /// The commands of a vector.
     pub fn of(items: Vec<Command>) -> Self
         ensures { result ≡ items.items }
     {
         Commands { items }
     }
 
-    /// The commands in order. Takes no memory.
+    /// The commands in order.
     pub fn items(&self) -> &[Command]
         ensures { result.now ≡ self.now }
     {
         &self.items
     }
 
-    // One command more at the end.
+    /// One command more at the end.
     pub(crate) fn push(&mut self, command: Command) -> Result<(), NoMemory>
         ensures { OnOk result (self.new ≡ self.old ++ command ∷ []) }
     {
@@ -84,14 +84,14 @@ impl Model for ClientScripts {
 }
 
 impl ClientScripts {
-    /// The clients of a vector. Takes no memory.
+    /// The clients of a vector.
     pub fn of(items: Vec<ClientScript>) -> Self
         ensures { result ≡ items.items }
     {
         ClientScripts { items }
     }
 
-    /// The clients in order. Takes no memory.
+    /// The clients in order.
     pub fn items(&self) -> &[ClientScript]
         ensures { result.now ≡ self.now }
     {

@@ -18,7 +18,7 @@ use std::alloc::Global;
 use text_place::Stop;
 use tree_export::Exported;
 
-/// The program that a source writes, or its first fault.
+// The program that a source writes, or its first fault.
 fn read_program(alloc: Global, source: &[u8]) -> Result<Program, Stop>
     requires { length source.now < 2 ^ 32 - 1 }
     ensures found { IfOk result (λ program. Writes source.now (program_of program)) }

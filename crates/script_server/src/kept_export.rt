@@ -61,7 +61,7 @@ impl KeptExport {
         }
     }
 
-    // What was kept, where it is the export of this tree in this unit. Takes no memory.
+    // What was kept, where it is the export of this tree in this unit.
     fn given_for(self, unit: Unit, key: &TreeKey) -> Option<Exported>
         ensures exported { IfSome result (IsExported unit key.now) }
         ensures boundary { IfSome result (Bounds unit key.now) }

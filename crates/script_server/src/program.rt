@@ -9,7 +9,7 @@ use std::sync::Wait;
 use std::thread::Threads;
 use std::{env, io};
 
-/// The words behind the program's name.
+// The words behind the program's name.
 fn words(rt: &HostRuntime) -> io::Result<Vec<String>> {
     env::args(rt)?
         .skip(1)

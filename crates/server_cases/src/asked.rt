@@ -32,7 +32,7 @@ const QUESTIONS: [(&[u8], Question); 8] = [
     (b"writes", Question::Writes),
 ];
 
-/// How many numbers stand between a question and the words.
+// How many numbers stand between a question and the words.
 fn count_of(question: Question) -> usize {
     match question {
         Question::Serve => 0,
@@ -41,7 +41,7 @@ fn count_of(question: Question) -> usize {
     }
 }
 
-/// A number of up to seven digits, and what stands behind it.
+// A number of up to seven digits, and what stands behind it.
 fn number(text: &[u8]) -> Result<(u32, &[u8]), CaseStop> {
     let (digits, rest) = cut(text);
     let number = read_decimal(digits).ok_or(CaseStop::Unread)?;
@@ -51,7 +51,7 @@ fn number(text: &[u8]) -> Result<(u32, &[u8]), CaseStop> {
     }
 }
 
-/// Words, a space between two of them.
+// Words, a space between two of them.
 fn words_of(alloc: Global, text: &[u8]) -> Result<Vec<String>, CaseStop> {
     let mut words = Vec::new(alloc);
     for word in text.split(|byte| *byte == b' ') {
@@ -63,7 +63,7 @@ fn words_of(alloc: Global, text: &[u8]) -> Result<Vec<String>, CaseStop> {
     Ok(words)
 }
 
-/// The words and the script of a case, a slash and a space between them.
+// The words and the script of a case, a slash and a space between them.
 fn asked_of(alloc: Global, text: &[u8]) -> Result<Asked, CaseStop> {
     let at = text
         .iter()
@@ -79,8 +79,8 @@ fn asked_of(alloc: Global, text: &[u8]) -> Result<Asked, CaseStop> {
     })
 }
 
-/// How calls end where each read fails in turn, up to the first that is done: each end that differs from the
-/// one before.
+// How calls end where each read fails in turn, up to the first that is done: each end that differs from the
+// one before.
 fn put_reads<R: Threads + Wait + Sync>(
     rt: &R,
     alloc: Global,
@@ -114,7 +114,7 @@ fn put_reads<R: Threads + Wait + Sync>(
     Err(CaseStop::Unread)
 }
 
-/// How a call ended, and whether its output is a beginning of another one.
+// How a call ended, and whether its output is a beginning of another one.
 fn put_beginning(out: &mut Vec<u8>, served: &Served, whole: &[u8]) -> Result<(), CaseStop> {
     put_status(out, served.status)?;
     if served.output.as_slice() == whole {
@@ -127,8 +127,8 @@ fn put_beginning(out: &mut Vec<u8>, served: &Served, whole: &[u8]) -> Result<(),
     Ok(())
 }
 
-/// How calls end where each write fails in turn, up to the first that is done: each end that differs from the
-/// one before.
+// How calls end where each write fails in turn, up to the first that is done: each end that differs from the
+// one before.
 fn put_writes<R: Threads + Wait + Sync>(
     rt: &R,
     alloc: Global,
@@ -163,7 +163,7 @@ fn put_writes<R: Threads + Wait + Sync>(
     Err(CaseStop::Unread)
 }
 
-/// The outside of a question, by its numbers.
+// The outside of a question, by its numbers.
 fn outside_of(question: Question, first: u32, second: u32) -> Outside {
     match question {
         Question::Room => Outside {
@@ -184,7 +184,7 @@ fn outside_of(question: Question, first: u32, second: u32) -> Outside {
     }
 }
 
-/// What is told of the output.
+// What is told of the output.
 fn told_of(question: Question, first: u32) -> Told {
     match question {
         Question::Head => Told::First(first as usize),

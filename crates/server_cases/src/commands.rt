@@ -5,7 +5,7 @@ use case_lines::{CaseStop, put, put_number};
 use script_reader::{Command, Script, ScriptFault, read_script};
 use std::alloc::Global;
 
-/// The number of a line, and a text.
+// The number of a line, and a text.
 fn put_edit(
     alloc: Global,
     out: &mut Vec<u8>,
@@ -36,7 +36,7 @@ fn put_command(alloc: Global, out: &mut Vec<u8>, command: &Command) -> Result<()
     }
 }
 
-/// Each client's name and commands.
+// Each client's name and commands.
 fn put_script(alloc: Global, out: &mut Vec<u8>, script: &Script) -> Result<(), CaseStop> {
     for client in script.clients.items() {
         put(out, client.name.items())?;

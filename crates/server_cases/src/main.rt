@@ -29,7 +29,7 @@ use std::sync::Wait;
 use std::thread::Threads;
 use text_place::{Bytes, NoMemory};
 
-/// A case, with a newline in place of each stroke.
+// A case, with a newline in place of each stroke.
 fn script_of(alloc: Global, case: &[u8]) -> Result<Vec<u8>, NoMemory> {
     let mut script = Vec::new(alloc);
     for byte in case {
@@ -38,7 +38,7 @@ fn script_of(alloc: Global, case: &[u8]) -> Result<Vec<u8>, NoMemory> {
     Ok(script)
 }
 
-/// The answer of a case.
+// The answer of a case.
 fn put_answer<R: Threads + Wait + Sync>(
     rt: &R,
     alloc: Global,
@@ -56,7 +56,7 @@ fn put_answer<R: Threads + Wait + Sync>(
     }
 }
 
-/// Each line, with its answer below where it is a case.
+// Each line, with its answer below where it is a case.
 fn put_lines<R: Threads + Wait + Sync>(
     rt: &R,
     alloc: Global,

@@ -5,7 +5,7 @@ use script_server::read_words;
 use std::alloc::Global;
 use text_place::NoMemory;
 
-/// Whether the words of a run with one more option are taken, with its value in its own word or behind `=`.
+// Whether the words of a run with one more option are taken, with its value in its own word or behind `=`.
 fn is_taken(alloc: Global, name: &str, value: &str, is_joined: bool) -> Result<bool, NoMemory> {
     let mut words = Vec::new(alloc);
     words.push(String::from_str(alloc, "run")?)?;

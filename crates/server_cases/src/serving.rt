@@ -18,7 +18,7 @@ pub fn put_status(out: &mut Vec<u8>, status: Status) -> Result<(), CaseStop> {
     Ok(())
 }
 
-/// Whether a byte is told as it is.
+// Whether a byte is told as it is.
 fn is_plain(byte: u8) -> bool {
     (b' '..=b'~').contains(&byte) && byte != b'|' && byte != b'`'
 }

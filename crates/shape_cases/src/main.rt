@@ -23,7 +23,7 @@ use outside_io::{ReadSource, WriteSink};
 use std::alloc::Global;
 use std::process::ExitCode;
 
-/// The answers of phrases about shapes.
+// The answers of phrases about shapes.
 #[derive(Drop)]
 struct Shapes {}
 

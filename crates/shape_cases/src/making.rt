@@ -79,7 +79,7 @@ pub fn points_of(alloc: Global, numbers: &[i64]) -> Result<Vec<[i64; 3]>, CaseSt
     Ok(points)
 }
 
-/// The points of numbers, two for each.
+// The points of numbers, two for each.
 fn corners_of(alloc: Global, numbers: &[i64]) -> Result<Vec<[i64; 2]>, CaseStop> {
     let mut points = Vec::new(alloc);
     let mut rest = numbers;

@@ -31,7 +31,7 @@ pub fn kind_of(word: &[u8]) -> Option<Kind> {
     found(&KINDS, word)
 }
 
-/// The step of a matrix, or nothing where it is singular.
+// The step of a matrix, or nothing where it is singular.
 fn matrix(numbers: &[i64]) -> Result<Option<Step>, CaseStop> {
     let [a, b, c, d, e, f, g, h, i, j, k, l] = numbers else {
         return Err(CaseStop::Unread);
@@ -42,7 +42,7 @@ fn matrix(numbers: &[i64]) -> Result<Option<Step>, CaseStop> {
     Ok(Step::matrix([[a, b, c, d], [e, f, g, h], [i, j, k, l]]))
 }
 
-/// A step, or nothing where it is singular.
+// A step, or nothing where it is singular.
 fn step(kind: Kind, numbers: &[i64]) -> Result<Option<Step>, CaseStop> {
     match (kind, numbers) {
         (Kind::Move, [x, y, z]) => Ok(Some(Step::move_by([safe(*x)?, safe(*y)?, safe(*z)?]))),
@@ -80,14 +80,14 @@ fn put_moved(
     }
 }
 
-/// A point whose coordinates are at most 2^53 - 1 in size.
+// A point whose coordinates are at most 2^53 - 1 in size.
 fn safe_point(x: i64, y: i64, z: i64) -> Result<[i64; 3], CaseStop>
     ensures { IfOk result (λ p. HasSafeCoordinates (point_at p)) }
 {
     Ok([safe(x)?, safe(y)?, safe(z)?])
 }
 
-/// The images of two points.
+// The images of two points.
 fn put_two(
     alloc: Global,
     out: &mut Vec<u8>,

@@ -55,7 +55,7 @@ const OTHERS: [(&[u8], Other); 6] = [
     (b"image", Other::Image),
 ];
 
-/// What was made, where it was, and in words.
+// What was made, where it was, and in words.
 fn kept<T: Drop>(out: &mut Vec<u8>, outcome: Result<T, FaultKind>) -> Result<Option<T>, CaseStop> {
     match outcome {
         Ok(thing) => {
@@ -69,7 +69,7 @@ fn kept<T: Drop>(out: &mut Vec<u8>, outcome: Result<T, FaultKind>) -> Result<Opt
     }
 }
 
-/// What is asked of a shape.
+// What is asked of a shape.
 fn put_asked(
     alloc: Global,
     out: &mut Vec<u8>,

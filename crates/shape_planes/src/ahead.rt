@@ -21,7 +21,7 @@ pub fn has_ahead(points: &[[i64; 3]], faces: &[Corners], plane: &FacePlane) -> b
     has_point_ahead(points, plane) && has_corner_ahead(points, faces, plane)
 }
 
-/// Whether some point is strictly ahead of a plane.
+// Whether some point is strictly ahead of a plane.
 fn has_point_ahead(points: &[[i64; 3]], plane: &FacePlane) -> bool
     requires grid { All (λ p. IsOnGrid (point_at p)) points.now }
     ensures { OnFalse result (All (λ p. value plane.now (point_at p) ≤ℤ pos 0) points.now) }
@@ -34,7 +34,7 @@ fn has_point_ahead(points: &[[i64; 3]], plane: &FacePlane) -> bool
     false
 }
 
-/// Whether some corner of a face is strictly ahead of a plane.
+// Whether some corner of a face is strictly ahead of a plane.
 fn has_corner_ahead(points: &[[i64; 3]], faces: &[Corners], plane: &FacePlane) -> bool
     requires grid { All (λ p. IsOnGrid (point_at p)) points.now }
     requires there { All (λ f. All (λ i. i < length points.now) f) faces.now }

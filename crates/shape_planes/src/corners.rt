@@ -17,14 +17,14 @@ impl Model for Corners {
 }
 
 impl Corners {
-    /// The corners of a vector. Takes no memory.
+    /// The corners of a vector.
     pub fn of(items: Vec<u32>) -> Self
         ensures { result ≡ items.items }
     {
         Corners { items }
     }
 
-    /// The corners in order. Takes no memory.
+    /// The corners in order.
     pub fn items(&self) -> &[u32]
         ensures { result.now ≡ self.now }
     {

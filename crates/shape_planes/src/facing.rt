@@ -99,7 +99,7 @@ pub fn goes_through(m: &FacePlane, at: [i64; 3]) -> bool
     value_at(m, at) == 0
 }
 
-/// The value of a plane at a point: above 0 where the point is ahead.
+// The value of a plane at a point: above 0 where the point is ahead.
 fn value_at(m: &FacePlane, at: [i64; 3]) -> i64
     requires { IsOnGrid (point_at at) }
     ensures { result ≡ value m.now (point_at at) }
@@ -107,7 +107,7 @@ fn value_at(m: &FacePlane, at: [i64; 3]) -> i64
     offset(m.a, m.b, m.c, at[0], at[1], at[2]) - m.d
 }
 
-/// One part of the cross product `(q - p) x (r - p)`, from two coordinates of each point.
+// One part of the cross product `(q - p) x (r - p)`, from two coordinates of each point.
 fn minor_between(py: i64, pz: i64, qy: i64, qz: i64, ry: i64, rz: i64) -> i64
     requires py_size { unsigned_abs py ≤ 131070 }
     requires pz_size { unsigned_abs pz ≤ 131070 }
@@ -121,7 +121,7 @@ fn minor_between(py: i64, pz: i64, qy: i64, qz: i64, ry: i64, rz: i64) -> i64
     small_minor(qy - py, qz - pz, ry - py, rz - pz)
 }
 
-/// `a d - b c` of differences of coordinates.
+// `a d - b c` of differences of coordinates.
 fn small_minor(a: i64, b: i64, c: i64, d: i64) -> i64
     requires a_size { unsigned_abs a ≤ 262140 }
     requires b_size { unsigned_abs b ≤ 262140 }
@@ -133,7 +133,7 @@ fn small_minor(a: i64, b: i64, c: i64, d: i64) -> i64
     a * d - b * c
 }
 
-/// `a x + b y + c z` of a direction and a point.
+// `a x + b y + c z` of a direction and a point.
 fn offset(a: i64, b: i64, c: i64, x: i64, y: i64, z: i64) -> i64
     requires a_size { unsigned_abs a ≤ 137434759200 }
     requires b_size { unsigned_abs b ≤ 137434759200 }

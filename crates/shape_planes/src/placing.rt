@@ -43,7 +43,7 @@ pub fn place(alloc: Global, shape: &Shape, steps: &[Step]) -> Result<Vec<Plane>,
     Ok(planes_of(alloc, &points, shape.faces())?)
 }
 
-/// Whether all coordinates are at most 4095 in size.
+// Whether all coordinates are at most 4095 in size.
 fn are_in_reach(points: &[[i64; 3]]) -> bool
     ensures all { OnTrue result (All (λ p. IsInReach (point_at p)) points.now) }
     ensures past { OnFalse result (Any (λ p. IsInReach (point_at p) → ⊥) points.now) }
@@ -56,7 +56,7 @@ fn are_in_reach(points: &[[i64; 3]]) -> bool
     true
 }
 
-/// Whether the coordinates of a point are at most 4095 in size.
+// Whether the coordinates of a point are at most 4095 in size.
 fn is_in_reach(at: [i64; 3]) -> bool
     ensures all { OnTrue result (IsInReach (point_at at)) }
     ensures past { OnFalse result (IsInReach (point_at at) → ⊥) }

@@ -33,7 +33,7 @@ pub fn planes_of(
     Ok(planes)
 }
 
-/// The plane of one face.
+// The plane of one face.
 fn face_plane(points: &[[i64; 3]], faces: &[Corners], face: &[u32]) -> Plane
     requires reach { All (λ p. IsInReach (point_at p)) points.now }
     requires faces_are { All (IsFace (record { points = points.now; faces = faces.now })) faces.now }
@@ -48,7 +48,7 @@ fn face_plane(points: &[[i64; 3]], faces: &[Corners], face: &[u32]) -> Plane
     }
 }
 
-/// Whether a plane is among some planes.
+// Whether a plane is among some planes.
 fn holds(planes: &[Plane], plane: &Plane) -> bool
     ensures { result ≡ list_any (λ m. same m plane.now) planes.now }
 {

@@ -18,7 +18,7 @@ pub fn are_in_range(points: &[[i64; 3]]) -> bool
     true
 }
 
-/// Whether the coordinates of a point are at most 65,535 in size.
+// Whether the coordinates of a point are at most 65,535 in size.
 fn is_in_range(at: [i64; 3]) -> bool
     ensures all { OnTrue result (IsInRange (point_at at)) }
     ensures past { OnFalse result (IsInRange (point_at at) → ⊥) }

@@ -28,7 +28,7 @@ impl Model for Shape {
 }
 
 impl Shape {
-    /// The shape of points and faces that meet what a shape keeps. Takes no memory.
+    /// The shape of points and faces that meet what a shape keeps.
     pub fn of(points: Vec<[i64; 3]>, faces: Vec<Corners>) -> Self
         requires { IsShape (record { points = points.items; faces = faces.items }) }
         ensures { result ≡ record { points = points.items; faces = faces.items } }
@@ -52,7 +52,7 @@ impl Shape {
         Ok(Shape::of(Vec::from_slice(alloc, points)?, corners))
     }
 
-    /// Its points in grid steps. Takes no memory.
+    /// Its points in grid steps.
     pub fn points(&self) -> &[[i64; 3]]
         ensures points { result.now ≡ self.now.points }
         ensures shape { IsShape self.now }
@@ -60,7 +60,7 @@ impl Shape {
         &self.points
     }
 
-    /// Its faces in order. Takes no memory.
+    /// Its faces in order.
     pub fn faces(&self) -> &[Corners]
         ensures { result.now ≡ self.now.faces }
     {

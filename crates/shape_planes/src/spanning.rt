@@ -36,7 +36,7 @@ pub fn find_triangle(points: &[[i64; 3]], face: &[u32]) -> Option<Triangle>
     search_triangle(points, face)
 }
 
-/// Whether a face has three corners in front that are not on one line.
+// Whether a face has three corners in front that are not on one line.
 fn begins_with_triangle(points: &[[i64; 3]], face: &[u32]) -> bool
     requires grid { All (λ p. IsOnGrid (point_at p)) points.now }
     requires there { All (λ i. i < length points.now) face.now }
@@ -51,7 +51,7 @@ fn begins_with_triangle(points: &[[i64; 3]], face: &[u32]) -> bool
     has_direction(&plane_through(p, q, r))
 }
 
-/// Three corners of a face that are not on one line, of which one is the first. `None` where all corners are on one line.
+// Three corners of a face that are not on one line, of which one is the first. `None` where all corners are on one line.
 fn search_triangle(points: &[[i64; 3]], face: &[u32]) -> Option<Triangle>
     requires grid { All (λ p. IsOnGrid (point_at p)) points.now }
     requires there { All (λ i. i < length points.now) face.now }
@@ -70,8 +70,8 @@ fn search_triangle(points: &[[i64; 3]], face: &[u32]) -> Option<Triangle>
     None
 }
 
-/// A corner of a face that is not on one line with the first corner and a second one. `None` where
-/// all corners are on one line with them.
+// A corner of a face that is not on one line with the first corner and a second one. `None` where
+// all corners are on one line with them.
 fn third_corner(points: &[[i64; 3]], face: &[u32], second: usize) -> Option<usize>
     requires grid { All (λ p. IsOnGrid (point_at p)) points.now }
     requires there { All (λ i. i < length points.now) face.now }

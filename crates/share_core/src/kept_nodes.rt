@@ -61,7 +61,7 @@ impl<V: Drop> Nodes<V> {
         Ok(Nodes { states, have })
     }
 
-    /// The values that are there. Takes no memory.
+    /// The values that are there.
     pub fn have(&self) -> &[Option<Arc<V>>]
         ensures { map (λ x. option_map arc_value x) result.now ≡ have self.now }
     {

@@ -80,7 +80,7 @@ impl<F: Fit, N: Namer<F::Key>, W: Work<F>> World<F, N, W> {
         step_parts(alloc, &mut self.memo, &self.work, &mut self.parts, event)
     }
 
-    /// The replies of a client so far: those of its first commands. Takes no memory.
+    /// The replies of a client so far: those of its first commands.
     pub fn replies(&self, client: u32) -> &[W::Reply]
         requires { client < length self.now.1.parts }
         ensures is { option_map (λ p. p.replies) (slice_get self.now.1.parts client) ≡
@@ -91,7 +91,7 @@ impl<F: Fit, N: Namer<F::Key>, W: Work<F>> World<F, N, W> {
         self.parts[client as usize].replies.as_slice()
     }
 
-    /// The journal of the memo. Takes no memory.
+    /// The journal of the memo.
     pub fn journal(&self) -> &[JournalItem<F::Key>]
         ensures is { items_of result.now ≡ self.now.1.memo.journal }
         ensures legal { IsLegal F.same_key N.name_of self.now.1.memo.budget

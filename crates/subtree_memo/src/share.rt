@@ -40,7 +40,7 @@ impl<B: Books> Model for Share<B> {
         × (s.heavy.parts ≡ s.hits.parts) × (s.dropped ≤ dropped_max) };
 }
 
-/// Where the number of dropped fills stops.
+// Where the number of dropped fills stops.
 const DROPPED_MAX: u64 = 1 << 48;
 
 /// So many dropped fills and so many more.
@@ -52,7 +52,7 @@ pub fn dropped_sum(some: u64, more: u64) -> u64
 }
 
 impl<B: Books> Share<B> {
-    /// The caller's number. Takes no memory.
+    /// The caller's number.
     pub fn caller(&self) -> u32
         ensures { result ≡ self.now.caller }
     {

@@ -7,7 +7,7 @@ use itoa::Buffer;
 use std::alloc::Global;
 
 /// The number that 1 to 7 decimal digits write, and `None` at any other bytes. Leading zeros are
-/// allowed, a sign is not. Takes no memory.
+/// allowed, a sign is not.
 pub fn read_decimal(bytes: &[u8]) -> Option<u64>
     ensures some { IsSome result ↔ IsShortNumeral bytes.now }
     ensures value { IfSome result (λ number. number ≡ digits_value 10 bytes.now) }

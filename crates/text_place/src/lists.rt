@@ -19,7 +19,7 @@ impl Model for Bytes {
 }
 
 impl Bytes {
-    /// The bytes of a vector. Takes no memory.
+    /// The bytes of a vector.
     pub fn of(items: Vec<u8>) -> Self
         ensures { result ≡ items.items }
     {
@@ -33,7 +33,7 @@ impl Bytes {
         Ok(Bytes::of(Vec::from_slice(alloc, bytes)?))
     }
 
-    /// The bytes in order. Takes no memory.
+    /// The bytes in order.
     pub fn items(&self) -> &[u8]
         ensures { result.now ≡ self.now }
     {
@@ -56,7 +56,7 @@ impl Model for Lines {
 }
 
 impl Lines {
-    /// The lines of a vector. Takes no memory.
+    /// The lines of a vector.
     pub fn of(items: Vec<Bytes>) -> Self
         ensures { result ≡ items.items }
     {
@@ -74,7 +74,7 @@ impl Lines {
         Ok(Lines::of(copy))
     }
 
-    /// The lines in order. Takes no memory.
+    /// The lines in order.
     pub fn items(&self) -> &[Bytes]
         ensures { result.now ≡ self.now }
     {

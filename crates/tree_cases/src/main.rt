@@ -18,7 +18,7 @@ use outside_io::{ReadSource, WriteSink};
 use std::alloc::Global;
 use std::process::ExitCode;
 
-/// The answers of phrases that put trees.
+// The answers of phrases that put trees.
 #[derive(Drop)]
 struct TreeCases {}
 

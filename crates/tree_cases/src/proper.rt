@@ -13,7 +13,7 @@ use std::alloc::Global;
 use std::marker::Model;
 use text_place::NoMemory;
 
-/// The most subtrees of a tree that is joined.
+// The most subtrees of a tree that is joined.
 const MOST: u32 = 1_000_000;
 
 /// A tree of which a solid can be made.
@@ -81,7 +81,7 @@ fn nothing() -> CsgTree
     CsgTree::Nothing
 }
 
-/// Adds a plane; one with a point in reach is a plane of a leaf.
+// Adds a plane; one with a point in reach is a plane of a leaf.
 fn add(planes: &mut Vec<Plane>, plane: Plane) -> Result<(), NoMemory>
     requires reach { ComesInReach plane }
     requires all { All IsLeafPlane planes.old.items }
@@ -105,7 +105,7 @@ fn leaf(alloc: Global, walls: &Walls) -> Result<CsgTree, CaseStop>
     Ok(CsgTree::Leaf(Planes::of(planes)))
 }
 
-/// How many subtrees a tree has, where they are few.
+// How many subtrees a tree has, where they are few.
 fn counted(tree: &CsgTree) -> Option<u32>
     ensures { IfSome result (λ n. n ≡ subtrees (formula_of tree.now)) }
 {
@@ -123,7 +123,7 @@ fn counted(tree: &CsgTree) -> Option<u32>
     }
 }
 
-/// The join of two trees, each of which has few subtrees.
+// The join of two trees, each of which has few subtrees.
 fn joined(alloc: Global, op: Op, left: CsgTree, right: CsgTree) -> Result<CsgTree, CaseStop>
     requires left { IsProper (formula_of left) }
     requires right { IsProper (formula_of right) }

@@ -43,7 +43,7 @@ fn store_of(alloc: Global, tree: &ProperTree) -> Result<CsgStore, CaseStop> {
     Ok(CsgStore::intern(alloc, tree.tree())?)
 }
 
-/// A node: `leaf`, or the sign of the operation and the numbers of its two trees.
+// A node: `leaf`, or the sign of the operation and the numbers of its two trees.
 fn put_node(
     alloc: Global,
     out: &mut Vec<u8>,
@@ -68,7 +68,7 @@ fn put_node(
     Ok(())
 }
 
-/// The numbers of two keys, whether they are the same tree, and whether they have one name.
+// The numbers of two keys, whether they are the same tree, and whether they have one name.
 fn put_keys(
     alloc: Global,
     out: &mut Vec<u8>,
@@ -97,7 +97,7 @@ fn put_keys(
     Ok(())
 }
 
-/// The same of the keys of two nodes of a tree.
+// The same of the keys of two nodes of a tree.
 fn put_same(
     alloc: Global,
     out: &mut Vec<u8>,
@@ -116,14 +116,14 @@ fn put_same(
     put_keys(alloc, out, &one, &other)
 }
 
-/// A word, and the number of a node.
+// A word, and the number of a node.
 fn put_at(alloc: Global, out: &mut Vec<u8>, word: &[u8], number: u32) -> Result<(), CaseStop> {
     put(out, word)?;
     put_number(alloc, out, i128::from(number))?;
     Ok(())
 }
 
-/// The size of a tree's solid, or the first node that passes a limit.
+// The size of a tree's solid, or the first node that passes a limit.
 fn put_tree_size(alloc: Global, out: &mut Vec<u8>, tree: &ProperTree) -> Result<(), CaseStop> {
     let store = store_of(alloc, tree)?;
     if store.len() == 0 {
@@ -149,7 +149,7 @@ fn put_complex(alloc: Global, out: &mut Vec<u8>, passed: Complex) -> Result<(), 
     Ok(())
 }
 
-/// The first bytes of a tree's text in a unit, or the first limit that it passes.
+// The first bytes of a tree's text in a unit, or the first limit that it passes.
 fn put_export(
     alloc: Global,
     out: &mut Vec<u8>,

@@ -33,7 +33,7 @@ const PLANTINGS: [(&[u8], Planting); 10] = [
     (b"alike", Planting::Alike),
 ];
 
-/// The union of so many slabs of an axis from a coordinate on, each joined to those before it, with a step between them.
+// The union of so many slabs of an axis from a coordinate on, each joined to those before it, with a step between them.
 fn slabs(alloc: Global, axis: i64, from: i64, count: i64) -> Result<ProperTree, CaseStop> {
     let mut all = ProperTree::leaf(alloc, &slab_walls(alloc, axis, from)?)?;
     let mut at = from;
@@ -69,14 +69,14 @@ impl Trees {
         self.items.last().ok_or(CaseStop::Unread)
     }
 
-    /// The leaf of the planes.
+    // The leaf of the planes.
     fn leaf(&mut self, alloc: Global) -> Result<(), CaseStop> {
         let leaf = ProperTree::leaf(alloc, &self.walls)?;
         self.walls.clear();
         self.put(leaf)
     }
 
-    /// The join of the last two trees, in their place.
+    // The join of the last two trees, in their place.
     fn join(&mut self, alloc: Global, op: Op) -> Result<(), CaseStop> {
         let right = self.items.pop().ok_or(CaseStop::Unread)?;
         let left = self.items.pop().ok_or(CaseStop::Unread)?;
@@ -84,7 +84,7 @@ impl Trees {
         self.put(joined)
     }
 
-    /// What a phrase makes of the trees, and what it writes of more than one.
+    // What a phrase makes of the trees, and what it writes of more than one.
     fn plant(
         &mut self,
         alloc: Global,
