@@ -11,6 +11,10 @@ if [ ! -x "$program" ]; then
     echo "clients: 'rt ci' builds the program that this times" >&2
     exit 2
 fi
+if [ "$(nproc)" -lt 4 ]; then
+    echo "clients: four processors are wanted" >&2
+    exit 2
+fi
 unset GLIBC_TUNABLES
 work=$(mktemp -d) || exit 1
 trap 'rm -rf "$work"' EXIT
@@ -34,7 +38,7 @@ rows() {
     for _turn in 1 2 3 4 5 6 7 8 9 10 11 12 13 14 15; do
         for row in 1.1 1.4 4.1 4.4; do
             nanoseconds "$1" ${row%.*} ${row#*.} >>"$work/without.$row"
-            (. "$top/memory.sh" && nanoseconds "$1" ${row%.*} ${row#*.}) >>"$work/with.$row"
+            (. "$top/memory.sh" && nanoseconds "$1" ${row%.*} ${row#*.}) >>"$work/with.$row" || exit 1
         done
     done
     for row in 1.1 1.4 4.1 4.4; do

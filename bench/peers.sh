@@ -29,7 +29,7 @@ milliseconds() {
     (
         turn=0
         while [ $turn -lt "$turns" ]; do
-            "$@" >"$work/said" 2>&1
+            "$@" >"$work/said" 2>&1 || touch "$work/failed"
             turn=$((turn + 1))
         done
         times
@@ -54,10 +54,14 @@ instructions() {
 
 # One source through both.
 both() {
-    "$top/scad2off" --script "$work/part.scad" >"$work/part.script"
+    "$top/scad2off" --script "$work/part.scad" >"$work/part.script" || exit 1
     ours=$(milliseconds 50 ours)
     said=$(grep -m 1 -E '^[0-9]+ (solid|fault|complex|nomem)' "$work/said")
     theirs=$(milliseconds 1 openscad -o "$work/part.off" "$work/part.scad")
+    if [ -e "$work/failed" ] || [ "${said#* solid}" = "$said" ]; then
+        echo "peers: $1 has no solid: ${said:-no answer}" >&2
+        exit 1
+    fi
     awk -v name="$1" -v ours="$ours" -v count="$(instructions)" -v theirs="$theirs" -v said="$said" \
         'BEGIN { printf "%-28s %8s ms %8s %8.0f ms %7.0f  %s\n", name, ours, count, theirs, theirs / (ours > 0.1 ? ours : 0.1), said }'
 }

@@ -15,6 +15,7 @@ while [ $# -gt 0 ] && [ "$1" != -- ]; do
 done
 work=$(mktemp -d)
 trap 'rm -rf "$work"' EXIT
+trap 'exit 1' HUP INT TERM
 cp -r "$top/crates" "$top/crates.txt" "$top/HANDLES" "$work/"
 mkdir -p "$work/crates/$program/src"
 cp "$top/bench/$program.txt" "$work/crates/$program/src/main.rt"

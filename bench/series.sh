@@ -13,12 +13,18 @@ if [ $# -eq 0 ]; then
 fi
 program=$1
 . "$bench/../memory.sh"
+work=$(mktemp -d)
+trap 'rm -rf "$work"' EXIT
+trap 'exit 1' HUP INT TERM
 
 # The instructions of a run of the program with these words, or nothing where they can't be counted.
 instructions() {
     command -v valgrind >/dev/null || return 0
-    valgrind --tool=callgrind --callgrind-out-file=/dev/null "$program" "$@" 2>&1 |
-        sed -n 's/^==.*== Collected : \([0-9]*\).*/\1/p'
+    if ! valgrind --tool=callgrind --callgrind-out-file=/dev/null "$program" "$@" >"$work/said" 2>&1; then
+        cat "$work/said" >&2
+        return 1
+    fi
+    sed -n 's/^==.*== Collected : \([0-9]*\).*/\1/p' "$work/said"
 }
 
 # The kilobytes of memory that a run of the program with these words has at most.
@@ -33,7 +39,8 @@ while read -r number count name; do
     all=$(instructions "$number")
     half=
     [ "$count" -eq 0 ] || half=$(instructions "$number" $((count / 2)))
-    awk -v name="$name" -v all="$all" -v half="$half" -v peak="$(kilobytes "$number")" '
+    peak=$(kilobytes "$number")
+    awk -v name="$name" -v all="$all" -v half="$half" -v peak="$peak" '
     function millions(count) { return count ? sprintf("%.1f", count / 1e6) : "-" }
     BEGIN {
         growth = half ? sprintf("%.2f", log(all / half) / log(2)) : "-"

@@ -106,7 +106,7 @@ impl Session {
     }
 
     /// Removes the lines from one number up to another, and answers the number of lines. An error
-    /// changes nothing.
+    /// changes nothing. Takes no memory.
     pub fn cut(&mut self, from: u32, upto: u32) -> Result<u32, SessionFault>
         ensures done { IfOk result (λ count. Edits self.old (Cut from upto) self.new count) }
         ensures refused { IfErr result (λ why. (refusal self.old (Cut from upto) ≡ Some why) × (self.new ≡ self.old)) }
