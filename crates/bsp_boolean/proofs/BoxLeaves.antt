@@ -1,5 +1,5 @@
 -- Upright boxes as leaves: their faces over their table are the ones that their solid has.
-use Rattle.std.proofs.Common.{◌≡◌, ℕ, zero, suc, ◌+◌, ◌*◌, ◌<◌, true, false, List, [], ◌∷◌, length, get_or, map, refl, sym, ap, ap₂, ◌∙◌, subst, arith, add-one, ℤ, pos, negsuc, neg_ℤ, ◌+ℤ◌, ◌-ℤ◌, ◌<ℤ◌, All, int_cmp, int_eq, Less, Result}
+use Rattle.std.proofs.Common.{◌≡◌, ℕ, zero, suc, ◌+◌, ◌<◌, true, false, List, [], ◌∷◌, length, get_or, map, refl, sym, ap, ap₂, ◌∙◌, subst, arith, add-one, ℤ, pos, negsuc, neg_ℤ, ◌+ℤ◌, ◌-ℤ◌, ◌<ℤ◌, All, int_cmp, int_eq, Less, Result}
 use Rattle.std.proofs.lemmas.Bool.Decides.{Decides-int_eq}
 use Rattle.std.proofs.lemmas.Cmp.{by_ranked, int_ranked}
 use Rattle.std.proofs.lemmas.List.Elements.{All-cons, All-nil}
@@ -16,7 +16,7 @@ use Rattle.plane_polygon.specs.Boxes.{high_x, low_x, high_y, low_y, high_z, low_
 use Rattle.plane_polygon.proofs.BoxStarts.{four, four_polygon, over_x_above, over_x_below, over_y_above, over_y_below, over_z_above, over_z_below}
 use Rattle.plane_polygon.proofs.ParallelPlanes.{below_is_behind, above_is_ahead, same_direction}
 use Rattle.plane_table.specs.declared.faces.Face.{Face}
-use Rattle.plane_table.specs.Tables.{named, turned_by_number, HasNoTwoAlike, IsNumberIn}
+use Rattle.plane_table.specs.Tables.{turned_by_number, HasNoTwoAlike, IsNumberIn}
 use Rattle.plane_table.specs.Faces.{outline_of, IsFaceOver}
 use Rattle.plane_table.specs.Orders.{normalized, compared}
 use Rattle.plane_table.proofs.Orders.{ascending_apart}
@@ -28,7 +28,7 @@ use Rattle.bsp_boolean.specs.Chains.{chained, outlines_of}
 use Rattle.bsp_boolean.specs.Solids.{convex, IsBuilt}
 use Rattle.bsp_boolean.specs.UprightBoxes.{box_faces, table_of, wall, HasRoom, IsBox, IsPair}
 use Rattle.bsp_boolean.proofs.Rectangles.{lies_behind}
-use Rattle.bsp_boolean.proofs.BoxRows.{boxed, Axis, IsApart, AreApartPairs, IsBoxed}
+use Rattle.bsp_boolean.proofs.BoxRows.{boxed, Axis, IsApart, AreApartPairs}
 use Rattle.bsp_boolean.proofs.Convex.{all_is_convex}
 
 -- ---- a plane of a direction

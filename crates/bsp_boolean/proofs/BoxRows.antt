@@ -1,5 +1,5 @@
 -- The faces of a box one behind another, each cut by those before it.
-use Rattle.std.proofs.Common.{◌≡◌, Bool, true, false, if◌then◌else◌, List, [], ◌∷◌, refl, ap, ap₂, ◌∙◌}
+use Rattle.std.proofs.Common.{◌≡◌, false, if◌then◌else◌, [], ◌∷◌, refl, ap, ap₂, ◌∙◌}
 use Rattle.plane_predicate.specs.Space.{Coefficients, opposite_of, is_same}
 use Rattle.plane_predicate.specs.declared.sides.Side.TheVariants as lying
 use Rattle.plane_polygon.specs.declared.classes.Class.TheVariants.{Behind}

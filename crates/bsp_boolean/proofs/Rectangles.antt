@@ -1,5 +1,5 @@
 -- Polygons of four edges against a plane that two of them, or their own plane, are parallel to.
-use Rattle.std.proofs.Common.{◌≡◌, Bool, true, false, ◌||◌, List, [], ◌∷◌, ◌++◌, sym, ap, subst, ◌∙◌, arith, pos}
+use Rattle.std.proofs.Common.{◌≡◌, false, ◌||◌, [], ◌++◌, sym, ap, subst, ◌∙◌, arith}
 use Rattle.plane_predicate.specs.Space.{Coefficients, Coordinates, cramer, value}
 use Rattle.plane_predicate.specs.Sides.{side_of, is_side_behind, is_side_ahead}
 use Rattle.plane_predicate.specs.declared.sides.Side.{Side}

@@ -68,7 +68,7 @@ fn merged_within(
     let (right_planes, right_forest, right_root) = right.parts();
     let joined = join(alloc, left_planes, right_planes)?;
     let table = PlaneTable::of(alloc, joined.planes)?;
-    let left_nodes = MovedNodes::of(&table, left, &joined.left);
+    let left_nodes = MovedNodes::of(alloc, &table, left, &joined.left)?;
     let mut right_nodes = solid_over(alloc, &table, right, &joined.right)?;
     let mut growing = Growing::new(alloc, &table, most);
     let nodes = left_forest.len().saturating_add(right_forest.len());

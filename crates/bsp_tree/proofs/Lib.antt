@@ -15,3 +15,4 @@ pub mod Growths
 pub mod SheetFaces
 pub mod Wholes
 pub mod CopiedNodes
+pub mod PassedRanges

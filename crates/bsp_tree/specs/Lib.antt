@@ -6,3 +6,4 @@ pub mod Kept
 pub mod Growths
 pub mod Copies
 pub mod Moves
+pub mod Ranges

@@ -49,11 +49,12 @@ impl<'t> Model for Growing<'t> {
 }
 
 impl<'t> Growing<'t> {
-    ghost use Rattle.std.specs.Prelude.{◌≡◌, []};
+    ghost use Rattle.std.specs.Prelude.{◌≡◌, [], length, IfOk};
     ghost use Rattle.link_forest.specs.Forests.{IsLinkOf};
     ghost use Rattle.plane_table.specs.Faces.{outline_of, IsFaceOver};
     ghost use Rattle.bsp_tree.specs.Trees.{Tree, make, node};
     ghost use Rattle.bsp_tree.specs.Growths.{Growth, GrowsBy, HasGrown};
+    ghost use Rattle.bsp_tree.specs.Ranges.{IsNext};
 
     /// Nothing yet, over a table. What grows is at most `most` in size.
     pub fn new(alloc: Global, table: &'t PlaneTable, most: u64) -> Growing<'t>
@@ -66,6 +67,13 @@ impl<'t> Growing<'t> {
         }
     }
 
+    /// How many nodes there are.
+    pub fn len(&self) -> usize
+        ensures { result ≡ length self.now.sheet.nodes }
+    {
+        self.nodes.len()
+    }
+
     /// Makes room for `n` more nodes.
     pub fn reserve(&mut self, n: usize) -> Result<(), NoMemory>
         ensures { self.new ≡ self.old }
@@ -75,11 +83,14 @@ impl<'t> Growing<'t> {
 
     /// Adds a node over a tree behind its face, and one ahead that was added after that. `TooBig` comes
     /// exactly where the size would be above the limit.
+    // (A call copies the face, which is as large as its short list of numbers.)
+    #[inline(always)]
     pub fn add(&mut self, face: Face, behind: Link, ahead: Link) -> Result<Link, GrowStop>
         requires face { IsFaceOver self.old.sheet.planes face }
         requires behind { IsLinkOf self.old.sheet.nodes behind }
         requires ahead { IsLinkOf self.old.sheet.nodes ahead }
-        ensures { (start middle : Growth) (b a : Tree) → HasGrown start middle behind b → HasGrown middle self.old ahead a → GrowsBy start self.new (node (outline_of self.old.sheet.planes face) b a) result }
+        ensures grows { (start middle : Growth) (b a : Tree) → HasGrown start middle behind b → HasGrown middle self.old ahead a → GrowsBy start self.new (node (outline_of self.old.sheet.planes face) b a) result }
+        ensures next { IfOk result (IsNext self.old self.new) }
     {
         let edges = face.edges.len() as u64;
         if edges >= self.most - self.size {

@@ -10,6 +10,7 @@ mod laws;
 mod links;
 mod moved_nodes;
 mod nodes;
+mod ranges;
 mod solid;
 mod walking;
 

@@ -67,6 +67,8 @@ impl<'t> Nodes<'t> {
     }
 
     /// Adds a node.
+    // (A call copies the face, which is as large as its short list of numbers.)
+    #[inline(always)]
     pub fn add(&mut self, face: Face, behind: Link, ahead: Link) -> Result<NodeId, NoMemory>
         requires face { IsFaceOver self.old.planes face }
         requires behind { IsLinkOf self.old.nodes behind }
@@ -74,7 +76,8 @@ impl<'t> Nodes<'t> {
         ensures planes { self.new.planes ≡ self.old.planes }
         ensures adds { IfOk result (Adds self.old.nodes self.new.nodes face behind ahead) }
     {
-        self.forest.add(face, behind, ahead)
+        self.forest.reserve(1)?;
+        Ok(self.forest.add_reserved(face, behind, ahead))
     }
 
     /// Makes room for `n` more nodes.

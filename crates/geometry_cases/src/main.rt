@@ -21,8 +21,9 @@
 //!
 //! Solids: `half` of the last plane, `leaf` of all planes, `box LOW HIGH`, `slabs AXIS FROM N` (the union of N slabs of an axis
 //! that are one step thick, with a step between two of them), `beyond AXIS FROM N` (beyond N planes of an axis, one step apart),
-//! `node` (one node on the last polygon), `end 1` (all) and `end 0` (nothing), `over` (the second last one again), `copy`,
-//! `exchange`, `part` (both parts by the last polygon), and `+`, `*` and `-` of the last two.
+//! `node` (one node on the last polygon), `twice` (a second node on it, which has the first on both sides), `end 1` (all) and
+//! `end 0` (nothing), `over` (the second last one again), `copy`, `exchange`, `part` (both parts by the last polygon), and `+`,
+//! `*` and `-` of the last two.
 //! `leaf MOST`, `+ MOST`, `* MOST` and `- MOST` ask for the size within a limit. `size`, `nodes` and `holds POINT` ask.
 //!
 //! Facets: `facets MOST` asks how many the last solid has, and keeps them. `planes`, `around AT` (the corners of one), `text`,

@@ -19,6 +19,7 @@ pub enum Building {
     Slabs,
     Beyond,
     Node,
+    Twice,
     End,
     Over,
     Copy,
@@ -27,13 +28,14 @@ pub enum Building {
     Join(Op),
 }
 
-const BUILDINGS: [(&[u8], Building); 14] = [
+const BUILDINGS: [(&[u8], Building); 15] = [
     (b"half", Building::Half),
     (b"leaf", Building::Leaf),
     (b"box", Building::Box),
     (b"slabs", Building::Slabs),
     (b"beyond", Building::Beyond),
     (b"node", Building::Node),
+    (b"twice", Building::Twice),
     (b"end", Building::End),
     (b"over", Building::Over),
     (b"copy", Building::Copy),
@@ -125,6 +127,20 @@ fn node(alloc: Global, polygon: &Polygon) -> Result<Solid, NoMemory> {
     let mut forest = Forest::new(alloc);
     let id = forest.add(own.face, Link::End(true), Link::End(false))?;
     Ok(Solid::of_parts(own.planes, forest, Link::To(id)))
+}
+
+// Two nodes on the last polygon, where there is one.
+fn twice_on(alloc: Global, by: Option<&Polygon>) -> Result<Solid, CaseStop> {
+    Ok(twice(alloc, by.ok_or(CaseStop::Unread)?)?)
+}
+
+// Two nodes on a polygon, of which the second has the first both behind it and ahead of it. Merges make no such nodes.
+fn twice(alloc: Global, polygon: &Polygon) -> Result<Solid, NoMemory> {
+    let own = face_of(alloc, polygon)?;
+    let mut forest = Forest::new(alloc);
+    let first = forest.add(own.face.copy(alloc)?, Link::End(true), Link::End(false))?;
+    let second = forest.add(own.face, Link::To(first), Link::To(first))?;
+    Ok(Solid::of_parts(own.planes, forest, Link::To(second)))
 }
 
 // The size of a solid, or that it is too big.
@@ -235,6 +251,7 @@ impl Solids {
             (Building::Slabs, [axis, from, count]) => slabs(alloc, *axis, *from, *count),
             (Building::Beyond, [axis, from, count]) => beyond(alloc, *axis, *from, *count),
             (Building::Node, []) => node_on(alloc, by),
+            (Building::Twice, []) => twice_on(alloc, by),
             (Building::End, [is_inside]) => Ok(Solid::leaf(alloc, *is_inside == 1)),
             _ => Err(CaseStop::Unread),
         }

@@ -21,4 +21,4 @@ returns-in_ok-copy-in-To t c =
     let own = ap (λ (l : Link). exchanged turn (tree_on from l)) c.in-To.is
     ∙ ap (λ b. exchanged turn (shown from.planes b)) c.node-behind.ensures.node.tree
     ∙ node_exchanged _ _ _ turn ∙ sym (node_same outline refl refl) in
-    rw own (c.add.ensures c.args.growing.now c.add_branch.new.growing _ _ c.in_ok-behind-in-To.ensures c.in_ok-ahead-in-To.ensures)
+    rw own (c.add.ensures.grows c.args.growing.now c.add_branch.new.growing _ _ c.in_ok-behind-in-To.ensures c.in_ok-ahead-in-To.ensures)

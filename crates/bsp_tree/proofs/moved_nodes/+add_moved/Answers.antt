@@ -22,4 +22,4 @@ returns-in_ok-ahead-in-To t c =
     let own = ap (λ (l : Link). tree_on from.own l) c.in-To.is
     ∙ ap (λ b. shown from.own.planes b) moved.node.tree
     ∙ sym (node_same outline refl refl) in
-    rw own (c.add.ensures c.args.growing.now c.add_moved.new.growing _ _ c.in_ok-behind-in-To.ensures c.in_ok-ahead-in-To.ensures)
+    rw own (c.add.ensures.grows c.args.growing.now c.add_moved.new.growing _ _ c.in_ok-behind-in-To.ensures c.in_ok-ahead-in-To.ensures)

@@ -13,4 +13,4 @@ pub returns : goal.returns
 returns c = λ start middle b a hb ha.
     let linked = subst (λ (g : Growth). AreLinked g.sheet.nodes) c.self.view_is c.len.ensures.linked in
     let same = other_grows start middle c.args.self.now c.args.behind c.args.ahead (outline_of c.args.self.now.sheet.planes c.args.face) b a linked (sym c.is_same_leaf.ensures ∙ c.if-is_same_leaf.false) hb ha in
-    rw (← same) (c.add.ensures start middle b a hb ha)
+    rw (← same) (c.add.ensures.grows start middle b a hb ha)

@@ -7,4 +7,4 @@ pub invariant_of-result : goal.invariant_of-result
 invariant_of-result c =
     let planes = ap (λ (s : SolidParts). s.planes) c.parts.ensures.parts in
     let whole = c.parts.ensures.whole in
-    record { faces = whole.faces; found = all_found _ _ _ _ (rw planes at c.requires) whole.faces }
+    rw c.in_ok-of.ensures (record { faces = whole.faces; found = all_found _ _ _ _ (rw planes at c.requires) whole.faces })
