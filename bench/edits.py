@@ -35,7 +35,9 @@ PHASES = {
     # words of the source to tokens, tokens to a program, and its end
     "reading": ("scad_lexer::", "scad_parser::", "scad_expressions::", "script_server::scad_ast"),
     # a program to a design
-    "evaluating": ("scad_eval::", "scad_func::", "scad_scope::", "newest_names::", "scad_design::"),
+    "evaluating": (
+        "scad_eval::", "scad_func::", "scad_scope::", "scad_blocks::", "scad_arguments::", "newest_names::", "scad_design::",
+    ),
     # a design to a tree in world position
     "placing": ("scad_design::placing::",),
     # the distinct subtrees by number, and their keys, with the SHA-256 of their bytes

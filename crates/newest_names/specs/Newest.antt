@@ -1,5 +1,5 @@
 -- Pairs of a name and what it stands for, searched from the newest.
-use Rattle.std.specs.Prelude.{ℕ, ◌-◌, List, [], ◌∷◌, length, drop, Option, Some, None, if◌then◌else◌}
+use Rattle.std.specs.Prelude.{ℕ, suc, ◌-◌, List, [], ◌∷◌, length, drop, Option, Some, None, if◌then◌else◌}
 use Rattle.std.specs.Str.{bytes_eq}
 
 -- pairs of a name and what it stands for, the newest first
@@ -24,3 +24,8 @@ place_of (p ∷ ps) name = if bytes_eq p.0 name then Some (length ps) else place
 abbrev pub hidden_by : {A : Type 0} → Pairs A → List (Option ℕ)
 hidden_by [] = []
 hidden_by (p ∷ ps) = place_of ps p.0 ∷ hidden_by ps
+
+-- a number further, where there is one
+abbrev pub next : Option ℕ → Option ℕ
+next (Some k) = Some (suc k)
+next None = None

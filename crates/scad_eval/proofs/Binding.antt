@@ -2,9 +2,9 @@
 use Rattle.std.proofs.Common.{◌≡◌, ℕ, ◌+◌, ◌<◌, List, ◌∷◌, map, drop, length, get_or, Ok, refl, sym, ap, ◌∙◌}
 use Rattle.std.proofs.lemmas.List.{at_drop_more}
 use Rattle.scad_value.specs.Values.{Val}
-use Rattle.scad_scope.specs.Blocks.{Assigned}
-use Rattle.scad_scope.specs.declared.text.Assignment.{Assignment}
-use Rattle.scad_scope.specs.TextView.{assigned_of}
+use Rattle.scad_blocks.specs.Blocks.{Assigned}
+use Rattle.scad_blocks.specs.declared.text.Assignment.{Assignment}
+use Rattle.scad_blocks.specs.TextView.{assigned_of}
 use Rattle.scad_func.specs.Meaning.{Outcome, Gives, Faults, then_with}
 use Rattle.scad_func.specs.Evaluations.{Keeps, EvaluationBegins}
 use Rattle.scad_func.specs.declared.evaluation.Evaluation.{Evaluation}

@@ -12,10 +12,10 @@ use Rattle.scad_ast.specs.Terms.{StatementTerms, InstanceTerm, BodyTerm}
 use Rattle.scad_value.specs.Values.{Val}
 use Rattle.scad_scope.specs.Names.{Pairs, Row, find_in}
 use Rattle.scad_scope.specs.Table.{rows_of, chain_of}
-use Rattle.scad_scope.specs.Blocks.{assignments_of}
+use Rattle.scad_blocks.specs.Blocks.{assignments_of}
 use Rattle.scad_func.specs.Meaning.{Outcome, Gives, Faults, Arguments, Slots, Env, Opened, opened, no_call, call_in, entered_scope, then_with, evaluated}
-use Rattle.scad_scope.specs.ArgumentsView.{IsFault}
-use Rattle.scad_func.specs.View.{seen, text_of}
+use Rattle.scad_arguments.specs.ArgumentsView.{IsFaultAt}
+use Rattle.scad_func.specs.View.{seen, source_text}
 use Rattle.scad_func.specs.Definitions.{IsWhole, statements_at, block_scope}
 use Rattle.scad_func.specs.Evaluations.{CallBegins, EvaluationBegins, SpecialsBegin}
 use Rattle.scad_func.specs.Evaluations as there
@@ -42,7 +42,7 @@ use Rattle.scad_eval.proofs.Beginning.{deeper_context, deeper_evaluations, call_
 use Rattle.scad_eval.proofs.Counting.{design_deeper, call_counted}
 
 -- a fault that stands at a place
-pub refused_outcome : {A B : Type 0} {see : ℕ → A → B} (stop : Stop) (m l : ℕ) (kind : FaultKind) (at : Place) → IsFault stop kind at
+pub refused_outcome : {A B : Type 0} {see : ℕ → A → B} (stop : Stop) (m l : ℕ) (kind : FaultKind) (at : Place) → IsFaultAt stop kind at
     → HasOutcome see (Err stop) m l (Faults kind at)
 refused_outcome (Fault fault) m l kind at h =
     record { is = ap (λ (k : FaultKind). Faults k at) (sym h.0) ∙ ap (λ (p : Place). Faults fault.kind p) (sym h.1) }
@@ -79,12 +79,12 @@ entered_meets equation old mid new s t scope env e is turns same h judge right =
 -- a block in a scope that was entered
 pub body_entered : {r : Result MemberResults Stop} (old mid new : InstanceEvaluator) (s t : Position) (scope block : ℕ) (call : Opened) (outer : Env)
     (chosen : Option ChosenCall) (statements : StatementTerms)
-    → IsWhole (text_of old.evaluation.source.now) → statements_at (text_of old.evaluation.source.now) block ≡ statements
+    → IsWhole (source_text old.evaluation.source.now) → statements_at (source_text old.evaluation.source.now) block ≡ statements
     → Enters old mid scope
-    → seen mid.evaluation.source.now (rows_of mid.evaluation.scopes.now) scope ≡ block_scope (text_of old.evaluation.source.now) block call outer
+    → seen mid.evaluation.source.now (rows_of mid.evaluation.scopes.now) scope ≡ block_scope (source_text old.evaluation.source.now) block call outer
     → mid.evaluation.turns ≡ old.evaluation.turns
     → t ≡ record { scope = scope; inside = s.inside; under_mark = s.under_mark }
-    → Meets member_designs_of mid new t r (λ evaluator. block_members evaluator chosen (statements_at (text_of mid.evaluation.source.now) block))
+    → Meets member_designs_of mid new t r (λ evaluator. block_members evaluator chosen (statements_at (source_text mid.evaluation.source.now) block))
     → (judge : Judge) → IsRight judge
     → HasOutcome member_designs_of r new.evaluation.turns new.leaves
     (block_members (evaluator_at old judge) chosen statements
@@ -94,7 +94,7 @@ body_entered old mid new s t scope block call outer chosen statements whole is e
     let evaluator = evaluator_at old judge in
     let here : Context = inside_scope (context_at old s) (entered_scope statements call outer) in
     along (ap (λ (st : StatementTerms). block_members evaluator chosen st here old.evaluation.turns old.leaves) (sym is))
-    (entered_meets (λ (x : Source) evaluator. block_members evaluator chosen (statements_at (text_of x) block))
+    (entered_meets (λ (x : Source) evaluator. block_members evaluator chosen (statements_at (source_text x) block))
     old mid new s t scope (entered_scope statements call outer) e
     (inside ∙ whole.scopes block call outer ∙ ap (λ (st : StatementTerms). entered_scope st call outer) is)
     turns same h judge right)
@@ -210,17 +210,17 @@ module _ (old begun : InstanceEvaluator) (s : Position) (at : Place) (m : Builti
 pub block_meets : {A : Type 0} {x : A} {r : Result MemberResults Stop} (old mid new : InstanceEvaluator) (s : Position) (block scope : ℕ) (chosen : Option ChosenCall)
     (is : List InstanceTerm) → Assigns old mid scope
     → HasOutcome (λ leaves x. context_at mid s) (Ok x) mid.evaluation.turns mid.leaves
-    (each_assigned (evaluations_left old) (context_at old s) (assignments_of (statements_at (text_of old.evaluation.source.now) block)) old.evaluation.turns)
-    → is ≡ instances_chosen (env_at mid s.scope) chosen (statements_at (text_of mid.evaluation.source.now) block)
+    (each_assigned (evaluations_left old) (context_at old s) (assignments_of (statements_at (source_text old.evaluation.source.now) block)) old.evaluation.turns)
+    → is ≡ instances_chosen (env_at mid s.scope) chosen (statements_at (source_text mid.evaluation.source.now) block)
     → Meets member_designs_of mid new s r (λ evaluator here. each_member evaluator here is) → (judge : Judge) → IsRight judge
     → HasOutcome member_designs_of r new.evaluation.turns new.leaves
-    (block_members (evaluator_at old judge) chosen (statements_at (text_of old.evaluation.source.now) block) (context_at old s) old.evaluation.turns old.leaves)
+    (block_members (evaluator_at old judge) chosen (statements_at (source_text old.evaluation.source.now) block) (context_at old s) old.evaluation.turns old.leaves)
 block_meets old mid new s block scope chosen is a told same h judge right =
     let evaluator = evaluator_at old judge in
     let there = context_at mid s in
-    then_outcome (λ turns there. each_member evaluator there (instances_chosen there.env chosen (statements_at (text_of old.evaluation.source.now) block)) turns old.leaves) told
-    (along (ap (λ n. each_member evaluator there (instances_chosen there.env chosen (statements_at (text_of old.evaluation.source.now) block)) mid.evaluation.turns n) (sym a.leaves)
-    ∙ ap (λ (x : Source). each_member evaluator there (instances_chosen there.env chosen (statements_at (text_of x) block)) mid.evaluation.turns mid.leaves) (sym a.source)
+    then_outcome (λ turns there. each_member evaluator there (instances_chosen there.env chosen (statements_at (source_text old.evaluation.source.now) block)) turns old.leaves) told
+    (along (ap (λ n. each_member evaluator there (instances_chosen there.env chosen (statements_at (source_text old.evaluation.source.now) block)) mid.evaluation.turns n) (sym a.leaves)
+    ∙ ap (λ (x : Source). each_member evaluator there (instances_chosen there.env chosen (statements_at (source_text x) block)) mid.evaluation.turns mid.leaves) (sym a.source)
     ∙ ap (λ (xs : List InstanceTerm). each_member evaluator there xs mid.evaluation.turns mid.leaves) (sym same))
     (meets_at old.unit (evaluations_left old) there a.unit (ap (λ n. 512 - n) a.depth) refl h judge right))
 

@@ -8,11 +8,11 @@ use Rattle.scad_value.specs.declared.value.Value.TheOpen.{Number as NumberIn}
 use Rattle.scad_value.specs.declared.value.Value.TheFolds.{fold-roll-Value}
 use Rattle.scad_value.specs.Values.{Val, NumberVal, Vals}
 use Rattle.scad_value.specs.View.{val_of, value_step, values_step}
-use Rattle.scad_scope.specs.Arguments.{names_of}
+use Rattle.scad_arguments.specs.Arguments.{names_of}
 use Rattle.scad_scope.specs.Names.{Row}
-use Rattle.scad_scope.specs.Blocks.{Module, NumberedText, statements_of_body}
+use Rattle.scad_blocks.specs.Blocks.{Module, NumberedText, statements_of_body}
 use Rattle.scad_func.specs.Meaning.{Env, Within, no_call, opened, functions_standing_in, modules_standing_in, entered_scope, with_variable, with_values, paired}
-use Rattle.scad_func.specs.View.{seen, text_of}
+use Rattle.scad_func.specs.View.{seen, source_text}
 use Rattle.scad_func.specs.Definitions.{statements_at, block_scope, IsBlockOf, IsWhole}
 use Rattle.scad_func.specs.declared.source.Source.{Source}
 use Rattle.scad_meaning.specs.Bodies.{children_in}
@@ -39,11 +39,11 @@ module_inside text block children m call vs caller home a b c n whole inner oute
 
 -- the scope of a call, where what it depends on stays
 pub call_scope_same : (old new : Source) (before after : List Row) (block children caller home : ℕ) → new ≡ old → after ≡ before
-    → block_scope (text_of new) block (opened (statements_at (text_of new) children) (seen new after caller)) (seen new after home)
-    ≡ block_scope (text_of old) block (opened (statements_at (text_of old) children) (seen old before caller)) (seen old before home)
+    → block_scope (source_text new) block (opened (statements_at (source_text new) children) (seen new after caller)) (seen new after home)
+    ≡ block_scope (source_text old) block (opened (statements_at (source_text old) children) (seen old before caller)) (seen old before home)
 call_scope_same old new before after block children caller home source rows =
-    ap (λ (x : Source). block_scope (text_of x) block (opened (statements_at (text_of x) children) (seen x after caller)) (seen x after home)) source
-    ∙ ap (λ (l : List Row). block_scope (text_of old) block (opened (statements_at (text_of old) children) (seen old l caller)) (seen old l home)) rows
+    ap (λ (x : Source). block_scope (source_text x) block (opened (statements_at (source_text x) children) (seen x after caller)) (seen x after home)) source
+    ∙ ap (λ (l : List Row). block_scope (source_text old) block (opened (statements_at (source_text old) children) (seen old l caller)) (seen old l home)) rows
 
 -- a number in memory
 pub number_form : (n : ℤ) → val_of (Number n) ≡ NumberVal n

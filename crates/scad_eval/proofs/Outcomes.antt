@@ -10,7 +10,7 @@ use Rattle.scad_value.specs.View.{val_of, vals_in}
 use Rattle.scad_design.specs.Designs.{Design}
 use Rattle.scad_func.specs.Meaning.{Outcome, Gives, Faults, then_with, Arguments}
 use Rattle.scad_func.specs.View.{Tells, TellsAll, TellsArguments, IsNoMemory, arguments_of}
-use Rattle.scad_scope.specs.declared.parameters.GivenArguments.{GivenArguments}
+use Rattle.scad_arguments.specs.declared.parameters.GivenArguments.{GivenArguments}
 use Rattle.scad_pieces.specs.declared.position.MemberResults.{MemberResults}
 use Rattle.scad_meaning.specs.Meaning.{MemberDesigns, no_members, and_members, first_marked}
 use Rattle.scad_pieces.specs.Seen.{AgreesWith, HasOutcome, member_designs_of, IsLengthened, in_front}

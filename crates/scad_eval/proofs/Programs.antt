@@ -12,9 +12,9 @@ use Rattle.scad_ast.specs.Terms.{StatementTerm, StatementTerms, statements_from}
 use Rattle.scad_value.specs.Values.{Val}
 use Rattle.scad_scope.specs.Names.{Pairs, Row, env_of, first_row, first_chain}
 use Rattle.scad_scope.specs.Table.{rows_of, chain_of}
-use Rattle.scad_scope.specs.Blocks.{NumberedText, numbered_text}
+use Rattle.scad_blocks.specs.Blocks.{NumberedText, numbered_text}
 use Rattle.scad_func.specs.Meaning.{Outcome, Gives, then_with, Env, Within, Outermost, no_call, entered_scope}
-use Rattle.scad_func.specs.View.{seen, text_of}
+use Rattle.scad_func.specs.View.{seen, source_text}
 use Rattle.scad_func.specs.Definitions.{statements_at, block_scope, IsWhole}
 use Rattle.scad_func.specs.Evaluations.{ScopeEnters}
 use Rattle.scad_func.specs.declared.source.Source.{Source}
@@ -43,9 +43,9 @@ unfolding env_of
 first_env source rows e = ap (λ l. seen source l 0) e
 
 -- the scope of a program's block
-program_scope : (source : Source) (rows : List Row) (program : List StatementTerm) (env : Env) → IsWhole (text_of source)
-    → text_of source ≡ numbered_text program → rows ≡ first_row ∷ []
-    → env ≡ block_scope (text_of source) 0 no_call (seen source rows 0)
+program_scope : (source : Source) (rows : List Row) (program : List StatementTerm) (env : Env) → IsWhole (source_text source)
+    → source_text source ≡ numbered_text program → rows ≡ first_row ∷ []
+    → env ≡ block_scope (source_text source) 0 no_call (seen source rows 0)
     → env ≡ entered_scope (statements_from program) no_call (Within [] [] [] no_call Outermost)
 program_scope source rows program env whole text first is =
     is ∙ whole.scopes 0 no_call (seen source rows 0)
@@ -56,9 +56,9 @@ abbrev pub context_of : ℕ → Env → Pairs Val → Context
 context_of calls env chain = record { calls = 64 - calls; env = env; chain = chain; inside = None; under_mark = false }
 
 pub program_begins : {old new : Evaluation} {scope : ℕ} → ScopeEnters old new scope → (program : List StatementTerm)
-    → IsWhole (text_of old.source.now) → text_of old.source.now ≡ numbered_text program → rows_of old.scopes.now ≡ first_row ∷ []
+    → IsWhole (source_text old.source.now) → source_text old.source.now ≡ numbered_text program → rows_of old.scopes.now ≡ first_row ∷ []
     → chain_of old.scopes.now ≡ first_chain → old.calls ≡ 0
-    → seen new.source.now (rows_of new.scopes.now) scope ≡ block_scope (text_of old.source.now) 0 no_call (seen old.source.now (rows_of old.scopes.now) 0)
+    → seen new.source.now (rows_of new.scopes.now) scope ≡ block_scope (source_text old.source.now) 0 no_call (seen old.source.now (rows_of old.scopes.now) 0)
     → context_of new.calls (seen new.source.now (rows_of new.scopes.now) scope) (chain_of new.scopes.now) ≡ program_context first_chain (statements_from program)
 program_begins {old = old} {new = new} {scope = scope} e program whole text rows chain none is =
     ap (λ n. context_of n (seen new.source.now (rows_of new.scopes.now) scope) (chain_of new.scopes.now)) (e.calls ∙ none)
@@ -82,9 +82,9 @@ program_members {old = old} {s = s} statements h program here same depth turns l
     ∙ ap (λ n. block_members (evaluator_with old.unit judge 512) None (statements_from program) (program_context first_chain (statements_from program)) 0 n) leaves))
     (h.by judge right)
 
-pub program_statements : (old new : Source) (program : List StatementTerm) → new ≡ old → text_of old ≡ numbered_text program
-    → statements_at (text_of new) 0 ≡ statements_from program
-program_statements old new program same e = ap (λ (x : Source). statements_at (text_of x) 0) same ∙ ap (λ (t : NumberedText). statements_at t 0) e
+pub program_statements : (old new : Source) (program : List StatementTerm) → new ≡ old → source_text old ≡ numbered_text program
+    → statements_at (source_text new) 0 ≡ statements_from program
+program_statements old new program same e = ap (λ (x : Source). statements_at (source_text x) 0) same ∙ ap (λ (t : NumberedText). statements_at t 0) e
 
 -- the design
 module _ (unit : LengthUnit) (judge : Judge) (chain : Pairs Val) (statements : StatementTerms) where

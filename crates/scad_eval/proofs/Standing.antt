@@ -4,8 +4,8 @@ use Rattle.scad_ast.specs.StatementView.{body_of}
 use Rattle.scad_value.specs.Values.{Val}
 use Rattle.scad_scope.specs.Names.{Pairs, oldest}
 use Rattle.scad_scope.specs.Table.{rows_of, chain_of}
-use Rattle.scad_scope.specs.declared.text.Module.{Module}
-use Rattle.scad_func.specs.View.{text_of}
+use Rattle.scad_blocks.specs.declared.text.Module.{Module}
+use Rattle.scad_func.specs.View.{source_text}
 use Rattle.scad_func.specs.Definitions.{IsBlockOf, IsWhole}
 use Rattle.scad_func.specs.Evaluations.{scopes_there, SameSetting, ScopeEnters, CallBegins, EvaluationBegins, SpecialsBegin}
 use Rattle.scad_func.specs.declared.evaluation.Evaluation.{Evaluation}
@@ -23,7 +23,7 @@ module _ (old new : InstanceEvaluator) (unit : new.unit ≡ old.unit) (source : 
     (rows : rows_of new.evaluation.scopes.now ≡ rows_of old.evaluation.scopes.now) where
   pub position_still : {s : Position} → IsPosition old s → IsPosition new s
   position_still {s = s} h = record {
-    whole = subst (λ (x : Source). IsWhole (text_of x)) (sym source) h.whole;
+    whole = subst (λ (x : Source). IsWhole (source_text x)) (sym source) h.whole;
     scope = subst (λ l. s.scope < length l) (sym rows) h.scope;
     inside = checked_still old.unit new.unit s.inside unit h.inside;
   }
@@ -31,14 +31,14 @@ module _ (old new : InstanceEvaluator) (unit : new.unit ≡ old.unit) (source : 
   pub body_still : {s : Position} {b : NumberedBody} → IsBodyAt old s b → IsBodyAt new s b
   body_still {b = b} h = record {
     position = position_still h.position;
-    block = subst (λ (x : Source). IsInBlock (text_of x) b) (sym source) h.block;
+    block = subst (λ (x : Source). IsInBlock (source_text x) b) (sym source) h.block;
   }
 
   pub call_still : {s : Position} {defined : Module} {home : ℕ} {b : NumberedBody} → IsCallAt old s defined home b → IsCallAt new s defined home b
   call_still {defined = defined} {home = home} {b = b} h = record {
     position = position_still h.position;
-    block = subst (λ (x : Source). IsInBlock (text_of x) b) (sym source) h.block;
-    its_block = subst (λ (x : Source). IsBlockOf (text_of x) defined.block (body_of defined.body.now)) (sym source) h.its_block;
+    block = subst (λ (x : Source). IsInBlock (source_text x) b) (sym source) h.block;
+    its_block = subst (λ (x : Source). IsBlockOf (source_text x) defined.block (body_of defined.body.now)) (sym source) h.its_block;
     there = subst (λ l. home < length l) (sym rows) h.there;
   }
 
@@ -47,7 +47,7 @@ module _ (old new : InstanceEvaluator) (s : Position) {t : Position} {scope : �
     (e : ScopeEnters old.evaluation new.evaluation scope) (same : t ≡ record { scope = scope; inside = s.inside; under_mark = s.under_mark }) where
   pub entered_position : IsPosition old s → IsPosition new t
   entered_position h = subst (λ (x : Position). IsPosition new x) (sym same) (record {
-    whole = subst (λ (x : Source). IsWhole (text_of x)) (sym e.source) h.whole;
+    whole = subst (λ (x : Source). IsWhole (source_text x)) (sym e.source) h.whole;
     scope = omega (arith, e.there);
     inside = checked_still old.unit new.unit s.inside unit h.inside;
   })
@@ -55,7 +55,7 @@ module _ (old new : InstanceEvaluator) (s : Position) {t : Position} {scope : �
   pub entered_body : {b : NumberedBody} → IsBodyAt old s b → IsBodyAt new t b
   entered_body {b = b} h = record {
     position = entered_position h.position;
-    block = subst (λ (x : Source). IsInBlock (text_of x) b) (sym e.source) h.block;
+    block = subst (λ (x : Source). IsInBlock (source_text x) b) (sym e.source) h.block;
   }
 
 pub entered_newest : {old new : Evaluation} (s : Position) {t : Position} {scope : ℕ} → ScopeEnters old new scope
@@ -65,7 +65,7 @@ entered_newest s e same = ap (λ (x : Position). x.scope + 1) same ∙ sym e.the
 -- where names were assigned in the newest scope
 pub assigned_position : {old new : InstanceEvaluator} {scope : ℕ} {s : Position} → Assigns old new scope → IsPosition old s → IsPosition new s
 assigned_position {old = old} {new = new} {s = s} a h = record {
-  whole = subst (λ (x : Source). IsWhole (text_of x)) (sym a.source) h.whole;
+  whole = subst (λ (x : Source). IsWhole (source_text x)) (sym a.source) h.whole;
   scope = omega (arith, a.there, h.scope);
   inside = checked_still old.unit new.unit s.inside a.unit h.inside;
 }

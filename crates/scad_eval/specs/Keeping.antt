@@ -8,7 +8,7 @@ use Rattle.scad_value.specs.Values.{Val}
 use Rattle.scad_scope.specs.Names.{Pairs}
 use Rattle.scad_scope.specs.Table.{rows_of, chain_of}
 use Rattle.scad_func.specs.Meaning.{Outcome, Env, one_call_fewer, turn}
-use Rattle.scad_func.specs.View.{seen, text_of}
+use Rattle.scad_func.specs.View.{seen, source_text}
 use Rattle.scad_func.specs.Definitions.{IsWhole}
 use Rattle.scad_func.specs.Evaluations.{scopes_there, CallBegins, ScopeEnters}
 use Rattle.scad_func.specs.declared.evaluation.Evaluation.{Evaluation}
@@ -52,7 +52,7 @@ IsChecked unit (Some through) = IsThrough unit through
 
 -- a position whose scope is there, inside an extrusion with nothing wrong or inside none
 pub record IsPosition (m : InstanceEvaluator) (s : Position) : Type 0 where
-  pub whole : IsWhole (text_of m.evaluation.source.now)
+  pub whole : IsWhole (source_text m.evaluation.source.now)
   pub scope : s.scope < scopes_there m.evaluation
   pub inside : IsChecked m.unit s.inside
 

@@ -5,7 +5,7 @@ use Rattle.csg_tree.specs.declared.op.Op.TheVariants.{Union}
 use Rattle.scad_ast.specs.Terms.{BinderTerm, StatementTerms, BodyTerm}
 use Rattle.scad_value.specs.Values.{Val, Vals}
 use Rattle.scad_scope.specs.Names.{find_in}
-use Rattle.scad_scope.specs.Blocks.{Module, assignments_of, statements_of_body}
+use Rattle.scad_blocks.specs.Blocks.{Module, assignments_of, statements_of_body}
 use Rattle.scad_func.specs.Meaning.{Outcome, Gives, then_with, call_in, one_call_fewer, Env, Arguments, each_parameter}
 use Rattle.scad_modules.specs.declared.table.BuiltinModule.{BuiltinModule}
 use Rattle.scad_modules.specs.Effects.{ChosenCall}

@@ -5,12 +5,12 @@ use Rattle.scad_ast.specs.Terms.{BodyTerm}
 use Rattle.scad_value.specs.declared.value.Value.{Value}
 use Rattle.scad_value.specs.View.{vals_in}
 use Rattle.scad_builtin.specs.Builtins.{are_bounded}
-use Rattle.scad_scope.specs.Blocks.{NumberedText}
-use Rattle.scad_scope.specs.declared.text.Module.{Module}
-use Rattle.scad_scope.specs.declared.parameters.GivenArguments.{GivenArguments}
+use Rattle.scad_blocks.specs.Blocks.{NumberedText}
+use Rattle.scad_blocks.specs.declared.text.Module.{Module}
+use Rattle.scad_arguments.specs.declared.parameters.GivenArguments.{GivenArguments}
 use Rattle.scad_func.specs.Definitions.{IsBlockOf}
 use Rattle.scad_func.specs.Evaluations.{scopes_there}
-use Rattle.scad_func.specs.View.{text_of, arguments_of, arguments_bounded}
+use Rattle.scad_func.specs.View.{source_text, arguments_of, arguments_bounded}
 use Rattle.scad_pieces.specs.declared.position.NumberedBody.{NumberedBody}
 use Rattle.scad_pieces.specs.declared.position.Position.{Position}
 use Rattle.scad_eval.specs.declared.evaluator.InstanceEvaluator.{InstanceEvaluator}
@@ -26,13 +26,13 @@ IsInBlock text b = IsBlockOf text b.block (body_seen b)
 -- a position, and a body that is evaluated there and stands in its block
 pub record IsBodyAt (m : InstanceEvaluator) (s : Position) (b : NumberedBody) : Type 0 where
   pub position : IsPosition m s
-  pub block : IsInBlock (text_of m.evaluation.source.now) b
+  pub block : IsInBlock (source_text m.evaluation.source.now) b
 
 -- a call at a position: the call's body stands in its block, and the module's in its own, and the scope of the module is there
 pub record IsCallAt (m : InstanceEvaluator) (s : Position) (defined : Module) (home : ℕ) (body : NumberedBody) : Type 0 where
   pub position : IsPosition m s
-  pub block : IsInBlock (text_of m.evaluation.source.now) body
-  pub its_block : IsBlockOf (text_of m.evaluation.source.now) defined.block (body_of defined.body.now)
+  pub block : IsInBlock (source_text m.evaluation.source.now) body
+  pub its_block : IsBlockOf (source_text m.evaluation.source.now) defined.block (body_of defined.body.now)
   pub there : home < scopes_there m.evaluation
 
 -- what a call gives to a module: something or nothing to each of its parameters, each value bounded

@@ -1,10 +1,10 @@
 //! The assignments of a block.
 
 ghost use Rattle.std.specs.Prelude.{◌≡◌, ◌+◌, OnOk};
-ghost use Rattle.scad_scope.specs.Blocks.{assignments_of};
-ghost use Rattle.scad_scope.specs.TextView.{assigned_of};
+ghost use Rattle.scad_blocks.specs.Blocks.{assignments_of};
+ghost use Rattle.scad_blocks.specs.TextView.{assigned_of};
 ghost use Rattle.scad_func.specs.Meaning.{Gives, then_with};
-ghost use Rattle.scad_func.specs.View.{text_of};
+ghost use Rattle.scad_func.specs.View.{source_text};
 ghost use Rattle.scad_func.specs.Definitions.{statements_at};
 ghost use Rattle.scad_func.specs.Evaluations.{scopes_there};
 ghost use Rattle.scad_meaning.specs.Meaning.{assigned_value, assigned, each_assigned};
@@ -20,7 +20,7 @@ impl InstanceEvaluator<'_, '_> {
     pub(crate) fn assign_all(&mut self, position: Position, block: u32) -> Result<(), Stop>
         requires position { IsPosition self.old position }
         requires newest { position.scope + 1 ≡ scopes_there self.old.evaluation }
-        ensures assigned { let statements = statements_at (text_of self.old.evaluation.source.now) block in
+        ensures assigned { let statements = statements_at (source_text self.old.evaluation.source.now) block in
             Meets (λ leaves x. context_at self.new position) self.old self.new position result (λ evaluator here turns leaves. each_assigned evaluator.evaluations here (assignments_of statements) turns) }
         ensures assigns { OnOk result (Assigns self.old self.new position.scope) }
     {

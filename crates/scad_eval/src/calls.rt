@@ -4,7 +4,7 @@ ghost use Rattle.std.specs.Prelude.{OnOk};
 ghost use Rattle.scad_ast.specs.ExprView.{args_of};
 ghost use Rattle.scad_value.specs.Values.{vals_from};
 ghost use Rattle.scad_value.specs.View.{vals_in};
-ghost use Rattle.scad_scope.specs.TextView.{module_of};
+ghost use Rattle.scad_blocks.specs.TextView.{module_of};
 ghost use Rattle.scad_func.specs.Meaning.{module_in};
 ghost use Rattle.scad_func.specs.View.{arguments_of};
 ghost use Rattle.scad_meaning.specs.Meaning.{call_design, module_design};

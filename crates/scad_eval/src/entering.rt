@@ -3,8 +3,8 @@
 ghost use Rattle.std.specs.Prelude.{◌≡◌, IfOk, IfErr, OnOk};
 ghost use Rattle.scad_value.specs.Values.{vals_from};
 ghost use Rattle.scad_value.specs.View.{vals_in};
-ghost use Rattle.scad_scope.specs.Blocks.{statements_of_body};
-ghost use Rattle.scad_scope.specs.TextView.{module_of};
+ghost use Rattle.scad_blocks.specs.Blocks.{statements_of_body};
+ghost use Rattle.scad_blocks.specs.TextView.{module_of};
 ghost use Rattle.scad_meaning.specs.Meaning.{module_scope};
 ghost use Rattle.scad_eval.specs.Keeping.{env_at, Enters, CountsCall, StopsBefore};
 ghost use Rattle.scad_eval.specs.Within.{body_seen, IsCallAt, AreValuesOf};

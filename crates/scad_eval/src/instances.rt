@@ -5,7 +5,7 @@ ghost use Rattle.csg_tree.specs.declared.op.Op.TheVariants.{Union};
 ghost use Rattle.scad_ast.specs.ExprView.{term_of};
 ghost use Rattle.scad_value.specs.Values.{truth_of};
 ghost use Rattle.scad_func.specs.Meaning.{Gives, then_with, value_at};
-ghost use Rattle.scad_func.specs.View.{text_of};
+ghost use Rattle.scad_func.specs.View.{source_text};
 ghost use Rattle.scad_meaning.specs.Meaning.{setting, body_design, no_design, each_member, core_of, core_design, instance_design};
 ghost use Rattle.scad_pieces.specs.Positions.{term_of_numbered, HasBlocks};
 ghost use Rattle.scad_pieces.specs.Seen.{instance_design_of, member_designs_of};
@@ -31,7 +31,7 @@ impl InstanceEvaluator<'_, '_> {
         instance: NumberedInstance<'_>,
     ) -> Result<InstanceResult, Stop>
         requires position { IsPosition self.old position }
-        requires blocks { HasBlocks (text_of self.old.evaluation.source.now) instance }
+        requires blocks { HasBlocks (source_text self.old.evaluation.source.now) instance }
         ensures made { Meets instance_design_of self.old self.new position result (λ evaluator here. evaluator.deeper here (term_of_numbered instance.entry)) }
         ensures stays { OnOk result (Stays self.old self.new) }
     {
@@ -50,7 +50,7 @@ impl InstanceEvaluator<'_, '_> {
         instance: NumberedInstance<'_>,
     ) -> Result<InstanceResult, Stop>
         requires position { IsPosition self.old position }
-        requires blocks { HasBlocks (text_of self.old.evaluation.source.now) instance }
+        requires blocks { HasBlocks (source_text self.old.evaluation.source.now) instance }
         ensures made { Meets instance_design_of self.old self.new position result (λ evaluator here. instance_design evaluator here (term_of_numbered instance.entry)) }
         ensures stays { OnOk result (Stays self.old self.new) }
     {
@@ -75,7 +75,7 @@ impl InstanceEvaluator<'_, '_> {
         instance: NumberedInstance<'_>,
     ) -> Result<InstanceResult, Stop>
         requires position { IsPosition self.old position }
-        requires blocks { HasBlocks (text_of self.old.evaluation.source.now) instance }
+        requires blocks { HasBlocks (source_text self.old.evaluation.source.now) instance }
         ensures made { Meets instance_design_of self.old self.new position result (λ evaluator here. core_design evaluator here (core_of (term_of_numbered instance.entry))) }
         ensures stays { OnOk result (Stays self.old self.new) }
     {
@@ -145,7 +145,7 @@ impl InstanceEvaluator<'_, '_> {
         other: NumberedBody<'_>,
     ) -> Result<InstanceResult, Stop>
         requires stands { IsBodyAt self.old position body }
-        requires other { IsInBlock (text_of self.old.evaluation.source.now) other }
+        requires other { IsInBlock (source_text self.old.evaluation.source.now) other }
         ensures made { Meets instance_design_of self.old self.new position result (λ evaluator here turns leaves. then_with (value_at (setting evaluator.evaluations here) true (term_of test.now) turns) (λ turns v.
             body_design evaluator Union here (if truth_of v then body_seen body.entry else body_seen other.entry) turns leaves)) }
         ensures stays { OnOk result (Stays self.old self.new) }
@@ -165,7 +165,7 @@ impl InstanceEvaluator<'_, '_> {
         instances: &[NumberedInstance<'_>],
     ) -> Result<MemberResults, Stop>
         requires position { IsPosition self.old position }
-        requires blocks { All (HasBlocks (text_of self.old.evaluation.source.now)) instances.now }
+        requires blocks { All (HasBlocks (source_text self.old.evaluation.source.now)) instances.now }
         ensures members { Meets member_designs_of self.old self.new position result (λ evaluator here. each_member evaluator here (map term_of_numbered instances.now)) }
         ensures stays { OnOk result (Stays self.old self.new) }
     {

@@ -5,7 +5,7 @@ ghost use Rattle.csg_tree.specs.ProperTrees.{IsProper};
 ghost use Rattle.csg_tree.specs.Trees.{formula_of};
 ghost use Rattle.scad_ast.specs.Terms.{StatementTerm};
 ghost use Rattle.scad_ast.specs.ProgramView.{program_of};
-ghost use Rattle.scad_func.specs.View.{IsTextOf, text_of};
+ghost use Rattle.scad_func.specs.View.{IsTextOf, source_text};
 ghost use Rattle.scad_func.specs.Definitions.{IsWhole};
 ghost use Rattle.scad_design.specs.View.{plain_of};
 ghost use Rattle.scad_meaning.specs.Meaning.{or_all};
@@ -46,7 +46,7 @@ fn design_of(
     unit: Unit,
 ) -> Result<Design, Stop>
     requires table { IsFirstTable scopes.old }
-    requires whole { IsWhole (text_of source.now) }
+    requires whole { IsWhole (source_text source.now) }
     ensures { (program : List StatementTerm) → IsTextOf source.now program → TellsDesign unit program result }
 {
     let mut evaluator = InstanceEvaluator {

@@ -1,7 +1,7 @@
 //! Bodies, in scopes of their own.
 
 ghost use Rattle.std.specs.Prelude.{◌≡◌, ◌+◌, OnOk};
-ghost use Rattle.scad_func.specs.View.{text_of};
+ghost use Rattle.scad_func.specs.View.{source_text};
 ghost use Rattle.scad_func.specs.Definitions.{statements_at};
 ghost use Rattle.scad_func.specs.Evaluations.{scopes_there};
 ghost use Rattle.scad_meaning.specs.Meaning.{body_design};
@@ -50,7 +50,7 @@ impl InstanceEvaluator<'_, '_> {
         requires position { IsPosition self.old position }
         requires newest { position.scope + 1 ≡ scopes_there self.old.evaluation }
         requires safe { IsSafeChosen chosen }
-        ensures members { let statements = statements_at (text_of self.old.evaluation.source.now) block in
+        ensures members { let statements = statements_at (source_text self.old.evaluation.source.now) block in
             Meets member_designs_of self.old self.new position result (λ evaluator. block_members evaluator (chosen_seen chosen.entry) statements) }
         ensures binds { OnOk result (Binds self.old self.new position.scope) }
     {

@@ -4,11 +4,11 @@ use Rattle.std.specs.List.{Contains}
 use Rattle.std.proofs.lemmas.List.{length-map}
 use Rattle.scad_ast.specs.Terms.{BodyTerm, EmptyBody, BlockBody, InstanceBody}
 use Rattle.scad_ast.specs.StatementView.{body_of}
-use Rattle.scad_scope.specs.Blocks.{NumberedText, StandAt, marks_of_body}
-use Rattle.scad_scope.specs.TextView.{module_of, block_of_module}
-use Rattle.scad_scope.specs.Tables.{text_held}
-use Rattle.scad_scope.specs.declared.blocks.Blocks.{Blocks}
-use Rattle.scad_scope.specs.declared.text.Module.{Module as ModuleLent}
+use Rattle.scad_blocks.specs.Blocks.{NumberedText, StandAt, marks_of_body}
+use Rattle.scad_blocks.specs.TextView.{module_of, block_of_module}
+use Rattle.scad_blocks.specs.Tables.{text_held}
+use Rattle.scad_blocks.specs.declared.blocks.Blocks.{Blocks}
+use Rattle.scad_blocks.specs.declared.text.Module.{Module as ModuleLent}
 use Rattle.scad_func.specs.Definitions.{IsBlockOf, IsWhole}
 
 body_there : (text : NumberedText) (n : ℕ) (b : BodyTerm) → StandAt text n (marks_of_body b) → IsBlockOf text n b

@@ -6,7 +6,7 @@ use Rattle.text_place.specs.declared.fault.FaultKind.TheVariants.{BadArgument}
 use Rattle.scad_ast.specs.Terms.{Term, ArgTerm, NamedTerm, SpecialArgTerm, PositionalTerm, args_from, place_of}
 use Rattle.scad_value.specs.Values.{Val}
 use Rattle.scad_scope.specs.Names.{Pairs, find_in}
-use Rattle.scad_scope.specs.Arguments.{Given, Taker, nothing_given, to_parameter, to_special, unless_filled, taken_by, taker_of, with_argument, or_place, argument_place, matched, only_slots}
+use Rattle.scad_arguments.specs.Arguments.{Given, Taker, nothing_given, to_parameter, to_special, unless_filled, taken_by, taker_of, with_argument, or_place, argument_place, matched, only_slots}
 use Rattle.scad_func.specs.Meaning.{Outcome, Gives, Faults, then_with, or_fault, Setting, value_at, Arguments, each_argument}
 use Rattle.scad_func.specs.View.{IsFilledAs}
 

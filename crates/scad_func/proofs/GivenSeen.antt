@@ -8,11 +8,11 @@ use Rattle.scad_value.specs.declared.value.Value.{Value}
 use Rattle.scad_value.specs.Values.{Val}
 use Rattle.scad_value.specs.View.{val_of}
 use Rattle.scad_scope.specs.Names.{Pairs, find_in}
-use Rattle.scad_scope.specs.Arguments.{Given, Taker, to_parameter, to_special, nothing_given, taker_of, with_argument}
-use Rattle.scad_scope.specs.ArgumentsView.{special_pair, special_pairs, given_of, taker_seen, IsGiven}
-use Rattle.scad_scope.specs.declared.parameters.SpecialArgument.{SpecialArgument}
-use Rattle.scad_scope.specs.declared.parameters.GivenArguments.{GivenArguments}
-use Rattle.scad_scope.specs.declared.parameters.Destination.{Destination}
+use Rattle.scad_arguments.specs.Arguments.{Given, Taker, to_parameter, to_special, nothing_given, taker_of, with_argument}
+use Rattle.scad_arguments.specs.ArgumentsView.{special_pair, special_pairs, given_of, taker_seen, IsGiven}
+use Rattle.scad_arguments.specs.declared.parameters.SpecialArgument.{SpecialArgument}
+use Rattle.scad_arguments.specs.declared.parameters.GivenArguments.{GivenArguments}
+use Rattle.scad_arguments.specs.declared.parameters.Destination.{Destination}
 use Rattle.scad_func.specs.Meaning.{Arguments}
 use Rattle.scad_func.proofs.FilledAlike.{names_given, Alike, found_alike, taker_alike}
 use Rattle.scad_func.specs.View.{special_of, specials_in, slot_of, slots_in, arguments_of}

@@ -11,17 +11,17 @@ use Rattle.scad_value.specs.declared.bounded_value.BoundedValue.{BoundedValue}
 use Rattle.scad_value.specs.BoundedView.{bounded_val}
 use Rattle.scad_ast.specs.Terms.{ArgTerms, ArgTerm}
 use Rattle.std.proofs.lemmas.Bool.{and_parts, and_from}
-use Rattle.scad_scope.specs.Arguments.{positional_after, Taker, to_parameter, to_special, taker_of, with_argument}
+use Rattle.scad_arguments.specs.Arguments.{positional_after, Taker, to_parameter, to_special, taker_of, with_argument}
 use Rattle.scad_func.specs.Meaning.{Outcome, Gives, Faults, Setting, value_at, then_with, Arguments, each_argument}
 use Rattle.text_place.specs.declared.fault.Place.{Place}
 use Rattle.text_place.specs.declared.fault.FaultKind.TheVariants.{BadArgument}
-use Rattle.scad_scope.specs.ArgumentsView.{IsFault}
+use Rattle.scad_arguments.specs.ArgumentsView.{IsFaultAt}
 use Rattle.scad_func.specs.Steps.{argument_of}
 use Rattle.scad_func.specs.declared.values.BoundedValues.{BoundedValues}
 use Rattle.scad_func.specs.View.{Tells, TellsAs, TellsArguments, IsOneMore, values_seen, arguments_of, arguments_bounded}
 use Rattle.scad_answer.specs.View.{IsAlone}
 use Rattle.scad_func.proofs.GivenSeen.{IsHeld}
-use Rattle.scad_scope.specs.declared.parameters.GivenArguments.{GivenArguments}
+use Rattle.scad_arguments.specs.declared.parameters.GivenArguments.{GivenArguments}
 use Rattle.scad_func.proofs.Calls.{in_front}
 use Rattle.scad_func.specs.declared.evaluation.Evaluation.{Evaluation}
 use Rattle.scad_func.specs.Evaluations.{Keeps, EvaluatesTo, setting}
@@ -132,7 +132,7 @@ argument_stops here names positional start args before turns b a rest taker m n 
 
 -- an argument that nothing takes
 pub argument_refused : (stop : Stop) (n : ℕ) (at : Place) (out : Outcome Arguments) → out ≡ Faults BadArgument at
-    → IsFault stop BadArgument at → TellsArguments (Err stop) n out
+    → IsFaultAt stop BadArgument at → TellsArguments (Err stop) n out
 argument_refused (Fault fault) n at out e h = e ∙ ap (λ k. Faults k at) (sym h.0) ∙ ap (Faults fault.kind) (sym h.1)
 argument_refused NoMemory n at out e h = absurd h
 

@@ -9,8 +9,8 @@ use Rattle.scad_value.specs.BoundedView.{bounded_val}
 use Rattle.scad_value.specs.Operators.{Answer}
 use Rattle.scad_scope.specs.Names.{Pairs, Row}
 use Rattle.scad_scope.specs.Table.{rows_of, chain_of}
-use Rattle.scad_scope.specs.Arguments.{names_of, nothing_given}
-use Rattle.scad_scope.specs.Blocks.{Function}
+use Rattle.scad_arguments.specs.Arguments.{names_of, nothing_given}
+use Rattle.scad_blocks.specs.Blocks.{Function}
 use Rattle.scad_func.specs.Meaning.{Outcome, Setting, answered, evaluated, each_argument, function_called, called, function_in, then_with}
 use Rattle.scad_func.specs.declared.source.Source.{Source}
 use Rattle.scad_func.specs.declared.evaluation.Evaluation.{Evaluation}

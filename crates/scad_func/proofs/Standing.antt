@@ -3,7 +3,7 @@ use Rattle.std.proofs.Common.{◌≡◌, ℕ, zero, suc, ◌+◌, ◌<◌, List,
 use Rattle.std.proofs.lemmas.List.{reverse-append}
 use Rattle.scad_ast.specs.Terms.{StatementTerm, EmptyStatement, BlockStatement, AssignmentTerm, SpecialAssignmentTerm, ModuleTerm, FunctionTerm, InstanceStatement, StatementTerms, no_statements, and_statement, InstanceTerm, AnInstance, CoreTerm, IfTerm, IfElseTerm, ForTerm, IntersectionForTerm, ModuleCallTerm, BodyTerm, EmptyBody, BlockBody, InstanceBody, statements_from}
 use Rattle.scad_scope.specs.Names.{Pairs}
-use Rattle.scad_scope.specs.Blocks.{Function, Module, Mark, a_block, a_function, a_module, marks_of, marks_in, marks_of_instance, marks_of_core, marks_of_body, marks_of_program, functions_among, modules_among, count_functions, count_modules, own_functions, own_function, own_modules, own_module, Entry, nothing_there, entries_from, numbered_text, NumberedText, assignments_of, count_blocks, StandsInOrder}
+use Rattle.scad_blocks.specs.Blocks.{Function, Module, Mark, a_block, a_function, a_module, marks_of, marks_in, marks_of_instance, marks_of_core, marks_of_body, marks_of_program, functions_among, modules_among, count_functions, count_modules, own_functions, own_function, own_modules, own_module, Entry, nothing_there, entries_from, numbered_text, NumberedText, assignments_of, count_blocks, StandsInOrder}
 use Rattle.scad_func.specs.Meaning.{Env, Within, Opened, functions_standing_in, function_standing, modules_standing_in, module_standing, entered_scope}
 use Rattle.scad_func.specs.Definitions.{numbered, named, resolved, statements_at, block_scope, IsWhole}
 

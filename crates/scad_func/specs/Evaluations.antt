@@ -7,8 +7,8 @@ use Rattle.scad_value.specs.declared.value.Value.{Value}
 use Rattle.scad_value.specs.View.{vals_in}
 use Rattle.scad_ast.specs.declared.statement.Param.{Param}
 use Rattle.scad_builtin.specs.Builtins.{are_bounded}
-use Rattle.scad_scope.specs.declared.parameters.GivenArguments.{GivenArguments}
-use Rattle.scad_scope.specs.declared.text.Function.{Function as FunctionLent}
+use Rattle.scad_arguments.specs.declared.parameters.GivenArguments.{GivenArguments}
+use Rattle.scad_blocks.specs.declared.text.Function.{Function as FunctionLent}
 use Rattle.scad_func.specs.Meaning.{Outcome, Setting, evaluated}
 use Rattle.scad_func.specs.View.{TellsAs, seen, deepest, function_size, slots_in, slots_bounded, arguments_of, arguments_bounded}
 use Rattle.scad_func.specs.declared.source.Source.{Source}

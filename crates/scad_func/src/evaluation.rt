@@ -1,7 +1,7 @@
 ghost use Rattle.std.specs.Prelude.{◌≤◌, length, IsTrue};
 ghost use Rattle.scad_scope.specs.Numbered.{modules_below};
 ghost use Rattle.scad_scope.specs.Table.{rows_of};
-ghost use Rattle.scad_func.specs.View.{IsNumbered, text_of};
+ghost use Rattle.scad_func.specs.View.{IsNumbered, source_text};
 
 use crate::source::Source;
 use scad_scope::Scopes;
@@ -21,7 +21,7 @@ pub struct Evaluation<'a, 's> {
     /// Turns so far.
     pub turns: u64,
     ghost numbered: { IsNumbered source.now (rows_of scopes.now) },
-    ghost modules: { IsTrue (modules_below (length (text_of source.now).modules) (rows_of scopes.now)) },
+    ghost modules: { IsTrue (modules_below (length (source_text source.now).modules) (rows_of scopes.now)) },
     ghost few_calls: { calls ≤ 64 },
     ghost shallow: { depth ≤ 512 },
     ghost few_turns: { turns ≤ 100000 },

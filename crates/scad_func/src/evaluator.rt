@@ -8,12 +8,12 @@ ghost use Rattle.scad_value.specs.View.{vals_in};
 ghost use Rattle.scad_value.specs.BoundedView.{bounded_val};
 ghost use Rattle.scad_scope.specs.Names.{env_of};
 ghost use Rattle.scad_scope.specs.Table.{rows_of};
-ghost use Rattle.scad_scope.specs.Arguments.{nothing_given};
-ghost use Rattle.scad_scope.specs.ArgumentsView.{names_in};
+ghost use Rattle.scad_arguments.specs.Arguments.{nothing_given};
+ghost use Rattle.scad_arguments.specs.ArgumentsView.{names_in};
 ghost use Rattle.scad_func.specs.Meaning.{Outcome, Gives, one_call_fewer, turn, then_with, answered, value_at, operand as operand_at, each_value as values_at, each_argument as arguments_at, each_parameter as parameters_at, parameter_value, function_value as function_value_at, function_called, each_suffix, each_link, called, function_in, counted as counted_at};
 ghost use Rattle.scad_answer.specs.Answers.{range_of, stepped_range_of};
 ghost use Rattle.scad_func.specs.Steps.{all_values, suffixed, linked, with_parameters};
-ghost use Rattle.scad_scope.specs.TextView.{function_of};
+ghost use Rattle.scad_blocks.specs.TextView.{function_of};
 ghost use Rattle.scad_func.specs.View.{Tells, TellsAs, TellsAll, TellsArguments, values_seen, indexed_val, IsThere, slot_of, slots_in, slots_bounded, slot_is_bounded, arguments_of};
 ghost use Rattle.scad_func.specs.Evaluations.{Keeps, EvaluatesTo, SlotsFit, ValuesFit, ArgumentsFit, CallFits, scopes_there, setting};
 

@@ -1,7 +1,7 @@
 ghost use Rattle.std.specs.Prelude.{◌≡◌, ℕ, List, length};
 ghost use Rattle.scad_ast.specs.Terms.{StatementTerm, ArgTerm, args_from};
-ghost use Rattle.scad_scope.specs.Arguments.{matching_of, nothing_given};
-ghost use Rattle.scad_scope.specs.Blocks.{numbered_text};
+ghost use Rattle.scad_arguments.specs.Arguments.{matching_of, nothing_given};
+ghost use Rattle.scad_blocks.specs.Blocks.{numbered_text};
 ghost use Rattle.scad_func.specs.Meaning.{Env, Opened, Setting, Gives, Arguments, entered_scope, each_argument};
 ghost use Rattle.scad_func.specs.Definitions.{statements_at, block_scope};
 ghost use Rattle.scad_func.specs.View.{IsFilledAs};

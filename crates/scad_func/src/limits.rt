@@ -1,6 +1,6 @@
 ghost use Rattle.std.specs.Prelude.{◌≡◌, ◌+◌, ◌<◌, ◌≤◌, length, IsTrue, IfErr, OnOk};
 ghost use Rattle.text_place.specs.declared.fault.FaultKind.TheVariants.{TooDeep, TooManyTurns};
-ghost use Rattle.scad_scope.specs.ArgumentsView.{IsFault};
+ghost use Rattle.scad_arguments.specs.ArgumentsView.{IsFaultAt};
 ghost use Rattle.scad_func.specs.Evaluations.{Keeps, CallBegins, EvaluationBegins};
 
 use crate::evaluation::Evaluation;
@@ -19,7 +19,7 @@ impl Evaluation<'_, '_> {
     /// One turn more. TooManyTurns at its place where it is the 100,001st.
     pub fn turn(&mut self, place: Place) -> Result<(), Stop>
         ensures counted { OnOk result ((self.old.turns < 100000) × (self.new.turns ≡ self.old.turns + 1)) }
-        ensures refused { IfErr result (λ stop. (self.old.turns ≡ 100000) × IsFault stop TooManyTurns place) }
+        ensures refused { IfErr result (λ stop. (self.old.turns ≡ 100000) × IsFaultAt stop TooManyTurns place) }
         ensures kept { Keeps self.old self.new }
     {
         if self.turns == TURNS {
@@ -32,7 +32,7 @@ impl Evaluation<'_, '_> {
     /// One call deeper. TooDeep at its place where it is the 65th in one another.
     pub fn begin_call(&mut self, place: Place) -> Result<(), Stop>
         ensures begun { OnOk result (CallBegins self.old self.new) }
-        ensures refused { IfErr result (λ stop. (self.old.calls ≡ 64) × IsFault stop TooDeep place) }
+        ensures refused { IfErr result (λ stop. (self.old.calls ≡ 64) × IsFaultAt stop TooDeep place) }
         ensures turns { self.new.turns ≡ self.old.turns }
     {
         if self.calls == CALLS {
@@ -54,7 +54,7 @@ impl Evaluation<'_, '_> {
     /// One evaluation deeper. TooDeep at its place where it is the 513th in one another.
     pub fn begin_evaluation(&mut self, place: Place) -> Result<(), Stop>
         ensures begun { OnOk result (EvaluationBegins self.old self.new) }
-        ensures refused { IfErr result (λ stop. (self.old.depth ≡ 512) × IsFault stop TooDeep place) }
+        ensures refused { IfErr result (λ stop. (self.old.depth ≡ 512) × IsFaultAt stop TooDeep place) }
         ensures turns { self.new.turns ≡ self.old.turns }
     {
         if self.depth == EVALUATIONS {

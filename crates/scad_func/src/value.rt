@@ -3,11 +3,11 @@ ghost use Rattle.scad_ast.specs.ExprView.{term_of};
 ghost use Rattle.scad_ast.specs.ProgramView.{program_of};
 ghost use Rattle.scad_scope.specs.Names.{env_of};
 ghost use Rattle.scad_scope.specs.Numbered.{functions_below, modules_below};
-ghost use Rattle.scad_scope.specs.Blocks.{functions_of_program, modules_of_program, numbered_text};
+ghost use Rattle.scad_blocks.specs.Blocks.{functions_of_program, modules_of_program, numbered_text};
 ghost use Rattle.scad_scope.specs.Table.{rows_of, chain_of};
 ghost use Rattle.scad_func.specs.Meaning.{evaluated};
 ghost use Rattle.scad_func.specs.Definitions.{env_in};
-ghost use Rattle.scad_func.specs.View.{Tells, IsNumbered, seen, text_of};
+ghost use Rattle.scad_func.specs.View.{Tells, IsNumbered, seen, source_text};
 
 use crate::evaluation::Evaluation;
 use crate::meter::Meter;
@@ -34,7 +34,7 @@ pub fn value_in(
 ) -> Result<Value, Stop>
     requires scope { scope < length (rows_of scopes.old) }
     requires numbered { IsNumbered source.now (rows_of scopes.old) }
-    requires modules { IsTrue (modules_below (length (text_of source.now).modules) (rows_of scopes.old)) }
+    requires modules { IsTrue (modules_below (length (source_text source.now).modules) (rows_of scopes.old)) }
     ensures value { Tells result meter.new.turns (evaluated (512 - meter.old.depth) true (64 - meter.old.calls)
         (seen source.now (rows_of scopes.old) scope) (chain_of scopes.old) (term_of expr.now) meter.old.turns) }
     ensures scopes { rows_of scopes.new ≡ rows_of scopes.old }

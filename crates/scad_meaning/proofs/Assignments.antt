@@ -7,7 +7,7 @@ use Rattle.std.specs.Str.{bytes_eq}
 use Rattle.std.proofs.lemmas.Slice.Eq.{bytes_eq-Decides}
 use Rattle.std.proofs.lemmas.Bool.{false≢true}
 use Rattle.scad_ast.specs.Terms.{StatementTerms}
-use Rattle.scad_scope.specs.Blocks.{Assigned, same_name, with_assigned, all_assigned, assigned_in, assignments_of}
+use Rattle.scad_blocks.specs.Blocks.{Assigned, same_name, with_assigned, all_assigned, assigned_in, assignments_of}
 use Rattle.scad_meaning.specs.Bodies.{is_named_in, first_of, or_later, last_of, StandsForAll, HaveOwnNames}
 
 either : (b : Bool) → (b ≡ true) ⊎ (b ≡ false)

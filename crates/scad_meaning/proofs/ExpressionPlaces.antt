@@ -8,8 +8,8 @@ use Rattle.scad_ast.specs.Places.{places_of_term, places_of_terms, places_of_arg
 use Rattle.scad_value.specs.Values.{Val, NumberVal, TruthVal, TextVal, ListVal, RangeVal, UndefVal, parts_of, truth_of}
 use Rattle.scad_value.specs.Operators.{binary_of, unary_of, index_of, made}
 use Rattle.scad_scope.specs.Names.{Pairs, find_in}
-use Rattle.scad_scope.specs.Arguments.{names_of, nothing_given, taker_of, with_argument}
-use Rattle.scad_scope.specs.Blocks.{Function}
+use Rattle.scad_arguments.specs.Arguments.{names_of, nothing_given, taker_of, with_argument}
+use Rattle.scad_blocks.specs.Blocks.{Function}
 use Rattle.scad_builtin.specs.declared.function.Builtin.{Builtin}
 use Rattle.scad_builtin.specs.Builtins.{builtin_of, takes, applied}
 use Rattle.scad_func.specs.Meaning.{Outcome, Gives, Faults, then_with, answered, Env, Within, no_call, variable_in, function_in, counted, Evaluates, Setting, value_at, with_calls, in_scope, with_specials, each_value, with_front, only_values, count_of_terms, Slots, Arguments, each_argument, parameter_value, each_parameter, paired, function_value, function_called, built_in, called, operand, each_suffix, each_link, settled, evaluated}

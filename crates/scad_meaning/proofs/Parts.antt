@@ -17,8 +17,8 @@ use Rattle.scad_ast.specs.Terms.{BinderTerm, StatementTerms, InstanceTerm, CoreT
 use Rattle.scad_value.specs.Values.{Val, Vals, no_vals, and_val, truth_of}
 use Rattle.scad_value.specs.Operators.{Answer}
 use Rattle.scad_scope.specs.Names.{Pairs, find_in}
-use Rattle.scad_scope.specs.Arguments.{names_of, nothing_given}
-use Rattle.scad_scope.specs.Blocks.{Module, assignments_of, statements_of_body}
+use Rattle.scad_arguments.specs.Arguments.{names_of, nothing_given}
+use Rattle.scad_blocks.specs.Blocks.{Module, assignments_of, statements_of_body}
 use Rattle.scad_func.specs.Meaning.{Outcome, Gives, Faults, then_with, or_fault, Env, Opened, no_call, opened, module_in, call_in, entered_scope, turn, one_call_fewer, value_at, Arguments, each_argument, each_parameter}
 use Rattle.scad_modules.specs.declared.table.BuiltinModule.{BuiltinModule}
 use Rattle.scad_modules.specs.Table.{module_named}

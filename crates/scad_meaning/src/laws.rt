@@ -6,7 +6,7 @@ ghost use Rattle.text_place.specs.declared.fault.Place.{Place};
 ghost use Rattle.text_place.specs.declared.fault.FaultKind.{FaultKind};
 ghost use Rattle.scad_ast.specs.Terms.{StatementTerm, StatementTerms};
 ghost use Rattle.scad_ast.specs.Places.{HoldsPlace};
-ghost use Rattle.scad_scope.specs.Blocks.{assigned_in, assignments_of};
+ghost use Rattle.scad_blocks.specs.Blocks.{assigned_in, assignments_of};
 ghost use Rattle.scad_meaning.specs.Bodies.{StandsForAll, HaveOwnNames, is_named_in};
 ghost use Rattle.plane_predicate.specs.declared.unit.Unit.{Unit as LengthUnit};
 ghost use Rattle.plane_predicate.specs.Space.{Coordinates};

@@ -8,9 +8,9 @@ use Rattle.std.proofs.lemmas.List.{length-map, take_all}
 use Rattle.std.proofs.lemmas.List.Elements.{All-filter}
 use Rattle.scad_ast.specs.Terms.{StatementTerms, InstanceTerm}
 use Rattle.scad_modules.specs.Effects.{ChosenCall}
-use Rattle.scad_scope.specs.Blocks.{NumberedText}
+use Rattle.scad_blocks.specs.Blocks.{NumberedText}
 use Rattle.scad_func.specs.Meaning.{Env, no_call, entered_scope}
-use Rattle.scad_func.specs.View.{text_of}
+use Rattle.scad_func.specs.View.{source_text}
 use Rattle.scad_func.specs.Definitions.{statements_at, block_scope, IsWhole}
 use Rattle.scad_func.specs.declared.source.Source.{Source}
 use Rattle.scad_pieces.specs.declared.numbered.NumberedInstance.{NumberedInstance}
@@ -63,10 +63,10 @@ module _ {E : Type 0} (r : Result (Vec NumberedInstance Global) E) (children : L
       go (Err stop) h = tt
 
 -- how many children there are
-pub children_counted : (old new : Source) (block : ℕ) (env inner : Env) (found : List NumberedInstance) → IsWhole (text_of old) → new ≡ old
-    → inner ≡ block_scope (text_of old) block no_call env → map term_of_numbered found ≡ children_in inner (statements_at (text_of new) block)
-    → length found ≡ length (children_in (entered_scope (statements_at (text_of old) block) no_call env) (statements_at (text_of old) block))
+pub children_counted : (old new : Source) (block : ℕ) (env inner : Env) (found : List NumberedInstance) → IsWhole (source_text old) → new ≡ old
+    → inner ≡ block_scope (source_text old) block no_call env → map term_of_numbered found ≡ children_in inner (statements_at (source_text new) block)
+    → length found ≡ length (children_in (entered_scope (statements_at (source_text old) block) no_call env) (statements_at (source_text old) block))
 children_counted old new block env inner found whole same is e =
     sym (length-map found term_of_numbered) ∙ ap length e
-    ∙ ap (λ (x : Source). length (children_in inner (statements_at (text_of x) block))) same
-    ∙ ap (λ (x : Env). length (children_in x (statements_at (text_of old) block))) (is ∙ whole.scopes block no_call env)
+    ∙ ap (λ (x : Source). length (children_in inner (statements_at (source_text x) block))) same
+    ∙ ap (λ (x : Env). length (children_in x (statements_at (source_text old) block))) (is ∙ whole.scopes block no_call env)

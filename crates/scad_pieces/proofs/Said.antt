@@ -14,10 +14,10 @@ use Rattle.scad_ast.specs.Terms.{Term, ArgTerm, SpecialArgTerm, SuffixTerm, Link
 use Rattle.scad_ast.specs.ExprView.{Form, term_of, arg_of, arg_step, expr_step, suffix_step, args_step, call_step, chain_step, choice_step, exprs_step, link_step, links_step, postfix_step, range_step, stepped_range_step, suffixes_step}
 use Rattle.scad_value.specs.declared.value.Value.{Value}
 use Rattle.scad_value.specs.Values.{Val}
-use Rattle.scad_scope.specs.Arguments.{Taker, taker_of, argument_place, with_argument}
-use Rattle.scad_scope.specs.ArgumentsView.{given_of, taker_seen, IsFault, IsGiven}
-use Rattle.scad_scope.specs.declared.parameters.Destination.{Destination}
-use Rattle.scad_scope.specs.declared.parameters.GivenArguments.{GivenArguments}
+use Rattle.scad_arguments.specs.Arguments.{Taker, taker_of, argument_place, with_argument}
+use Rattle.scad_arguments.specs.ArgumentsView.{given_of, taker_seen, IsFaultAt, IsGiven}
+use Rattle.scad_arguments.specs.declared.parameters.Destination.{Destination}
+use Rattle.scad_arguments.specs.declared.parameters.GivenArguments.{GivenArguments}
 use Rattle.scad_func.specs.Meaning.{Outcome, Gives, then_with, or_fault, Setting, value_at, Arguments}
 use Rattle.scad_func.specs.View.{Tells, TellsArguments, arguments_of, arguments_bounded}
 use Rattle.scad_func.proofs.GivenSeen.{IsHeld, taker_given, held_seen}
@@ -72,9 +72,9 @@ module _ (here : Setting) (a : ArgTerm) (at : Place) (name : List ℕ) (value : 
       (special_said here at name value (arguments_of g) turns (taker_seen d) (taker_same (Some (taker_seen d)) e) then r after t
       (held_seen g d r after given) bounded)
 
-  pub refused : (stop : Stop) (then : ℕ) → taker_of names 0 (given_of g) a ≡ None → IsFault stop BadArgument (argument_place a)
+  pub refused : (stop : Stop) (then : ℕ) → taker_of names 0 (given_of g) a ≡ None → IsFaultAt stop BadArgument (argument_place a)
       → TellsArguments (Err stop) then (said_once here a (arguments_of g) turns)
   refused stop then e fault =
       subst (λ x. TellsArguments (Err stop) then (said_once here x (arguments_of g) turns)) (sym is)
       (argument_refused stop then at (said_once here (SpecialArgTerm at name value) (arguments_of g) turns)
-      (by_taker here at name value (arguments_of g) turns None (taker_same None e)) (subst (λ x. IsFault stop BadArgument (argument_place x)) is fault))
+      (by_taker here at name value (arguments_of g) turns None (taker_same None e)) (subst (λ x. IsFaultAt stop BadArgument (argument_place x)) is fault))

@@ -6,7 +6,7 @@ ghost use Rattle.scad_ast.specs.StatementView.{instance_of};
 ghost use Rattle.scad_value.specs.Values.{NumberVal, is_bounded};
 ghost use Rattle.scad_scope.specs.Table.{rows_of};
 ghost use Rattle.scad_func.specs.Meaning.{entered_scope, no_call, module_in};
-ghost use Rattle.scad_func.specs.View.{text_of, seen};
+ghost use Rattle.scad_func.specs.View.{source_text, seen};
 ghost use Rattle.scad_func.specs.Definitions.{statements_at, IsWhole};
 ghost use Rattle.scad_func.specs.Evaluations.{Keeps, scopes_there};
 ghost use Rattle.scad_meaning.specs.Bodies.{children_in, is_child as is_child_at};
@@ -55,10 +55,10 @@ fn children<'a>(
     block: u32,
 ) -> Result<Vec<NumberedInstance<'a>>, NoMemory>
     requires scope { scope < scopes_there evaluation.now }
-    requires whole { IsWhole (text_of evaluation.now.source.now) }
+    requires whole { IsWhole (source_text evaluation.now.source.now) }
     ensures found { let env = seen evaluation.now.source.now (rows_of evaluation.now.scopes.now) scope in
-        IfOk result (λ found. map term_of_numbered found.items ≡ children_in env (statements_at (text_of evaluation.now.source.now) block)) }
-    ensures blocks { IfOk result (λ found. All (HasBlocks (text_of evaluation.now.source.now)) found.items) }
+        IfOk result (λ found. map term_of_numbered found.items ≡ children_in env (statements_at (source_text evaluation.now.source.now) block)) }
+    ensures blocks { IfOk result (λ found. All (HasBlocks (source_text evaluation.now.source.now)) found.items) }
 {
     let alloc = evaluation.alloc;
     let instances = numbered_instances(alloc, evaluation.source, block)?;
@@ -78,8 +78,8 @@ pub fn count_children(
     block: u32,
 ) -> Result<i64, NoMemory>
     requires caller { caller < scopes_there evaluation.old }
-    requires whole { IsWhole (text_of evaluation.old.source.now) }
-    ensures count { let statements = statements_at (text_of evaluation.old.source.now) block in
+    requires whole { IsWhole (source_text evaluation.old.source.now) }
+    ensures count { let statements = statements_at (source_text evaluation.old.source.now) block in
         let env = seen evaluation.old.source.now (rows_of evaluation.old.scopes.now) caller in
         IfOk result (λ n. n ≡ pos (length (children_in (entered_scope statements no_call env) statements))) }
     ensures small { IfOk result (λ n. IsTrue (is_bounded (NumberVal n))) }
@@ -103,11 +103,11 @@ pub fn chosen_instances<'a>(
     chosen: Option<&Chosen>,
 ) -> Result<Vec<NumberedInstance<'a>>, NoMemory>
     requires scope { scope < scopes_there evaluation.now }
-    requires whole { IsWhole (text_of evaluation.now.source.now) }
+    requires whole { IsWhole (source_text evaluation.now.source.now) }
     requires safe { IsSafeChosen chosen }
     ensures found { let env = seen evaluation.now.source.now (rows_of evaluation.now.scopes.now) scope in
-        IfOk result (λ found. map term_of_numbered found.items ≡ instances_chosen env (chosen_seen chosen.entry) (statements_at (text_of evaluation.now.source.now) block)) }
-    ensures blocks { IfOk result (λ found. All (HasBlocks (text_of evaluation.now.source.now)) found.items) }
+        IfOk result (λ found. map term_of_numbered found.items ≡ instances_chosen env (chosen_seen chosen.entry) (statements_at (source_text evaluation.now.source.now) block)) }
+    ensures blocks { IfOk result (λ found. All (HasBlocks (source_text evaluation.now.source.now)) found.items) }
 {
     let alloc = evaluation.alloc;
     match chosen {

@@ -5,9 +5,9 @@ ghost use Rattle.std.specs.Prelude.{◌≡◌, ◌<◌, ◌+◌, ◌++◌, ◌�
 ghost use Rattle.std.specs.List.{All, filter};
 ghost use Rattle.scad_ast.specs.Terms.{statements_from};
 ghost use Rattle.scad_ast.specs.StatementView.{core_of, instance_of, statement_of, statements_of};
-ghost use Rattle.scad_scope.specs.Blocks.{NumberedText, StandAt, marks_in, marks_of, marks_of_instance, count_blocks, nothing_there};
+ghost use Rattle.scad_blocks.specs.Blocks.{NumberedText, StandAt, marks_in, marks_of, marks_of_instance, count_blocks, nothing_there};
 ghost use Rattle.scad_func.specs.Definitions.{statements_at, IsWhole};
-ghost use Rattle.scad_func.specs.View.{text_of};
+ghost use Rattle.scad_func.specs.View.{source_text};
 ghost use Rattle.scad_meaning.specs.Bodies.{instances_of, evaluated_in, is_on as is_on_at};
 ghost use Rattle.scad_pieces.specs.Positions.{term_of_numbered, HasBlocks, has_else as has_else_at};
 
@@ -34,9 +34,9 @@ pub fn numbered_instances<'a>(
     source: &Source<'a>,
     block: u32,
 ) -> Result<Vec<NumberedInstance<'a>>, NoMemory>
-    requires { IsWhole (text_of source.now) }
-    ensures instances { IfOk result (λ found. map term_of_numbered found.items ≡ evaluated_in (statements_at (text_of source.now) block)) }
-    ensures blocks { IfOk result (λ found. All (HasBlocks (text_of source.now)) found.items) }
+    requires { IsWhole (source_text source.now) }
+    ensures instances { IfOk result (λ found. map term_of_numbered found.items ≡ evaluated_in (statements_at (source_text source.now) block)) }
+    ensures blocks { IfOk result (λ found. All (HasBlocks (source_text source.now)) found.items) }
 {
     let mut found = Vec::new(alloc);
     if (block as usize) < source.blocks.count() {
@@ -51,12 +51,12 @@ fn add_block<'a>(
     block: u32,
     found: &mut Vec<NumberedInstance<'a>>,
 ) -> Result<(), NoMemory>
-    requires whole { IsWhole (text_of source.now) }
-    requires there { block < length (text_of source.now).entries }
-    requires before { All (HasBlocks (text_of source.now)) found.old.items }
+    requires whole { IsWhole (source_text source.now) }
+    requires there { block < length (source_text source.now).entries }
+    requires before { All (HasBlocks (source_text source.now)) found.old.items }
     ensures instances { OnOk result (map term_of_numbered found.new.items ≡ map term_of_numbered found.old.items
-        ++ evaluated_in (statements_at (text_of source.now) block)) }
-    ensures blocks { OnOk result (All (HasBlocks (text_of source.now)) found.new.items) }
+        ++ evaluated_in (statements_at (source_text source.now) block)) }
+    ensures blocks { OnOk result (All (HasBlocks (source_text source.now)) found.new.items) }
 {
     // What stands in a block begins behind it. No program has so many blocks that there is no number.
     let Some(first) = block.checked_add(1) else {
@@ -83,13 +83,13 @@ fn add_all<'a>(
     first: u32,
     found: &mut Vec<NumberedInstance<'a>>,
 ) -> Result<u32, NoMemory>
-    requires whole { IsWhole (text_of source.now) }
-    requires stand { StandAt (text_of source.now) first (marks_in (statements_from (statements_of statements.now))) }
-    requires before { All (HasBlocks (text_of source.now)) found.old.items }
+    requires whole { IsWhole (source_text source.now) }
+    requires stand { StandAt (source_text source.now) first (marks_in (statements_from (statements_of statements.now))) }
+    requires before { All (HasBlocks (source_text source.now)) found.old.items }
     ensures behind { IfOk result (λ n. n ≡ first + count_blocks (marks_in (statements_from (statements_of statements.now)))) }
     ensures instances { OnOk result (map term_of_numbered found.new.items ≡ map term_of_numbered found.old.items
         ++ evaluated_in (statements_from (statements_of statements.now))) }
-    ensures blocks { OnOk result (All (HasBlocks (text_of source.now)) found.new.items) }
+    ensures blocks { OnOk result (All (HasBlocks (source_text source.now)) found.new.items) }
 {
     let mut next = first;
     'each: for statement in &statements.items {
@@ -105,13 +105,13 @@ fn add<'a>(
     first: u32,
     found: &mut Vec<NumberedInstance<'a>>,
 ) -> Result<u32, NoMemory>
-    requires whole { IsWhole (text_of source.now) }
-    requires stand { StandAt (text_of source.now) first (marks_of (statement_of statement.now)) }
-    requires before { All (HasBlocks (text_of source.now)) found.old.items }
+    requires whole { IsWhole (source_text source.now) }
+    requires stand { StandAt (source_text source.now) first (marks_of (statement_of statement.now)) }
+    requires before { All (HasBlocks (source_text source.now)) found.old.items }
     ensures behind { IfOk result (λ n. n ≡ first + count_blocks (marks_of (statement_of statement.now))) }
     ensures instances { OnOk result (map term_of_numbered found.new.items ≡ map term_of_numbered found.old.items
         ++ filter is_on_at (instances_of (statement_of statement.now))) }
-    ensures blocks { OnOk result (All (HasBlocks (text_of source.now)) found.new.items) }
+    ensures blocks { OnOk result (All (HasBlocks (source_text source.now)) found.new.items) }
 {
     match statement {
         Statement::Block(_, statements) => add_all(source, statements, first, found),
@@ -130,13 +130,13 @@ fn add_instance<'a>(
     block: u32,
     found: &mut Vec<NumberedInstance<'a>>,
 ) -> Result<u32, NoMemory>
-    requires whole { IsWhole (text_of source.now) }
-    requires stand { StandAt (text_of source.now) block (marks_of_instance (instance_of instance.now)) }
-    requires before { All (HasBlocks (text_of source.now)) found.old.items }
+    requires whole { IsWhole (source_text source.now) }
+    requires stand { StandAt (source_text source.now) block (marks_of_instance (instance_of instance.now)) }
+    requires before { All (HasBlocks (source_text source.now)) found.old.items }
     ensures behind { IfOk result (λ n. n ≡ block + count_blocks (marks_of_instance (instance_of instance.now))) }
     ensures instances { OnOk result (map term_of_numbered found.new.items ≡ map term_of_numbered found.old.items
         ++ filter is_on_at (instance_of instance.now ∷ [])) }
-    ensures blocks { OnOk result (All (HasBlocks (text_of source.now)) found.new.items) }
+    ensures blocks { OnOk result (All (HasBlocks (source_text source.now)) found.new.items) }
 {
     let numbered = with_blocks(source, instance, block);
     add_if_on(numbered, found)?;
@@ -145,11 +145,11 @@ fn add_instance<'a>(
 
 // An instance whose blocks begin at a number.
 fn with_blocks<'a>(source: &Source<'a>, instance: &'a Instance, block: u32) -> NumberedInstance<'a>
-    requires whole { IsWhole (text_of source.now) }
-    requires stand { StandAt (text_of source.now) block (marks_of_instance (instance_of instance.now)) }
+    requires whole { IsWhole (source_text source.now) }
+    requires stand { StandAt (source_text source.now) block (marks_of_instance (instance_of instance.now)) }
     ensures same { (term_of_numbered result ≡ instance_of instance.now) × (result.block ≡ block) }
-    ensures other { result.other ≡ (slice_index_or (text_of source.now).entries block nothing_there).behind }
-    ensures blocks { HasBlocks (text_of source.now) result }
+    ensures other { result.other ≡ (slice_index_or (source_text source.now).entries block nothing_there).behind }
+    ensures blocks { HasBlocks (source_text source.now) result }
 {
     NumberedInstance {
         instance,
@@ -160,9 +160,9 @@ fn with_blocks<'a>(source: &Source<'a>, instance: &'a Instance, block: u32) -> N
 
 // The number behind all blocks of an instance.
 fn behind(source: &Source<'_>, numbered: NumberedInstance<'_>) -> u32
-    requires whole { IsWhole (text_of source.now) }
-    requires stand { StandAt (text_of source.now) numbered.block (marks_of_instance (term_of_numbered numbered)) }
-    requires other { numbered.other ≡ (slice_index_or (text_of source.now).entries numbered.block nothing_there).behind }
+    requires whole { IsWhole (source_text source.now) }
+    requires stand { StandAt (source_text source.now) numbered.block (marks_of_instance (term_of_numbered numbered)) }
+    requires other { numbered.other ≡ (slice_index_or (source_text source.now).entries numbered.block nothing_there).behind }
     ensures { result ≡ numbered.entry.block + count_blocks (marks_of_instance (term_of_numbered numbered.entry)) }
 {
     if has_else(&numbered.instance.core) {

@@ -1,11 +1,4 @@
 pub mod Envs
 pub mod Bound
-pub mod Scans
 pub mod Numbered
 pub mod Chain
-pub mod Walks
-pub mod Held
-pub mod Placed
-pub mod Order
-pub mod Begun
-pub mod Looking

@@ -1,14 +1,5 @@
-pub mod Arguments
-pub mod ArgumentsView
 pub mod Names
+pub mod Rows
 pub mod Table
 pub mod View
-pub mod Blocks
 pub mod Numbered
-pub mod Walk
-pub mod TextView
-pub mod Tables
-pub mod Places
-pub mod PlacesView
-pub mod Lookup
-pub mod SoFarView

@@ -1,14 +1,8 @@
 -- Tables in which each definition's number is one of so many.
-use Rattle.std.specs.Prelude.{ℕ, List, [], ◌∷◌, length, Bool, true, ◌&&◌, nat_lt}
+use Rattle.std.specs.Prelude.{ℕ, List, [], ◌∷◌, Bool, true, ◌&&◌}
 use Rattle.std.specs.Bool.{IsTrue}
-use Rattle.scad_scope.specs.Names.{Pairs, Row}
-use Rattle.scad_ast.specs.Terms.{StatementTerm}
-use Rattle.scad_scope.specs.Blocks.{Entry, functions_of_program, modules_of_program}
-
--- each number is below this one
-abbrev pub numbers_below : ℕ → Pairs ℕ → Bool
-numbers_below n [] = true
-numbers_below n (p ∷ ps) = nat_lt p.1 n && numbers_below n ps
+use Rattle.scad_blocks.specs.Numbered.{numbers_below}
+use Rattle.scad_scope.specs.Names.{Row}
 
 abbrev pub each_row : (Row → Bool) → List Row → Bool
 each_row test [] = true
@@ -31,16 +25,3 @@ pub record StaysBelow (count_of_functions count_of_modules : ℕ) (before after 
 pub record StaysNumbered (before after : List Row) : Type 0 where
   pub functions : (n : ℕ) → IsTrue (functions_below n before) → IsTrue (functions_below n after)
   pub modules : (n : ℕ) → IsTrue (modules_below n before) → IsTrue (modules_below n after)
-
--- the numbers of each block's own functions and modules are below these
-abbrev pub entries_below : ℕ → ℕ → List Entry → Bool
-entries_below functions modules [] = true
-entries_below functions modules (e ∷ es) =
-    (numbers_below functions e.own.functions && numbers_below modules e.own.modules) && entries_below functions modules es
-
--- how many functions and modules a program has
-abbrev pub count_of_functions : List StatementTerm → ℕ
-count_of_functions program = length (functions_of_program program)
-
-abbrev pub count_of_modules : List StatementTerm → ℕ
-count_of_modules program = length (modules_of_program program)

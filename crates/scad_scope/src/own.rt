@@ -1,15 +1,14 @@
 ghost use Rattle.std.specs.Prelude.{◌≡◌, map, reverse, IfOk};
 ghost use Rattle.newest_names.specs.Names.{newest_first};
-ghost use Rattle.scad_scope.specs.Blocks.{row_of_block, own_row};
+ghost use Rattle.scad_scope.specs.Rows.{row_of_block, own_row};
 ghost use Rattle.scad_scope.specs.Names.{empty_row};
-ghost use Rattle.scad_scope.specs.Tables.{text_held};
+ghost use Rattle.scad_blocks.specs.Tables.{text_held};
 ghost use Rattle.scad_scope.specs.View.{row_of};
-ghost use Rattle.scad_scope.specs.TextView.{named_of, own_of};
+ghost use Rattle.scad_blocks.specs.TextView.{named_of, own_of};
 
-use crate::blocks::Blocks;
 use crate::table::Scope;
-use crate::text::{Named, Own};
 use newest_names::NameList;
+use scad_blocks::{Blocks, Named, Own};
 use std::alloc::Global;
 use text_place::{Bytes, NoMemory};
 
@@ -22,11 +21,10 @@ pub(crate) fn scope_of_block(
 ) -> Result<Scope, NoMemory>
     ensures { IfOk result (λ s. row_of s ≡ row_of_block outer (text_held blocks.now) block) }
 {
-    let number = block as usize;
-    if number >= blocks.entries.len() {
+    if block as usize >= blocks.count() {
         return Ok(empty(alloc, outer));
     }
-    filled(alloc, outer, &blocks.entries[number].own)
+    filled(alloc, outer, blocks.own(block))
 }
 
 /// A new scope without definitions, inside another one.

@@ -1,4 +1,3 @@
-use crate::blocks::Blocks;
 use crate::fault::fault;
 use crate::own::{empty, scope_of_block};
 use crate::table::{
@@ -6,6 +5,7 @@ use crate::table::{
     find_variable,
 };
 use newest_names::NameList;
+use scad_blocks::Blocks;
 use scad_value::{BoundedValue, Value};
 use std::alloc::Global;
 use text_place::{Bytes, Fault, FaultKind, NoMemory, Place};
@@ -26,8 +26,8 @@ impl Scopes {
     ghost use Rattle.scad_value.specs.Values.{Val, is_bounded};
     ghost use Rattle.scad_value.specs.View.{val_of};
     ghost use Rattle.scad_scope.specs.Names.{Pairs, find_in, env_of, variable_in, function_in, module_in, first_row, empty_row, bound_in, with_pair, NumberedWithin, no_numbered_call, numbered_call, enclosing_call, called_row, first_chain, oldest, Row};
-    ghost use Rattle.scad_scope.specs.Blocks.{row_of_block};
-    ghost use Rattle.scad_scope.specs.Tables.{text_held, functions_held, modules_held};
+    ghost use Rattle.scad_scope.specs.Rows.{row_of_block};
+    ghost use Rattle.scad_blocks.specs.Tables.{text_held, functions_held, modules_held};
     ghost use Rattle.scad_scope.specs.Numbered.{functions_below, modules_below, StaysBelow, StaysNumbered};
     ghost use Rattle.scad_scope.specs.View.{definition_in, row_of};
     ghost use Rattle.scad_scope.specs.Table.{rows_of, chain_of, call_told, IsFound, IsMissing, IsVariable, KeepsScopes};

@@ -2,7 +2,7 @@ use Rattle.std.proofs.Common.{refl}
 use Rattle.std.proofs.lemmas.Result.{err_from_is_err_and}
 use Rattle.scad_ast.specs.Terms.{statements_from}
 use Rattle.scad_scope.specs.Names.{first_chain}
-use Rattle.scad_func.specs.View.{text_of}
+use Rattle.scad_func.specs.View.{source_text}
 use Rattle.scad_func.specs.Definitions.{statements_at}
 use Rattle.scad_eval.proofs.Programs.{program_begins, program_members, program_statements, design_outcome, design_stops}
 use Rattle.scad_eval.proofs.program.design_of.Goals as goal
@@ -14,7 +14,7 @@ returns-in_err-members c = λ program text judge right.
     let new = c.enter_body.new.self in
     let after = c.members_in_scope.new.self in
     let here = program_begins entered.entered program c.requires.whole text c.requires.table.rows c.requires.table.chain refl entered.inside in
-    let told = program_members (statements_at (text_of new.source.now) 0) c.in_err-members.ensures.members program here
+    let told = program_members (statements_at (source_text new.source.now) 0) c.in_err-members.ensures.members program here
     (program_statements c.args.source.now new.source.now program entered.entered.source text) entered.entered.depth entered.turns refl judge right in (
       after.evaluation.turns,
       rw (p.1, p.2) (design_stops c.args.unit judge first_chain (statements_from program) c.in_err-members.field-0.0
@@ -27,7 +27,7 @@ returns c = λ program text judge right.
     let new = c.enter_body.new.self in
     let after = c.members_in_scope.new.self in
     let here = program_begins entered.entered program c.requires.whole text c.requires.table.rows c.requires.table.chain refl entered.inside in
-    let told = program_members (statements_at (text_of new.source.now) 0) c.in_ok-members.ensures.members program here
+    let told = program_members (statements_at (source_text new.source.now) 0) c.in_ok-members.ensures.members program here
     (program_statements c.args.source.now new.source.now program entered.entered.source text) entered.entered.depth entered.turns refl judge right in (
       after.evaluation.turns,
       design_outcome c.args.unit judge first_chain (statements_from program) c.in_ok-members.members c.in_ok-first_or_all.field-0

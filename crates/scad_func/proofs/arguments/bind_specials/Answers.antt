@@ -3,7 +3,7 @@ use Rattle.std.specs.Prelude.{IsTrue}
 use Rattle.scad_scope.specs.Names.{have_bounded}
 use Rattle.scad_scope.specs.Table.{chain_of}
 use Rattle.scad_value.specs.declared.value.Value.{Value}
-use Rattle.scad_scope.specs.declared.parameters.SpecialArgument.{SpecialArgument}
+use Rattle.scad_arguments.specs.declared.parameters.SpecialArgument.{SpecialArgument}
 use Rattle.scad_func.specs.View.{special_of}
 use Rattle.scad_func.proofs.Chains.{set_on, set_all, bounded_turned, oldest_all}
 use Rattle.scad_func.proofs.arguments.bind_specials.Goals as goal

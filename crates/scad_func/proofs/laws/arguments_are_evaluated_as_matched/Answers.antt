@@ -1,5 +1,5 @@
 use Rattle.std.proofs.Common.{length}
-use Rattle.scad_scope.specs.Arguments.{nothing_given}
+use Rattle.scad_arguments.specs.Arguments.{nothing_given}
 use Rattle.scad_func.proofs.FilledAlike.{all_matched, none_alike}
 use Rattle.scad_func.proofs.laws.arguments_are_evaluated_as_matched.Goals as goal
 

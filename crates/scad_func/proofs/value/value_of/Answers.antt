@@ -2,7 +2,7 @@ use Rattle.std.proofs.Common.{◌-◌, length, true, sym, subst}
 use Rattle.std.specs.Prelude.{IsTrue}
 use Rattle.scad_ast.specs.ExprView.{term_of}
 use Rattle.scad_scope.specs.Names.{env_of}
-use Rattle.scad_scope.specs.Blocks.{NumberedText}
+use Rattle.scad_blocks.specs.Blocks.{NumberedText}
 use Rattle.scad_scope.specs.Numbered.{functions_below, modules_below}
 use Rattle.scad_scope.specs.Table.{rows_of, chain_of}
 use Rattle.scad_func.specs.Meaning.{evaluated}

@@ -2,7 +2,7 @@ use Rattle.std.proofs.Common.{◌≡◌, map, drop}
 use Rattle.std.specs.Prelude.{IsTrue}
 use Rattle.scad_ast.specs.Terms.{args_from}
 use Rattle.scad_ast.specs.ExprView.{arg_of, args_of}
-use Rattle.scad_scope.specs.Arguments.{nothing_given}
+use Rattle.scad_arguments.specs.Arguments.{nothing_given}
 use Rattle.scad_func.specs.View.{arguments_of, arguments_bounded}
 use Rattle.scad_func.specs.Evaluations.{Keeps, setting}
 use Rattle.scad_meaning.specs.Meaning.{each_said}

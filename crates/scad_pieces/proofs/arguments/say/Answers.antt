@@ -4,11 +4,11 @@ use Rattle.text_place.specs.declared.fault.Stop.{Stop}
 use Rattle.text_place.specs.declared.fault.FaultKind.TheVariants.{BadArgument}
 use Rattle.scad_ast.specs.ExprView.{term_of, arg_of}
 use Rattle.scad_value.specs.declared.value.Value.{Value}
-use Rattle.scad_scope.specs.Arguments.{taker_of, argument_place}
-use Rattle.scad_scope.specs.ArgumentsView.{names_in, given_of, taker_seen, IsFault, IsGiven}
-use Rattle.scad_scope.specs.SoFarView.{only_given}
-use Rattle.scad_scope.specs.declared.parameters.Destination.{Destination}
-use Rattle.scad_scope.specs.declared.so_far.ArgumentsSoFar.{ArgumentsSoFar}
+use Rattle.scad_arguments.specs.Arguments.{taker_of, argument_place}
+use Rattle.scad_arguments.specs.ArgumentsView.{names_in, given_of, taker_seen, IsFaultAt, IsGiven}
+use Rattle.scad_arguments.specs.SoFarView.{only_given}
+use Rattle.scad_arguments.specs.declared.parameters.Destination.{Destination}
+use Rattle.scad_arguments.specs.declared.so_far.ArgumentsSoFar.{ArgumentsSoFar}
 use Rattle.scad_func.specs.Evaluations.{setting}
 use Rattle.scad_pieces.proofs.Said.{special_form, taken, refused}
 use Rattle.scad_pieces.proofs.arguments.say.Goals as goal
@@ -19,7 +19,7 @@ returns-in_err-held-in-Special-clause-value c =
     let so_far = c.args.so_far in
     let a = arg_of c.args.arg.now in
     let x = c.in-Special in
-    let h = IfErr-at_err (λ (s : Stop). (taker_of (names_in so_far.names) 0 (given_of so_far.given) a ≡ None) × IsFault s BadArgument (argument_place a))
+    let h = IfErr-at_err (λ (s : Stop). (taker_of (names_in so_far.names) 0 (given_of so_far.given) a ≡ None) × IsFaultAt s BadArgument (argument_place a))
     c.in_err-held-in-Special.ensures.err c.destination_for-free.ensures.none in
     rw (p.1, p.2) (refused (setting c.args.evaluation.now c.args.scope) a x.field-0 x.field-1 (term_of x.value)
     (special_form c.args.arg.now x.field-0 x.field-1 x.value x.is) (names_in so_far.names) so_far.given c.args.evaluation.now.turns

@@ -1,7 +1,7 @@
 use Rattle.std.proofs.Common.{◌≤◌, length, map, ap, subst, sym, ◌∙◌, arith}
 use Rattle.std.specs.Prelude.{All}
 use Rattle.scad_scope.specs.Table.{rows_of}
-use Rattle.scad_func.specs.View.{seen, text_of}
+use Rattle.scad_func.specs.View.{seen, source_text}
 use Rattle.scad_func.specs.Definitions.{statements_at}
 use Rattle.scad_pieces.specs.Positions.{term_of_numbered, HasBlocks}
 use Rattle.scad_pieces.proofs.KeptChildren.{children_found, children_blocks}
@@ -13,7 +13,7 @@ returns-clause-found c =
     let xs = c.deref-instance-items.result.now in
     let end : length xs ≤ c.each.instance-index = omega (arith, c.each-test.false) in
     children_found (seen e.source.now (rows_of e.scopes.now) c.args.scope) xs c.each.children.items c.each.instance-index c.each.invariant end
-    (statements_at (text_of e.source.now) c.args.block)
+    (statements_at (source_text e.source.now) c.args.block)
     (ap (map term_of_numbered) c.deref-instance-items.ensures.value ∙ c.in_ok-instances.ensures.instances)
 
 pub returns-clause-blocks : goal.returns-clause-blocks
@@ -22,4 +22,4 @@ returns-clause-blocks c =
     let xs = c.deref-instance-items.result.now in
     let end : length xs ≤ c.each.instance-index = omega (arith, c.each-test.false) in
     children_blocks (seen e.source.now (rows_of e.scopes.now) c.args.scope) xs c.each.children.items c.each.instance-index c.each.invariant end
-    (text_of e.source.now) (subst (All (HasBlocks (text_of e.source.now))) (sym c.deref-instance-items.ensures.value) c.in_ok-instances.ensures.blocks)
+    (source_text e.source.now) (subst (All (HasBlocks (source_text e.source.now))) (sym c.deref-instance-items.ensures.value) c.in_ok-instances.ensures.blocks)

@@ -1,5 +1,5 @@
 use Rattle.scad_scope.specs.Table.{rows_of}
-use Rattle.scad_func.specs.View.{seen, text_of}
+use Rattle.scad_func.specs.View.{seen, source_text}
 use Rattle.scad_func.specs.Definitions.{statements_at}
 use Rattle.scad_modules.specs.View.{chosen_of}
 use Rattle.scad_meaning.specs.Bodies.{children_in}
@@ -9,11 +9,11 @@ use Rattle.scad_pieces.proofs.children.chosen_instances.Goals as goal
 pub returns-in_ok-children-in-Some-clause-found : goal.returns-in_ok-children-in-Some-clause-found
 returns-in_ok-children-in-Some-clause-found c =
     let e = c.args.evaluation.now in
-    let statements = statements_at (text_of e.source.now) c.args.block in
+    let statements = statements_at (source_text e.source.now) c.args.block in
     rw (c.in-Some.is) (chosen_found c.chosen_among.result c.in_ok-children-in-Some.children.items (chosen_of c.in-Some.chosen.now) c.chosen_among.ensures
     (children_in (seen e.source.now (rows_of e.scopes.now) c.args.scope) statements) c.in_ok-children-in-Some.ensures.found)
 
 pub returns-in_ok-children-in-Some-clause-blocks : goal.returns-in_ok-children-in-Some-clause-blocks
 returns-in_ok-children-in-Some-clause-blocks c =
     chosen_blocks c.chosen_among.result c.in_ok-children-in-Some.children.items (chosen_of c.in-Some.chosen.now) c.chosen_among.ensures
-    (text_of c.args.evaluation.now.source.now) c.in_ok-children-in-Some.ensures.blocks
+    (source_text c.args.evaluation.now.source.now) c.in_ok-children-in-Some.ensures.blocks

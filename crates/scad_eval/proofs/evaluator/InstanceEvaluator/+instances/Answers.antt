@@ -14,15 +14,15 @@ use Rattle.scad_value.specs.Values.{Val, Vals, vals_from}
 use Rattle.scad_value.specs.View.{val_of, vals_in}
 use Rattle.scad_scope.specs.Names.{Row, oldest}
 use Rattle.scad_scope.specs.Table.{chain_of}
-use Rattle.scad_scope.specs.TextView.{module_of}
-use Rattle.scad_scope.specs.Blocks.{Module, statements_of_body}
-use Rattle.scad_scope.specs.declared.parameters.GivenArguments.{GivenArguments}
+use Rattle.scad_blocks.specs.TextView.{module_of}
+use Rattle.scad_blocks.specs.Blocks.{Module, statements_of_body}
+use Rattle.scad_arguments.specs.declared.parameters.GivenArguments.{GivenArguments}
 use Rattle.scad_modules.specs.declared.effects.Effect.{Effect}
 use Rattle.scad_modules.specs.declared.table.BuiltinModule.{BuiltinModule}
 use Rattle.scad_modules.specs.View.{chosen_of, call_of}
 use Rattle.scad_design.specs.Designs.{moved_by}
 use Rattle.scad_func.specs.Meaning.{Outcome, Gives, Faults, Opened, Within, no_call, with_variable, then_with, or_fault, one_call_fewer, turn, each_parameter, Arguments, Slots, Setting, Env}
-use Rattle.scad_func.specs.View.{seen, text_of, arguments_of, slots_in, specials_in, IsNoMemory}
+use Rattle.scad_func.specs.View.{seen, source_text, arguments_of, slots_in, specials_in, IsNoMemory}
 use Rattle.scad_func.specs.Definitions.{statements_at}
 use Rattle.scad_func.specs.Evaluations.{SpecialsBegin}
 use Rattle.scad_func.specs.declared.source.Source.{Source}
@@ -98,7 +98,7 @@ members_in_scope-members-requires t c =
       omega (arith, work_same c.assign_all.new.self.evaluation.depth m.evaluation.depth a.depth, c.decreases),
       (
         assigned_position a c.requires.position,
-        subst (λ (is : List NumberedInstance). All (HasBlocks (text_of c.assign_all.new.self.evaluation.source.now)) is) (sym c.deref.ensures.value)
+        subst (λ (is : List NumberedInstance). All (HasBlocks (source_text c.assign_all.new.self.evaluation.source.now)) is) (sym c.deref.ensures.value)
             c.in_ok-instances.ensures.blocks,
       ),
     )
@@ -110,7 +110,7 @@ members_in_scope-returns-in_err-assign_all-clause-members t c =
     rw (p.1, p.2) (record {
       by = λ judge right.
           stop_outcome (λ turns there. each_member (evaluator_at m judge) there (instances_chosen there.env (chosen_seen c.args.chosen)
-          (statements_at (text_of m.evaluation.source.now) c.args.block)) turns m.leaves)
+          (statements_at (source_text m.evaluation.source.now) c.args.block)) turns m.leaves)
           (c.in_err-assign_all.ensures.assigned.by judge right);
     })
 
@@ -164,7 +164,7 @@ children_made-returns-in_err-members-in-Some-clause-made t c =
     let p = err_from_is_err_and c.from_residual-in_err-members-in-Some.result c.from_residual-in_err-members-in-Some.ensures.1 in
     let m = c.args.self.now in
     let e = c.in_ok-scope-in-Some.ensures.entered in
-    let statements = statements_at (text_of m.evaluation.source.now) c.in-Some.call.children in
+    let statements = statements_at (source_text m.evaluation.source.now) c.in-Some.call.children in
     let caller = env_at m c.in-Some.call.caller in
     rw (p.1, p.2) (record {
       by = λ judge right.
@@ -181,7 +181,7 @@ pub children_made-returns-in_ok-joined-in-Some-clause-made : goal.children_made-
 children_made-returns-in_ok-joined-in-Some-clause-made t c =
     let m = c.args.self.now in
     let e = c.in_ok-scope-in-Some.ensures.entered in
-    let statements = statements_at (text_of m.evaluation.source.now) c.in-Some.call.children in
+    let statements = statements_at (source_text m.evaluation.source.now) c.in-Some.call.children in
     let caller = env_at m c.in-Some.call.caller in
     record {
       by = λ judge right.
@@ -426,7 +426,7 @@ instance-marked_or_not-requires t c =
       omega (arith, work_falls m.evaluation.depth b.within, work_same c.begin_evaluation.new.self.depth (m.evaluation.depth + 1) b.depth, c.decreases),
       (
         position_still m _ refl b.source b.rows c.requires.position,
-        subst (λ (x : Source). HasBlocks (text_of x) c.args.instance) (sym b.source) c.requires.blocks,
+        subst (λ (x : Source). HasBlocks (source_text x) c.args.instance) (sym b.source) c.requires.blocks,
       ),
     )
 
@@ -505,8 +505,8 @@ members-instance-next-requires t c =
       omega (arith, work_same c.each.self.evaluation.depth m.evaluation.depth k.depth, c.decreases),
       (
         position_still m _ k.unit k.source k.rows c.requires.position,
-        subst (λ (x : Source). HasBlocks (text_of x) c.instance-item.result) (sym k.source)
-            (subst (λ (x : NumberedInstance). HasBlocks (text_of m.evaluation.source.now) x) (sym c.instance-item.is) (c.requires.blocks i c.instance-item.result h)),
+        subst (λ (x : Source). HasBlocks (source_text x) c.instance-item.result) (sym k.source)
+            (subst (λ (x : NumberedInstance). HasBlocks (source_text m.evaluation.source.now) x) (sym c.instance-item.is) (c.requires.blocks i c.instance-item.result h)),
       ),
     )
 
@@ -642,7 +642,7 @@ module_made-returns-in_err-members-clause-made t c =
           stop_outcome (λ turns ms. Gives turns (joined_members Union ms))
           (along (ap (λ (st : StatementTerms). block_members (evaluator_at m judge) None st (inside_scope (context_at m c.args.position) env) m.evaluation.turns m.leaves)
           (sym c.requires.called.its_block))
-          (entered_meets (λ (x : Source) evaluator. block_members evaluator None (statements_at (text_of x) c.args.defined.block))
+          (entered_meets (λ (x : Source) evaluator. block_members evaluator None (statements_at (source_text x) c.args.defined.block))
           m c.enter_module.new.self c.members_in_scope.new.self c.args.position c.at.result c.in_ok-opened.opened env c.in_ok-opened.ensures.entered c.in_ok-opened.ensures.inside
           c.enter_module.ensures.turns c.at.ensures c.in_err-members.ensures.members judge right));
     })
@@ -660,7 +660,7 @@ module_made-returns-clause-made t c =
           (outcome_with c.leave.ensures.turns
           (along (ap (λ (st : StatementTerms). block_members (evaluator_at m judge) None st (inside_scope (context_at m c.args.position) env) m.evaluation.turns m.leaves)
           (sym c.requires.called.its_block))
-          (entered_meets (λ (x : Source) evaluator. block_members evaluator None (statements_at (text_of x) c.args.defined.block))
+          (entered_meets (λ (x : Source) evaluator. block_members evaluator None (statements_at (source_text x) c.args.defined.block))
           m c.enter_module.new.self c.members_in_scope.new.self c.args.position c.at.result c.in_ok-opened.opened env c.in_ok-opened.ensures.entered c.in_ok-opened.ensures.inside
           c.enter_module.ensures.turns c.at.ensures c.in_ok-members.ensures.members judge right)))
           c.in_ok-joined.ensures;

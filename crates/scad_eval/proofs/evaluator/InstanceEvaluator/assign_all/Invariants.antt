@@ -1,5 +1,5 @@
 use Rattle.std.proofs.Common.{◌≡◌, map, drop}
-use Rattle.scad_scope.specs.TextView.{assigned_of}
+use Rattle.scad_blocks.specs.TextView.{assigned_of}
 use Rattle.scad_meaning.specs.Meaning.{each_assigned}
 use Rattle.scad_eval.specs.Keeping.{evaluations_left, context_at, Assigns}
 use Rattle.scad_eval.proofs.evaluator.InstanceEvaluator.assign_all.Given as goal

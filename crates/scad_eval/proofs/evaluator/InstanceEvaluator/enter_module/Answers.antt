@@ -2,9 +2,9 @@ use Rattle.std.proofs.Common.{ap, ◌∙◌, rules, codes, FitsSigned, w64, to_z
 use Rattle.scad_value.specs.Values.{Val, vals_from}
 use Rattle.scad_value.specs.View.{vals_in}
 use Rattle.scad_scope.specs.Table.{rows_of}
-use Rattle.scad_scope.specs.TextView.{module_of}
+use Rattle.scad_blocks.specs.TextView.{module_of}
 use Rattle.scad_func.specs.Meaning.{with_variable}
-use Rattle.scad_func.specs.View.{seen, text_of}
+use Rattle.scad_func.specs.View.{seen, source_text}
 use Rattle.scad_eval.specs.Within.{body_seen}
 use Rattle.scad_eval.proofs.ModuleScopes.{module_inside, call_scope_same, number_form}
 use Rattle.scad_eval.proofs.evaluator.InstanceEvaluator.enter_module.Goals as goal
@@ -20,7 +20,7 @@ returns-clause-inside c =
     let kept = c.in_ok-count.ensures.kept in
     let fits : FitsSigned w64 c.in_ok-count.count = search rules in
     let bound = simp to_z-of_z at c.in_ok-bind.ensures.bound in
-    module_inside (text_of e.source.now) c.args.defined.block c.args.body.block (module_of c.args.defined) (body_seen c.args.body)
+    module_inside (source_text e.source.now) c.args.defined.block c.args.body.block (module_of c.args.defined) (body_seen c.args.body)
     (vals_from (vals_in c.args.values.items)) (seen e.source.now (rows_of e.scopes.now) c.args.position.scope) (seen e.source.now (rows_of e.scopes.now) c.args.home)
     (seen a.source.now (rows_of a.scopes.now) scope) (seen b.source.now (rows_of b.scopes.now) scope) (seen d.source.now (rows_of d.scopes.now) scope)
     c.in_ok-count.count c.requires.called.position.whole c.requires.called.its_block c.requires.called.block

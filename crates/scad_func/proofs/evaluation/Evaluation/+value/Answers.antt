@@ -20,21 +20,21 @@ use Rattle.scad_ast.specs.StatementView.{param_of}
 use Rattle.scad_value.specs.View.{vals_in}
 use Rattle.scad_value.specs.declared.bounded_value.BoundedValue.{BoundedValue}
 use Rattle.scad_value.specs.BoundedView.{bounded_val}
-use Rattle.scad_scope.specs.Arguments.{name_of, names_of, nothing_given, taker_of, argument_place}
-use Rattle.scad_scope.specs.ArgumentsView.{given_of, names_in, taker_seen, IsGiven, IsFault}
+use Rattle.scad_arguments.specs.Arguments.{name_of, names_of, nothing_given, taker_of, argument_place}
+use Rattle.scad_arguments.specs.ArgumentsView.{given_of, names_in, taker_seen, IsGiven, IsFaultAt}
 use Rattle.scad_scope.specs.Names.{env_of, empty_row, find_in, variable_in as numbered_variable_in}
 use Rattle.scad_scope.specs.Table.{rows_of, chain_of}
-use Rattle.scad_scope.specs.TextView.{function_of}
+use Rattle.scad_blocks.specs.TextView.{function_of}
 use Rattle.scad_func.specs.Meaning.{Outcome, Gives, Faults, value_at, with_calls, one_call_fewer, turn, each_argument, each_parameter, parameter_value, function_value, operand, each_value, each_suffix, each_link, called, answered, or_fault, or_zero, Setting, then_with}
 use Rattle.scad_answer.specs.Answers.{range_of}
 use Rattle.scad_answer.specs.View.{TellsAnswer}
 use Rattle.scad_func.specs.Steps.{all_values, suffixed, linked}
 use Rattle.scad_func.specs.declared.values.BoundedValues.{BoundedValues}
-use Rattle.scad_func.specs.View.{TellsAs, TellsArguments, IsOneMore, values_seen, text_of, slots_in, slot_of, indexed_val, arguments_of, arguments_bounded}
-use Rattle.scad_scope.specs.declared.parameters.GivenArguments.{GivenArguments}
-use Rattle.scad_scope.specs.declared.parameters.Names.{Names}
-use Rattle.scad_scope.specs.declared.so_far.ArgumentsSoFar.{ArgumentsSoFar}
-use Rattle.scad_scope.specs.declared.parameters.Destination.{Destination}
+use Rattle.scad_func.specs.View.{TellsAs, TellsArguments, IsOneMore, values_seen, source_text, slots_in, slot_of, indexed_val, arguments_of, arguments_bounded}
+use Rattle.scad_arguments.specs.declared.parameters.GivenArguments.{GivenArguments}
+use Rattle.scad_arguments.specs.declared.parameters.Names.{Names}
+use Rattle.scad_arguments.specs.declared.so_far.ArgumentsSoFar.{ArgumentsSoFar}
+use Rattle.scad_arguments.specs.declared.parameters.Destination.{Destination}
 use Rattle.scad_func.specs.Evaluations.{ArgumentsFit, EvaluatesTo, setting}
 use Rattle.scad_func.proofs.Outcomes.{tells_along, evaluated_deeper, evaluated_too_deep, value_counted, fault_counted, values_end, terms_here, terms_end, args_here, args_end, values_here, suffixes_here, suffix_step, links_here, step_more, step_fault, name_then, fault_at, link_wants}
 use Rattle.scad_func.proofs.Environments.{variable_same}
@@ -92,7 +92,7 @@ operand-returns-in-ChildCount t c =
           (ap (λ x. operand (setting e c.args.scope) x e.turns)
           (ap term_of c.in-ChildCount.is ∙ count_form c.in-ChildCount.place)
           ∙ ap (λ o. Gives e.turns (or_zero o))
-          (variable_same (text_of e.source.now) (env_of (rows_of e.scopes.now) c.args.scope) (codes "$children")))
+          (variable_same (source_text e.source.now) (env_of (rows_of e.scopes.now) c.args.scope) (codes "$children")))
           (c.child_count.ensures e.turns);
       kept = keeps_from _ _ refl (search rules) refl refl refl refl;
     }
@@ -105,7 +105,7 @@ operand-returns-in-Name t c =
           (ap (λ x. operand (setting e c.args.scope) x e.turns)
           (ap term_of c.in-Name.is ∙ name_form c.in-Name.place c.in-Name.name)
           ∙ ap (λ o. or_fault o UnknownName c.in-Name.place (λ x. Gives e.turns x))
-          (variable_same (text_of e.source.now) (env_of (rows_of e.scopes.now) c.args.scope) c.in-Name.name ∙ ap
+          (variable_same (source_text e.source.now) (env_of (rows_of e.scopes.now) c.args.scope) c.in-Name.name ∙ ap
           (λ n. numbered_variable_in (env_of (rows_of e.scopes.now) c.args.scope) n)
           (sym c.items.ensures)))
           (c.variable_of.ensures e.turns);
@@ -341,7 +341,7 @@ postfix-returns-in_err-variable t c =
     let e = c.args.self.now in
     let here = setting e c.args.scope in
     let missing = c.in_err-variable.ensures.missing in
-    let none = variable_same (text_of e.source.now) (env_of (rows_of e.scopes.now) c.args.scope) c.in-Name.name ∙ ap
+    let none = variable_same (source_text e.source.now) (env_of (rows_of e.scopes.now) c.args.scope) c.in-Name.name ∙ ap
     (λ n. numbered_variable_in (env_of (rows_of e.scopes.now) c.args.scope) n) (sym c.items.ensures)
     ∙ missing.0 in
     record {
@@ -356,7 +356,7 @@ pub postfix-returns-in-Name : goal.postfix-returns-in-Name
 postfix-returns-in-Name t c =
     let e = c.args.self.now in
     let here = setting e c.args.scope in
-    let found = variable_same (text_of e.source.now) (env_of (rows_of e.scopes.now) c.args.scope) c.in-Name.name ∙ ap
+    let found = variable_same (source_text e.source.now) (env_of (rows_of e.scopes.now) c.args.scope) c.in-Name.name ∙ ap
     (λ n. numbered_variable_in (env_of (rows_of e.scopes.now) c.args.scope) n) (sym c.items.ensures)
     ∙ c.in_ok-variable.ensures.found in
     record {
@@ -475,7 +475,7 @@ link-returns-in-Name t c =
           ∙ name_then here (term_of part.right) c.in-Name.at c.in-Name.name e.turns _
           (λ turns w. answered (binary_of part.op (bounded_val c.args.left) w) part.place turns)
           (ap term_of c.in-Name.is ∙ name_form c.in-Name.at c.in-Name.name)
-          (variable_same (text_of e.source.now) (env_of (rows_of e.scopes.now) c.args.scope) c.in-Name.name))
+          (variable_same (source_text e.source.now) (env_of (rows_of e.scopes.now) c.args.scope) c.in-Name.name))
           (c.binary_with_variable.ensures e.turns);
       kept = keeps_from _ _ refl (search rules) refl refl refl refl;
     }
@@ -602,7 +602,7 @@ each_argument-returns-in_err-held-clause-value t c =
     let names = names_in c.args.names in
     let before = c.each.so_far.given in
     let stop = c.in_err-held.field-0.0 in
-    let refused = if_err_at (λ (s : Stop). (taker_of (names_in c.each.so_far.names) c.each.positional (given_of before) a ≡ None) × IsFault s BadArgument (argument_place a))
+    let refused = if_err_at (λ (s : Stop). (taker_of (names_in c.each.so_far.names) c.each.positional (given_of before) a ≡ None) × IsFaultAt s BadArgument (argument_place a))
     c.destination_for-free.result stop c.in_err-held.ensures.err c.destination_for-free.ensures.none in
     rw (p.1, p.2) (argument_refused stop _ (argument_place a) _
     (argument_none here names c.each.positional _ (args_from (map arg_of (drop i xs))) (arguments_of before) c.each.self.turns

@@ -15,8 +15,8 @@ use Rattle.scad_value.specs.View.{vals_in}
 use Rattle.scad_value.specs.BoundedView.{bounded_val}
 use Rattle.scad_scope.specs.Names.{env_of}
 use Rattle.scad_scope.specs.Table.{rows_of}
-use Rattle.scad_scope.specs.Arguments.{nothing_given}
-use Rattle.scad_scope.specs.ArgumentsView.{names_in}
+use Rattle.scad_arguments.specs.Arguments.{nothing_given}
+use Rattle.scad_arguments.specs.ArgumentsView.{names_in}
 use Rattle.scad_func.specs.Meaning.{each_value, each_argument, each_parameter, each_suffix, each_link}
 use Rattle.scad_func.specs.Steps.{all_values}
 use Rattle.scad_func.specs.View.{indexed_val, slots_in, slots_bounded, arguments_of, arguments_bounded, function_size, param_size, params_size}

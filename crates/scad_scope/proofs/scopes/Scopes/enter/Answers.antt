@@ -1,8 +1,8 @@
 use Rattle.std.proofs.Common.{refl, subst, ◌≡◌, [], ◌∷◌, ◌++◌}
 use Rattle.std.specs.Prelude.{OnOk}
 use Rattle.scad_scope.specs.Names.{Row, no_numbered_call}
-use Rattle.scad_scope.specs.Blocks.{row_of_block}
-use Rattle.scad_scope.specs.Tables.{text_held}
+use Rattle.scad_scope.specs.Rows.{row_of_block}
+use Rattle.scad_blocks.specs.Tables.{text_held}
 use Rattle.scad_scope.specs.Table.{rows_of}
 use Rattle.scad_scope.proofs.Envs.{entering_told, entering_kept}
 use Rattle.scad_scope.proofs.Numbered.{block_stays_below}

@@ -1,8 +1,8 @@
 use Rattle.std.proofs.Common.{refl, ap, length, subst, ◌≡◌, [], ◌∷◌, ◌++◌, ◌∙◌}
 use Rattle.std.specs.Prelude.{OnOk}
 use Rattle.scad_scope.specs.Names.{Row, numbered_call, called_row, env_of}
-use Rattle.scad_scope.specs.Blocks.{row_of_block}
-use Rattle.scad_scope.specs.Tables.{text_held}
+use Rattle.scad_scope.specs.Rows.{row_of_block}
+use Rattle.scad_blocks.specs.Tables.{text_held}
 use Rattle.scad_scope.specs.Table.{rows_of}
 use Rattle.scad_scope.proofs.Envs.{entering_told, entering_kept, called_from}
 use Rattle.scad_scope.proofs.Numbered.{block_stays_below}

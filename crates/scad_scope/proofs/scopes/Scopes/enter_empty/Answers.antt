@@ -1,7 +1,7 @@
 use Rattle.std.proofs.Common.{refl, subst, ◌≡◌, [], ◌∷◌, ◌++◌}
 use Rattle.std.specs.Prelude.{OnOk}
 use Rattle.scad_scope.specs.Names.{empty_row, no_numbered_call}
-use Rattle.scad_scope.specs.Numbered.{numbers_below}
+use Rattle.scad_blocks.specs.Numbered.{numbers_below}
 use Rattle.scad_scope.specs.Table.{rows_of}
 use Rattle.scad_scope.proofs.Envs.{entering_told, entering_kept}
 use Rattle.scad_scope.proofs.Numbered.{entering_passes}

@@ -1,0 +1,103 @@
+-- Which argument each parameter of a call gets.
+use Rattle.std.specs.Prelude.{◌≡◌, ℕ, zero, ◌+◌, List, [], ◌∷◌, length, map, replicate, Option, Some, None, is_some, Result, Ok, Err, nat_lt, if◌then◌else◌, slice_index_or, slice_set}
+use Rattle.std.specs.Str.{bytes_eq}
+use Rattle.text_place.specs.declared.fault.Place.{Place}
+use Rattle.text_place.specs.declared.fault.Stop.{Stop}
+use Rattle.text_place.specs.declared.fault.Stop.TheVariants.{Fault, NoMemory}
+use Rattle.text_place.specs.declared.fault.FaultKind.TheVariants.{BadArgument}
+use Rattle.scad_ast.specs.Terms.{place_of, ParamTerm, PlainTerm, DefaultTerm, ArgTerm, NamedTerm, SpecialArgTerm, PositionalTerm}
+use Rattle.newest_names.specs.Newest.{Pairs, find_in, next}
+
+abbrev pub name_of : ParamTerm → List ℕ
+name_of (PlainTerm at name) = name
+name_of (DefaultTerm at name value) = name
+
+abbrev pub names_of : List ParamTerm → List (List ℕ)
+names_of = map name_of
+
+-- the number of the first of these names
+abbrev pub first_named : List (List ℕ) → List ℕ → Option ℕ
+first_named [] name = None
+first_named (n ∷ ns) name = if bytes_eq n name then Some zero else next (first_named ns name)
+
+-- The parameter, by the parameters' names, that an argument takes after so many positional ones, and how many there are
+-- then. A special argument takes none.
+abbrev pub taken_by : List (List ℕ) → ℕ → ArgTerm → Option ℕ
+taken_by names positional (PositionalTerm value) = if nat_lt positional (length names) then Some positional
+    else None
+taken_by names positional (NamedTerm at name value) = first_named names name
+taken_by names positional (SpecialArgTerm at name value) = None
+
+abbrev pub positional_after : ℕ → ArgTerm → ℕ
+positional_after positional (PositionalTerm value) = positional + 1
+positional_after positional (NamedTerm at name value) = positional
+positional_after positional (SpecialArgTerm at name value) = positional
+
+-- the place of an argument's first token
+abbrev pub argument_place : ArgTerm → Place
+argument_place (PositionalTerm value) = place_of value
+argument_place (NamedTerm at name value) = at
+argument_place (SpecialArgTerm at name value) = at
+
+-- What the arguments of a call give: to each parameter something or nothing, and something to special names, the newest
+-- first. In an evaluation that is a value, in a matching the argument's number.
+pub record Given (A : Type 0) : Type 0 where
+  pub slots : List (Option A)
+  pub specials : Pairs A
+
+-- before the first argument of so many parameters
+abbrev pub nothing_given : {A : Type 0} → ℕ → Given A
+nothing_given count = record { slots = replicate count None; specials = [] }
+
+-- what takes an argument: a parameter by its number, or a special name
+pub data Taker : Type 0 where
+  to_parameter : (number : ℕ) → Taker
+  to_special : (name : List ℕ) → Taker
+
+-- a parameter that was given nothing yet
+abbrev pub unless_filled : {A : Type 0} → List (Option A) → Option ℕ → Option Taker
+unless_filled slots None = None
+unless_filled slots (Some k) = if is_some (slice_index_or slots k None) then None else Some (to_parameter k)
+
+-- what takes an argument after so many positional ones, among parameters of these names: a surplus, an unknown and a
+-- twice given one have no taker
+abbrev pub taker_of : {A : Type 0} → List (List ℕ) → ℕ → Given A → ArgTerm → Option Taker
+taker_of names positional given (SpecialArgTerm at name value) = if is_some (find_in given.specials name) then None else Some (to_special name)
+taker_of names positional given arg = unless_filled given.slots (taken_by names positional arg)
+
+-- with one argument more
+abbrev pub with_argument : {A : Type 0} → Given A → Taker → A → Given A
+with_argument given (to_parameter k) x = record { slots = slice_set given.slots k (Some x); specials = given.specials }
+with_argument given (to_special name) x = record { slots = given.slots; specials = (name, x) ∷ given.specials }
+
+-- goes on, or stops at an argument's place
+abbrev pub or_place : Option Taker → Place → (Taker → Result (Given ℕ) Place) → Result (Given ℕ) Place
+or_place None place go = Err place
+or_place (Some taker) place go = go taker
+
+-- The numbers of the arguments from this number on, put to what takes them, or the place of the first that nothing takes.
+abbrev pub matched : List (List ℕ) → ℕ → ℕ → List ArgTerm → Given ℕ → Result (Given ℕ) Place
+matched names number positional [] given = Ok given
+matched names number positional (a ∷ args) given =
+    or_place (taker_of names positional given a) (argument_place a) (λ taker.
+    matched names (number + 1) (positional_after positional a) args (with_argument given taker number))
+
+-- for each parameter the number of its argument, or none
+abbrev pub only_slots : Result (Given ℕ) Place → Result (List (Option ℕ)) Place
+only_slots (Ok given) = Ok given.slots
+only_slots (Err at) = Err at
+
+-- a call's arguments, from the first on
+abbrev pub matching_of : List (List ℕ) → List ArgTerm → Result (List (Option ℕ)) Place
+matching_of names args = only_slots (matched names 0 0 args (nothing_given (length names)))
+
+-- the matching, or a fault at an argument's place, unless memory ran out
+abbrev pub TellsMatching : Result (List (Option ℕ)) Stop → Result (List (Option ℕ)) Place → Type 0
+TellsMatching (Ok slots) out = out ≡ Ok slots
+TellsMatching (Err (Fault fault)) out = (fault.kind ≡ BadArgument) × (out ≡ Err fault.place)
+TellsMatching (Err NoMemory) out = Unit {0}
+
+-- a number after so many others
+abbrev pub later : ℕ → Option ℕ → Option ℕ
+later i (Some k) = Some (i + k)
+later i None = None

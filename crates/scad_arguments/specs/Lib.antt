@@ -1,0 +1,4 @@
+pub mod Arguments
+pub mod ArgumentsView
+pub mod Lookup
+pub mod SoFarView

@@ -1,0 +1,25 @@
+-- The index by which the names of a call's arguments are found.
+use Rattle.std.specs.Prelude.{ℕ, ◌+◌, List, [], ◌∷◌, map, Bool, true, false, if◌then◌else◌}
+use Rattle.std.specs.Str.{bytes_eq}
+use Rattle.newest_names.specs.Newest.{Pairs}
+use Rattle.scad_arguments.specs.declared.parameters.Destination.{Destination}
+use Rattle.scad_arguments.specs.declared.parameters.Destination.TheVariants.{Parameter, Special}
+
+-- names with their numbers, from a number on
+abbrev pub numbered_from : ℕ → List (List ℕ) → Pairs ℕ
+numbered_from i [] = []
+numbered_from i (n ∷ ns) = (n, i) ∷ numbered_from (i + 1) ns
+
+-- the names of pairs
+abbrev pub names_told : {A : Type 0} → Pairs A → List (List ℕ)
+names_told pairs = map (λ p. p.0) pairs
+
+-- whether a name is one of these
+abbrev pub is_told : List (List ℕ) → List ℕ → Bool
+is_told [] name = false
+is_told (n ∷ ns) name = if bytes_eq n name then true else is_told ns name
+
+-- special names behind an argument that something takes
+abbrev pub taken_after : List (List ℕ) → Destination → List (List ℕ)
+taken_after told (Parameter number) = told
+taken_after told (Special name) = name.now ∷ told

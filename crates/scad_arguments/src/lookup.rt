@@ -1,0 +1,87 @@
+ghost use Rattle.std.specs.Prelude.{◌≡◌, ◌<◌, ℕ, List, [], length, IfOk, IfSome, OnOk};
+ghost use Rattle.newest_names.specs.Names.{newest_first};
+ghost use Rattle.scad_arguments.specs.Arguments.{first_named as first_of};
+ghost use Rattle.scad_arguments.specs.ArgumentsView.{names_in};
+ghost use Rattle.scad_arguments.specs.Lookup.{is_told, names_told, numbered_from, taken_after};
+
+use crate::parameters::{Destination, Names, count_of, name_at};
+use newest_names::NameList;
+use scad_ast::Arg;
+use std::alloc::Global;
+use text_place::{Bytes, NoMemory};
+
+// How many names are looked up one after another.
+const FEW: usize = 8;
+
+/// The names of parameters, each with its number, and special names.
+#[derive(Drop)]
+pub(crate) struct NameIndex {
+    pub(crate) parameters: NameList<usize>,
+    pub(crate) specials: NameList<()>,
+}
+
+impl NameIndex {
+    /// The first parameter of a name.
+    pub(crate) fn first_named(&self, name: &[u8]) -> Option<usize>
+        ensures value { (names : List (List ℕ)) → newest_first self.now.parameters ≡ numbered_from 0 names → result ≡ first_of names name.now }
+        ensures within { (names : List (List ℕ)) → newest_first self.now.parameters ≡ numbered_from 0 names → IfSome result (λ k. k < length names) }
+    {
+        self.parameters.find(name).copied()
+    }
+
+    /// Whether a special name is there.
+    pub(crate) fn has_special(&self, name: &[u8]) -> bool
+        ensures { result ≡ is_told (names_told (newest_first self.now.specials)) name.now }
+    {
+        self.specials.find(name).is_some()
+    }
+
+    /// With the special name that takes an argument, where one does.
+    pub(crate) fn add_special(
+        &mut self,
+        alloc: Global,
+        destination: Destination<'_>,
+    ) -> Result<(), NoMemory>
+        ensures parameters { self.new.parameters ≡ self.old.parameters }
+        ensures added { OnOk result (names_told (newest_first self.new.specials)
+            ≡ taken_after (names_told (newest_first self.old.specials)) destination.entry) }
+    {
+        match destination {
+            Destination::Parameter(_) => Ok(()),
+            Destination::Special(name) => {
+                let name = Bytes::copy_of(alloc, name)?;
+                self.specials.push(alloc, name, ())
+            }
+        }
+    }
+}
+
+/// Whether many arguments have names.
+pub(crate) fn are_many(args: &[Arg]) -> bool {
+    let mut named: usize = 0;
+    for arg in args {
+        if let Arg::Named(_, _, _) | Arg::Special(_, _, _) = arg {
+            named = named.saturating_add(1);
+        }
+    }
+    named > FEW
+}
+
+/// An index of parameters' names, and of no special name.
+pub(crate) fn index_of(alloc: Global, names: Names<'_>) -> Result<NameIndex, NoMemory>
+    ensures parameters_indexed { IfOk result (λ index. newest_first index.parameters ≡ numbered_from 0 (names_in names.entry)) }
+    ensures no_specials { IfOk result (λ index. newest_first index.specials ≡ []) }
+{
+    let mut parameters = NameList::new(alloc);
+    let mut left = count_of(names);
+    // From the last on, so that the first of a name is its newest.
+    'back: while left > 0 {
+        left -= 1;
+        let name = Bytes::copy_of(alloc, name_at(names, left))?;
+        parameters.push(alloc, name, left)?;
+    }
+    Ok(NameIndex {
+        parameters,
+        specials: NameList::new(alloc),
+    })
+}

@@ -1,0 +1,68 @@
+-- A program's blocks, functions and modules are as many as its text counts.
+use Rattle.std.proofs.Common.{◌≡◌, ℕ, suc, ◌+◌, ◌<◌, ◌^◌, List, [], ◌∷◌, length, map, drop, get_or, refl, ap, ◌∙◌, arith, length-append}
+use Rattle.scad_ast.specs.Terms.{StatementTerm, EmptyStatement, BlockStatement, AssignmentTerm, SpecialAssignmentTerm, ModuleTerm, FunctionTerm, InstanceStatement, StatementTerms, no_statements, and_statement, InstanceTerm, AnInstance, CoreTerm, IfTerm, IfElseTerm, ForTerm, IntersectionForTerm, ModuleCallTerm, BodyTerm, EmptyBody, BlockBody, InstanceBody, statements_from}
+use Rattle.scad_ast.specs.declared.statement.Statement.{Statement}
+use Rattle.scad_ast.specs.StatementView.{statement_of}
+use Rattle.scad_ast.specs.Counts.{begun_by, begun_in, begun_by_instance, begun_by_core, begun_by_body}
+use Rattle.scad_blocks.specs.Blocks.{Mark, a_block, a_function, a_module, marks_of, marks_in, marks_of_instance, marks_of_core, marks_of_body, no_own, Entry, entry_at, NumberedText}
+use Rattle.scad_blocks.specs.Walk.{numbered, with_mark, after, with_text}
+use Rattle.scad_blocks.proofs.Scans.{statements_here}
+
+mutual
+  marks_begun : (s : StatementTerm) → length (marks_of s) ≡ begun_by s
+  marks_begun (EmptyStatement at) = refl
+  marks_begun (BlockStatement at statements) = all_begun statements
+  marks_begun (AssignmentTerm at name value) = refl
+  marks_begun (SpecialAssignmentTerm at name value) = refl
+  marks_begun (ModuleTerm at name name_at params body) = ap suc (body_begun body)
+  marks_begun (FunctionTerm at name name_at params value) = refl
+  marks_begun (InstanceStatement instance) = instance_begun instance
+
+  pub all_begun : (ss : StatementTerms) → length (marks_in ss) ≡ begun_in ss
+  all_begun no_statements = refl
+  all_begun (and_statement s rest) = omega (arith, length-append (marks_of s) (marks_in rest), marks_begun s, all_begun rest)
+
+  instance_begun : (i : InstanceTerm) → length (marks_of_instance i) ≡ begun_by_instance i
+  instance_begun (AnInstance at marks core) = core_begun core
+
+  core_begun : (c : CoreTerm) → length (marks_of_core c) ≡ begun_by_core c
+  core_begun (IfTerm at test body) = body_begun body
+  core_begun (IfElseTerm at test body other) = omega (arith, length-append (marks_of_body body) (marks_of_body other), body_begun body, body_begun other)
+  core_begun (ForTerm at binders body) = body_begun body
+  core_begun (IntersectionForTerm at binders body) = body_begun body
+  core_begun (ModuleCallTerm at name args body) = body_begun body
+
+  body_begun : (b : BodyTerm) → length (marks_of_body b) ≡ begun_by_body b
+  body_begun (EmptyBody at) = refl
+  body_begun (BlockBody at statements) = ap suc (all_begun statements)
+  body_begun (InstanceBody instance) = ap suc (instance_begun instance)
+
+-- ---- how much has numbers in a walk
+pub numbered_mark : (w : NumberedText) (mark : Mark) → numbered (with_mark w mark) ≡ numbered w + 1
+numbered_mark w (a_block s) =
+    let e = entry_at (length w.entries) (length w.functions) (length w.modules) s in
+    omega (arith, length-append w.entries (e ∷ []))
+numbered_mark w (a_function f) = omega (arith, length-append w.functions (f ∷ []))
+numbered_mark w (a_module d) = omega (arith, length-append w.modules (d ∷ []))
+
+pub numbered_after : (w : NumberedText) (marks : List Mark) → numbered (after w marks) ≡ numbered w + length marks
+numbered_after w [] = omega arith
+numbered_after w (mark ∷ marks) = omega (arith, numbered_after (with_mark w mark) marks, numbered_mark w mark)
+
+pub numbered_begun : (w : NumberedText) (s : StatementTerms) → numbered (with_text w s) ≡ numbered w + 1
+numbered_begun w s =
+    let e : Entry = record { statements = s; own = no_own; behind = 0 } in
+    omega (arith, length-append w.entries (e ∷ []))
+
+-- a statement of those that are left has room where all of them have
+pub room_here : (w v : NumberedText) (ss lent : List Statement) (all : StatementTerms) (i : ℕ) (s : Statement)
+    → after v (marks_in (statements_from (map statement_of (drop i ss)))) ≡ after w (marks_in all)
+    → numbered w + length (marks_in all) < 2 ^ 32
+    → lent ≡ ss → i < length lent → s ≡ get_or lent i s
+    → numbered v + length (marks_of (statement_of s)) < 2 ^ 32
+room_here w v ss lent all i s told room same h e =
+    let left = marks_in (statements_from (map statement_of (drop i ss))) in
+    let rest = marks_in (statements_from (map statement_of (drop (i + 1) ss))) in
+    let split = ap (λ l. length (marks_in l)) (statements_here ss i s (omega (arith, h, ap length same)) (e ∙ ap (λ l. get_or l i s) same))
+    ∙ length-append (marks_of (statement_of s)) rest in
+    omega (arith, numbered_after v left, numbered_after w (marks_in all), ap numbered told, split, room)

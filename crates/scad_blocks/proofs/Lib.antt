@@ -1,0 +1,7 @@
+pub mod Scans
+pub mod Walks
+pub mod Held
+pub mod Placed
+pub mod Order
+pub mod Begun
+pub mod Numbered

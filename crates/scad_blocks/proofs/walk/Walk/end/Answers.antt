@@ -1,0 +1,18 @@
+use Rattle.std.proofs.Common.{◌≡◌, ◌<◌, rules, List, length, map, ap, arith}
+use Rattle.scad_blocks.specs.Blocks.{Entry}
+use Rattle.scad_blocks.specs.TextView.{entry_of, function_of, module_of, block_of_module}
+use Rattle.scad_blocks.proofs.Held.{entry_set, mapped_length}
+use Rattle.scad_blocks.proofs.walk.Walk.end.Goals as goal
+
+pub returns : goal.returns
+returns c =
+    let es = c.args.self.now.entries.items in
+    let here : c.args.number < length es = omega (arith, c.requires.begun, mapped_length entry_of es) in
+    let behind : c.len-behind.result ≡ length es = search rules in
+    ap (λ (l : List Entry). record {
+      entries = l;
+      functions = map function_of c.args.self.now.functions.items;
+      modules = map module_of c.args.self.now.modules.items;
+      bodies = map block_of_module c.args.self.now.modules.items;
+    }) (entry_set es c.args.number c.index_mut-entry.result.now c.args.own c.len-behind.result here
+    c.index_mut-entry.ensures.value behind)

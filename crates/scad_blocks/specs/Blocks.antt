@@ -1,0 +1,253 @@
+-- The blocks of a program, the definitions that stand in each, and their numbers.
+use Rattle.std.specs.Prelude.{◌≡◌, ◌<◌, ℕ, zero, suc, ◌+◌, List, [], ◌∷◌, ◌++◌, length, slice_index_or, Bool, true, false, ◌&&◌, if◌then◌else◌, Option, Some, None}
+use Rattle.std.specs.Bool.{beq}
+use Rattle.std.specs.Str.{bytes_eq}
+use Rattle.text_place.specs.declared.fault.Place.{Place}
+use Rattle.scad_ast.specs.Terms.{Term, ParamTerm, StatementTerm, EmptyStatement, BlockStatement, AssignmentTerm, SpecialAssignmentTerm, ModuleTerm, FunctionTerm, InstanceStatement, StatementTerms, no_statements, and_statement, InstanceTerm, AnInstance, CoreTerm, IfTerm, IfElseTerm, ForTerm, IntersectionForTerm, ModuleCallTerm, BodyTerm, EmptyBody, BlockBody, InstanceBody, statements_from}
+use Rattle.newest_names.specs.Newest.{Pairs, next}
+
+-- a function and a module of the source
+pub record Function : Type 0 where
+  pub params : List ParamTerm
+  pub value : Term
+
+pub record Module : Type 0 where
+  pub params : List ParamTerm
+  pub body : BodyTerm
+
+-- what begins in a text: a block with the statements that stand in it, a function or a module
+pub data Mark : Type 0 where
+  a_block : (statements : StatementTerms) → Mark
+  a_function : (function : Function) → Mark
+  a_module : (defined : Module) → Mark
+
+-- the statements of a body; a single instance is one statement
+abbrev pub statements_of_body : BodyTerm → StatementTerms
+statements_of_body (EmptyBody at) = no_statements
+statements_of_body (BlockBody at statements) = statements
+statements_of_body (InstanceBody instance) = and_statement (InstanceStatement instance) no_statements
+
+-- the blocks and definitions of a text, in the order in which they begin
+abbrev mutual
+  pub marks_of : StatementTerm → List Mark
+  marks_of (EmptyStatement at) = []
+  marks_of (BlockStatement at statements) = marks_in statements
+  marks_of (AssignmentTerm at name value) = []
+  marks_of (SpecialAssignmentTerm at name value) = []
+  marks_of (ModuleTerm at name name_at params body) = a_module (record { params = params; body = body }) ∷ marks_of_body body
+  marks_of (FunctionTerm at name name_at params value) =
+      a_function (record { params = params; value = value }) ∷ a_block no_statements ∷ []
+  marks_of (InstanceStatement instance) = marks_of_instance instance
+
+  pub marks_in : StatementTerms → List Mark
+  marks_in no_statements = []
+  marks_in (and_statement s rest) = marks_of s ++ marks_in rest
+
+  pub marks_of_instance : InstanceTerm → List Mark
+  marks_of_instance (AnInstance at marks core) = marks_of_core core
+
+  pub marks_of_core : CoreTerm → List Mark
+  marks_of_core (IfTerm at test body) = marks_of_body body
+  marks_of_core (IfElseTerm at test body other) = marks_of_body body ++ marks_of_body other
+  marks_of_core (ForTerm at binders body) = marks_of_body body
+  marks_of_core (IntersectionForTerm at binders body) = marks_of_body body
+  marks_of_core (ModuleCallTerm at name args body) = marks_of_body body
+
+  pub marks_of_body : BodyTerm → List Mark
+  marks_of_body (EmptyBody at) = a_block no_statements ∷ []
+  marks_of_body (BlockBody at statements) = a_block statements ∷ marks_in statements
+  marks_of_body (InstanceBody instance) =
+      a_block (and_statement (InstanceStatement instance) no_statements) ∷ marks_of_instance instance
+
+-- a program is block 0, and its bodies and the expressions of functions come behind it
+abbrev pub marks_of_program : List StatementTerm → List Mark
+marks_of_program program = a_block (statements_from program) ∷ marks_in (statements_from program)
+
+-- the functions and the modules that begin in a text, in order: their numbers count from 0
+abbrev pub functions_among : List Mark → List Function
+functions_among [] = []
+functions_among (a_block inner ∷ marks) = functions_among marks
+functions_among (a_function f ∷ marks) = f ∷ functions_among marks
+functions_among (a_module d ∷ marks) = functions_among marks
+
+abbrev pub modules_among : List Mark → List Module
+modules_among [] = []
+modules_among (a_block inner ∷ marks) = modules_among marks
+modules_among (a_function f ∷ marks) = modules_among marks
+modules_among (a_module d ∷ marks) = d ∷ modules_among marks
+
+abbrev pub functions_of_program : List StatementTerm → List Function
+functions_of_program program = functions_among (marks_of_program program)
+
+abbrev pub modules_of_program : List StatementTerm → List Module
+modules_of_program program = modules_among (marks_of_program program)
+
+-- how many functions, modules and blocks begin in a text
+abbrev pub count_functions : List Mark → ℕ
+count_functions marks = length (functions_among marks)
+
+abbrev pub count_modules : List Mark → ℕ
+count_modules marks = length (modules_among marks)
+
+abbrev pub count_blocks : List Mark → ℕ
+count_blocks [] = 0
+count_blocks (a_block inner ∷ marks) = suc (count_blocks marks)
+count_blocks (a_function f ∷ marks) = count_blocks marks
+count_blocks (a_module d ∷ marks) = count_blocks marks
+
+-- the numbers of the blocks of the modules' bodies, behind so many blocks: each body begins at its module
+abbrev pub bodies_from : ℕ → List Mark → List ℕ
+bodies_from number [] = []
+bodies_from number (a_block inner ∷ marks) = bodies_from (number + 1) marks
+bodies_from number (a_function f ∷ marks) = bodies_from number marks
+bodies_from number (a_module d ∷ marks) = number ∷ bodies_from number marks
+
+-- the functions that stand in a block, with their numbers, behind so many others; a bare block's count as the
+-- block's own
+abbrev mutual
+  pub own_functions : ℕ → StatementTerms → Pairs ℕ
+  own_functions before no_statements = []
+  own_functions before (and_statement s rest) = own_function before s ++ own_functions
+      (before + count_functions (marks_of s)) rest
+
+  pub own_function : ℕ → StatementTerm → Pairs ℕ
+  own_function before (EmptyStatement at) = []
+  own_function before (BlockStatement at statements) = own_functions before statements
+  own_function before (AssignmentTerm at name value) = []
+  own_function before (SpecialAssignmentTerm at name value) = []
+  own_function before (ModuleTerm at name name_at params body) = []
+  own_function before (FunctionTerm at name name_at params value) = (name, before) ∷ []
+  own_function before (InstanceStatement instance) = []
+
+-- the modules that stand in a block
+abbrev mutual
+  pub own_modules : ℕ → StatementTerms → Pairs ℕ
+  own_modules before no_statements = []
+  own_modules before (and_statement s rest) = own_module before s ++ own_modules (before + count_modules
+      (marks_of s)) rest
+
+  pub own_module : ℕ → StatementTerm → Pairs ℕ
+  own_module before (EmptyStatement at) = []
+  own_module before (BlockStatement at statements) = own_modules before statements
+  own_module before (AssignmentTerm at name value) = []
+  own_module before (SpecialAssignmentTerm at name value) = []
+  own_module before (ModuleTerm at name name_at params body) = (name, before) ∷ []
+  own_module before (FunctionTerm at name name_at params value) = []
+  own_module before (InstanceStatement instance) = []
+
+-- An assignment: its name, with whether it is a special one, its place and its expression.
+pub record Assigned : Type 0 where
+  pub at : Place
+  pub special : Bool
+  pub name : List ℕ
+  pub value : Term
+
+abbrev pub same_name : Assigned → Assigned → Bool
+same_name a b = beq a.special b.special && bytes_eq a.name b.name
+
+-- One assignment more: a name that is there keeps its place and gets this expression (OpenSCAD User Manual,
+-- "Variables": the last assignment counts, at the place of the first).
+abbrev pub with_assigned : List Assigned → Assigned → List Assigned
+with_assigned [] a = a ∷ []
+with_assigned (b ∷ bs) a = if same_name b a then record b { value = a.value } ∷ bs else b ∷ with_assigned bs a
+
+-- the number of the assignment that has the same name
+abbrev pub place_in : List Assigned → Assigned → Option ℕ
+place_in [] a = None
+place_in (b ∷ bs) a = if same_name b a then Some zero else next (place_in bs a)
+
+abbrev pub all_assigned : List Assigned → List Assigned → List Assigned
+all_assigned before [] = before
+all_assigned before (a ∷ rest) = all_assigned (with_assigned before a) rest
+
+-- the assignments that stand in a block, in the order of the text; a bare block's count as the block's own
+abbrev mutual
+  pub assigned_in : StatementTerms → List Assigned
+  assigned_in no_statements = []
+  assigned_in (and_statement s rest) = assigned_by s ++ assigned_in rest
+
+  pub assigned_by : StatementTerm → List Assigned
+  assigned_by (EmptyStatement at) = []
+  assigned_by (BlockStatement at statements) = assigned_in statements
+  assigned_by (AssignmentTerm at name value) = record { at = at; special = false; name = name; value = value } ∷ []
+  assigned_by (SpecialAssignmentTerm at name value) = record { at = at; special = true; name = name; value = value } ∷ []
+  assigned_by (ModuleTerm at name name_at params body) = []
+  assigned_by (FunctionTerm at name name_at params value) = []
+  assigned_by (InstanceStatement instance) = []
+
+-- a block's assignments, each name once
+abbrev pub assignments_of : StatementTerms → List Assigned
+assignments_of statements = all_assigned [] (assigned_in statements)
+
+-- a block's own definitions with their numbers, in the order of the text, and its assignments
+pub record Own : Type 0 where
+  pub functions : Pairs ℕ
+  pub modules : Pairs ℕ
+  pub assignments : List Assigned
+
+abbrev pub no_own : Own
+no_own = record { functions = []; modules = []; assignments = [] }
+
+abbrev pub own_of_block : ℕ → ℕ → StatementTerms → Own
+own_of_block functions modules statements = record {
+  functions = own_functions functions statements;
+  modules = own_modules modules statements;
+  assignments = assignments_of statements;
+}
+
+-- what a block has: its statements, its own, and the number of the first block behind it and all that stands in it
+pub record Entry : Type 0 where
+  pub statements : StatementTerms
+  pub own : Own
+  pub behind : ℕ
+
+-- a block that isn't there has nothing
+abbrev pub nothing_there : Entry
+nothing_there = record { statements = no_statements; own = no_own; behind = 0 }
+
+abbrev pub entry_at : ℕ → ℕ → ℕ → StatementTerms → Entry
+entry_at number functions modules statements = record {
+  statements = statements;
+  own = own_of_block functions modules statements;
+  behind = number + 1 + count_blocks (marks_in statements);
+}
+
+-- the blocks that begin in a text, behind so many blocks, functions and modules
+abbrev pub entries_from : ℕ → ℕ → ℕ → List Mark → List Entry
+entries_from number functions modules [] = []
+entries_from number functions modules (a_block statements ∷ marks) =
+    entry_at number functions modules statements ∷ entries_from (number + 1) functions modules marks
+entries_from number functions modules (a_function f ∷ marks) = entries_from number (functions + 1) modules marks
+entries_from number functions modules (a_module d ∷ marks) = entries_from number functions (modules + 1) marks
+
+-- a program's blocks, functions and modules by number, and for each module the number of its body's block
+pub record NumberedText : Type 0 where
+  pub entries : List Entry
+  pub functions : List Function
+  pub modules : List Module
+  pub bodies : List ℕ
+
+abbrev pub numbered_text : List StatementTerm → NumberedText
+numbered_text program = record {
+  entries = entries_from 0 0 0 (marks_of_program program);
+  functions = functions_of_program program;
+  modules = modules_of_program program;
+  bodies = bodies_from 0 (marks_of_program program);
+}
+
+-- that the blocks from a number on are those of these marks: whoever walks the statements of a block in order meets
+-- their blocks one behind the other
+abbrev pub StandAt : NumberedText → ℕ → List Mark → Type 0
+StandAt text number [] = Unit {0}
+StandAt text number (a_block statements ∷ marks) =
+    (number < length text.entries) × ((slice_index_or text.entries number nothing_there).statements ≡ statements)
+    × StandAt text (number + 1) marks
+StandAt text number (a_function f ∷ marks) = StandAt text number marks
+StandAt text number (a_module d ∷ marks) = StandAt text number marks
+
+-- what stands in a block begins behind it, and a module's body at the number that the module has
+pub record StandsInOrder (text : NumberedText) : Type 0 where
+  pub blocks : (n : ℕ) → n < length text.entries
+      → StandAt text (n + 1) (marks_in (slice_index_or text.entries n nothing_there).statements)
+  pub bodies : (k : ℕ) (d : Module) → k < length text.modules → d ≡ slice_index_or text.modules k d
+      → StandAt text (slice_index_or text.bodies k 0) (marks_of_body d.body)
