@@ -38,6 +38,7 @@ pub begun_kept : {first old new : Evaluation} → EvaluationBegins first old →
 begun_kept b k = record {
   source = k.source ∙ b.source;
   lent = k.lent ∙ b.lent;
+  stands = k.stands ∙ b.stands;
   rows = k.rows ∙ b.rows;
   chain = k.chain ∙ b.chain;
   calls = k.calls ∙ b.calls;

@@ -45,7 +45,7 @@ pub same_evaluations : (old new : InstanceEvaluator) → Stays old new → evalu
 same_evaluations old new k = ap (λ n. 512 - n) k.depth
 
 pub stays_same : (m : InstanceEvaluator) → Stays m m
-stays_same m = record { unit = refl; source = refl; lent = refl; rows = refl; chain = refl; calls = refl; depth = refl }
+stays_same m = record { unit = refl; source = refl; lent = refl; stands = refl; rows = refl; chain = refl; calls = refl; depth = refl }
 
 -- two evaluators of one evaluation
 pub stays_alike : (a b : InstanceEvaluator) → b.unit ≡ a.unit → b.evaluation ≡ a.evaluation → Stays a b
@@ -53,6 +53,7 @@ stays_alike a b u e = record {
   unit = u;
   source = ap (λ (x : Evaluation). x.source.now) e;
   lent = ap (λ (x : Evaluation). x.scopes.ghost_name) e;
+  stands = ap (λ (x : Evaluation). x.scope) e;
   rows = ap (λ (x : Evaluation). rows_of x.scopes.now) e;
   chain = ap (λ (x : Evaluation). chain_of x.scopes.now) e;
   calls = ap (λ (x : Evaluation). x.calls) e;
@@ -64,6 +65,7 @@ stays_then f g = record {
   unit = g.unit ∙ f.unit;
   source = g.source ∙ f.source;
   lent = g.lent ∙ f.lent;
+  stands = g.stands ∙ f.stands;
   rows = g.rows ∙ f.rows;
   chain = g.chain ∙ f.chain;
   calls = g.calls ∙ f.calls;
@@ -72,7 +74,7 @@ stays_then f g = record {
 
 -- what an evaluation keeps, where the unit stays
 pub stays_kept : (old new : InstanceEvaluator) → new.unit ≡ old.unit → Keeps old.evaluation new.evaluation → Stays old new
-stays_kept old new u k = record { unit = u; source = k.source; lent = k.lent; rows = k.rows; chain = k.chain; calls = k.calls; depth = k.depth }
+stays_kept old new u k = record { unit = u; source = k.source; lent = k.lent; stands = k.stands; rows = k.rows; chain = k.chain; calls = k.calls; depth = k.depth }
 
 -- a stand is still there
 pub checked_still : (a b : LengthUnit) (o : Option Extrusion) → b ≡ a → IsChecked a o → IsChecked b o
@@ -119,6 +121,7 @@ assigns_then {a = a} {b = b} {c = c} f g = record {
   unit = g.unit ∙ f.unit;
   source = g.source ∙ f.source;
   lent = g.lent ∙ f.lent;
+  stands = g.stands ∙ f.stands;
   leaves = g.leaves ∙ f.leaves;
   front = g.front ∙ f.front;
   there = g.there ∙ f.there;

@@ -76,6 +76,7 @@ pub scope_entered : (old : InstanceEvaluator) (scope : ℕ) {mid new : InstanceE
 scope_entered old scope k e = record {
   source = k.source ∙ e.source;
   lent = k.lent ∙ e.lent;
+  stands = k.stands ∙ e.stands;
   front = ap (take scope) k.rows ∙ e.front;
   number = e.number;
   there = ap length k.rows ∙ e.there;
@@ -92,6 +93,7 @@ scope_bound old s {mid = mid} {new = new} same bound e =
     record {
       source = b.source ∙ e.source;
       lent = b.lent ∙ e.lent;
+      stands = b.stands ∙ e.stands;
       front = b.front ∙ e.front;
       number = e.number;
       there = b.there ∙ e.there;
@@ -105,6 +107,7 @@ pub specials_begun : (old : InstanceEvaluator) (count : ℕ) {mid new : Instance
 specials_begun old count k b = record {
   source = k.source ∙ b.source;
   lent = k.lent ∙ b.lent;
+  stands = k.stands ∙ b.stands;
   rows = k.rows ∙ b.rows;
   older = ap (oldest count) k.chain ∙ b.older;
   number = b.number;
@@ -124,6 +127,7 @@ pub call_begun : (old : InstanceEvaluator) {mid new : InstanceEvaluator} → Sta
 call_begun old k b = record {
   source = k.source ∙ b.source;
   lent = k.lent ∙ b.lent;
+  stands = k.stands ∙ b.stands;
   rows = k.rows ∙ b.rows;
   chain = k.chain ∙ b.chain;
   calls = k.calls ∙ b.calls;
@@ -136,6 +140,7 @@ pub evaluation_begun : (old : InstanceEvaluator) {mid new : InstanceEvaluator} �
 evaluation_begun old k b = record {
   source = k.source ∙ b.source;
   lent = k.lent ∙ b.lent;
+  stands = k.stands ∙ b.stands;
   rows = k.rows ∙ b.rows;
   chain = k.chain ∙ b.chain;
   calls = k.calls ∙ b.calls;
@@ -152,6 +157,7 @@ block_bound old mid after new scope a k unit same rows chain = record {
   unit = unit ∙ k.unit ∙ a.unit;
   source = same.source ∙ k.source ∙ a.source;
   lent = same.lent ∙ k.lent ∙ a.lent;
+  stands = same.stands ∙ k.stands ∙ a.stands;
   front = ap (take scope) (rows ∙ k.rows) ∙ a.front;
   there = ap length (rows ∙ k.rows) ∙ a.there;
   chain = chain ∙ ap (oldest (length (chain_of old.evaluation.scopes.now))) (k.chain ∙ a.chain)

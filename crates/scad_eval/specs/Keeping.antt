@@ -61,6 +61,7 @@ pub record Stays (old new : InstanceEvaluator) : Type 0 where
   pub unit : new.unit ≡ old.unit
   pub source : new.evaluation.source.now ≡ old.evaluation.source.now
   pub lent : new.evaluation.scopes.ghost_name ≡ old.evaluation.scopes.ghost_name
+  pub stands : new.evaluation.scope ≡ old.evaluation.scope
   pub rows : rows_of new.evaluation.scopes.now ≡ rows_of old.evaluation.scopes.now
   pub chain : chain_of new.evaluation.scopes.now ≡ chain_of old.evaluation.scopes.now
   pub calls : new.evaluation.calls ≡ old.evaluation.calls
@@ -85,6 +86,7 @@ pub record Binds (old new : InstanceEvaluator) (scope : ℕ) : Type 0 where
   pub unit : new.unit ≡ old.unit
   pub source : new.evaluation.source.now ≡ old.evaluation.source.now
   pub lent : new.evaluation.scopes.ghost_name ≡ old.evaluation.scopes.ghost_name
+  pub stands : new.evaluation.scope ≡ old.evaluation.scope
   pub front : take scope (rows_of new.evaluation.scopes.now) ≡ take scope (rows_of old.evaluation.scopes.now)
   pub there : scopes_there new.evaluation ≡ scopes_there old.evaluation
   pub chain : chain_of new.evaluation.scopes.now ≡ chain_of old.evaluation.scopes.now
@@ -97,6 +99,7 @@ pub record Assigns (old new : InstanceEvaluator) (scope : ℕ) : Type 0 where
   pub leaves : new.leaves ≡ old.leaves
   pub source : new.evaluation.source.now ≡ old.evaluation.source.now
   pub lent : new.evaluation.scopes.ghost_name ≡ old.evaluation.scopes.ghost_name
+  pub stands : new.evaluation.scope ≡ old.evaluation.scope
   pub front : take scope (rows_of new.evaluation.scopes.now) ≡ take scope (rows_of old.evaluation.scopes.now)
   pub there : scopes_there new.evaluation ≡ scopes_there old.evaluation
   pub newer : Pairs Val

@@ -54,6 +54,7 @@ fn design_of(
             alloc,
             source,
             scopes,
+            scope: 0,
             calls: 0,
             depth: 0,
             turns: 0,

@@ -24,7 +24,7 @@ use Rattle.scad_func.proofs.GivenSeen.{IsHeld}
 use Rattle.scad_arguments.specs.declared.parameters.GivenArguments.{GivenArguments}
 use Rattle.scad_func.proofs.Calls.{in_front}
 use Rattle.scad_func.specs.declared.evaluation.Evaluation.{Evaluation}
-use Rattle.scad_func.specs.Evaluations.{Keeps, EvaluatesTo, setting}
+use Rattle.scad_func.specs.Evaluations.{Keeps, EvaluatesTo, setting_here}
 use Rattle.scad_func.proofs.Kept.{moved}
 use Rattle.scad_func.proofs.Outcomes.{tells_along, front_more, and_arg}
 use Rattle.scad_func.proofs.Steps.{argument_more, argument_fault, bounded_set}
@@ -55,22 +55,22 @@ module _ (start : Outcome Vals) (before : BoundedValues) (now : Outcome Vals) (s
       subst (λ (x : Stop). TellsAs values_seen (Err x) n start) (sym l) (fault_told f m n t)
 
 -- one item more behind values so far, or its stop: the item gives what `step` says, and those behind it go on by `go`
-module _ (first now : Evaluation) (scope : ℕ) (kept : Keeps first now) (before : BoundedValues) (start out : Outcome Vals)
+module _ (first now : Evaluation) (kept : Keeps first now) (before : BoundedValues) (start out : Outcome Vals)
     (step : Setting → ℕ → Outcome Val) (go : ℕ → Outcome Vals) (s : start ≡ in_front (vals_in before.items.items) out)
-    (h : out ≡ and_then (step (setting first scope) now.turns) go) where
-  told_here : (new : Evaluation) (r : Result BoundedValue Stop) → EvaluatesTo bounded_val now new scope r step
-      → TellsAs bounded_val r new.turns (step (setting first scope) now.turns)
-  told_here new r e = tells_along r new.turns _ _ (moved (λ here. step here now.turns) scope kept) e.value
+    (h : out ≡ and_then (step (setting_here first) now.turns) go) where
+  told_here : (new : Evaluation) (r : Result BoundedValue Stop) → EvaluatesTo bounded_val now new r step
+      → TellsAs bounded_val r new.turns (step (setting_here first) now.turns)
+  told_here new r e = tells_along r new.turns _ _ (moved (λ here. step here now.turns) kept) e.value
 
   pub item_told : (new : Evaluation) (r : Result BoundedValue Stop) (longer : BoundedValues) → IsOneMore before r (Ok longer)
-      → EvaluatesTo bounded_val now new scope r step → start ≡ in_front (vals_in longer.items.items) (go new.turns)
+      → EvaluatesTo bounded_val now new r step → start ≡ in_front (vals_in longer.items.items) (go new.turns)
   item_told new r longer l e =
-      longer_told start before out (step (setting first scope) now.turns) go s h r longer new.turns l (told_here new r e)
+      longer_told start before out (step (setting_here first) now.turns) go s h r longer new.turns l (told_here new r e)
 
   pub item_stops : (new : Evaluation) (r : Result BoundedValue Stop) (stop : Stop) (n : ℕ) → IsOneMore before r (Err stop)
-      → EvaluatesTo bounded_val now new scope r step → TellsAs values_seen (Err stop) n start
+      → EvaluatesTo bounded_val now new r step → TellsAs values_seen (Err stop) n start
   item_stops new r stop n l e =
-      longer_fault start before out (step (setting first scope) now.turns) go s h r stop new.turns n l (told_here new r e)
+      longer_fault start before out (step (setting_here first) now.turns) go s h r stop new.turns n l (told_here new r e)
 
 -- a value that was told is bounded
 pub told_bounded : (r : Result Value Stop) (turns : ℕ) (out : Outcome Val) → Tells r turns out → IfOk r (λ v. IsTrue (is_bounded (val_of v)))

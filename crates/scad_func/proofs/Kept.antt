@@ -16,7 +16,7 @@ use Rattle.scad_func.specs.declared.source.Source.{Source}
 use Rattle.scad_func.specs.declared.evaluation.Evaluation.{Evaluation}
 use Rattle.scad_func.specs.View.{TellsAs, deepest, seen}
 use Rattle.scad_answer.specs.View.{TellsAnswer}
-use Rattle.scad_func.specs.Evaluations.{Keeps, EvaluatesTo, setting, work_left}
+use Rattle.scad_func.specs.Evaluations.{Keeps, EvaluatesTo, setting, setting_here, work_left}
 use Rattle.scad_func.proofs.Outcomes.{fault_goes, value_goes, tells_answer}
 
 -- where an expression stands, by what it depends on
@@ -30,39 +30,42 @@ setting_by source rows scope depth calls chain = record {
 
 -- by what is as before
 pub keeps_from : (old new : Evaluation) → new.source.now ≡ old.source.now
-    → new.scopes.ghost_name ≡ old.scopes.ghost_name
+    → new.scopes.ghost_name ≡ old.scopes.ghost_name → new.scope ≡ old.scope
     → rows_of new.scopes.now ≡ rows_of old.scopes.now → chain_of new.scopes.now ≡ chain_of old.scopes.now
     → new.calls ≡ old.calls → new.depth ≡ old.depth
     → Keeps old new
 unfolding setting_by
-keeps_from old new s l r c k d = record {
-  source = s;
-  lent = l;
-  rows = r;
-  chain = c;
-  calls = k;
-  depth = d;
-  work = ap (λ (x : Source). work_left x new.calls) s ∙ ap (work_left old.source.now) k;
-  count = ap length r;
-  same = λ scope.
-      ap (λ (x : Source). setting_by x (rows_of new.scopes.now) scope new.depth new.calls (chain_of new.scopes.now)) s
-      ∙ ap (λ rows. setting_by old.source.now rows scope new.depth new.calls (chain_of new.scopes.now)) r
-      ∙ ap (λ n. setting_by old.source.now (rows_of old.scopes.now) scope n new.calls (chain_of new.scopes.now)) d
-      ∙ ap (λ n. setting_by old.source.now (rows_of old.scopes.now) scope old.depth n (chain_of new.scopes.now)) k
-      ∙ ap (setting_by old.source.now (rows_of old.scopes.now) scope old.depth old.calls) c;
-}
+keeps_from old new s l w r c k d =
+    let same : (scope : ℕ) → setting new scope ≡ setting old scope = λ scope.
+    ap (λ (x : Source). setting_by x (rows_of new.scopes.now) scope new.depth new.calls (chain_of new.scopes.now)) s
+    ∙ ap (λ rows. setting_by old.source.now rows scope new.depth new.calls (chain_of new.scopes.now)) r
+    ∙ ap (λ n. setting_by old.source.now (rows_of old.scopes.now) scope n new.calls (chain_of new.scopes.now)) d
+    ∙ ap (λ n. setting_by old.source.now (rows_of old.scopes.now) scope old.depth n (chain_of new.scopes.now)) k
+    ∙ ap (setting_by old.source.now (rows_of old.scopes.now) scope old.depth old.calls) c in
+    record {
+      source = s;
+      lent = l;
+      stands = w;
+      rows = r;
+      chain = c;
+      calls = k;
+      depth = d;
+      work = ap (λ (x : Source). work_left x new.calls) s ∙ ap (work_left old.source.now) k;
+      count = ap length r;
+      same = same;
+      here = ap (λ (n : ℕ). setting new n) w ∙ same old.scope;
+    }
 
 pub keeps_same : (e : Evaluation) → Keeps e e
-keeps_same e = keeps_from e e refl refl refl refl refl refl
+keeps_same e = keeps_from e e refl refl refl refl refl refl refl
 
 pub keeps_trans : {a b c : Evaluation} → Keeps a b → Keeps b c → Keeps a c
-keeps_trans f g = keeps_from _ _ (g.source ∙ f.source) (g.lent ∙ f.lent) (g.rows ∙ f.rows) (g.chain ∙ f.chain)
+keeps_trans f g = keeps_from _ _ (g.source ∙ f.source) (g.lent ∙ f.lent) (g.stands ∙ f.stands) (g.rows ∙ f.rows) (g.chain ∙ f.chain)
     (g.calls ∙ f.calls) (g.depth ∙ f.depth)
 
 -- what is said of a setting stays
-pub moved : {A : Type 0} (F : Setting → A) (scope : ℕ) {old new : Evaluation} → Keeps old new
-    → F (setting old scope) ≡ F (setting new scope)
-moved F scope k = ap F (sym (k.same scope))
+pub moved : {A : Type 0} (F : Setting → A) {old new : Evaluation} → Keeps old new → F (setting_here old) ≡ F (setting_here new)
+moved F k = ap F (sym k.here)
 
 -- one call deeper
 pub work_falls : (source : Source) (calls : ℕ) → calls < 64
@@ -73,36 +76,36 @@ work_falls source calls h =
     rw k (omega arith)
 
 -- a call of the function that a name stands for
-pub call_found : (e : Evaluation) (scope home : ℕ) (f : Function) (at : Place) (name : List ℕ) (args : ArgTerms)
-    (turns : ℕ)
-    → function_in (seen e.source.now (rows_of e.scopes.now) scope) name
-    ≡ Some (f, seen e.source.now (rows_of e.scopes.now) home)
-    → called (setting e scope) at name args turns (function_in (setting e scope).env name)
-    ≡ then_with (each_argument (setting e scope) (names_of f.params) 0 args (nothing_given (length (names_of f.params))) turns)
+pub call_found : (e : Evaluation) (home : ℕ) (f : Function) (at : Place) (name : List ℕ) (args : ArgTerms) (turns : ℕ)
+    → function_in (setting_here e).env name ≡ Some (f, seen e.source.now (rows_of e.scopes.now) home)
+    → called (setting_here e) at name args turns (function_in (setting_here e).env name)
+    ≡ then_with (each_argument (setting_here e) (names_of f.params) 0 args (nothing_given (length (names_of f.params))) turns)
     (λ turns given. function_called (setting e home) at f given turns)
-call_found e scope home f at name args turns h =
-    ap (λ o. called (setting e scope) at name args turns o) h
+call_found e home f at name args turns h =
+    ap (λ o. called (setting_here e) at name args turns o) h
 
 -- one step of an evaluation behind another
-module _ {A B C D : Type 0} (see : A → B) (all : C → D) (scope : ℕ) (first : Setting → ℕ → Outcome B)
+module _ {A B C D : Type 0} (see : A → B) (all : C → D) (first : Setting → ℕ → Outcome B)
     (go : Setting → ℕ → B → Outcome D) where
-  pub stops : (old new : Evaluation) (s : Stop) → EvaluatesTo see old new scope (Err s) first
-      → EvaluatesTo all old new scope (Err s) (λ here turns. then_with (first here turns) (go here))
+  pub stops : (old new : Evaluation) (s : Stop) → EvaluatesTo see old new (Err s) first
+      → EvaluatesTo all old new (Err s) (λ here turns. then_with (first here turns) (go here))
   stops old new s e = record {
-    value = fault_goes see all (first (setting old scope) old.turns) (go (setting old scope)) s new.turns new.turns e.value;
+    value = fault_goes see all (first (setting_here old) old.turns) (go (setting_here old)) s
+        new.turns new.turns e.value;
     kept = e.kept;
   }
 
-  pub goes : (old mid new : Evaluation) (x : A) (r : Result C Stop) → EvaluatesTo see old mid scope (Ok x) first
-      → EvaluatesTo all mid new scope r (λ here turns. go here turns (see x))
-      → EvaluatesTo all old new scope r (λ here turns. then_with (first here turns) (go here))
+  pub goes : (old mid new : Evaluation) (x : A) (r : Result C Stop) → EvaluatesTo see old mid (Ok x) first
+      → EvaluatesTo all mid new r (λ here turns. go here turns (see x))
+      → EvaluatesTo all old new r (λ here turns. then_with (first here turns) (go here))
   goes old mid new x r e f = record {
-    value = value_goes see all (first (setting old scope) old.turns) (go (setting old scope)) r new.turns mid.turns (see x) e.value
-        (subst (λ here. TellsAs all r new.turns (go here mid.turns (see x))) (e.kept.same scope) f.value);
+    value = value_goes see all (first (setting_here old) old.turns) (go (setting_here old)) r
+        new.turns mid.turns (see x) e.value
+        (subst (λ here. TellsAs all r new.turns (go here mid.turns (see x))) e.kept.here f.value);
     kept = keeps_trans e.kept f.kept;
   }
 
 -- an operator's answer behind a step
-pub answers : (e : Evaluation) (scope : ℕ) (r : Result BoundedValue Stop) (answer : Answer Val) (at : Place) → TellsAnswer r answer at
-    → EvaluatesTo bounded_val e e scope r (λ here turns. answered answer at turns)
-answers e scope r answer at h = record { value = tells_answer r e.turns answer at h; kept = keeps_same e }
+pub answers : (e : Evaluation) (r : Result BoundedValue Stop) (answer : Answer Val) (at : Place) → TellsAnswer r answer at
+    → EvaluatesTo bounded_val e e r (λ here turns. answered answer at turns)
+answers e r answer at h = record { value = tells_answer r e.turns answer at h; kept = keeps_same e }

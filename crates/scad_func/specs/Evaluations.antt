@@ -1,6 +1,6 @@
 -- Where an evaluation stands, and what it keeps.
 use Rattle.std.specs.Prelude.{◌≡◌, ℕ, ◌+◌, ◌-◌, ◌*◌, ◌<◌, ◌≤◌, length, take, Result, List, Option, IsTrue}
-use Rattle.scad_scope.specs.Names.{oldest}
+use Rattle.scad_scope.specs.Names.{NumberedEnv, env_of, oldest}
 use Rattle.scad_scope.specs.Table.{rows_of, chain_of}
 use Rattle.text_place.specs.declared.fault.Stop.{Stop}
 use Rattle.scad_value.specs.declared.value.Value.{Value}
@@ -27,6 +27,13 @@ setting e scope = record {
   chain = chain_of e.scopes.now;
 }
 
+-- the scope in which is evaluated, with all that it stands in, and where an expression of it stands
+abbrev pub env_here : Evaluation → NumberedEnv
+env_here e = env_of (rows_of e.scopes.now) e.scope
+
+abbrev pub setting_here : Evaluation → Setting
+setting_here e = setting e e.scope
+
 -- the calls that are left, times more than any function is deep
 unfoldable pub work_left : Source → ℕ → ℕ
 work_left source calls = (64 - calls) * (4 * deepest source.blocks.functions.items + 8)
@@ -35,6 +42,7 @@ work_left source calls = (64 - calls) * (4 * deepest source.blocks.functions.ite
 pub record Keeps (old new : Evaluation) : Type 0 where
   pub source : new.source.now ≡ old.source.now
   pub lent : new.scopes.ghost_name ≡ old.scopes.ghost_name
+  pub stands : new.scope ≡ old.scope
   pub rows : rows_of new.scopes.now ≡ rows_of old.scopes.now
   pub chain : chain_of new.scopes.now ≡ chain_of old.scopes.now
   pub calls : new.calls ≡ old.calls
@@ -42,19 +50,21 @@ pub record Keeps (old new : Evaluation) : Type 0 where
   pub work : work_left new.source.now new.calls ≡ work_left old.source.now old.calls
   pub count : scopes_there new ≡ scopes_there old
   pub same : (scope : ℕ) → setting new scope ≡ setting old scope
+  pub here : setting_here new ≡ setting_here old
 
--- What a function of the evaluator does in a scope: what it gives, as it is seen, is what its meaning gives there behind
--- the turns so far, or its stop is the meaning's fault, unless memory ran out; and all but the turns is as before, after
--- a stop too.
-pub record EvaluatesTo {A B : Type 0} (see : A → B) (old new : Evaluation) (scope : ℕ) (result : Result A Stop)
+-- What a function of the evaluator does: what it gives, as it is seen, is what its meaning gives in the evaluation's
+-- scope behind the turns so far, or its stop is the meaning's fault, unless memory ran out; and all but the turns is as
+-- before, after a stop too.
+pub record EvaluatesTo {A B : Type 0} (see : A → B) (old new : Evaluation) (result : Result A Stop)
     (meaning : Setting → ℕ → Outcome B) : Type 0 where
-  pub value : TellsAs see result new.turns (meaning (setting old scope) old.turns)
+  pub value : TellsAs see result new.turns (meaning (setting_here old) old.turns)
   pub kept : Keeps old new
 
 -- all but the scopes, the chain and the turns is as before
 pub record SameSetting (old new : Evaluation) : Type 0 where
   pub source : new.source.now ≡ old.source.now
   pub lent : new.scopes.ghost_name ≡ old.scopes.ghost_name
+  pub stands : new.scope ≡ old.scope
   pub calls : new.calls ≡ old.calls
   pub depth : new.depth ≡ old.depth
 
@@ -62,6 +72,7 @@ pub record SameSetting (old new : Evaluation) : Type 0 where
 pub record CallBegins (old new : Evaluation) : Type 0 where
   pub source : new.source.now ≡ old.source.now
   pub lent : new.scopes.ghost_name ≡ old.scopes.ghost_name
+  pub stands : new.scope ≡ old.scope
   pub rows : rows_of new.scopes.now ≡ rows_of old.scopes.now
   pub chain : chain_of new.scopes.now ≡ chain_of old.scopes.now
   pub calls : new.calls ≡ old.calls + 1
@@ -72,6 +83,7 @@ pub record CallBegins (old new : Evaluation) : Type 0 where
 pub record EvaluationBegins (old new : Evaluation) : Type 0 where
   pub source : new.source.now ≡ old.source.now
   pub lent : new.scopes.ghost_name ≡ old.scopes.ghost_name
+  pub stands : new.scope ≡ old.scope
   pub rows : rows_of new.scopes.now ≡ rows_of old.scopes.now
   pub chain : chain_of new.scopes.now ≡ chain_of old.scopes.now
   pub calls : new.calls ≡ old.calls
@@ -82,6 +94,7 @@ pub record EvaluationBegins (old new : Evaluation) : Type 0 where
 pub record ScopeEnters (old new : Evaluation) (scope : ℕ) : Type 0 where
   pub source : new.source.now ≡ old.source.now
   pub lent : new.scopes.ghost_name ≡ old.scopes.ghost_name
+  pub stands : new.scope ≡ old.scope
   pub front : take scope (rows_of new.scopes.now) ≡ rows_of old.scopes.now
   pub number : scope ≡ scopes_there old
   pub there : scopes_there new ≡ scope + 1
@@ -93,6 +106,7 @@ pub record ScopeEnters (old new : Evaluation) (scope : ℕ) : Type 0 where
 pub record SpecialsBegin (old new : Evaluation) (count : ℕ) : Type 0 where
   pub source : new.source.now ≡ old.source.now
   pub lent : new.scopes.ghost_name ≡ old.scopes.ghost_name
+  pub stands : new.scope ≡ old.scope
   pub rows : rows_of new.scopes.now ≡ rows_of old.scopes.now
   pub older : oldest count (chain_of new.scopes.now) ≡ chain_of old.scopes.now
   pub number : count ≡ length (chain_of old.scopes.now)

@@ -10,6 +10,7 @@ mod functions;
 mod laws;
 mod limits;
 mod meter;
+mod scoped;
 mod scoping;
 mod source;
 mod value;

@@ -94,9 +94,10 @@ impl<'a> Evaluation<'a, '_> {
             .enter_call(self.alloc, home, &source.blocks, block, call)
     }
 
-    /// Leaves a scope that was entered and is the newest, to where it was entered.
+    /// Leaves a scope that was entered and is the newest, to where it was entered. The scope in which is evaluated is
+    /// an earlier one.
     pub fn leave(&mut self, scope: u32)
-        requires some { 1 ≤ scope }
+        requires earlier { self.old.scope < scope }
         requires there { scope ≤ scopes_there self.old }
         ensures rows { rows_of self.new.scopes.now ≡ take scope (rows_of self.old.scopes.now) }
         ensures back { (first : Evaluation) → ScopeEnters first self.old scope → Keeps first self.new }

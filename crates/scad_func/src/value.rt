@@ -12,6 +12,7 @@ ghost use Rattle.scad_func.specs.View.{Tells, IsNumbered, seen, source_text};
 use crate::evaluation::Evaluation;
 use crate::meter::Meter;
 use crate::source::Source;
+use scad_answer::value_alone;
 use scad_ast::{Expr, Program};
 use scad_scope::Scopes;
 use scad_value::Value;
@@ -23,7 +24,7 @@ use text_place::Stop;
 /// within their limit; the meter's calls and depth, scopes and chain are always as before. TooDeep
 /// comes at the 65th call and at the 513th evaluation in one another, TooManyTurns at turn 100,001.
 ///
-/// It takes less than 4 MiB of the stack, as `Evaluation::expression` says; no contract speaks of that.
+/// It takes less than 4 MiB of the stack, as is said at `Evaluation::evaluate`; no contract speaks of that.
 pub fn value_in(
     alloc: Global,
     scopes: &mut Scopes,
@@ -46,11 +47,12 @@ pub fn value_in(
         alloc,
         source,
         scopes,
+        scope,
         calls: meter.calls,
         depth: meter.depth,
         turns: meter.turns,
     };
-    let value = evaluation.expression(scope, expr);
+    let value = value_alone(evaluation.evaluate(expr));
     meter.turns = evaluation.turns;
     value
 }

@@ -14,6 +14,7 @@ returns-in_ok-bind_special-clause-assigns c =
       leaves = refl;
       source = b.same.source ∙ k.source;
       lent = b.same.lent ∙ k.lent;
+      stands = b.same.stands ∙ k.stands;
       front = ap (take c.args.position.scope) (b.rows ∙ k.rows);
       there = ap length (b.rows ∙ k.rows);
       newer = pair ∷ [];

@@ -13,6 +13,7 @@ returns-clause-counted c =
       begun = record {
         source = k.source ∙ b.source;
         lent = k.lent ∙ b.lent;
+        stands = k.stands ∙ b.stands;
         rows = k.rows ∙ b.rows;
         chain = k.chain ∙ b.chain;
         calls = k.calls ∙ b.calls;

@@ -22,7 +22,7 @@ use Rattle.scad_value.specs.declared.bounded_value.BoundedValue.{BoundedValue}
 use Rattle.scad_value.specs.BoundedView.{bounded_val}
 use Rattle.scad_arguments.specs.Arguments.{name_of, names_of, nothing_given, taker_of, argument_place}
 use Rattle.scad_arguments.specs.ArgumentsView.{given_of, names_in, taker_seen, IsGiven, IsFaultAt}
-use Rattle.scad_scope.specs.Names.{env_of, empty_row, find_in, variable_in as numbered_variable_in}
+use Rattle.scad_scope.specs.Names.{empty_row, find_in, variable_in as numbered_variable_in}
 use Rattle.scad_scope.specs.Table.{rows_of, chain_of}
 use Rattle.scad_blocks.specs.TextView.{function_of}
 use Rattle.scad_func.specs.Meaning.{Outcome, Gives, Faults, value_at, with_calls, one_call_fewer, turn, each_argument, each_parameter, parameter_value, function_value, operand, each_value, each_suffix, each_link, called, answered, or_fault, or_zero, Setting, then_with}
@@ -35,7 +35,7 @@ use Rattle.scad_arguments.specs.declared.parameters.GivenArguments.{GivenArgumen
 use Rattle.scad_arguments.specs.declared.parameters.Names.{Names}
 use Rattle.scad_arguments.specs.declared.so_far.ArgumentsSoFar.{ArgumentsSoFar}
 use Rattle.scad_arguments.specs.declared.parameters.Destination.{Destination}
-use Rattle.scad_func.specs.Evaluations.{ArgumentsFit, EvaluatesTo, setting}
+use Rattle.scad_func.specs.Evaluations.{ArgumentsFit, EvaluatesTo, env_here, setting_here}
 use Rattle.scad_func.proofs.Outcomes.{tells_along, evaluated_deeper, evaluated_too_deep, value_counted, fault_counted, values_end, terms_here, terms_end, args_here, args_end, values_here, suffixes_here, suffix_step, links_here, step_more, step_fault, name_then, fault_at, link_wants}
 use Rattle.scad_func.proofs.Environments.{variable_same}
 use Rattle.scad_func.proofs.Steps.{deep_enough, param_deep, params_here, params_end, slots_here, slots_parts, filled_end, fault_of_arguments, argument_none}
@@ -50,7 +50,7 @@ use Rattle.scad_func.proofs.evaluation.Evaluation.+value.Goals as goal
 pub evaluate-returns-in_err-value : goal.evaluate-returns-in_err-value
 evaluate-returns-in_err-value t c =
     let p = err_from_is_err_and c.from_residual.result c.from_residual.ensures.1 in
-    let here = setting c.args.self.now c.args.scope in
+    let here = setting_here c.args.self.now in
     record {
       value = rw (p.1, p.2) (fault_counted c.in_err-value.field-0.0 (512 - c.args.self.now.depth) _
           c.deeper.new.self.turns c.args.self.now.turns here.calls here.env here.chain (term_of c.args.expr.now)
@@ -60,7 +60,7 @@ evaluate-returns-in_err-value t c =
 
 pub evaluate-returns : goal.evaluate-returns
 evaluate-returns t c =
-    let here = setting c.args.self.now c.args.scope in
+    let here = setting_here c.args.self.now in
     record {
       value = value_counted c.counted.result (512 - c.args.self.now.depth) c.counted.new.self.turns
           c.args.self.now.turns c.deeper.new.self.turns here.calls here.env here.chain (term_of c.args.expr.now)
@@ -81,7 +81,7 @@ deeper-returns t c =
     record {
       value = tells_along c.operand-value.result _ _ _ (evaluated_deeper _ _ _ _ _ _ (omega arith))
           c.operand-value.ensures.value;
-      kept = keeps_from _ _ k.source k.lent k.rows k.chain k.calls (omega (arith, k.depth));
+      kept = keeps_from _ _ k.source k.lent k.stands k.rows k.chain k.calls (omega (arith, k.depth));
     }
 
 pub operand-returns-in-ChildCount : goal.operand-returns-in-ChildCount
@@ -89,12 +89,12 @@ operand-returns-in-ChildCount t c =
     let e = c.args.self.now in
     record {
       value = tells_along c.child_count.result e.turns _ _
-          (ap (λ x. operand (setting e c.args.scope) x e.turns)
+          (ap (λ x. operand (setting_here e) x e.turns)
           (ap term_of c.in-ChildCount.is ∙ count_form c.in-ChildCount.place)
           ∙ ap (λ o. Gives e.turns (or_zero o))
-          (variable_same (source_text e.source.now) (env_of (rows_of e.scopes.now) c.args.scope) (codes "$children")))
+          (variable_same (source_text e.source.now) (env_here e) (codes "$children")))
           (c.child_count.ensures e.turns);
-      kept = keeps_from _ _ refl (search rules) refl refl refl refl;
+      kept = keeps_same _;
     }
 
 pub operand-returns-in-Name : goal.operand-returns-in-Name
@@ -102,14 +102,14 @@ operand-returns-in-Name t c =
     let e = c.args.self.now in
     record {
       value = tells_along c.variable_of.result e.turns _ _
-          (ap (λ x. operand (setting e c.args.scope) x e.turns)
+          (ap (λ x. operand (setting_here e) x e.turns)
           (ap term_of c.in-Name.is ∙ name_form c.in-Name.place c.in-Name.name)
           ∙ ap (λ o. or_fault o UnknownName c.in-Name.place (λ x. Gives e.turns x))
-          (variable_same (source_text e.source.now) (env_of (rows_of e.scopes.now) c.args.scope) c.in-Name.name ∙ ap
-          (λ n. numbered_variable_in (env_of (rows_of e.scopes.now) c.args.scope) n)
+          (variable_same (source_text e.source.now) (env_here e) c.in-Name.name ∙ ap
+          (λ n. numbered_variable_in (env_here e) n)
           (sym c.items.ensures)))
           (c.variable_of.ensures e.turns);
-      kept = keeps_from _ _ refl (search rules) refl refl refl refl;
+      kept = keeps_same _;
     }
 
 pub operand-returns-in-Special : goal.operand-returns-in-Special
@@ -117,19 +117,19 @@ operand-returns-in-Special t c =
     let e = c.args.self.now in
     record {
       value = tells_along c.special_of.result e.turns _ _
-          (ap (λ x. operand (setting e c.args.scope) x e.turns)
+          (ap (λ x. operand (setting_here e) x e.turns)
           (ap term_of c.in-Special.is ∙ special_form c.in-Special.place c.in-Special.name)
           ∙ ap (λ n. or_fault (find_in (chain_of e.scopes.now) n) UnknownName c.in-Special.place (λ x. Gives e.turns x))
           (sym c.items-in-Special.ensures))
           (c.special_of.ensures e.turns);
-      kept = keeps_from _ _ refl (search rules) refl refl refl refl;
+      kept = keeps_same _;
     }
 
 pub operand-returns-in-Postfix : goal.operand-returns-in-Postfix
 operand-returns-in-Postfix t c =
     record {
       value = tells_along c.postfix.result c.postfix.new.self.turns _ _
-          (ap (λ e. operand (setting c.args.self.now c.args.scope) e c.args.self.now.turns)
+          (ap (λ e. operand (setting_here c.args.self.now) e c.args.self.now.turns)
           (postfix_form c.args.expr.now c.in-Postfix.field-0 c.in-Postfix.parts c.deref-in-Postfix.result.now c.deref-in-Postfix-2.result.now
           c.in-Postfix.is c.deref-in-Postfix.ensures c.deref-in-Postfix-2.ensures)) c.postfix.ensures.value;
       kept = c.postfix.ensures.kept;
@@ -139,7 +139,7 @@ pub operand-returns-in-Chain : goal.operand-returns-in-Chain
 operand-returns-in-Chain t c =
     record {
       value = tells_along c.chain.result c.chain.new.self.turns _ _
-          (ap (λ e. operand (setting c.args.self.now c.args.scope) e c.args.self.now.turns)
+          (ap (λ e. operand (setting_here c.args.self.now) e c.args.self.now.turns)
           (chain_form c.args.expr.now c.in-Chain.field-0 c.in-Chain.parts c.deref-in-Chain.result.now c.deref-in-Chain-2.result.now
           c.in-Chain.is c.deref-in-Chain.ensures c.deref-in-Chain-2.ensures)) c.chain.ensures.value;
       kept = c.chain.ensures.kept;
@@ -149,7 +149,7 @@ pub operand-returns-in-Choice : goal.operand-returns-in-Choice
 operand-returns-in-Choice t c =
     record {
       value = tells_along c.choice.result c.choice.new.self.turns _ _
-          (ap (λ e. operand (setting c.args.self.now c.args.scope) e c.args.self.now.turns)
+          (ap (λ e. operand (setting_here c.args.self.now) e c.args.self.now.turns)
           (choice_form c.args.expr.now c.in-Choice.field-0 c.in-Choice.parts c.deref-in-Choice.result.now c.deref-in-Choice-2.result.now c.deref-in-Choice-3.result.now
           c.in-Choice.is c.deref-in-Choice.ensures c.deref-in-Choice-2.ensures c.deref-in-Choice-3.ensures)) c.choice.ensures.value;
       kept = c.choice.ensures.kept;
@@ -158,72 +158,70 @@ operand-returns-in-Choice t c =
 pub list-returns-in_err-values : goal.list-returns-in_err-values
 list-returns-in_err-values t c =
     let p = err_from_is_err_and c.from_residual.result c.from_residual.ensures.1 in
-    rw (p.1, p.2) (stops values_seen bounded_val c.args.scope (λ here. each_value here (terms_from (terms_of c.args.items.now)))
+    rw (p.1, p.2) (stops values_seen bounded_val (λ here. each_value here (terms_from (terms_of c.args.items.now)))
     (λ here turns vs. answered (made (Ok (ListVal vs))) c.args.place turns) _ _ c.in_err-values.field-0.0 c.in_err-values.ensures)
 
 pub list-returns : goal.list-returns
 list-returns t c =
-    goes values_seen bounded_val c.args.scope (λ here. each_value here (terms_from (terms_of c.args.items.now)))
+    goes values_seen bounded_val (λ here. each_value here (terms_from (terms_of c.args.items.now)))
     (λ here turns vs. answered (made (Ok (ListVal vs))) c.args.place turns) _ _ _ c.in_ok-values.values c.listed.result c.in_ok-values.ensures
-    (answers _ c.args.scope c.listed.result (made (Ok (ListVal (values_seen c.in_ok-values.values)))) c.args.place c.listed.ensures)
+    (answers _ c.listed.result (made (Ok (ListVal (values_seen c.in_ok-values.values)))) c.args.place c.listed.ensures)
 
 pub unary-returns-in_err-value : goal.unary-returns-in_err-value
 unary-returns-in_err-value t c =
     let p = err_from_is_err_and c.from_residual.result c.from_residual.ensures.1 in
-    rw (p.1, p.2) (stops bounded_val bounded_val c.args.scope (λ here. value_at here false (term_of c.args.of.now))
+    rw (p.1, p.2) (stops bounded_val bounded_val (λ here. value_at here false (term_of c.args.of.now))
     (λ here turns v. answered (unary_of c.args.op v) c.args.place turns) _ _ c.in_err-value.field-0.0 c.in_err-value.ensures)
 
 pub unary-returns : goal.unary-returns
 unary-returns t c =
-    goes bounded_val bounded_val c.args.scope (λ here. value_at here false (term_of c.args.of.now))
+    goes bounded_val bounded_val (λ here. value_at here false (term_of c.args.of.now))
     (λ here turns v. answered (unary_of c.args.op v) c.args.place turns) _ _ _ c.in_ok-value.value c.unary_value.result c.in_ok-value.ensures
-    (answers _ c.args.scope c.unary_value.result (unary_of c.args.op (bounded_val c.in_ok-value.value)) c.args.place c.unary_value.ensures)
+    (answers _ c.unary_value.result (unary_of c.args.op (bounded_val c.in_ok-value.value)) c.args.place c.unary_value.ensures)
 
 pub chain-returns-in_err-left : goal.chain-returns-in_err-left
 chain-returns-in_err-left t c =
     let p = err_from_is_err_and c.from_residual.result c.from_residual.ensures.1 in
-    rw (p.1, p.2) (stops bounded_val bounded_val c.args.scope (λ here. operand here (term_of c.args.first.now))
+    rw (p.1, p.2) (stops bounded_val bounded_val (λ here. operand here (term_of c.args.first.now))
     (λ here turns v. each_link here v (links_from (links_of c.args.rest.now)) turns) _ _ c.in_err-left.field-0.0 c.in_err-left.ensures)
 
 pub chain-returns : goal.chain-returns
 chain-returns t c =
-    goes bounded_val bounded_val c.args.scope (λ here. operand here (term_of c.args.first.now))
+    goes bounded_val bounded_val (λ here. operand here (term_of c.args.first.now))
     (λ here turns v. each_link here v (links_from (links_of c.args.rest.now)) turns) _ _ _ c.in_ok-left.left c.links.result
     c.in_ok-left.ensures c.links.ensures
 
 pub range-returns-in_err-first : goal.range-returns-in_err-first
 range-returns-in_err-first t c =
     let p = err_from_is_err_and c.from_residual.result c.from_residual.ensures.1 in
-    rw (p.1, p.2) (stops bounded_val bounded_val c.args.scope (λ here. value_at here true (term_of c.args.from.now))
+    rw (p.1, p.2) (stops bounded_val bounded_val (λ here. value_at here true (term_of c.args.from.now))
     (λ here turns a. then_with (value_at here true (term_of c.args.upto.now) turns) (λ turns b. answered (range_of a b) c.args.place turns))
     _ _ c.in_err-first.field-0.0 c.in_err-first.ensures)
 
 pub range-returns-in_err-a : goal.range-returns-in_err-a
 range-returns-in_err-a t c =
     let p = err_from_is_err_and c.from_residual-in_err-a.result c.from_residual-in_err-a.ensures.1 in
-    let scope = c.args.scope in
     let a = c.in_ok-first.first in
     let last = λ (here : Setting). value_at here true (term_of c.args.upto.now) in
-    rw (p.1, p.2) (goes bounded_val bounded_val scope (λ here. value_at here true (term_of c.args.from.now))
+    rw (p.1, p.2) (goes bounded_val bounded_val (λ here. value_at here true (term_of c.args.from.now))
     (λ here turns a. then_with (last here turns) (λ turns b. answered (range_of a b) c.args.place turns)) _ _ _ a (Err c.in_err-a.field-0.0)
     c.in_ok-first.ensures
-    (stops bounded_val bounded_val scope last (λ here turns b. answered (range_of (bounded_val a) b) c.args.place turns) _ _ c.in_err-a.field-0.0
-    (subst (λ (r : Result BoundedValue Stop). EvaluatesTo bounded_val c.evaluate.new.self c.evaluate-next.new.self scope r last)
+    (stops bounded_val bounded_val last (λ here turns b. answered (range_of (bounded_val a) b) c.args.place turns) _ _ c.in_err-a.field-0.0
+    (subst (λ (r : Result BoundedValue Stop). EvaluatesTo bounded_val c.evaluate.new.self c.evaluate-next.new.self r last)
     c.in_err-a.ensures.err c.evaluate-next.ensures)))
 
 pub range-returns : goal.range-returns
 range-returns t c =
-    let scope = c.args.scope in
     let a = c.in_ok-first.first in
     let b = c.in_ok-a.b in
     let w = c.in_ok-a.ensures.ok in
     let last = λ (here : Setting). value_at here true (term_of c.args.upto.now) in
-    goes bounded_val bounded_val scope (λ here. value_at here true (term_of c.args.from.now))
+    goes bounded_val bounded_val (λ here. value_at here true (term_of c.args.from.now))
     (λ here turns a. then_with (last here turns) (λ turns b. answered (range_of a b) c.args.place turns)) _ _ _ a c.range_value.result
     c.in_ok-first.ensures
-    (goes bounded_val bounded_val scope last (λ here turns b. answered (range_of (bounded_val a) b) c.args.place turns) _ _ _ b c.range_value.result
-    (subst (λ (r : Result BoundedValue Stop). EvaluatesTo bounded_val c.evaluate.new.self c.evaluate-next.new.self scope r last) w.1 c.evaluate-next.ensures)
-    (answers _ scope c.range_value.result (range_of (bounded_val a) (bounded_val b)) c.args.place
+    (goes bounded_val bounded_val last (λ here turns b. answered (range_of (bounded_val a) b) c.args.place turns) _ _ _ b c.range_value.result
+    (subst (λ (r : Result BoundedValue Stop). EvaluatesTo bounded_val c.evaluate.new.self c.evaluate-next.new.self r last) w.1 c.evaluate-next.ensures)
+    (answers _ c.range_value.result (range_of (bounded_val a) (bounded_val b)) c.args.place
     (subst (λ (x : BoundedValue). TellsAnswer c.range_value.result (range_of (bounded_val x) (bounded_val b)) c.args.place) w.0 c.range_value.ensures)))
 
 pub each_value-each-preserved : goal.each_value-each-preserved
@@ -236,10 +234,10 @@ each_value-each-preserved t c =
     c.deref-expr-items.ensures.value in
     let inv = c.each.invariant in
     let g = c.evaluate-next.ensures in
-    let here = setting c.args.self.now c.args.scope in
+    let here = setting_here c.args.self.now in
     let rest = terms_from (map term_of (drop (i + 1) xs)) in
     record {
-      told = item_told _ _ c.args.scope inv.kept c.each.values _
+      told = item_told _ _ inv.kept c.each.values _
           (each_value here (terms_from (map term_of (drop i xs))) c.each.self.turns)
           (λ here. value_at here true (term_of x)) (each_value here rest) inv.told
           (ap (λ t. each_value here t c.each.self.turns) (terms_here xs i x h is))
@@ -253,7 +251,7 @@ each_value-returns t c =
     let i = c.each.expr-index in
     let le : length xs ≤ i = omega (arith, c.each-test.false, ap length c.deref-expr-items.ensures.value) in
     record {
-      value = values_end (setting c.args.self.now c.args.scope) _ (vals_in c.each.values.items.items) []
+      value = values_end (setting_here c.args.self.now) _ (vals_in c.each.values.items.items) []
           (terms_from (map term_of (drop i xs))) c.each.self.turns c.each.invariant.told (terms_end xs i le);
       kept = c.each.invariant.kept;
     }
@@ -269,10 +267,10 @@ each_value-returns-in_err-values t c =
     c.deref-expr-items.ensures.value in
     let inv = c.each.invariant in
     let g = c.evaluate-next.ensures in
-    let here = setting c.args.self.now c.args.scope in
+    let here = setting_here c.args.self.now in
     let rest = terms_from (map term_of (drop (i + 1) xs)) in
     record {
-      value = rw (p.1, p.2) (item_stops _ _ c.args.scope inv.kept c.each.values _
+      value = rw (p.1, p.2) (item_stops _ _ inv.kept c.each.values _
           (each_value here (terms_from (map term_of (drop i xs))) c.each.self.turns)
           (λ here. value_at here true (term_of x)) (each_value here rest) inv.told
           (ap (λ t. each_value here t c.each.self.turns) (terms_here xs i x h is))
@@ -290,10 +288,10 @@ each_positional-each-preserved t c =
     c.deref-arg-items.ensures.value in
     let inv = c.each.invariant in
     let g = c.evaluate-next.ensures in
-    let here = setting c.args.self.now c.args.scope in
+    let here = setting_here c.args.self.now in
     let rest = args_from (map arg_of (drop (i + 1) xs)) in
     record {
-      told = item_told _ _ c.args.scope inv.kept c.each.values _
+      told = item_told _ _ inv.kept c.each.values _
           (each_value here (all_values (args_from (map arg_of (drop i xs)))) c.each.self.turns)
           (λ here. value_at here true (term_of c.argument_value.result.now)) (each_value here (all_values rest)) inv.told
           (ap (λ t. each_value here t c.each.self.turns) (values_here xs i x h is _ c.argument_value.ensures.value))
@@ -307,7 +305,7 @@ each_positional-returns t c =
     let i = c.each.arg-index in
     let le : length xs ≤ i = omega (arith, c.each-test.false, ap length c.deref-arg-items.ensures.value) in
     record {
-      value = values_end (setting c.args.self.now c.args.scope) _ (vals_in c.each.values.items.items) []
+      value = values_end (setting_here c.args.self.now) _ (vals_in c.each.values.items.items) []
           (all_values (args_from (map arg_of (drop i xs)))) c.each.self.turns c.each.invariant.told
           (ap all_values (args_end xs i le));
       kept = c.each.invariant.kept;
@@ -324,10 +322,10 @@ each_positional-returns-in_err-values t c =
     c.deref-arg-items.ensures.value in
     let inv = c.each.invariant in
     let g = c.evaluate-next.ensures in
-    let here = setting c.args.self.now c.args.scope in
+    let here = setting_here c.args.self.now in
     let rest = args_from (map arg_of (drop (i + 1) xs)) in
     record {
-      value = rw (p.1, p.2) (item_stops _ _ c.args.scope inv.kept c.each.values _
+      value = rw (p.1, p.2) (item_stops _ _ inv.kept c.each.values _
           (each_value here (all_values (args_from (map arg_of (drop i xs)))) c.each.self.turns)
           (λ here. value_at here true (term_of c.argument_value.result.now)) (each_value here (all_values rest)) inv.told
           (ap (λ t. each_value here t c.each.self.turns) (values_here xs i x h is _ c.argument_value.ensures.value))
@@ -339,32 +337,32 @@ pub postfix-returns-in_err-variable : goal.postfix-returns-in_err-variable
 postfix-returns-in_err-variable t c =
     let p = err_from_is_err_and c.from_residual.result c.from_residual.ensures.1 in
     let e = c.args.self.now in
-    let here = setting e c.args.scope in
+    let here = setting_here e in
     let missing = c.in_err-variable.ensures.missing in
-    let none = variable_same (source_text e.source.now) (env_of (rows_of e.scopes.now) c.args.scope) c.in-Name.name ∙ ap
-    (λ n. numbered_variable_in (env_of (rows_of e.scopes.now) c.args.scope) n) (sym c.items.ensures)
+    let none = variable_same (source_text e.source.now) (env_here e) c.in-Name.name ∙ ap
+    (λ n. numbered_variable_in (env_here e) n) (sym c.items.ensures)
     ∙ missing.0 in
     record {
       value = rw (p.1, p.2) (fault_at c.in_err-variable.field-0.0 e.turns UnknownName c.in-Name.place _
           (name_then here (term_of c.args.of.now) c.in-Name.place c.in-Name.name e.turns None
           (λ turns v. each_suffix here v (suffixes_from (suffixes_of c.args.rest.now)) turns)
           (ap term_of c.in-Name.is ∙ name_form c.in-Name.place c.in-Name.name) none) missing.1);
-      kept = keeps_from _ _ refl (search rules) refl refl refl refl;
+      kept = keeps_same _;
     }
 
 pub postfix-returns-in-Name : goal.postfix-returns-in-Name
 postfix-returns-in-Name t c =
     let e = c.args.self.now in
-    let here = setting e c.args.scope in
-    let found = variable_same (source_text e.source.now) (env_of (rows_of e.scopes.now) c.args.scope) c.in-Name.name ∙ ap
-    (λ n. numbered_variable_in (env_of (rows_of e.scopes.now) c.args.scope) n) (sym c.items.ensures)
+    let here = setting_here e in
+    let found = variable_same (source_text e.source.now) (env_here e) c.in-Name.name ∙ ap
+    (λ n. numbered_variable_in (env_here e) n) (sym c.items.ensures)
     ∙ c.in_ok-variable.ensures.found in
     record {
       value = tells_along c.suffixes.result c.suffixes.new.self.turns _ _
           (name_then here (term_of c.args.of.now) c.in-Name.place c.in-Name.name e.turns _
           (λ turns v. each_suffix here v (suffixes_from (suffixes_of c.args.rest.now)) turns)
           (ap term_of c.in-Name.is ∙ name_form c.in-Name.place c.in-Name.name) found) c.suffixes.ensures.value;
-      kept = let k = c.suffixes.ensures.kept in keeps_from _ _ k.source (search rules) k.rows k.chain k.calls k.depth;
+      kept = c.suffixes.ensures.kept;
     }
 
 pub suffixes-returns-in_err-so_far-2 : goal.suffixes-returns-in_err-so_far-2
@@ -379,7 +377,7 @@ suffixes-returns-in_err-so_far-2 t c =
     let next = suffixes_here xs i x h is in
     let inv = c.each.invariant in
     let v = bounded_val c.each.so_far in
-    let here = setting c.args.self.now c.args.scope in
+    let here = setting_here c.args.self.now in
     let rest = suffixes_from (map suffix_of (drop (i + 1) xs)) in
     let step = suffixed here v (suffix_of x) c.each.self.turns in
     let apart = ap (λ ss. each_suffix here v ss c.each.self.turns) next ∙ suffix_step here v (suffix_of x) rest
@@ -388,7 +386,7 @@ suffixes-returns-in_err-so_far-2 t c =
       value = rw (p.1, p.2) (step_fault _ (λ turns y. each_suffix here y rest turns) _ step inv.told apart
           c.in_err-so_far-2.field-0.0 c.suffix-in-each.new.self.turns c.suffix-in-each.new.self.turns
           (tells_along (Err c.in_err-so_far-2.field-0.0) c.suffix-in-each.new.self.turns _ _
-          (moved (λ s. suffixed s v (suffix_of x) c.each.self.turns) c.args.scope inv.kept)
+          (moved (λ s. suffixed s v (suffix_of x) c.each.self.turns) inv.kept)
           c.in_err-so_far-2.ensures.value));
       kept = keeps_trans inv.kept c.in_err-so_far-2.ensures.kept;
     }
@@ -404,7 +402,7 @@ suffixes-each-preserved t c =
     let next = suffixes_here xs i x h is in
     let inv = c.each.invariant in
     let v = bounded_val c.each.so_far in
-    let here = setting c.args.self.now c.args.scope in
+    let here = setting_here c.args.self.now in
     let rest = suffixes_from (map suffix_of (drop (i + 1) xs)) in
     let step = suffixed here v (suffix_of x) c.each.self.turns in
     let apart = ap (λ ss. each_suffix here v ss c.each.self.turns) next ∙ suffix_step here v (suffix_of x) rest
@@ -413,7 +411,7 @@ suffixes-each-preserved t c =
     record {
       told = step_more _ (λ turns y. each_suffix here y rest turns) _ step inv.told apart
           c.suffix-in-each.new.self.turns (bounded_val c.in_ok-so_far-2.so_far)
-          (moved (λ s. suffixed s v (suffix_of x) c.each.self.turns) c.args.scope inv.kept ∙ g.value);
+          (moved (λ s. suffixed s v (suffix_of x) c.each.self.turns) inv.kept ∙ g.value);
       kept = keeps_trans inv.kept g.kept;
     }
 
@@ -428,7 +426,7 @@ links-returns-in_err-so_far-2 t c =
     let next = links_here xs i x h is in
     let inv = c.each.invariant in
     let v = bounded_val c.each.so_far in
-    let here = setting c.args.self.now c.args.scope in
+    let here = setting_here c.args.self.now in
     let rest = links_from (map link_of (drop (i + 1) xs)) in
     let step = linked here v (link_of x) c.each.self.turns in
     record {
@@ -436,7 +434,7 @@ links-returns-in_err-so_far-2 t c =
           (ap (λ ls. each_link here v ls c.each.self.turns) next)
           c.in_err-so_far-2.field-0.0 c.link-in-each.new.self.turns c.link-in-each.new.self.turns
           (tells_along (Err c.in_err-so_far-2.field-0.0) c.link-in-each.new.self.turns _ _
-          (moved (λ s. linked s v (link_of x) c.each.self.turns) c.args.scope inv.kept)
+          (moved (λ s. linked s v (link_of x) c.each.self.turns) inv.kept)
           c.in_err-so_far-2.ensures.value));
       kept = keeps_trans inv.kept c.in_err-so_far-2.ensures.kept;
     }
@@ -452,20 +450,20 @@ links-each-preserved t c =
     let inv = c.each.invariant in
     let g = c.in_ok-so_far-2.ensures in
     let v = bounded_val c.each.so_far in
-    let here = setting c.args.self.now c.args.scope in
+    let here = setting_here c.args.self.now in
     let rest = links_from (map link_of (drop (i + 1) xs)) in
     record {
       told = step_more _ (λ turns y. each_link here y rest turns) _ (linked here v (link_of x) c.each.self.turns)
           inv.told (ap (λ ls. each_link here v ls c.each.self.turns) next)
           c.link-in-each.new.self.turns (bounded_val c.in_ok-so_far-2.so_far)
-          (moved (λ s. linked s v (link_of x) c.each.self.turns) c.args.scope inv.kept ∙ g.value);
+          (moved (λ s. linked s v (link_of x) c.each.self.turns) inv.kept ∙ g.value);
       kept = keeps_trans inv.kept g.kept;
     }
 
 pub link-returns-in-Name : goal.link-returns-in-Name
 link-returns-in-Name t c =
     let e = c.args.self.now in
-    let here = setting e c.args.scope in
+    let here = setting_here e in
     let part = c.args.part.now in
     record {
       value = tells_along c.binary_with_variable.result e.turns _ _
@@ -475,9 +473,9 @@ link-returns-in-Name t c =
           ∙ name_then here (term_of part.right) c.in-Name.at c.in-Name.name e.turns _
           (λ turns w. answered (binary_of part.op (bounded_val c.args.left) w) part.place turns)
           (ap term_of c.in-Name.is ∙ name_form c.in-Name.at c.in-Name.name)
-          (variable_same (source_text e.source.now) (env_of (rows_of e.scopes.now) c.args.scope) c.in-Name.name))
+          (variable_same (source_text e.source.now) (env_here e) c.in-Name.name))
           (c.binary_with_variable.ensures e.turns);
-      kept = keeps_from _ _ refl (search rules) refl refl refl refl;
+      kept = keeps_same _;
     }
 
 pub call-returns-in_err-given-in-Some : goal.call-returns-in_err-given-in-Some
@@ -485,33 +483,30 @@ call-returns-in_err-given-in-Some t c =
     let p = err_from_is_err_and c.from_residual.result c.from_residual.ensures.1 in
     let e = c.args.self.now in
     let args = args_from (args_of c.args.args.now) in
-    let told = subst (λ (l : List Param). TellsArguments (Err c.in_err-given-in-Some.field-0.0) c.each_argument.new.self.turns
-    (each_argument (setting e c.args.scope) (names_of (map param_of l)) 0 args (nothing_given (length (names_of (map param_of l)))) e.turns))
+    let told = subst (λ (l : List Param). TellsArguments (Err c.in_err-given-in-Some.field-0.0) c.arguments.new.self.turns
+    (each_argument (setting_here e) (names_of (map param_of l)) 0 args (nothing_given (length (names_of (map param_of l)))) e.turns))
     c.deref.ensures.value c.in_err-given-in-Some.ensures.value in
     record {
-      value = rw (p.1, p.2) (tells_along (Err c.in_err-given-in-Some.field-0.0) c.each_argument.new.self.turns _ _
-          (call_found e c.args.scope c.in-Some.home (function_of c.in-Some.function) c.args.place c.args.name.now
+      value = rw (p.1, p.2) (tells_along (Err c.in_err-given-in-Some.field-0.0) c.arguments.new.self.turns _ _
+          (call_found e c.in-Some.home (function_of c.in-Some.function) c.args.place c.args.name.now
           (args_from (args_of c.args.args.now)) e.turns c.in-Some.ensures.found)
-          (fault_of_arguments c.in_err-given-in-Some.field-0.0 c.each_argument.new.self.turns
-          c.each_argument.new.self.turns _ _ told));
-      kept = let k = c.in_err-given-in-Some.ensures.kept in keeps_from _ _ k.source (search rules) k.rows k.chain k.calls k.depth;
+          (fault_of_arguments c.in_err-given-in-Some.field-0.0 c.arguments.new.self.turns
+          c.arguments.new.self.turns _ _ told));
+      kept = c.in_err-given-in-Some.ensures.kept;
     }
 
-pub call-function_call-requires : goal.call-function_call-requires
-call-function_call-requires t c =
+pub call-function_call-value-requires : goal.call-function_call-value-requires
+call-function_call-value-requires t c =
     let g = c.in_ok-given-in-Some.ensures in (
       omega (arith, g.kept.work, c.decreases),
-      (
-        omega (arith, c.in-Some.ensures.there, g.kept.count),
-        record {
-          within = rw (g.kept.source) (deep_enough _ _ c.in-Some.ensures.among);
-          arguments = record {
-            count = g.count ∙ length-map (map param_of c.deref.result.now) name_of ∙ length-map c.deref.result.now param_of
-                ∙ ap (λ (l : List Param). length l) c.deref.ensures.value;
-            bounded = g.value.1;
-          };
-        },
-      ),
+      record {
+        within = rw (g.kept.source) (deep_enough _ _ c.in-Some.ensures.among);
+        arguments = record {
+          count = g.count ∙ length-map (map param_of c.deref.result.now) name_of ∙ length-map c.deref.result.now param_of
+              ∙ ap (λ (l : List Param). length l) c.deref.ensures.value;
+          bounded = g.value.1;
+        };
+      },
     )
 
 pub call-returns-in_err-function-in-None : goal.call-returns-in_err-function-in-None
@@ -519,22 +514,22 @@ call-returns-in_err-function-in-None t c =
     let p = err_from_is_err_and c.from_residual-in_err-function-in-None.result
     c.from_residual-in_err-function-in-None.ensures.1 in
     let e = c.args.self.now in
-    let here = setting e c.args.scope in
+    let here = setting_here e in
     record {
       value = rw (p.1, p.2) (tells_along (Err c.in_err-function-in-None.field-0.0) e.turns _ _
           (ap (λ o. called here c.args.place c.args.name.now (args_from (args_of c.args.args.now)) e.turns o)
           c.in-None.ensures.found)
           (c.in_err-function-in-None.ensures.refused here e.turns e.turns));
-      kept = keeps_from _ _ refl (search rules) refl refl refl refl;
+      kept = keeps_same _;
     }
 
-pub each_argument-each-init : goal.each_argument-each-init
-each_argument-each-init t c =
+pub arguments-each-init : goal.arguments-each-init
+arguments-each-init t c =
     let form = ap args_from (args_form c.args.args.now) in
     let names = names_in c.args.names in
     let so_far = c.in_ok-so_far.so_far in
     let none = nothing_seen so_far.given _ c.in_ok-so_far.ensures.given in
-    let here = setting c.args.self.now c.args.scope in
+    let here = setting_here c.args.self.now in
     record {
       told = ap (λ given. each_argument here names 0 (args_from (args_of c.args.args.now)) given
           c.args.self.now.turns) (sym none)
@@ -545,8 +540,8 @@ each_argument-each-init t c =
       kept = keeps_same _;
     }
 
-pub each_argument-each-preserved : goal.each_argument-each-preserved
-each_argument-each-preserved t c =
+pub arguments-each-preserved : goal.arguments-each-preserved
+arguments-each-preserved t c =
     let xs = c.args.args.now.items.items in
     let i = c.each.arg-index in
     let h : i < length xs = omega (arith, c.each-test.true, ap length c.deref-arg-items.ensures.value) in
@@ -558,7 +553,7 @@ each_argument-each-preserved t c =
     let g = c.evaluate.ensures in
     let a = arg_of x in
     let rest = args_from (map arg_of (drop (i + 1) xs)) in
-    let here = setting c.args.self.now c.args.scope in
+    let here = setting_here c.args.self.now in
     let names = names_in c.args.names in
     let before = c.each.so_far.given in
     let after = c.in_ok-so_far-2.so_far in
@@ -571,7 +566,7 @@ each_argument-each-preserved t c =
     let step = alone_tells c.evaluate.result c.value_alone-next.result _ _ c.value_alone-next.ensures
     (tells_along c.evaluate.result _ _ _ (ap (λ e. value_at here true e c.each.self.turns)
     (sym c.argument_value.ensures.value) ∙ moved (λ s. value_at s true (term_of c.argument_value.result.now) c.each.self.turns)
-    c.args.scope inv.kept) g.value) in
+    inv.kept) g.value) in
     let given = held_seen before d c.value_alone-next.result (Ok after.given)
     (subst (λ (v : ArgumentsSoFar Value). IsGiven v.given d c.value_alone-next.result (Ok after.given)) w.0
     c.in_ok-so_far-2.ensures.given) in
@@ -586,8 +581,8 @@ each_argument-each-preserved t c =
       kept = keeps_trans inv.kept g.kept;
     }
 
-pub each_argument-returns-in_err-held-clause-value : goal.each_argument-returns-in_err-held-clause-value
-each_argument-returns-in_err-held-clause-value t c =
+pub arguments-returns-in_err-held-clause-value : goal.arguments-returns-in_err-held-clause-value
+arguments-returns-in_err-held-clause-value t c =
     let p = err_from_is_err_and c.from_residual-in_err-held.result c.from_residual-in_err-held.ensures.1 in
     let xs = c.args.args.now.items.items in
     let i = c.each.arg-index in
@@ -598,7 +593,7 @@ each_argument-returns-in_err-held-clause-value t c =
     let inv = c.each.invariant in
     let a = arg_of x in
     let rest = args_from (map arg_of (drop (i + 1) xs)) in
-    let here = setting c.args.self.now c.args.scope in
+    let here = setting_here c.args.self.now in
     let names = names_in c.args.names in
     let before = c.each.so_far.given in
     let stop = c.in_err-held.field-0.0 in
@@ -610,8 +605,8 @@ each_argument-returns-in_err-held-clause-value t c =
     (ap (λ (ns : Names). taker_of (names_in ns) c.each.positional (arguments_of before) a) (sym inv.names)
     ∙ taker_given (names_in c.each.so_far.names) c.each.positional before a ∙ refused.0)) refused.1)
 
-pub each_argument-returns-in_err-so_far-2-clause-value : goal.each_argument-returns-in_err-so_far-2-clause-value
-each_argument-returns-in_err-so_far-2-clause-value t c =
+pub arguments-returns-in_err-so_far-2-clause-value : goal.arguments-returns-in_err-so_far-2-clause-value
+arguments-returns-in_err-so_far-2-clause-value t c =
     let p = err_from_is_err_and c.from_residual-in_err-so_far-2.result c.from_residual-in_err-so_far-2.ensures.1 in
     let xs = c.args.args.now.items.items in
     let i = c.each.arg-index in
@@ -622,7 +617,7 @@ each_argument-returns-in_err-so_far-2-clause-value t c =
     let inv = c.each.invariant in
     let a = arg_of x in
     let rest = args_from (map arg_of (drop (i + 1) xs)) in
-    let here = setting c.args.self.now c.args.scope in
+    let here = setting_here c.args.self.now in
     let names = names_in c.args.names in
     let g = c.evaluate.ensures in
     let before = c.each.so_far.given in
@@ -635,7 +630,7 @@ each_argument-returns-in_err-so_far-2-clause-value t c =
     let step = alone_tells c.evaluate.result c.value_alone-next.result _ _ c.value_alone-next.ensures
     (tells_along c.evaluate.result _ _ _ (ap (λ e. value_at here true e c.each.self.turns)
     (sym c.argument_value.ensures.value) ∙ moved (λ s. value_at s true (term_of c.argument_value.result.now) c.each.self.turns)
-    c.args.scope inv.kept) g.value) in
+    inv.kept) g.value) in
     let stop = c.in_err-so_far-2.field-0.0 in
     let held = held_seen before d c.value_alone-next.result (Err stop)
     (subst (λ (v : ArgumentsSoFar Value). IsGiven v.given d c.value_alone-next.result (Err stop)) w.0 c.in_err-so_far-2.ensures.given) in
@@ -643,8 +638,8 @@ each_argument-returns-in_err-so_far-2-clause-value t c =
     inv.told a rest (taker_seen d) c.evaluate.new.self.turns c.evaluate.new.self.turns c.value_alone-next.result stop
     (args_here xs i x h is) free step held)
 
-pub each_parameter-parameter-next-requires : goal.each_parameter-parameter-next-requires
-each_parameter-parameter-next-requires t c =
+pub parameters-parameter-next-requires : goal.parameters-parameter-next-requires
+parameters-parameter-next-requires t c =
     let xs = c.args.params.now.items.items in
     let i = c.each.i in
     let h : i < length xs = omega (arith, c.each-test.true, ap length c.deref-param-items.ensures.value) in
@@ -657,14 +652,11 @@ each_parameter-parameter-next-requires t c =
     let slot = slots_here still i c.index_mut.result.now held c.index_mut.ensures.value ∙ ap
     (λ o. slot_of o ∷ slots_in (drop (i + 1) still)) (sym c.replace-given.ensures.value) in (
       omega (arith, param_deep xs i x h is, inv.kept.work, c.decreases),
-      (
-        omega (arith, c.requires.scope, inv.kept.count),
-        (slots_parts _ _ _ slot inv.filled).0,
-      ),
+      (slots_parts _ _ _ slot inv.filled).0,
     )
 
-pub each_parameter-each-preserved : goal.each_parameter-each-preserved
-each_parameter-each-preserved t c =
+pub parameters-each-preserved : goal.parameters-each-preserved
+parameters-each-preserved t c =
     let xs = c.args.params.now.items.items in
     let i = c.each.i in
     let h : i < length xs = omega (arith, c.each-test.true, ap length c.deref-param-items.ensures.value) in
@@ -689,10 +681,10 @@ each_parameter-each-preserved t c =
     let r = c.parameter-next.result in
     let longer = subst (λ (y : Result BoundedValues Stop). IsOneMore c.each.values r y) w.1
     c.with_next-longer.ensures in
-    let here = setting c.args.self.now c.args.scope in
+    let here = setting_here c.args.self.now in
     let ps = map param_of (drop (i + 1) xs) in
     record {
-      told = item_told _ _ c.args.scope inv.kept c.each.values _
+      told = item_told _ _ inv.kept c.each.values _
           (each_parameter here (map param_of (drop i xs)) (slots_in (drop i still)) c.each.self.turns)
           (λ here. parameter_value here (param_of x) s) (each_parameter here ps (slots_in (drop (i + 1) unfilled.items))) inv.told
           (ap (λ l. each_parameter here l (slots_in (drop i still)) c.each.self.turns) next
@@ -704,12 +696,12 @@ each_parameter-each-preserved t c =
       kept = keeps_trans inv.kept g.kept;
     }
 
-pub each_parameter-returns-clause-value : goal.each_parameter-returns-clause-value
-each_parameter-returns-clause-value t c =
+pub parameters-returns-clause-value : goal.parameters-returns-clause-value
+parameters-returns-clause-value t c =
     let xs = c.args.params.now.items.items in
     let i = c.each.i in
     let le : length xs ≤ i = omega (arith, c.each-test.false, ap length c.deref-param-items.ensures.value) in (
-      filled_end (setting c.args.self.now c.args.scope) _ (vals_in c.each.values.items.items)
+      filled_end (setting_here c.args.self.now) _ (vals_in c.each.values.items.items)
           (map param_of (drop i xs)) (slots_in (drop i c.each.open.items)) c.each.self.turns
           c.each.invariant.told (params_end xs i le),
       c.each.values.bounded,
@@ -719,7 +711,7 @@ pub function_call-returns-in_err-given : goal.function_call-returns-in_err-given
 function_call-returns-in_err-given t c =
     let p = err_from_is_err_and c.from_residual.result c.from_residual.ensures.1 in
     let e = c.args.self.now in
-    let here = setting e c.args.scope in
+    let here = setting_here e in
     record {
       value = rw (p.1, p.2) (if_err_at (λ (stop : Stop). (go : ℕ → ℕ → Outcome Val) (n : ℕ) → TellsAs bounded_val (Err stop) n
           (one_call_fewer (64 - e.calls) c.args.place (λ calls. turn c.args.place e.turns (go calls))))
@@ -734,42 +726,39 @@ function_call-function_value-value-requires t c =
     let e = c.args.self.now in
     let w = c.in_ok-given.ensures.ok in (
       omega (arith, work_falls e.source.now e.calls (omega arith), c.requires.call.within, c.decreases),
-      (
-        c.requires.scope,
-        subst (λ (given : GivenArguments Value). ArgumentsFit c.args.function given) (sym w.0) c.requires.call.arguments,
-      ),
+      subst (λ (given : GivenArguments Value). ArgumentsFit c.args.function given) (sym w.0) c.requires.call.arguments,
     )
 
 pub suffix-returns-in-Member : goal.suffix-returns-in-Member
 suffix-returns-in-Member t c =
     let e = c.args.self.now in
-    let v = indexed_val (env_of (rows_of e.scopes.now) c.args.scope) c.args.of in
+    let v = indexed_val (env_here e) c.args.of in
     record {
       value = tells_along c.member_item.result e.turns _ _
-          (ap (λ (x : Suffix). suffixed (setting e c.args.scope) v (suffix_of x) e.turns) c.in-Member.is
-          ∙ ap (λ x. suffixed (setting e c.args.scope) v x e.turns) (member_form c.in-Member.place c.in-Member.name c.in-Member.name_place))
+          (ap (λ (x : Suffix). suffixed (setting_here e) v (suffix_of x) e.turns) c.in-Member.is
+          ∙ ap (λ x. suffixed (setting_here e) v x e.turns) (member_form c.in-Member.place c.in-Member.name c.in-Member.name_place))
           (c.member_item.ensures e.turns);
-      kept = keeps_from _ _ refl (search rules) refl refl refl refl;
+      kept = keeps_same _;
     }
 
 pub in_new_scope-returns : goal.in_new_scope-returns
 in_new_scope-returns t c =
     let front : take c.in_ok-inner.inner (rows_of c.match-bind_all.self.1.1.1.0.now)
     ≡ take c.in_ok-inner.inner (rows_of c.bind_all.new.scopes) = elim c.match-bind_all.branch [
-      | in_new_scope-in-Ok w ↦ rw w.self-is (ap (take c.in_ok-inner.inner) w.evaluate-value.ensures.kept.rows)
+      | in_new_scope-in-Ok w ↦ rw w.self-is (ap (take c.in_ok-inner.inner) w.evaluate_in-value.ensures.kept.rows)
       | in_new_scope-in-Err w ↦ rw w.self-is refl
     ] in
     let chain : chain_of c.match-bind_all.self.1.1.1.0.now ≡ chain_of c.bind_all.new.scopes = elim c.match-bind_all.branch [
-      | in_new_scope-in-Ok w ↦ rw w.self-is w.evaluate-value.ensures.kept.chain
+      | in_new_scope-in-Ok w ↦ rw w.self-is w.evaluate_in-value.ensures.kept.chain
       | in_new_scope-in-Err w ↦ rw w.self-is refl
     ] in
     let before = rows_of c.args.self.now.scopes.now in
     let seam : take c.in_ok-inner.inner (rows_of c.enter_empty.new.self) ≡ rows_of c.args.self.now.scopes.now =
     ap (take c.in_ok-inner.inner) c.in_ok-inner.ensures.entered
-    ∙ ap (λ n. take n (before ++ empty_row c.args.scope ∷ [])) c.in_ok-inner.ensures.number
-    ∙ take-append_seam before (empty_row c.args.scope ∷ []) in
+    ∙ ap (λ n. take n (before ++ empty_row c.args.self.now.scope ∷ [])) c.in_ok-inner.ensures.number
+    ∙ take-append_seam before (empty_row c.args.self.now.scope ∷ []) in
     record {
       value = search rules;
-      kept = keeps_from _ _ (search rules) (search rules) (c.leave.ensures.rows ∙ front ∙ c.bind_all.ensures.front ∙ seam)
+      kept = keeps_from _ _ (search rules) (search rules) (search rules) (c.leave.ensures.rows ∙ front ∙ c.bind_all.ensures.front ∙ seam)
           (c.leave.ensures.chain ∙ chain ∙ c.bind_all.ensures.chain ∙ c.in_ok-inner.ensures.kept.chain) (search rules) (search rules);
     }

@@ -13,19 +13,20 @@ use Rattle.scad_ast.specs.ExprView.{term_of, terms_of, args_of, arg_of, suffix_o
 use Rattle.scad_ast.specs.StatementView.{param_of, params_of}
 use Rattle.scad_value.specs.View.{vals_in}
 use Rattle.scad_value.specs.BoundedView.{bounded_val}
-use Rattle.scad_scope.specs.Names.{env_of}
-use Rattle.scad_scope.specs.Table.{rows_of}
 use Rattle.scad_arguments.specs.Arguments.{nothing_given}
 use Rattle.scad_arguments.specs.ArgumentsView.{names_in}
 use Rattle.scad_func.specs.Meaning.{each_value, each_argument, each_parameter, each_suffix, each_link}
 use Rattle.scad_func.specs.Steps.{all_values}
 use Rattle.scad_func.specs.View.{indexed_val, slots_in, slots_bounded, arguments_of, arguments_bounded, function_size, param_size, params_size}
-use Rattle.scad_func.specs.Evaluations.{Keeps, work_left, setting}
+use Rattle.scad_func.specs.Evaluations.{Keeps, work_left, env_here, setting_here}
 use Rattle.scad_func.proofs.Calls.{in_front}
 use Rattle.scad_func.proofs.evaluation.Evaluation.+value.Given as goal
 
 abbrev pub decreases-evaluate : goal.decreases-evaluate
 decreases-evaluate l = work_left l.self.now.source.now l.self.now.calls + (4 * size-Expr l.expr.now + 2)
+
+abbrev pub decreases-evaluate_in : goal.decreases-evaluate_in
+decreases-evaluate_in l = work_left l.self.now.source.now l.self.now.calls + (4 * size-Expr l.expr.now + 3)
 
 abbrev pub decreases-deeper : goal.decreases-deeper
 decreases-deeper l = work_left l.self.now.source.now l.self.now.calls + (4 * size-Expr l.expr.now + 1)
@@ -77,8 +78,8 @@ decreases-choice l = work_left l.self.now.source.now l.self.now.calls +
 abbrev pub decreases-call : goal.decreases-call
 decreases-call l = work_left l.self.now.source.now l.self.now.calls + (4 * size-Args l.args.now + 3)
 
-abbrev pub decreases-each_argument : goal.decreases-each_argument
-decreases-each_argument l = work_left l.self.now.source.now l.self.now.calls + (4 * size-Args l.args.now + 2)
+abbrev pub decreases-arguments : goal.decreases-arguments
+decreases-arguments l = work_left l.self.now.source.now l.self.now.calls + (4 * size-Args l.args.now + 2)
 
 abbrev pub decreases-function_call : goal.decreases-function_call
 decreases-function_call l = work_left l.self.now.source.now l.self.now.calls
@@ -92,8 +93,8 @@ decreases-with_defaults l = work_left l.self.now.source.now l.self.now.calls + (
 abbrev pub decreases-in_new_scope : goal.decreases-in_new_scope
 decreases-in_new_scope l = work_left l.self.now.source.now l.self.now.calls + (4 * function_size l.function + 5)
 
-abbrev pub decreases-each_parameter : goal.decreases-each_parameter
-decreases-each_parameter l = work_left l.self.now.source.now l.self.now.calls + (4 * params_size l.params.now.items.items + 4)
+abbrev pub decreases-parameters : goal.decreases-parameters
+decreases-parameters l = work_left l.self.now.source.now l.self.now.calls + (4 * params_size l.params.now.items.items + 4)
 
 abbrev pub decreases-parameter : goal.decreases-parameter
 decreases-parameter l = work_left l.self.now.source.now l.self.now.calls + (4 * param_size l.param.now + 3)
@@ -103,7 +104,7 @@ decreases-each_positional l = work_left l.self.now.source.now l.self.now.calls +
 
 abbrev pub invariant-each_value-each : goal.invariant-each_value-each
 invariant-each_value-each l =
-    let here = setting l.fn.self l.scope in
+    let here = setting_here l.fn.self in
     record {
       told : each_value here (terms_from (terms_of l.exprs)) l.fn.self.turns
           ≡ in_front (vals_in l.values.items.items) (each_value here
@@ -113,7 +114,7 @@ invariant-each_value-each l =
 
 abbrev pub invariant-each_positional-each : goal.invariant-each_positional-each
 invariant-each_positional-each l =
-    let here = setting l.fn.self l.scope in
+    let here = setting_here l.fn.self in
     record {
       told : each_value here (all_values (args_from (args_of l.args))) l.fn.self.turns
           ≡ in_front (vals_in l.values.items.items) (each_value here
@@ -123,9 +124,9 @@ invariant-each_positional-each l =
 
 abbrev pub invariant-suffixes-each : goal.invariant-suffixes-each
 invariant-suffixes-each l =
-    let here = setting l.fn.self l.scope in
+    let here = setting_here l.fn.self in
     record {
-      told : each_suffix here (indexed_val (env_of (rows_of l.fn.self.scopes.now) l.scope) l.fn.of)
+      told : each_suffix here (indexed_val (env_here l.fn.self) l.fn.of)
           (suffixes_from (suffixes_of l.rest)) l.fn.self.turns
           ≡ each_suffix here (bounded_val l.so_far)
           (suffixes_from (map suffix_of (drop l.part-index l.rest.more.items))) l.self.turns;
@@ -134,7 +135,7 @@ invariant-suffixes-each l =
 
 abbrev pub invariant-links-each : goal.invariant-links-each
 invariant-links-each l =
-    let here = setting l.fn.self l.scope in
+    let here = setting_here l.fn.self in
     record {
       told : each_link here (bounded_val l.fn.left) (links_from (links_of l.rest)) l.fn.self.turns
           ≡ each_link here (bounded_val l.so_far)
@@ -142,9 +143,9 @@ invariant-links-each l =
       kept : Keeps l.fn.self l.self;
     }
 
-abbrev pub invariant-each_argument-each : goal.invariant-each_argument-each
-invariant-each_argument-each l =
-    let here = setting l.fn.self l.scope in
+abbrev pub invariant-arguments-each : goal.invariant-arguments-each
+invariant-arguments-each l =
+    let here = setting_here l.fn.self in
     record {
       told : each_argument here (names_in l.names) 0 (args_from (args_of l.args))
           (nothing_given (length (names_in l.names))) l.fn.self.turns
@@ -156,9 +157,9 @@ invariant-each_argument-each l =
       kept : Keeps l.fn.self l.self;
     }
 
-abbrev pub invariant-each_parameter-each : goal.invariant-each_parameter-each
-invariant-each_parameter-each l =
-    let here = setting l.fn.self l.scope in
+abbrev pub invariant-parameters-each : goal.invariant-parameters-each
+invariant-parameters-each l =
+    let here = setting_here l.fn.self in
     record {
       told : each_parameter here (params_of l.params) (slots_in l.fn.slots.items) l.fn.self.turns
           ≡ in_front (vals_in l.values.items.items) (each_parameter here

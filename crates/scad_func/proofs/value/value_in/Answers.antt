@@ -1,0 +1,5 @@
+use Rattle.scad_func.proofs.Holding.{alone_tells}
+use Rattle.scad_func.proofs.value.value_in.Goals as goal
+
+pub returns-clause-value : goal.returns-clause-value
+returns-clause-value c = alone_tells c.evaluate.result c.value_alone-value.result _ _ c.value_alone-value.ensures c.evaluate.ensures.value
