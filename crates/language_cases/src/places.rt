@@ -2,12 +2,12 @@
 
 ghost use Rattle.std.specs.Prelude.{◌≤◌, ◌^◌, length};
 
-use crate::program::read;
+use crate::program::put_of_program;
 use crate::text::put_stop;
 use case_lines::{cut, put, put_numbers, unfolded};
 use scad_ast::{Core, Program, Statement};
 use scad_lexer::lex;
-use scad_parser::parse;
+use scad_source::with_parsed;
 use std::alloc::Global;
 use text_place::{NoMemory, Place, Stop};
 
@@ -49,14 +49,16 @@ fn put_all(alloc: Global, out: &mut Vec<u8>, program: &Program) -> Result<(), No
 pub fn put_places(alloc: Global, out: &mut Vec<u8>, source: &[u8]) -> Result<(), NoMemory>
     requires { length source.now ≤ 2 ^ 20 }
 {
-    match read(alloc, source) {
-        Ok(program) => put_all(alloc, out, &program),
-        Err(stop) => put_stop(alloc, out, stop),
-    }
+    put_of_program(
+        alloc,
+        out,
+        source,
+        |out, program| put_all(alloc, out, program),
+    )
 }
 
-// The program of a source's tokens with those of another source behind their end, of at most 100 bytes each.
-fn read_behind(alloc: Global, source: &[u8], more: &[u8]) -> Result<Program, Stop> {
+// Whether a source's tokens with those of another source behind their end, of at most 100 bytes each, are a program.
+fn read_behind(alloc: Global, source: &[u8], more: &[u8]) -> Result<(), Stop> {
     if source.len() > 100 || more.len() > 100 {
         return Err(Stop::NoMemory);
     }
@@ -65,7 +67,7 @@ fn read_behind(alloc: Global, source: &[u8], more: &[u8]) -> Result<Program, Sto
     if tokens.append(&mut behind).is_err() || tokens.len() > 202 {
         return Err(Stop::NoMemory);
     }
-    parse(alloc, &tokens)
+    with_parsed(alloc, &tokens, |_program| Ok(()))
 }
 
 /// Whether the tokens of a source, which has no blank, and those of what stands behind the blank are a program, or the first
@@ -75,7 +77,7 @@ pub fn put_behind(alloc: Global, out: &mut Vec<u8>, text: &[u8]) -> Result<(), N
     let source = unfolded(alloc, source)?;
     let more = unfolded(alloc, more)?;
     match read_behind(alloc, &source, &more) {
-        Ok(_) => put(out, b"a program"),
+        Ok(()) => put(out, b"a program"),
         Err(stop) => put_stop(alloc, out, stop),
     }
 }

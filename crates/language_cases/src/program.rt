@@ -8,10 +8,9 @@ use scad_ast::{
     Arg, Args, BinaryOp, Binder, Body, Core, Expr, Exprs, Instance, Link, Mark, Modifier, Param,
     Params, Program, Statement, Statements, Suffix, UnaryOp,
 };
-use scad_lexer::lex;
-use scad_parser::parse;
+use scad_source::with_program;
 use std::alloc::Global;
-use text_place::{NoMemory, Stop, push_decimal};
+use text_place::{NoMemory, push_decimal};
 
 fn operator(op: BinaryOp) -> &'static [u8] {
     match op {
@@ -303,30 +302,34 @@ fn put_body(alloc: Global, out: &mut Vec<u8>, body: &Body) -> Result<(), NoMemor
     }
 }
 
-/// The program of a source, or its first fault.
-pub fn read(alloc: Global, source: &[u8]) -> Result<Program, Stop>
-    requires { length source.now ≤ 2 ^ 20 }
+/// What is written of the program of a source, or its first fault. The program is lent: who held it would drop all its syntax.
+pub fn put_of_program<F: FnOnce(&mut Vec<u8>, &Program) -> Result<(), NoMemory>>(
+    alloc: Global,
+    out: &mut Vec<u8>,
+    source: &[u8],
+    put_it: F,
+) -> Result<(), NoMemory>
+    requires short { length source.now ≤ 2 ^ 20 }
+    requires put_it { F.IsAlwaysCallable put_it }
 {
-    let tokens = lex(alloc, source)?;
-    parse(alloc, &tokens)
+    match with_program(alloc, source, |program| Ok(put_it(out, program))) {
+        Ok(told) => told,
+        Err(stop) => put_stop(alloc, out, stop),
+    }
 }
 
 /// The program of a source in words, or its first fault.
 pub fn put_program(alloc: Global, out: &mut Vec<u8>, source: &[u8]) -> Result<(), NoMemory>
     requires { length source.now ≤ 2 ^ 20 }
 {
-    match read(alloc, source) {
-        Ok(program) => put_statements(alloc, out, &program.statements),
-        Err(stop) => put_stop(alloc, out, stop),
-    }
+    put_of_program(alloc, out, source, |out, program| {
+        put_statements(alloc, out, &program.statements)
+    })
 }
 
 /// Whether a source is a program, or its first fault.
 pub fn put_reads(alloc: Global, out: &mut Vec<u8>, source: &[u8]) -> Result<(), NoMemory>
     requires { length source.now ≤ 2 ^ 20 }
 {
-    match read(alloc, source) {
-        Ok(_) => put(out, b"a program"),
-        Err(stop) => put_stop(alloc, out, stop),
-    }
+    put_of_program(alloc, out, source, |out, _program| put(out, b"a program"))
 }

@@ -3,14 +3,14 @@
 
 ghost use Rattle.std.specs.Prelude.{◌≤◌, ◌^◌, length};
 
-use crate::program::read;
 use crate::text::put_stop;
 use case_lines::put;
 use csg_tree::{CsgTree, Op};
 use plane_predicate::{Plane, Unit};
 use scad_eval::evaluate;
+use scad_source::with_program;
 use std::alloc::Global;
-use text_place::{NoMemory, Stop, push_decimal};
+use text_place::{NoMemory, push_decimal};
 
 // Where the first of some planes with a normal stands.
 fn bound(planes: &[Plane], normal: (i64, i64, i64)) -> Option<i64> {
@@ -111,13 +111,6 @@ fn put_tree(alloc: Global, out: &mut Vec<u8>, tree: &CsgTree) -> Result<(), NoMe
     }
 }
 
-fn tree_of(alloc: Global, source: &[u8], unit: Unit) -> Result<CsgTree, Stop>
-    requires { length source.now ≤ 2 ^ 20 }
-{
-    let program = read(alloc, source)?;
-    evaluate(alloc, &program, unit)
-}
-
 /// The tree that a source means in a unit, or its first fault.
 pub fn put_meaning(
     alloc: Global,
@@ -127,7 +120,7 @@ pub fn put_meaning(
 ) -> Result<(), NoMemory>
     requires { length source.now ≤ 2 ^ 20 }
 {
-    match tree_of(alloc, source, unit) {
+    match with_program(alloc, source, |program| evaluate(alloc, program, unit)) {
         Ok(tree) => put_tree(alloc, out, &tree),
         Err(stop) => put_stop(alloc, out, stop),
     }

@@ -2,8 +2,7 @@
 
 ghost use Rattle.std.specs.Prelude.{◌≤◌, ◌^◌, length};
 
-use crate::program::read;
-use crate::text::put_stop;
+use crate::program::put_of_program;
 use case_lines::put;
 use scad_ast::{Expr, Program, Statement};
 use scad_func::{Meter, Source, value_in};
@@ -119,8 +118,10 @@ pub fn put_value_after(
 ) -> Result<(), NoMemory>
     requires { length source.now ≤ 2 ^ 20 }
 {
-    match read(alloc, source) {
-        Ok(program) => put_first(alloc, out, &program, turns),
-        Err(stop) => put_stop(alloc, out, stop),
-    }
+    put_of_program(
+        alloc,
+        out,
+        source,
+        |out, program| put_first(alloc, out, program, turns),
+    )
 }

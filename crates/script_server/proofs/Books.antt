@@ -1,5 +1,5 @@
 -- Weights that are told, and parts of the books that come back.
-use Rattle.std.proofs.Common.{◌≡◌, ℕ, zero, suc, ◌+◌, ◌*◌, List, [], ◌∷◌, ◌++◌, length, length-append, map, take, drop, cond, nat_eq, All, refl, ap, sym, ◌∙◌, add-one, arith}
+use Rattle.std.proofs.Common.{◌≡◌, ℕ, zero, suc, ◌+◌, ◌*◌, List, [], ◌∷◌, ◌++◌, length, length-append, map, take, drop, cond, nat_eq, All, Result, Ok, IfOk, refl, ap, sym, subst, ◌∙◌, add-one, arith}
 use Rattle.std.specs.Prelude.{sum_by}
 use Rattle.std.proofs.lemmas.List.{length-map, map-append}
 use Rattle.std.proofs.lemmas.List.Elements.{All-head, All-tail, All-nil, All-cons, All-append}
@@ -86,5 +86,13 @@ pub all_read : {A B : Type 0} (f : A → B) (P : B → Type 0) (xs : List A) →
 all_read f P [] all = All-nil (λ x. P (f x))
 all_read f P (x ∷ xs) all = All-cons (λ y. P (f y)) x xs (All-head P (f x) (map f xs) all) (all_read f P xs (All-tail P (f x) (map f xs) all))
 
+-- a list with one item more
+pub pushed_many : {A : Type 0} (old new : List A) (x : A) → new ≡ old ++ x ∷ [] → length new ≡ length old + 1
+pushed_many old new x e = ap length e ∙ length-append old (x ∷ [])
+
 pub All_push : {A : Type 0} (P : A → Type 0) (xs : List A) (x : A) → All P xs → P x → All P (xs ++ x ∷ [])
 All_push P xs x all here = All-append P xs (x ∷ []) all (All-cons P x [] here (All-nil P))
+
+-- what holds of an answer where it is given holds of the one that was
+pub of_given : {T E : Type 0} (P : T → Type 0) (r : Result T E) (x : T) → r ≡ Ok x → IfOk r P → P x
+of_given {T} {E} P r x is h = subst (λ (q : Result T E). IfOk q P) is h

@@ -1,31 +1,37 @@
--- A source means what its program means, and is refused with the fault of its tokens or of its program.
-use Rattle.std.proofs.Common.{inr, List, ℕ, Result, Ok, Err, IfOk, IfErr}
+-- A source means what its program means, and is refused with the fault of its text or of its program.
+use Rattle.std.proofs.Common.{◌≡◌, inl, inr, List, ℕ, Result, Ok, Err, IfOk, IfErr, sym, subst}
 use Rattle.text_place.specs.declared.fault.Stop.{Stop}
 use Rattle.text_place.specs.declared.fault.Stop.TheVariants.{Fault, NoMemory}
-use Rattle.scad_lexer.specs.declared.token.Token.{Token}
-use Rattle.scad_lexer.specs.Tokens.{Lexes, Gives}
 use Rattle.scad_ast.specs.declared.program.Program.{Program}
+use Rattle.scad_ast.specs.ProgramView.{program_of}
 use Rattle.scad_ast.specs.Terms.{StatementTerm}
-use Rattle.scad_parser.specs.Parsing.{IsStopOf}
+use Rattle.scad_source.specs.Sources.{Writes, RefusesText}
 use Rattle.plane_predicate.specs.declared.unit.Unit.{Unit as LengthUnit}
 use Rattle.csg_tree.specs.declared.tree.CsgTree.{CsgTree}
+use Rattle.csg_tree.specs.ProperTrees.{IsProper}
 use Rattle.csg_tree.specs.Trees.{formula_of}
-use Rattle.scad_meaning.specs.Sources.{a_tree, IsMeaning, IsMeaningStop}
-use Rattle.script_server.specs.Meaning.Sources.{Writes, RefusesText, Means, Refuses}
+use Rattle.script_server.specs.Meaning.Sources.{Means, Refuses, GivesTree}
 
-pub source_refused : (source : List ℕ) (tokens : List Token) (r : Result Program Stop) → Lexes source (Gives tokens)
-    → IfErr r (λ stop. IsStopOf 65 tokens stop) → IfErr r (RefusesText source)
-source_refused source tokens (Ok program) lexes h = tt
-source_refused source tokens (Err (Fault fault)) lexes h = inr (tokens, lexes, h)
-source_refused source tokens (Err NoMemory) lexes h = tt
+-- what a source's tree is, or why it has none
+pub record GivesTreeOf (unit : LengthUnit) (source : List ℕ) (r : Result CsgTree Stop) : Type 0 where
+  pub tree : IfOk r (λ tree. Means unit source (formula_of tree))
+  pub proper : IfOk r (λ tree. IsProper (formula_of tree))
+  pub fault : IfErr r (Refuses unit source)
 
-pub program_means : (unit : LengthUnit) (source : List ℕ) (program : List StatementTerm) (r : Result CsgTree Stop) → Writes source program
-    → IfOk r (λ tree. IsMeaning unit program (a_tree (formula_of tree))) → IfOk r (λ tree. Means unit source (formula_of tree))
-program_means unit source program (Ok tree) w h = (program, w, h)
-program_means unit source program (Err stop) w h = tt
+program_gives : (unit : LengthUnit) (source : List ℕ) (program : List StatementTerm) (r : Result CsgTree Stop) → Writes source program
+    → GivesTree unit program r → GivesTreeOf unit source r
+program_gives unit source program (Ok tree) w h = record { tree = (program, w, h.0); proper = h.1; fault = tt }
+program_gives unit source program (Err (Fault fault)) w h = record { tree = tt; proper = tt; fault = inr (program, w, h) }
+program_gives unit source program (Err NoMemory) w h = record { tree = tt; proper = tt; fault = tt }
 
-pub program_refused : (unit : LengthUnit) (source : List ℕ) (program : List StatementTerm) (r : Result CsgTree Stop) → Writes source program
-    → IfErr r (IsMeaningStop unit program) → IfErr r (Refuses unit source)
-program_refused unit source program (Ok tree) w h = tt
-program_refused unit source program (Err (Fault fault)) w h = inr (program, w, h)
-program_refused unit source program (Err NoMemory) w h = tt
+text_refused : (unit : LengthUnit) (source : List ℕ) (why : Stop) → RefusesText source why → GivesTreeOf unit source (Err why)
+text_refused unit source (Fault fault) h = record { tree = tt; proper = tt; fault = inl h }
+text_refused unit source NoMemory h = record { tree = tt; proper = tt; fault = tt }
+
+pub source_gives : (unit : LengthUnit) (source : List ℕ) (program lent : Program) (r : Result CsgTree Stop) → Writes source (program_of program)
+    → lent ≡ program → GivesTree unit (program_of lent) r → GivesTreeOf unit source r
+source_gives unit source program lent r writes same gives =
+    program_gives unit source (program_of program) r writes (subst (λ (p : Program). GivesTree unit (program_of p) r) same gives)
+
+pub source_refused : (unit : LengthUnit) (source : List ℕ) (why : Stop) (r : Result CsgTree Stop) → RefusesText source why → r ≡ Err why → GivesTreeOf unit source r
+source_refused unit source why r refuses is = subst (GivesTreeOf unit source) (sym is) (text_refused unit source why refuses)

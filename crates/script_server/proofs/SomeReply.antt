@@ -19,7 +19,8 @@ use Rattle.reply_text.specs.declared.reply.Reply.TheVariants as reply
 use Rattle.tree_export.specs.declared.export.Exported.{Exported}
 use Rattle.tree_export.specs.declared.export.Exported.TheVariants as exported
 use Rattle.tree_export.specs.Exports.{IsExported, Bounds}
-use Rattle.script_server.specs.Meaning.Sources.{Writes, Means, HasFault}
+use Rattle.scad_source.specs.Sources.{Writes}
+use Rattle.script_server.specs.Meaning.Sources.{Means, HasFault}
 use Rattle.script_server.specs.Meaning.Exports.{reply_of, IsBounded, AnswersExport}
 
 -- what is known of the texts, the programs and the trees of sources

@@ -49,40 +49,30 @@ pub fn weights(
     Ok(weights)
 }
 
-// The clients of callers with these fresh shares, in the order of their numbers.
-fn clients_of<B: FlightBooks>(
-    alloc: Global,
+// The exporters of callers with these fresh shares, in the order of their numbers, in room that is given for them. All
+// export so.
+fn exporters_of<B: FlightBooks, F: Copy + Drop>(
     workers: u64,
     shares: Vec<FlightShare<B>>,
-) -> Result<Vec<Client<B>>, NoMemory>
+    export: F,
+    room: Vec<ClientExporter<Client<B>, F>>,
+) -> Vec<ClientExporter<Client<B>, F>>
     requires workers { (1 ≤ workers) × (workers ≤ 64) }
     requires fresh { All (λ s. (s.share.parts ≡ parts_each) × (offered_of s.share ≡ 0)) shares.items }
     requires order { map (λ s. s.share) shares.items ≡ opened (length shares.items) }
-    ensures shares { IfOk result (λ v. map (λ c. c.share) v.items ≡ map (λ s. s.share) shares.items) }
-    ensures unasked { IfOk result (λ v. All (λ c. c.asked ≡ 0) v.items) }
+    requires empty { room.items ≡ [] }
+    requires room { length shares.items ≤ vec_capacity room }
+    ensures shares { map (λ e. e.client.share) result.items ≡ map (λ s. s.share) shares.items }
+    ensures alike { All (λ e. (e.client.asked ≡ 0) × (e.export ≡ export)) result.items }
 {
-    let mut clients = Vec::with_capacity(alloc, shares.len())?;
+    let mut exporters = room;
     for share in shares {
-        clients.push(Client::new(share, workers))?;
+        exporters.push_reserved(ClientExporter {
+            client: Client::new(share, workers),
+            export,
+        });
     }
-    Ok(clients)
-}
-
-// The exporters of clients, which all export so.
-fn exporters_of<B: FlightBooks, F: Copy + Drop>(
-    alloc: Global,
-    clients: Vec<Client<B>>,
-    export: F,
-) -> Result<Vec<ClientExporter<Client<B>, F>>, NoMemory>
-    requires { All (λ c. c.asked ≡ 0) clients.items }
-    ensures clients { IfOk result (λ v. map (λ e. e.client) v.items ≡ clients.items) }
-    ensures alike { IfOk result (λ v. All (λ e. (e.client.asked ≡ 0) × (e.export ≡ export)) v.items) }
-{
-    let mut exporters = Vec::with_capacity(alloc, clients.len())?;
-    for client in clients {
-        exporters.push(ClientExporter { client, export })?;
-    }
-    Ok(exporters)
+    exporters
 }
 
 // The shares of exporters, in room that is given for them.
@@ -105,6 +95,7 @@ fn shares_of<B: FlightBooks, F: Drop>(
 
 // Runs the clients over a memo whose ledgers no caller has named.
 fn run_over<
+    'x,
     N: Namer<TreeKey> + Send + Sync,
     H: MemoLedger + Send + Sync,
     M: Ledger + Send + Sync,
@@ -115,12 +106,12 @@ fn run_over<
     G: Gate + Sync,
     R: Threads + Wait + Sync,
 >(
-    rt: &R,
+    rt: &'x R,
     alloc: Global,
     core: MemoCore<SolidFit, N>,
     blanks: Blanks,
     claims: FlightBlanks,
-    gate: &G,
+    gate: &'x G,
     workers: u64,
     unit: Unit,
     script: &Script,
@@ -136,12 +127,14 @@ fn run_over<
     ensures { IfOk result (λ ran. IsRunOf unit script.now.clients core.budget core.share N.name_of
         ran.replies.items ran.tally ran.core) }
 {
+    // All room is taken before the memo opens, which is closed then whatever comes: so no way out drops it.
+    let callers = blanks.callers as usize;
+    let waiting = Vec::with_capacity(alloc, callers)?;
+    let room = Vec::with_capacity(alloc, callers)?;
     let (memo, shares) = Memo::<SolidFit, N, FlightLedgers<H, M, K, E, S, T>>::open(
         alloc, core, blanks,
     )?;
     let (flight, shares) = Flight::open(alloc, SolidFit, memo, shares, claims)?;
-    let room = Vec::with_capacity(alloc, shares.len())?;
-    let clients = clients_of(alloc, workers, shares)?;
     let builds = Builds {
         rt,
         alloc,
@@ -155,10 +148,11 @@ fn run_over<
         requires { (length source.now ≤ 4198400) × (client.now.asked < 8192) }
         ensures { ExportsFor unit source.now result client.entry.now client.exit.now }
     { export_source(lent, client, unit, source) };
-    let mut exporters = exporters_of(alloc, clients, export)?;
-    let replies = script_run::run_script(rt, alloc, &mut exporters, unit, script)?;
+    let mut exporters = exporters_of(workers, shares, export, waiting);
+    let served = script_run::run_script(rt, alloc, &mut exporters, unit, script);
     let shares = shares_of(exporters, room);
     let (tally, core, _claims) = flight.close(shares);
+    let replies = served?;
     Ok(Ran {
         replies,
         tally,

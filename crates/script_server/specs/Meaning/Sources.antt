@@ -1,31 +1,16 @@
 -- What a source means: the tree of the one program that it writes, or its first fault.
-use Rattle.std.specs.Prelude.{ℕ, List, ◌⊎◌}
+use Rattle.std.specs.Prelude.{ℕ, List, Result, Ok, Err, ◌⊎◌}
 use Rattle.text_place.specs.declared.fault.Stop.{Stop}
 use Rattle.text_place.specs.declared.fault.Stop.TheVariants as stop
 use Rattle.text_place.specs.declared.fault.Fault.{Fault}
 use Rattle.plane_predicate.specs.declared.unit.Unit.{Unit as LengthUnit}
+use Rattle.csg_tree.specs.declared.tree.CsgTree.{CsgTree}
 use Rattle.csg_tree.specs.Formulas.{Formula}
-use Rattle.scad_lexer.specs.declared.token.Token.{Token}
-use Rattle.scad_lexer.specs.Tokens.{Lexes, Gives, Faults}
+use Rattle.csg_tree.specs.ProperTrees.{IsProper}
+use Rattle.csg_tree.specs.Trees.{formula_of}
 use Rattle.scad_ast.specs.Terms.{StatementTerm}
-use Rattle.scad_grammar.specs.Grammar.{Program}
-use Rattle.scad_parser.specs.Parsing.{HasFault as HasSyntaxFault}
-use Rattle.scad_meaning.specs.Sources.{a_tree, a_fault, IsMeaning}
-
--- the source's tokens are the program's, at most 64 deep
-abbrev pub Writes : List ℕ → List StatementTerm → Type 0
-Writes source program = (tokens : List Token) × Lexes source (Gives tokens) × Program 65 program tokens
-
--- the first fault of a source that writes no program: of its bytes, or else of its tokens
-abbrev pub HasTextFault : List ℕ → Fault → Type 0
-HasTextFault source fault =
-    Lexes source (Faults fault.kind fault.place)
-    ⊎ ((tokens : List Token) × Lexes source (Gives tokens) × HasSyntaxFault 65 tokens fault)
-
--- the source is refused with that fault, unless memory ran out
-abbrev pub RefusesText : List ℕ → Stop → Type 0
-RefusesText source (stop.Fault fault) = HasTextFault source fault
-RefusesText source stop.NoMemory = Unit {0}
+use Rattle.scad_source.specs.Sources.{Writes, HasTextFault}
+use Rattle.scad_meaning.specs.Sources.{a_tree, a_fault, IsMeaning, IsMeaningStop}
 
 -- the source means this tree, with its lengths in a unit
 abbrev pub Means : LengthUnit → List ℕ → Formula → Type 0
@@ -41,3 +26,8 @@ HasFault unit source fault =
 abbrev pub Refuses : LengthUnit → List ℕ → Stop → Type 0
 Refuses unit source (stop.Fault fault) = HasFault unit source fault
 Refuses unit source stop.NoMemory = Unit {0}
+
+-- what a program gives: the proper tree that it means, or its first fault, unless memory ran out
+abbrev pub GivesTree : LengthUnit → List StatementTerm → Result CsgTree Stop → Type 0
+GivesTree unit program (Ok tree) = IsMeaning unit program (a_tree (formula_of tree)) × IsProper (formula_of tree)
+GivesTree unit program (Err why) = IsMeaningStop unit program why

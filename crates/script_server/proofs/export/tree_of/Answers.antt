@@ -1,9 +1,24 @@
-use Rattle.scad_ast.specs.ProgramView.{program_of}
-use Rattle.script_server.proofs.Refusing.{program_means, program_refused}
+use Rattle.std.proofs.Common.{⊎_elim}
+use Rattle.script_server.proofs.Refusing.{source_gives, source_refused}
 use Rattle.script_server.proofs.export.tree_of.Goals as goal
 
 pub returns-clause-tree : goal.returns-clause-tree
-returns-clause-tree c = program_means c.args.unit c.args.source.now (program_of c.in_ok-program.program) c.evaluate.result c.in_ok-program.ensures.found c.evaluate.ensures.tree
+returns-clause-tree c =
+    (⊎_elim
+    (λ m. source_gives c.args.unit c.args.source.now m.0 m.2.0.now c.with_program.result m.1 m.2.2 m.2.1)
+    (λ m. source_refused c.args.unit c.args.source.now m.0 c.with_program.result m.1 m.2)
+    c.with_program.ensures).tree
+
+pub returns-clause-proper : goal.returns-clause-proper
+returns-clause-proper c =
+    (⊎_elim
+    (λ m. source_gives c.args.unit c.args.source.now m.0 m.2.0.now c.with_program.result m.1 m.2.2 m.2.1)
+    (λ m. source_refused c.args.unit c.args.source.now m.0 c.with_program.result m.1 m.2)
+    c.with_program.ensures).proper
 
 pub returns-clause-fault : goal.returns-clause-fault
-returns-clause-fault c = program_refused c.args.unit c.args.source.now (program_of c.in_ok-program.program) c.evaluate.result c.in_ok-program.ensures.found c.evaluate.ensures.stop
+returns-clause-fault c =
+    (⊎_elim
+    (λ m. source_gives c.args.unit c.args.source.now m.0 m.2.0.now c.with_program.result m.1 m.2.2 m.2.1)
+    (λ m. source_refused c.args.unit c.args.source.now m.0 c.with_program.result m.1 m.2)
+    c.with_program.ensures).fault

@@ -1,11 +1,13 @@
-use Rattle.std.proofs.Common.{◌≡◌, ◌++◌, All, map}
-use Rattle.script_server.specs.Clients.{ClientBooks}
+use Rattle.std.proofs.Common.{◌≡◌, ◌≤◌, ◌++◌, All, map, length}
+use Rattle.std.specs.Prelude.{vec_capacity}
+use Rattle.flight_memo.specs.Shares.{FlightView}
 use Rattle.script_server.proofs.running.exporters_of.Given as goal
 
--- the clients of the exporters so far, and those that are left, are all
-abbrev pub invariant-loop-client : goal.invariant-loop-client
-invariant-loop-client g l = record {
+-- the shares of the exporters so far, and those that are left, are all
+abbrev pub invariant-loop-share : goal.invariant-loop-share
+invariant-loop-share g l = record {
   alike : All (λ e. (e.client.asked ≡ 0) × (e.export ≡ l.export)) l.exporters.items;
-  unasked : All (λ (c : ClientBooks). c.asked ≡ 0) l.client-iterator.rest.items;
-  all : map (λ e. e.client) l.exporters.items ++ l.client-iterator.rest.items ≡ l.fn.clients.items;
+  many : length l.exporters.items ≡ length l.yielded;
+  room : length l.fn.shares.items ≤ vec_capacity l.exporters;
+  all : map (λ e. e.client.share) l.exporters.items ++ map (λ (s : FlightView). s.share) l.share-iterator.rest.items ≡ map (λ (s : FlightView). s.share) l.fn.shares.items;
 }
