@@ -26,6 +26,7 @@ FRAME = (
     "tree_export::",
     "pair_work::",
     "parallel_eval::",
+    "scad_source::",
 )
 
 # The functions that stand for each phase, by how their names begin; the longest beginning counts. The compiler puts functions
@@ -33,7 +34,7 @@ FRAME = (
 # rest, with freeing, threads, and the reply's way to the output.
 PHASES = {
     # words of the source to tokens, tokens to a program, and its end
-    "reading": ("scad_lexer::", "scad_parser::", "scad_expressions::", "script_server::scad_ast"),
+    "reading": ("scad_lexer::", "scad_parser::", "scad_expressions::", "scad_source::scad_ast"),
     # a program to a design
     "evaluating": (
         "scad_eval::", "scad_func::", "scad_scope::", "scad_blocks::", "scad_arguments::", "newest_names::", "scad_design::",

@@ -26,13 +26,14 @@ abbrev pub RefusesText : List ℕ → Stop → Type 0
 RefusesText source (stop.Fault fault) = HasTextFault source fault
 RefusesText source stop.NoMemory = Unit {0}
 
--- what came of tokens: what is made of the program that they write, or, where the last one is an end, why they are refused
+-- what came of tokens: something that may be made of the program that they write, or, where the last one is an end, why they are
+-- refused
 abbrev pub IsMadeOfTokens : {T : Type 0} → (Syntax → Result T Stop → Type 0) → List Token → Result T Stop → Type 0
 IsMadeOfTokens makes tokens r =
     ((program : Syntax) × Program 65 (program_of program) tokens × makes program r)
     ⊎ ((why : Stop) × (ends tokens ≡ true → IsStopOf 65 tokens why) × (r ≡ Err why))
 
--- what came of a source: what is made of the program that it writes, or why it is refused
+-- what came of a source: something that may be made of the program that it writes, or why it is refused
 abbrev pub IsMadeOf : {T : Type 0} → (Syntax → Result T Stop → Type 0) → List ℕ → Result T Stop → Type 0
 IsMadeOf makes source r =
     ((program : Syntax) × Writes source (program_of program) × makes program r)

@@ -10,7 +10,7 @@ use scad_parser::{an_only_end_is_last, parse};
 use std::alloc::Global;
 use text_place::Stop;
 
-/// What is made of the program that fewer than 2^32 tokens write, or their first fault, as `parse` gives them.
+/// What is made of the program that fewer than 2^32 tokens write, or, where the last of them is an end, their first fault.
 pub fn with_parsed<T, F: FnOnce(&Program) -> Result<T, Stop>>(
     alloc: Global,
     tokens: &[Token],

@@ -95,7 +95,7 @@ fn shares_of<B: FlightBooks, F: Drop>(
 
 // Runs the clients over a memo whose ledgers no caller has named.
 fn run_over<
-    'x,
+    'run,
     N: Namer<TreeKey> + Send + Sync,
     H: MemoLedger + Send + Sync,
     M: Ledger + Send + Sync,
@@ -106,12 +106,12 @@ fn run_over<
     G: Gate + Sync,
     R: Threads + Wait + Sync,
 >(
-    rt: &'x R,
+    rt: &'run R,
     alloc: Global,
     core: MemoCore<SolidFit, N>,
     blanks: Blanks,
     claims: FlightBlanks,
-    gate: &'x G,
+    gate: &'run G,
     workers: u64,
     unit: Unit,
     script: &Script,
@@ -127,7 +127,8 @@ fn run_over<
     ensures { IfOk result (λ ran. IsRunOf unit script.now.clients core.budget core.share N.name_of
         ran.replies.items ran.tally ran.core) }
 {
-    // All room is taken before the memo opens, which is closed then whatever comes: so no way out drops it.
+    // All room is taken before the memo opens, and nothing can fail between the claims' opening and their closing: so no way
+    // out of this function drops an open memo, whose many types it would prove the drop of.
     let callers = blanks.callers as usize;
     let waiting = Vec::with_capacity(alloc, callers)?;
     let room = Vec::with_capacity(alloc, callers)?;
