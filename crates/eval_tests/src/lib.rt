@@ -1,8 +1,7 @@
-//! Tests of solids of trees by a memo that threads share.
+//! Tests of what no script shows of solids by a memo that threads share: the solid of a join that is asked for by itself, a claim of
+//! another caller that is answered while builds are held, and a caller who waits for a build that is refused.
 #![tactic(auto)]
 
-#[cfg(test)]
-mod gates;
 #[cfg(test)]
 mod held;
 #[cfg(test)]

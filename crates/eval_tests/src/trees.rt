@@ -127,53 +127,6 @@ pub fn slabs(rt: &impl Abort, alloc: Global, axis: u8, count: u16) -> CsgTree
     all
 }
 
-/// The union of so many pairs of slabs of an axis, each joined to those before it.
-pub fn pairs(rt: &impl Abort, alloc: Global, axis: u8, count: u16) -> CsgTree
-    ensures { IsProper (formula_of result) }
-{
-    let mut all = pair(rt, alloc, axis, 0);
-    for at in 1..count {
-        let next = pair(rt, alloc, axis, at.saturating_mul(4));
-        all = joined(rt, alloc, Op::Union, all, next);
-    }
-    all
-}
-
-// The union of two slabs with a step between them.
-fn pair(rt: &impl Abort, alloc: Global, axis: u8, at: u16) -> CsgTree
-    ensures { IsProper (formula_of result) }
-{
-    let first = slab(rt, alloc, axis, at);
-    let second = slab(rt, alloc, axis, at.saturating_add(2));
-    joined(rt, alloc, Op::Union, first, second)
-}
-
-/// Cuboids, where slabs of x and of y meet one slab of z.
-pub fn cuboids(rt: &impl Abort, alloc: Global, of_x: u16, of_y: u16) -> CsgTree
-    ensures { IsProper (formula_of result) }
-{
-    let across = slabs(rt, alloc, 0, of_x);
-    let along = slabs(rt, alloc, 1, of_y);
-    let bars = joined(rt, alloc, Op::Intersection, across, along);
-    joined(rt, alloc, Op::Intersection, bars, slab(rt, alloc, 2, 0))
-}
-
-/// The cubes in which so many slabs of each axis meet.
-pub fn combs(rt: &impl Abort, alloc: Global, count: u16) -> CsgTree
-    ensures { IsProper (formula_of result) }
-{
-    let across = slabs(rt, alloc, 0, count);
-    let along = slabs(rt, alloc, 1, count);
-    let bars = joined(rt, alloc, Op::Intersection, across, along);
-    joined(
-        rt,
-        alloc,
-        Op::Intersection,
-        bars,
-        slabs(rt, alloc, 2, count),
-    )
-}
-
 // A cuboid along the axes, from its least corner to its greatest.
 fn cuboid(rt: &impl Abort, alloc: Global, from: [u16; 3], to: [u16; 3]) -> CsgTree
     ensures { IsProper (formula_of result) }
@@ -192,17 +145,6 @@ fn cuboid(rt: &impl Abort, alloc: Global, from: [u16; 3], to: [u16; 3]) -> CsgTr
             wall(2, i64::from(f), true),
         ],
     )
-}
-
-/// A plate of 6 by 3 by 1 with two holes of 1 by 1. The union of the holes is 60 in size, and the whole 70.
-pub fn plate_with_two_holes(rt: &impl Abort, alloc: Global) -> CsgTree
-    ensures { IsProper (formula_of result) }
-{
-    let plate = cuboid(rt, alloc, [0, 0, 0], [6, 3, 1]);
-    let first = cuboid(rt, alloc, [1, 1, 0], [2, 2, 1]);
-    let second = cuboid(rt, alloc, [4, 1, 0], [5, 2, 1]);
-    let holes = joined(rt, alloc, Op::Union, first, second);
-    joined(rt, alloc, Op::Difference, plate, holes)
 }
 
 /// The union of a cube of 2 and of one of 3, each without the cube of 1 in its corner. It has three leaves,
