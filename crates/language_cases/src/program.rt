@@ -5,8 +5,8 @@ ghost use Rattle.std.specs.Prelude.{◌≤◌, ◌^◌, length};
 use crate::text::{put_at, put_name, put_special, put_stop};
 use case_lines::put;
 use scad_ast::{
-    Arg, Args, BinaryOp, Binder, Body, Core, Expr, Exprs, Instance, Link, Mark, Modifier, Param,
-    Params, Program, Statement, Statements, Suffix, UnaryOp,
+    Arg, Args, BinaryOp, Binder, Body, Core, Expr, Exprs, Instance, Link, Modifier, Param, Params,
+    PlacedModifier, Program, Statement, Statements, Suffix, UnaryOp,
 };
 use scad_source::with_program;
 use std::alloc::Global;
@@ -191,7 +191,7 @@ fn put_binders(alloc: Global, out: &mut Vec<u8>, binders: &[Binder]) -> Result<(
     Ok(())
 }
 
-fn put_marks(alloc: Global, out: &mut Vec<u8>, marks: &[Mark]) -> Result<(), NoMemory> {
+fn put_marks(alloc: Global, out: &mut Vec<u8>, marks: &[PlacedModifier]) -> Result<(), NoMemory> {
     for mark in marks {
         let text = match mark.modifier {
             Modifier::Disable => b"*",

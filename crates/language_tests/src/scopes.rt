@@ -2,7 +2,7 @@ ghost use Rattle.std.specs.Prelude.{◌<◌, length};
 ghost use Rattle.scad_scope.specs.Table.{rows_of};
 
 use crate::reading::{at, read};
-use scad_scope::{Blocks, Call, Found, Scopes};
+use scad_scope::{Blocks, Found, ModuleCall, Scopes};
 use scad_value::Value;
 use std::alloc::Global;
 use std::process::Abort;
@@ -159,7 +159,7 @@ fn call(
     alloc: Global,
     scopes: &mut Scopes,
     blocks: &Blocks<'_>,
-    call: Call,
+    call: ModuleCall,
 ) -> Result<u32, NoMemory> {
     is_there(rt, scopes, call.caller);
     scopes.enter_call(alloc, call.caller, blocks, 3, call)
@@ -173,13 +173,13 @@ fn tells_the_innermost_call(
     scopes: &mut Scopes,
     blocks: &Blocks<'_>,
 ) -> Result<(), NoMemory> {
-    let outer = Call {
+    let outer = ModuleCall {
         children: 7,
         caller: 1,
     };
     assert!(rt; call(rt, alloc, scopes, blocks, outer)? == 8);
     assert!(rt; enter_empty(rt, alloc, scopes, 8)? == 9);
-    let inner = Call {
+    let inner = ModuleCall {
         children: 8,
         caller: 9,
     };

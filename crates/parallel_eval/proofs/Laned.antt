@@ -4,10 +4,10 @@ use Rattle.std.proofs.lemmas.List.Sums.{sum_by-cons}
 use Rattle.csg_tree.specs.Formulas.{Formula}
 use Rattle.bsp_boolean.specs.TreeSolids.{is_join}
 use Rattle.subtree_memo.specs.declared.ledgers.MemoLedger.{Ghosts}
-use Rattle.parallel_eval.specs.declared.growth.Outcome.{Outcome}
+use Rattle.parallel_eval.specs.declared.growth.NodeOutcome.{NodeOutcome}
 use Rattle.parallel_eval.specs.declared.lane.Lane.{Lane}
 use Rattle.parallel_eval.specs.Joins.{AreAsked}
-use Rattle.parallel_eval.specs.Runs.{joins_to, IsOutcome, IsMade, AreMade, AreOutcomes, IsComplete, IsLaneAt, IsLaneDone}
+use Rattle.parallel_eval.specs.Runs.{joins_to, IsNodeOutcome, IsMade, AreMade, AreNodeOutcomes, IsComplete, IsLaneAt, IsLaneDone}
 use Rattle.parallel_eval.proofs.Books.{asked_behind, asked_up_to}
 use Rattle.parallel_eval.proofs.Steps.{outcomes_more, made_but_last}
 
@@ -23,15 +23,15 @@ more_joins (tree ∷ trees) (suc m) (suc n) h =
     omega (arith, fewer, more, rest)
 
 module _ {B S T H M K E : Type 0} {g : Ghosts H} (trees : List Formula) where
-  pub lane_steps : (k l m n : ℕ) (first old new : Lane B S T H M K E g) (outcome : Outcome) (done : Type 0) → IsLaneAt trees k first old l m →
-      new.before ≡ old.before → new.last ≡ old.last → new.made.items ≡ old.made.items ++ outcome ∷ [] → IsOutcome trees (k + 1) outcome →
+  pub lane_steps : (k l m n : ℕ) (first old new : Lane B S T H M K E g) (outcome : NodeOutcome) (done : Type 0) → IsLaneAt trees k first old l m →
+      new.before ≡ old.before → new.last ≡ old.last → new.made.items ≡ old.made.items ++ outcome ∷ [] → IsNodeOutcome trees (k + 1) outcome →
       (IsMade outcome → done) → AreAsked done (joins_to trees k) (joins_to trees (k + 1)) old.share.share new.share.share m n →
       IsLaneAt trees (k + 1) first new l n
   lane_steps k l m n first old new outcome done at before last items came told asked =
       let many = at.many in record {
         before = before ∙ at.before;
         last = last ∙ at.last;
-        outcomes = subst (AreOutcomes trees first.before) (sym items) (outcomes_more trees first.before (k + 1) old.made.items outcome at.outcomes (omega (arith, many)) came);
+        outcomes = subst (AreNodeOutcomes trees first.before) (sym items) (outcomes_more trees first.before (k + 1) old.made.items outcome at.outcomes (omega (arith, many)) came);
         many = let more : length new.made.items ≡ length (old.made.items ++ outcome ∷ []) = ap length items in omega (arith, many, more, length-append old.made.items (outcome ∷ []));
         asked = asked_behind (AreMade old.made.items) done (AreMade new.made.items) (joins_to trees first.before) (joins_to trees k) (joins_to trees (k + 1)) l m n first.share.share old.share.share new.share.share
             (λ all. (made_but_last old.made.items outcome (subst AreMade items all)).0)
@@ -48,7 +48,7 @@ module _ {B S T H M K E : Type 0} {g : Ghosts H} (trees : List Formula) where
       (λ x. absurd x) (λ x. absurd x) at.asked asked in record {
         before = before ∙ at.before;
         last = last ∙ at.last;
-        outcomes = subst (AreOutcomes trees first.before) (sym items) at.outcomes;
+        outcomes = subst (AreNodeOutcomes trees first.before) (sym items) at.outcomes;
         asked = asked_up_to ⊥ (IsComplete first.before first.last new.made.items) (joins_to trees first.before) (joins_to trees (k + 1)) (joins_to trees first.last) l n first.share.share new.share.share
             (λ all. let full = all.0 in omega arith) whole (more_joins trees (k + 1) first.last (omega arith));
       }

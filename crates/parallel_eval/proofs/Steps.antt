@@ -4,17 +4,17 @@ use Rattle.std.proofs.lemmas.List.{take_rest}
 use Rattle.csg_tree.specs.Formulas.{Formula}
 use Rattle.subtree_memo.specs.Shares.{View, fresh, joined}
 use Rattle.subtree_memo.specs.declared.ledgers.MemoLedger.{Ghosts}
-use Rattle.parallel_eval.specs.declared.growth.Outcome.{Outcome}
+use Rattle.parallel_eval.specs.declared.growth.NodeOutcome.{NodeOutcome}
 use Rattle.parallel_eval.specs.declared.lane.Lane.{Lane}
-use Rattle.parallel_eval.specs.Runs.{IsOutcome, IsMade, AreMade, AreOutcomes, AreLanes, AreFreshLanes, AreOfCaller, with_lanes}
+use Rattle.parallel_eval.specs.Runs.{IsNodeOutcome, IsMade, AreMade, AreNodeOutcomes, AreLanes, AreFreshLanes, AreOfCaller, with_lanes}
 
-pub outcomes_more : (trees : List Formula) (before number : ℕ) (outcomes : List Outcome) (outcome : Outcome) → AreOutcomes trees before outcomes →
-    number ≡ before + length outcomes + 1 → IsOutcome trees number outcome → AreOutcomes trees before (outcomes ++ outcome ∷ [])
-outcomes_more trees before number [] outcome all e one = (subst (λ n. IsOutcome trees n outcome) (omega arith) one, tt)
+pub outcomes_more : (trees : List Formula) (before number : ℕ) (outcomes : List NodeOutcome) (outcome : NodeOutcome) → AreNodeOutcomes trees before outcomes →
+    number ≡ before + length outcomes + 1 → IsNodeOutcome trees number outcome → AreNodeOutcomes trees before (outcomes ++ outcome ∷ [])
+outcomes_more trees before number [] outcome all e one = (subst (λ n. IsNodeOutcome trees n outcome) (omega arith) one, tt)
 outcomes_more trees before number (first ∷ outcomes) outcome all e one =
     (all.0, outcomes_more trees (before + 1) number outcomes outcome all.1 (omega arith) one)
 
-pub made_but_last : (outcomes : List Outcome) (outcome : Outcome) → AreMade (outcomes ++ outcome ∷ []) → AreMade outcomes × IsMade outcome
+pub made_but_last : (outcomes : List NodeOutcome) (outcome : NodeOutcome) → AreMade (outcomes ++ outcome ∷ []) → AreMade outcomes × IsMade outcome
 made_but_last [] outcome all = (tt, all.0)
 made_but_last (first ∷ outcomes) outcome all = let h = made_but_last outcomes outcome all.1 in ((all.0, h.0), h.1)
 
@@ -38,10 +38,10 @@ module _ {B S T H M K E : Type 0} {g : Ghosts H} where
 module _ {B S T H M K E : Type 0} {g : Ghosts H} where
   pub lanes_first : (trees : List Formula) (before last : ℕ) (lanes : List (Lane B S T H M K E g)) (lane : Lane B S T H M K E g) → 0 < length lanes → lane ≡ get_or lanes 0 lane →
       AreLanes trees before last lanes → (lane.before ≡ before)
-      × AreOutcomes trees before lane.made.items × AreLanes trees lane.last last (take (length lanes - 1) (drop 1 lanes))
+      × AreNodeOutcomes trees before lane.made.items × AreLanes trees lane.last last (take (length lanes - 1) (drop 1 lanes))
   lanes_first trees before last [] lane some e all = absurd (omega arith)
   lanes_first trees before last (l ∷ lanes) lane some e all =
-      subst (λ x. (x.before ≡ before) × AreOutcomes trees before x.made.items
+      subst (λ x. (x.before ≡ before) × AreNodeOutcomes trees before x.made.items
       × AreLanes trees x.last last (take (length (l ∷ lanes) - 1) (drop 1 (l ∷ lanes)))) (sym e)
       (all.0, all.1, subst (AreLanes trees l.last last) (sym (take_rest (l ∷ lanes) 1)) all.2)
 

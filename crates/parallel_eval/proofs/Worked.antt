@@ -8,7 +8,7 @@ use Rattle.subtree_memo.specs.Shares.{View, fresh, joined, dropped_max}
 use Rattle.subtree_memo.specs.declared.ledgers.MemoLedger.{Ghosts}
 use Rattle.parallel_eval.specs.declared.lane.Lane.{Lane}
 use Rattle.parallel_eval.specs.Joins.{AreAnswered, AreBegun, AreAtMost}
-use Rattle.parallel_eval.specs.Runs.{joins_to, AreOutcomes, IsComplete, IsLaneDone, AreFreshLanes, AreLanes, AreComplete, AreOfCaller, with_lanes}
+use Rattle.parallel_eval.specs.Runs.{joins_to, AreNodeOutcomes, IsComplete, IsLaneDone, AreFreshLanes, AreLanes, AreComplete, AreOfCaller, with_lanes}
 use Rattle.parallel_eval.proofs.Books.{none_begun, none_answered, few_dropped, few_builds}
 
 -- what was counted on a fresh share counts the same on one that it is put to
@@ -115,7 +115,7 @@ module _ {D B S T H M K E : Type 0} {g : Ghosts H} (count : D → ℕ) (trees : 
   lanes_of before last caller [] [] [] [] e h = e
   lanes_of before last caller (b ∷ bs) (l ∷ ls) (c ∷ cs) (m ∷ ms) e h = (
     h.0.before ∙ e.1,
-    subst (λ x. AreOutcomes trees x m.made.items) e.1 h.0.outcomes,
+    subst (λ x. AreNodeOutcomes trees x m.made.items) e.1 h.0.outcomes,
     subst (λ x. AreLanes trees x last ms) (sym h.0.last) (lanes_of l.last last caller bs ls cs ms e.4 h.1),
   )
   lanes_of before last caller bs ls cs ms e h = absurd h

@@ -17,8 +17,8 @@ use Rattle.bsp_boolean.specs.TreeSolids.{most_of_one, solid_size, total_size, jo
 use Rattle.subtree_memo.specs.Shares.{View, fresh, joined}
 use Rattle.subtree_memo.specs.declared.ledgers.MemoLedger.{Ghosts}
 use Rattle.parallel_eval.specs.declared.growth.Growth.{Growth}
-use Rattle.parallel_eval.specs.declared.growth.Outcome.{Outcome}
-use Rattle.parallel_eval.specs.declared.growth.Outcome.TheVariants.{Made, TooBig}
+use Rattle.parallel_eval.specs.declared.growth.NodeOutcome.{NodeOutcome}
+use Rattle.parallel_eval.specs.declared.growth.NodeOutcome.TheVariants.{Made, TooBig}
 use Rattle.parallel_eval.specs.declared.lane.Lane.{Lane}
 use Rattle.parallel_eval.specs.Joins.{AreAsked}
 
@@ -69,32 +69,32 @@ pub record IsRunWork {Z : Type 0} (trees : List Formula) (start : ℕ) (solids :
   pub few : length trees < 2 ^ 32
 
 -- what came of the node of a number
-abbrev pub IsOutcome : List Formula → ℕ → Outcome → Type 0
-IsOutcome trees number (Made solid) = (tree_of (arc_value solid) ≡ solid_of (tree_numbered trees number))
+abbrev pub IsNodeOutcome : List Formula → ℕ → NodeOutcome → Type 0
+IsNodeOutcome trees number (Made solid) = (tree_of (arc_value solid) ≡ solid_of (tree_numbered trees number))
     × (solid_size (tree_numbered trees number) ≤ most_of_one)
-IsOutcome trees number TooBig = most_of_one < solid_size (tree_numbered trees number)
+IsNodeOutcome trees number TooBig = most_of_one < solid_size (tree_numbered trees number)
 
 -- what came of the nodes behind the first ones, in order of number
-abbrev pub AreOutcomes : List Formula → ℕ → List Outcome → Type 0
-AreOutcomes trees before [] = Unit {0}
-AreOutcomes trees before (outcome ∷ outcomes) = IsOutcome trees (before + 1) outcome × AreOutcomes trees (before + 1) outcomes
+abbrev pub AreNodeOutcomes : List Formula → ℕ → List NodeOutcome → Type 0
+AreNodeOutcomes trees before [] = Unit {0}
+AreNodeOutcomes trees before (outcome ∷ outcomes) = IsNodeOutcome trees (before + 1) outcome × AreNodeOutcomes trees (before + 1) outcomes
 
 -- a solid was made
-abbrev pub IsMade : Outcome → Type 0
+abbrev pub IsMade : NodeOutcome → Type 0
 IsMade (Made solid) = Unit {0}
 IsMade TooBig = ⊥
 
 -- an answer tells that a solid was made
-abbrev pub HasMade : Result Outcome NoMemory → Type 0
+abbrev pub HasMade : Result NodeOutcome NoMemory → Type 0
 HasMade (Ok outcome) = IsMade outcome
 HasMade (Err none) = ⊥
 
-abbrev pub AreMade : List Outcome → Type 0
+abbrev pub AreMade : List NodeOutcome → Type 0
 AreMade [] = Unit {0}
 AreMade (outcome ∷ outcomes) = IsMade outcome × AreMade outcomes
 
 -- each node up to the last one has a solid
-abbrev pub IsComplete : ℕ → ℕ → List Outcome → Type 0
+abbrev pub IsComplete : ℕ → ℕ → List NodeOutcome → Type 0
 IsComplete before last outcomes = (before + length outcomes ≡ last) × AreMade outcomes
 
 module _ {B S T H M K E : Type 0} {g : Ghosts H} where
@@ -121,21 +121,21 @@ module _ {B S T H M K E : Type 0} {g : Ghosts H} where
   pub record IsLaneDone (trees : List Formula) (lane lane' : Lane B S T H M K E g) (count count' : ℕ) : Type 0 where
     pub before : lane'.before ≡ lane.before
     pub last : lane'.last ≡ lane.last
-    pub outcomes : AreOutcomes trees lane.before lane'.made.items
+    pub outcomes : AreNodeOutcomes trees lane.before lane'.made.items
     pub asked : AreAsked (IsComplete lane.before lane.last lane'.made.items) (joins_to trees lane.before) (joins_to trees lane.last) lane.share.share lane'.share.share count count'
 
   -- a lane is worked on up to the number k, of which each node has an outcome
   pub record IsLaneAt (trees : List Formula) (k : ℕ) (lane lane' : Lane B S T H M K E g) (count count' : ℕ) : Type 0 where
     pub before : lane'.before ≡ lane.before
     pub last : lane'.last ≡ lane.last
-    pub outcomes : AreOutcomes trees lane.before lane'.made.items
+    pub outcomes : AreNodeOutcomes trees lane.before lane'.made.items
     pub many : lane.before + length lane'.made.items ≡ k
     pub asked : AreAsked (AreMade lane'.made.items) (joins_to trees lane.before) (joins_to trees k) lane.share.share lane'.share.share count count'
 
   -- lanes with what came of their nodes, which are those from one number to another
   abbrev pub AreLanes : List Formula → ℕ → ℕ → List (Lane B S T H M K E g) → Type 0
   AreLanes trees before last [] = before ≡ last
-  AreLanes trees before last (lane ∷ lanes) = (lane.before ≡ before) × AreOutcomes trees before lane.made.items × AreLanes trees lane.last last lanes
+  AreLanes trees before last (lane ∷ lanes) = (lane.before ≡ before) × AreNodeOutcomes trees before lane.made.items × AreLanes trees lane.last last lanes
 
   -- each node of each lane has a solid
   abbrev pub AreComplete : List (Lane B S T H M K E g) → Type 0

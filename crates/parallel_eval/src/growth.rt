@@ -3,7 +3,7 @@
 ghost use Rattle.std.specs.Prelude.{◌≡◌, ◌+◌, ◌-◌, ◌≤◌, List, length, OnOk, IfErr};
 ghost use Rattle.csg_tree.specs.Numberings.{IsNumberIn};
 ghost use Rattle.bsp_boolean.specs.TreeSolids.{IsTreeStop};
-ghost use Rattle.parallel_eval.specs.Runs.{IsGrown, IsOutcome, IsMade, AreOutcomes, IsComplete, AreLanes, AreComplete};
+ghost use Rattle.parallel_eval.specs.Runs.{IsGrown, IsNodeOutcome, IsMade, AreNodeOutcomes, IsComplete, AreLanes, AreComplete};
 
 use crate::lane::Lane;
 use crate::limits::MOST_OF_ALL;
@@ -15,7 +15,7 @@ use std::sync::Arc;
 
 /// What came of one node: its solid, or that it is above the limit of one.
 #[derive(Drop)]
-pub enum Outcome {
+pub enum NodeOutcome {
     Made(Arc<Solid>),
     TooBig,
 }
@@ -30,17 +30,17 @@ pub struct Growth<'a> {
 
 impl<'a> Growth<'a> {
     // Takes what came of the next node, whose number is given.
-    fn take_in(&mut self, number: u32, outcome: &Outcome) -> Result<(), TreeStop>
+    fn take_in(&mut self, number: u32, outcome: &NodeOutcome) -> Result<(), TreeStop>
         requires number { IsNumberIn self.old.store.now number }
         requires grown { IsGrown self.old.store.now (number - 1) self.old }
-        requires outcome { IsOutcome self.old.store.now number outcome.now }
+        requires outcome { IsNodeOutcome self.old.store.now number outcome.now }
         ensures grown { OnOk result (IsGrown self.old.store.now number self.new) }
         ensures made { OnOk result (IsMade outcome.now) }
         ensures stop { IfErr result (IsTreeStop self.old.store.now) }
         ensures store { self.new.store.now ≡ self.old.store.now }
     {
         one_tree_more();
-        let Outcome::Made(solid) = outcome else {
+        let NodeOutcome::Made(solid) = outcome else {
             return Err(TreeStop::TooBig(number));
         };
         let size = solid.count();
@@ -59,9 +59,14 @@ impl<'a> Growth<'a> {
 
     // Takes what came of the nodes of one lane, of which some are left. Where one is missing, memory ran
     // out at it.
-    fn take_lane(&mut self, before: u32, last: u32, outcomes: &[Outcome]) -> Result<(), TreeStop>
+    fn take_lane(
+        &mut self,
+        before: u32,
+        last: u32,
+        outcomes: &[NodeOutcome],
+    ) -> Result<(), TreeStop>
         requires grown { IsGrown self.old.store.now before self.old }
-        requires outcomes { AreOutcomes self.old.store.now before outcomes.now }
+        requires outcomes { AreNodeOutcomes self.old.store.now before outcomes.now }
         requires within { (before + length outcomes.now ≤ last) × (last ≤ length self.old.store.now) }
         ensures grown { OnOk result (IsGrown self.old.store.now last self.new) }
         ensures complete { OnOk result (IsComplete before last outcomes.now) }

@@ -1,6 +1,6 @@
 ghost use Rattle.std.specs.Prelude.{◌+◌, ◌≤◌, length};
 
-use crate::growth::Outcome;
+use crate::growth::NodeOutcome;
 use flight_memo::{FlightBooks, FlightShare};
 
 /// The part of a run that one builder does: a share of its own, the nodes behind the first `before` ones
@@ -10,6 +10,6 @@ pub struct Lane<B: FlightBooks> {
     pub share: FlightShare<B>,
     pub before: u32,
     pub last: u32,
-    pub made: Vec<Outcome>,
+    pub made: Vec<NodeOutcome>,
     pub ghost order: { before + length made.items ≤ last },
 }

@@ -8,10 +8,10 @@ ghost use Rattle.csg_tree.specs.Numberings.{tree_numbered, IsNumberIn};
 ghost use Rattle.bsp_tree.specs.Shapes.{tree_of};
 ghost use Rattle.bsp_boolean.specs.Solids.{solid_of, convex};
 ghost use Rattle.parallel_eval.specs.Joins.{Gives, HasRoom, AreAsked};
-ghost use Rattle.parallel_eval.specs.Runs.{joins_to, IsRunWork, IsRunNode, IsOutcome, HasMade, IsLaneReady, IsLaneDone};
+ghost use Rattle.parallel_eval.specs.Runs.{joins_to, IsRunWork, IsRunNode, IsNodeOutcome, HasMade, IsLaneReady, IsLaneDone};
 
 use crate::gate::Gate;
-use crate::growth::Outcome;
+use crate::growth::NodeOutcome;
 use crate::join_solids::{Builds, JoinNode};
 use crate::known_store::KnownStore;
 use crate::lane::Lane;
@@ -74,18 +74,18 @@ impl<'a, 'b, N: Namer<TreeKey>, B: FlightBooks, G: Gate, R: Wait> RunWork<'a, 'b
         number: u32,
         share: &mut FlightShare<B>,
         builder: &mut D,
-    ) -> Result<Outcome, NoMemory>
+    ) -> Result<NodeOutcome, NoMemory>
         requires run { IsRunWork self.now.store.now self.now.start self.now.solids.now self.now.nodes.now }
         requires number { (self.now.start < number) × (number ≤ self.now.start + length self.now.nodes.now) }
         requires room { HasRoom share.old.share (D.builds builder.old) }
-        ensures outcome { IfOk result (IsOutcome self.now.store.now number) }
+        ensures outcome { IfOk result (IsNodeOutcome self.now.store.now number) }
         ensures asked { AreAsked (HasMade result) (joins_to self.now.store.now (number - 1))
             (joins_to self.now.store.now number)
             share.old.share share.new.share (D.builds builder.old) (D.builds builder.new) }
     {
         match self.node_solid(number, share, builder) {
-            Ok(solid) => Ok(Outcome::Made(solid)),
-            Err(BuildStop::TooBig) => Ok(Outcome::TooBig),
+            Ok(solid) => Ok(NodeOutcome::Made(solid)),
+            Err(BuildStop::TooBig) => Ok(NodeOutcome::TooBig),
             Err(BuildStop::NoMemory) => Err(NoMemory),
         }
     }

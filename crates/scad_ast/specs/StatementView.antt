@@ -5,8 +5,8 @@ use Rattle.scad_ast.specs.declared.statement.Param.TheVariants.{Plain, WithDefau
 use Rattle.scad_ast.specs.declared.statement.Params.{Params}
 use Rattle.scad_ast.specs.declared.statement.Binder.{Binder}
 use Rattle.scad_ast.specs.declared.statement.Binders.{Binders}
-use Rattle.scad_ast.specs.declared.statement.Mark.{Mark}
-use Rattle.scad_ast.specs.declared.statement.Marks.{Marks}
+use Rattle.scad_ast.specs.declared.statement.PlacedModifier.{PlacedModifier}
+use Rattle.scad_ast.specs.declared.statement.PlacedModifiers.{PlacedModifiers}
 use Rattle.scad_ast.specs.declared.statement.Statement.{Statement}
 use Rattle.scad_ast.specs.declared.statement.Statements.{Statements}
 use Rattle.scad_ast.specs.declared.statement.Instance.{Instance}
@@ -30,10 +30,10 @@ binder_of b = record { at = b.place; name = b.name; values = term_of b.values }
 abbrev pub binders_of : Binders → List BinderTerm
 binders_of bs = map binder_of bs.items.items
 
-abbrev pub mark_of : Mark → MarkTerm
+abbrev pub mark_of : PlacedModifier → MarkTerm
 mark_of m = record { at = m.place; modifier = m.modifier }
 
-abbrev pub marks_of : Marks → List MarkTerm
+abbrev pub marks_of : PlacedModifiers → List MarkTerm
 marks_of ms = map mark_of ms.items.items
 
 -- one layer, with its parts seen already

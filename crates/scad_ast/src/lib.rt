@@ -14,5 +14,6 @@ pub use expression::{
 pub use operator::{BinaryOp, Modifier, UnaryOp};
 pub use program::Program;
 pub use statement::{
-    Binder, Binders, Body, Core, Instance, Mark, Marks, Param, Params, Statement, Statements,
+    Binder, Binders, Body, Core, Instance, Param, Params, PlacedModifier, PlacedModifiers,
+    Statement, Statements,
 };

@@ -36,15 +36,15 @@ pub struct Binders {
 
 /// A modifier with its place.
 #[derive(Clone, Copy)]
-pub struct Mark {
+pub struct PlacedModifier {
     pub place: Place,
     pub modifier: Modifier,
 }
 
 /// The modifiers before an instance.
 #[derive(Drop)]
-pub struct Marks {
-    pub items: Vec<Mark>,
+pub struct PlacedModifiers {
+    pub items: Vec<PlacedModifier>,
 }
 
 /// A statement. The first place of each form is that of its first token.
@@ -79,7 +79,7 @@ pub struct Statements {
 pub struct Instance {
     /// The place of its first token.
     pub place: Place,
-    pub marks: Marks,
+    pub marks: PlacedModifiers,
     pub core: Core,
 }
 

@@ -4,50 +4,50 @@ use Rattle.scad_ast.specs.Terms.{StatementTerm, EmptyStatement, BlockStatement, 
 use Rattle.scad_ast.specs.declared.statement.Statement.{Statement}
 use Rattle.scad_ast.specs.StatementView.{statement_of}
 use Rattle.scad_ast.specs.Counts.{begun_by, begun_in, begun_by_instance, begun_by_core, begun_by_body}
-use Rattle.scad_blocks.specs.Blocks.{Mark, a_block, a_function, a_module, marks_of, marks_in, marks_of_instance, marks_of_core, marks_of_body, no_own, Entry, entry_at, NumberedText}
-use Rattle.scad_blocks.specs.Walk.{numbered, with_mark, after, with_text}
+use Rattle.scad_blocks.specs.Blocks.{Beginning, a_block, a_function, a_module, beginnings_of, beginnings_in, beginnings_of_instance, beginnings_of_core, beginnings_of_body, no_own, Entry, entry_at, NumberedText}
+use Rattle.scad_blocks.specs.Walk.{numbered, with_beginning, after, with_text}
 use Rattle.scad_blocks.proofs.Scans.{statements_here}
 
 mutual
-  marks_begun : (s : StatementTerm) → length (marks_of s) ≡ begun_by s
-  marks_begun (EmptyStatement at) = refl
-  marks_begun (BlockStatement at statements) = all_begun statements
-  marks_begun (AssignmentTerm at name value) = refl
-  marks_begun (SpecialAssignmentTerm at name value) = refl
-  marks_begun (ModuleTerm at name name_at params body) = ap suc (body_begun body)
-  marks_begun (FunctionTerm at name name_at params value) = refl
-  marks_begun (InstanceStatement instance) = instance_begun instance
+  beginnings_begun : (s : StatementTerm) → length (beginnings_of s) ≡ begun_by s
+  beginnings_begun (EmptyStatement at) = refl
+  beginnings_begun (BlockStatement at statements) = all_begun statements
+  beginnings_begun (AssignmentTerm at name value) = refl
+  beginnings_begun (SpecialAssignmentTerm at name value) = refl
+  beginnings_begun (ModuleTerm at name name_at params body) = ap suc (body_begun body)
+  beginnings_begun (FunctionTerm at name name_at params value) = refl
+  beginnings_begun (InstanceStatement instance) = instance_begun instance
 
-  pub all_begun : (ss : StatementTerms) → length (marks_in ss) ≡ begun_in ss
+  pub all_begun : (ss : StatementTerms) → length (beginnings_in ss) ≡ begun_in ss
   all_begun no_statements = refl
-  all_begun (and_statement s rest) = omega (arith, length-append (marks_of s) (marks_in rest), marks_begun s, all_begun rest)
+  all_begun (and_statement s rest) = omega (arith, length-append (beginnings_of s) (beginnings_in rest), beginnings_begun s, all_begun rest)
 
-  instance_begun : (i : InstanceTerm) → length (marks_of_instance i) ≡ begun_by_instance i
-  instance_begun (AnInstance at marks core) = core_begun core
+  instance_begun : (i : InstanceTerm) → length (beginnings_of_instance i) ≡ begun_by_instance i
+  instance_begun (AnInstance at beginnings core) = core_begun core
 
-  core_begun : (c : CoreTerm) → length (marks_of_core c) ≡ begun_by_core c
+  core_begun : (c : CoreTerm) → length (beginnings_of_core c) ≡ begun_by_core c
   core_begun (IfTerm at test body) = body_begun body
-  core_begun (IfElseTerm at test body other) = omega (arith, length-append (marks_of_body body) (marks_of_body other), body_begun body, body_begun other)
+  core_begun (IfElseTerm at test body other) = omega (arith, length-append (beginnings_of_body body) (beginnings_of_body other), body_begun body, body_begun other)
   core_begun (ForTerm at binders body) = body_begun body
   core_begun (IntersectionForTerm at binders body) = body_begun body
   core_begun (ModuleCallTerm at name args body) = body_begun body
 
-  body_begun : (b : BodyTerm) → length (marks_of_body b) ≡ begun_by_body b
+  body_begun : (b : BodyTerm) → length (beginnings_of_body b) ≡ begun_by_body b
   body_begun (EmptyBody at) = refl
   body_begun (BlockBody at statements) = ap suc (all_begun statements)
   body_begun (InstanceBody instance) = ap suc (instance_begun instance)
 
 -- ---- how much has numbers in a walk
-pub numbered_mark : (w : NumberedText) (mark : Mark) → numbered (with_mark w mark) ≡ numbered w + 1
-numbered_mark w (a_block s) =
+pub numbered_beginning : (w : NumberedText) (beginning : Beginning) → numbered (with_beginning w beginning) ≡ numbered w + 1
+numbered_beginning w (a_block s) =
     let e = entry_at (length w.entries) (length w.functions) (length w.modules) s in
     omega (arith, length-append w.entries (e ∷ []))
-numbered_mark w (a_function f) = omega (arith, length-append w.functions (f ∷ []))
-numbered_mark w (a_module d) = omega (arith, length-append w.modules (d ∷ []))
+numbered_beginning w (a_function f) = omega (arith, length-append w.functions (f ∷ []))
+numbered_beginning w (a_module d) = omega (arith, length-append w.modules (d ∷ []))
 
-pub numbered_after : (w : NumberedText) (marks : List Mark) → numbered (after w marks) ≡ numbered w + length marks
+pub numbered_after : (w : NumberedText) (beginnings : List Beginning) → numbered (after w beginnings) ≡ numbered w + length beginnings
 numbered_after w [] = omega arith
-numbered_after w (mark ∷ marks) = omega (arith, numbered_after (with_mark w mark) marks, numbered_mark w mark)
+numbered_after w (beginning ∷ beginnings) = omega (arith, numbered_after (with_beginning w beginning) beginnings, numbered_beginning w beginning)
 
 pub numbered_begun : (w : NumberedText) (s : StatementTerms) → numbered (with_text w s) ≡ numbered w + 1
 numbered_begun w s =
@@ -56,13 +56,13 @@ numbered_begun w s =
 
 -- a statement of those that are left has room where all of them have
 pub room_here : (w v : NumberedText) (ss lent : List Statement) (all : StatementTerms) (i : ℕ) (s : Statement)
-    → after v (marks_in (statements_from (map statement_of (drop i ss)))) ≡ after w (marks_in all)
-    → numbered w + length (marks_in all) < 2 ^ 32
+    → after v (beginnings_in (statements_from (map statement_of (drop i ss)))) ≡ after w (beginnings_in all)
+    → numbered w + length (beginnings_in all) < 2 ^ 32
     → lent ≡ ss → i < length lent → s ≡ get_or lent i s
-    → numbered v + length (marks_of (statement_of s)) < 2 ^ 32
+    → numbered v + length (beginnings_of (statement_of s)) < 2 ^ 32
 room_here w v ss lent all i s told room same h e =
-    let left = marks_in (statements_from (map statement_of (drop i ss))) in
-    let rest = marks_in (statements_from (map statement_of (drop (i + 1) ss))) in
-    let split = ap (λ l. length (marks_in l)) (statements_here ss i s (omega (arith, h, ap length same)) (e ∙ ap (λ l. get_or l i s) same))
-    ∙ length-append (marks_of (statement_of s)) rest in
-    omega (arith, numbered_after v left, numbered_after w (marks_in all), ap numbered told, split, room)
+    let left = beginnings_in (statements_from (map statement_of (drop i ss))) in
+    let rest = beginnings_in (statements_from (map statement_of (drop (i + 1) ss))) in
+    let split = ap (λ l. length (beginnings_in l)) (statements_here ss i s (omega (arith, h, ap length same)) (e ∙ ap (λ l. get_or l i s) same))
+    ∙ length-append (beginnings_of (statement_of s)) rest in
+    omega (arith, numbered_after v left, numbered_after w (beginnings_in all), ap numbered told, split, room)

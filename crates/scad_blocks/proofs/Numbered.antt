@@ -5,18 +5,18 @@ use Rattle.std.proofs.lemmas.Bool.{and_parts, and_from, lt-ltb}
 use Rattle.newest_names.specs.Newest.{Pairs}
 use Rattle.scad_ast.specs.Terms.{StatementTerm, EmptyStatement, BlockStatement, AssignmentTerm, SpecialAssignmentTerm, ModuleTerm, FunctionTerm, InstanceStatement, StatementTerms, no_statements, and_statement, InstanceTerm, AnInstance, CoreTerm, IfTerm, IfElseTerm, ForTerm, IntersectionForTerm, ModuleCallTerm, BodyTerm, EmptyBody, BlockBody, InstanceBody, statements_from}
 use Rattle.scad_blocks.specs.declared.blocks.Blocks.{Blocks}
-use Rattle.scad_blocks.specs.Blocks.{Function, Module, Mark, a_block, a_function, a_module, marks_of, marks_in, marks_of_instance, marks_of_core, marks_of_body, marks_of_program, functions_of_program, modules_of_program, count_functions, count_modules, own_functions, own_function, own_modules, own_module, Entry, nothing_there, entries_from}
+use Rattle.scad_blocks.specs.Blocks.{Function, Module, Beginning, a_block, a_function, a_module, beginnings_of, beginnings_in, beginnings_of_instance, beginnings_of_core, beginnings_of_body, beginnings_of_program, functions_of_program, modules_of_program, count_functions, count_modules, own_functions, own_function, own_modules, own_module, Entry, nothing_there, entries_from}
 use Rattle.scad_blocks.specs.Tables.{text_held, functions_held, modules_held}
 use Rattle.scad_blocks.specs.TextView.{function_of, module_of}
 use Rattle.scad_blocks.specs.Numbered.{numbers_below, entries_below}
 
-pub functions_joined : (xs ys : List Mark) → count_functions (xs ++ ys) ≡ count_functions xs + count_functions ys
+pub functions_joined : (xs ys : List Beginning) → count_functions (xs ++ ys) ≡ count_functions xs + count_functions ys
 functions_joined [] ys = omega arith
 functions_joined (a_block s ∷ xs) ys = functions_joined xs ys
 functions_joined (a_function g ∷ xs) ys = omega (arith, functions_joined xs ys)
 functions_joined (a_module d ∷ xs) ys = functions_joined xs ys
 
-pub modules_joined : (xs ys : List Mark) → count_modules (xs ++ ys) ≡ count_modules xs + count_modules ys
+pub modules_joined : (xs ys : List Beginning) → count_modules (xs ++ ys) ≡ count_modules xs + count_modules ys
 modules_joined [] ys = omega arith
 modules_joined (a_block s ∷ xs) ys = modules_joined xs ys
 modules_joined (a_function g ∷ xs) ys = modules_joined xs ys
@@ -29,12 +29,12 @@ below_joined n (p ∷ ps) qs h g = let parts = and_parts _ _ h in and_from _ _ p
     (below_joined n ps qs parts.1 g)
 
 -- what stands in a text and in no inner block is counted in it
-abbrev Fit : ℕ → ℕ → ℕ → ℕ → List Mark → Pairs ℕ → Pairs ℕ → Type 0
+abbrev Fit : ℕ → ℕ → ℕ → ℕ → List Beginning → Pairs ℕ → Pairs ℕ → Type 0
 Fit f m n k xs fs ms = f + count_functions xs ≤ n → m + count_modules xs ≤ k
     → IsTrue (numbers_below n fs) × IsTrue (numbers_below k ms)
 
 mutual
-  own_fit : (f m n k : ℕ) (s : StatementTerm) → Fit f m n k (marks_of s) (own_function f s) (own_module m s)
+  own_fit : (f m n k : ℕ) (s : StatementTerm) → Fit f m n k (beginnings_of s) (own_function f s) (own_module m s)
   own_fit f m n k (EmptyStatement at) p q = (refl, refl)
   own_fit f m n k (BlockStatement at statements) p q = all_fit f m n k statements p q
   own_fit f m n k (AssignmentTerm at name value) p q = (refl, refl)
@@ -46,24 +46,24 @@ mutual
   own_fit f m n k (InstanceStatement instance) p q = (refl, refl)
 
   all_fit : (f m n k : ℕ) (ss : StatementTerms)
-      → Fit f m n k (marks_in ss) (own_functions f ss) (own_modules m ss)
+      → Fit f m n k (beginnings_in ss) (own_functions f ss) (own_modules m ss)
   all_fit f m n k no_statements p q = (refl, refl)
   all_fit f m n k (and_statement s rest) p q =
-      let fs = functions_joined (marks_of s) (marks_in rest) in
-      let ms = modules_joined (marks_of s) (marks_in rest) in
+      let fs = functions_joined (beginnings_of s) (beginnings_in rest) in
+      let ms = modules_joined (beginnings_of s) (beginnings_in rest) in
       let here = own_fit f m n k s (omega (arith, p, fs)) (omega (arith, q, ms)) in
-      let behind = all_fit (f + count_functions (marks_of s)) (m + count_modules (marks_of s)) n k rest
+      let behind = all_fit (f + count_functions (beginnings_of s)) (m + count_modules (beginnings_of s)) n k rest
       (omega (arith, p, fs)) (omega (arith, q, ms)) in
       (below_joined n _ _ here.0 behind.0, below_joined k _ _ here.1 behind.1)
 
 -- a text whose blocks have no function and no module beyond these counts
-abbrev IsText : List Mark → Type 0
+abbrev IsText : List Beginning → Type 0
 IsText xs = (b f m n k : ℕ) → f + count_functions xs ≤ n → m + count_modules xs ≤ k → IsTrue (entries_below n k (entries_from b f m xs))
 
 empty_text : IsText []
 empty_text b f m n k p q = refl
 
-joined_entries : (b f m n k : ℕ) (xs ys : List Mark) → f + count_functions (xs ++ ys) ≤ n → m + count_modules (xs ++ ys) ≤ k
+joined_entries : (b f m n k : ℕ) (xs ys : List Beginning) → f + count_functions (xs ++ ys) ≤ n → m + count_modules (xs ++ ys) ≤ k
     → IsTrue (entries_below n k (entries_from b f m xs)) → IsText ys → IsTrue (entries_below n k (entries_from b f m (xs ++ ys)))
 joined_entries b f m n k [] ys p q h behind = behind b f m n k p q
 joined_entries b f m n k (a_block s ∷ xs) ys p q h behind =
@@ -72,62 +72,62 @@ joined_entries b f m n k (a_block s ∷ xs) ys p q h behind =
 joined_entries b f m n k (a_function g ∷ xs) ys p q h behind = joined_entries b (f + 1) m n k xs ys (omega (arith, p)) q h behind
 joined_entries b f m n k (a_module d ∷ xs) ys p q h behind = joined_entries b f (m + 1) n k xs ys p (omega (arith, q)) h behind
 
-joined_text : (xs ys : List Mark) → IsText xs → IsText ys → IsText (xs ++ ys)
+joined_text : (xs ys : List Beginning) → IsText xs → IsText ys → IsText (xs ++ ys)
 joined_text xs ys front behind b f m n k p q = joined_entries b f m n k xs ys p q
     (front b f m n k (omega (arith, p, functions_joined xs ys)) (omega (arith, q, modules_joined xs ys))) behind
 
-block_text : (s : StatementTerms) → IsText (marks_in s) → IsText (a_block s ∷ marks_in s)
+block_text : (s : StatementTerms) → IsText (beginnings_in s) → IsText (a_block s ∷ beginnings_in s)
 block_text s t b f m n k p q =
     let own = all_fit f m n k s p q in
     and_from _ _ (and_from _ _ own.0 own.1) (t (b + 1) f m n k p q)
 
-function_text : (g : Function) (xs : List Mark) → IsText xs → IsText (a_function g ∷ xs)
+function_text : (g : Function) (xs : List Beginning) → IsText xs → IsText (a_function g ∷ xs)
 function_text g xs t b f m n k p q = t b (f + 1) m n k (omega (arith, p)) q
 
-module_text : (d : Module) (xs : List Mark) → IsText xs → IsText (a_module d ∷ xs)
+module_text : (d : Module) (xs : List Beginning) → IsText xs → IsText (a_module d ∷ xs)
 module_text d xs t b f m n k p q = t b f (m + 1) n k p (omega (arith, q))
 
 no_body : IsText (a_block no_statements ∷ [])
 no_body = block_text no_statements empty_text
 
-single_text : (i : InstanceTerm) → IsText (marks_of_instance i)
-    → IsText (a_block (and_statement (InstanceStatement i) no_statements) ∷ marks_of_instance i)
-single_text i t = subst (λ xs. IsText (a_block (and_statement (InstanceStatement i) no_statements) ∷ xs)) (append-nil (marks_of_instance i))
-    (block_text (and_statement (InstanceStatement i) no_statements) (joined_text (marks_of_instance i) [] t empty_text))
+single_text : (i : InstanceTerm) → IsText (beginnings_of_instance i)
+    → IsText (a_block (and_statement (InstanceStatement i) no_statements) ∷ beginnings_of_instance i)
+single_text i t = subst (λ xs. IsText (a_block (and_statement (InstanceStatement i) no_statements) ∷ xs)) (append-nil (beginnings_of_instance i))
+    (block_text (and_statement (InstanceStatement i) no_statements) (joined_text (beginnings_of_instance i) [] t empty_text))
 
 mutual
-  text_of : (s : StatementTerm) → IsText (marks_of s)
+  text_of : (s : StatementTerm) → IsText (beginnings_of s)
   text_of (EmptyStatement at) = empty_text
   text_of (BlockStatement at statements) = text_in statements
   text_of (AssignmentTerm at name value) = empty_text
   text_of (SpecialAssignmentTerm at name value) = empty_text
-  text_of (ModuleTerm at name name_at params body) = module_text (record { params = params; body = body }) (marks_of_body body) (text_of_body body)
+  text_of (ModuleTerm at name name_at params body) = module_text (record { params = params; body = body }) (beginnings_of_body body) (text_of_body body)
   text_of (FunctionTerm at name name_at params value) = function_text (record { params = params; value = value }) (a_block no_statements ∷ []) no_body
   text_of (InstanceStatement instance) = text_of_instance instance
 
-  text_in : (ss : StatementTerms) → IsText (marks_in ss)
+  text_in : (ss : StatementTerms) → IsText (beginnings_in ss)
   text_in no_statements = empty_text
-  text_in (and_statement s rest) = joined_text (marks_of s) (marks_in rest) (text_of s) (text_in rest)
+  text_in (and_statement s rest) = joined_text (beginnings_of s) (beginnings_in rest) (text_of s) (text_in rest)
 
-  text_of_instance : (i : InstanceTerm) → IsText (marks_of_instance i)
-  text_of_instance (AnInstance at marks core) = text_of_core core
+  text_of_instance : (i : InstanceTerm) → IsText (beginnings_of_instance i)
+  text_of_instance (AnInstance at beginnings core) = text_of_core core
 
-  text_of_core : (c : CoreTerm) → IsText (marks_of_core c)
+  text_of_core : (c : CoreTerm) → IsText (beginnings_of_core c)
   text_of_core (IfTerm at test body) = text_of_body body
   text_of_core (IfElseTerm at test body other) =
-      joined_text (marks_of_body body) (marks_of_body other) (text_of_body body) (text_of_body other)
+      joined_text (beginnings_of_body body) (beginnings_of_body other) (text_of_body body) (text_of_body other)
   text_of_core (ForTerm at binders body) = text_of_body body
   text_of_core (IntersectionForTerm at binders body) = text_of_body body
   text_of_core (ModuleCallTerm at name args body) = text_of_body body
 
-  text_of_body : (b : BodyTerm) → IsText (marks_of_body b)
+  text_of_body : (b : BodyTerm) → IsText (beginnings_of_body b)
   text_of_body (EmptyBody at) = no_body
   text_of_body (BlockBody at statements) = block_text statements (text_in statements)
   text_of_body (InstanceBody instance) = single_text instance (text_of_instance instance)
 
 -- the numbers in a program's blocks are below the program's counts
 pub program_below : (program : List StatementTerm) → IsTrue (entries_below (length (functions_of_program program))
-    (length (modules_of_program program)) (entries_from 0 0 0 (marks_of_program program)))
+    (length (modules_of_program program)) (entries_from 0 0 0 (beginnings_of_program program)))
 program_below program = block_text (statements_from program) (text_in (statements_from program)) 0 0 0
     (length (functions_of_program program)) (length (modules_of_program program)) (omega arith) (omega arith)
 

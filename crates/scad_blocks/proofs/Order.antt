@@ -2,11 +2,11 @@
 use Rattle.std.proofs.Common.{◌≡◌, ℕ, zero, suc, ◌+◌, ◌<◌, List, [], ◌∷◌, ◌++◌, length, get_or, refl, sym, ap, subst, ◌∙◌, arith, append_assoc, append-nil, length-append}
 use Rattle.std.proofs.Math.Seq.{get_or-append_seam}
 use Rattle.scad_ast.specs.Terms.{ParamTerm, StatementTerm, EmptyStatement, BlockStatement, AssignmentTerm, SpecialAssignmentTerm, ModuleTerm, FunctionTerm, InstanceStatement, StatementTerms, no_statements, and_statement, InstanceTerm, AnInstance, CoreTerm, IfTerm, IfElseTerm, ForTerm, IntersectionForTerm, ModuleCallTerm, BodyTerm, EmptyBody, BlockBody, InstanceBody, statements_from}
-use Rattle.scad_blocks.specs.Blocks.{Module, Mark, a_block, a_function, a_module, marks_of, marks_in, marks_of_instance, marks_of_core, marks_of_body, marks_of_program, modules_among, bodies_from, count_blocks, Entry, nothing_there, entry_at, entries_from, NumberedText, numbered_text, StandAt, StandsInOrder}
+use Rattle.scad_blocks.specs.Blocks.{Module, Beginning, a_block, a_function, a_module, beginnings_of, beginnings_in, beginnings_of_instance, beginnings_of_core, beginnings_of_body, beginnings_of_program, modules_among, bodies_from, count_blocks, Entry, nothing_there, entry_at, entries_from, NumberedText, numbered_text, StandAt, StandsInOrder}
 
 -- where the entries hold those of a text behind others
 module _ (t : NumberedText) where
-  pub stand_there : (pre : List Entry) (f m : ℕ) (xs : List Mark) (post : List Entry)
+  pub stand_there : (pre : List Entry) (f m : ℕ) (xs : List Beginning) (post : List Entry)
       → t.entries ≡ pre ++ (entries_from (length pre) f m xs ++ post) → StandAt t (length pre) xs
   stand_there pre f m [] post h = tt
   stand_there pre f m (a_block s ∷ xs) post h =
@@ -24,13 +24,13 @@ module _ (t : NumberedText) where
   stand_there pre f m (a_function g ∷ xs) post h = stand_there pre (f + 1) m xs post h
   stand_there pre f m (a_module d ∷ xs) post h = stand_there pre f (m + 1) xs post h
 
-  stand_front : (n : ℕ) (xs ys : List Mark) → StandAt t n (xs ++ ys) → StandAt t n xs
+  stand_front : (n : ℕ) (xs ys : List Beginning) → StandAt t n (xs ++ ys) → StandAt t n xs
   stand_front n [] ys h = tt
   stand_front n (a_block s ∷ xs) ys h = (h.0, h.1, stand_front (n + 1) xs ys h.2)
   stand_front n (a_function g ∷ xs) ys h = stand_front n xs ys h
   stand_front n (a_module d ∷ xs) ys h = stand_front n xs ys h
 
-  stand_behind : (n : ℕ) (xs ys : List Mark) → StandAt t n (xs ++ ys) → StandAt t (n + count_blocks xs) ys
+  stand_behind : (n : ℕ) (xs ys : List Beginning) → StandAt t n (xs ++ ys) → StandAt t (n + count_blocks xs) ys
   stand_behind n [] ys h = subst (λ k. StandAt t k ys) (omega arith) h
   stand_behind n (a_block s ∷ xs) ys h = subst (λ k. StandAt t k ys) (omega arith) (stand_behind (n + 1) xs ys h.2)
   stand_behind n (a_function g ∷ xs) ys h = stand_behind n xs ys h
@@ -38,26 +38,26 @@ module _ (t : NumberedText) where
 
   -- what stands in a block of a number begins behind it
   abbrev Here : ℕ → Type 0
-  Here m = StandAt t (m + 1) (marks_in (get_or t.entries m nothing_there).statements)
+  Here m = StandAt t (m + 1) (beginnings_in (get_or t.entries m nothing_there).statements)
 
   here : (m k : ℕ) → m ≡ k → Here m → Here k
-  here m k e h = subst (λ n. StandAt t (n + 1) (marks_in (get_or t.entries n nothing_there).statements)) e h
+  here m k e h = subst (λ n. StandAt t (n + 1) (beginnings_in (get_or t.entries n nothing_there).statements)) e h
 
   -- each block of a text, and each module of it
-  abbrev Nested : ℕ → List Mark → Type 0
+  abbrev Nested : ℕ → List Beginning → Type 0
   Nested n xs = (j : ℕ) → j < count_blocks xs → Here (n + j)
 
-  abbrev Bodies : ℕ → List Mark → Type 0
+  abbrev Bodies : ℕ → List Beginning → Type 0
   Bodies n xs = (k : ℕ) (d : Module) → k < length (modules_among xs) → d ≡ get_or (modules_among xs) k d
-      → StandAt t (get_or (bodies_from n xs) k 0) (marks_of_body d.body)
+      → StandAt t (get_or (bodies_from n xs) k 0) (beginnings_of_body d.body)
 
-  abbrev InOrder : List Mark → Type 0
+  abbrev InOrder : List Beginning → Type 0
   InOrder xs = (n : ℕ) → StandAt t n xs → Nested n xs × Bodies n xs
 
   nothing : InOrder []
   nothing n h = (λ j g. absurd (omega (arith, g)), λ k d g e. absurd (omega (arith, g)))
 
-  nested_joined : (n : ℕ) (xs ys : List Mark) → Nested n xs → Nested (n + count_blocks xs) ys → Nested n (xs ++ ys)
+  nested_joined : (n : ℕ) (xs ys : List Beginning) → Nested n xs → Nested (n + count_blocks xs) ys → Nested n (xs ++ ys)
   nested_joined n [] ys front behind j g = here (n + 0 + j) (n + j) (omega arith) (behind j g)
   nested_joined n (a_block s ∷ xs) ys front behind zero g = front zero (omega arith)
   nested_joined n (a_block s ∷ xs) ys front behind (suc j) g =
@@ -67,11 +67,11 @@ module _ (t : NumberedText) where
   nested_joined n (a_function f ∷ xs) ys front behind j g = nested_joined n xs ys front behind j g
   nested_joined n (a_module d ∷ xs) ys front behind j g = nested_joined n xs ys front behind j g
 
-  body_at : (b c : ℕ) (ys : List Mark) (k : ℕ) (d : Module) → b ≡ c → StandAt t (get_or (bodies_from b ys) k 0) (marks_of_body d.body)
-      → StandAt t (get_or (bodies_from c ys) k 0) (marks_of_body d.body)
-  body_at b c ys k d e h = subst (λ n. StandAt t (get_or (bodies_from n ys) k 0) (marks_of_body d.body)) e h
+  body_at : (b c : ℕ) (ys : List Beginning) (k : ℕ) (d : Module) → b ≡ c → StandAt t (get_or (bodies_from b ys) k 0) (beginnings_of_body d.body)
+      → StandAt t (get_or (bodies_from c ys) k 0) (beginnings_of_body d.body)
+  body_at b c ys k d e h = subst (λ n. StandAt t (get_or (bodies_from n ys) k 0) (beginnings_of_body d.body)) e h
 
-  bodies_joined : (n : ℕ) (xs ys : List Mark) → Bodies n xs → Bodies (n + count_blocks xs) ys → Bodies n (xs ++ ys)
+  bodies_joined : (n : ℕ) (xs ys : List Beginning) → Bodies n xs → Bodies (n + count_blocks xs) ys → Bodies n (xs ++ ys)
   bodies_joined n [] ys front behind k d g e = body_at (n + 0) n ys k d (omega arith) (behind k d g e)
   bodies_joined n (a_block s ∷ xs) ys front behind k d g e =
       bodies_joined (n + 1) xs ys front
@@ -81,34 +81,34 @@ module _ (t : NumberedText) where
   bodies_joined n (a_module m ∷ xs) ys front behind (suc k) d g e =
       bodies_joined n xs ys (λ i c l q. front (suc i) c (omega (arith, l)) q) behind k d (omega (arith, g)) e
 
-  joined : (xs ys : List Mark) → InOrder xs → InOrder ys → InOrder (xs ++ ys)
+  joined : (xs ys : List Beginning) → InOrder xs → InOrder ys → InOrder (xs ++ ys)
   joined xs ys front behind n h =
       let a = front n (stand_front n xs ys h) in
       let b = behind (n + count_blocks xs) (stand_behind n xs ys h) in
       (nested_joined n xs ys a.0 b.0, bodies_joined n xs ys a.1 b.1)
 
-  block : (s : StatementTerms) → InOrder (marks_in s) → InOrder (a_block s ∷ marks_in s)
+  block : (s : StatementTerms) → InOrder (beginnings_in s) → InOrder (a_block s ∷ beginnings_in s)
   block s inner n h = (nested, (inner (n + 1) h.2).1)
     where
-      nested : Nested n (a_block s ∷ marks_in s)
-      nested zero g = here n (n + 0) (omega arith) (subst (λ ss. StandAt t (n + 1) (marks_in ss)) (sym h.1) h.2)
+      nested : Nested n (a_block s ∷ beginnings_in s)
+      nested zero g = here n (n + 0) (omega arith) (subst (λ ss. StandAt t (n + 1) (beginnings_in ss)) (sym h.1) h.2)
       nested (suc j) g = here (n + 1 + j) (n + suc j) (omega arith) ((inner (n + 1) h.2).0 j (omega (arith, g)))
 
-  body_first : (params : List ParamTerm) (b : BodyTerm) → InOrder (marks_of_body b)
-      → InOrder (a_module (record { params = params; body = b }) ∷ marks_of_body b)
+  body_first : (params : List ParamTerm) (b : BodyTerm) → InOrder (beginnings_of_body b)
+      → InOrder (a_module (record { params = params; body = b }) ∷ beginnings_of_body b)
   body_first params b inner n h = ((inner n h).0, bodies)
     where
-      bodies : Bodies n (a_module (record { params = params; body = b }) ∷ marks_of_body b)
-      bodies zero d g e = subst (λ (c : Module). StandAt t n (marks_of_body c.body)) (sym e) h
+      bodies : Bodies n (a_module (record { params = params; body = b }) ∷ beginnings_of_body b)
+      bodies zero d g e = subst (λ (c : Module). StandAt t n (beginnings_of_body c.body)) (sym e) h
       bodies (suc k) d g e = (inner n h).1 k d (omega (arith, g)) e
 
-  single : (i : InstanceTerm) → InOrder (marks_of_instance i)
-      → InOrder (a_block (and_statement (InstanceStatement i) no_statements) ∷ marks_of_instance i)
-  single i inner = subst (λ xs. InOrder (a_block (and_statement (InstanceStatement i) no_statements) ∷ xs)) (append-nil (marks_of_instance i))
-      (block (and_statement (InstanceStatement i) no_statements) (joined (marks_of_instance i) [] inner nothing))
+  single : (i : InstanceTerm) → InOrder (beginnings_of_instance i)
+      → InOrder (a_block (and_statement (InstanceStatement i) no_statements) ∷ beginnings_of_instance i)
+  single i inner = subst (λ xs. InOrder (a_block (and_statement (InstanceStatement i) no_statements) ∷ xs)) (append-nil (beginnings_of_instance i))
+      (block (and_statement (InstanceStatement i) no_statements) (joined (beginnings_of_instance i) [] inner nothing))
 
   mutual
-    order_of : (s : StatementTerm) → InOrder (marks_of s)
+    order_of : (s : StatementTerm) → InOrder (beginnings_of s)
     order_of (EmptyStatement at) = nothing
     order_of (BlockStatement at statements) = order_in statements
     order_of (AssignmentTerm at name value) = nothing
@@ -117,27 +117,27 @@ module _ (t : NumberedText) where
     order_of (FunctionTerm at name name_at params value) = block no_statements nothing
     order_of (InstanceStatement instance) = order_of_instance instance
 
-    order_in : (ss : StatementTerms) → InOrder (marks_in ss)
+    order_in : (ss : StatementTerms) → InOrder (beginnings_in ss)
     order_in no_statements = nothing
-    order_in (and_statement s rest) = joined (marks_of s) (marks_in rest) (order_of s) (order_in rest)
+    order_in (and_statement s rest) = joined (beginnings_of s) (beginnings_in rest) (order_of s) (order_in rest)
 
-    order_of_instance : (i : InstanceTerm) → InOrder (marks_of_instance i)
-    order_of_instance (AnInstance at marks core) = order_of_core core
+    order_of_instance : (i : InstanceTerm) → InOrder (beginnings_of_instance i)
+    order_of_instance (AnInstance at beginnings core) = order_of_core core
 
-    order_of_core : (c : CoreTerm) → InOrder (marks_of_core c)
+    order_of_core : (c : CoreTerm) → InOrder (beginnings_of_core c)
     order_of_core (IfTerm at test body) = order_of_body body
     order_of_core (IfElseTerm at test body other) =
-        joined (marks_of_body body) (marks_of_body other) (order_of_body body) (order_of_body other)
+        joined (beginnings_of_body body) (beginnings_of_body other) (order_of_body body) (order_of_body other)
     order_of_core (ForTerm at binders body) = order_of_body body
     order_of_core (IntersectionForTerm at binders body) = order_of_body body
     order_of_core (ModuleCallTerm at name args body) = order_of_body body
 
-    order_of_body : (b : BodyTerm) → InOrder (marks_of_body b)
+    order_of_body : (b : BodyTerm) → InOrder (beginnings_of_body b)
     order_of_body (EmptyBody at) = block no_statements nothing
     order_of_body (BlockBody at statements) = block statements (order_in statements)
     order_of_body (InstanceBody instance) = single instance (order_of_instance instance)
 
-entries_count : (n f m : ℕ) (xs : List Mark) → length (entries_from n f m xs) ≡ count_blocks xs
+entries_count : (n f m : ℕ) (xs : List Beginning) → length (entries_from n f m xs) ≡ count_blocks xs
 entries_count n f m [] = refl
 entries_count n f m (a_block s ∷ xs) = ap suc (entries_count (n + 1) f m xs)
 entries_count n f m (a_function g ∷ xs) = entries_count n (f + 1) m xs
@@ -147,7 +147,7 @@ entries_count n f m (a_module d ∷ xs) = entries_count n f (m + 1) xs
 pub program_order : (program : List StatementTerm) → StandsInOrder (numbered_text program)
 program_order program =
     let t = numbered_text program in
-    let xs = marks_of_program program in
+    let xs = beginnings_of_program program in
     let all = block t (statements_from program) (order_in t (statements_from program)) 0
     (stand_there t [] 0 0 xs [] (sym (append-nil (entries_from 0 0 0 xs)))) in
     record {

@@ -5,7 +5,7 @@ use Rattle.scad_ast.specs.declared.statement.Body.TheFolds.{fold_out-Instance}
 use Rattle.scad_ast.specs.Terms.{BodyTerm, CoreTerm, StatementTerm, InstanceTerm, no_statements, and_statement, statements_from}
 use Rattle.scad_ast.specs.declared.statement.Instance.{Instance}
 use Rattle.scad_ast.specs.StatementView.{statement_of, instance_of, core_of, body_step, core_step, statement_step, instance_step, statements_step}
-use Rattle.scad_blocks.specs.Blocks.{marks_of_instance, marks_of_core}
+use Rattle.scad_blocks.specs.Blocks.{beginnings_of_instance, beginnings_of_core}
 
 -- the statements from one on
 pub statements_here : (ss : List Statement) (i : ℕ) (s : Statement) → i < length ss → s ≡ get_or ss i s
@@ -25,6 +25,6 @@ statements_past (s ∷ ss) zero h = absurd (omega arith)
 statements_past (s ∷ ss) (suc i) h = statements_past ss i (omega arith)
 
 -- an instance begins what its core begins
-pub instance_marks : (i : Instance) → marks_of_instance (instance_of i) ≡ marks_of_core (core_of i.core)
-instance_marks i = ap marks_of_instance (fold_out-Instance BodyTerm CoreTerm StatementTerm InstanceTerm (List StatementTerm)
+pub instance_beginnings : (i : Instance) → beginnings_of_instance (instance_of i) ≡ beginnings_of_core (core_of i.core)
+instance_beginnings i = ap beginnings_of_instance (fold_out-Instance BodyTerm CoreTerm StatementTerm InstanceTerm (List StatementTerm)
     body_step core_step statement_step instance_step statements_step i)

@@ -16,10 +16,10 @@ pub record Module : Type 0 where
   pub body : BodyTerm
 
 -- what begins in a text: a block with the statements that stand in it, a function or a module
-pub data Mark : Type 0 where
-  a_block : (statements : StatementTerms) → Mark
-  a_function : (function : Function) → Mark
-  a_module : (defined : Module) → Mark
+pub data Beginning : Type 0 where
+  a_block : (statements : StatementTerms) → Beginning
+  a_function : (function : Function) → Beginning
+  a_module : (defined : Module) → Beginning
 
 -- the statements of a body; a single instance is one statement
 abbrev pub statements_of_body : BodyTerm → StatementTerms
@@ -29,78 +29,78 @@ statements_of_body (InstanceBody instance) = and_statement (InstanceStatement in
 
 -- the blocks and definitions of a text, in the order in which they begin
 abbrev mutual
-  pub marks_of : StatementTerm → List Mark
-  marks_of (EmptyStatement at) = []
-  marks_of (BlockStatement at statements) = marks_in statements
-  marks_of (AssignmentTerm at name value) = []
-  marks_of (SpecialAssignmentTerm at name value) = []
-  marks_of (ModuleTerm at name name_at params body) = a_module (record { params = params; body = body }) ∷ marks_of_body body
-  marks_of (FunctionTerm at name name_at params value) =
+  pub beginnings_of : StatementTerm → List Beginning
+  beginnings_of (EmptyStatement at) = []
+  beginnings_of (BlockStatement at statements) = beginnings_in statements
+  beginnings_of (AssignmentTerm at name value) = []
+  beginnings_of (SpecialAssignmentTerm at name value) = []
+  beginnings_of (ModuleTerm at name name_at params body) = a_module (record { params = params; body = body }) ∷ beginnings_of_body body
+  beginnings_of (FunctionTerm at name name_at params value) =
       a_function (record { params = params; value = value }) ∷ a_block no_statements ∷ []
-  marks_of (InstanceStatement instance) = marks_of_instance instance
+  beginnings_of (InstanceStatement instance) = beginnings_of_instance instance
 
-  pub marks_in : StatementTerms → List Mark
-  marks_in no_statements = []
-  marks_in (and_statement s rest) = marks_of s ++ marks_in rest
+  pub beginnings_in : StatementTerms → List Beginning
+  beginnings_in no_statements = []
+  beginnings_in (and_statement s rest) = beginnings_of s ++ beginnings_in rest
 
-  pub marks_of_instance : InstanceTerm → List Mark
-  marks_of_instance (AnInstance at marks core) = marks_of_core core
+  pub beginnings_of_instance : InstanceTerm → List Beginning
+  beginnings_of_instance (AnInstance at beginnings core) = beginnings_of_core core
 
-  pub marks_of_core : CoreTerm → List Mark
-  marks_of_core (IfTerm at test body) = marks_of_body body
-  marks_of_core (IfElseTerm at test body other) = marks_of_body body ++ marks_of_body other
-  marks_of_core (ForTerm at binders body) = marks_of_body body
-  marks_of_core (IntersectionForTerm at binders body) = marks_of_body body
-  marks_of_core (ModuleCallTerm at name args body) = marks_of_body body
+  pub beginnings_of_core : CoreTerm → List Beginning
+  beginnings_of_core (IfTerm at test body) = beginnings_of_body body
+  beginnings_of_core (IfElseTerm at test body other) = beginnings_of_body body ++ beginnings_of_body other
+  beginnings_of_core (ForTerm at binders body) = beginnings_of_body body
+  beginnings_of_core (IntersectionForTerm at binders body) = beginnings_of_body body
+  beginnings_of_core (ModuleCallTerm at name args body) = beginnings_of_body body
 
-  pub marks_of_body : BodyTerm → List Mark
-  marks_of_body (EmptyBody at) = a_block no_statements ∷ []
-  marks_of_body (BlockBody at statements) = a_block statements ∷ marks_in statements
-  marks_of_body (InstanceBody instance) =
-      a_block (and_statement (InstanceStatement instance) no_statements) ∷ marks_of_instance instance
+  pub beginnings_of_body : BodyTerm → List Beginning
+  beginnings_of_body (EmptyBody at) = a_block no_statements ∷ []
+  beginnings_of_body (BlockBody at statements) = a_block statements ∷ beginnings_in statements
+  beginnings_of_body (InstanceBody instance) =
+      a_block (and_statement (InstanceStatement instance) no_statements) ∷ beginnings_of_instance instance
 
 -- a program is block 0, and its bodies and the expressions of functions come behind it
-abbrev pub marks_of_program : List StatementTerm → List Mark
-marks_of_program program = a_block (statements_from program) ∷ marks_in (statements_from program)
+abbrev pub beginnings_of_program : List StatementTerm → List Beginning
+beginnings_of_program program = a_block (statements_from program) ∷ beginnings_in (statements_from program)
 
 -- the functions and the modules that begin in a text, in order: their numbers count from 0
-abbrev pub functions_among : List Mark → List Function
+abbrev pub functions_among : List Beginning → List Function
 functions_among [] = []
-functions_among (a_block inner ∷ marks) = functions_among marks
-functions_among (a_function f ∷ marks) = f ∷ functions_among marks
-functions_among (a_module d ∷ marks) = functions_among marks
+functions_among (a_block inner ∷ beginnings) = functions_among beginnings
+functions_among (a_function f ∷ beginnings) = f ∷ functions_among beginnings
+functions_among (a_module d ∷ beginnings) = functions_among beginnings
 
-abbrev pub modules_among : List Mark → List Module
+abbrev pub modules_among : List Beginning → List Module
 modules_among [] = []
-modules_among (a_block inner ∷ marks) = modules_among marks
-modules_among (a_function f ∷ marks) = modules_among marks
-modules_among (a_module d ∷ marks) = d ∷ modules_among marks
+modules_among (a_block inner ∷ beginnings) = modules_among beginnings
+modules_among (a_function f ∷ beginnings) = modules_among beginnings
+modules_among (a_module d ∷ beginnings) = d ∷ modules_among beginnings
 
 abbrev pub functions_of_program : List StatementTerm → List Function
-functions_of_program program = functions_among (marks_of_program program)
+functions_of_program program = functions_among (beginnings_of_program program)
 
 abbrev pub modules_of_program : List StatementTerm → List Module
-modules_of_program program = modules_among (marks_of_program program)
+modules_of_program program = modules_among (beginnings_of_program program)
 
 -- how many functions, modules and blocks begin in a text
-abbrev pub count_functions : List Mark → ℕ
-count_functions marks = length (functions_among marks)
+abbrev pub count_functions : List Beginning → ℕ
+count_functions beginnings = length (functions_among beginnings)
 
-abbrev pub count_modules : List Mark → ℕ
-count_modules marks = length (modules_among marks)
+abbrev pub count_modules : List Beginning → ℕ
+count_modules beginnings = length (modules_among beginnings)
 
-abbrev pub count_blocks : List Mark → ℕ
+abbrev pub count_blocks : List Beginning → ℕ
 count_blocks [] = 0
-count_blocks (a_block inner ∷ marks) = suc (count_blocks marks)
-count_blocks (a_function f ∷ marks) = count_blocks marks
-count_blocks (a_module d ∷ marks) = count_blocks marks
+count_blocks (a_block inner ∷ beginnings) = suc (count_blocks beginnings)
+count_blocks (a_function f ∷ beginnings) = count_blocks beginnings
+count_blocks (a_module d ∷ beginnings) = count_blocks beginnings
 
 -- the numbers of the blocks of the modules' bodies, behind so many blocks: each body begins at its module
-abbrev pub bodies_from : ℕ → List Mark → List ℕ
+abbrev pub bodies_from : ℕ → List Beginning → List ℕ
 bodies_from number [] = []
-bodies_from number (a_block inner ∷ marks) = bodies_from (number + 1) marks
-bodies_from number (a_function f ∷ marks) = bodies_from number marks
-bodies_from number (a_module d ∷ marks) = number ∷ bodies_from number marks
+bodies_from number (a_block inner ∷ beginnings) = bodies_from (number + 1) beginnings
+bodies_from number (a_function f ∷ beginnings) = bodies_from number beginnings
+bodies_from number (a_module d ∷ beginnings) = number ∷ bodies_from number beginnings
 
 -- the functions that stand in a block, with their numbers, behind so many others; a bare block's count as the
 -- block's own
@@ -108,7 +108,7 @@ abbrev mutual
   pub own_functions : ℕ → StatementTerms → Pairs ℕ
   own_functions before no_statements = []
   own_functions before (and_statement s rest) = own_function before s ++ own_functions
-      (before + count_functions (marks_of s)) rest
+      (before + count_functions (beginnings_of s)) rest
 
   pub own_function : ℕ → StatementTerm → Pairs ℕ
   own_function before (EmptyStatement at) = []
@@ -124,7 +124,7 @@ abbrev mutual
   pub own_modules : ℕ → StatementTerms → Pairs ℕ
   own_modules before no_statements = []
   own_modules before (and_statement s rest) = own_module before s ++ own_modules (before + count_modules
-      (marks_of s)) rest
+      (beginnings_of s)) rest
 
   pub own_module : ℕ → StatementTerm → Pairs ℕ
   own_module before (EmptyStatement at) = []
@@ -209,16 +209,16 @@ abbrev pub entry_at : ℕ → ℕ → ℕ → StatementTerms → Entry
 entry_at number functions modules statements = record {
   statements = statements;
   own = own_of_block functions modules statements;
-  behind = number + 1 + count_blocks (marks_in statements);
+  behind = number + 1 + count_blocks (beginnings_in statements);
 }
 
 -- the blocks that begin in a text, behind so many blocks, functions and modules
-abbrev pub entries_from : ℕ → ℕ → ℕ → List Mark → List Entry
+abbrev pub entries_from : ℕ → ℕ → ℕ → List Beginning → List Entry
 entries_from number functions modules [] = []
-entries_from number functions modules (a_block statements ∷ marks) =
-    entry_at number functions modules statements ∷ entries_from (number + 1) functions modules marks
-entries_from number functions modules (a_function f ∷ marks) = entries_from number (functions + 1) modules marks
-entries_from number functions modules (a_module d ∷ marks) = entries_from number functions (modules + 1) marks
+entries_from number functions modules (a_block statements ∷ beginnings) =
+    entry_at number functions modules statements ∷ entries_from (number + 1) functions modules beginnings
+entries_from number functions modules (a_function f ∷ beginnings) = entries_from number (functions + 1) modules beginnings
+entries_from number functions modules (a_module d ∷ beginnings) = entries_from number functions (modules + 1) beginnings
 
 -- a program's blocks, functions and modules by number, and for each module the number of its body's block
 pub record NumberedText : Type 0 where
@@ -229,25 +229,25 @@ pub record NumberedText : Type 0 where
 
 abbrev pub numbered_text : List StatementTerm → NumberedText
 numbered_text program = record {
-  entries = entries_from 0 0 0 (marks_of_program program);
+  entries = entries_from 0 0 0 (beginnings_of_program program);
   functions = functions_of_program program;
   modules = modules_of_program program;
-  bodies = bodies_from 0 (marks_of_program program);
+  bodies = bodies_from 0 (beginnings_of_program program);
 }
 
--- that the blocks from a number on are those of these marks: whoever walks the statements of a block in order meets
+-- that the blocks from a number on are those of these beginnings: whoever walks the statements of a block in order meets
 -- their blocks one behind the other
-abbrev pub StandAt : NumberedText → ℕ → List Mark → Type 0
+abbrev pub StandAt : NumberedText → ℕ → List Beginning → Type 0
 StandAt text number [] = Unit {0}
-StandAt text number (a_block statements ∷ marks) =
+StandAt text number (a_block statements ∷ beginnings) =
     (number < length text.entries) × ((slice_index_or text.entries number nothing_there).statements ≡ statements)
-    × StandAt text (number + 1) marks
-StandAt text number (a_function f ∷ marks) = StandAt text number marks
-StandAt text number (a_module d ∷ marks) = StandAt text number marks
+    × StandAt text (number + 1) beginnings
+StandAt text number (a_function f ∷ beginnings) = StandAt text number beginnings
+StandAt text number (a_module d ∷ beginnings) = StandAt text number beginnings
 
 -- what stands in a block begins behind it, and a module's body at the number that the module has
 pub record StandsInOrder (text : NumberedText) : Type 0 where
   pub blocks : (n : ℕ) → n < length text.entries
-      → StandAt text (n + 1) (marks_in (slice_index_or text.entries n nothing_there).statements)
+      → StandAt text (n + 1) (beginnings_in (slice_index_or text.entries n nothing_there).statements)
   pub bodies : (k : ℕ) (d : Module) → k < length text.modules → d ≡ slice_index_or text.modules k d
-      → StandAt text (slice_index_or text.bodies k 0) (marks_of_body d.body)
+      → StandAt text (slice_index_or text.bodies k 0) (beginnings_of_body d.body)

@@ -2,7 +2,7 @@
 use Rattle.std.specs.Prelude.{ℕ, ◌+◌, List, [], ◌∷◌, ◌++◌, length, slice_set, slice_index_or}
 use Rattle.scad_ast.specs.Terms.{StatementTerm, StatementTerms}
 use Rattle.scad_blocks.specs.declared.walk.Walk.{Walk}
-use Rattle.scad_blocks.specs.Blocks.{Mark, a_block, a_function, a_module, Assigned, with_assigned, all_assigned, assigned_in, assigned_by, own_functions, own_function, own_modules, own_module, Own, no_own, Entry, nothing_there, entry_at, NumberedText}
+use Rattle.scad_blocks.specs.Blocks.{Beginning, a_block, a_function, a_module, Assigned, with_assigned, all_assigned, assigned_in, assigned_by, own_functions, own_function, own_modules, own_module, Own, no_own, Entry, nothing_there, entry_at, NumberedText}
 use Rattle.scad_blocks.specs.TextView.{text_in}
 
 abbrev pub walked : Walk → NumberedText
@@ -16,17 +16,17 @@ numbered w = length w.entries + length w.functions + length w.modules
 abbrev pub nothing_walked : NumberedText
 nothing_walked = record { entries = []; functions = []; modules = []; bodies = [] }
 
--- with one mark more, and with all marks of a text
-abbrev pub with_mark : NumberedText → Mark → NumberedText
-with_mark w (a_block statements) = record w {
+-- with one beginning more, and with all beginnings of a text
+abbrev pub with_beginning : NumberedText → Beginning → NumberedText
+with_beginning w (a_block statements) = record w {
   entries = w.entries ++ entry_at (length w.entries) (length w.functions) (length w.modules) statements ∷ [];
 }
-with_mark w (a_function f) = record w { functions = w.functions ++ f ∷ [] }
-with_mark w (a_module d) = record w { modules = w.modules ++ d ∷ []; bodies = w.bodies ++ length w.entries ∷ [] }
+with_beginning w (a_function f) = record w { functions = w.functions ++ f ∷ [] }
+with_beginning w (a_module d) = record w { modules = w.modules ++ d ∷ []; bodies = w.bodies ++ length w.entries ∷ [] }
 
-abbrev pub after : NumberedText → List Mark → NumberedText
+abbrev pub after : NumberedText → List Beginning → NumberedText
 after w [] = w
-after w (mark ∷ marks) = after (with_mark w mark) marks
+after w (beginning ∷ beginnings) = after (with_beginning w beginning) beginnings
 
 -- what statements and what one statement add to a block's own, and with one assignment more
 abbrev pub own_with : Own → ℕ → ℕ → StatementTerms → Own

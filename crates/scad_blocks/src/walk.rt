@@ -2,8 +2,8 @@ ghost use Rattle.std.specs.Prelude.{◌≡◌, ◌<◌, ◌+◌, ◌^◌, ◌++�
 ghost use Rattle.scad_ast.specs.Terms.{statements_from, no_statements, and_statement, InstanceStatement};
 ghost use Rattle.scad_ast.specs.ExprView.{term_of};
 ghost use Rattle.scad_ast.specs.StatementView.{params_of, statement_of, statements_of, instance_of, core_of, body_of};
-ghost use Rattle.scad_blocks.specs.Blocks.{marks_of, marks_in, marks_of_core, marks_of_body, marks_of_instance, a_block, a_function, a_module, marks_of_program};
-ghost use Rattle.scad_blocks.specs.Walk.{walked, numbered, after, with_mark, nothing_walked, own_with, own_by, assigned_own, with_text, ended};
+ghost use Rattle.scad_blocks.specs.Blocks.{beginnings_of, beginnings_in, beginnings_of_core, beginnings_of_body, beginnings_of_instance, a_block, a_function, a_module, beginnings_of_program};
+ghost use Rattle.scad_blocks.specs.Walk.{walked, numbered, after, with_beginning, nothing_walked, own_with, own_by, assigned_own, with_text, ended};
 ghost use Rattle.scad_blocks.specs.TextView.{own_of, statements_held};
 
 use crate::assigned::OwnSoFar;
@@ -24,7 +24,7 @@ pub(crate) struct Walk<'a> {
 
 /// The blocks, functions and modules of a program.
 pub(crate) fn walk_program<'a>(alloc: Global, program: &'a Program) -> Result<Walk<'a>, NoMemory>
-    ensures { IfOk result (λ w. walked w ≡ after nothing_walked (marks_of_program (statements_of program.now.statements))) }
+    ensures { IfOk result (λ w. walked w ≡ after nothing_walked (beginnings_of_program (statements_of program.now.statements))) }
 {
     let mut walk = Walk::new(alloc);
     walk.braces(&program.statements)?;
@@ -51,8 +51,8 @@ impl<'a> Walk<'a> {
         statements: &'a Statements,
         so_far: &mut OwnSoFar<'a>,
     ) -> Result<(), NoMemory>
-        requires { numbered (walked self.old) + length (marks_in (statements_from (statements_of statements.now))) < 2 ^ 32 }
-        ensures walked { OnOk result (walked self.new ≡ after (walked self.old) (marks_in (statements_from (statements_of statements.now)))) }
+        requires { numbered (walked self.old) + length (beginnings_in (statements_from (statements_of statements.now))) < 2 ^ 32 }
+        ensures walked { OnOk result (walked self.new ≡ after (walked self.old) (beginnings_in (statements_from (statements_of statements.now)))) }
         ensures own { OnOk result (own_of so_far.new.own ≡ own_with (own_of so_far.old.own) (length (walked self.old).functions)
             (length (walked self.old).modules) (statements_from (statements_of statements.now))) }
     {
@@ -63,14 +63,14 @@ impl<'a> Walk<'a> {
     }
 
     #[cycle(walk)]
-    #[tactic(auto, using(crate::proofs::Begun::numbered_mark))]
+    #[tactic(auto, using(crate::proofs::Begun::numbered_beginning))]
     fn statement(
         &mut self,
         statement: &'a Statement,
         so_far: &mut OwnSoFar<'a>,
     ) -> Result<(), NoMemory>
-        requires { numbered (walked self.old) + length (marks_of (statement_of statement.now)) < 2 ^ 32 }
-        ensures walked { OnOk result (walked self.new ≡ after (walked self.old) (marks_of (statement_of statement.now))) }
+        requires { numbered (walked self.old) + length (beginnings_of (statement_of statement.now)) < 2 ^ 32 }
+        ensures walked { OnOk result (walked self.new ≡ after (walked self.old) (beginnings_of (statement_of statement.now))) }
         ensures own { OnOk result (own_of so_far.new.own ≡ own_by (own_of so_far.old.own) (length (walked self.old).functions)
             (length (walked self.old).modules) (statement_of statement.now)) }
     {
@@ -105,8 +105,8 @@ impl<'a> Walk<'a> {
 
     #[cycle(walk)]
     fn core(&mut self, core: &'a Core) -> Result<(), NoMemory>
-        requires { numbered (walked self.old) + length (marks_of_core (core_of core.now)) < 2 ^ 32 }
-        ensures { OnOk result (walked self.new ≡ after (walked self.old) (marks_of_core (core_of core.now))) }
+        requires { numbered (walked self.old) + length (beginnings_of_core (core_of core.now)) < 2 ^ 32 }
+        ensures { OnOk result (walked self.new ≡ after (walked self.old) (beginnings_of_core (core_of core.now))) }
     {
         match core {
             Core::If(_, _, body) => self.body(body),
@@ -120,9 +120,9 @@ impl<'a> Walk<'a> {
     #[cycle(walk)]
     #[tactic(auto, using(crate::proofs::Begun::numbered_after))]
     fn two(&mut self, body: &'a Body, other: &'a Body) -> Result<(), NoMemory>
-        requires { numbered (walked self.old) + length (marks_of_body (body_of body.now)) + length (marks_of_body (body_of other.now)) < 2 ^ 32 }
+        requires { numbered (walked self.old) + length (beginnings_of_body (body_of body.now)) + length (beginnings_of_body (body_of other.now)) < 2 ^ 32 }
         ensures { OnOk result (walked self.new ≡ after (walked self.old)
-            (marks_of_body (body_of body.now) ++ marks_of_body (body_of other.now))) }
+            (beginnings_of_body (body_of body.now) ++ beginnings_of_body (body_of other.now))) }
     {
         self.body(body)?;
         self.body(other)
@@ -130,8 +130,8 @@ impl<'a> Walk<'a> {
 
     #[cycle(walk)]
     fn body(&mut self, body: &'a Body) -> Result<(), NoMemory>
-        requires { numbered (walked self.old) + length (marks_of_body (body_of body.now)) < 2 ^ 32 }
-        ensures { OnOk result (walked self.new ≡ after (walked self.old) (marks_of_body (body_of body.now))) }
+        requires { numbered (walked self.old) + length (beginnings_of_body (body_of body.now)) < 2 ^ 32 }
+        ensures { OnOk result (walked self.new ≡ after (walked self.old) (beginnings_of_body (body_of body.now))) }
     {
         match body {
             Body::Semicolon(_) => self.nothing(),
@@ -144,9 +144,9 @@ impl<'a> Walk<'a> {
     #[cycle(walk)]
     #[tactic(auto, using(crate::proofs::Begun::numbered_begun, crate::proofs::Begun::numbered_after))]
     fn single(&mut self, instance: &'a Instance) -> Result<(), NoMemory>
-        requires { numbered (walked self.old) + length (marks_of_instance (instance_of instance.now)) + 1 < 2 ^ 32 }
+        requires { numbered (walked self.old) + length (beginnings_of_instance (instance_of instance.now)) + 1 < 2 ^ 32 }
         ensures { OnOk result (walked self.new ≡ after (walked self.old)
-            (a_block (and_statement (InstanceStatement (instance_of instance.now)) no_statements) ∷ marks_of_instance (instance_of instance.now))) }
+            (a_block (and_statement (InstanceStatement (instance_of instance.now)) no_statements) ∷ beginnings_of_instance (instance_of instance.now))) }
     {
         let number = self.begin(BlockText::Single(instance))?;
         self.core(&instance.core)?;
@@ -158,9 +158,9 @@ impl<'a> Walk<'a> {
     #[cycle(walk)]
     #[tactic(auto, using(crate::proofs::Begun::numbered_begun, crate::proofs::Begun::numbered_after))]
     fn braces(&mut self, statements: &'a Statements) -> Result<(), NoMemory>
-        requires { numbered (walked self.old) + length (marks_in (statements_from (statements_of statements.now))) + 1 < 2 ^ 32 }
+        requires { numbered (walked self.old) + length (beginnings_in (statements_from (statements_of statements.now))) + 1 < 2 ^ 32 }
         ensures { OnOk result (walked self.new ≡ after (walked self.old)
-            (a_block (statements_from (statements_of statements.now)) ∷ marks_in (statements_from (statements_of statements.now)))) }
+            (a_block (statements_from (statements_of statements.now)) ∷ beginnings_in (statements_from (statements_of statements.now)))) }
     {
         let number = self.begin(BlockText::Statements(statements))?;
         let mut so_far = OwnSoFar::new(self.alloc);
@@ -215,7 +215,7 @@ impl<'a> Walk<'a> {
     #[tactic(auto, using(crate::proofs::Held::mapped_length))]
     fn function(&mut self, params: &'a Params, value: &'a Expr) -> Result<u32, NoMemory>
         requires { numbered (walked self.old) < 2 ^ 32 }
-        ensures walked { OnOk result (walked self.new ≡ with_mark (walked self.old)
+        ensures walked { OnOk result (walked self.new ≡ with_beginning (walked self.old)
             (a_function (record { params = params_of params.now; value = term_of value.now }))) }
         ensures number { IfOk result (λ n. n ≡ length (walked self.old).functions) }
     {
@@ -228,7 +228,7 @@ impl<'a> Walk<'a> {
     #[tactic(auto, using(crate::proofs::Held::mapped_length))]
     fn module(&mut self, params: &'a Params, body: &'a Body) -> Result<u32, NoMemory>
         requires { numbered (walked self.old) < 2 ^ 32 }
-        ensures walked { OnOk result (walked self.new ≡ with_mark (walked self.old)
+        ensures walked { OnOk result (walked self.new ≡ with_beginning (walked self.old)
             (a_module (record { params = params_of params.now; body = body_of body.now }))) }
         ensures number { IfOk result (λ n. n ≡ length (walked self.old).modules) }
     {

@@ -7,7 +7,7 @@ use Rattle.scad_value.specs.declared.value.Value.{Value}
 use Rattle.scad_value.specs.declared.stop.ValueStop.{ValueStop}
 use Rattle.scad_value.specs.Values.{Val, NumberVal, TruthVal, TextVal, ListVal, Vals, no_vals, and_val, vals_from, count_of, parts_of, is_long, is_small, has_small_numbers, have_small_numbers, is_bounded}
 use Rattle.scad_value.specs.Operators.{Answer, sized, number, made}
-use Rattle.scad_value.specs.View.{Tells, GivesBounded}
+use Rattle.scad_value.specs.View.{MeetsAnswer, GivesBounded}
 use Rattle.scad_builtin.specs.declared.function.Builtin.{Builtin}
 use Rattle.scad_builtin.specs.declared.function.Builtin.TheVariants.{Abs, Sign, Floor, Ceil, Round, Min, Max, Len, Concat, Pow, IsUndef, IsNum, IsBool, IsList}
 use Rattle.scad_builtin.specs.Builtins.{of_number, sign_of, better, best_of, best, best_among, length_of, list_of, items_as, joined_items, power, power_row, power_of, is_undef, is_num, is_bool, is_list, of_one, of_two, applied, are_bounded}
@@ -21,7 +21,7 @@ abbrev IsSmallAnswer : Answer ℤ → Type 0
 IsSmallAnswer (Ok n) = IsTrue (is_small n)
 IsSmallAnswer (Err kind) = Unit {0}
 
-told : (r : Result Value ValueStop) (answer : Answer Val) → Tells r answer → IsBoundedAnswer answer
+told : (r : Result Value ValueStop) (answer : Answer Val) → MeetsAnswer r answer → IsBoundedAnswer answer
     → GivesBounded r
 told (Ok v) answer t b = subst IsBoundedAnswer t b
 told (Err stop) answer t b = tt
@@ -175,5 +175,5 @@ all_small [] b = refl
 all_small (v ∷ vs) b = let p = and_parts _ _ b in and_from _ _ (and_parts _ _ p.0).0 (all_small vs p.1)
 
 pub gives_bounded : (builtin : Builtin) (vs : List Val) (r : Result Value ValueStop)
-    → Tells r (applied builtin (vals_from vs)) → IsTrue (are_bounded vs) → GivesBounded r
+    → MeetsAnswer r (applied builtin (vals_from vs)) → IsTrue (are_bounded vs) → GivesBounded r
 gives_bounded builtin vs r t b = told r _ t (applied_bounded builtin (vals_from vs) (all_small vs b))

@@ -1,7 +1,7 @@
 ghost use Rattle.std.specs.Prelude.{◌≡◌, int_lt};
 ghost use Rattle.scad_value.specs.Values.{vals_from, and_val, no_vals};
 ghost use Rattle.scad_value.specs.Operators.{number as number_at};
-ghost use Rattle.scad_value.specs.View.{val_of, vals_of, vals_in, Tells};
+ghost use Rattle.scad_value.specs.View.{val_of, vals_of, vals_in, MeetsAnswer};
 ghost use Rattle.scad_builtin.specs.Builtins.{better as better_at, best_of as best_of_at, best as best_at, best_among as best_among_at};
 ghost use Rattle.scad_builtin.specs.Rows.{is_before};
 
@@ -41,7 +41,7 @@ fn greatest(left: i64, right: i64) -> i64
 
 /// The best of the numbers, or of those of the one list.
 pub(crate) fn best_among(wanted: Wanted, values: &Values) -> Result<Value, ValueStop>
-    ensures { Tells result (best_among_at (is_before wanted) (vals_from (vals_of values.now))) }
+    ensures { MeetsAnswer result (best_among_at (is_before wanted) (vals_from (vals_of values.now))) }
 {
     match only(values.items()) {
         Some(value) => best_in(wanted, value),
@@ -50,7 +50,7 @@ pub(crate) fn best_among(wanted: Wanted, values: &Values) -> Result<Value, Value
 }
 
 fn best_in(wanted: Wanted, value: &Value) -> Result<Value, ValueStop>
-    ensures { Tells result (best_among_at (is_before wanted) (and_val (val_of value.now) no_vals)) }
+    ensures { MeetsAnswer result (best_among_at (is_before wanted) (and_val (val_of value.now) no_vals)) }
 {
     match value {
         Value::List(values) => best(wanted, values.items()),
@@ -61,7 +61,7 @@ fn best_in(wanted: Wanted, value: &Value) -> Result<Value, ValueStop>
 
 // The best of one or more numbers.
 fn best(wanted: Wanted, values: &[Value]) -> Result<Value, ValueStop>
-    ensures { Tells result (best_at (is_before wanted) (vals_from (vals_in values.now))) }
+    ensures { MeetsAnswer result (best_at (is_before wanted) (vals_from (vals_in values.now))) }
 {
     match values {
         [first, rest @ ..] => best_from(wanted, first, rest),
@@ -70,7 +70,7 @@ fn best(wanted: Wanted, values: &[Value]) -> Result<Value, ValueStop>
 }
 
 fn best_from(wanted: Wanted, first: &Value, rest: &[Value]) -> Result<Value, ValueStop>
-    ensures { Tells result (best_at (is_before wanted)
+    ensures { MeetsAnswer result (best_at (is_before wanted)
         (and_val (val_of first.now) (vals_from (vals_in rest.now)))) }
 {
     match first {

@@ -1,6 +1,6 @@
 ghost use Rattle.std.specs.Prelude.{◌≡◌, IsTrue};
 ghost use Rattle.scad_value.specs.Values.{vals_from};
-ghost use Rattle.scad_value.specs.View.{val_of, vals_of, Tells, GivesBounded};
+ghost use Rattle.scad_value.specs.View.{val_of, vals_of, MeetsAnswer, GivesBounded};
 ghost use Rattle.scad_builtin.specs.Builtins.{takes as takes_so_many, applied, of_one as of_one_value, are_bounded};
 ghost use Rattle.scad_builtin.specs.Rows.{row_of};
 
@@ -49,14 +49,14 @@ impl Builtin {
     /// than the function takes is TypeMismatch.
     pub fn apply(self, alloc: Global, values: Values) -> Result<Value, ValueStop>
         requires { IsTrue (are_bounded (vals_of values)) }
-        ensures value { Tells result (applied self (vals_from (vals_of values))) }
+        ensures value { MeetsAnswer result (applied self (vals_from (vals_of values))) }
         ensures bounded { GivesBounded result }
     {
         self.value_of(alloc, values)
     }
 
     fn value_of(self, alloc: Global, values: Values) -> Result<Value, ValueStop>
-        ensures { Tells result (applied self (vals_from (vals_of values))) }
+        ensures { MeetsAnswer result (applied self (vals_from (vals_of values))) }
     {
         match self {
             Builtin::Min => best_among(Wanted::Least, &values),
@@ -68,7 +68,7 @@ impl Builtin {
     }
 
     fn of_only(self, values: &Values) -> Result<Value, ValueStop>
-        ensures { Tells result (of_one_value (row_of self) (vals_from (vals_of values.now))) }
+        ensures { MeetsAnswer result (of_one_value (row_of self) (vals_from (vals_of values.now))) }
     {
         match only(values.items()) {
             Some(value) => self.of_one(value),
@@ -77,7 +77,7 @@ impl Builtin {
     }
 
     fn of_one(self, value: &Value) -> Result<Value, ValueStop>
-        ensures { Tells result (row_of self (val_of value.now)) }
+        ensures { MeetsAnswer result (row_of self (val_of value.now)) }
     {
         match self {
             Builtin::Abs => of_number(NumberRow::Size, value),

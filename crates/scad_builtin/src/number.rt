@@ -1,7 +1,7 @@
 ghost use Rattle.std.specs.Prelude.{◌≡◌, ◌≤◌, ◌<ℤ◌, pos, negsuc, unsigned_abs};
 ghost use Rattle.scad_value.specs.Values.{vals_from};
 ghost use Rattle.scad_value.specs.Operators.{sized as sized_at};
-ghost use Rattle.scad_value.specs.View.{val_of, vals_of, Tells};
+ghost use Rattle.scad_value.specs.View.{val_of, vals_of, MeetsAnswer};
 ghost use Rattle.scad_builtin.specs.Builtins.{of_number as of_number_at, of_two, power as power_at, power_of as power_of_values, power_row as power_row_at};
 ghost use Rattle.scad_builtin.specs.Rows.{number_row};
 
@@ -40,7 +40,7 @@ pub(crate) fn count(n: u64) -> Result<i64, FaultKind>
 
 /// What is done with a number.
 pub(crate) fn of_number(row: NumberRow, value: &Value) -> Result<Value, ValueStop>
-    ensures { Tells result (of_number_at (number_row row) (val_of value.now)) }
+    ensures { MeetsAnswer result (of_number_at (number_row row) (val_of value.now)) }
 {
     match value {
         Value::Number(n) => Ok(Value::Number(row.of(*n)?)),
@@ -50,7 +50,7 @@ pub(crate) fn of_number(row: NumberRow, value: &Value) -> Result<Value, ValueSto
 
 /// The power of two numbers.
 pub(crate) fn power(values: &Values) -> Result<Value, ValueStop>
-    ensures { Tells result (of_two power_of_values (vals_from (vals_of values.now))) }
+    ensures { MeetsAnswer result (of_two power_of_values (vals_from (vals_of values.now))) }
 {
     match both(values.items()) {
         Some((base, exponent)) => power_of(base, exponent),
@@ -59,7 +59,7 @@ pub(crate) fn power(values: &Values) -> Result<Value, ValueStop>
 }
 
 fn power_of(base: &Value, exponent: &Value) -> Result<Value, ValueStop>
-    ensures { Tells result (power_of_values (val_of base.now) (val_of exponent.now)) }
+    ensures { MeetsAnswer result (power_of_values (val_of base.now) (val_of exponent.now)) }
 {
     match (base, exponent) {
         (Value::Number(b), Value::Number(e)) => Ok(Value::Number(power_row(*b, *e)?)),

@@ -11,7 +11,7 @@ ghost use Rattle.scad_eval.specs.Within.{body_seen, IsCallAt, AreValuesOf};
 
 use crate::evaluator::InstanceEvaluator;
 use scad_pieces::{NumberedBody, Position, count_children};
-use scad_scope::{Call, Module};
+use scad_scope::{Module, ModuleCall};
 use scad_value::Value;
 use text_place::{NoMemory, Place, Stop};
 
@@ -44,7 +44,7 @@ impl InstanceEvaluator<'_, '_> {
     {
         let caller = position.scope;
         let count = count_children(&mut self.evaluation, caller, body.block)?;
-        let call = Call {
+        let call = ModuleCall {
             children: body.block,
             caller,
         };

@@ -19,7 +19,7 @@ use scad_ast::{
 };
 use scad_lexer::{Reserved, Symbol, Token, TokenKind};
 use scad_tokens::{
-    Class, Level, Parsed, assigned, behind_comma, binary, boxed, bytes, closed, is_before,
+    Level, Parsed, TokenClass, assigned, behind_comma, binary, boxed, bytes, closed, is_before,
     is_comma_before, list_of, lone_atom, take, take_first, too_deep, unary_operator, with,
 };
 use std::alloc::Global;
@@ -37,7 +37,11 @@ pub fn expr<'a>(alloc: Global, tokens: &'a [Token], depth: u32) -> Parsed<'a, Ex
     ensures rest { IfOk result (λ p. length p.1.now ≤ length tokens.now) }
 {
     if depth == 0 {
-        return Err(too_deep(Class::Expression, Class::LeftOutOfExpressions, tokens));
+        return Err(too_deep(
+            TokenClass::Expression,
+            TokenClass::LeftOutOfExpressions,
+            tokens,
+        ));
     }
     if let Some((token, rest)) = lone_atom(tokens) {
         return atom(alloc, token, rest);
@@ -52,7 +56,7 @@ fn choice<'a>(alloc: Global, tokens: &'a [Token], depth: u32) -> Parsed<'a, Expr
     ensures value { Gives (λ p. (term_of p.0, p.1.now)) result (choice_read (expr_read depth) (operand_read depth) (primary_in depth) tokens.now) }
 {
     match chain(alloc, tokens, depth) {
-        Ok((test, rest)) if Class::Sign(Symbol::Question).begins(rest) => {
+        Ok((test, rest)) if TokenClass::Sign(Symbol::Question).begins(rest) => {
             chosen(alloc, test, rest, depth)
         }
         read => read,
@@ -86,7 +90,7 @@ fn sides<'a>(
 ) -> Parsed<'a, ((&'a Token, Expr), Expr)>
     ensures value { Gives (λ p. ((p.0.0.0.now, (term_of p.0.0.1, term_of p.0.1)), p.1.now)) result (both pair_of (one (is question_sign)) (both pair_of (expr_read depth) (both second_of (one (is colon_sign)) (expr_read depth))) tokens.now) }
 {
-    let (mark, rest) = take(Class::Sign(Symbol::Question), tokens)?;
+    let (mark, rest) = take(TokenClass::Sign(Symbol::Question), tokens)?;
     let (yes, rest) = expr(alloc, rest, depth)?;
     with((mark, yes), behind(alloc, Symbol::Colon, rest, depth))
 }
@@ -98,7 +102,7 @@ pub fn behind<'a>(alloc: Global, sign: Symbol, tokens: &'a [Token], depth: u32) 
     ensures value { Gives (λ p. (term_of p.0, p.1.now)) result (both second_of (one (is (symbol_class sign))) (expr_read depth) tokens.now) }
     ensures rest { IfOk result (λ p. length p.1.now ≤ length tokens.now) }
 {
-    let (_, rest) = take(Class::Sign(sign), tokens)?;
+    let (_, rest) = take(TokenClass::Sign(sign), tokens)?;
     expr(alloc, rest, depth)
 }
 
@@ -108,7 +112,7 @@ fn chain<'a>(alloc: Global, tokens: &'a [Token], depth: u32) -> Parsed<'a, Expr>
     ensures value { Gives (λ p. (term_of p.0, p.1.now)) result (chain_read levels (unary_in depth) tokens.now) }
 {
     match unary(alloc, tokens, depth) {
-        Ok((first, rest)) if Class::BinaryOperator.begins(rest) => {
+        Ok((first, rest)) if TokenClass::BinaryOperator.begins(rest) => {
             climbed(alloc, first, rest, depth)
         }
         read => read,
@@ -134,7 +138,7 @@ fn climbed<'a>(alloc: Global, first: Expr, tokens: &'a [Token], depth: u32) -> P
     ensures value { Gives (λ p. (term_of p.0, p.1.now)) result (climb_read levels (unary_in depth) (term_of first) tokens.now) }
 {
     match climb_below(alloc, first, tokens, depth, Level::Or) {
-        Ok((first, rest)) if Class::Operator(Level::Or).begins(rest) => {
+        Ok((first, rest)) if TokenClass::Operator(Level::Or).begins(rest) => {
             linked(alloc, first, rest, depth, Level::Or)
         }
         read => read,
@@ -158,7 +162,7 @@ fn climb_below<'a>(
     let mut rest = tokens;
     let mut at = Level::Product;
     'levels: while at.tighter_levels() < levels {
-        if Class::Operator(at).begins(rest) {
+        if TokenClass::Operator(at).begins(rest) {
             let (chained, after) = linked(alloc, first, rest, depth, at)?;
             first = chained;
             rest = after;
@@ -211,7 +215,7 @@ fn links<'a>(alloc: Global, tokens: &'a [Token], depth: u32, level: Level) -> Pa
 {
     let mut items = Vec::new(alloc);
     let mut rest = tokens;
-    'links: while Class::Operator(level).begins(rest) {
+    'links: while TokenClass::Operator(level).begins(rest) {
         let (item, after) = link(alloc, rest, depth, level)?;
         items.push(item)?;
         rest = after;
@@ -224,7 +228,7 @@ fn links<'a>(alloc: Global, tokens: &'a [Token], depth: u32, level: Level) -> Pa
 fn link<'a>(alloc: Global, tokens: &'a [Token], depth: u32, level: Level) -> Parsed<'a, Link>
     ensures value { Gives (λ p. (link_of p.0, p.1.now)) result (link_in level depth tokens.now) }
 {
-    let (operator, rest) = take(Class::Operator(level), tokens)?;
+    let (operator, rest) = take(TokenClass::Operator(level), tokens)?;
     let (right, rest) = side(alloc, rest, depth, level)?;
     let op = binary(&operator.kind);
     let place = operator.place;
@@ -236,7 +240,7 @@ fn link<'a>(alloc: Global, tokens: &'a [Token], depth: u32, level: Level) -> Par
 fn unary<'a>(alloc: Global, tokens: &'a [Token], depth: u32) -> Parsed<'a, Expr>
     ensures value { Gives (λ p. (term_of p.0, p.1.now)) result (unary_in depth tokens.now) }
 {
-    match Class::UnaryOperator.split_first(tokens) {
+    match TokenClass::UnaryOperator.split_first(tokens) {
         Some((operator, rest)) => signed(alloc, operator, rest, depth),
         None => postfix(alloc, tokens, depth),
     }
@@ -259,7 +263,11 @@ fn operand<'a>(alloc: Global, tokens: &'a [Token], depth: u32) -> Parsed<'a, Exp
     ensures value { Gives (λ p. (term_of p.0, p.1.now)) result (operand_read depth tokens.now) }
 {
     if depth == 0 {
-        return Err(too_deep(Class::Expression, Class::LeftOutOfExpressions, tokens));
+        return Err(too_deep(
+            TokenClass::Expression,
+            TokenClass::LeftOutOfExpressions,
+            tokens,
+        ));
     }
     if let Some((token, rest)) = lone_atom(tokens) {
         return atom(alloc, token, rest);
@@ -273,7 +281,7 @@ fn postfix<'a>(alloc: Global, tokens: &'a [Token], depth: u32) -> Parsed<'a, Exp
     ensures value { Gives (λ p. (term_of p.0, p.1.now)) result (postfix_read (expr_read depth) (primary_in depth) tokens.now) }
 {
     match primary(alloc, tokens, depth) {
-        Ok((of, rest)) if Class::Suffix.begins(rest) => suffixed(alloc, of, rest, depth),
+        Ok((of, rest)) if TokenClass::Suffix.begins(rest) => suffixed(alloc, of, rest, depth),
         read => read,
     }
 }
@@ -314,7 +322,7 @@ fn suffixes<'a>(alloc: Global, tokens: &'a [Token], depth: u32) -> Parsed<'a, Ve
 {
     let mut items = Vec::new(alloc);
     let mut rest = tokens;
-    'suffixes: while Class::Suffix.begins(rest) {
+    'suffixes: while TokenClass::Suffix.begins(rest) {
         let (item, after) = suffix(alloc, rest, depth)?;
         items.push(item)?;
         rest = after;
@@ -327,12 +335,12 @@ fn suffixes<'a>(alloc: Global, tokens: &'a [Token], depth: u32) -> Parsed<'a, Ve
 fn suffix<'a>(alloc: Global, tokens: &'a [Token], depth: u32) -> Parsed<'a, Suffix>
     ensures value { Gives (λ p. (suffix_of p.0, p.1.now)) result (suffix_read (expr_read depth) tokens.now) }
 {
-    if let Some((open, rest)) = Class::Sign(Symbol::OpenBracket).split_first(tokens) {
+    if let Some((open, rest)) = TokenClass::Sign(Symbol::OpenBracket).split_first(tokens) {
         let (index, rest) = closed(expr(alloc, rest, depth), Symbol::CloseBracket)?;
         return Ok((Suffix::Index(open.place, index), rest));
     }
-    let (dot, rest) = take(Class::Sign(Symbol::Dot), tokens)?;
-    let (name, rest) = take(Class::Name, rest)?;
+    let (dot, rest) = take(TokenClass::Sign(Symbol::Dot), tokens)?;
+    let (name, rest) = take(TokenClass::Name, rest)?;
     let bytes = bytes(alloc, &name.kind)?;
     Ok((Suffix::Member(dot.place, bytes, name.place), rest))
 }
@@ -342,11 +350,11 @@ fn suffix<'a>(alloc: Global, tokens: &'a [Token], depth: u32) -> Parsed<'a, Suff
 fn primary<'a>(alloc: Global, tokens: &'a [Token], depth: u32) -> Parsed<'a, Expr>
     ensures value { Gives (λ p. (term_of p.0, p.1.now)) result (primary_in depth tokens.now) }
 {
-    if let Some((token, rest)) = Class::Literal.split_first(tokens) {
+    if let Some((token, rest)) = TokenClass::Literal.split_first(tokens) {
         atom(alloc, token, rest)
-    } else if Class::Name.begins(tokens) {
+    } else if TokenClass::Name.begins(tokens) {
         named(alloc, tokens, depth)
-    } else if Class::Sign(Symbol::OpenParenthesis).begins(tokens) {
+    } else if TokenClass::Sign(Symbol::OpenParenthesis).begins(tokens) {
         paren(alloc, tokens, depth)
     } else {
         bracket(alloc, tokens, depth)
@@ -359,7 +367,7 @@ fn primary<'a>(alloc: Global, tokens: &'a [Token], depth: u32) -> Parsed<'a, Exp
 fn paren<'a>(alloc: Global, tokens: &'a [Token], depth: u32) -> Parsed<'a, Expr>
     ensures value { Gives (λ p. (term_of p.0, p.1.now)) result (paren_read (expr_read depth) tokens.now) }
 {
-    let (open, rest) = take(Class::Sign(Symbol::OpenParenthesis), tokens)?;
+    let (open, rest) = take(TokenClass::Sign(Symbol::OpenParenthesis), tokens)?;
     let (inner, rest) = boxed(
         alloc,
         closed(expr(alloc, rest, depth), Symbol::CloseParenthesis),
@@ -381,7 +389,7 @@ fn atom<'a>(alloc: Global, token: &Token, rest: &'a [Token]) -> Parsed<'a, Expr>
         TokenKind::Reserved(Reserved::True) => Expr::Truth(place, true),
         TokenKind::Reserved(Reserved::False) => Expr::Truth(place, false),
         TokenKind::Reserved(Reserved::Undef) => Expr::Undef(place),
-        kind if Class::Special.has(kind) => Expr::Special(place, bytes(alloc, kind)?),
+        kind if TokenClass::Special.has(kind) => Expr::Special(place, bytes(alloc, kind)?),
         _ => Expr::ChildCount(place),
     };
     Ok((atom, rest))
@@ -392,8 +400,8 @@ fn atom<'a>(alloc: Global, token: &Token, rest: &'a [Token]) -> Parsed<'a, Expr>
 fn named<'a>(alloc: Global, tokens: &'a [Token], depth: u32) -> Parsed<'a, Expr>
     ensures value { Gives (λ p. (term_of p.0, p.1.now)) result (name_read (arg_in depth (expr_read depth)) tokens.now) }
 {
-    let (name, rest) = take(Class::Name, tokens)?;
-    if Class::Sign(Symbol::OpenParenthesis).begins(rest) {
+    let (name, rest) = take(TokenClass::Name, tokens)?;
+    if TokenClass::Sign(Symbol::OpenParenthesis).begins(rest) {
         return called(alloc, name, rest, depth);
     }
     atom(alloc, name, rest)
@@ -417,7 +425,7 @@ fn called<'a>(alloc: Global, name: &Token, tokens: &'a [Token], depth: u32) -> P
 fn bracket<'a>(alloc: Global, tokens: &'a [Token], depth: u32) -> Parsed<'a, Expr>
     ensures value { Gives (λ p. (term_of p.0, p.1.now)) result (bracket_read (expr_read depth) tokens.now) }
 {
-    let (open, rest) = take_first(Class::Sign(Symbol::OpenBracket), tokens)?;
+    let (open, rest) = take_first(TokenClass::Sign(Symbol::OpenBracket), tokens)?;
     closed(inside(alloc, open, rest, depth), Symbol::CloseBracket)
 }
 
@@ -444,7 +452,7 @@ fn filled<'a>(
 ) -> Parsed<'a, Expr>
     ensures value { Gives (λ p. (term_of p.0, p.1.now)) result (mapped (filled_of bracket.now (term_of first)) (rest_read (expr_read depth)) tokens.now) }
 {
-    if !Class::Sign(Symbol::Colon).begins(tokens) {
+    if !TokenClass::Sign(Symbol::Colon).begins(tokens) {
         let more = is_comma_before(Symbol::CloseBracket, tokens);
         let items = list_of(alloc, first, if more { 3 } else { 1 })?;
         let (items, rest) = more_items(alloc, items, tokens, depth)?;
@@ -474,9 +482,9 @@ fn range<'a>(
     ensures value { Gives (λ p. (term_of p.0, p.1.now)) result (mapped (filled_of bracket.now (term_of from)) (range_read (expr_read depth)) tokens.now) }
 {
     let place = bracket.place;
-    let ((from, _), rest) = with(from, take(Class::Sign(Symbol::Colon), tokens))?;
+    let ((from, _), rest) = with(from, take(TokenClass::Sign(Symbol::Colon), tokens))?;
     let ((from, next), rest) = with(from, expr(alloc, rest, depth))?;
-    if !Class::Sign(Symbol::Colon).begins(rest) {
+    if !TokenClass::Sign(Symbol::Colon).begins(rest) {
         let range = Range { from, to: next };
         return Ok((Expr::Range(place, Box::new(alloc, range)?), rest));
     }
@@ -515,7 +523,7 @@ pub fn arguments<'a>(alloc: Global, tokens: &'a [Token], depth: u32) -> Parsed<'
     ensures value { Gives (λ p. (args_of p.0, p.1.now)) result (in_parentheses (args_read (arg_in depth (expr_read depth))) tokens.now) }
     ensures rest { IfOk result (λ p. length p.1.now ≤ length tokens.now) }
 {
-    let (_, rest) = take(Class::Sign(Symbol::OpenParenthesis), tokens)?;
+    let (_, rest) = take(TokenClass::Sign(Symbol::OpenParenthesis), tokens)?;
     closed(arg_list(alloc, rest, depth), Symbol::CloseParenthesis)
 }
 
@@ -559,9 +567,13 @@ fn arg<'a>(alloc: Global, tokens: &'a [Token], depth: u32) -> Parsed<'a, Arg>
     ensures value { Gives (λ p. (arg_of p.0, p.1.now)) result (arg_in depth (expr_read depth) tokens.now) }
 {
     if depth == 0 {
-        return Err(too_deep(Class::Expression, Class::LeftOutOfExpressions, tokens));
+        return Err(too_deep(
+            TokenClass::Expression,
+            TokenClass::LeftOutOfExpressions,
+            tokens,
+        ));
     }
-    let Some((name, rest)) = assigned(Class::ArgumentName, tokens) else {
+    let Some((name, rest)) = assigned(TokenClass::ArgumentName, tokens) else {
         let (value, rest) = expr(alloc, tokens, depth)?;
         return Ok((Arg::Positional(value), rest));
     };
@@ -576,7 +588,7 @@ fn given(name: &Token, bytes: CompactBytes, value: Expr) -> Arg
     requires { bytes ≡ bytes_of name.now.kind }
     ensures { arg_of result ≡ given_of name.now (term_of value) }
 {
-    if Class::Special.has(&name.kind) {
+    if TokenClass::Special.has(&name.kind) {
         Arg::Special(name.place, bytes, value)
     } else {
         Arg::Named(name.place, bytes, value)

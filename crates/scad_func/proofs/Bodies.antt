@@ -4,14 +4,14 @@ use Rattle.std.specs.List.{Contains}
 use Rattle.std.proofs.lemmas.List.{length-map}
 use Rattle.scad_ast.specs.Terms.{BodyTerm, EmptyBody, BlockBody, InstanceBody}
 use Rattle.scad_ast.specs.StatementView.{body_of}
-use Rattle.scad_blocks.specs.Blocks.{NumberedText, StandAt, marks_of_body}
+use Rattle.scad_blocks.specs.Blocks.{NumberedText, StandAt, beginnings_of_body}
 use Rattle.scad_blocks.specs.TextView.{module_of, block_of_module}
 use Rattle.scad_blocks.specs.Tables.{text_held}
 use Rattle.scad_blocks.specs.declared.blocks.Blocks.{Blocks}
 use Rattle.scad_blocks.specs.declared.text.Module.{Module as ModuleLent}
 use Rattle.scad_func.specs.Definitions.{IsBlockOf, IsWhole}
 
-body_there : (text : NumberedText) (n : ℕ) (b : BodyTerm) → StandAt text n (marks_of_body b) → IsBlockOf text n b
+body_there : (text : NumberedText) (n : ℕ) (b : BodyTerm) → StandAt text n (beginnings_of_body b) → IsBlockOf text n b
 body_there text n (EmptyBody at) h = h.1
 body_there text n (BlockBody at inner) h = h.1
 body_there text n (InstanceBody instance) h = h.1
@@ -31,4 +31,4 @@ module_block blocks m whole h =
     let same = sym (mapped module_of ms h.0 m (module_of m) h.1 ∙ ap module_of h.2) in
     let number = mapped block_of_module ms h.0 m 0 h.1 ∙ ap block_of_module h.2 in
     body_there t m.block (body_of m.body.now)
-    (subst (λ (n : ℕ). StandAt t n (marks_of_body (body_of m.body.now))) number (whole.order.bodies h.0 (module_of m) there same))
+    (subst (λ (n : ℕ). StandAt t n (beginnings_of_body (body_of m.body.now))) number (whole.order.bodies h.0 (module_of m) there same))

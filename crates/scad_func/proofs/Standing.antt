@@ -3,7 +3,7 @@ use Rattle.std.proofs.Common.{◌≡◌, ℕ, zero, suc, ◌+◌, ◌<◌, List,
 use Rattle.std.proofs.lemmas.List.{reverse-append}
 use Rattle.scad_ast.specs.Terms.{StatementTerm, EmptyStatement, BlockStatement, AssignmentTerm, SpecialAssignmentTerm, ModuleTerm, FunctionTerm, InstanceStatement, StatementTerms, no_statements, and_statement, InstanceTerm, AnInstance, CoreTerm, IfTerm, IfElseTerm, ForTerm, IntersectionForTerm, ModuleCallTerm, BodyTerm, EmptyBody, BlockBody, InstanceBody, statements_from}
 use Rattle.scad_scope.specs.Names.{Pairs}
-use Rattle.scad_blocks.specs.Blocks.{Function, Module, Mark, a_block, a_function, a_module, marks_of, marks_in, marks_of_instance, marks_of_core, marks_of_body, marks_of_program, functions_among, modules_among, count_functions, count_modules, own_functions, own_function, own_modules, own_module, Entry, nothing_there, entries_from, numbered_text, NumberedText, assignments_of, count_blocks, StandsInOrder}
+use Rattle.scad_blocks.specs.Blocks.{Function, Module, Beginning, a_block, a_function, a_module, beginnings_of, beginnings_in, beginnings_of_instance, beginnings_of_core, beginnings_of_body, beginnings_of_program, functions_among, modules_among, count_functions, count_modules, own_functions, own_function, own_modules, own_module, Entry, nothing_there, entries_from, numbered_text, NumberedText, assignments_of, count_blocks, StandsInOrder}
 use Rattle.scad_func.specs.Meaning.{Env, Within, Opened, functions_standing_in, function_standing, modules_standing_in, module_standing, entered_scope}
 use Rattle.scad_func.specs.Definitions.{numbered, named, resolved, statements_at, block_scope, IsWhole}
 
@@ -34,13 +34,13 @@ number_behind [] x after n h = ap (numbered (x ∷ after)) h
 number_behind (b ∷ before) x after zero h = absurd (omega arith)
 number_behind (b ∷ before) x after (suc n) h = number_behind before x after n (omega arith)
 
-functions_joined : (xs ys : List Mark) → functions_among (xs ++ ys) ≡ functions_among xs ++ functions_among ys
+functions_joined : (xs ys : List Beginning) → functions_among (xs ++ ys) ≡ functions_among xs ++ functions_among ys
 functions_joined [] ys = refl
 functions_joined (a_block s ∷ xs) ys = functions_joined xs ys
 functions_joined (a_function f ∷ xs) ys = ap (λ l. f ∷ l) (functions_joined xs ys)
 functions_joined (a_module m ∷ xs) ys = functions_joined xs ys
 
-modules_joined : (xs ys : List Mark) → modules_among (xs ++ ys) ≡ modules_among xs ++ modules_among ys
+modules_joined : (xs ys : List Beginning) → modules_among (xs ++ ys) ≡ modules_among xs ++ modules_among ys
 modules_joined [] ys = refl
 modules_joined (a_block s ∷ xs) ys = modules_joined xs ys
 modules_joined (a_function f ∷ xs) ys = modules_joined xs ys
@@ -74,16 +74,16 @@ stands_by all n xs ys e s = subst (λ l. Stands all n l) e s
 
 -- the own functions of statements
 mutual
-  functions_in : (all : List Function) (n : ℕ) (ss : StatementTerms) → Stands all n (functions_among (marks_in ss))
+  functions_in : (all : List Function) (n : ℕ) (ss : StatementTerms) → Stands all n (functions_among (beginnings_in ss))
       → resolved all (reverse (own_functions n ss)) ≡ functions_standing_in ss
   functions_in all n no_statements s = refl
   functions_in all n (and_statement x rest) s =
-      let t = stands_by all n _ _ (functions_joined (marks_of x) (marks_in rest)) s in
-      turned_joined all (own_function n x) (own_functions (n + count_functions (marks_of x)) rest) (function_standing x) (functions_standing_in rest)
+      let t = stands_by all n _ _ (functions_joined (beginnings_of x) (beginnings_in rest)) s in
+      turned_joined all (own_function n x) (own_functions (n + count_functions (beginnings_of x)) rest) (function_standing x) (functions_standing_in rest)
       (functions_of all n x (stands_first all n _ _ t))
-      (functions_in all (n + count_functions (marks_of x)) rest (stands_next all n _ _ t))
+      (functions_in all (n + count_functions (beginnings_of x)) rest (stands_next all n _ _ t))
 
-  functions_of : (all : List Function) (n : ℕ) (x : StatementTerm) → Stands all n (functions_among (marks_of x))
+  functions_of : (all : List Function) (n : ℕ) (x : StatementTerm) → Stands all n (functions_among (beginnings_of x))
       → resolved all (reverse (own_function n x)) ≡ function_standing x
   functions_of all n (EmptyStatement at) s = refl
   functions_of all n (BlockStatement at statements) s = functions_in all n statements s
@@ -97,16 +97,16 @@ mutual
 
 -- the own modules of statements
 mutual
-  modules_in : (all : List Module) (n : ℕ) (ss : StatementTerms) → Stands all n (modules_among (marks_in ss))
+  modules_in : (all : List Module) (n : ℕ) (ss : StatementTerms) → Stands all n (modules_among (beginnings_in ss))
       → resolved all (reverse (own_modules n ss)) ≡ modules_standing_in ss
   modules_in all n no_statements s = refl
   modules_in all n (and_statement x rest) s =
-      let t = stands_by all n _ _ (modules_joined (marks_of x) (marks_in rest)) s in
-      turned_joined all (own_module n x) (own_modules (n + count_modules (marks_of x)) rest) (module_standing x) (modules_standing_in rest)
+      let t = stands_by all n _ _ (modules_joined (beginnings_of x) (beginnings_in rest)) s in
+      turned_joined all (own_module n x) (own_modules (n + count_modules (beginnings_of x)) rest) (module_standing x) (modules_standing_in rest)
       (modules_of all n x (stands_first all n _ _ t))
-      (modules_in all (n + count_modules (marks_of x)) rest (stands_next all n _ _ t))
+      (modules_in all (n + count_modules (beginnings_of x)) rest (stands_next all n _ _ t))
 
-  modules_of : (all : List Module) (n : ℕ) (x : StatementTerm) → Stands all n (modules_among (marks_of x))
+  modules_of : (all : List Module) (n : ℕ) (x : StatementTerm) → Stands all n (modules_among (beginnings_of x))
       → resolved all (reverse (own_module n x)) ≡ module_standing x
   modules_of all n (EmptyStatement at) s = refl
   modules_of all n (BlockStatement at statements) s = modules_in all n statements s
@@ -114,7 +114,7 @@ mutual
   modules_of all n (SpecialAssignmentTerm at name value) s = refl
   modules_of all n (ModuleTerm at name name_at params body) s =
       ap (λ o. named name o []) (ap (λ l. numbered l n) s.whole
-      ∙ number_behind s.before (record { params = params; body = body }) (modules_among (marks_of_body body) ++ s.behind) n s.count)
+      ∙ number_behind s.before (record { params = params; body = body }) (modules_among (beginnings_of_body body) ++ s.behind) n s.count)
   modules_of all n (FunctionTerm at name name_at params value) s = refl
   modules_of all n (InstanceStatement instance) s = refl
 
@@ -128,86 +128,86 @@ module _ (fs : List Function) (ms : List Module) where
   Goods [] = Unit {0}
   Goods (e ∷ es) = Good e × Goods es
 
-  abbrev Go : ℕ → ℕ → List Mark → Type 0
+  abbrev Go : ℕ → ℕ → List Beginning → Type 0
   Go f m xs = (b : ℕ) → Goods (entries_from b f m xs)
 
-  abbrev Both : ℕ → ℕ → List Mark → Type 0
+  abbrev Both : ℕ → ℕ → List Beginning → Type 0
   Both f m xs = Stands fs f (functions_among xs) × Stands ms m (modules_among xs)
 
-  both_first : (f m : ℕ) (xs ys : List Mark) → Both f m (xs ++ ys) → Both f m xs
+  both_first : (f m : ℕ) (xs ys : List Beginning) → Both f m (xs ++ ys) → Both f m xs
   both_first f m xs ys s = (
     stands_first fs f _ _ (stands_by fs f _ _ (functions_joined xs ys) s.0),
     stands_first ms m _ _ (stands_by ms m _ _ (modules_joined xs ys) s.1),
   )
 
-  both_next : (f m : ℕ) (xs ys : List Mark) → Both f m (xs ++ ys) → Both (f + count_functions xs) (m + count_modules xs) ys
+  both_next : (f m : ℕ) (xs ys : List Beginning) → Both f m (xs ++ ys) → Both (f + count_functions xs) (m + count_modules xs) ys
   both_next f m xs ys s = (
     stands_next fs f _ _ (stands_by fs f _ _ (functions_joined xs ys) s.0),
     stands_next ms m _ _ (stands_by ms m _ _ (modules_joined xs ys) s.1),
   )
 
-  go_by : (f g m k : ℕ) (xs : List Mark) → f ≡ g → m ≡ k → Go f m xs → Go g k xs
+  go_by : (f g m k : ℕ) (xs : List Beginning) → f ≡ g → m ≡ k → Go f m xs → Go g k xs
   go_by f g m k xs e h go = λ b. subst (λ n. Goods (entries_from b n k xs)) e (subst (λ n. Goods (entries_from b f n xs)) h (go b))
 
-  counted_functions : (f : ℕ) (xs ys : List Mark) → f + count_functions (xs ++ ys) ≡ (f + count_functions xs) + count_functions ys
+  counted_functions : (f : ℕ) (xs ys : List Beginning) → f + count_functions (xs ++ ys) ≡ (f + count_functions xs) + count_functions ys
   counted_functions f xs ys = omega (arith, ap length (functions_joined xs ys), length-append (functions_among xs) (functions_among ys))
 
-  counted_modules : (m : ℕ) (xs ys : List Mark) → m + count_modules (xs ++ ys) ≡ (m + count_modules xs) + count_modules ys
+  counted_modules : (m : ℕ) (xs ys : List Beginning) → m + count_modules (xs ++ ys) ≡ (m + count_modules xs) + count_modules ys
   counted_modules m xs ys = omega (arith, ap length (modules_joined xs ys), length-append (modules_among xs) (modules_among ys))
 
-  no_marks : (f m : ℕ) (rest : List Mark) → Go (f + 0) (m + 0) rest → Go f m rest
-  no_marks f m rest go = go_by (f + 0) f (m + 0) m rest (omega arith) (omega arith) go
+  no_beginnings : (f m : ℕ) (rest : List Beginning) → Go (f + 0) (m + 0) rest → Go f m rest
+  no_beginnings f m rest go = go_by (f + 0) f (m + 0) m rest (omega arith) (omega arith) go
 
   -- two texts, one behind the other
-  go_two : (f m : ℕ) (xs ys rest : List Mark) → (Go (f + count_functions xs) (m + count_modules xs) (ys ++ rest) → Go f m (xs ++ (ys ++ rest)))
+  go_two : (f m : ℕ) (xs ys rest : List Beginning) → (Go (f + count_functions xs) (m + count_modules xs) (ys ++ rest) → Go f m (xs ++ (ys ++ rest)))
       → (Go ((f + count_functions xs) + count_functions ys) ((m + count_modules xs) + count_modules ys) rest
       → Go (f + count_functions xs) (m + count_modules xs) (ys ++ rest))
       → Go (f + count_functions (xs ++ ys)) (m + count_modules (xs ++ ys)) rest → Go f m ((xs ++ ys) ++ rest)
   go_two f m xs ys rest one two go = λ b. subst (λ l. Goods (entries_from b f m l)) (sym (append_assoc xs ys rest))
       (one (two (go_by _ _ _ _ rest (counted_functions f xs ys) (counted_modules m xs ys) go)) b)
 
-  empty_good : (f m : ℕ) (rest : List Mark) → Go f m rest → Go f m (a_block no_statements ∷ rest)
+  empty_good : (f m : ℕ) (rest : List Beginning) → Go f m rest → Go f m (a_block no_statements ∷ rest)
   empty_good f m rest go = λ b. (record { functions = refl; modules = refl }, go (b + 1))
 
   mutual
-    goods_in : (f m : ℕ) (ss : StatementTerms) (rest : List Mark) → Both f m (marks_in ss)
-        → Go (f + count_functions (marks_in ss)) (m + count_modules (marks_in ss)) rest → Go f m (marks_in ss ++ rest)
-    goods_in f m no_statements rest s go = no_marks f m rest go
-    goods_in f m (and_statement x more) rest s go = go_two f m (marks_of x) (marks_in more) rest
-        (goods_of f m x (marks_in more ++ rest) (both_first f m (marks_of x) (marks_in more) s))
-        (goods_in (f + count_functions (marks_of x)) (m + count_modules (marks_of x)) more rest (both_next f m (marks_of x) (marks_in more) s)) go
+    goods_in : (f m : ℕ) (ss : StatementTerms) (rest : List Beginning) → Both f m (beginnings_in ss)
+        → Go (f + count_functions (beginnings_in ss)) (m + count_modules (beginnings_in ss)) rest → Go f m (beginnings_in ss ++ rest)
+    goods_in f m no_statements rest s go = no_beginnings f m rest go
+    goods_in f m (and_statement x more) rest s go = go_two f m (beginnings_of x) (beginnings_in more) rest
+        (goods_of f m x (beginnings_in more ++ rest) (both_first f m (beginnings_of x) (beginnings_in more) s))
+        (goods_in (f + count_functions (beginnings_of x)) (m + count_modules (beginnings_of x)) more rest (both_next f m (beginnings_of x) (beginnings_in more) s)) go
 
-    goods_of : (f m : ℕ) (x : StatementTerm) (rest : List Mark) → Both f m (marks_of x)
-        → Go (f + count_functions (marks_of x)) (m + count_modules (marks_of x)) rest → Go f m (marks_of x ++ rest)
-    goods_of f m (EmptyStatement at) rest s go = no_marks f m rest go
+    goods_of : (f m : ℕ) (x : StatementTerm) (rest : List Beginning) → Both f m (beginnings_of x)
+        → Go (f + count_functions (beginnings_of x)) (m + count_modules (beginnings_of x)) rest → Go f m (beginnings_of x ++ rest)
+    goods_of f m (EmptyStatement at) rest s go = no_beginnings f m rest go
     goods_of f m (BlockStatement at statements) rest s go = goods_in f m statements rest s go
-    goods_of f m (AssignmentTerm at name value) rest s go = no_marks f m rest go
-    goods_of f m (SpecialAssignmentTerm at name value) rest s go = no_marks f m rest go
+    goods_of f m (AssignmentTerm at name value) rest s go = no_beginnings f m rest go
+    goods_of f m (SpecialAssignmentTerm at name value) rest s go = no_beginnings f m rest go
     goods_of f m (ModuleTerm at name name_at params body) rest s go =
-        goods_body f (m + 1) body rest (s.0, stands_next ms m (record { params = params; body = body } ∷ []) (modules_among (marks_of_body body)) s.1)
+        goods_body f (m + 1) body rest (s.0, stands_next ms m (record { params = params; body = body } ∷ []) (modules_among (beginnings_of_body body)) s.1)
         (go_by _ _ _ _ rest refl (omega arith) go)
     goods_of f m (FunctionTerm at name name_at params value) rest s go =
         empty_good (f + 1) m rest (go_by _ _ _ _ rest refl (omega arith) go)
     goods_of f m (InstanceStatement instance) rest s go = goods_instance f m instance rest s go
 
-    goods_instance : (f m : ℕ) (i : InstanceTerm) (rest : List Mark) → Both f m (marks_of_instance i)
-        → Go (f + count_functions (marks_of_instance i)) (m + count_modules (marks_of_instance i)) rest → Go f m (marks_of_instance i ++ rest)
-    goods_instance f m (AnInstance at marks core) rest s go = goods_core f m core rest s go
+    goods_instance : (f m : ℕ) (i : InstanceTerm) (rest : List Beginning) → Both f m (beginnings_of_instance i)
+        → Go (f + count_functions (beginnings_of_instance i)) (m + count_modules (beginnings_of_instance i)) rest → Go f m (beginnings_of_instance i ++ rest)
+    goods_instance f m (AnInstance at beginnings core) rest s go = goods_core f m core rest s go
 
-    goods_core : (f m : ℕ) (c : CoreTerm) (rest : List Mark) → Both f m (marks_of_core c)
-        → Go (f + count_functions (marks_of_core c)) (m + count_modules (marks_of_core c)) rest → Go f m (marks_of_core c ++ rest)
+    goods_core : (f m : ℕ) (c : CoreTerm) (rest : List Beginning) → Both f m (beginnings_of_core c)
+        → Go (f + count_functions (beginnings_of_core c)) (m + count_modules (beginnings_of_core c)) rest → Go f m (beginnings_of_core c ++ rest)
     goods_core f m (IfTerm at test body) rest s go = goods_body f m body rest s go
-    goods_core f m (IfElseTerm at test body other) rest s go = go_two f m (marks_of_body body) (marks_of_body other) rest
-        (goods_body f m body (marks_of_body other ++ rest) (both_first f m (marks_of_body body) (marks_of_body other) s))
-        (goods_body (f + count_functions (marks_of_body body)) (m + count_modules (marks_of_body body)) other rest
-        (both_next f m (marks_of_body body) (marks_of_body other) s)) go
+    goods_core f m (IfElseTerm at test body other) rest s go = go_two f m (beginnings_of_body body) (beginnings_of_body other) rest
+        (goods_body f m body (beginnings_of_body other ++ rest) (both_first f m (beginnings_of_body body) (beginnings_of_body other) s))
+        (goods_body (f + count_functions (beginnings_of_body body)) (m + count_modules (beginnings_of_body body)) other rest
+        (both_next f m (beginnings_of_body body) (beginnings_of_body other) s)) go
     goods_core f m (ForTerm at binders body) rest s go = goods_body f m body rest s go
     goods_core f m (IntersectionForTerm at binders body) rest s go = goods_body f m body rest s go
     goods_core f m (ModuleCallTerm at name args body) rest s go = goods_body f m body rest s go
 
-    goods_body : (f m : ℕ) (b : BodyTerm) (rest : List Mark) → Both f m (marks_of_body b)
-        → Go (f + count_functions (marks_of_body b)) (m + count_modules (marks_of_body b)) rest → Go f m (marks_of_body b ++ rest)
-    goods_body f m (EmptyBody at) rest s go = empty_good f m rest (no_marks f m rest go)
+    goods_body : (f m : ℕ) (b : BodyTerm) (rest : List Beginning) → Both f m (beginnings_of_body b)
+        → Go (f + count_functions (beginnings_of_body b)) (m + count_modules (beginnings_of_body b)) rest → Go f m (beginnings_of_body b ++ rest)
+    goods_body f m (EmptyBody at) rest s go = empty_good f m rest (no_beginnings f m rest go)
     goods_body f m (BlockBody at statements) rest s go = λ b. (
       record { functions = functions_in fs f statements s.0; modules = modules_in ms m statements s.1 },
       goods_in f m statements rest s go (b + 1),
@@ -231,18 +231,18 @@ pub standing : (program : List StatementTerm) (number : ℕ) (call : Opened) (ou
     ≡ entered_scope (statements_at (numbered_text program) number) call outer
 standing program number call outer =
     let ss = statements_from program in
-    let fs = functions_among (marks_in ss) in
-    let ms = modules_among (marks_in ss) in
+    let fs = functions_among (beginnings_in ss) in
+    let ms = modules_among (beginnings_in ss) in
     let rest = goods_in fs ms 0 0 ss [] (all_stands fs, all_stands ms) (λ b. tt) 1 in
-    let whole = subst (λ l. Goods fs ms (entries_from 1 0 0 l)) (right_nil (marks_in ss)) rest in
-    let good = good_at fs ms (entries_from 0 0 0 (marks_of_program program)) number
+    let whole = subst (λ l. Goods fs ms (entries_from 1 0 0 l)) (right_nil (beginnings_in ss)) rest in
+    let good = good_at fs ms (entries_from 0 0 0 (beginnings_of_program program)) number
     (record { functions = functions_in fs 0 ss (all_stands fs); modules = modules_in ms 0 ss (all_stands ms) }, whole) in
-    let e : Entry = get_or (entries_from 0 0 0 (marks_of_program program)) number nothing_there in
+    let e : Entry = get_or (entries_from 0 0 0 (beginnings_of_program program)) number nothing_there in
     ap (λ l. Within [] l (resolved ms (reverse e.own.modules)) call outer) good.functions
     ∙ ap (λ l. Within [] (functions_standing_in e.statements) l call outer) good.modules
 
 -- the assignments of each block, and where it ends
-assigned_there : (n f m : ℕ) (xs : List Mark) (k : ℕ)
+assigned_there : (n f m : ℕ) (xs : List Beginning) (k : ℕ)
     → (get_or (entries_from n f m xs) k nothing_there).own.assignments ≡ assignments_of (get_or (entries_from n f m xs) k nothing_there).statements
 assigned_there n f m [] k = refl
 assigned_there n f m (a_block s ∷ xs) zero = refl
@@ -250,9 +250,9 @@ assigned_there n f m (a_block s ∷ xs) (suc k) = assigned_there (n + 1) f m xs 
 assigned_there n f m (a_function g ∷ xs) k = assigned_there n (f + 1) m xs k
 assigned_there n f m (a_module d ∷ xs) k = assigned_there n f (m + 1) xs k
 
-ends_there : (n f m : ℕ) (xs : List Mark) (k : ℕ) → k < length (entries_from n f m xs)
+ends_there : (n f m : ℕ) (xs : List Beginning) (k : ℕ) → k < length (entries_from n f m xs)
     → (get_or (entries_from n f m xs) k nothing_there).behind
-    ≡ n + k + 1 + count_blocks (marks_in (get_or (entries_from n f m xs) k nothing_there).statements)
+    ≡ n + k + 1 + count_blocks (beginnings_in (get_or (entries_from n f m xs) k nothing_there).statements)
 ends_there n f m [] k h = absurd (omega (arith, h))
 ends_there n f m (a_block s ∷ xs) zero h = omega arith
 ends_there n f m (a_block s ∷ xs) (suc k) h = ends_there (n + 1) f m xs k (omega (arith, h)) ∙ omega arith
@@ -263,7 +263,7 @@ ends_there n f m (a_module d ∷ xs) k h = ends_there n f (m + 1) xs k h
 pub whole_text : (text : NumberedText) (program : List StatementTerm) → text ≡ numbered_text program → StandsInOrder text → IsWhole text
 whole_text text program e order = subst IsWhole (sym e) (record {
   scopes = standing program;
-  assignments = assigned_there 0 0 0 (marks_of_program program);
-  behind = λ number h. ends_there 0 0 0 (marks_of_program program) number h ∙ omega arith;
+  assignments = assigned_there 0 0 0 (beginnings_of_program program);
+  behind = λ number h. ends_there 0 0 0 (beginnings_of_program program) number h ∙ omega arith;
   order = subst StandsInOrder e order;
 })

@@ -18,7 +18,7 @@ use crate::bind::{bind_all, bind_one};
 use crate::evaluation::Evaluation;
 use crate::functions::find_module;
 use scad_ast::Params;
-use scad_scope::{Assignment, Call, Module, SpecialArgument};
+use scad_scope::{Assignment, Module, ModuleCall, SpecialArgument};
 use scad_value::Value;
 use text_place::{NoMemory, Stop};
 
@@ -78,7 +78,7 @@ impl<'a> Evaluation<'a, '_> {
 
     /// A new scope of a module's body, as the scope of a call with its children's block and its caller's
     /// scope, inside the scope of the definition, and its number. `NoMemory` leaves all as it was.
-    pub fn enter_call(&mut self, home: u32, block: u32, call: Call) -> Result<u32, NoMemory>
+    pub fn enter_call(&mut self, home: u32, block: u32, call: ModuleCall) -> Result<u32, NoMemory>
         requires home { home < scopes_there self.old }
         requires caller { call.caller < scopes_there self.old }
         ensures entered { IfOk result (ScopeEnters self.old self.new) }
@@ -199,7 +199,7 @@ impl<'a> Evaluation<'a, '_> {
 
     /// The innermost call of a module whose scope a scope is or stands in, with the block of its children
     /// and the scope of its caller.
-    pub fn enclosing_call(&self, scope: u32) -> Option<Call>
+    pub fn enclosing_call(&self, scope: u32) -> Option<ModuleCall>
         requires { scope < scopes_there self.now }
         ensures value { IsCallFound (source_text self.now.source.now) (rows_of self.now.scopes.now) (call_in (seen self.now.source.now (rows_of self.now.scopes.now) scope)) result }
         ensures there { IfSome result (λ call. call.caller < scopes_there self.now) }

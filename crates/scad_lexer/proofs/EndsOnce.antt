@@ -7,13 +7,13 @@ use Rattle.scad_lexer.specs.declared.token.Token.{Token as TokenIn}
 use Rattle.scad_lexer.specs.declared.token.Reserved.{Reserved}
 use Rattle.scad_lexer.specs.declared.word.Word.{Word}
 use Rattle.scad_lexer.specs.declared.word.Word.TheVariants.{Blank as BlankWord, OpenComment, Name, Special, Numeral, NumeralAndLetter, Text, OpenText, Symbol}
-use Rattle.scad_lexer.specs.declared.meaning.Meaning.{Meaning}
-use Rattle.scad_lexer.specs.declared.meaning.Meaning.TheVariants.{Blank, Token, Fault}
+use Rattle.scad_lexer.specs.declared.meaning.WordMeaning.{WordMeaning}
+use Rattle.scad_lexer.specs.declared.meaning.WordMeaning.TheVariants.{Blank, Token, Fault}
 use Rattle.scad_lexer.specs.Words.{digit, run_of}
-use Rattle.scad_lexer.specs.Tokens.{Outcome, Gives, Faults, in_front, tokens_at, IsEnd, IsStray, IsFaulty, Piece, Reads, LexesFrom, meaning_of, name_or, reserved_of, zero_fraction, bounded, number_from, numeral_of, or_letter, text_from, decoded, inside, moved, is_end, ends_once}
+use Rattle.scad_lexer.specs.Tokens.{LexOutcome, Gives, Faults, in_front, tokens_at, IsEnd, IsStray, IsFaulty, Piece, Reads, LexesFrom, meaning_of, name_or, reserved_of, zero_fraction, bounded, number_from, numeral_of, or_letter, text_from, decoded, inside, moved, is_end, ends_once}
 
 -- what a word stands for is no end
-abbrev IsPlain : Meaning → Type 0
+abbrev IsPlain : WordMeaning → Type 0
 IsPlain (Token k) = is_end k ≡ false
 IsPlain Blank = Unit {0}
 IsPlain (Fault k n) = Unit {0}
@@ -22,7 +22,7 @@ plain_name : (w : List ℕ) (r : Option Reserved) → is_end (name_or w r) ≡ f
 plain_name w None = refl
 plain_name w (Some r) = refl
 
-plain_cond : (b : Bool) (m n : Meaning) → IsPlain m → IsPlain n → IsPlain (cond b m n)
+plain_cond : (b : Bool) (m n : WordMeaning) → IsPlain m → IsPlain n → IsPlain (cond b m n)
 plain_cond true m n h k = h
 plain_cond false m n h k = k
 
@@ -31,7 +31,7 @@ plain_numeral w =
     plain_cond (zero_fraction (drop (run_of digit w) w)) (bounded (number_from 0 (take (run_of digit w) w))) _
     (plain_cond (nat_lt (number_from 0 (take (run_of digit w) w)) (2 ^ 53)) _ _ refl tt) tt
 
-plain_letter : (m : Meaning) (at : ℕ) → IsPlain (or_letter m at)
+plain_letter : (m : WordMeaning) (at : ℕ) → IsPlain (or_letter m at)
 plain_letter (Token k) at = tt
 plain_letter Blank at = tt
 plain_letter (Fault k n) at = tt
@@ -52,7 +52,7 @@ plain OpenText bytes = tt
 plain (Symbol s) bytes = refl
 
 -- the tokens, where there are some, end once
-abbrev pub EndsOnce : Outcome → Type 0
+abbrev pub EndsOnce : LexOutcome → Type 0
 EndsOnce (Gives ts) = ends_once ts ≡ true
 EndsOnce (Faults k p) = Unit {0}
 
@@ -60,18 +60,18 @@ more : (t : TokenIn) (ts : List TokenIn) → is_end t.kind ≡ false → ends_on
 more t [] h e = absurd (cc)
 more t (u ∷ ts) h e = ap (λ b. not b && ends_once (u ∷ ts)) h ∙ e
 
-more_tokens : (p : Place) (m : Meaning) (rest : Outcome) → IsPlain m → EndsOnce rest → EndsOnce (in_front (tokens_at p m) rest)
+more_tokens : (p : Place) (m : WordMeaning) (rest : LexOutcome) → IsPlain m → EndsOnce rest → EndsOnce (in_front (tokens_at p m) rest)
 more_tokens p (Token k) (Gives us) h e = more (record { kind = k; place = p }) us h e
 more_tokens p Blank (Gives us) h e = e
 more_tokens p (Fault k n) (Gives us) h e = e
 more_tokens p m (Faults k q) h e = tt
 
-last : (p : Place) (text : List ℕ) (o : Outcome) → (IsEnd p text o ⊎ (IsStray p text o ⊎ IsFaulty p text o)) → EndsOnce o
+last : (p : Place) (text : List ℕ) (o : LexOutcome) → (IsEnd p text o ⊎ (IsStray p text o ⊎ IsFaulty p text o)) → EndsOnce o
 last p text o (inl a) = subst EndsOnce (sym a.1) refl
 last p text o (inr (inl a)) = subst EndsOnce (sym a.2) tt
 last p text o (inr (inr a)) = subst EndsOnce (sym a.outcome) tt
 
-pub reads_end : (pieces : List Piece) (p : Place) (text : List ℕ) (o : Outcome) → Reads pieces p text o → EndsOnce o
+pub reads_end : (pieces : List Piece) (p : Place) (text : List ℕ) (o : LexOutcome) → Reads pieces p text o → EndsOnce o
 reads_end [] p text o h = last p text o h
 reads_end (x ∷ xs) p text o h = subst EndsOnce (sym h.2.2) (more_tokens p (meaning_of x.word (take x.bytes text)) h.2.0 (plain x.word (take x.bytes text)) (reads_end xs (moved p (take x.bytes text)) (drop x.bytes text) h.2.0 h.2.1))
 

@@ -6,22 +6,22 @@ use Rattle.text_place.specs.declared.fault.Place.{Place}
 use Rattle.text_place.specs.declared.fault.Stop.{Stop}
 use Rattle.text_place.specs.declared.fault.Stop.TheVariants.{Fault as StopFault, NoMemory}
 use Rattle.scad_lexer.specs.declared.token.Token.{Token as TokenIn}
-use Rattle.scad_lexer.specs.declared.class.Class.TheVariants.{Printable}
+use Rattle.scad_lexer.specs.declared.class.ByteClass.TheVariants.{Printable}
 use Rattle.scad_lexer.specs.declared.word.Word.{Word}
 use Rattle.scad_lexer.specs.declared.word.Word.TheVariants.{Blank as BlankWord, OpenComment, Name, Special, Numeral, NumeralAndLetter, Text, OpenText, Symbol}
-use Rattle.scad_lexer.specs.declared.meaning.Meaning.{Meaning}
-use Rattle.scad_lexer.specs.declared.meaning.Meaning.TheVariants.{Blank, Token, Fault}
+use Rattle.scad_lexer.specs.declared.meaning.WordMeaning.{WordMeaning}
+use Rattle.scad_lexer.specs.declared.meaning.WordMeaning.TheVariants.{Blank, Token, Fault}
 use Rattle.scad_lexer.specs.Words.{has, digit, run_of}
-use Rattle.scad_lexer.specs.Tokens.{zero_fraction, number_from, bounded, numeral_of, or_letter, escape_at, with_byte, with_escape, decoded, decoded_escape, inside, text_from, meaning_of, moved, Outcome, Gives, Faults, in_front, tokens_at, IsEnd, IsStray, IsFaulty, Piece, Reads, IsFault, IsPlaceOfByteFrom, StandsAtByte}
+use Rattle.scad_lexer.specs.Tokens.{zero_fraction, number_from, bounded, numeral_of, or_letter, escape_at, with_byte, with_escape, decoded, decoded_escape, inside, text_from, meaning_of, moved, LexOutcome, Gives, Faults, in_front, tokens_at, IsEnd, IsStray, IsFaulty, Piece, Reads, IsFault, IsPlaceOfByteFrom, StandsAtByte}
 use Rattle.scad_lexer.proofs.Lengths.{some_bytes}
 
 -- ---- a fault of a word stands before one of its bytes
-abbrev IsInside : ℕ → Meaning → Type 0
+abbrev IsInside : ℕ → WordMeaning → Type 0
 IsInside n (Fault k before) = before < n
 IsInside n Blank = Unit {0}
 IsInside n (Token k) = Unit {0}
 
-inside_cond : (n : ℕ) (b : Bool) (m o : Meaning) → IsInside n m → IsInside n o → IsInside n (cond b m o)
+inside_cond : (n : ℕ) (b : Bool) (m o : WordMeaning) → IsInside n m → IsInside n o → IsInside n (cond b m o)
 inside_cond n true m o h k = h
 inside_cond n false m o h k = k
 
@@ -30,7 +30,7 @@ inside_numeral n w some =
     inside_cond n (zero_fraction (drop (run_of digit w) w)) (bounded (number_from 0 (take (run_of digit w) w))) _
     (inside_cond n (nat_lt (number_from 0 (take (run_of digit w) w)) (2 ^ 53)) _ _ tt (omega (arith, some))) (omega (arith, some))
 
-inside_letter : (n : ℕ) (m : Meaning) (at : ℕ) → at < n → IsInside n m → IsInside n (or_letter m at)
+inside_letter : (n : ℕ) (m : WordMeaning) (at : ℕ) → at < n → IsInside n m → IsInside n (or_letter m at)
 inside_letter n (Fault k before) at l h = h
 inside_letter n Blank at l h = l
 inside_letter n (Token k) at l h = l
@@ -108,7 +108,7 @@ byte_further p n text at h = (
 )
 
 -- ---- what a text gives
-abbrev FaultsAtByte : Place → List ℕ → Outcome → Type 0
+abbrev FaultsAtByte : Place → List ℕ → LexOutcome → Type 0
 FaultsAtByte p text (Gives ts) = Unit {0}
 FaultsAtByte p text (Faults k at) = IsPlaceOfByteFrom p text at
 
@@ -116,7 +116,7 @@ some_text : (text : List ℕ) → (text ≡ [] → ⊥) → 1 ≤ length text
 some_text [] h = absurd (h refl)
 some_text (b ∷ text) h = omega arith
 
-faulty_byte : (p : Place) (text : List ℕ) (o : Outcome) → IsFaulty p text o → FaultsAtByte p text o
+faulty_byte : (p : Place) (text : List ℕ) (o : LexOutcome) → IsFaulty p text o → FaultsAtByte p text o
 faulty_byte p text o h =
     let count : length (take h.length text) ≡ h.length = length-take-le h.length text h.longest.within in
     let before : h.before < length (take h.length text) = subst (IsInside (length (take h.length text))) h.means (inside_word h.word (take h.length text) (omega (arith, count, some_bytes text h.length h.word h.longest.found))) in
@@ -124,16 +124,16 @@ faulty_byte p text o h =
     subst (FaultsAtByte p text) (sym h.outcome)
     (byte_further p h.before text (moved p (take h.before text)) (first_byte (moved p (take h.before text)) (drop h.before text) behind))
 
-last_byte : (p : Place) (text : List ℕ) (o : Outcome) → (IsEnd p text o ⊎ (IsStray p text o ⊎ IsFaulty p text o)) → FaultsAtByte p text o
+last_byte : (p : Place) (text : List ℕ) (o : LexOutcome) → (IsEnd p text o ⊎ (IsStray p text o ⊎ IsFaulty p text o)) → FaultsAtByte p text o
 last_byte p text o (inl a) = subst (FaultsAtByte p text) (sym a.1) tt
 last_byte p text o (inr (inl a)) = subst (FaultsAtByte p text) (sym a.2) (first_byte p text (some_text text a.0))
 last_byte p text o (inr (inr a)) = faulty_byte p text o a
 
-further : (p : Place) (n : ℕ) (text : List ℕ) (ts : List TokenIn) (o : Outcome) → FaultsAtByte (moved p (take n text)) (drop n text) o → FaultsAtByte p text (in_front ts o)
+further : (p : Place) (n : ℕ) (text : List ℕ) (ts : List TokenIn) (o : LexOutcome) → FaultsAtByte (moved p (take n text)) (drop n text) o → FaultsAtByte p text (in_front ts o)
 further p n text ts (Gives us) h = tt
 further p n text ts (Faults k at) h = byte_further p n text at h
 
-reads_byte : (pieces : List Piece) (p : Place) (text : List ℕ) (o : Outcome) → Reads pieces p text o → FaultsAtByte p text o
+reads_byte : (pieces : List Piece) (p : Place) (text : List ℕ) (o : LexOutcome) → Reads pieces p text o → FaultsAtByte p text o
 reads_byte [] p text o h = last_byte p text o h
 reads_byte (x ∷ xs) p text o h =
     subst (FaultsAtByte p text) (sym h.2.2)

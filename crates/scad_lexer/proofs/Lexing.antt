@@ -13,10 +13,10 @@ use Rattle.scad_lexer.specs.declared.token.TokenKind.TheVariants.{End}
 use Rattle.scad_lexer.specs.declared.token.Symbol.{Symbol}
 use Rattle.scad_lexer.specs.declared.word.Word.{Word}
 use Rattle.scad_lexer.specs.declared.word.Word.TheVariants.{Symbol as SymbolWord}
-use Rattle.scad_lexer.specs.declared.meaning.Meaning.{Meaning}
-use Rattle.scad_lexer.specs.declared.meaning.Meaning.TheVariants.{Blank, Token, Fault}
+use Rattle.scad_lexer.specs.declared.meaning.WordMeaning.{WordMeaning}
+use Rattle.scad_lexer.specs.declared.meaning.WordMeaning.TheVariants.{Blank, Token, Fault}
 use Rattle.scad_lexer.specs.Words.{word_from, word_of, IsLongest, HasNoWord}
-use Rattle.scad_lexer.specs.Tokens.{Outcome, Gives, Faults, in_front, tokens_at, IsSound, IsEnd, IsStray, IsFaulty, Piece, Reads, LexesFrom, Lexes, IsFaultFrom, IsFault, Agrees, meaning_of, moved, AppendsNext}
+use Rattle.scad_lexer.specs.Tokens.{LexOutcome, Gives, Faults, in_front, tokens_at, IsSound, IsEnd, IsStray, IsFaulty, Piece, Reads, LexesFrom, Lexes, IsFaultFrom, IsFault, Agrees, meaning_of, moved, AppendsNext}
 use Rattle.scad_lexer.proofs.Longest.{drop_more}
 use Rattle.scad_lexer.proofs.Scanned.{rest_all}
 
@@ -37,7 +37,7 @@ empty_longest text n w e h =
     let both : None ≡ Some w = sym none ∙ h.found in
     cc
 
-last_once : (p : Place) (text : List ℕ) (o q : Outcome) → (IsEnd p text o ⊎ (IsStray p text o ⊎ IsFaulty p text o)) → (IsEnd p text q ⊎ (IsStray p text q ⊎ IsFaulty p text q)) → o ≡ q
+last_once : (p : Place) (text : List ℕ) (o q : LexOutcome) → (IsEnd p text o ⊎ (IsStray p text o ⊎ IsFaulty p text o)) → (IsEnd p text q ⊎ (IsStray p text q ⊎ IsFaulty p text q)) → o ≡ q
 last_once p text o q (inl a) (inl b) = a.1 ∙ sym b.1
 last_once p text o q (inl a) (inr (inl b)) = absurd (b.0 a.0)
 last_once p text o q (inl a) (inr (inr b)) = absurd (empty_longest text b.length b.word a.0 b.longest)
@@ -53,20 +53,20 @@ last_once p text o q (inr (inr a)) (inr (inr b)) =
     let before : a.before ≡ b.before = cc in
     a.outcome ∙ ap (λ k. Faults k (moved p (take a.before text))) kind ∙ ap (λ n. Faults b.kind (moved p (take n text))) before ∙ sym b.outcome
 
-fault_unsound : (m : Meaning) (k : FaultKind) (n : ℕ) → m ≡ Fault k n → IsSound m → ⊥
+fault_unsound : (m : WordMeaning) (k : FaultKind) (n : ℕ) → m ≡ Fault k n → IsSound m → ⊥
 fault_unsound (Fault k n) j i e h = h
 fault_unsound Blank j i e h = absurd (cc)
 fault_unsound (Token k) j i e h = absurd (cc)
 
 -- a word with no fault is no last thing
-not_last : (p : Place) (text : List ℕ) (o : Outcome) (n : ℕ) (w : Word) → (IsEnd p text o ⊎ (IsStray p text o ⊎ IsFaulty p text o)) → IsLongest text n w → IsSound (meaning_of w (take n text)) → ⊥
+not_last : (p : Place) (text : List ℕ) (o : LexOutcome) (n : ℕ) (w : Word) → (IsEnd p text o ⊎ (IsStray p text o ⊎ IsFaulty p text o)) → IsLongest text n w → IsSound (meaning_of w (take n text)) → ⊥
 not_last p text o n w (inl a) h s = empty_longest text n w a.0 h
 not_last p text o n w (inr (inl a)) h s = a.1 n w h.within h.found
 not_last p text o n w (inr (inr a)) h s =
     let one = longest_once text a.length n a.word w a.longest h in
     fault_unsound (meaning_of w (take n text)) a.kind a.before (sym (ap (λ n. meaning_of a.word (take n text)) one.0 ∙ ap (λ w. meaning_of w (take n text)) one.1) ∙ a.means) s
 
-pub reads_once : (xs ys : List Piece) (p : Place) (text : List ℕ) (o q : Outcome) → Reads xs p text o → Reads ys p text q → o ≡ q
+pub reads_once : (xs ys : List Piece) (p : Place) (text : List ℕ) (o q : LexOutcome) → Reads xs p text o → Reads ys p text q → o ≡ q
 reads_once [] [] p text o q a b = last_once p text o q a b
 reads_once [] (y ∷ ys) p text o q a b = absurd (not_last p text o y.bytes y.word a b.0 b.1)
 reads_once (x ∷ xs) [] p text o q a b = absurd (not_last p text q x.bytes x.word b a.0 a.1)
@@ -78,22 +78,22 @@ reads_once (x ∷ xs) (y ∷ ys) p text o q a b =
     ∙ ap (λ n. in_front (tokens_at p (meaning_of x.word (take n text))) b.2.0) one.0 ∙ ap (λ w. in_front (tokens_at p (meaning_of w (take y.bytes text))) b.2.0) one.1 ∙ sym b.2.2
 
 -- a whole text gives one thing
-pub one_outcome : (text : List ℕ) (o q : Outcome) → Lexes text o → Lexes text q → o ≡ q
+pub one_outcome : (text : List ℕ) (o q : LexOutcome) → Lexes text o → Lexes text q → o ≡ q
 one_outcome text o q h g = reads_once h.0 g.0 (record { line = 1; column = 1 }) text o q h.1 g.1
 
 -- the first thing that was found is the only one
-pub agrees : (text : List ℕ) (r : Result (Vec TokenIn) Stop) → IfOk r (λ ts. Lexes text (Gives ts.items)) → IfErr r (λ stop. IsFault text stop) → (o : Outcome) → Lexes text o → Agrees r o
+pub agrees : (text : List ℕ) (r : Result (Vec TokenIn) Stop) → IfOk r (λ ts. Lexes text (Gives ts.items)) → IfErr r (λ stop. IsFault text stop) → (o : LexOutcome) → Lexes text o → Agrees r o
 agrees text (Ok ts) f e o h = reads_once h.0 f.0 _ text o (Gives ts.items) h.1 f.1
 agrees text (Err (StopFault x)) f e o h = reads_once h.0 e.0 _ text o (Faults x.kind x.place) h.1 e.1
 agrees text (Err NoMemory) f e o h = tt
 
-in_front_twice : (ts us : List TokenIn) (o : Outcome) → in_front ts (in_front us o) ≡ in_front (ts ++ us) o
+in_front_twice : (ts us : List TokenIn) (o : LexOutcome) → in_front ts (in_front us o) ≡ in_front (ts ++ us) o
 in_front_twice ts us (Gives vs) = ap Gives (sym (append_assoc ts us vs))
 in_front_twice ts us (Faults k p) = refl
 
 -- what holds of what was read so far
 abbrev pub GoesOn : List ℕ → List TokenIn → Place → List ℕ → Type 0
-GoesOn text ts p rest = (o : Outcome) → LexesFrom p rest o → Lexes text (in_front ts o)
+GoesOn text ts p rest = (o : LexOutcome) → LexesFrom p rest o → Lexes text (in_front ts o)
 
 pub goes_first : (text : List ℕ) → GoesOn text [] (record { line = 1; column = 1 }) text
 goes_first text (Gives ts) h = h

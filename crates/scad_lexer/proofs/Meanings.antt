@@ -1,6 +1,6 @@
 -- What words stand for.
 use Rattle.std.proofs.Common.{◌≡◌, ℕ, zero, suc, ◌+◌, ◌-◌, ◌*◌, ◌<◌, ◌≤◌, List, [], ◌∷◌, ◌++◌, length, take, drop, get_or, Bool, true, false, cond, ◌&&◌, Some, None, Result, Ok, Err, refl, sym, ap, ◌∙◌, arith, nat_eq, append_assoc, append-nil}
-use Rattle.scad_lexer.specs.declared.class.Class.TheVariants.{Byte, Printable}
+use Rattle.scad_lexer.specs.declared.class.ByteClass.TheVariants.{Byte, Printable}
 use Rattle.scad_lexer.specs.Words.{has, begins_with, every}
 use Rattle.scad_lexer.specs.Tokens.{number_from, zero_fraction, with_byte, escape_of, escape_at, with_escape, decoded, decoded_escape}
 use Rattle.scad_lexer.proofs.Longest.{drop_more}

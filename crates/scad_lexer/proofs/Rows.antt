@@ -8,44 +8,44 @@ use Rattle.scad_lexer.specs.declared.token.TokenKind.TheVariants.{Numeral, Name,
 use Rattle.scad_lexer.specs.declared.token.Reserved.TheVariants.{If}
 use Rattle.scad_lexer.specs.declared.token.Symbol.TheVariants.{OpenParenthesis, CloseParenthesis, Semicolon, Assign, Dot, Less, LessEqual, Equal, NotEqual, Caret}
 use Rattle.scad_lexer.specs.declared.word.Word.{Word}
-use Rattle.scad_lexer.specs.declared.meaning.Meaning.{Meaning}
-use Rattle.scad_lexer.specs.declared.meaning.Meaning.TheVariants.{Blank, Token, Fault}
+use Rattle.scad_lexer.specs.declared.meaning.WordMeaning.{WordMeaning}
+use Rattle.scad_lexer.specs.declared.meaning.WordMeaning.TheVariants.{Blank, Token, Fault}
 use Rattle.scad_lexer.specs.Words.{longest, word_of, in_exponent, in_fraction, in_whole, in_text, in_escape, in_comment, after_star, word_from, IsLongest}
-use Rattle.scad_lexer.specs.Tokens.{meaning_of, moved, decoded, decoded_escape, Outcome, Gives, Faults, in_front, tokens_at, IsSound, LexesFrom, Lexes}
+use Rattle.scad_lexer.specs.Tokens.{meaning_of, moved, decoded, decoded_escape, LexOutcome, Gives, Faults, in_front, tokens_at, IsSound, LexesFrom, Lexes}
 use Rattle.scad_lexer.proofs.Longest.{best, Best}
 
 -- ---- the outcome of a text, by trying every front of it
 -- behind the longest word
-abbrev behind : (Place → List ℕ → Option Outcome) → Place → List ℕ → ℕ → Meaning → Option Outcome
+abbrev behind : (Place → List ℕ → Option LexOutcome) → Place → List ℕ → ℕ → WordMeaning → Option LexOutcome
 behind go p t k (Fault kind before) = Some (Faults kind (moved p (take before t)))
 behind go p t k Blank = option_map (in_front []) (go (moved p (take k t)) (drop k t))
 behind go p t k (Token kind) = option_map (in_front (record { kind = kind; place = p } ∷ [])) (go (moved p (take k t)) (drop k t))
 
-abbrev by_word : (Place → List ℕ → Option Outcome) → Place → List ℕ → Option (Word × ℕ) → Option Outcome
+abbrev by_word : (Place → List ℕ → Option LexOutcome) → Place → List ℕ → Option (Word × ℕ) → Option LexOutcome
 by_word go p t None = Some (Faults BadCharacter p)
 by_word go p t (Some r) = behind go p t r.1 (meaning_of r.0 (take r.1 t))
 
 -- with at most so many words
-abbrev lexed : ℕ → Place → List ℕ → Option Outcome
+abbrev lexed : ℕ → Place → List ℕ → Option LexOutcome
 lexed zero p t = None
 lexed (suc n) p [] = Some (Gives (record { kind = End; place = p } ∷ []))
 lexed (suc n) p (b ∷ t) = by_word (lexed n) p (b ∷ t) (longest word_of (b ∷ t))
 
 -- ---- this is the definition's
-abbrev IsRight : (Place → List ℕ → Option Outcome) → Type 0
-IsRight go = (p : Place) (t : List ℕ) (o : Outcome) → go p t ≡ Some o → LexesFrom p t o
+abbrev IsRight : (Place → List ℕ → Option LexOutcome) → Type 0
+IsRight go = (p : Place) (t : List ℕ) (o : LexOutcome) → go p t ≡ Some o → LexesFrom p t o
 
-more : (p : Place) (t : List ℕ) (w : Word) (k : ℕ) → IsLongest t k w → (m : Meaning) → meaning_of w (take k t) ≡ m → IsSound m →
-    (rest : Outcome) → LexesFrom (moved p (take k t)) (drop k t) rest → (o : Outcome) → o ≡ in_front (tokens_at p m) rest → LexesFrom p t o
+more : (p : Place) (t : List ℕ) (w : Word) (k : ℕ) → IsLongest t k w → (m : WordMeaning) → meaning_of w (take k t) ≡ m → IsSound m →
+    (rest : LexOutcome) → LexesFrom (moved p (take k t)) (drop k t) rest → (o : LexOutcome) → o ≡ in_front (tokens_at p m) rest → LexesFrom p t o
 more p t w k l m e s rest h o g =
-    (record { bytes = k; word = w } ∷ h.0, (l, subst IsSound (sym e) s, (rest, h.1, subst (λ (x : Meaning). o ≡ in_front (tokens_at p x) rest) (sym e) g)))
+    (record { bytes = k; word = w } ∷ h.0, (l, subst IsSound (sym e) s, (rest, h.1, subst (λ (x : WordMeaning). o ≡ in_front (tokens_at p x) rest) (sym e) g)))
 
-mapped : (f : Outcome → Outcome) (x : Option Outcome) (o : Outcome) → option_map f x ≡ Some o → (rest : Outcome) × (x ≡ Some rest) × (o ≡ f rest)
+mapped : (f : LexOutcome → LexOutcome) (x : Option LexOutcome) (o : LexOutcome) → option_map f x ≡ Some o → (rest : LexOutcome) × (x ≡ Some rest) × (o ≡ f rest)
 mapped f None o h = cc
 mapped f (Some rest) o h = (rest, refl, cc)
 
-behind_is : (go : Place → List ℕ → Option Outcome) → IsRight go → (p : Place) (t : List ℕ) (w : Word) (k : ℕ) → IsLongest t k w →
-    (m : Meaning) → meaning_of w (take k t) ≡ m → (o : Outcome) → behind go p t k m ≡ Some o → LexesFrom p t o
+behind_is : (go : Place → List ℕ → Option LexOutcome) → IsRight go → (p : Place) (t : List ℕ) (w : Word) (k : ℕ) → IsLongest t k w →
+    (m : WordMeaning) → meaning_of w (take k t) ≡ m → (o : LexOutcome) → behind go p t k m ≡ Some o → LexesFrom p t o
 behind_is go right p t w k l (Fault kind before) e o h =
     ([], inr (inr (record { length = k; word = w; kind = kind; before = before; longest = l; means = e; outcome = cc })))
 behind_is go right p t w k l Blank e o h =
@@ -55,8 +55,8 @@ behind_is go right p t w k l (Token kind) e o h =
     let r = mapped (in_front (record { kind = kind; place = p } ∷ [])) (go (moved p (take k t)) (drop k t)) o h in
     more p t w k l (Token kind) e tt r.0 (right (moved p (take k t)) (drop k t) r.0 r.1) o r.2
 
-by_word_is : (go : Place → List ℕ → Option Outcome) → IsRight go → (p : Place) (b : ℕ) (t : List ℕ) (r : Option (Word × ℕ)) →
-    Best word_of (b ∷ t) r → (o : Outcome) → by_word go p (b ∷ t) r ≡ Some o → LexesFrom p (b ∷ t) o
+by_word_is : (go : Place → List ℕ → Option LexOutcome) → IsRight go → (p : Place) (b : ℕ) (t : List ℕ) (r : Option (Word × ℕ)) →
+    Best word_of (b ∷ t) r → (o : LexOutcome) → by_word go p (b ∷ t) r ≡ Some o → LexesFrom p (b ∷ t) o
 by_word_is go right p b t None l o h = ([], inr (inl (λ e. cc, l, cc)))
 by_word_is go right p b t (Some r) l o h =
     behind_is go right p (b ∷ t) r.0 r.1 (record { within = l.within; found = l.found; most = l.most }) (meaning_of r.0 (take r.1 (b ∷ t))) refl o h
@@ -74,7 +74,7 @@ token kind line column = record { kind = kind; place = at line column }
 
 -- ---- rows: a source, and what it gives
 abbrev Row : Type 0
-Row = List ℕ × Outcome
+Row = List ℕ × LexOutcome
 
 abbrev AreGiven : List Row → Type 0
 AreGiven [] = Unit {0}

@@ -2,7 +2,7 @@
 use Rattle.std.proofs.Common.{◌≡◌, ℕ, zero, suc, ◌+◌, ◌-◌, ◌<◌, ◌≤◌, List, [], ◌∷◌, length, take, drop, get_or, Bool, true, false, cond, not, ◌&&◌, Option, Some, None, refl, sym, ap, ◌∙◌, subst, arith, nat_eq, length-drop, IfSome, IfNone}
 use Rattle.std.proofs.Common.{inl, inr}
 use Rattle.std.proofs.lemmas.Bool.Decides.{eqb_tells, nat_tests}
-use Rattle.scad_lexer.specs.declared.class.Class.TheVariants.{InLine, Exponent, Sign, Byte}
+use Rattle.scad_lexer.specs.declared.class.ByteClass.TheVariants.{InLine, Exponent, Sign, Byte}
 use Rattle.scad_lexer.specs.declared.token.Symbol.{Symbol}
 use Rattle.scad_lexer.specs.declared.token.Symbol.TheVariants.{Dot, Divide}
 use Rattle.scad_lexer.specs.declared.word.Word.{Word}

@@ -6,10 +6,10 @@ use Rattle.text_place.specs.declared.fault.FaultKind.TheVariants.{BadCharacter}
 use Rattle.scad_lexer.specs.declared.token.Token.{Token as TokenIn}
 use Rattle.scad_lexer.specs.declared.token.TokenKind.TheVariants.{End}
 use Rattle.scad_lexer.specs.declared.word.Word.{Word}
-use Rattle.scad_lexer.specs.declared.meaning.Meaning.{Meaning}
-use Rattle.scad_lexer.specs.declared.meaning.Meaning.TheVariants.{Blank, Token, Fault}
+use Rattle.scad_lexer.specs.declared.meaning.WordMeaning.{WordMeaning}
+use Rattle.scad_lexer.specs.declared.meaning.WordMeaning.TheVariants.{Blank, Token, Fault}
 use Rattle.scad_lexer.specs.Words.{word_of, longest, IsLongest, HasNoWord}
-use Rattle.scad_lexer.specs.Tokens.{Outcome, Gives, Faults, in_front, tokens_at, IsSound, LexesFrom, Lexes, meaning_of, moved, ends_once}
+use Rattle.scad_lexer.specs.Tokens.{LexOutcome, Gives, Faults, in_front, tokens_at, IsSound, LexesFrom, Lexes, meaning_of, moved, ends_once}
 use Rattle.scad_lexer.proofs.EndsOnce.{reads_end}
 use Rattle.scad_lexer.proofs.Lexing.{stray, faulty, word_some}
 use Rattle.scad_lexer.proofs.Longest.{Best, best}
@@ -24,14 +24,14 @@ first_word text = go (longest word_of text) (best word_of text)
 
 -- a text gives something from a place on
 abbrev GivesSome : Place → List ℕ → Type 0
-GivesSome p text = (o : Outcome) × LexesFrom p text o
+GivesSome p text = (o : LexOutcome) × LexesFrom p text o
 
 -- a word without a fault gives what it makes, and then what is behind it
 sound_word : (p : Place) (text : List ℕ) (n : ℕ) (word : Word) → IsLongest text n word → IsSound (meaning_of word (take n text)) → GivesSome (moved p (take n text)) (drop n text) → GivesSome p text
 sound_word p text n word h sound rest = (in_front (tokens_at p (meaning_of word (take n text))) rest.0, (record { bytes = n; word = word } ∷ rest.1.0, (h, sound, (rest.0, rest.1.1, refl))))
 
 -- a word gives its fault, or else what is behind it
-any_word : (p : Place) (text : List ℕ) (n : ℕ) (word : Word) → IsLongest text n word → GivesSome (moved p (take n text)) (drop n text) → (m : Meaning) → m ≡ meaning_of word (take n text) → GivesSome p text
+any_word : (p : Place) (text : List ℕ) (n : ℕ) (word : Word) → IsLongest text n word → GivesSome (moved p (take n text)) (drop n text) → (m : WordMeaning) → m ≡ meaning_of word (take n text) → GivesSome p text
 any_word p text n word h rest (Fault kind before) e = (Faults kind (moved p (take before text)), faulty p text n word kind before h e)
 any_word p text n word h rest Blank e = sound_word p text n word h (subst IsSound e tt) rest
 any_word p text n word h rest (Token kind) e = sound_word p text n word h (subst IsSound e tt) rest
@@ -56,6 +56,6 @@ gives_some (suc n) p (b ∷ t) within = begun p (b ∷ t) (omega arith) (λ q re
 pub some_outcome : (text : List ℕ) → ((tokens : List TokenIn) × Lexes text (Gives tokens) × (ends_once tokens ≡ true)) ⊎ ((kind : FaultKind) × (at : Place) × Lexes text (Faults kind at))
 some_outcome text = let given = gives_some (length text) (record { line = 1; column = 1 }) text (omega arith) in go given.0 given.1
   where
-    go : (o : Outcome) → Lexes text o → ((tokens : List TokenIn) × Lexes text (Gives tokens) × (ends_once tokens ≡ true)) ⊎ ((kind : FaultKind) × (at : Place) × Lexes text (Faults kind at))
+    go : (o : LexOutcome) → Lexes text o → ((tokens : List TokenIn) × Lexes text (Gives tokens) × (ends_once tokens ≡ true)) ⊎ ((kind : FaultKind) × (at : Place) × Lexes text (Faults kind at))
     go (Gives tokens) h = inl (tokens, h, reads_end h.0 (record { line = 1; column = 1 }) text (Gives tokens) h.1)
     go (Faults kind at) h = inr (kind, at, h)

@@ -15,9 +15,9 @@ use Rattle.scad_lexer.specs.declared.token.TokenKind.{TokenKind}
 use Rattle.scad_lexer.specs.declared.token.TokenKind.TheVariants.{Numeral as NumeralToken, Name as NameToken, Special as SpecialToken, Text as TextToken, Reserved as ReservedToken, Symbol as SymbolToken, End}
 use Rattle.scad_lexer.specs.declared.word.Word.{Word}
 use Rattle.scad_lexer.specs.declared.word.Word.TheVariants.{Blank as BlankWord, OpenComment, Name, Special, Numeral, NumeralAndLetter, Text, OpenText, Symbol}
-use Rattle.scad_lexer.specs.declared.class.Class.TheVariants.{Printable}
-use Rattle.scad_lexer.specs.declared.meaning.Meaning.{Meaning}
-use Rattle.scad_lexer.specs.declared.meaning.Meaning.TheVariants.{Blank, Token, Fault}
+use Rattle.scad_lexer.specs.declared.class.ByteClass.TheVariants.{Printable}
+use Rattle.scad_lexer.specs.declared.meaning.WordMeaning.{WordMeaning}
+use Rattle.scad_lexer.specs.declared.meaning.WordMeaning.TheVariants.{Blank, Token, Fault}
 use Rattle.scad_lexer.specs.Words.{has, digit, run_of, every, IsLongest, HasNoWord}
 
 -- the reserved name that these bytes are
@@ -50,20 +50,20 @@ zero_fraction [] = true
 zero_fraction (b ∷ w) = nat_eq b 46 && every (λ c. nat_eq c 48) w
 
 -- a number that is below 2^53
-abbrev pub bounded : ℕ → Meaning
+abbrev pub bounded : ℕ → WordMeaning
 bounded n = cond (nat_lt n (2 ^ 53)) (Token (NumeralToken n)) (Fault TooLarge 0)
 
 -- a numeral: its whole part, where nothing but zeros is behind its point, and no exponent
-abbrev pub numeral_of : List ℕ → Meaning
+abbrev pub numeral_of : List ℕ → WordMeaning
 numeral_of w = cond (zero_fraction (drop (run_of digit w) w)) (bounded (number_from 0 (take (run_of digit w) w))) (Fault NotWhole 0)
 
-abbrev pub or_letter : Meaning → ℕ → Meaning
+abbrev pub or_letter : WordMeaning → ℕ → WordMeaning
 or_letter (Fault k n) at = Fault k n
 or_letter Blank at = Fault BadCharacter at
 or_letter (Token k) at = Fault BadCharacter at
 
 -- a numeral with a letter behind it: the numeral's fault, or that of the letter
-abbrev pub letter_behind : List ℕ → Meaning
+abbrev pub letter_behind : List ℕ → WordMeaning
 letter_behind w = or_letter (numeral_of (take (length w - 1) w)) (length w - 1)
 
 -- the byte that an escape stands for: `\"`, `\\`, `\n`, `\t`, `\r`
@@ -99,15 +99,15 @@ unfoldable mutual
 abbrev pub inside : List ℕ → List ℕ
 inside w = take (length w - 1 - 1) (drop 1 w)
 
-abbrev pub text_from : Result (List ℕ) ℕ → Meaning
+abbrev pub text_from : Result (List ℕ) ℕ → WordMeaning
 text_from (Ok bs) = Token (TextToken bs)
 text_from (Err at) = Fault BadCharacter (1 + at)
 
-abbrev pub text_of : List ℕ → Meaning
+abbrev pub text_of : List ℕ → WordMeaning
 text_of w = text_from (decoded (inside w))
 
 -- what a word stands for
-abbrev pub meaning_of : Word → List ℕ → Meaning
+abbrev pub meaning_of : Word → List ℕ → WordMeaning
 meaning_of BlankWord w = Blank
 meaning_of OpenComment w = Fault OpenCommentFault 0
 meaning_of Name w = Token (name_of w)
@@ -124,35 +124,35 @@ moved p [] = p
 moved p (b ∷ w) = moved (cond (nat_eq b 10) (record { line = suc p.line; column = 1 }) (record { line = p.line; column = suc p.column })) w
 
 -- what a source gives: its tokens, or its first fault
-pub data Outcome : Type 0 where
-  Gives : (tokens : List TokenIn) → Outcome
-  Faults : (kind : FaultKind) → (at : Place) → Outcome
+pub data LexOutcome : Type 0 where
+  Gives : (tokens : List TokenIn) → LexOutcome
+  Faults : (kind : FaultKind) → (at : Place) → LexOutcome
 
-abbrev pub in_front : List TokenIn → Outcome → Outcome
+abbrev pub in_front : List TokenIn → LexOutcome → LexOutcome
 in_front ts (Gives us) = Gives (ts ++ us)
 in_front ts (Faults k p) = Faults k p
 
 -- the token that a word makes at a place, if it makes one
-abbrev pub tokens_at : Place → Meaning → List TokenIn
+abbrev pub tokens_at : Place → WordMeaning → List TokenIn
 tokens_at p (Token k) = record { kind = k; place = p } ∷ []
 tokens_at p Blank = []
 tokens_at p (Fault k n) = []
 
-abbrev pub IsSound : Meaning → Type 0
+abbrev pub IsSound : WordMeaning → Type 0
 IsSound (Fault k n) = ⊥
 IsSound Blank = Unit {0}
 IsSound (Token k) = Unit {0}
 
 -- the end of the source
-abbrev pub IsEnd : Place → List ℕ → Outcome → Type 0
+abbrev pub IsEnd : Place → List ℕ → LexOutcome → Type 0
 IsEnd p text o = (text ≡ []) × (o ≡ Gives (record { kind = End; place = p } ∷ []))
 
 -- a byte at which no word begins
-abbrev pub IsStray : Place → List ℕ → Outcome → Type 0
+abbrev pub IsStray : Place → List ℕ → LexOutcome → Type 0
 IsStray p text o = (text ≢ []) × HasNoWord text × (o ≡ Faults BadCharacter p)
 
 -- a word with a fault
-pub record IsFaulty (p : Place) (text : List ℕ) (o : Outcome) : Type 0 where
+pub record IsFaulty (p : Place) (text : List ℕ) (o : LexOutcome) : Type 0 where
   pub length : ℕ
   pub word : Word
   pub kind : FaultKind
@@ -167,18 +167,18 @@ pub record Piece : Type 0 where
   pub word : Word
 
 -- the text from a place on is these words, each the longest there, and then its end or its first fault
-abbrev pub Reads : List Piece → Place → List ℕ → Outcome → Type 0
+abbrev pub Reads : List Piece → Place → List ℕ → LexOutcome → Type 0
 Reads [] p text o = IsEnd p text o ⊎ (IsStray p text o ⊎ IsFaulty p text o)
 Reads (x ∷ xs) p text o =
     IsLongest text x.bytes x.word × IsSound (meaning_of x.word (take x.bytes text))
-    × ((rest : Outcome) × Reads xs (moved p (take x.bytes text)) (drop x.bytes text) rest × (o ≡ in_front (tokens_at p (meaning_of x.word (take x.bytes text))) rest))
+    × ((rest : LexOutcome) × Reads xs (moved p (take x.bytes text)) (drop x.bytes text) rest × (o ≡ in_front (tokens_at p (meaning_of x.word (take x.bytes text))) rest))
 
 -- what a text gives from a place on
-abbrev pub LexesFrom : Place → List ℕ → Outcome → Type 0
+abbrev pub LexesFrom : Place → List ℕ → LexOutcome → Type 0
 LexesFrom p text o = (pieces : List Piece) × Reads pieces p text o
 
 -- what a whole source gives: blanks, comments and tokens, each as long as possible
-abbrev pub Lexes : List ℕ → Outcome → Type 0
+abbrev pub Lexes : List ℕ → LexOutcome → Type 0
 Lexes text o = LexesFrom (record { line = 1; column = 1 }) text o
 
 -- the stop is what the text gives from the place on, unless memory ran out
@@ -199,7 +199,7 @@ StandsAtByte text (StopFault f) = IsPlaceOfByteFrom (record { line = 1; column =
 StandsAtByte text NoMemory = Unit {0}
 
 -- the answer is this outcome, unless memory ran out
-abbrev pub Agrees : Result (Vec TokenIn) Stop → Outcome → Type 0
+abbrev pub Agrees : Result (Vec TokenIn) Stop → LexOutcome → Type 0
 Agrees (Ok ts) o = o ≡ Gives ts.items
 Agrees (Err (StopFault f)) o = o ≡ Faults f.kind f.place
 Agrees (Err NoMemory) o = Unit {0}
@@ -213,7 +213,7 @@ pub record AppendsNext (before after : List TokenIn) (p : Place) (text : List �
   pub some : 1 ≤ bytes
 
 -- a fault stands within the word
-abbrev pub IsWithin : ℕ → Meaning → Type 0
+abbrev pub IsWithin : ℕ → WordMeaning → Type 0
 IsWithin n (Fault k at) = at ≤ n
 IsWithin n Blank = Unit {0}
 IsWithin n (Token k) = Unit {0}

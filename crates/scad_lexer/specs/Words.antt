@@ -1,7 +1,7 @@
 -- Words of a source: blanks, comments and tokens (OpenSCAD User Manual, in the profile of this server).
 use Rattle.std.specs.Prelude.{◌≡◌, ℕ, suc, ◌+◌, ◌≤◌, List, [], ◌∷◌, length, take, Bool, true, false, cond, ◌||◌, ◌&&◌, not, nat_eq, nat_le, Option, Some, None}
-use Rattle.scad_lexer.specs.declared.class.Class.{Class}
-use Rattle.scad_lexer.specs.declared.class.Class.TheVariants.{Blank as BlankClass, Letter, Digit, NameByte, InLine, Exponent, Sign, Printable, Byte}
+use Rattle.scad_lexer.specs.declared.class.ByteClass.{ByteClass}
+use Rattle.scad_lexer.specs.declared.class.ByteClass.TheVariants.{Blank as BlankClass, Letter, Digit, NameByte, InLine, Exponent, Sign, Printable, Byte}
 use Rattle.scad_lexer.specs.declared.token.Symbol.{Symbol}
 use Rattle.scad_lexer.specs.declared.token.Symbol.TheVariants.{OpenParenthesis, CloseParenthesis, OpenBracket, CloseBracket, OpenBrace, CloseBrace, Comma, Semicolon, Assign, Colon, Question, Dot, Plus, Minus, Times, Divide, Remainder, Less, Greater, LessEqual, GreaterEqual, Equal, NotEqual, And, Or, Not, Hash, Caret}
 use Rattle.scad_lexer.specs.declared.word.Word.{Word}
@@ -22,7 +22,7 @@ abbrev pub name_byte : ℕ → Bool
 name_byte b = letter b || digit b
 
 -- a byte of the class
-abbrev pub has : Class → ℕ → Bool
+abbrev pub has : ByteClass → ℕ → Bool
 has BlankClass b = blank b
 has Letter b = letter b
 has Digit b = digit b

@@ -3,7 +3,7 @@ ghost use Rattle.scad_lexer.specs.Words.{has, run_of, begins_with};
 
 /// A class of bytes.
 #[derive(Clone, Copy, Debug, PartialEq, Eq)]
-pub enum Class {
+pub enum ByteClass {
     /// Space, tab, carriage return and newline.
     Blank,
     /// A letter or `_`.
@@ -23,21 +23,21 @@ pub enum Class {
     Byte(u8),
 }
 
-impl Class {
+impl ByteClass {
     /// Whether a byte is of this class.
     pub fn has(self, byte: u8) -> bool
         ensures { result ≡ has self byte }
     {
         match self {
-            Class::Blank => matches!(byte, b' ' | b'\t' | b'\r' | b'\n'),
-            Class::Letter => byte.is_ascii_alphabetic() || byte == b'_',
-            Class::Digit => byte.is_ascii_digit(),
-            Class::NameByte => byte.is_ascii_alphanumeric() || byte == b'_',
-            Class::InLine => byte != b'\n',
-            Class::Exponent => byte == b'e' || byte == b'E',
-            Class::Sign => byte == b'+' || byte == b'-',
-            Class::Printable => (b' '..=b'~').contains(&byte),
-            Class::Byte(only) => byte == only,
+            ByteClass::Blank => matches!(byte, b' ' | b'\t' | b'\r' | b'\n'),
+            ByteClass::Letter => byte.is_ascii_alphabetic() || byte == b'_',
+            ByteClass::Digit => byte.is_ascii_digit(),
+            ByteClass::NameByte => byte.is_ascii_alphanumeric() || byte == b'_',
+            ByteClass::InLine => byte != b'\n',
+            ByteClass::Exponent => byte == b'e' || byte == b'E',
+            ByteClass::Sign => byte == b'+' || byte == b'-',
+            ByteClass::Printable => (b' '..=b'~').contains(&byte),
+            ByteClass::Byte(only) => byte == only,
         }
     }
 

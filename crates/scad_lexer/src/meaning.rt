@@ -3,7 +3,7 @@ ghost use Rattle.std.specs.Str.{bytes_eq};
 ghost use Rattle.scad_lexer.specs.Words.{every};
 ghost use Rattle.scad_lexer.specs.Tokens.{reserved_of, escape_at, with_byte, zero_fraction, number_from, numeral_of, letter_behind, decoded, inside, text_of, meaning_of, name_of, IsWithin};
 
-use crate::class::Class;
+use crate::class::ByteClass;
 use crate::token::{Reserved, TokenKind};
 use crate::word::Word;
 use compact_bytes::CompactBytes;
@@ -13,7 +13,7 @@ use whole_numeral::{Numeral, TOO_LARGE};
 
 /// What a word stands for.
 #[derive(Drop)]
-pub enum Meaning {
+pub enum WordMeaning {
     /// No token.
     Blank,
     Token(TokenKind),
@@ -22,24 +22,24 @@ pub enum Meaning {
 }
 
 /// What a word stands for, by the kind of word that it is.
-pub fn meant(alloc: Global, word: Word, bytes: &[u8]) -> Result<Meaning, NoMemory>
+pub fn meant(alloc: Global, word: Word, bytes: &[u8]) -> Result<WordMeaning, NoMemory>
     requires { 1 ≤ length bytes.now }
     ensures means { IfOk result (λ m. m ≡ meaning_of word bytes.now) }
     ensures within { IfOk result (λ m. IsWithin (length bytes.now) m) }
 {
     match word {
-        Word::Blank => Ok(Meaning::Blank),
-        Word::OpenComment => Ok(Meaning::Fault(FaultKind::OpenComment, 0)),
-        Word::OpenText => Ok(Meaning::Fault(FaultKind::OpenText, 0)),
-        Word::Name => Ok(Meaning::Token(name(alloc, bytes)?)),
+        Word::Blank => Ok(WordMeaning::Blank),
+        Word::OpenComment => Ok(WordMeaning::Fault(FaultKind::OpenComment, 0)),
+        Word::OpenText => Ok(WordMeaning::Fault(FaultKind::OpenText, 0)),
+        Word::Name => Ok(WordMeaning::Token(name(alloc, bytes)?)),
         Word::Special => {
             let name = CompactBytes::of(alloc, &bytes[1..])?;
-            Ok(Meaning::Token(TokenKind::Special(name)))
+            Ok(WordMeaning::Token(TokenKind::Special(name)))
         }
         Word::Numeral => Ok(numeral(bytes)),
         Word::NumeralAndLetter => Ok(numeral_and_letter(bytes)),
         Word::Text => text(alloc, bytes),
-        Word::Symbol(symbol) => Ok(Meaning::Token(TokenKind::Symbol(symbol))),
+        Word::Symbol(symbol) => Ok(WordMeaning::Token(TokenKind::Symbol(symbol))),
     }
 }
 
@@ -82,17 +82,17 @@ fn same(word: &[u8], name: &[u8]) -> bool
 }
 
 // What a numeral stands for.
-fn numeral(bytes: &[u8]) -> Meaning
+fn numeral(bytes: &[u8]) -> WordMeaning
     ensures means { result ≡ numeral_of bytes.now }
     ensures within { IsWithin 0 result }
 {
-    let digits = Class::Digit.run(bytes);
+    let digits = ByteClass::Digit.run(bytes);
     if !is_zero_fraction(&bytes[digits..]) {
-        return Meaning::Fault(FaultKind::NotWhole, 0);
+        return WordMeaning::Fault(FaultKind::NotWhole, 0);
     }
     match number(&bytes[..digits]) {
-        Some(number) => Meaning::Token(TokenKind::Numeral(number)),
-        None => Meaning::Fault(FaultKind::TooLarge, 0),
+        Some(number) => WordMeaning::Token(TokenKind::Numeral(number)),
+        None => WordMeaning::Fault(FaultKind::TooLarge, 0),
     }
 }
 
@@ -102,7 +102,7 @@ fn is_zero_fraction(bytes: &[u8]) -> bool
 {
     match bytes {
         [] => true,
-        _ => Class::Byte(b'.').begins(bytes) && is_zeros(&bytes[1..]),
+        _ => ByteClass::Byte(b'.').begins(bytes) && is_zeros(&bytes[1..]),
     }
 }
 
@@ -132,26 +132,26 @@ fn number(digits: &[u8]) -> Option<Numeral>
 }
 
 // The fault of a numeral with a letter behind it.
-fn numeral_and_letter(bytes: &[u8]) -> Meaning
+fn numeral_and_letter(bytes: &[u8]) -> WordMeaning
     requires { 1 ≤ length bytes.now }
     ensures means { result ≡ letter_behind bytes.now }
     ensures within { IsWithin (length bytes.now) result }
 {
     let letter = bytes.len() - 1;
     match numeral(&bytes[..letter]) {
-        Meaning::Fault(kind, before) => Meaning::Fault(kind, before),
-        _ => Meaning::Fault(FaultKind::BadCharacter, letter),
+        WordMeaning::Fault(kind, before) => WordMeaning::Fault(kind, before),
+        _ => WordMeaning::Fault(FaultKind::BadCharacter, letter),
     }
 }
 
 // What a text with both its quotes stands for.
-fn text(alloc: Global, bytes: &[u8]) -> Result<Meaning, NoMemory>
+fn text(alloc: Global, bytes: &[u8]) -> Result<WordMeaning, NoMemory>
     ensures means { IfOk result (λ m. m ≡ text_of bytes.now) }
     ensures within { IfOk result (λ m. IsWithin (length bytes.now) m) }
 {
     match decode(alloc, without_quotes(bytes))? {
-        Ok(bytes) => Ok(Meaning::Token(TokenKind::Text(CompactBytes::of(alloc, &bytes)?))),
-        Err(before) => Ok(Meaning::Fault(FaultKind::BadCharacter, 1 + before)),
+        Ok(bytes) => Ok(WordMeaning::Token(TokenKind::Text(CompactBytes::of(alloc, &bytes)?))),
+        Err(before) => Ok(WordMeaning::Fault(FaultKind::BadCharacter, 1 + before)),
     }
 }
 
@@ -192,12 +192,12 @@ fn next_byte(inside: &[u8]) -> Option<(u8, usize)>
     ensures within { IfSome result (λ p. (1 ≤ p.1) × (p.1 ≤ length inside.now)) }
     ensures none { IfNone result (decoded inside.now ≡ Err 0) }
 {
-    if Class::Byte(b'\\').begins(inside) {
+    if ByteClass::Byte(b'\\').begins(inside) {
         match escape(&inside[1..]) {
             Some(byte) => Some((byte, 2)),
             None => None,
         }
-    } else if Class::Printable.begins(inside) {
+    } else if ByteClass::Printable.begins(inside) {
         Some((inside[0], 1))
     } else {
         None

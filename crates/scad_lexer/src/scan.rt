@@ -1,8 +1,8 @@
 ghost use Rattle.std.specs.Prelude.{◌≡◌, ℕ, ◌+◌, ◌≤◌, ◌<◌, ◌^◌, length, false, not, nat_eq, ◌&&◌, Some, IfSome, IfNone};
-ghost use Rattle.scad_lexer.specs.declared.class.Class.TheVariants.{Blank, Letter, Digit};
+ghost use Rattle.scad_lexer.specs.declared.class.ByteClass.TheVariants.{Blank, Letter, Digit};
 ghost use Rattle.scad_lexer.specs.Words.{has, longest, more_bytes, word_from, in_whole, in_fraction, number_end, exponent, in_exponent, after_point, after_slash, after_dollar, in_text, in_comment, single, double, double_of, symbol_of, begins_with, IsLongest, HasNoWord};
 
-use crate::class::Class;
+use crate::class::ByteClass;
 use crate::token::Symbol;
 use crate::word::Word;
 
@@ -56,11 +56,11 @@ fn after_byte(byte: u8, rest: &[u8]) -> Option<(Word, usize)>
     ensures found { result ≡ longest (word_from byte) rest.now }
     ensures within { IfSome result (λ p. p.1 ≤ length rest.now) }
 {
-    if Class::Blank.has(byte) {
+    if ByteClass::Blank.has(byte) {
         Some((Word::Blank, 0))
-    } else if Class::Letter.has(byte) {
-        Some((Word::Name, Class::NameByte.run(rest)))
-    } else if Class::Digit.has(byte) {
+    } else if ByteClass::Letter.has(byte) {
+        Some((Word::Name, ByteClass::NameByte.run(rest)))
+    } else if ByteClass::Digit.has(byte) {
         Some(whole(rest))
     } else {
         after_mark(byte, rest)
@@ -93,7 +93,7 @@ fn whole(text: &[u8]) -> (Word, usize)
     ensures found { longest in_whole text.now ≡ Some result }
     ensures within { result.1 ≤ length text.now }
 {
-    let digits = Class::Digit.run(text);
+    let digits = ByteClass::Digit.run(text);
     let rest = &text[digits..];
     let (word, count) = whole_end(rest);
     (word, digits + count)
@@ -105,7 +105,7 @@ fn whole_end(text: &[u8]) -> (Word, usize)
     ensures found { longest in_whole text.now ≡ Some result }
     ensures within { result.1 ≤ length text.now }
 {
-    if Class::Byte(b'.').begins(text) {
+    if ByteClass::Byte(b'.').begins(text) {
         let (word, count) = fraction(&text[1..]);
         (word, 1 + count)
     } else {
@@ -118,7 +118,7 @@ fn fraction(text: &[u8]) -> (Word, usize)
     ensures found { longest in_fraction text.now ≡ Some result }
     ensures within { result.1 ≤ length text.now }
 {
-    let digits = Class::Digit.run(text);
+    let digits = ByteClass::Digit.run(text);
     let (word, count) = number_tail(&text[digits..]);
     (word, digits + count)
 }
@@ -128,10 +128,10 @@ fn number_tail(text: &[u8]) -> (Word, usize)
     ensures found { longest number_end text.now ≡ Some result }
     ensures within { result.1 ≤ length text.now }
 {
-    if Class::Exponent.begins(text) {
+    if ByteClass::Exponent.begins(text) {
         let (word, count) = power(&text[1..]);
         (word, 1 + count)
-    } else if Class::Letter.begins(text) {
+    } else if ByteClass::Letter.begins(text) {
         (Word::NumeralAndLetter, 1)
     } else {
         (Word::Numeral, 0)
@@ -143,10 +143,10 @@ fn power(text: &[u8]) -> (Word, usize)
     ensures found { longest exponent text.now ≡ Some result }
     ensures within { result.1 ≤ length text.now }
 {
-    if Class::Digit.begins(text) {
+    if ByteClass::Digit.begins(text) {
         let (word, count) = power_digits(&text[1..]);
         (word, 1 + count)
-    } else if Class::Sign.begins(text) && Class::Digit.begins(&text[1..]) {
+    } else if ByteClass::Sign.begins(text) && ByteClass::Digit.begins(&text[1..]) {
         let (word, count) = power_digits(&text[2..]);
         (word, 2 + count)
     } else {
@@ -159,8 +159,8 @@ fn power_digits(text: &[u8]) -> (Word, usize)
     ensures found { longest in_exponent text.now ≡ Some result }
     ensures within { result.1 ≤ length text.now }
 {
-    let digits = Class::Digit.run(text);
-    if Class::Letter.begins(&text[digits..]) {
+    let digits = ByteClass::Digit.run(text);
+    if ByteClass::Letter.begins(&text[digits..]) {
         (Word::NumeralAndLetter, digits + 1)
     } else {
         (Word::Numeral, digits)
@@ -172,7 +172,7 @@ fn point(text: &[u8]) -> (Word, usize)
     ensures found { longest after_point text.now ≡ Some result }
     ensures within { result.1 ≤ length text.now }
 {
-    if Class::Digit.begins(text) {
+    if ByteClass::Digit.begins(text) {
         let (word, count) = fraction(&text[1..]);
         (word, 1 + count)
     } else {
@@ -185,8 +185,8 @@ fn special(text: &[u8]) -> Option<(Word, usize)>
     ensures found { result ≡ longest after_dollar text.now }
     ensures within { IfSome result (λ p. p.1 ≤ length text.now) }
 {
-    if Class::Letter.begins(text) {
-        Some((Word::Special, 1 + Class::NameByte.run(&text[1..])))
+    if ByteClass::Letter.begins(text) {
+        Some((Word::Special, 1 + ByteClass::NameByte.run(&text[1..])))
     } else {
         None
     }
@@ -197,9 +197,9 @@ fn slash(text: &[u8]) -> (Word, usize)
     ensures found { longest after_slash text.now ≡ Some result }
     ensures within { result.1 ≤ length text.now }
 {
-    if Class::Byte(b'/').begins(text) {
-        (Word::Blank, 1 + Class::InLine.run(&text[1..]))
-    } else if Class::Byte(b'*').begins(text) {
+    if ByteClass::Byte(b'/').begins(text) {
+        (Word::Blank, 1 + ByteClass::InLine.run(&text[1..]))
+    } else if ByteClass::Byte(b'*').begins(text) {
         let (word, count) = comment(&text[1..]);
         (word, 1 + count)
     } else {

@@ -1,9 +1,9 @@
 ghost use Rattle.std.specs.Prelude.{◌≡◌, ℕ, List, true, ◌+◌, ◌-◌, ◌^◌, ◌<◌, ◌≤◌, ◌++◌, ◌∷◌, [], ◌⊎◌, length, IfOk, IfErr, OnOk};
 ghost use Rattle.scad_lexer.specs.Words.{IsLongest};
-ghost use Rattle.scad_lexer.specs.Tokens.{Outcome, Gives, Faults, Lexes, Agrees, IsFault, IsFaultFrom, StandsAtByte, moved, AppendsNext, ends_once};
+ghost use Rattle.scad_lexer.specs.Tokens.{LexOutcome, Gives, Faults, Lexes, Agrees, IsFault, IsFaultFrom, StandsAtByte, moved, AppendsNext, ends_once};
 
-use crate::class::Class;
-use crate::meaning::{Meaning, meant};
+use crate::class::ByteClass;
+use crate::meaning::{WordMeaning, meant};
 use crate::scan::{lone_symbol, longest_word};
 use crate::token::{Token, TokenKind};
 use crate::word::Word;
@@ -21,7 +21,7 @@ pub fn lex(alloc: Global, text: &[u8]) -> Result<Vec<Token>, Stop>
     // The place of a fault is that of a byte of the source.
     ensures place { IfErr result (λ stop. StandsAtByte text.now stop) }
     // What the source gives is answered, unless memory runs out.
-    ensures only { (o : Outcome) → Lexes text.now o → Agrees result o }
+    ensures only { (o : LexOutcome) → Lexes text.now o → Agrees result o }
     // The last token is the end, and no other is.
     ensures ends { IfOk result (λ ts. ends_once ts.items ≡ true) }
     // There are no more tokens than bytes, but for the end.
@@ -32,7 +32,7 @@ pub fn lex(alloc: Global, text: &[u8]) -> Result<Vec<Token>, Stop>
 
 /// A source gives one thing: its tokens, or its first fault.
 pub fn one_outcome()
-    ensures { (text : List ℕ) (o q : Outcome) → Lexes text o → Lexes text q → o ≡ q }
+    ensures { (text : List ℕ) (o q : LexOutcome) → Lexes text o → Lexes text q → o ≡ q }
 {}
 
 /// Each source gives something: its tokens, the last of which is their only end, or its first fault.
@@ -51,7 +51,7 @@ fn read_tokens(alloc: Global, text: &[u8]) -> Result<Vec<Token>, Stop>
     let mut rest = text;
     let mut place = Place { line: 1, column: 1 };
     'words: while !rest.is_empty() {
-        if Class::Blank.begins(rest) {
+        if ByteClass::Blank.begins(rest) {
             place = advance(place, &rest[..1]);
             rest = &rest[1..];
             continue;
@@ -89,12 +89,12 @@ fn push_word(
     ensures fault { IfErr result (λ stop. IsFaultFrom place text.now stop) }
 {
     match meant(alloc, word, &text[..bytes])? {
-        Meaning::Blank => Ok(()),
-        Meaning::Token(kind) => {
+        WordMeaning::Blank => Ok(()),
+        WordMeaning::Token(kind) => {
             push_token(tokens, kind, place)?;
             Ok(())
         }
-        Meaning::Fault(kind, before) => Err(kind.at(advance(place, &text[..before]))),
+        WordMeaning::Fault(kind, before) => Err(kind.at(advance(place, &text[..before]))),
     }
 }
 

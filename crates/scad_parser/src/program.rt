@@ -15,7 +15,7 @@ use crate::statement::statements;
 use scad_ast::{Program, Statements};
 use scad_grammar::SyntaxFault;
 use scad_lexer::Token;
-use scad_tokens::{Class, Parsed, Stopped, not_expected, take};
+use scad_tokens::{Parsed, Stopped, TokenClass, not_expected, take};
 use std::alloc::Global;
 use text_place::{FaultKind, Place, Stop};
 
@@ -64,7 +64,7 @@ fn program<'a>(alloc: Global, tokens: &'a [Token]) -> Parsed<'a, Statements>
     ensures { Gives (λ p. (statements_of p.0, p.1.now)) result (whole_read 65 tokens.now) }
 {
     let (statements, rest) = statements(alloc, tokens, DEPTH)?;
-    let (_, rest) = take(Class::End, rest)?;
+    let (_, rest) = take(TokenClass::End, rest)?;
     match rest {
         [] => Ok((statements, rest)),
         [_, ..] => Err(not_expected(rest)),

@@ -11,12 +11,13 @@ ghost use Rattle.scad_grammar.specs.StatementReads.{firsts_of_statement, param_i
 ghost use Rattle.scad_tokens.specs.Views.{Gives};
 
 use scad_ast::{
-    Binder, Binders, Body, Core, Expr, Instance, Mark, Marks, Param, Params, Statement, Statements,
+    Binder, Binders, Body, Core, Expr, Instance, Param, Params, PlacedModifier, PlacedModifiers,
+    Statement, Statements,
 };
 use scad_expressions::{arguments, behind, expr};
 use scad_lexer::{Reserved, Symbol, Token};
 use scad_tokens::{
-    Class, Parsed, assigned, behind_comma, boxed, bytes, closed, is_comma_and_name, list_of,
+    Parsed, TokenClass, assigned, behind_comma, boxed, bytes, closed, is_comma_and_name, list_of,
     modifier, take, too_deep, with,
 };
 use std::alloc::Global;
@@ -30,7 +31,7 @@ pub fn statement<'a>(alloc: Global, tokens: &'a [Token], depth: u32) -> Parsed<'
     ensures value { Gives (λ p. (statement_of p.0, p.1.now)) result (statement_read depth tokens.now) }
 {
     if depth == 0 {
-        return Err(too_deep(Class::Statement, Class::LeftOut, tokens));
+        return Err(too_deep(TokenClass::Statement, TokenClass::LeftOut, tokens));
     }
     statement_over(alloc, tokens, depth, depth - 1)
 }
@@ -45,14 +46,14 @@ fn statement_over<'a>(
 ) -> Parsed<'a, Statement>
     ensures value { Gives (λ p. (statement_of p.0, p.1.now)) result (statement_from (expr_read depth) (param_in inner (expr_read inner)) (statement_read inner) (body_read inner) (instance_in inner (body_read inner)) tokens.now) }
 {
-    if let Some((end, rest)) = Class::Sign(Symbol::Semicolon).split_first(tokens) {
+    if let Some((end, rest)) = TokenClass::Sign(Symbol::Semicolon).split_first(tokens) {
         Ok((Statement::Empty(end.place), rest))
-    } else if let Some((open, rest)) = Class::Sign(Symbol::OpenBrace).split_first(tokens) {
+    } else if let Some((open, rest)) = TokenClass::Sign(Symbol::OpenBrace).split_first(tokens) {
         let (statements, rest) = braces(alloc, rest, inner)?;
         Ok((Statement::Block(open.place, statements), rest))
-    } else if Class::Special.begins(tokens) {
+    } else if TokenClass::Special.begins(tokens) {
         special_assignment(alloc, tokens, depth)
-    } else if let Some((name, rest)) = assigned(Class::Name, tokens) {
+    } else if let Some((name, rest)) = assigned(TokenClass::Name, tokens) {
         assignment(alloc, name, rest, depth)
     } else {
         definition(alloc, tokens, depth, inner)
@@ -74,7 +75,7 @@ pub fn statements<'a>(alloc: Global, tokens: &'a [Token], depth: u32) -> Parsed<
 {
     let mut items = Vec::new(alloc);
     let mut rest = tokens;
-    'statements: while Class::Statement.begins(rest) {
+    'statements: while TokenClass::Statement.begins(rest) {
         let (item, after) = statement(alloc, rest, depth)?;
         items.push(item)?;
         rest = after;
@@ -102,8 +103,8 @@ fn assignment<'a>(
 fn special_assignment<'a>(alloc: Global, tokens: &'a [Token], depth: u32) -> Parsed<'a, Statement>
     ensures value { Gives (λ p. (statement_of p.0, p.1.now)) result (special_read (expr_read depth) tokens.now) }
 {
-    let (name, rest) = take(Class::Special, tokens)?;
-    let (_, rest) = take(Class::Sign(Symbol::Assign), rest)?;
+    let (name, rest) = take(TokenClass::Special, tokens)?;
+    let (_, rest) = take(TokenClass::Sign(Symbol::Assign), rest)?;
     let bytes = bytes(alloc, &name.kind)?;
     let (value, rest) = ended(alloc, rest, depth)?;
     Ok((Statement::SpecialAssignment(name.place, bytes, value), rest))
@@ -127,9 +128,9 @@ fn definition<'a>(
 ) -> Parsed<'a, Statement>
     ensures value { Gives (λ p. (statement_of p.0, p.1.now)) result (definition_read (expr_read depth) (param_in inner (expr_read inner)) (body_read inner) (instance_in inner (body_read inner)) tokens.now) }
 {
-    if Class::Word(Reserved::Module).begins(tokens) {
+    if TokenClass::Word(Reserved::Module).begins(tokens) {
         module(alloc, tokens, inner)
-    } else if Class::Word(Reserved::Function).begins(tokens) {
+    } else if TokenClass::Word(Reserved::Function).begins(tokens) {
         function(alloc, tokens, depth, inner)
     } else {
         let (instance, rest) = instance(alloc, tokens, inner)?;
@@ -143,8 +144,8 @@ fn definition<'a>(
 fn module<'a>(alloc: Global, tokens: &'a [Token], depth: u32) -> Parsed<'a, Statement>
     ensures value { Gives (λ p. (statement_of p.0, p.1.now)) result (module_read (param_in depth (expr_read depth)) (body_read depth) tokens.now) }
 {
-    let (word, rest) = take(Class::Word(Reserved::Module), tokens)?;
-    let (name, rest) = take(Class::Name, rest)?;
+    let (word, rest) = take(TokenClass::Word(Reserved::Module), tokens)?;
+    let (name, rest) = take(TokenClass::Name, rest)?;
     let bytes = bytes(alloc, &name.kind)?;
     let ((bytes, params), rest) = with(bytes, params(alloc, rest, depth))?;
     let (((bytes, params), body), rest) = with((bytes, params), body(alloc, rest, depth))?;
@@ -159,13 +160,13 @@ fn module<'a>(alloc: Global, tokens: &'a [Token], depth: u32) -> Parsed<'a, Stat
 fn function<'a>(alloc: Global, tokens: &'a [Token], depth: u32, inner: u32) -> Parsed<'a, Statement>
     ensures value { Gives (λ p. (statement_of p.0, p.1.now)) result (function_read (expr_read depth) (param_in inner (expr_read inner)) tokens.now) }
 {
-    let (word, rest) = take(Class::Word(Reserved::Function), tokens)?;
-    let (name, rest) = take(Class::Name, rest)?;
+    let (word, rest) = take(TokenClass::Word(Reserved::Function), tokens)?;
+    let (name, rest) = take(TokenClass::Name, rest)?;
     let bytes = bytes(alloc, &name.kind)?;
     let ((bytes, params), rest) = with(bytes, params(alloc, rest, inner))?;
     let (((bytes, params), _), rest) = with(
         (bytes, params),
-        take(Class::Sign(Symbol::Assign), rest),
+        take(TokenClass::Sign(Symbol::Assign), rest),
     )?;
     let (((bytes, params), value), rest) = with((bytes, params), ended(alloc, rest, depth))?;
     Ok((
@@ -178,7 +179,7 @@ fn function<'a>(alloc: Global, tokens: &'a [Token], depth: u32, inner: u32) -> P
 fn params<'a>(alloc: Global, tokens: &'a [Token], depth: u32) -> Parsed<'a, Params>
     ensures value { Gives (λ p. (params_of p.0, p.1.now)) result (in_parentheses (params_read (param_in depth (expr_read depth))) tokens.now) }
 {
-    let (_, rest) = take(Class::Sign(Symbol::OpenParenthesis), tokens)?;
+    let (_, rest) = take(TokenClass::Sign(Symbol::OpenParenthesis), tokens)?;
     closed(param_list(alloc, rest, depth), Symbol::CloseParenthesis)
 }
 
@@ -186,7 +187,7 @@ fn params<'a>(alloc: Global, tokens: &'a [Token], depth: u32) -> Parsed<'a, Para
 fn param_list<'a>(alloc: Global, tokens: &'a [Token], depth: u32) -> Parsed<'a, Params>
     ensures value { Gives (λ p. (params_of p.0, p.1.now)) result (params_read (param_in depth (expr_read depth)) tokens.now) }
 {
-    if !Class::Name.begins(tokens) {
+    if !TokenClass::Name.begins(tokens) {
         return Ok((no_params(alloc), tokens));
     }
     let (first, rest) = param(alloc, tokens, depth)?;
@@ -226,11 +227,11 @@ fn param<'a>(alloc: Global, tokens: &'a [Token], depth: u32) -> Parsed<'a, Param
     ensures value { Gives (λ p. (param_of p.0, p.1.now)) result (param_in depth (expr_read depth) tokens.now) }
 {
     if depth == 0 {
-        return Err(too_deep(Class::Name, Class::LeftOut, tokens));
+        return Err(too_deep(TokenClass::Name, TokenClass::LeftOut, tokens));
     }
-    let (name, rest) = take(Class::Name, tokens)?;
+    let (name, rest) = take(TokenClass::Name, tokens)?;
     let bytes = bytes(alloc, &name.kind)?;
-    if !Class::Sign(Symbol::Assign).begins(rest) {
+    if !TokenClass::Sign(Symbol::Assign).begins(rest) {
         return Ok((Param::Plain(name.place, bytes), rest));
     }
     let ((bytes, value), rest) = with(bytes, behind(alloc, Symbol::Assign, rest, depth))?;
@@ -248,7 +249,7 @@ fn instance<'a>(alloc: Global, tokens: &'a [Token], depth: u32) -> Parsed<'a, In
 }
 
 // An instance, by its marks and its core.
-fn instance_from(marks: Marks, core: Core) -> Instance
+fn instance_from(marks: PlacedModifiers, core: Core) -> Instance
     ensures { instance_of result ≡ instance_at (marks_of marks) (core_of core) }
 {
     let place = match marks.items.first() {
@@ -259,23 +260,23 @@ fn instance_from(marks: Marks, core: Core) -> Instance
 }
 
 // Modifiers.
-fn marks<'a>(alloc: Global, tokens: &'a [Token]) -> Parsed<'a, Marks>
+fn marks<'a>(alloc: Global, tokens: &'a [Token]) -> Parsed<'a, PlacedModifiers>
     ensures value { Gives (λ p. (marks_of p.0, p.1.now)) result (marks_read tokens.now) }
 {
     let mut items = Vec::new(alloc);
     let mut rest = tokens;
-    'marks: while let Some((token, after)) = Class::Mark.split_first(rest) {
+    'marks: while let Some((token, after)) = TokenClass::Modifier.split_first(rest) {
         items.push(mark(token))?;
         rest = after;
     }
-    Ok((Marks { items }, rest))
+    Ok((PlacedModifiers { items }, rest))
 }
 
 // A modifier.
-fn mark(token: &Token) -> Mark
+fn mark(token: &Token) -> PlacedModifier
     ensures { mark_of result ≡ mark_at token.now }
 {
-    Mark {
+    PlacedModifier {
         place: token.place,
         modifier: modifier(&token.kind),
     }
@@ -286,9 +287,9 @@ fn mark(token: &Token) -> Mark
 fn core<'a>(alloc: Global, tokens: &'a [Token], depth: u32) -> Parsed<'a, Core>
     ensures value { Gives (λ p. (core_of p.0, p.1.now)) result (core_read (expr_read depth) (arg_in depth (expr_read depth)) (binder_in depth (expr_read depth)) (body_read depth) tokens.now) }
 {
-    if Class::Word(Reserved::If).begins(tokens) {
+    if TokenClass::Word(Reserved::If).begins(tokens) {
         branch(alloc, tokens, depth)
-    } else if Class::LoopWord.begins(tokens) {
+    } else if TokenClass::LoopWord.begins(tokens) {
         repetition(alloc, tokens, depth)
     } else {
         call(alloc, tokens, depth)
@@ -301,10 +302,10 @@ fn core<'a>(alloc: Global, tokens: &'a [Token], depth: u32) -> Parsed<'a, Core>
 fn branch<'a>(alloc: Global, tokens: &'a [Token], depth: u32) -> Parsed<'a, Core>
     ensures value { Gives (λ p. (core_of p.0, p.1.now)) result (if_read (expr_read depth) (body_read depth) tokens.now) }
 {
-    let (word, rest) = take(Class::Word(Reserved::If), tokens)?;
+    let (word, rest) = take(TokenClass::Word(Reserved::If), tokens)?;
     let (test, rest) = condition(alloc, rest, depth)?;
     let ((test, then), rest) = with(test, boxed_body(alloc, rest, depth))?;
-    if !Class::Word(Reserved::Else).begins(rest) {
+    if !TokenClass::Word(Reserved::Else).begins(rest) {
         return Ok((Core::If(word.place, test, then), rest));
     }
     let (((test, then), other), rest) = with((test, then), otherwise(alloc, rest, depth))?;
@@ -317,7 +318,7 @@ fn branch<'a>(alloc: Global, tokens: &'a [Token], depth: u32) -> Parsed<'a, Core
 fn otherwise<'a>(alloc: Global, tokens: &'a [Token], depth: u32) -> Parsed<'a, Box<Body>>
     ensures value { Gives (λ p. (body_of p.0.value, p.1.now)) result (both second_of (one (is else_word)) (body_read depth) tokens.now) }
 {
-    let (_, rest) = take(Class::Word(Reserved::Else), tokens)?;
+    let (_, rest) = take(TokenClass::Word(Reserved::Else), tokens)?;
     boxed_body(alloc, rest, depth)
 }
 
@@ -334,7 +335,7 @@ fn boxed_body<'a>(alloc: Global, tokens: &'a [Token], depth: u32) -> Parsed<'a, 
 fn condition<'a>(alloc: Global, tokens: &'a [Token], depth: u32) -> Parsed<'a, Expr>
     ensures value { Gives (λ p. (term_of p.0, p.1.now)) result (in_parentheses (expr_read depth) tokens.now) }
 {
-    let (_, rest) = take(Class::Sign(Symbol::OpenParenthesis), tokens)?;
+    let (_, rest) = take(TokenClass::Sign(Symbol::OpenParenthesis), tokens)?;
     closed(expr(alloc, rest, depth), Symbol::CloseParenthesis)
 }
 
@@ -344,10 +345,10 @@ fn condition<'a>(alloc: Global, tokens: &'a [Token], depth: u32) -> Parsed<'a, E
 fn repetition<'a>(alloc: Global, tokens: &'a [Token], depth: u32) -> Parsed<'a, Core>
     ensures value { Gives (λ p. (core_of p.0, p.1.now)) result (loop_read (binder_in depth (expr_read depth)) (body_read depth) tokens.now) }
 {
-    let (word, rest) = take(Class::LoopWord, tokens)?;
+    let (word, rest) = take(TokenClass::LoopWord, tokens)?;
     let (binders, rest) = binders(alloc, rest, depth)?;
     let ((binders, body), rest) = with(binders, boxed_body(alloc, rest, depth))?;
-    if Class::Word(Reserved::For).has(&word.kind) {
+    if TokenClass::Word(Reserved::For).has(&word.kind) {
         Ok((Core::For(word.place, binders, body), rest))
     } else {
         Ok((Core::IntersectionFor(word.place, binders, body), rest))
@@ -358,7 +359,7 @@ fn repetition<'a>(alloc: Global, tokens: &'a [Token], depth: u32) -> Parsed<'a, 
 fn binders<'a>(alloc: Global, tokens: &'a [Token], depth: u32) -> Parsed<'a, Binders>
     ensures value { Gives (λ p. (binders_of p.0, p.1.now)) result (in_parentheses (binders_read (binder_in depth (expr_read depth))) tokens.now) }
 {
-    let (_, rest) = take(Class::Sign(Symbol::OpenParenthesis), tokens)?;
+    let (_, rest) = take(TokenClass::Sign(Symbol::OpenParenthesis), tokens)?;
     closed(binder_list(alloc, rest, depth), Symbol::CloseParenthesis)
 }
 
@@ -394,9 +395,9 @@ fn binder<'a>(alloc: Global, tokens: &'a [Token], depth: u32) -> Parsed<'a, Bind
     ensures value { Gives (λ p. (binder_of p.0, p.1.now)) result (binder_in depth (expr_read depth) tokens.now) }
 {
     if depth == 0 {
-        return Err(too_deep(Class::Name, Class::LeftOut, tokens));
+        return Err(too_deep(TokenClass::Name, TokenClass::LeftOut, tokens));
     }
-    let (token, rest) = take(Class::Name, tokens)?;
+    let (token, rest) = take(TokenClass::Name, tokens)?;
     let name = bytes(alloc, &token.kind)?;
     let ((name, values), rest) = with(name, behind(alloc, Symbol::Assign, rest, depth))?;
     let place = token.place;
@@ -415,7 +416,7 @@ fn binder<'a>(alloc: Global, tokens: &'a [Token], depth: u32) -> Parsed<'a, Bind
 fn call<'a>(alloc: Global, tokens: &'a [Token], depth: u32) -> Parsed<'a, Core>
     ensures value { Gives (λ p. (core_of p.0, p.1.now)) result (call_read (arg_in depth (expr_read depth)) (body_read depth) tokens.now) }
 {
-    let (name, rest) = take(Class::Name, tokens)?;
+    let (name, rest) = take(TokenClass::Name, tokens)?;
     let bytes = bytes(alloc, &name.kind)?;
     let ((bytes, args), rest) = with(bytes, arguments(alloc, rest, depth))?;
     let (((bytes, args), body), rest) = with((bytes, args), boxed_body(alloc, rest, depth))?;
@@ -428,7 +429,7 @@ fn body<'a>(alloc: Global, tokens: &'a [Token], depth: u32) -> Parsed<'a, Body>
     ensures value { Gives (λ p. (body_of p.0, p.1.now)) result (body_read depth tokens.now) }
 {
     if depth == 0 {
-        return Err(too_deep(Class::Body, Class::LeftOut, tokens));
+        return Err(too_deep(TokenClass::Body, TokenClass::LeftOut, tokens));
     }
     body_over(alloc, tokens, depth - 1)
 }
@@ -438,9 +439,9 @@ fn body<'a>(alloc: Global, tokens: &'a [Token], depth: u32) -> Parsed<'a, Body>
 fn body_over<'a>(alloc: Global, tokens: &'a [Token], depth: u32) -> Parsed<'a, Body>
     ensures value { Gives (λ p. (body_of p.0, p.1.now)) result (body_from (statement_read depth) (instance_in depth (body_read depth)) tokens.now) }
 {
-    if let Some((end, rest)) = Class::Sign(Symbol::Semicolon).split_first(tokens) {
+    if let Some((end, rest)) = TokenClass::Sign(Symbol::Semicolon).split_first(tokens) {
         Ok((Body::Semicolon(end.place), rest))
-    } else if let Some((open, rest)) = Class::Sign(Symbol::OpenBrace).split_first(tokens) {
+    } else if let Some((open, rest)) = TokenClass::Sign(Symbol::OpenBrace).split_first(tokens) {
         let (statements, rest) = braces(alloc, rest, depth)?;
         Ok((Body::Braces(open.place, statements), rest))
     } else {

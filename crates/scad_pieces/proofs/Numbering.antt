@@ -11,14 +11,14 @@ use Rattle.scad_ast.specs.declared.statement.Instance.{Instance}
 use Rattle.scad_ast.specs.declared.statement.Body.TheFolds.{fold_out-Instance, fold_out-Statements, fold-roll-Statement}
 use Rattle.scad_ast.specs.Terms.{StatementTerm, EmptyStatement, BlockStatement, AssignmentTerm, SpecialAssignmentTerm, ModuleTerm, FunctionTerm, InstanceStatement, StatementTerms, no_statements, and_statement, statements_from, InstanceTerm, AnInstance, CoreTerm, IfTerm, IfElseTerm, ForTerm, IntersectionForTerm, ModuleCallTerm, BodyTerm, EmptyBody, BlockBody, InstanceBody}
 use Rattle.scad_ast.specs.StatementView.{statement_of, statements_of, instance_of, core_of as core_in_memory, body_step, core_step, statement_step, instance_step, statements_step}
-use Rattle.scad_blocks.specs.Blocks.{Mark, a_block, a_function, a_module, marks_of, marks_in, marks_of_instance, marks_of_core, marks_of_body, count_blocks, nothing_there, NumberedText, StandAt}
+use Rattle.scad_blocks.specs.Blocks.{Beginning, a_block, a_function, a_module, beginnings_of, beginnings_in, beginnings_of_instance, beginnings_of_core, beginnings_of_body, count_blocks, nothing_there, NumberedText, StandAt}
 use Rattle.scad_func.specs.Definitions.{statements_at, IsBlockOf, IsWhole}
 use Rattle.scad_meaning.specs.Bodies.{is_on, instances_in, instances_of, evaluated_in}
 use Rattle.scad_meaning.specs.Meaning.{core_of}
 use Rattle.scad_pieces.specs.Positions.{CoreHasBlocks, has_else}
 
 -- counts of two texts
-count_joined : (xs ys : List Mark) → count_blocks (xs ++ ys) ≡ count_blocks xs + count_blocks ys
+count_joined : (xs ys : List Beginning) → count_blocks (xs ++ ys) ≡ count_blocks xs + count_blocks ys
 count_joined [] ys = omega arith
 count_joined (a_block s ∷ xs) ys = omega (arith, count_joined xs ys)
 count_joined (a_function f ∷ xs) ys = count_joined xs ys
@@ -32,13 +32,13 @@ no_two e = absurd (no e)
 
 module _ (text : NumberedText) where
   -- the two parts of a text
-  pub stand_front : (n : ℕ) (xs ys : List Mark) → StandAt text n (xs ++ ys) → StandAt text n xs
+  pub stand_front : (n : ℕ) (xs ys : List Beginning) → StandAt text n (xs ++ ys) → StandAt text n xs
   stand_front n [] ys h = tt
   stand_front n (a_block s ∷ xs) ys h = (h.0, h.1, stand_front (n + 1) xs ys h.2)
   stand_front n (a_function f ∷ xs) ys h = stand_front n xs ys h
   stand_front n (a_module d ∷ xs) ys h = stand_front n xs ys h
 
-  pub stand_behind : (n : ℕ) (xs ys : List Mark) → StandAt text n (xs ++ ys) → StandAt text (n + count_blocks xs) ys
+  pub stand_behind : (n : ℕ) (xs ys : List Beginning) → StandAt text n (xs ++ ys) → StandAt text (n + count_blocks xs) ys
   stand_behind n [] ys h = subst (λ k. StandAt text k ys) (omega arith) h
   stand_behind n (a_block s ∷ xs) ys h = subst (λ k. StandAt text k ys) (omega arith) (stand_behind (n + 1) xs ys h.2)
   stand_behind n (a_function f ∷ xs) ys h = stand_behind n xs ys h
@@ -48,12 +48,12 @@ module _ (text : NumberedText) where
   Ends n end = (get_or text.entries n nothing_there).behind ≡ end
 
   -- a body's block is there, with the body's statements
-  pub body_is_there : (b : BodyTerm) (n : ℕ) → StandAt text n (marks_of_body b) → n < length text.entries
+  pub body_is_there : (b : BodyTerm) (n : ℕ) → StandAt text n (beginnings_of_body b) → n < length text.entries
   body_is_there (EmptyBody at) n h = h.0
   body_is_there (BlockBody at inner) n h = h.0
   body_is_there (InstanceBody instance) n h = h.0
 
-  body_stands : (b : BodyTerm) (n : ℕ) → StandAt text n (marks_of_body b) → IsBlockOf text n b
+  body_stands : (b : BodyTerm) (n : ℕ) → StandAt text n (beginnings_of_body b) → IsBlockOf text n b
   body_stands (EmptyBody at) n h = h.1
   body_stands (BlockBody at inner) n h = h.1
   body_stands (InstanceBody instance) n h = h.1
@@ -61,42 +61,42 @@ module _ (text : NumberedText) where
   module _ (whole : IsWhole text) where
     -- a body's block ends behind all that stands in it
     ends_behind : (n : ℕ) (ss : StatementTerms) → n < length text.entries → statements_at text n ≡ ss
-        → Ends n (n + 1 + count_blocks (marks_in ss))
-    ends_behind n ss there h = whole.behind n there ∙ ap (λ (s : StatementTerms). n + 1 + count_blocks (marks_in s)) h
+        → Ends n (n + 1 + count_blocks (beginnings_in ss))
+    ends_behind n ss there h = whole.behind n there ∙ ap (λ (s : StatementTerms). n + 1 + count_blocks (beginnings_in s)) h
 
-    pub body_ends : (b : BodyTerm) (n : ℕ) → StandAt text n (marks_of_body b) → Ends n (n + count_blocks (marks_of_body b))
+    pub body_ends : (b : BodyTerm) (n : ℕ) → StandAt text n (beginnings_of_body b) → Ends n (n + count_blocks (beginnings_of_body b))
     body_ends (EmptyBody at) n h = ends_behind n no_statements h.0 h.1 ∙ omega arith
     body_ends (BlockBody at inner) n h = ends_behind n inner h.0 h.1 ∙ omega arith
     body_ends (InstanceBody instance) n h =
         ends_behind n (and_statement (InstanceStatement instance) no_statements) h.0 h.1
-        ∙ ap (λ (xs : List Mark). n + 1 + count_blocks xs) (append-nil (marks_of_instance instance)) ∙ omega arith
+        ∙ ap (λ (xs : List Beginning). n + 1 + count_blocks xs) (append-nil (beginnings_of_instance instance)) ∙ omega arith
 
     -- the second body of a choice
-    other_stands : (b o : BodyTerm) (n other : ℕ) → StandAt text n (marks_of_body b ++ marks_of_body o) → Ends n other
-        → StandAt text other (marks_of_body o)
+    other_stands : (b o : BodyTerm) (n other : ℕ) → StandAt text n (beginnings_of_body b ++ beginnings_of_body o) → Ends n other
+        → StandAt text other (beginnings_of_body o)
     other_stands b o n other h e =
-        subst (λ k. StandAt text k (marks_of_body o)) (sym (body_ends b n (stand_front n (marks_of_body b) (marks_of_body o) h)) ∙ e)
-        (stand_behind n (marks_of_body b) (marks_of_body o) h)
+        subst (λ k. StandAt text k (beginnings_of_body o)) (sym (body_ends b n (stand_front n (beginnings_of_body b) (beginnings_of_body o) h)) ∙ e)
+        (stand_behind n (beginnings_of_body b) (beginnings_of_body o) h)
 
-    two_end : (b o : BodyTerm) (n other : ℕ) → StandAt text n (marks_of_body b ++ marks_of_body o) → Ends n other
-        → Ends other (n + count_blocks (marks_of_body b ++ marks_of_body o))
+    two_end : (b o : BodyTerm) (n other : ℕ) → StandAt text n (beginnings_of_body b ++ beginnings_of_body o) → Ends n other
+        → Ends other (n + count_blocks (beginnings_of_body b ++ beginnings_of_body o))
     two_end b o n other h e =
-        let first = body_ends b n (stand_front n (marks_of_body b) (marks_of_body o) h) in
+        let first = body_ends b n (stand_front n (beginnings_of_body b) (beginnings_of_body o) h) in
         body_ends o other (other_stands b o n other h e)
-        ∙ omega (arith, sym e ∙ first, count_joined (marks_of_body b) (marks_of_body o))
+        ∙ omega (arith, sym e ∙ first, count_joined (beginnings_of_body b) (beginnings_of_body o))
 
     -- a core's first block is there
-    core_is_there : (c : CoreTerm) (n : ℕ) → StandAt text n (marks_of_core c) → n < length text.entries
+    core_is_there : (c : CoreTerm) (n : ℕ) → StandAt text n (beginnings_of_core c) → n < length text.entries
     core_is_there (IfTerm at test body) n h = body_is_there body n h
-    core_is_there (IfElseTerm at test body else_) n h = body_is_there body n (stand_front n (marks_of_body body) (marks_of_body else_) h)
+    core_is_there (IfElseTerm at test body else_) n h = body_is_there body n (stand_front n (beginnings_of_body body) (beginnings_of_body else_) h)
     core_is_there (ForTerm at binders body) n h = body_is_there body n h
     core_is_there (IntersectionForTerm at binders body) n h = body_is_there body n h
     core_is_there (ModuleCallTerm at name args body) n h = body_is_there body n h
 
-    core_blocks : (c : CoreTerm) (n other : ℕ) → StandAt text n (marks_of_core c) → Ends n other → CoreHasBlocks text c n other
+    core_blocks : (c : CoreTerm) (n other : ℕ) → StandAt text n (beginnings_of_core c) → Ends n other → CoreHasBlocks text c n other
     core_blocks (IfTerm at test body) n other h e = body_stands body n h
     core_blocks (IfElseTerm at test body else_) n other h e = (
-      body_stands body n (stand_front n (marks_of_body body) (marks_of_body else_) h),
+      body_stands body n (stand_front n (beginnings_of_body body) (beginnings_of_body else_) h),
       body_stands else_ other (other_stands body else_ n other h e),
     )
     core_blocks (ForTerm at binders body) n other h e = body_stands body n h
@@ -104,15 +104,15 @@ module _ (text : NumberedText) where
     core_blocks (ModuleCallTerm at name args body) n other h e = body_stands body n h
 
     -- a core ends behind its one body, or behind the second one
-    core_ends : (c : CoreTerm) (n : ℕ) → StandAt text n (marks_of_core c) → has_else c ≡ false
-        → Ends n (n + count_blocks (marks_of_core c))
+    core_ends : (c : CoreTerm) (n : ℕ) → StandAt text n (beginnings_of_core c) → has_else c ≡ false
+        → Ends n (n + count_blocks (beginnings_of_core c))
     core_ends (IfTerm at test body) n h not_so = body_ends body n h
     core_ends (IfElseTerm at test body else_) n h not_so = no_two not_so
     core_ends (ForTerm at binders body) n h not_so = body_ends body n h
     core_ends (IntersectionForTerm at binders body) n h not_so = body_ends body n h
     core_ends (ModuleCallTerm at name args body) n h not_so = body_ends body n h
 
-    else_is_there : (c : CoreTerm) (n other : ℕ) → StandAt text n (marks_of_core c) → Ends n other → has_else c ≡ true
+    else_is_there : (c : CoreTerm) (n other : ℕ) → StandAt text n (beginnings_of_core c) → Ends n other → has_else c ≡ true
         → other < length text.entries
     else_is_there (IfTerm at test body) n other h e is_so = no_two (sym is_so)
     else_is_there (IfElseTerm at test body else_) n other h e is_so = body_is_there else_ other (other_stands body else_ n other h e)
@@ -120,8 +120,8 @@ module _ (text : NumberedText) where
     else_is_there (IntersectionForTerm at binders body) n other h e is_so = no_two (sym is_so)
     else_is_there (ModuleCallTerm at name args body) n other h e is_so = no_two (sym is_so)
 
-    else_ends : (c : CoreTerm) (n other : ℕ) → StandAt text n (marks_of_core c) → Ends n other → has_else c ≡ true
-        → Ends other (n + count_blocks (marks_of_core c))
+    else_ends : (c : CoreTerm) (n other : ℕ) → StandAt text n (beginnings_of_core c) → Ends n other → has_else c ≡ true
+        → Ends other (n + count_blocks (beginnings_of_core c))
     else_ends (IfTerm at test body) n other h e is_so = no_two (sym is_so)
     else_ends (IfElseTerm at test body else_) n other h e is_so = two_end body else_ n other h e
     else_ends (ForTerm at binders body) n other h e is_so = no_two (sym is_so)
@@ -129,24 +129,24 @@ module _ (text : NumberedText) where
     else_ends (ModuleCallTerm at name args body) n other h e is_so = no_two (sym is_so)
 
     -- the same of an instance
-    pub instance_is_there : (i : InstanceTerm) (n : ℕ) → StandAt text n (marks_of_instance i) → n < length text.entries
-    instance_is_there (AnInstance at marks core) n h = core_is_there core n h
+    pub instance_is_there : (i : InstanceTerm) (n : ℕ) → StandAt text n (beginnings_of_instance i) → n < length text.entries
+    instance_is_there (AnInstance at beginnings core) n h = core_is_there core n h
 
-    pub instance_blocks : (i : InstanceTerm) (n other : ℕ) → StandAt text n (marks_of_instance i) → Ends n other
+    pub instance_blocks : (i : InstanceTerm) (n other : ℕ) → StandAt text n (beginnings_of_instance i) → Ends n other
         → CoreHasBlocks text (core_of i) n other
-    instance_blocks (AnInstance at marks core) n other h e = core_blocks core n other h e
+    instance_blocks (AnInstance at beginnings core) n other h e = core_blocks core n other h e
 
-    pub instance_ends : (i : InstanceTerm) (n : ℕ) → StandAt text n (marks_of_instance i) → has_else (core_of i) ≡ false
-        → Ends n (n + count_blocks (marks_of_instance i))
-    instance_ends (AnInstance at marks core) n h not_so = core_ends core n h not_so
+    pub instance_ends : (i : InstanceTerm) (n : ℕ) → StandAt text n (beginnings_of_instance i) → has_else (core_of i) ≡ false
+        → Ends n (n + count_blocks (beginnings_of_instance i))
+    instance_ends (AnInstance at beginnings core) n h not_so = core_ends core n h not_so
 
-    pub second_is_there : (i : InstanceTerm) (n other : ℕ) → StandAt text n (marks_of_instance i) → Ends n other
+    pub second_is_there : (i : InstanceTerm) (n other : ℕ) → StandAt text n (beginnings_of_instance i) → Ends n other
         → has_else (core_of i) ≡ true → other < length text.entries
-    second_is_there (AnInstance at marks core) n other h e is_so = else_is_there core n other h e is_so
+    second_is_there (AnInstance at beginnings core) n other h e is_so = else_is_there core n other h e is_so
 
-    pub second_ends : (i : InstanceTerm) (n other : ℕ) → StandAt text n (marks_of_instance i) → Ends n other
-        → has_else (core_of i) ≡ true → Ends other (n + count_blocks (marks_of_instance i))
-    second_ends (AnInstance at marks core) n other h e is_so = else_ends core n other h e is_so
+    pub second_ends : (i : InstanceTerm) (n other : ℕ) → StandAt text n (beginnings_of_instance i) → Ends n other
+        → has_else (core_of i) ≡ true → Ends other (n + count_blocks (beginnings_of_instance i))
+    second_ends (AnInstance at beginnings core) n other h e is_so = else_ends core n other h e is_so
 
 -- the core of an instance in memory
 pub core_there : (i : Instance) → core_of (instance_of i) ≡ core_in_memory i.core
@@ -184,23 +184,23 @@ evaluated_first s rest = filter-append is_on (instances_of s) (instances_in rest
 
 -- one statement more of a list, of which these are remaining
 pub record RemainingStatements (text : NumberedText) (first next : ℕ) (all remaining : StatementTerms) (before now : List InstanceTerm) : Type 0 where
-  pub stand : StandAt text next (marks_in remaining)
-  pub count : next + count_blocks (marks_in remaining) ≡ first + count_blocks (marks_in all)
+  pub stand : StandAt text next (beginnings_in remaining)
+  pub count : next + count_blocks (beginnings_in remaining) ≡ first + count_blocks (beginnings_in all)
   pub found : now ++ evaluated_in remaining ≡ before ++ evaluated_in all
 
 pub remaining_more : (text : NumberedText) (first next then : ℕ) (all remaining : StatementTerms) (before now later : List InstanceTerm)
     (s : StatementTerm) (rest : StatementTerms) → RemainingStatements text first next all remaining before now → remaining ≡ and_statement s rest
-    → then ≡ next + count_blocks (marks_of s) → later ≡ now ++ filter is_on (instances_of s)
+    → then ≡ next + count_blocks (beginnings_of s) → later ≡ now ++ filter is_on (instances_of s)
     → RemainingStatements text first then all rest before later
 remaining_more text first next then all remaining before now later s rest l e c f =
-    let stand = subst (λ (ss : StatementTerms). StandAt text next (marks_in ss)) e l.stand in
+    let stand = subst (λ (ss : StatementTerms). StandAt text next (beginnings_in ss)) e l.stand in
     record {
-      stand = subst (λ k. StandAt text k (marks_in rest)) (sym c) (stand_behind text next (marks_of s) (marks_in rest) stand);
+      stand = subst (λ k. StandAt text k (beginnings_in rest)) (sym c) (stand_behind text next (beginnings_of s) (beginnings_in rest) stand);
       count = omega (
         arith,
         c,
-        count_joined (marks_of s) (marks_in rest),
-        ap (λ (ss : StatementTerms). next + count_blocks (marks_in ss)) (sym e) ∙ l.count,
+        count_joined (beginnings_of s) (beginnings_in rest),
+        ap (λ (ss : StatementTerms). next + count_blocks (beginnings_in ss)) (sym e) ∙ l.count,
       );
       found = ap (λ (is : List InstanceTerm). is ++ evaluated_in rest) f
           ∙ append_assoc now (filter is_on (instances_of s)) (evaluated_in rest)
@@ -210,22 +210,22 @@ remaining_more text first next then all remaining before now later s rest l e c 
 
 pub remaining_first : (text : NumberedText) (first next : ℕ) (all remaining : StatementTerms) (before now : List InstanceTerm)
     (s : StatementTerm) (rest : StatementTerms) → RemainingStatements text first next all remaining before now → remaining ≡ and_statement s rest
-    → StandAt text next (marks_of s)
+    → StandAt text next (beginnings_of s)
 remaining_first text first next all remaining before now s rest l e =
-    stand_front text next (marks_of s) (marks_in rest) (subst (λ (ss : StatementTerms). StandAt text next (marks_in ss)) e l.stand)
+    stand_front text next (beginnings_of s) (beginnings_in rest) (subst (λ (ss : StatementTerms). StandAt text next (beginnings_in ss)) e l.stand)
 
 pub remaining_none : (text : NumberedText) (first next : ℕ) (all remaining : StatementTerms) (before now : List InstanceTerm)
     → RemainingStatements text first next all remaining before now → remaining ≡ no_statements
-    → (next ≡ first + count_blocks (marks_in all)) × (now ≡ before ++ evaluated_in all)
+    → (next ≡ first + count_blocks (beginnings_in all)) × (now ≡ before ++ evaluated_in all)
 remaining_none text first next all remaining before now l e = (
-  omega (arith, ap (λ (ss : StatementTerms). next + count_blocks (marks_in ss)) (sym e) ∙ l.count),
+  omega (arith, ap (λ (ss : StatementTerms). next + count_blocks (beginnings_in ss)) (sym e) ∙ l.count),
   sym (append-nil now) ∙ ap (λ (ss : StatementTerms). now ++ evaluated_in ss) (sym e) ∙ l.found,
 )
 
 -- the next statement of a list in memory stands where it is looked for
 pub here_stands : (text : NumberedText) (first next : ℕ) (all : StatementTerms) (before now : List InstanceTerm) (ss : List Statement) (i : ℕ)
     (s : Statement) → i < length ss → s ≡ get_or ss i s
-    → RemainingStatements text first next all (statements_from (map statement_of (drop i ss))) before now → StandAt text next (marks_of (statement_of s))
+    → RemainingStatements text first next all (statements_from (map statement_of (drop i ss))) before now → StandAt text next (beginnings_of (statement_of s))
 here_stands text first next all before now ss i s h e l =
     remaining_first text first next all _ before now (statement_of s) (statements_from (map statement_of (drop (i + 1) ss))) l
     (statements_here ss i s h e)

@@ -5,7 +5,7 @@ ghost use Rattle.std.specs.List.{list_any};
 ghost use Rattle.scad_ast.specs.StatementView.{marks_of, instance_of, statements_of, body_of};
 ghost use Rattle.scad_meaning.specs.Bodies.{switches_off as switches_off_at, is_root as is_root_at, is_on as is_on_at, is_marked as is_marked_at, is_bare as is_bare_at, has_no_items};
 
-use scad_ast::{Body, Instance, Marks, Modifier, Statements};
+use scad_ast::{Body, Instance, Modifier, PlacedModifiers, Statements};
 
 /// Whether an instance is evaluated: one marked `*` or `%` counts as not written.
 pub(crate) fn is_on(instance: &Instance) -> bool
@@ -21,7 +21,7 @@ pub fn is_marked(instance: &Instance) -> bool
     any_root(&instance.marks)
 }
 
-fn any_off(marks: &Marks) -> bool
+fn any_off(marks: &PlacedModifiers) -> bool
     ensures { result ≡ list_any (λ m. switches_off_at m.modifier) (marks_of marks.now) }
 {
     for mark in &marks.items {
@@ -32,7 +32,7 @@ fn any_off(marks: &Marks) -> bool
     false
 }
 
-fn any_root(marks: &Marks) -> bool
+fn any_root(marks: &PlacedModifiers) -> bool
     ensures { result ≡ list_any (λ m. is_root_at m.modifier) (marks_of marks.now) }
 {
     for mark in &marks.items {

@@ -5,7 +5,7 @@ ghost use Rattle.std.specs.Prelude.{◌≡◌, ◌<◌, ◌+◌, ◌++◌, ◌�
 ghost use Rattle.std.specs.List.{All, filter};
 ghost use Rattle.scad_ast.specs.Terms.{statements_from};
 ghost use Rattle.scad_ast.specs.StatementView.{core_of, instance_of, statement_of, statements_of};
-ghost use Rattle.scad_blocks.specs.Blocks.{NumberedText, StandAt, marks_in, marks_of, marks_of_instance, count_blocks, nothing_there};
+ghost use Rattle.scad_blocks.specs.Blocks.{NumberedText, StandAt, beginnings_in, beginnings_of, beginnings_of_instance, count_blocks, nothing_there};
 ghost use Rattle.scad_func.specs.Definitions.{statements_at, IsWhole};
 ghost use Rattle.scad_func.specs.View.{source_text};
 ghost use Rattle.scad_meaning.specs.Bodies.{instances_of, evaluated_in, is_on as is_on_at};
@@ -84,9 +84,9 @@ fn add_all<'a>(
     found: &mut Vec<NumberedInstance<'a>>,
 ) -> Result<u32, NoMemory>
     requires whole { IsWhole (source_text source.now) }
-    requires stand { StandAt (source_text source.now) first (marks_in (statements_from (statements_of statements.now))) }
+    requires stand { StandAt (source_text source.now) first (beginnings_in (statements_from (statements_of statements.now))) }
     requires before { All (HasBlocks (source_text source.now)) found.old.items }
-    ensures behind { IfOk result (λ n. n ≡ first + count_blocks (marks_in (statements_from (statements_of statements.now)))) }
+    ensures behind { IfOk result (λ n. n ≡ first + count_blocks (beginnings_in (statements_from (statements_of statements.now)))) }
     ensures instances { OnOk result (map term_of_numbered found.new.items ≡ map term_of_numbered found.old.items
         ++ evaluated_in (statements_from (statements_of statements.now))) }
     ensures blocks { OnOk result (All (HasBlocks (source_text source.now)) found.new.items) }
@@ -106,9 +106,9 @@ fn add<'a>(
     found: &mut Vec<NumberedInstance<'a>>,
 ) -> Result<u32, NoMemory>
     requires whole { IsWhole (source_text source.now) }
-    requires stand { StandAt (source_text source.now) first (marks_of (statement_of statement.now)) }
+    requires stand { StandAt (source_text source.now) first (beginnings_of (statement_of statement.now)) }
     requires before { All (HasBlocks (source_text source.now)) found.old.items }
-    ensures behind { IfOk result (λ n. n ≡ first + count_blocks (marks_of (statement_of statement.now))) }
+    ensures behind { IfOk result (λ n. n ≡ first + count_blocks (beginnings_of (statement_of statement.now))) }
     ensures instances { OnOk result (map term_of_numbered found.new.items ≡ map term_of_numbered found.old.items
         ++ filter is_on_at (instances_of (statement_of statement.now))) }
     ensures blocks { OnOk result (All (HasBlocks (source_text source.now)) found.new.items) }
@@ -131,9 +131,9 @@ fn add_instance<'a>(
     found: &mut Vec<NumberedInstance<'a>>,
 ) -> Result<u32, NoMemory>
     requires whole { IsWhole (source_text source.now) }
-    requires stand { StandAt (source_text source.now) block (marks_of_instance (instance_of instance.now)) }
+    requires stand { StandAt (source_text source.now) block (beginnings_of_instance (instance_of instance.now)) }
     requires before { All (HasBlocks (source_text source.now)) found.old.items }
-    ensures behind { IfOk result (λ n. n ≡ block + count_blocks (marks_of_instance (instance_of instance.now))) }
+    ensures behind { IfOk result (λ n. n ≡ block + count_blocks (beginnings_of_instance (instance_of instance.now))) }
     ensures instances { OnOk result (map term_of_numbered found.new.items ≡ map term_of_numbered found.old.items
         ++ filter is_on_at (instance_of instance.now ∷ [])) }
     ensures blocks { OnOk result (All (HasBlocks (source_text source.now)) found.new.items) }
@@ -146,7 +146,7 @@ fn add_instance<'a>(
 // An instance whose blocks begin at a number.
 fn with_blocks<'a>(source: &Source<'a>, instance: &'a Instance, block: u32) -> NumberedInstance<'a>
     requires whole { IsWhole (source_text source.now) }
-    requires stand { StandAt (source_text source.now) block (marks_of_instance (instance_of instance.now)) }
+    requires stand { StandAt (source_text source.now) block (beginnings_of_instance (instance_of instance.now)) }
     ensures same { (term_of_numbered result ≡ instance_of instance.now) × (result.block ≡ block) }
     ensures other { result.other ≡ (slice_index_or (source_text source.now).entries block nothing_there).behind }
     ensures blocks { HasBlocks (source_text source.now) result }
@@ -161,9 +161,9 @@ fn with_blocks<'a>(source: &Source<'a>, instance: &'a Instance, block: u32) -> N
 // The number behind all blocks of an instance.
 fn behind(source: &Source<'_>, numbered: NumberedInstance<'_>) -> u32
     requires whole { IsWhole (source_text source.now) }
-    requires stand { StandAt (source_text source.now) numbered.block (marks_of_instance (term_of_numbered numbered)) }
+    requires stand { StandAt (source_text source.now) numbered.block (beginnings_of_instance (term_of_numbered numbered)) }
     requires other { numbered.other ≡ (slice_index_or (source_text source.now).entries numbered.block nothing_there).behind }
-    ensures { result ≡ numbered.entry.block + count_blocks (marks_of_instance (term_of_numbered numbered.entry)) }
+    ensures { result ≡ numbered.entry.block + count_blocks (beginnings_of_instance (term_of_numbered numbered.entry)) }
 {
     if has_else(&numbered.instance.core) {
         source.blocks.behind(numbered.other)

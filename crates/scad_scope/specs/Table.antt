@@ -8,7 +8,7 @@ use Rattle.scad_value.specs.Values.{Val, is_bounded}
 use Rattle.scad_value.specs.View.{val_of}
 use Rattle.scad_scope.specs.declared.scopes.Scopes.{Scopes}
 use Rattle.scad_scope.specs.declared.table.Found.{Found}
-use Rattle.scad_scope.specs.declared.table.Call.{Call}
+use Rattle.scad_scope.specs.declared.table.ModuleCall.{ModuleCall}
 use Rattle.scad_scope.specs.Names.{Pairs, Row, NumberedEnv, NumberedCall, no_numbered_call, numbered_call, env_of}
 use Rattle.scad_scope.specs.View.{variables_of, rows_in}
 
@@ -38,7 +38,7 @@ pub record IsVariable (wanted : Option Val) (value : Value) : Type 0 where
   pub bounded : IsTrue (is_bounded (val_of value))
 
 -- what is answered as a call of a table's scopes
-abbrev pub call_told : (ℕ → NumberedEnv) → Option Call → NumberedCall
+abbrev pub call_told : (ℕ → NumberedEnv) → Option ModuleCall → NumberedCall
 call_told scope None = no_numbered_call
 call_told scope (Some call) = numbered_call call.children (scope call.caller)
 

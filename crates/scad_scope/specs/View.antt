@@ -6,7 +6,7 @@ use Rattle.scad_value.specs.Values.{Val}
 use Rattle.scad_value.specs.View.{val_of}
 use Rattle.newest_names.specs.declared.list.NameList.{NameList}
 use Rattle.newest_names.specs.Names.{newest_first}
-use Rattle.scad_scope.specs.declared.table.Call.{Call}
+use Rattle.scad_scope.specs.declared.table.ModuleCall.{ModuleCall}
 use Rattle.scad_scope.specs.declared.table.Scope.{Scope}
 use Rattle.scad_scope.specs.declared.table.Family.{Family}
 use Rattle.scad_scope.specs.declared.table.Family.TheVariants.{Functions, Modules}
@@ -19,7 +19,7 @@ variable_seen p = (p.0, val_of p.1.value)
 abbrev pub variables_of : NameList BoundedValue → Pairs Val
 variables_of names = map variable_seen (newest_first names)
 
-abbrev pub call_seen : Option Call → Option (ℕ × ℕ)
+abbrev pub call_seen : Option ModuleCall → Option (ℕ × ℕ)
 call_seen None = None
 call_seen (Some c) = Some (c.children, c.caller)
 

@@ -12,4 +12,4 @@ pub use scad_arguments::{
 };
 pub use scad_blocks::{Assignment, BlockText, Blocks, Function, Module};
 pub use scopes::Scopes;
-pub use table::{Call, Found};
+pub use table::{Found, ModuleCall};

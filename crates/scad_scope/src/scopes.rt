@@ -1,7 +1,7 @@
 use crate::fault::fault;
 use crate::own::{empty, scope_of_block};
 use crate::table::{
-    Call, Family, Found, Scope, begun_chain, call_before, definitions, find_definition,
+    Family, Found, ModuleCall, Scope, begun_chain, call_before, definitions, find_definition,
     find_variable,
 };
 use newest_names::NameList;
@@ -86,7 +86,7 @@ impl Scopes {
         outer: u32,
         blocks: &Blocks<'_>,
         block: u32,
-        call: Call,
+        call: ModuleCall,
     ) -> Result<u32, NoMemory>
         requires outer { outer < length (rows_of self.old) }
         requires caller { call.caller < length (rows_of self.old) }
@@ -156,7 +156,7 @@ impl Scopes {
 
     /// The innermost call, from a scope outward, whose scope is one of them: the call that encloses
     /// what is evaluated in the scope. None where there is no such call.
-    pub fn call_of(&self, scope: u32) -> Option<Call>
+    pub fn call_of(&self, scope: u32) -> Option<ModuleCall>
         requires { scope < length (rows_of self.now) }
         ensures value { enclosing_call (env_of (rows_of self.now) scope) ≡ call_told (env_of (rows_of self.now)) result }
         ensures there { IfSome result (λ c. c.caller < length (rows_of self.now)) }

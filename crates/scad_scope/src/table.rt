@@ -13,7 +13,7 @@ use text_place::{Bytes, NoMemory};
 
 /// A call of a module of the source.
 #[derive(Clone, Copy, PartialEq, Eq)]
-pub struct Call {
+pub struct ModuleCall {
     /// The number of the block of its children.
     pub children: u32,
     /// The number of the scope of its caller.
@@ -28,7 +28,7 @@ pub(crate) struct Scope {
     pub(crate) functions: NameList<u32>,
     pub(crate) modules: NameList<u32>,
     pub(crate) outer: u32,
-    pub(crate) call: Option<Call>,
+    pub(crate) call: Option<ModuleCall>,
 }
 
 impl Scope {
@@ -46,7 +46,7 @@ impl Scope {
     }
 
     /// The same as the scope of a call.
-    pub(crate) fn of_call(self, call: Call) -> Scope
+    pub(crate) fn of_call(self, call: ModuleCall) -> Scope
         ensures { row_of result ≡ called_row call.children call.caller (row_of self) }
     {
         Scope {
@@ -131,7 +131,7 @@ fn with_number(
 }
 
 /// The call of a scope of this number, where the caller's scope comes before it.
-pub(crate) fn call_before(scope: &Scope, number: u32) -> Option<Call>
+pub(crate) fn call_before(scope: &Scope, number: u32) -> Option<ModuleCall>
     ensures told { (look : ℕ → NumberedEnv) → call_behind look number (row_of scope.now).call ≡ call_told look result }
     ensures before { IfSome result (λ c. c.caller < number) }
 {

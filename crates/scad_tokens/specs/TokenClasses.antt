@@ -7,8 +7,8 @@ use Rattle.scad_grammar.specs.StatementReads.{mark_signs, loop_words, firsts_of_
 use Rattle.scad_grammar.specs.Faults.{left_out, left_out_of_expressions}
 use Rattle.scad_tokens.specs.declared.class.Level.{Level}
 use Rattle.scad_tokens.specs.declared.class.Level.TheVariants.{Or, And, Equal, Order, Sum, Product}
-use Rattle.scad_tokens.specs.declared.class.Class.{Class}
-use Rattle.scad_tokens.specs.declared.class.Class.TheVariants.{Name, Special, ArgumentName, End, Word, Sign, Literal, Atom, Continuation, Operator, BinaryOperator, UnaryOperator, Suffix, Mark, LoopWord, Expression, Statement, Body, LeftOut, LeftOutOfExpressions}
+use Rattle.scad_tokens.specs.declared.class.TokenClass.{TokenClass}
+use Rattle.scad_tokens.specs.declared.class.TokenClass.TheVariants.{Name, Special, ArgumentName, End, Word, Sign, Literal, Atom, Continuation, Operator, BinaryOperator, UnaryOperator, Suffix, Modifier, LoopWord, Expression, Statement, Body, LeftOut, LeftOutOfExpressions}
 
 -- all operators of two sides
 abbrev pub joined : List (List ℕ) → List ℕ
@@ -71,7 +71,7 @@ abbrev pub tighter_levels : Level → ℕ
 tighter_levels level = length (levels_below level)
 
 -- the classes of the tokens of a class
-abbrev pub classes_of : Class → List ℕ
+abbrev pub classes_of : TokenClass → List ℕ
 classes_of Name = name ∷ []
 classes_of Special = special ∷ []
 classes_of ArgumentName = argument_names
@@ -85,7 +85,7 @@ classes_of (Operator level) = operators_at level
 classes_of BinaryOperator = binary_signs
 classes_of UnaryOperator = unary_signs
 classes_of Suffix = suffix_signs
-classes_of Mark = mark_signs
+classes_of Modifier = mark_signs
 classes_of LoopWord = loop_words
 classes_of Expression = firsts_of_expression
 classes_of Statement = firsts_of_statement

@@ -67,7 +67,7 @@ impl Level {
 
 /// A class of tokens.
 #[derive(Clone, Copy, Debug, PartialEq, Eq)]
-pub enum Class {
+pub enum TokenClass {
     Name,
     /// A special name other than `$children`.
     Special,
@@ -88,7 +88,7 @@ pub enum Class {
     UnaryOperator,
     /// What may begin an index or a member.
     Suffix,
-    Mark,
+    Modifier,
     LoopWord,
     /// What may begin an expression.
     Expression,
@@ -102,7 +102,7 @@ pub enum Class {
     LeftOutOfExpressions,
 }
 
-impl Class {
+impl TokenClass {
     /// Whether a token is of this class.
     #[inline(always)]
     pub fn has(self, kind: &TokenKind) -> bool
@@ -115,7 +115,7 @@ impl Class {
             TokenKind::Name(_) => self.has_name(),
             TokenKind::Numeral(_) => self.has_numeral(),
             TokenKind::Text(_) => self.has_text(),
-            TokenKind::End => matches!(self, Class::End),
+            TokenKind::End => matches!(self, TokenClass::End),
         }
     }
 
@@ -124,45 +124,54 @@ impl Class {
     {
         matches!(
             self,
-            Class::Name
-                | Class::ArgumentName
-                | Class::Atom
-                | Class::Expression
-                | Class::Statement
-                | Class::Body
+            TokenClass::Name
+                | TokenClass::ArgumentName
+                | TokenClass::Atom
+                | TokenClass::Expression
+                | TokenClass::Statement
+                | TokenClass::Body
         )
     }
 
     fn has_numeral(self) -> bool
         ensures { result ≡ listed (classes_of self) numeral }
     {
-        matches!(self, Class::Literal | Class::Atom | Class::Expression)
+        matches!(
+            self,
+            TokenClass::Literal | TokenClass::Atom | TokenClass::Expression
+        )
     }
 
     fn has_text(self) -> bool
         ensures { result ≡ listed (classes_of self) text }
     {
-        matches!(self, Class::Literal | Class::Atom | Class::Expression)
+        matches!(
+            self,
+            TokenClass::Literal | TokenClass::Atom | TokenClass::Expression
+        )
     }
 
     fn has_symbol(self, symbol: Symbol) -> bool
         ensures { result ≡ listed (classes_of self) (symbol_class symbol) }
     {
         match self {
-            Class::Sign(wanted) => symbol == wanted,
-            Class::Operator(level) => level.has(symbol),
-            Class::BinaryOperator => is_binary(symbol),
-            Class::UnaryOperator => is_unary(symbol),
-            Class::Continuation => is_continuation(symbol),
-            Class::Suffix => matches!(symbol, Symbol::OpenBracket | Symbol::Dot),
-            Class::Mark => is_mark(symbol),
-            Class::Expression => {
+            TokenClass::Sign(wanted) => symbol == wanted,
+            TokenClass::Operator(level) => level.has(symbol),
+            TokenClass::BinaryOperator => is_binary(symbol),
+            TokenClass::UnaryOperator => is_unary(symbol),
+            TokenClass::Continuation => is_continuation(symbol),
+            TokenClass::Suffix => matches!(symbol, Symbol::OpenBracket | Symbol::Dot),
+            TokenClass::Modifier => is_mark(symbol),
+            TokenClass::Expression => {
                 is_unary(symbol) || matches!(symbol, Symbol::OpenParenthesis | Symbol::OpenBracket)
             }
-            Class::Statement | Class::Body => {
+            TokenClass::Statement | TokenClass::Body => {
                 is_mark(symbol) || matches!(symbol, Symbol::Semicolon | Symbol::OpenBrace)
             }
-            Class::LeftOut | Class::LeftOutOfExpressions => matches!(symbol, Symbol::Caret),
+            TokenClass::LeftOut | TokenClass::LeftOutOfExpressions => matches!(
+                symbol,
+                Symbol::Caret
+            ),
             _ => false,
         }
     }
@@ -171,17 +180,17 @@ impl Class {
         ensures { result ≡ listed (classes_of self) (reserved_class word) }
     {
         match self {
-            Class::Word(wanted) => word == wanted,
-            Class::Literal | Class::Atom | Class::Expression => {
+            TokenClass::Word(wanted) => word == wanted,
+            TokenClass::Literal | TokenClass::Atom | TokenClass::Expression => {
                 matches!(word, Reserved::True | Reserved::False | Reserved::Undef)
             }
-            Class::LoopWord => matches!(word, Reserved::For | Reserved::IntersectionFor),
-            Class::Body => begins_core(word),
-            Class::Statement => {
+            TokenClass::LoopWord => matches!(word, Reserved::For | Reserved::IntersectionFor),
+            TokenClass::Body => begins_core(word),
+            TokenClass::Statement => {
                 begins_core(word) || matches!(word, Reserved::Module | Reserved::Function)
             }
-            Class::LeftOut => is_left_out(word),
-            Class::LeftOutOfExpressions => {
+            TokenClass::LeftOut => is_left_out(word),
+            TokenClass::LeftOutOfExpressions => {
                 is_left_out(word)
                     || matches!(word, Reserved::For | Reserved::If | Reserved::Function)
             }
@@ -193,12 +202,12 @@ impl Class {
         ensures { result ≡ listed (classes_of self) (cond is_child_count child_count special) }
     {
         match self {
-            Class::Literal | Class::Atom | Class::Expression => true,
-            Class::Special
-            | Class::ArgumentName
-            | Class::Statement
-            | Class::LeftOut
-            | Class::LeftOutOfExpressions => !is_child_count,
+            TokenClass::Literal | TokenClass::Atom | TokenClass::Expression => true,
+            TokenClass::Special
+            | TokenClass::ArgumentName
+            | TokenClass::Statement
+            | TokenClass::LeftOut
+            | TokenClass::LeftOutOfExpressions => !is_child_count,
             _ => false,
         }
     }

@@ -5,7 +5,7 @@
 mod class;
 mod next;
 
-pub use class::{Class, Level};
+pub use class::{Level, TokenClass};
 pub use next::{
     Parsed, Stopped, assigned, behind_comma, binary, boxed, bytes, closed, is_before,
     is_comma_and_name, is_comma_before, list_of, lone_atom, modifier, not_expected, take,

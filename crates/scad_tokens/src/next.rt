@@ -5,10 +5,10 @@ ghost use Rattle.scad_grammar.specs.Grammar.{binary_at, unary_at, modifier_at};
 ghost use Rattle.scad_grammar.specs.Faults.{one, first};
 ghost use Rattle.scad_grammar.specs.Reading.{starts};
 ghost use Rattle.scad_tokens.specs.TokenClasses.{classes_of, continuations};
-ghost use Rattle.scad_tokens.specs.declared.class.Class.TheVariants.{LeftOut};
+ghost use Rattle.scad_tokens.specs.declared.class.TokenClass.TheVariants.{LeftOut};
 ghost use Rattle.scad_tokens.specs.Views.{Gives, IsStop, IsClosed, IsBoxed, nested_fault, fault_at, item_stands, past_comma, value_assigned, has_lone_atom};
 
-use crate::class::Class;
+use crate::class::TokenClass;
 use compact_bytes::CompactBytes;
 use scad_ast::{BinaryOp, Modifier, UnaryOp};
 use scad_grammar::SyntaxFault;
@@ -66,7 +66,7 @@ pub fn closed<'a, T: Drop>(read: Parsed<'a, T>, close: Symbol) -> Parsed<'a, T>
     ensures { IsClosed (is (symbol_class close)) read.entry result }
 {
     match read {
-        Ok((value, rest)) => match take(Class::Sign(close), rest) {
+        Ok((value, rest)) => match take(TokenClass::Sign(close), rest) {
             Ok((_, rest)) => Ok((value, rest)),
             Err(stopped) => Err(stopped),
         },
@@ -93,7 +93,7 @@ pub fn list_of<T: Drop>(alloc: Global, first: T, room: usize) -> Result<Vec<T>, 
     Ok(items)
 }
 
-impl Class {
+impl TokenClass {
     /// Whether the next token is of this class.
     #[inline(always)]
     pub fn begins(self, tokens: &[Token]) -> bool
@@ -125,7 +125,7 @@ pub fn is_before(close: Symbol, tokens: &[Token]) -> bool
 {
     match tokens {
         [] => false,
-        [token, ..] => !Class::Sign(close).has(&token.kind),
+        [token, ..] => !TokenClass::Sign(close).has(&token.kind),
     }
 }
 
@@ -136,7 +136,8 @@ pub fn is_comma_before(close: Symbol, tokens: &[Token]) -> bool
 {
     match tokens {
         [] => false,
-        [token, rest @ ..] => Class::Sign(Symbol::Comma).has(&token.kind) && is_before(close, rest),
+        [token, rest @ ..] => TokenClass::Sign(Symbol::Comma).has(&token.kind)
+            && is_before(close, rest),
     }
 }
 
@@ -147,7 +148,7 @@ pub fn is_comma_and_name(tokens: &[Token]) -> bool
     match tokens {
         [] => false,
         [token, rest @ ..] => {
-            Class::Sign(Symbol::Comma).has(&token.kind) && Class::Name.begins(rest)
+            TokenClass::Sign(Symbol::Comma).has(&token.kind) && TokenClass::Name.begins(rest)
         }
     }
 }
@@ -158,7 +159,7 @@ pub fn behind_comma(tokens: &[Token]) -> &[Token]
     ensures within { length result.now ≤ length tokens.now }
 {
     match tokens {
-        [token, rest @ ..] if Class::Sign(Symbol::Comma).has(&token.kind) => rest,
+        [token, rest @ ..] if TokenClass::Sign(Symbol::Comma).has(&token.kind) => rest,
         _ => tokens,
     }
 }
@@ -170,7 +171,7 @@ pub fn lone_atom<'a>(tokens: &'a [Token]) -> Option<(&'a Token, &'a [Token])>
     ensures none { IfNone result (has_lone_atom tokens.now ≡ false) }
 {
     match tokens {
-        [token, rest @ ..] if Class::Atom.has(&token.kind) && ends_atom(rest) => Some((
+        [token, rest @ ..] if TokenClass::Atom.has(&token.kind) && ends_atom(rest) => Some((
             token, rest,
         )),
         _ => None,
@@ -184,18 +185,18 @@ fn ends_atom(tokens: &[Token]) -> bool
 {
     match tokens {
         [] => false,
-        [token, ..] => !Class::Continuation.has(&token.kind),
+        [token, ..] => !TokenClass::Continuation.has(&token.kind),
     }
 }
 
 /// A token of a class and the tokens behind the `=` that follows it, where both stand here.
-pub fn assigned<'a>(class: Class, tokens: &'a [Token]) -> Option<(&'a Token, &'a [Token])>
+pub fn assigned<'a>(class: TokenClass, tokens: &'a [Token]) -> Option<(&'a Token, &'a [Token])>
     ensures some { IfSome result (λ p. value_assigned (classes_of class) tokens.now ≡ Some (p.0.now, p.1.now)) }
     ensures none { IfNone result (value_assigned (classes_of class) tokens.now ≡ None) }
 {
     match tokens {
         [token, sign, rest @ ..]
-            if class.has(&token.kind) && Class::Sign(Symbol::Assign).has(&sign.kind) => {
+            if class.has(&token.kind) && TokenClass::Sign(Symbol::Assign).has(&sign.kind) => {
             Some((token, rest))
         }
         _ => None,
@@ -204,31 +205,31 @@ pub fn assigned<'a>(class: Class, tokens: &'a [Token]) -> Option<(&'a Token, &'a
 
 /// One token of a class.
 #[inline(always)]
-pub fn take<'a>(class: Class, tokens: &'a [Token]) -> Parsed<'a, &'a Token>
+pub fn take<'a>(class: TokenClass, tokens: &'a [Token]) -> Parsed<'a, &'a Token>
     ensures value { Gives (λ p. (p.0.now, p.1.now)) result (one (among (classes_of class)) tokens.now) }
     ensures shorter { IfOk result (λ p. length p.1.now < length tokens.now) }
 {
     match tokens {
         [token, rest @ ..] if class.has(&token.kind) => Ok((token, rest)),
-        _ => Err(Stopped::Fault(fault(Class::LeftOut, tokens), tokens)),
+        _ => Err(Stopped::Fault(fault(TokenClass::LeftOut, tokens), tokens)),
     }
 }
 
 /// One token of a class, where an expression may begin.
 #[inline(always)]
-pub fn take_first<'a>(class: Class, tokens: &'a [Token]) -> Parsed<'a, &'a Token>
+pub fn take_first<'a>(class: TokenClass, tokens: &'a [Token]) -> Parsed<'a, &'a Token>
     ensures value { Gives (λ p. (p.0.now, p.1.now)) result (first (among (classes_of class)) tokens.now) }
     ensures shorter { IfOk result (λ p. length p.1.now < length tokens.now) }
 {
     match tokens {
         [token, rest @ ..] if class.has(&token.kind) => Ok((token, rest)),
-        _ => Err(Stopped::Fault(fault(Class::LeftOutOfExpressions, tokens), tokens)),
+        _ => Err(Stopped::Fault(fault(TokenClass::LeftOutOfExpressions, tokens), tokens)),
     }
 }
 
 // The fault of the next token, by what the profile leaves out here. It is not inlined, since faults are rare.
 #[inline(never)]
-fn fault(left_out: Class, tokens: &[Token]) -> SyntaxFault
+fn fault(left_out: TokenClass, tokens: &[Token]) -> SyntaxFault
     ensures { result ≡ fault_at (classes_of left_out) tokens.now }
 {
     if left_out.begins(tokens) {
@@ -242,11 +243,11 @@ fn fault(left_out: Class, tokens: &[Token]) -> SyntaxFault
 pub fn not_expected<'a>(tokens: &'a [Token]) -> Stopped<'a>
     ensures { IsStop result (fault_at (classes_of LeftOut) tokens.now) tokens.now }
 {
-    Stopped::Fault(fault(Class::LeftOut, tokens), tokens)
+    Stopped::Fault(fault(TokenClass::LeftOut, tokens), tokens)
 }
 
 /// The fault where nothing may stand that is deeper, by what would begin it.
-pub fn too_deep<'a>(begins: Class, left_out: Class, tokens: &'a [Token]) -> Stopped<'a>
+pub fn too_deep<'a>(begins: TokenClass, left_out: TokenClass, tokens: &'a [Token]) -> Stopped<'a>
     ensures { IsStop result (nested_fault (classes_of begins) (classes_of left_out) tokens.now) tokens.now }
 {
     if begins.begins(tokens) {

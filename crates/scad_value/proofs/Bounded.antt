@@ -12,7 +12,7 @@ use Rattle.scad_value.specs.declared.value.Value.{Value}
 use Rattle.scad_value.specs.declared.stop.ValueStop.{ValueStop}
 use Rattle.scad_value.specs.Values.{Val, NumberVal, TextVal, ListVal, Vals, no_vals, and_val, vals_from, count_of, parts_of, parts_in, is_long, is_small, has_small_numbers, have_small_numbers, is_bounded}
 use Rattle.scad_value.specs.Operators.{Answer, and_then, sized, number, made, listed, in_front, if_equal, by_parts, pairs_by_parts, each_part, each_of_parts, sum_row, difference_row, product_row, unless_zero, exact, quotient_row, remainder_row, dot_of, dot_row, product_of, quotient_of, remainder_of, order_of, tested, binary_of, unary_of, item_at, byte_at, index_of}
-use Rattle.scad_value.specs.View.{Tells, GivesBounded}
+use Rattle.scad_value.specs.View.{MeetsAnswer, GivesBounded}
 
 abbrev pub IsBoundedAnswer : Answer Val → Type 0
 IsBoundedAnswer (Ok v) = IsTrue (is_bounded v)
@@ -31,7 +31,7 @@ IsSmallAnswer (Ok n) = IsTrue (is_small n)
 IsSmallAnswer (Err kind) = Unit {0}
 
 -- what was told of a bounded answer
-pub bounded_told : (r : Result Value ValueStop) (answer : Answer Val) → Tells r answer
+pub bounded_told : (r : Result Value ValueStop) (answer : Answer Val) → MeetsAnswer r answer
     → IsBoundedAnswer answer → GivesBounded r
 bounded_told (Ok v) answer t b = subst IsBoundedAnswer t b
 bounded_told (Err stop) answer t b = tt

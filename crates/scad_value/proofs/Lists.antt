@@ -14,7 +14,7 @@ use Rattle.scad_value.specs.Values.{Val, NumberVal, TruthVal, TextVal, ListVal, 
 use Rattle.text_place.specs.declared.fault.FaultKind.{FaultKind}
 use Rattle.text_place.specs.declared.fault.FaultKind.TheVariants.{TypeMismatch}
 use Rattle.scad_value.specs.Operators.{Answer, in_front, if_equal, by_parts, pairs_by_parts, each_part, each_of_parts, and_then, dot_of, product_at, plus, dot_row, number, sized, item_at, byte_at}
-use Rattle.scad_value.specs.View.{val_of, vals_of, vals_in, value_step, values_step, Tells, TellsAll}
+use Rattle.scad_value.specs.View.{val_of, vals_of, vals_in, value_step, values_step, MeetsAnswer, MeetsAnswers}
 
 -- what a list in memory stands for
 pub vals_out : (vs : Values) → vals_of vs ≡ vals_in vs.items.items
@@ -143,10 +143,10 @@ parts_more row vs items i v x h e g =
     ∙ ap (λ l. in_front l tail) (sym (map-append val_of items (x ∷ [])))
 
 pub parts_stop : (row : _) (of : Values) (items : List Value) (i : ℕ) (v : Value) (stop : ValueStop)
-    → i < length of.items.items → v ≡ get_or of.items.items i v → Tells (Err stop) (each_part row (val_of v))
+    → i < length of.items.items → v ≡ get_or of.items.items i v → MeetsAnswer (Err stop) (each_part row (val_of v))
     → each_of_parts row (vals_from (vals_of of))
     ≡ in_front (vals_in items) (each_of_parts row (vals_from (vals_in (drop i of.items.items))))
-    → TellsAll (Err stop) (each_of_parts row (vals_from (vals_of of)))
+    → MeetsAnswers (Err stop) (each_of_parts row (vals_from (vals_of of)))
 parts_stop row of items i v (Kind kind) h e g told = told ∙ part_here row of.items.items items i v (Err kind) h e g
 parts_stop row of items i v NoMemory h e g told = tt
 

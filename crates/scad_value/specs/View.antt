@@ -37,15 +37,15 @@ Answers (Ok v) answer = answer ≡ Ok (val_of v)
 Answers (Err kind) answer = answer ≡ Err kind
 
 -- what was given is the answer, unless memory ran out
-abbrev pub Tells : Result Value ValueStop → Answer Val → Type 0
-Tells (Ok v) answer = answer ≡ Ok (val_of v)
-Tells (Err (Kind kind)) answer = answer ≡ Err kind
-Tells (Err NoMemory) answer = Unit {0}
+abbrev pub MeetsAnswer : Result Value ValueStop → Answer Val → Type 0
+MeetsAnswer (Ok v) answer = answer ≡ Ok (val_of v)
+MeetsAnswer (Err (Kind kind)) answer = answer ≡ Err kind
+MeetsAnswer (Err NoMemory) answer = Unit {0}
 
-abbrev pub TellsAll : Result Values ValueStop → Answer (List Val) → Type 0
-TellsAll (Ok vs) answer = answer ≡ Ok (vals_of vs)
-TellsAll (Err (Kind kind)) answer = answer ≡ Err kind
-TellsAll (Err NoMemory) answer = Unit {0}
+abbrev pub MeetsAnswers : Result Values ValueStop → Answer (List Val) → Type 0
+MeetsAnswers (Ok vs) answer = answer ≡ Ok (vals_of vs)
+MeetsAnswers (Err (Kind kind)) answer = answer ≡ Err kind
+MeetsAnswers (Err NoMemory) answer = Unit {0}
 
 -- the value that was given is bounded
 abbrev pub GivesBounded : Result Value ValueStop → Type 0

@@ -1,7 +1,7 @@
 ghost use Rattle.std.specs.Prelude.{◌≡◌, ◌<◌, ◌≤◌, ◌^◌, ◌*ℤ◌, length, IsTrue, IfOk, unsigned_abs};
 ghost use Rattle.scad_value.specs.Values.{count_of, parts_in, vals_from, is_small, has_small_numbers, have_small_numbers};
 ghost use Rattle.scad_value.specs.Operators.{sized as sized_at, by_parts as by_parts_at, pairs_by_parts, if_equal, each_part as each_part_at, each_of_parts, dot_of, product_at, product_row, remainder_row, quotient_row};
-ghost use Rattle.scad_value.specs.View.{val_of, vals_of, Tells, TellsAll};
+ghost use Rattle.scad_value.specs.View.{val_of, vals_of, MeetsAnswer, MeetsAnswers};
 ghost use Rattle.scad_value.specs.Rows.{pair_row, part_row};
 
 use crate::limits::TOO_LARGE;
@@ -94,7 +94,7 @@ pub(crate) fn by_parts(
     left: &Value,
     right: &Value,
 ) -> Result<Value, ValueStop>
-    ensures { Tells result (by_parts_at (pair_row row) (val_of left.now) (val_of right.now)) }
+    ensures { MeetsAnswer result (by_parts_at (pair_row row) (val_of left.now) (val_of right.now)) }
 {
     match (left, right) {
         (Value::Number(a), Value::Number(b)) => Ok(Value::Number(pair(row, *a, *b)?)),
@@ -110,7 +110,7 @@ fn equal_lists(
     left: &Values,
     right: &Values,
 ) -> Result<Values, ValueStop>
-    ensures { TellsAll result (if_equal (count_of (vals_from (vals_of left.now))) (count_of (vals_from (vals_of right.now)))
+    ensures { MeetsAnswers result (if_equal (count_of (vals_from (vals_of left.now))) (count_of (vals_from (vals_of right.now)))
         (pairs_by_parts (pair_row row) (vals_from (vals_of left.now)) (vals_from (vals_of right.now)))) }
 {
     if left.items.len() != right.items.len() {
@@ -127,7 +127,7 @@ fn each_pair(
     right: &Values,
 ) -> Result<Values, ValueStop>
     requires { length left.now.items.items ≡ length right.now.items.items }
-    ensures { TellsAll result (pairs_by_parts (pair_row row) (vals_from (vals_of left.now)) (vals_from (vals_of right.now))) }
+    ensures { MeetsAnswers result (pairs_by_parts (pair_row row) (vals_from (vals_of left.now)) (vals_from (vals_of right.now))) }
 {
     let mut items = Vec::new(alloc);
     for (i, value) in left.items.iter().enumerate() {
@@ -139,7 +139,7 @@ fn each_pair(
 /// A number, or each part of a list.
 #[cycle(parts)]
 pub(crate) fn each_part(alloc: Global, row: PartRow, of: &Value) -> Result<Value, ValueStop>
-    ensures { Tells result (each_part_at (part_row row) (val_of of.now)) }
+    ensures { MeetsAnswer result (each_part_at (part_row row) (val_of of.now)) }
 {
     match of {
         Value::Number(n) => Ok(Value::Number(part(row, *n)?)),
@@ -150,7 +150,7 @@ pub(crate) fn each_part(alloc: Global, row: PartRow, of: &Value) -> Result<Value
 
 #[cycle(parts)]
 fn each_of(alloc: Global, row: PartRow, of: &Values) -> Result<Values, ValueStop>
-    ensures { TellsAll result (each_of_parts (part_row row) (vals_from (vals_of of.now))) }
+    ensures { MeetsAnswers result (each_of_parts (part_row row) (vals_from (vals_of of.now))) }
 {
     let mut items = Vec::new(alloc);
     for value in &of.items {

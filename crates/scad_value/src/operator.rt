@@ -1,7 +1,7 @@
 ghost use Rattle.std.specs.Prelude.{◌≡◌, ◌<◌, ◌^◌, IsTrue, IfOk, Ok, length};
 ghost use Rattle.scad_value.specs.Values.{Val, is_bounded, vals_from, has_small_numbers, have_small_numbers, parts_in, NumberVal, TextVal, ListVal, UndefVal};
 ghost use Rattle.scad_value.specs.Operators.{Answer, binary_of, unary_of, index_of, made as made_at, product_of, quotient_of, remainder_of, dot_row, dot_of, and_then, sized as sized_at, number as number_at, order_of, item_at, byte_at};
-ghost use Rattle.scad_value.specs.View.{val_of, vals_of, Answers, Tells, GivesBounded};
+ghost use Rattle.scad_value.specs.View.{val_of, vals_of, Answers, MeetsAnswer, GivesBounded};
 
 use crate::arithmetic::{
     PairRow, PartRow, by_parts, dot, each_part, product_of_two, remainder, sized,
@@ -20,7 +20,7 @@ use text_place::{Bytes, FaultKind, NoMemory};
 pub fn binary(alloc: Global, op: BinaryOp, left: &Value, right: &Value) -> Result<Value, ValueStop>
     requires left { IsTrue (is_bounded (val_of left.now)) }
     requires right { IsTrue (is_bounded (val_of right.now)) }
-    ensures value { Tells result (binary_of op (val_of left.now) (val_of right.now)) }
+    ensures value { MeetsAnswer result (binary_of op (val_of left.now) (val_of right.now)) }
     ensures bounded { GivesBounded result }
 {
     operate(alloc, op, left, right)
@@ -29,7 +29,7 @@ pub fn binary(alloc: Global, op: BinaryOp, left: &Value, right: &Value) -> Resul
 fn operate(alloc: Global, op: BinaryOp, left: &Value, right: &Value) -> Result<Value, ValueStop>
     requires left { IsTrue (is_bounded (val_of left.now)) }
     requires right { IsTrue (is_bounded (val_of right.now)) }
-    ensures { Tells result (binary_of op (val_of left.now) (val_of right.now)) }
+    ensures { MeetsAnswer result (binary_of op (val_of left.now) (val_of right.now)) }
 {
     match op {
         BinaryOp::Or => Ok(Value::Truth(truth(left) || truth(right))),
@@ -51,14 +51,14 @@ fn operate(alloc: Global, op: BinaryOp, left: &Value, right: &Value) -> Result<V
 /// The value of an operator before its operand, or its first fault.
 pub fn unary(alloc: Global, op: UnaryOp, of: &Value) -> Result<Value, ValueStop>
     requires { IsTrue (is_bounded (val_of of.now)) }
-    ensures value { Tells result (unary_of op (val_of of.now)) }
+    ensures value { MeetsAnswer result (unary_of op (val_of of.now)) }
     ensures bounded { GivesBounded result }
 {
     operate_on(alloc, op, of)
 }
 
 fn operate_on(alloc: Global, op: UnaryOp, of: &Value) -> Result<Value, ValueStop>
-    ensures { Tells result (unary_of op (val_of of.now)) }
+    ensures { MeetsAnswer result (unary_of op (val_of of.now)) }
 {
     match op {
         UnaryOp::Negate => made_of(each_part(alloc, PartRow::Negate, of)),
@@ -72,14 +72,14 @@ fn operate_on(alloc: Global, op: UnaryOp, of: &Value) -> Result<Value, ValueStop
 pub fn index(alloc: Global, of: &Value, at: &Value) -> Result<Value, ValueStop>
     requires of { IsTrue (is_bounded (val_of of.now)) }
     requires at { IsTrue (is_bounded (val_of at.now)) }
-    ensures value { Tells result (index_of (val_of of.now) (val_of at.now)) }
+    ensures value { MeetsAnswer result (index_of (val_of of.now) (val_of at.now)) }
     ensures bounded { GivesBounded result }
 {
     part(alloc, of, at)
 }
 
 fn part(alloc: Global, of: &Value, at: &Value) -> Result<Value, ValueStop>
-    ensures { Tells result (index_of (val_of of.now) (val_of at.now)) }
+    ensures { MeetsAnswer result (index_of (val_of of.now) (val_of at.now)) }
 {
     match (of, at) {
         (Value::List(values), Value::Number(n)) => item(alloc, values, *n),
@@ -89,7 +89,7 @@ fn part(alloc: Global, of: &Value, at: &Value) -> Result<Value, ValueStop>
 }
 
 fn item(alloc: Global, values: &Values, n: i64) -> Result<Value, ValueStop>
-    ensures { Tells result (index_of (ListVal (vals_from (vals_of values.now))) (NumberVal n)) }
+    ensures { MeetsAnswer result (index_of (ListVal (vals_from (vals_of values.now))) (NumberVal n)) }
 {
     if n < 0 {
         return Ok(Value::Undef);
@@ -108,7 +108,7 @@ fn item_from_start(alloc: Global, values: &Values, n: usize) -> Result<Value, No
 }
 
 fn byte(alloc: Global, bytes: &Bytes, n: i64) -> Result<Value, ValueStop>
-    ensures { Tells result (index_of (TextVal bytes.now) (NumberVal n)) }
+    ensures { MeetsAnswer result (index_of (TextVal bytes.now) (NumberVal n)) }
 {
     if n < 0 {
         return Ok(Value::Undef);
@@ -151,7 +151,7 @@ pub fn made(value: Value) -> Result<Value, FaultKind>
 
 // The value that was given, unless it is LongList, or why none was.
 fn made_of(given: Result<Value, ValueStop>) -> Result<Value, ValueStop>
-    ensures { (answer : Answer Val) → Tells given answer → Tells result (made_at answer) }
+    ensures { (answer : Answer Val) → MeetsAnswer given answer → MeetsAnswer result (made_at answer) }
 {
     Ok(made(given?)?)
 }
@@ -168,7 +168,7 @@ fn order(left: &Value, right: &Value) -> Result<Ordering, FaultKind>
 fn product(alloc: Global, left: &Value, right: &Value) -> Result<Value, ValueStop>
     requires left { IsTrue (is_bounded (val_of left.now)) }
     requires right { IsTrue (is_bounded (val_of right.now)) }
-    ensures { Tells result (product_of (val_of left.now) (val_of right.now)) }
+    ensures { MeetsAnswer result (product_of (val_of left.now) (val_of right.now)) }
 {
     match (left, right) {
         (Value::Number(a), Value::Number(b)) => Ok(Value::Number(product_of_two(*a, *b)?)),
@@ -183,7 +183,7 @@ fn dot_product(left: &Values, right: &Values) -> Result<Value, ValueStop>
     requires left { IsTrue (have_small_numbers (vals_from (vals_of left.now))) }
     requires right { IsTrue (have_small_numbers (vals_from (vals_of right.now))) }
     requires few { parts_in (vals_from (vals_of left.now)) < 2 ^ 20 }
-    ensures { Tells result (dot_row (vals_from (vals_of left.now)) (vals_from (vals_of right.now))) }
+    ensures { MeetsAnswer result (dot_row (vals_from (vals_of left.now)) (vals_from (vals_of right.now))) }
 {
     if left.items.len() == 0 {
         return Err(ValueStop::Kind(FaultKind::TypeMismatch));
@@ -205,13 +205,13 @@ fn sized_dot(left: &Values, right: &Values) -> Result<i64, FaultKind>
 }
 
 fn number(answer: Result<i64, FaultKind>) -> Result<Value, ValueStop>
-    ensures { Tells result (number_at answer) }
+    ensures { MeetsAnswer result (number_at answer) }
 {
     Ok(Value::Number(answer?))
 }
 
 fn quotient(alloc: Global, left: &Value, right: &Value) -> Result<Value, ValueStop>
-    ensures { Tells result (quotient_of (val_of left.now) (val_of right.now)) }
+    ensures { MeetsAnswer result (quotient_of (val_of left.now) (val_of right.now)) }
 {
     match right {
         Value::Number(by) => each_part(alloc, PartRow::Over(*by), left),
@@ -220,7 +220,7 @@ fn quotient(alloc: Global, left: &Value, right: &Value) -> Result<Value, ValueSt
 }
 
 fn remainder_of_two(left: &Value, right: &Value) -> Result<Value, ValueStop>
-    ensures { Tells result (remainder_of (val_of left.now) (val_of right.now)) }
+    ensures { MeetsAnswer result (remainder_of (val_of left.now) (val_of right.now)) }
 {
     match (left, right) {
         (Value::Number(a), Value::Number(b)) => Ok(Value::Number(remainder(*a, *b)?)),

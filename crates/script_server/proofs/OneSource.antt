@@ -4,7 +4,7 @@ use Rattle.text_place.specs.declared.fault.Fault.{Fault}
 use Rattle.text_place.specs.declared.fault.FaultKind.{FaultKind}
 use Rattle.text_place.specs.declared.fault.Place.{Place}
 use Rattle.scad_lexer.specs.declared.token.Token.{Token}
-use Rattle.scad_lexer.specs.Tokens.{Outcome, Lexes, Gives, Faults}
+use Rattle.scad_lexer.specs.Tokens.{LexOutcome, Lexes, Gives, Faults}
 use Rattle.scad_ast.specs.Terms.{StatementTerm}
 use Rattle.scad_grammar.specs.Grammar.{Program}
 use Rattle.scad_grammar.specs.declared.SyntaxFault.{SyntaxFault}
@@ -18,7 +18,7 @@ use Rattle.script_server.specs.Meaning.Sources.{Means, HasFault}
 
 -- what the layers below say of texts: bytes have one outcome, and tokens one program or one first fault
 pub record OneText : Type 0 where
-  pub outcomes : (text : List ℕ) (o q : Outcome) → Lexes text o → Lexes text q → o ≡ q
+  pub outcomes : (text : List ℕ) (o q : LexOutcome) → Lexes text o → Lexes text q → o ≡ q
   pub programs : (d k : ℕ) (x y : List StatementTerm) (s : List Token) → Program d x s → Program k y s → x ≡ y
   pub no_fault : (d : ℕ) (x : List StatementTerm) (s : List Token) (fault : SyntaxFault) (at : List Token) → Program d x s → IsFirstFault d s fault at → ⊥
   pub faults : (d : ℕ) (s : List Token) (fault other : SyntaxFault) (at at_other : List Token) → IsFirstFault d s fault at → IsFirstFault d s other at_other →

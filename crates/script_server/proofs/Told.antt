@@ -31,21 +31,21 @@ use Rattle.script_service.specs.Units.{unit_of, memo_of, share_of}
 use Rattle.script_service.specs.Serving.{usage_line, IsRun, IsInput, IsWholeInput, Gives, Lacks, printed}
 use Rattle.script_service.specs.Outcomes.{AppendsPart, Ends, Prints, RefusesWords, RefusesInput}
 use Rattle.script_server.specs.Books.{IsRunOf, AreBooks, weights_of}
-use Rattle.script_server.specs.Serving.{IsOutputFor, WritesOutput, IsOutput, ChoosesAlone, Tells, AskForRun, AskForNoInput, IsScriptOf, IsNoScript}
+use Rattle.script_server.specs.Serving.{IsOutputFor, WritesOutput, IsOutput, ChoosesAlone, StatusTells, AskForRun, AskForNoInput, IsScriptOf, IsNoScript}
 
 -- a status tells what an equal one tells
-as_told : (words : List (List ℕ)) (s : Streams) (status other : Status) → status ≡ other → Tells words s other → Tells words s status
-as_told words s status other e h = subst (λ (t : Status). Tells words s t) (sym e) h
+as_told : (words : List (List ℕ)) (s : Streams) (status other : Status) → status ≡ other → StatusTells words s other → StatusTells words s status
+as_told words s status other e h = subst (λ (t : Status). StatusTells words s t) (sym e) h
 
 -- ---- the words choose nothing
-pub words_refused : (words : List (List ℕ)) (s : Streams) (fault : WordsFault) (status : Status) → (fault ≡ words_fault.BadWords → AreOutside words) → RefusesWords fault s.sink status → Tells words s status
+pub words_refused : (words : List (List ℕ)) (s : Streams) (fault : WordsFault) (status : Status) → (fault ≡ words_fault.BadWords → AreOutside words) → RefusesWords fault s.sink status → StatusTells words s status
 words_refused words s words_fault.BadWords status outside (inl (e, whole)) = as_told words s status BadWords e (outside refl, whole)
 words_refused words s words_fault.BadWords status outside (inr (inl (e, rose, cut))) = as_told words s status WriteFault e (rose, inl (outside refl, cut))
 words_refused words s words_fault.BadWords status outside (inr (inr (e, same))) = as_told words s status NoMemory e (inl same)
 words_refused words s words_fault.NoMemory status outside (e, same) = as_told words s status NoMemory e (inl same)
 
 -- ---- there is no script
-pub input_refused : (words : List (List ℕ)) (settings : Settings) (s : Streams) (end : InputEnd) (status : Status) → ChoosesAlone words settings → Lacks settings s.source end → RefusesInput end s.sink status → Tells words s status
+pub input_refused : (words : List (List ℕ)) (settings : Settings) (s : Streams) (end : InputEnd) (status : Status) → ChoosesAlone words settings → Lacks settings s.source end → RefusesInput end s.sink status → StatusTells words s status
 input_refused words settings s (input_end.BadScript fault) status alone (run, bytes, input, is) (inl (e, whole)) =
     as_told words s status BadScript e (settings, alone, run, (bytes, fault, input, is, whole))
 input_refused words settings s (input_end.BadScript fault) status alone (run, bytes, input, is) (inr (inl (e, rose, cut))) =
@@ -60,7 +60,7 @@ part_of_input (Run workers memo share half tally) source bytes (read, end) = (re
 part_of_input (Demo n) source bytes same = same
 
 pub script_served : (words : List (List ℕ)) (settings : Settings) (s : Streams) (script : Script) (status : Status) → ChoosesAlone words settings → Gives settings s.source script
-    → WritesOutput settings script.clients s.sink status → Tells words s status
+    → WritesOutput settings script.clients s.sink status → StatusTells words s status
 script_served words settings s script status alone (bytes, input, is) (inl (out, fits, inl (inl (e, whole)))) =
     as_told words s status Done e (settings, alone, (bytes, out, input, (script, is, fits), whole))
 script_served words settings s script status alone (bytes, input, is) (inl (out, fits, inl (inr (inl (e, rose, cut))))) =
@@ -101,7 +101,7 @@ pub in_range : (words : List (List ℕ)) (settings : Settings) → Chooses words
 in_range [] settings chosen = absurd chosen
 in_range (first ∷ rest) settings chosen = chosen.0
 
-pub completes : (words : List (List ℕ)) (s : Streams) (status : Status) → Tells words s status → (settings : Settings) → Chooses words settings
+pub completes : (words : List (List ℕ)) (s : Streams) (status : Status) → StatusTells words s status → (settings : Settings) → Chooses words settings
     → (Rose s.source.before s.source.now → ⊥) → (Rose s.sink.before s.sink.now → ⊥) → (status ≡ Done) ⊎ (status ≡ BadScript) ⊎ (status ≡ NoMemory)
 completes words s Done told settings chosen read write = inl refl
 completes words s BadWords told settings chosen read write = absurd (told.0 settings chosen)
@@ -148,12 +148,12 @@ whole_input_of_run : (settings : Settings) (source : Stream) (bytes : List ℕ) 
 whole_input_of_run (Run workers memo share half tally) source bytes run h = h
 whole_input_of_run (Demo n) source bytes run h = absurd run
 
-refuses_no_script : NeverBoth → (words : List (List ℕ)) (s : Streams) → Tells words s BadScript → IfSome s.source.old (λ bytes. IsScriptOf bytes → ⊥)
+refuses_no_script : NeverBoth → (words : List (List ℕ)) (s : Streams) → StatusTells words s BadScript → IfSome s.source.old (λ bytes. IsScriptOf bytes → ⊥)
 refuses_no_script never words s (settings, alone, run, (bytes, fault, input, is, told)) =
     let read = input_of_run settings s.source bytes run input in
     no_script_left never s.source.old s.source.new bytes fault read.0 read.1 is
 
-serves_a_script : NeverBoth → (words : List (List ℕ)) (s : Streams) → AskForRun words → Tells words s Done → IfSome s.source.old (λ bytes. IsNoScript bytes → ⊥)
+serves_a_script : NeverBoth → (words : List (List ℕ)) (s : Streams) → AskForRun words → StatusTells words s Done → IfSome s.source.old (λ bytes. IsNoScript bytes → ⊥)
 serves_a_script never words s (other, chosen, run) (settings, alone, (bytes, out, input, (script, is, fits), told)) =
     let read = whole_input_of_run settings s.source bytes (subst IsRun (alone.1 other chosen) run) input in
     script_left never s.source.old s.source.new bytes script read.0 read.1 is
@@ -162,10 +162,10 @@ unless : (left : Option (List ℕ)) (P : List ℕ → Type 0) (Q : Type 0) → (
 unless None P Q h = tt
 unless (Some bytes) P Q h = λ p q. h q p
 
-pub script_kept : NeverBoth → (words : List (List ℕ)) (s : Streams) (status : Status) → Tells words s status → IfSome s.source.old (λ bytes. IsScriptOf bytes → status ≢ BadScript)
+pub script_kept : NeverBoth → (words : List (List ℕ)) (s : Streams) (status : Status) → StatusTells words s status → IfSome s.source.old (λ bytes. IsScriptOf bytes → status ≢ BadScript)
 script_kept never words s status told =
-    unless s.source.old IsScriptOf (status ≡ BadScript) (λ e. refuses_no_script never words s (subst (λ (t : Status). Tells words s t) e told))
+    unless s.source.old IsScriptOf (status ≡ BadScript) (λ e. refuses_no_script never words s (subst (λ (t : Status). StatusTells words s t) e told))
 
-pub fault_told : NeverBoth → (words : List (List ℕ)) (s : Streams) (status : Status) → Tells words s status → AskForRun words → IfSome s.source.old (λ bytes. IsNoScript bytes → status ≢ Done)
+pub fault_told : NeverBoth → (words : List (List ℕ)) (s : Streams) (status : Status) → StatusTells words s status → AskForRun words → IfSome s.source.old (λ bytes. IsNoScript bytes → status ≢ Done)
 fault_told never words s status told run =
-    unless s.source.old IsNoScript (status ≡ Done) (λ e. serves_a_script never words s run (subst (λ (t : Status). Tells words s t) e told))
+    unless s.source.old IsNoScript (status ≡ Done) (λ e. serves_a_script never words s run (subst (λ (t : Status). StatusTells words s t) e told))

@@ -81,23 +81,23 @@ abbrev pub ChoosesAlone : List (List ℕ) → Settings → Type 0
 ChoosesAlone words settings = Chooses words settings × ((other : Settings) → Chooses words other → other ≡ settings)
 
 -- What a status tells of the words, the source and the sink.
-abbrev pub Tells : List (List ℕ) → Streams → Status → Type 0
+abbrev pub StatusTells : List (List ℕ) → Streams → Status → Type 0
 -- The words choose settings, and what they ask for was served whole.
-Tells words s Done = (settings : Settings) × ChoosesAlone words settings × Serves settings s
+StatusTells words s Done = (settings : Settings) × ChoosesAlone words settings × Serves settings s
 -- The words are outside the grammar, and the usage line was written.
-Tells words s BadWords = AreOutside words × Appends s.sink.old s.sink.new usage_line
+StatusTells words s BadWords = AreOutside words × Appends s.sink.old s.sink.new usage_line
 -- The script of the source has a fault, and its line was written.
-Tells words s BadScript = (settings : Settings) × ChoosesAlone words settings × IsRun settings × RefusesScript settings s
+StatusTells words s BadScript = (settings : Settings) × ChoosesAlone words settings × IsRun settings × RefusesScript settings s
 -- The source failed, and nothing was written.
-Tells words s ReadFault =
+StatusTells words s ReadFault =
     (settings : Settings) × ChoosesAlone words settings × IsRun settings × Rose s.source.before s.source.now × s.sink.same
 -- The sink failed, and a prefix of what was to be written was written, and not the whole.
-Tells words s WriteFault =
+StatusTells words s WriteFault =
     Rose s.sink.before s.sink.now
     × ((AreOutside words × AppendsProperPrefix s.sink.old s.sink.new usage_line)
     ⊎ ((settings : Settings) × ChoosesAlone words settings × BreaksOff settings s))
 -- Nothing was written, or something of the output of a script, and not the whole.
-Tells words s NoMemory =
+StatusTells words s NoMemory =
     s.sink.same ⊎ ((settings : Settings) × ChoosesAlone words settings × IsRun settings × Begins settings s)
 
 -- the words choose to serve a script

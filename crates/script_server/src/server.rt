@@ -10,7 +10,7 @@ ghost use Rattle.script_service.specs.declared.status.Status.TheVariants as Stat
 ghost use Rattle.script_service.specs.Streams.{stream, streams};
 ghost use Rattle.script_service.specs.Units.{unit_of, memo_of, share_of};
 ghost use Rattle.script_server.specs.Books.{IsRunOf};
-ghost use Rattle.script_server.specs.Serving.{Tells, WritesOutput, AskForRun, AskForNoInput, IsScriptOf, IsNoScript};
+ghost use Rattle.script_server.specs.Serving.{StatusTells, WritesOutput, AskForRun, AskForNoInput, IsScriptOf, IsNoScript};
 
 use crate::running::{Ran, run_script, weights};
 use outside_io::{Sink, Source};
@@ -89,7 +89,7 @@ pub fn serve<S: Source, K: Sink, R: Threads + Wait + Sync>(
 ) -> Status
     // What each status tells. Where it is `Done`, whatever was read, each client's replies are those that its own commands
     // define, and each solid is the boundary of what the client's source means, in the unit of the run.
-    ensures told { Tells (map string_bytes words.now) (streams S.left S.faults K.held K.faults source.old source.new sink.old sink.new) result }
+    ensures told { StatusTells (map string_bytes words.now) (streams S.left S.faults K.held K.faults source.old source.new sink.old sink.new) result }
     // At words outside the grammar, and for the demonstration, nothing is read.
     ensures unread { AskForNoInput (map string_bytes words.now) → source.new ≡ source.old }
     ensures counts { (S.faults source.old ≤ S.faults source.new) × (K.faults sink.old ≤ K.faults sink.new) }

@@ -31,7 +31,7 @@ replies_in client [] = 0
 replies_in client (e ∷ es) = (if nat_eq e.client client then reply_of e.act else 0) + replies_in client es
 
 -- a call on the memo: whose it was, of which key, and whether it was a fill
-pub record Call (K : Type 0) : Type 0 where
+pub record MemoCall (K : Type 0) : Type 0 where
   pub caller : ℕ
   pub key : K
   pub is_fill : Bool
@@ -42,15 +42,15 @@ fills (Fill_said weight kept evicted) = true
 
 module _ {K : Type 0} where
   -- the call of an item of a journal
-  abbrev pub call_of : Item K → Call K
+  abbrev pub call_of : Item K → MemoCall K
   call_of i = record { caller = i.caller; key = i.key; is_fill = fills i.said }
 
-  abbrev pub calls_of : List (Item K) → List (Call K)
+  abbrev pub calls_of : List (Item K) → List (MemoCall K)
   calls_of items = map call_of items
 
 module _ {K V R : Type 0} (tasks : Tasks K V R) where
   -- the call that an act makes, if it makes one, of a client that has answered so many commands
-  abbrev pub call_by : ℕ → ℕ → Act → List (Call K)
+  abbrev pub call_by : ℕ → ℕ → Act → List (MemoCall K)
   call_by client command Command = []
   call_by client command (Probe n) = record { caller = client; key = tasks.key client command n; is_fill = false } ∷ []
   call_by client command (Build n) = []
@@ -58,7 +58,7 @@ module _ {K V R : Type 0} (tasks : Tasks K V R) where
   call_by client command Reply = []
 
   -- the calls of these events, after those that were taken before: one for each Probe and each Fill
-  abbrev pub calls_after : List Event → List Event → List (Call K)
+  abbrev pub calls_after : List Event → List Event → List (MemoCall K)
   calls_after before [] = []
   calls_after before (e ∷ es) = call_by e.client (replies_in e.client before) e.act ++ calls_after (before ++ e ∷ []) es
 

@@ -3,7 +3,7 @@ use Rattle.scad_ast.specs.declared.statement.Statement.{Statement}
 use Rattle.scad_ast.specs.Terms.{StatementTerm, statements_from}
 use Rattle.scad_ast.specs.StatementView.{statement_of, statements_of}
 use Rattle.scad_func.specs.View.{source_text}
-use Rattle.scad_blocks.specs.Blocks.{StandAt, marks_of}
+use Rattle.scad_blocks.specs.Blocks.{StandAt, beginnings_of}
 use Rattle.scad_pieces.specs.Positions.{term_of_numbered}
 use Rattle.scad_pieces.proofs.Numbering.{remaining_more, statements_here, here_stands, nesting_here, nesting_of, block_form}
 use Rattle.scad_pieces.proofs.numbered.+numbered.Goals as goal
@@ -50,7 +50,7 @@ add-add_all-requires t c =
       (
         c.requires.whole,
         (
-          subst (λ (s : StatementTerm). StandAt (source_text c.args.source.now) c.args.first (marks_of s)) is c.requires.stand,
+          subst (λ (s : StatementTerm). StandAt (source_text c.args.source.now) c.args.first (beginnings_of s)) is c.requires.stand,
           c.requires.before,
         ),
       ),

@@ -2,7 +2,7 @@ use Rattle.std.proofs.Common.{◌≡◌, ◌∙◌, ◌<◌, ◌+◌, sym, ap, s
 use Rattle.scad_value.specs.declared.value.Value.{Value}
 use Rattle.scad_value.specs.Values.{vals_from}
 use Rattle.scad_value.specs.Operators.{in_front, pairs_by_parts}
-use Rattle.scad_value.specs.View.{vals_in, TellsAll}
+use Rattle.scad_value.specs.View.{vals_in, MeetsAnswers}
 use Rattle.scad_value.specs.Rows.{pair_row}
 use Rattle.scad_value.proofs.Lists.{pairs_more, pairs_end, vals_out, equal_counts, unequal_counts}
 use Rattle.scad_value.proofs.arithmetic.+pairs.Goals as goal
@@ -13,7 +13,7 @@ equal_lists-returns-then-len t c =
     (arith, e, c.args.left.now.items.ok.0, c.args.right.now.items.ok.0, c.len.ensures, c.len-2.ensures))))
 
 pub equal_lists-returns : goal.equal_lists-returns
-equal_lists-returns t c = subst (λ a. TellsAll c.each_pair.result a) (sym
+equal_lists-returns t c = subst (λ a. MeetsAnswers c.each_pair.result a) (sym
     (equal_counts c.args.left.now c.args.right.now _ (omega
     (arith, c.if-len.false, c.args.left.now.items.ok.0, c.args.right.now.items.ok.0, c.len.ensures, c.len-2.ensures)))) c.each_pair.ensures
 

@@ -1,7 +1,7 @@
 use Rattle.std.proofs.Common.{◌≡◌, ◌∙◌, length, sym, ap, subst}
 use Rattle.std.specs.Prelude.{IsTrue}
 use Rattle.scad_ast.specs.ProgramView.{program_of}
-use Rattle.scad_blocks.specs.Blocks.{marks_of_program, numbered_text, NumberedText, StandsInOrder}
+use Rattle.scad_blocks.specs.Blocks.{beginnings_of_program, numbered_text, NumberedText, StandsInOrder}
 use Rattle.scad_blocks.specs.Numbered.{entries_below}
 use Rattle.scad_blocks.specs.TextView.{function_of, module_of}
 use Rattle.scad_blocks.specs.Walk.{walked}
@@ -15,7 +15,7 @@ pub invariant_of-result : goal.invariant_of-result
 invariant_of-result c =
     let w = c.in_ok-walk.walk in
     let e : walked w ≡ numbered_text (program_of c.args.program.now) =
-    c.in_ok-walk.ensures ∙ whole_text (marks_of_program (program_of c.args.program.now)) in
+    c.in_ok-walk.ensures ∙ whole_text (beginnings_of_program (program_of c.args.program.now)) in
     let below = subst (λ (t : NumberedText). IsTrue (entries_below (length t.functions) (length t.modules) t.entries)) (sym e)
     (program_below (program_of c.args.program.now)) in
     record {
@@ -25,17 +25,17 @@ invariant_of-result c =
     }
 
 pub returns-clause-text : goal.returns-clause-text
-returns-clause-text c = c.in_ok-walk.ensures ∙ whole_text (marks_of_program (program_of c.args.program.now))
+returns-clause-text c = c.in_ok-walk.ensures ∙ whole_text (beginnings_of_program (program_of c.args.program.now))
 
 pub returns-clause-order : goal.returns-clause-order
 returns-clause-order c = subst (λ (t : NumberedText). StandsInOrder t)
-    (sym (c.in_ok-walk.ensures ∙ whole_text (marks_of_program (program_of c.args.program.now))))
+    (sym (c.in_ok-walk.ensures ∙ whole_text (beginnings_of_program (program_of c.args.program.now))))
     (program_order (program_of c.args.program.now))
 
 pub returns-clause-functions : goal.returns-clause-functions
 returns-clause-functions c = ap (λ (t : NumberedText). length t.functions)
-    (c.in_ok-walk.ensures ∙ whole_text (marks_of_program (program_of c.args.program.now)))
+    (c.in_ok-walk.ensures ∙ whole_text (beginnings_of_program (program_of c.args.program.now)))
 
 pub returns-clause-modules : goal.returns-clause-modules
 returns-clause-modules c = ap (λ (t : NumberedText). length t.modules)
-    (c.in_ok-walk.ensures ∙ whole_text (marks_of_program (program_of c.args.program.now)))
+    (c.in_ok-walk.ensures ∙ whole_text (beginnings_of_program (program_of c.args.program.now)))

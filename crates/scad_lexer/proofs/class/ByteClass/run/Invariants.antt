@@ -1,6 +1,6 @@
 use Rattle.std.proofs.Common.{◌≡◌, ◌+◌, ◌-◌, ◌≤◌, length, drop}
 use Rattle.scad_lexer.specs.Words.{has, run_of}
-use Rattle.scad_lexer.proofs.class.Class.run.Given as goal
+use Rattle.scad_lexer.proofs.class.ByteClass.run.Given as goal
 
 abbrev pub invariant-loop-n : goal.invariant-loop-n
 invariant-loop-n l = record { within : l.n ≤ length l.text; run : run_of (has l.self) l.text ≡ l.n + run_of (has l.self) (drop l.n l.text) }
