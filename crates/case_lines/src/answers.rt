@@ -4,18 +4,13 @@ use crate::lines::lines_of;
 use crate::phrase::{Phrase, phrases_of};
 use crate::stop::CaseStop;
 use crate::text::put;
-use outside_io::{Sink, Source, read_to_end, write_all};
+use outside_io::{ReadSource, Sink, Source, WriteSink, read_to_end, write_all};
 use std::alloc::Global;
+use std::process::ExitCode;
 use text_place::{Bytes, NoMemory};
 
 // The most bytes of all cases.
 const MOST_BYTES: usize = 1 << 20;
-
-/// What a program answers.
-pub trait Answers {
-    /// Writes the answer of a case behind what was written.
-    fn put_answer(&self, alloc: Global, out: &mut Vec<u8>, case: &[u8]) -> Result<(), CaseStop>;
-}
 
 /// What does as phrases say.
 pub trait Follows {
@@ -45,8 +40,8 @@ pub fn put_phrases<F: Follows>(
     Ok(())
 }
 
-/// Writes a line, and what stands before the answer where it is a case; whether it is one.
-pub fn begin_line(out: &mut Vec<u8>, line: &[u8]) -> Result<bool, NoMemory> {
+// Writes a line, and what stands before the answer where it is a case; whether it is one.
+fn begin_line(out: &mut Vec<u8>, line: &[u8]) -> Result<bool, NoMemory> {
     put(out, line)?;
     put(out, b"\n")?;
     let is_case = !line.is_empty() && !line.starts_with(b"#");
@@ -56,8 +51,8 @@ pub fn begin_line(out: &mut Vec<u8>, line: &[u8]) -> Result<bool, NoMemory> {
     Ok(is_case)
 }
 
-/// Writes what stands behind the answer of a case, or in its place.
-pub fn end_line(out: &mut Vec<u8>, told: Result<(), CaseStop>) -> Result<(), NoMemory> {
+// Writes what stands behind the answer of a case, or in its place.
+fn end_line(out: &mut Vec<u8>, told: Result<(), CaseStop>) -> Result<(), NoMemory> {
     match told {
         Ok(()) => {}
         Err(CaseStop::Unread) => put(out, b"no case")?,
@@ -66,40 +61,55 @@ pub fn end_line(out: &mut Vec<u8>, told: Result<(), CaseStop>) -> Result<(), NoM
     put(out, b"\n")
 }
 
-/// The lines of a source, unless it fails or has more than 1 MiB.
-pub fn read_lines<S: Source>(alloc: Global, source: &mut S) -> Option<Vec<Bytes>> {
-    match read_to_end(alloc, source, MOST_BYTES) {
-        Ok(cases) => lines_of(alloc, &cases).ok(),
-        Err(_) => None,
-    }
-}
-
 // Each line, with its answer below where it is a case.
-fn put_lines<A: Answers>(
-    alloc: Global,
+fn put_lines<F: Fn(&mut Vec<u8>, &[u8]) -> Result<(), CaseStop>>(
     out: &mut Vec<u8>,
-    answers: &A,
+    answer: F,
     lines: &[Bytes],
-) -> Result<(), NoMemory> {
+) -> Result<(), NoMemory>
+    requires { F.IsAlwaysCallable answer }
+{
     for line in lines {
         if begin_line(out, line.items())? {
-            let told = answers.put_answer(alloc, out, line.items());
+            let told = answer(out, line.items());
             end_line(out, told)?;
         }
     }
     Ok(())
 }
 
-/// Whether all cases of a source were read and answered, and the answers written.
-pub fn answers_all<A: Answers, S: Source, K: Sink>(
+// Whether all cases of a source, of at most 1 MiB, were read and answered, and the answers written.
+fn answers_all<F: Fn(&mut Vec<u8>, &[u8]) -> Result<(), CaseStop>, S: Source, K: Sink>(
     alloc: Global,
-    answers: &A,
+    answer: F,
     source: &mut S,
     sink: &mut K,
-) -> bool {
-    let Some(lines) = read_lines(alloc, source) else {
+) -> bool
+    requires { F.IsAlwaysCallable answer }
+{
+    let Ok(cases) = read_to_end(alloc, source, MOST_BYTES) else {
+        return false;
+    };
+    let Ok(lines) = lines_of(alloc, &cases) else {
         return false;
     };
     let mut out = Vec::new(alloc);
-    put_lines(alloc, &mut out, answers, &lines).is_ok() && write_all(sink, &out).is_ok()
+    put_lines(&mut out, answer, &lines).is_ok() && write_all(sink, &out).is_ok()
+}
+
+/// Answers the cases of standard input on standard output, by what writes the answer of a case behind what was written. The
+/// status is that of success where all cases were read and answered and the answers written, and else that of failure.
+pub fn answer_cases<F: Fn(&mut Vec<u8>, &[u8]) -> Result<(), CaseStop>>(
+    rt: &HostRuntime,
+    answer: F,
+) -> ExitCode
+    requires { F.IsAlwaysCallable answer }
+{
+    let mut source = ReadSource::new(rt.stdin());
+    let mut sink = WriteSink::new(rt.stdout());
+    if answers_all(rt.alloc(), answer, &mut source, &mut sink) {
+        ExitCode::SUCCESS
+    } else {
+        ExitCode::FAILURE
+    }
 }

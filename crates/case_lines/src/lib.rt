@@ -16,7 +16,7 @@ mod repeat;
 mod stop;
 mod text;
 
-pub use answers::{Answers, Follows, answers_all, begin_line, end_line, put_phrases, read_lines};
+pub use answers::{Follows, answer_cases, put_phrases};
 pub use phrase::{Phrase, found, phrases_of};
 pub use repeat::unfolded;
 pub use stop::CaseStop;

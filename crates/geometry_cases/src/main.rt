@@ -38,34 +38,26 @@ mod solids;
 
 use crate::build::Bench;
 use case_faces::put_about;
-use case_lines::{Answers, CaseStop, answers_all, cut, phrases_of, put_phrases, unfolded};
-use outside_io::{ReadSource, WriteSink};
+use case_lines::{CaseStop, answer_cases, cut, phrases_of, put_phrases, unfolded};
 use std::alloc::Global;
 use std::process::ExitCode;
 
-// The answers of questions about numbers and of phrases that build.
-#[derive(Drop)]
-struct Geometry {}
-
-impl Answers for Geometry {
-    fn put_answer(&self, alloc: Global, out: &mut Vec<u8>, case: &[u8]) -> Result<(), CaseStop> {
-        let text = unfolded(alloc, case)?;
-        let (asked, rest) = cut(&text);
-        if asked == b"build".as_slice() {
-            put_phrases(alloc, out, &mut Bench::new(alloc), rest)
-        } else {
-            let phrases = phrases_of(alloc, &text)?;
-            put_about(alloc, out, phrases.first().ok_or(CaseStop::Unread)?)
-        }
+// The answer of a question about numbers, or of phrases that build.
+fn put_answer(alloc: Global, out: &mut Vec<u8>, case: &[u8]) -> Result<(), CaseStop> {
+    let text = unfolded(alloc, case)?;
+    let (asked, rest) = cut(&text);
+    if asked == b"build".as_slice() {
+        put_phrases(alloc, out, &mut Bench::new(alloc), rest)
+    } else {
+        let phrases = phrases_of(alloc, &text)?;
+        put_about(alloc, out, phrases.first().ok_or(CaseStop::Unread)?)
     }
 }
 
 fn main(rt: HostRuntime) -> ExitCode {
-    let mut source = ReadSource::new(rt.stdin());
-    let mut sink = WriteSink::new(rt.stdout());
-    if answers_all(rt.alloc(), &Geometry {}, &mut source, &mut sink) {
-        ExitCode::SUCCESS
-    } else {
-        ExitCode::FAILURE
-    }
+    let alloc = rt.alloc();
+    answer_cases(
+        &rt,
+        |out: &mut Vec<u8>, case: &[u8]| -> Result<(), CaseStop> { put_answer(alloc, out, case) },
+    )
 }

@@ -21,28 +21,16 @@ mod tree;
 mod value;
 
 use crate::case::put_case;
-use case_lines::{Answers, CaseStop, answers_all};
-use outside_io::{ReadSource, WriteSink};
-use std::alloc::Global;
+use case_lines::{CaseStop, answer_cases};
 use std::process::ExitCode;
 
-// The answers of sources.
-#[derive(Drop)]
-struct Language {}
-
-impl Answers for Language {
-    fn put_answer(&self, alloc: Global, out: &mut Vec<u8>, case: &[u8]) -> Result<(), CaseStop> {
-        put_case(alloc, out, case)?;
-        Ok(())
-    }
-}
-
 fn main(rt: HostRuntime) -> ExitCode {
-    let mut source = ReadSource::new(rt.stdin());
-    let mut sink = WriteSink::new(rt.stdout());
-    if answers_all(rt.alloc(), &Language {}, &mut source, &mut sink) {
-        ExitCode::SUCCESS
-    } else {
-        ExitCode::FAILURE
-    }
+    let alloc = rt.alloc();
+    answer_cases(
+        &rt,
+        |out: &mut Vec<u8>, case: &[u8]| -> Result<(), CaseStop> {
+            put_case(alloc, out, case)?;
+            Ok(())
+        },
+    )
 }

@@ -21,13 +21,12 @@ mod serving;
 use crate::asked::put_served;
 use crate::commands::put_commands;
 use crate::options::put_option;
-use case_lines::{CaseStop, begin_line, cut, end_line, read_lines, unfolded};
-use outside_io::{ReadSource, WriteSink, write_all};
+use case_lines::{CaseStop, answer_cases, cut, unfolded};
 use std::alloc::Global;
 use std::process::ExitCode;
 use std::sync::Wait;
 use std::thread::Threads;
-use text_place::{Bytes, NoMemory};
+use text_place::NoMemory;
 
 // A case, with a newline in place of each stroke.
 fn script_of(alloc: Global, case: &[u8]) -> Result<Vec<u8>, NoMemory> {
@@ -56,34 +55,12 @@ fn put_answer<R: Threads + Wait + Sync>(
     }
 }
 
-// Each line, with its answer below where it is a case.
-fn put_lines<R: Threads + Wait + Sync>(
-    rt: &R,
-    alloc: Global,
-    out: &mut Vec<u8>,
-    lines: &[Bytes],
-) -> Result<(), NoMemory> {
-    for line in lines {
-        if begin_line(out, line.items())? {
-            let told = put_answer(rt, alloc, out, line.items());
-            end_line(out, told)?;
-        }
-    }
-    Ok(())
-}
-
 fn main(rt: HostRuntime) -> ExitCode {
-    let mut out = Vec::new(rt.alloc());
-    let is_done = match read_lines(rt.alloc(), &mut ReadSource::new(rt.stdin())) {
-        Some(lines) => {
-            put_lines(&rt, rt.alloc(), &mut out, &lines).is_ok()
-                && write_all(&mut WriteSink::new(rt.stdout()), &out).is_ok()
-        }
-        None => false,
-    };
-    if is_done {
-        ExitCode::SUCCESS
-    } else {
-        ExitCode::FAILURE
-    }
+    let threads = &rt;
+    answer_cases(
+        &rt,
+        |out: &mut Vec<u8>, case: &[u8]| -> Result<(), CaseStop> {
+            put_answer(threads, threads.alloc(), out, case)
+        },
+    )
 }

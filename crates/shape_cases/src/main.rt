@@ -18,28 +18,20 @@ mod steps;
 mod table;
 
 use crate::table::Table;
-use case_lines::{Answers, CaseStop, answers_all, put_phrases, unfolded};
-use outside_io::{ReadSource, WriteSink};
+use case_lines::{CaseStop, answer_cases, put_phrases, unfolded};
 use std::alloc::Global;
 use std::process::ExitCode;
 
-// The answers of phrases about shapes.
-#[derive(Drop)]
-struct Shapes {}
-
-impl Answers for Shapes {
-    fn put_answer(&self, alloc: Global, out: &mut Vec<u8>, case: &[u8]) -> Result<(), CaseStop> {
-        let text = unfolded(alloc, case)?;
-        put_phrases(alloc, out, &mut Table::new(alloc), &text)
-    }
+// The answer of phrases about shapes.
+fn put_answer(alloc: Global, out: &mut Vec<u8>, case: &[u8]) -> Result<(), CaseStop> {
+    let text = unfolded(alloc, case)?;
+    put_phrases(alloc, out, &mut Table::new(alloc), &text)
 }
 
 fn main(rt: HostRuntime) -> ExitCode {
-    let mut source = ReadSource::new(rt.stdin());
-    let mut sink = WriteSink::new(rt.stdout());
-    if answers_all(rt.alloc(), &Shapes {}, &mut source, &mut sink) {
-        ExitCode::SUCCESS
-    } else {
-        ExitCode::FAILURE
-    }
+    let alloc = rt.alloc();
+    answer_cases(
+        &rt,
+        |out: &mut Vec<u8>, case: &[u8]| -> Result<(), CaseStop> { put_answer(alloc, out, case) },
+    )
 }

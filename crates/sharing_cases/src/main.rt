@@ -24,13 +24,11 @@ mod told;
 
 use crate::running::put_runs;
 use crate::setting::setting_of;
-use case_lines::{CaseStop, begin_line, end_line, read_lines, unfolded};
-use outside_io::{ReadSource, WriteSink, write_all};
+use case_lines::{CaseStop, answer_cases, unfolded};
 use std::alloc::Global;
 use std::process::ExitCode;
 use std::sync::Wait;
 use std::thread::Threads;
-use text_place::{Bytes, NoMemory};
 
 // The answer of a case.
 fn put_answer<R: Threads + Wait + Sync>(
@@ -50,34 +48,12 @@ fn put_answer<R: Threads + Wait + Sync>(
     put_runs(rt, alloc, out, setting_of(alloc, phrases)?, sources)
 }
 
-// Each line, with its answer below where it is a case.
-fn put_lines<R: Threads + Wait + Sync>(
-    rt: &R,
-    alloc: Global,
-    out: &mut Vec<u8>,
-    lines: &[Bytes],
-) -> Result<(), NoMemory> {
-    for line in lines {
-        if begin_line(out, line.items())? {
-            let told = put_answer(rt, alloc, out, line.items());
-            end_line(out, told)?;
-        }
-    }
-    Ok(())
-}
-
 fn main(rt: HostRuntime) -> ExitCode {
-    let mut out = Vec::new(rt.alloc());
-    let is_done = match read_lines(rt.alloc(), &mut ReadSource::new(rt.stdin())) {
-        Some(lines) => {
-            put_lines(&rt, rt.alloc(), &mut out, &lines).is_ok()
-                && write_all(&mut WriteSink::new(rt.stdout()), &out).is_ok()
-        }
-        None => false,
-    };
-    if is_done {
-        ExitCode::SUCCESS
-    } else {
-        ExitCode::FAILURE
-    }
+    let threads = &rt;
+    answer_cases(
+        &rt,
+        |out: &mut Vec<u8>, case: &[u8]| -> Result<(), CaseStop> {
+            put_answer(threads, threads.alloc(), out, case)
+        },
+    )
 }

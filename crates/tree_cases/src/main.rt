@@ -13,33 +13,25 @@ mod trees;
 mod written;
 
 use crate::trees::Trees;
-use case_lines::{Answers, CaseStop, answers_all, cut, put_phrases, unfolded};
-use outside_io::{ReadSource, WriteSink};
+use case_lines::{CaseStop, answer_cases, cut, put_phrases, unfolded};
 use std::alloc::Global;
 use std::process::ExitCode;
 
-// The answers of phrases that put trees.
-#[derive(Drop)]
-struct TreeCases {}
-
-impl Answers for TreeCases {
-    fn put_answer(&self, alloc: Global, out: &mut Vec<u8>, case: &[u8]) -> Result<(), CaseStop> {
-        let text = unfolded(alloc, case)?;
-        let (asked, rest) = cut(&text);
-        if asked == b"tree".as_slice() {
-            put_phrases(alloc, out, &mut Trees::new(alloc), rest)
-        } else {
-            Err(CaseStop::Unread)
-        }
+// The answer of phrases that put trees.
+fn put_answer(alloc: Global, out: &mut Vec<u8>, case: &[u8]) -> Result<(), CaseStop> {
+    let text = unfolded(alloc, case)?;
+    let (asked, rest) = cut(&text);
+    if asked == b"tree".as_slice() {
+        put_phrases(alloc, out, &mut Trees::new(alloc), rest)
+    } else {
+        Err(CaseStop::Unread)
     }
 }
 
 fn main(rt: HostRuntime) -> ExitCode {
-    let mut source = ReadSource::new(rt.stdin());
-    let mut sink = WriteSink::new(rt.stdout());
-    if answers_all(rt.alloc(), &TreeCases {}, &mut source, &mut sink) {
-        ExitCode::SUCCESS
-    } else {
-        ExitCode::FAILURE
-    }
+    let alloc = rt.alloc();
+    answer_cases(
+        &rt,
+        |out: &mut Vec<u8>, case: &[u8]| -> Result<(), CaseStop> { put_answer(alloc, out, case) },
+    )
 }
