@@ -11,4 +11,3 @@ pub mod Numberings
 pub mod Levels
 pub mod Nodes
 pub mod Earlier
-pub mod Fronts

@@ -1,19 +1,13 @@
 -- What a key of a tree keeps.
-use Rattle.std.specs.Prelude.{◌≡◌, ℕ, List, Option, Some, None}
+use Rattle.std.specs.Prelude.{◌≡◌, ℕ, List}
 use Rattle.sha2.specs.Sha256.{sha256}
-use Rattle.csg_tree.specs.Formulas.{Formula, nothing, leaf, joined}
+use Rattle.csg_tree.specs.Formulas.{Formula}
 use Rattle.csg_tree.specs.Keys.{key_of}
 use Rattle.csg_tree.specs.Numberings.{tree_numbered, IsNumberIn}
 
 -- the name of a tree: the SHA-256 of its bytes
 abbrev pub name_of : Formula → List ℕ
 name_of tree = sha256 (key_of tree)
-
--- the name of a tree that is a join
-abbrev pub name_of_join : Formula → Option (List ℕ)
-name_of_join nothing = None
-name_of_join (leaf planes) = None
-name_of_join (joined op left right) = Some (name_of (joined op left right))
 
 -- a number of a store, with the name of its tree
 pub record IsNamed (trees : List Formula) (number : ℕ) (name : List ℕ) : Type 0 where

@@ -8,7 +8,6 @@ mod joining;
 mod key;
 mod laws;
 mod levels;
-mod named_store;
 mod naming;
 mod node;
 mod numbering;
@@ -20,8 +19,9 @@ mod tree;
 mod tree_key;
 
 pub use joining::{balanced, join};
+pub use key::byte_of;
 pub use laws::{balanced_by_halves, joins_are_proper, joins_keep_the_meaning};
-pub use named_store::NamedStore;
+pub use naming::{feed_tree, name_of_node};
 pub use node::CsgNode;
 pub use op::Op;
 pub use planes::Planes;

@@ -11,11 +11,12 @@ ghost use Rattle.parallel_eval.specs.Known.{IsKnown, AreAllKnown};
 ghost use Rattle.parallel_eval.specs.Runs.{shared_solids};
 
 use bsp_tree::Solid;
-use csg_tree::{CsgNode, CsgStore, NamedStore, TreeKey};
+use csg_tree::{CsgNode, CsgStore, TreeKey};
 use std::alloc::Global;
 use std::marker::Model;
 use std::sync::Arc;
 use text_place::NoMemory;
+use tree_names::NamedStore;
 
 // The most that the solids of leaves which are kept may be in size together: 2 MiB at 64 bytes each.
 const MOST_KEPT: u64 = 32_768;

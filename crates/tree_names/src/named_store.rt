@@ -4,18 +4,15 @@ ghost use Rattle.std.specs.Prelude.{◌≡◌, ◌≤◌, ◌∷◌, ◌++◌, L
 ghost use Rattle.std.specs.Bool.{OnTrue};
 ghost use Rattle.std.specs.Arc.{arc_value};
 ghost use Rattle.sha2.specs.Hashers.{Holds256};
-ghost use Rattle.csg_tree.specs.Fronts.{front_of_second, HoldsFrontIfThere, IsFrontOfSecond};
+ghost use Rattle.tree_names.specs.Fronts.{front_of_second, HoldsFrontIfThere, IsFrontOfSecond};
 ghost use Rattle.csg_tree.specs.Formulas.{Formula};
 ghost use Rattle.csg_tree.specs.Keys.{key_of, op_byte};
 ghost use Rattle.csg_tree.specs.Numberings.{tree_numbered, IsNumberIn};
-ghost use Rattle.csg_tree.specs.TreeKeys.{name_of_join};
+ghost use Rattle.tree_names.specs.JoinNames.{name_of_join};
 ghost use Rattle.csg_tree.specs.Earlier.{IsNumberOf, AreAllNumbersIn};
 
-use crate::naming::{hash_of_front, name_from_front, name_of_node, second_join};
-use crate::node::CsgNode;
-use crate::op::Op;
-use crate::store::CsgStore;
-use crate::tree_key::TreeKey;
+use crate::front_hash::{hash_of_front, name_from_front, second_join};
+use csg_tree::{CsgNode, CsgStore, Op, TreeKey, name_of_node};
 use sha2::Sha256;
 use std::alloc::Global;
 use std::marker::Model;
@@ -44,8 +41,8 @@ impl Model for NamedStore {
 
     ghost use Rattle.std.specs.Prelude.{◌≡◌, map};
     ghost use Rattle.std.specs.Arc.{arc_value};
-    ghost use Rattle.csg_tree.specs.TreeKeys.{name_of_join};
-    ghost use Rattle.csg_tree.specs.Fronts.{HoldFronts};
+    ghost use Rattle.tree_names.specs.JoinNames.{name_of_join};
+    ghost use Rattle.tree_names.specs.Fronts.{HoldFronts};
 
     ghost view = { λ s. arc_value s.store };
 

@@ -2,11 +2,11 @@ use Rattle.std.proofs.Common.{sym, subst, arith, ◌∷◌, ◌++◌, Option}
 use Rattle.std.specs.Option.{IfSome}
 use Rattle.sha2.specs.declared.Sha256.{Sha256}
 use Rattle.sha2.specs.Hashers.{Holds256}
-use Rattle.csg_tree.specs.Fronts.{front_of_second, HoldsFront}
+use Rattle.tree_names.specs.Fronts.{front_of_second, HoldsFront}
 use Rattle.csg_tree.specs.Formulas.{Formula}
 use Rattle.csg_tree.specs.Keys.{key_of, op_byte}
 use Rattle.csg_tree.specs.Numberings.{tree_numbered}
-use Rattle.csg_tree.proofs.named_store.front_over.Goals as goal
+use Rattle.tree_names.proofs.named_store.front_over.Goals as goal
 
 pub returns-in-Some-kept : goal.returns-in-Some-kept
 returns-in-Some-kept c =

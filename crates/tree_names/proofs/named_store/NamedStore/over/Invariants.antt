@@ -1,8 +1,8 @@
 use Rattle.std.proofs.Common.{◌≡◌, length, map, take}
 use Rattle.std.specs.Arc.{arc_value}
-use Rattle.csg_tree.specs.Fronts.{HoldFronts}
-use Rattle.csg_tree.specs.TreeKeys.{name_of_join}
-use Rattle.csg_tree.proofs.named_store.NamedStore.new.Given as goal
+use Rattle.tree_names.specs.Fronts.{HoldFronts}
+use Rattle.tree_names.specs.JoinNames.{name_of_join}
+use Rattle.tree_names.proofs.named_store.NamedStore.over.Given as goal
 
 abbrev pub invariant-loop-before : goal.invariant-loop-before
 invariant-loop-before l = record {

@@ -4,7 +4,7 @@ use Rattle.csg_tree.specs.declared.op.Op.{Op}
 use Rattle.csg_tree.specs.declared.op.Op.TheVariants.{Union, Intersection, Difference}
 use Rattle.csg_tree.specs.Formulas.{Formula, nothing, leaf, joined}
 use Rattle.csg_tree.specs.Keys.{key_of, op_byte}
-use Rattle.csg_tree.specs.Fronts.{front_of_second, rest_of_second}
+use Rattle.tree_names.specs.Fronts.{front_of_second, rest_of_second}
 
 -- a second tree is what belongs to the front and what is left of it
 front_and_rest : (op : Op) (right : Formula) → front_of_second op right ++ rest_of_second op right ≡ key_of right

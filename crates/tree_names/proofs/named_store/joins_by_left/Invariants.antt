@@ -1,5 +1,5 @@
 use Rattle.std.proofs.Common.{◌≡◌, ◌≤◌, length, All}
-use Rattle.csg_tree.proofs.named_store.joins_by_left.Given as goal
+use Rattle.tree_names.proofs.named_store.joins_by_left.Given as goal
 
 abbrev pub invariant-loop-before : goal.invariant-loop-before
 invariant-loop-before l = record {
