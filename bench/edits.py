@@ -48,7 +48,9 @@ PHASES = {
         "flight_memo::", "subtree_memo::", "memo_core::", "lru::", "csg_tree::tree_key::are_same", "core::sync::Mutex::lock",
     ),
     # the solids of leaves, and merges
-    "building": ("bsp_boolean::", "bsp_partition::", "bsp_tree::", "plane_table::", "plane_line::", "plane_polygon::"),
+    "building": (
+        "bsp_boolean::", "leaf_solids::", "bsp_partition::", "bsp_tree::", "plane_table::", "plane_line::", "plane_polygon::",
+    ),
     "facets": ("facet_cut::",),
     "text": ("off_text::", "text_place::decimal::"),
 }

@@ -21,8 +21,9 @@ use Rattle.bsp_tree.specs.Links.{alike, turned}
 use Rattle.bsp_tree.specs.Shapes.{leaf_of}
 use Rattle.bsp_tree.specs.Growths.{Sheet, tree_on, exchanged}
 use Rattle.bsp_tree.proofs.Wholes.{leaf_tree, end_exchanged}
-use Rattle.bsp_partition.specs.Partitions.{divide, rows}
-use Rattle.bsp_boolean.specs.Merges.{combined, merged}
+use Rattle.bsp_tree.specs.Partitions.{divide, rows}
+use Rattle.leaf_solids.specs.Combined.{combined}
+use Rattle.bsp_boolean.specs.Merges.{merged}
 use Rattle.bsp_boolean.specs.Branches.{decides, exchanges}
 
 -- both parts with their leaves exchanged

@@ -8,7 +8,7 @@ use Rattle.bsp_tree.specs.Cells.{IsIn, IsOfCell, IsOff, IsPlaneOf}
 use Rattle.bsp_tree.specs.Trees.{Tree, inside, outside, node, walk, size, complement}
 use Rattle.bsp_tree.proofs.Complements.{complement_walks, complement_planes, complement_cells}
 use Rattle.bsp_boolean.specs.Merges.{merged, AreOfOneCell, IsOperationOn}
-use Rattle.bsp_boolean.proofs.Combined.{combined_walks, combined_cells, combined_planes}
+use Rattle.leaf_solids.proofs.Combined.{combined_walks, combined_cells, combined_planes}
 
 merged_walks : (op : Op) (l r : Tree) (cell : List Coefficients) → AreOfOneCell cell l r →
     (p : Coordinates) → IsIn cell p → IsOff l p → IsOff r p →

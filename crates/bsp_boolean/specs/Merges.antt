@@ -1,24 +1,12 @@
 -- The merge of two solids (Bernstein and Fussell).
-use Rattle.std.specs.Prelude.{◌≡◌, Bool, true, false, if◌then◌else◌, List, ◌⊎◌}
+use Rattle.std.specs.Prelude.{◌≡◌, true, false, List, ◌⊎◌}
 use Rattle.plane_predicate.specs.Space.{Coefficients, Coordinates}
 use Rattle.csg_tree.specs.declared.op.Op.{Op}
 use Rattle.csg_tree.specs.declared.op.Op.TheVariants.{Union, Intersection, Difference}
 use Rattle.csg_tree.specs.Formulas.{operated}
-use Rattle.bsp_tree.specs.Trees.{Tree, inside, outside, node, walk, complement, make}
+use Rattle.bsp_tree.specs.Trees.{Tree, walk, complement}
 use Rattle.bsp_tree.specs.Cells.{IsIn, IsOfCell, IsOff, IsPlaneOf}
-use Rattle.bsp_partition.specs.Partitions.{divide}
-
--- two solids as one, where one of the leaves decides: in a union the leaf inside, in an intersection the leaf
--- outside. The deciding leaf on either side is the result, and the other leaf gives the other side. Else the
--- left side's node divides the right side, and the parts on each side are put together
-abbrev pub combined : Bool → Tree → Tree → Tree
-combined in_decides inside right = if in_decides then inside else right
-combined in_decides outside right = if in_decides then right else outside
-combined in_decides (node s b a) inside = if in_decides then inside else node s b a
-combined in_decides (node s b a) outside = if in_decides then node s b a else outside
-combined in_decides (node s b a) (node t c d) =
-    let parts = divide (node t c d) s in
-    make s (combined in_decides b parts.0) (combined in_decides a parts.1)
+use Rattle.leaf_solids.specs.Combined.{combined}
 
 -- the merge of two solids. A difference is the intersection with the inside and the outside of the right
 -- solid exchanged

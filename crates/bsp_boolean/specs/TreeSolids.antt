@@ -9,7 +9,8 @@ use Rattle.bsp_tree.specs.Shapes.{SolidParts}
 use Rattle.bsp_tree.specs.Trees.{Tree, outside, size}
 use Rattle.bsp_tree.specs.Shapes.{tree_of}
 use Rattle.bsp_boolean.specs.Merges.{merged}
-use Rattle.bsp_boolean.specs.Solids.{convex, solid_of}
+use Rattle.leaf_solids.specs.Solids.{convex}
+use Rattle.bsp_boolean.specs.Solids.{solid_of}
 use Rattle.bsp_boolean.specs.declared.tree_solids.TreeStop.{TreeStop}
 use Rattle.bsp_boolean.specs.declared.tree_solids.TreeStop.TheVariants.{TooBig, SumTooBig, NoMemory}
 use Rattle.bsp_boolean.specs.declared.tree_solids.FirstSolids.{FirstSolids}

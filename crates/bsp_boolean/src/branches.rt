@@ -4,7 +4,7 @@ ghost use Rattle.std.specs.Prelude.{◌≡◌, ◌<◌, length, OnOk};
 ghost use Rattle.link_forest.specs.Forests.{IsLinkOf};
 ghost use Rattle.link_forest.specs.declared.link.Link.TheVariants.{To};
 ghost use Rattle.bsp_tree.specs.Growths.{exchanged, tree_on, GrowsBy};
-ghost use Rattle.bsp_boolean.specs.Merges.{combined};
+ghost use Rattle.leaf_solids.specs.Combined.{combined};
 ghost use Rattle.bsp_boolean.specs.Branches.{AreOverOne};
 
 use bsp_partition::add_parts;

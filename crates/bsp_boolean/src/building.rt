@@ -3,46 +3,14 @@
 ghost use Rattle.std.specs.Prelude.{◌≡◌, ℕ, ◌+◌, ◌^◌, ◌<◌, IfOk};
 ghost use Rattle.bsp_tree.specs.Shapes.{tree_of};
 ghost use Rattle.bsp_boolean.specs.Merges.{merged, IsOperationOn};
-ghost use Rattle.bsp_boolean.specs.Solids.{IsBuilt};
+ghost use Rattle.leaf_solids.specs.Solids.{IsBuilt};
 
 use crate::merging::merge_within;
-use bsp_tree::{GrowStop, Solid};
+use bsp_tree::Solid;
 use csg_tree::Op;
+use leaf_solids::BuildStop;
 use std::alloc::Global;
 use std::marker::Model;
-use text_place::NoMemory;
-
-/// Why a solid was not built.
-#[derive(Clone, Copy, Debug)]
-pub enum BuildStop {
-    /// Its size is above the limit.
-    TooBig,
-    /// Memory ran out.
-    NoMemory,
-}
-
-impl From<NoMemory> for BuildStop {
-    ghost use Rattle.bsp_boolean.specs.declared.building.BuildStop.TheVariants.{NoMemory};
-
-    ghost from_gives = { λ _ stop. stop ≡ NoMemory };
-
-    fn from(_refused: NoMemory) -> BuildStop {
-        BuildStop::NoMemory
-    }
-}
-
-impl From<GrowStop> for BuildStop {
-    ghost use Rattle.bsp_boolean.specs.Solids.{stop_of};
-
-    ghost from_gives = { λ given stop. stop ≡ stop_of given };
-
-    fn from(given: GrowStop) -> BuildStop {
-        match given {
-            GrowStop::TooBig => BuildStop::TooBig,
-            GrowStop::NoMemory => BuildStop::NoMemory,
-        }
-    }
-}
 
 /// What merges solids, and counts how often it was called.
 pub trait Builder {

@@ -7,7 +7,8 @@ ghost use Rattle.csg_tree.specs.ProperTrees.{IsProper};
 ghost use Rattle.csg_tree.specs.Numberings.{tree_numbered, IsNumberIn};
 ghost use Rattle.bsp_tree.specs.Trees.{Tree, outside};
 ghost use Rattle.bsp_boolean.specs.Merges.{merged, IsOperationOn};
-ghost use Rattle.bsp_boolean.specs.Solids.{solid_of, IsSolidOf};
+ghost use Rattle.leaf_solids.specs.Solids.{IsSolidOf};
+ghost use Rattle.bsp_boolean.specs.Solids.{solid_of};
 ghost use Rattle.bsp_boolean.specs.TreeSolids.{most_of_one, most_of_all, solid_size, total_size, AreWithin, is_join, joins};
 
 /// The merge of two solids is the operation on them, at each point of a cell that both are of off

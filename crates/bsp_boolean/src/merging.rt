@@ -5,12 +5,12 @@ ghost use Rattle.bsp_tree.specs.Trees.{Tree};
 ghost use Rattle.bsp_tree.specs.Shapes.{tree_of};
 ghost use Rattle.bsp_boolean.specs.Merges.{merged, IsOperationOn};
 ghost use Rattle.bsp_boolean.specs.Branches.{decides, exchanges};
-ghost use Rattle.bsp_boolean.specs.Solids.{IsBuilt};
+ghost use Rattle.leaf_solids.specs.Solids.{IsBuilt};
 
 use crate::branches::Merge;
-use crate::building::BuildStop;
 use bsp_tree::{Growing, MovedNodes, Solid, finish, solid_over};
 use csg_tree::Op;
+use leaf_solids::BuildStop;
 use plane_table::{PlaneTable, join};
 use std::alloc::Global;
 use text_place::NoMemory;

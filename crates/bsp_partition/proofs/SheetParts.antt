@@ -14,8 +14,8 @@ use Rattle.bsp_tree.specs.Shapes.{leaf_of}
 use Rattle.bsp_tree.specs.Growths.{Sheet, tree_on, HasTree}
 use Rattle.bsp_tree.proofs.Sheets.{longer_itself, longer_twice, still, stood_on, adds_longer, adds_tree}
 use Rattle.bsp_tree.proofs.Wholes.{leaf_tree}
-use Rattle.bsp_partition.specs.declared.part.Part.TheVariants.{Low, High}
-use Rattle.bsp_partition.specs.Partitions.{across_row, ahead_row, behind_row, divide}
+use Rattle.bsp_tree.specs.declared.part.Part.TheVariants.{Low, High}
+use Rattle.bsp_tree.specs.Partitions.{across_row, ahead_row, behind_row, divide}
 use Rattle.bsp_partition.specs.Parts.{trees_on, AreLinksOf, HasMade, HasParts, HasSideParts}
 
 -- the tree at a link stands there

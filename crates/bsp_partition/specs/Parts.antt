@@ -7,7 +7,7 @@ use Rattle.bsp_tree.specs.Trees.{Tree}
 use Rattle.bsp_tree.specs.Growths.{Sheet, tree_on, HasTree, IsLonger}
 use Rattle.plane_table.specs.Faces.{IsFaceOver}
 use Rattle.bsp_partition.specs.declared.fork.Fork.{Fork}
-use Rattle.bsp_partition.specs.Partitions.{divide, rows}
+use Rattle.bsp_tree.specs.Partitions.{divide, rows}
 
 -- the parts of a node with the polygon t and the solids b and a, on another plane than s
 abbrev pub row_parts : Outline → Outline → Tree → Tree → Tree × Tree

@@ -3,10 +3,9 @@
 
 ghost use Rattle.std.specs.Prelude.{◌≡◌, IfOk};
 ghost use Rattle.bsp_tree.specs.Shapes.{tree_of};
-ghost use Rattle.bsp_partition.specs.Partitions.{divide, AreOfHalves, HaveNoNewPlane, KeepWalks};
+ghost use Rattle.bsp_tree.specs.Partitions.{divide, AreOfHalves, HaveNoNewPlane, KeepWalks};
 
 mod fork;
-mod part;
 mod parting;
 
 use bsp_tree::{Solid, solid_at, solid_over};

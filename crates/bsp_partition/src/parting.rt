@@ -10,12 +10,11 @@ ghost use Rattle.plane_table.specs.Cuts.{part_in, IsCrossing};
 ghost use Rattle.plane_table.specs.Faces.{outline_of, AreSidesOf, IsFaceOver};
 ghost use Rattle.bsp_tree.specs.Trees.{make};
 ghost use Rattle.bsp_tree.specs.Growths.{tree_on};
-ghost use Rattle.bsp_partition.specs.Partitions.{across_row, ahead_row, behind_row, divide};
+ghost use Rattle.bsp_tree.specs.Partitions.{across_row, ahead_row, behind_row, divide};
 ghost use Rattle.bsp_partition.specs.Parts.{row_parts, trees_on, AreLinksOf, HasMade, HasParts, HasSideParts, IsForkOn};
 
 use crate::fork::Fork;
-use crate::part::Part;
-use bsp_tree::{Face, Link, NodeId, Nodes, is_same_leaf};
+use bsp_tree::{Face, Link, NodeId, Nodes, Part, is_same_leaf};
 use plane_polygon::Class;
 use plane_table::{CornerSides, Crossing, Half, cut, sides};
 use std::alloc::Global;

@@ -16,3 +16,9 @@ pub mod SheetFaces
 pub mod Wholes
 pub mod CopiedNodes
 pub mod PassedRanges
+pub mod Apart
+pub mod Ways
+pub mod DividedWalks
+pub mod DividedHalves
+pub mod DividedPlanes
+mod Examples

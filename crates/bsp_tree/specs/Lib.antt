@@ -1,6 +1,7 @@
 pub mod Trees
 pub mod Cells
 pub mod Links
+pub mod Partitions
 pub mod Shapes
 pub mod Kept
 pub mod Growths

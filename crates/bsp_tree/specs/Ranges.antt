@@ -18,17 +18,18 @@ pub data Spans {A : Type 0} (nodes : List (Entry A)) : ℕ → Link → ℕ → 
 pub record AreFirsts {A : Type 0} (nodes : List (Entry A)) (firsts : List ℕ) : Type 0 where
   pub each : (id : NodeId) (first : ℕ) → slice_get firsts id.index ≡ Some first → Spans nodes first (To id) (id.index + 1)
 
--- the link that reaches as far back from one number as this one does from another
+-- the link that reaches as far back from the second number as this one does from the first
 abbrev pub shifted : Link → ℕ → ℕ → Link
 shifted (End side) from to = End side
 shifted (To id) from to = To (node_id (to - (from - id.index)))
 
--- a link reaches back from a number, and from another one not past the first
+-- a link can be shifted so: its node has at most the first number, and the second one is at least as large as the distance
+-- between them
 abbrev pub CanShift : Link → ℕ → ℕ → Type 0
 CanShift (End side) from to = Unit {0}
 CanShift (To id) from to = (id.index ≤ from) × (from ≤ to + id.index)
 
--- one node was added behind the others, to which the link leads
+-- one node was added after the others, and the link leads to it
 pub record IsNext (old new : Growth) (link : Link) : Type 0 where
   pub planes : new.sheet.planes ≡ old.sheet.planes
   pub leads : link ≡ To (node_id (length old.sheet.nodes))

@@ -83,7 +83,7 @@ impl<'t> Growing<'t> {
 
     /// Adds a node over a tree behind its face, and one ahead that was added after that. `TooBig` comes
     /// exactly where the size would be above the limit.
-    // (A call copies the face, which is as large as its short list of numbers.)
+    // Inlined, since each call would copy the face, whose short list of numbers stands within it.
     #[inline(always)]
     pub fn add(&mut self, face: Face, behind: Link, ahead: Link) -> Result<Link, GrowStop>
         requires face { IsFaceOver self.old.sheet.planes face }

@@ -66,8 +66,8 @@ impl<'t> Nodes<'t> {
         self.forest.at(id)
     }
 
-    /// Adds a node.
-    // (A call copies the face, which is as large as its short list of numbers.)
+    /// Adds a node of a face and of links that are of these nodes.
+    // It is `Forest::add`, inlined: each call would copy the face, whose short list of numbers stands within it.
     #[inline(always)]
     pub fn add(&mut self, face: Face, behind: Link, ahead: Link) -> Result<NodeId, NoMemory>
         requires face { IsFaceOver self.old.planes face }

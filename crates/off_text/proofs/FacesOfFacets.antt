@@ -11,7 +11,8 @@ use Rattle.csg_tree.specs.FacePlanes.{IsFacePlane, IsOnOneFacePlane, just_behind
 use Rattle.csg_tree.specs.ProperTrees.{IsProper}
 use Rattle.bsp_tree.specs.Cells.{world_box, IsPlaneOf}
 use Rattle.bsp_tree.proofs.Worlds.{open_world}
-use Rattle.bsp_boolean.specs.Solids.{solid_of, IsSolidOf}
+use Rattle.leaf_solids.specs.Solids.{IsSolidOf}
+use Rattle.bsp_boolean.specs.Solids.{solid_of}
 use Rattle.bsp_boolean.proofs.Solids.{tree_is_solid}
 use Rattle.facet_cut.specs.Facets.{facets_of}
 use Rattle.facet_cut.specs.Sides.{walk_by, IsOnOnePlane}

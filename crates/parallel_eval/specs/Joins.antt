@@ -8,8 +8,8 @@ use Rattle.bsp_tree.specs.Shapes.{SolidParts, tree_of}
 use Rattle.bsp_tree.specs.Trees.{Tree, size}
 use Rattle.bsp_boolean.specs.Solids.{solid_of}
 use Rattle.bsp_boolean.specs.TreeSolids.{most_of_one}
-use Rattle.bsp_boolean.specs.declared.building.BuildStop.{BuildStop}
-use Rattle.bsp_boolean.specs.declared.building.BuildStop.TheVariants.{TooBig, NoMemory}
+use Rattle.leaf_solids.specs.declared.building.BuildStop.{BuildStop}
+use Rattle.leaf_solids.specs.declared.building.BuildStop.TheVariants.{TooBig, NoMemory}
 use Rattle.subtree_memo.specs.Shares.{View, probes_of, offered_of, dropped_max}
 
 -- a tree is the join of two others, which have these solids

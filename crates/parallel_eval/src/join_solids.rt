@@ -2,7 +2,8 @@ ghost use Rattle.std.specs.Prelude.{◌≡◌, ◌+◌, ◌^◌, ◌<◌, ◌≤
 ghost use Rattle.std.specs.Arc.{arc_value};
 ghost use Rattle.bsp_tree.specs.Shapes.{tree_of};
 ghost use Rattle.bsp_boolean.specs.Merges.{merged};
-ghost use Rattle.bsp_boolean.specs.Solids.{solid_of, IsBuilt};
+ghost use Rattle.leaf_solids.specs.Solids.{IsBuilt};
+ghost use Rattle.bsp_boolean.specs.Solids.{solid_of};
 ghost use Rattle.bsp_boolean.specs.TreeSolids.{most_of_one};
 ghost use Rattle.parallel_eval.specs.Joins.{IsJoinOf, Gives, AreBuilt, HasRoom, AreAsked};
 

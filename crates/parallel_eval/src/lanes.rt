@@ -6,7 +6,8 @@ ghost use Rattle.plane_predicate.specs.Space.{ComesInReach};
 ghost use Rattle.csg_tree.specs.Formulas.{leaf};
 ghost use Rattle.csg_tree.specs.Numberings.{tree_numbered, IsNumberIn};
 ghost use Rattle.bsp_tree.specs.Shapes.{tree_of};
-ghost use Rattle.bsp_boolean.specs.Solids.{solid_of, convex};
+ghost use Rattle.leaf_solids.specs.Solids.{convex};
+ghost use Rattle.bsp_boolean.specs.Solids.{solid_of};
 ghost use Rattle.parallel_eval.specs.Joins.{Gives, HasRoom, AreAsked};
 ghost use Rattle.parallel_eval.specs.Runs.{joins_to, IsRunWork, IsRunNode, IsNodeOutcome, HasMade, IsLaneReady, IsLaneDone};
 

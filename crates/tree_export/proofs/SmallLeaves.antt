@@ -6,7 +6,7 @@ use Rattle.plane_predicate.specs.Space.{Coefficients}
 use Rattle.csg_tree.specs.Formulas.{Formula, leaf}
 use Rattle.csg_tree.specs.Numberings.{nodes_of}
 use Rattle.bsp_tree.specs.Trees.{size}
-use Rattle.bsp_boolean.specs.Solids.{convex}
+use Rattle.leaf_solids.specs.Solids.{convex}
 use Rattle.bsp_boolean.specs.TreeSolids.{most_of_one, solid_size, AreWithin}
 use Rattle.facet_cut.specs.Facets.{facets_of}
 use Rattle.off_text.specs.Texts.{corner_count, most_vertices, HasVertices}

@@ -1,10 +1,10 @@
 use Rattle.std.proofs.Common.{◌≡◌, sym, subst}
 use Rattle.std.proofs.lemmas.Result.{IfOk-weaker}
 use Rattle.bsp_tree.specs.Shapes.{tree_of}
-use Rattle.bsp_partition.specs.Partitions.{divide, AreOfHalves, HaveNoNewPlane, KeepWalks}
-use Rattle.bsp_partition.proofs.Walks.{divide_keeps}
-use Rattle.bsp_partition.proofs.Halves.{divide_halves}
-use Rattle.bsp_partition.proofs.Planes.{divide_planes}
+use Rattle.bsp_tree.specs.Partitions.{divide, AreOfHalves, HaveNoNewPlane, KeepWalks}
+use Rattle.bsp_tree.proofs.DividedWalks.{divide_keeps}
+use Rattle.bsp_tree.proofs.DividedHalves.{divide_halves}
+use Rattle.bsp_tree.proofs.DividedPlanes.{divide_planes}
 use Rattle.bsp_partition.proofs.partition.Goals as goal
 
 pub returns-clause-walks : goal.returns-clause-walks

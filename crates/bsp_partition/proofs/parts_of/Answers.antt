@@ -4,7 +4,7 @@ use Rattle.plane_table.specs.Faces.{outline_of}
 use Rattle.link_forest.specs.declared.link.Link.{Link}
 use Rattle.bsp_tree.specs.Shapes.{SolidParts}
 use Rattle.bsp_tree.specs.Growths.{tree_on}
-use Rattle.bsp_partition.specs.Partitions.{divide}
+use Rattle.bsp_tree.specs.Partitions.{divide}
 use Rattle.bsp_partition.proofs.parts_of.Goals as goal
 
 pub add_parts-requires-clause-face : goal.add_parts-requires-clause-face

@@ -7,9 +7,9 @@ use Rattle.plane_polygon.specs.Boxes.{box_outline}
 use Rattle.plane_polygon.specs.declared.classes.Class.{Class}
 use Rattle.plane_polygon.specs.declared.classes.Class.TheVariants.{Behind, Ahead, Across}
 use Rattle.bsp_tree.specs.Trees.{Tree, inside, outside, node, make, half_space}
-use Rattle.bsp_partition.specs.Partitions.{divide, rows}
-use Rattle.bsp_boolean.specs.Merges.{combined}
-use Rattle.bsp_boolean.specs.Solids.{convex}
+use Rattle.bsp_tree.specs.Partitions.{divide, rows}
+use Rattle.leaf_solids.specs.Combined.{combined}
+use Rattle.leaf_solids.specs.Solids.{convex}
 use Rattle.off_text.proofs.Bounds.Edges.{part_edges, box_edges}
 use Rattle.off_text.proofs.Bounds.Doubling.{doubled, doubled_more, doubled_least, doubled_later, doubled_twice}
 

@@ -7,7 +7,7 @@ use Rattle.plane_polygon.specs.Parts.{class_of, part_behind, part_ahead}
 use Rattle.plane_polygon.specs.declared.classes.Class.{Class}
 use Rattle.plane_polygon.specs.declared.classes.Class.TheVariants.{Behind, Ahead, On, Across}
 use Rattle.bsp_tree.specs.Trees.{Tree, inside, outside, node, size}
-use Rattle.bsp_boolean.specs.Solids.{convex}
+use Rattle.leaf_solids.specs.Solids.{convex}
 use Rattle.facet_cut.specs.Facets.{Piece, on_sides, pieces, facets_ahead, facets_between, facets_of}
 use Rattle.off_text.specs.Texts.{corner_count}
 use Rattle.off_text.proofs.Bounds.Edges.{part_edges}

@@ -10,7 +10,7 @@ use Rattle.plane_table.specs.Cuts.{part_in}
 use Rattle.bsp_tree.specs.Trees.{Tree}
 use Rattle.bsp_tree.specs.Growths.{tree_on}
 use Rattle.bsp_tree.proofs.Sheets.{stood_on}
-use Rattle.bsp_partition.specs.Partitions.{across_row, divide, rows}
+use Rattle.bsp_tree.specs.Partitions.{across_row, divide, rows}
 use Rattle.bsp_partition.specs.Parts.{row_parts, trees_on, HasParts}
 use Rattle.bsp_partition.proofs.SheetParts.{end_parts, sides_parted, across_parted}
 use Rattle.bsp_partition.proofs.parting.+parts.Goals as goal

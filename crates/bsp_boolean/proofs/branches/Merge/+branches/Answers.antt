@@ -9,8 +9,8 @@ use Rattle.bsp_tree.specs.Trees.{Tree, make}
 use Rattle.bsp_tree.specs.Links.{alike}
 use Rattle.bsp_tree.specs.Growths.{Sheet, exchanged, tree_on, GrowsBy, HasGrown}
 use Rattle.bsp_tree.proofs.Growths.{leaf_grows, make_size, stops, stops_after}
-use Rattle.bsp_partition.specs.Partitions.{divide}
-use Rattle.bsp_boolean.specs.Merges.{combined}
+use Rattle.bsp_tree.specs.Partitions.{divide}
+use Rattle.leaf_solids.specs.Combined.{combined}
 use Rattle.bsp_boolean.proofs.Exchanges.{below_left, end_decides, end_gives, right_end_decides, right_end_gives, node_merged}
 use Rattle.bsp_boolean.proofs.branches.Merge.+branches.Goals as goal
 

@@ -1,0 +1,4 @@
+pub mod Combined
+pub mod Chains
+pub mod Solids
+pub mod UprightBoxes
