@@ -209,24 +209,33 @@ class Program(Calls):
             server.stdout.close()
             self.assertEqual(server.wait(100), 5)
 
+    def most_threads(self, workers, script):
+        """The most threads that were seen while a script was served by so many workers."""
+        words = [PROGRAM, "run", "--workers", str(workers)]
+        with subprocess.Popen(words, stdin=subprocess.PIPE, stdout=subprocess.DEVNULL) as server:
+            server.stdin.write(script.encode())
+            server.stdin.close()
+            most = 0
+            while server.poll() is None:
+                try:
+                    most = max(most, len(os.listdir(f"/proc/{server.pid}/task")))
+                except OSError:
+                    pass
+        self.assertEqual(server.returncode, 0)
+        return most
+
     @unittest.skipUnless(os.path.isdir("/proc/self/task"), "needs /proc")
-    def test_each_client_has_as_many_builders_as_the_words_say(self):
+    def test_an_export_has_as_many_workers_as_the_words_say(self):
         line = "for (x = [0 : 24], y = [0 : 24]) translate([2 * x + 3 * y, 2 * y, x]) cube(3);"
-        script = f"a put 1 {line}\na export\n".encode()
-        most = {}
-        for workers in (1, 4):
-            words = [PROGRAM, "run", "--workers", str(workers)]
-            with subprocess.Popen(words, stdin=subprocess.PIPE, stdout=subprocess.DEVNULL) as server:
-                server.stdin.write(script)
-                server.stdin.close()
-                most[workers] = 0
-                while server.poll() is None:
-                    try:
-                        most[workers] = max(most[workers], len(os.listdir(f"/proc/{server.pid}/task")))
-                    except OSError:
-                        pass
-            self.assertEqual(server.returncode, 0)
-        self.assertGreater(most[4], most[1])
+        script = f"a put 1 {line}\na export\n"
+        self.assertGreater(self.most_threads(4, script), self.most_threads(1, script))
+
+    @unittest.skipUnless(os.path.isdir("/proc/self/task"), "needs /proc")
+    def test_exports_at_the_same_time_share_the_workers(self):
+        line = "for (x = [0 : 24], y = [0 : 24]) translate([2 * x + 3 * y, 2 * y, x]) cube({});"
+        clients = [f"c{it} put 1 {line.format(3 + it)}\nc{it} export\n" for it in range(8)]
+        # With all that the words say each, these would be 8 times 16 threads.
+        self.assertLess(self.most_threads(16, "".join(clients)), 80)
 
     def test_a_solid_past_a_limit_is_told(self):
         bars = "module bars(v, s) for (i = [0 : 14]) translate(2 * i * v) cube(s);\nintersection() {\n"

@@ -1,7 +1,6 @@
 //! Answers of cases, by what a program says of each.
 
 use crate::lines::lines_of;
-use crate::phrase::{Phrase, phrases_of};
 use crate::stop::CaseStop;
 use crate::text::put;
 use outside_io::{ReadSource, Sink, Source, WriteSink, read_to_end, write_all};
@@ -12,30 +11,13 @@ use text_place::{Bytes, NoMemory};
 // The most bytes of all cases.
 const MOST_BYTES: usize = 1 << 20;
 
-/// What does as phrases say.
-pub trait Follows {
-    /// Does what a phrase says, and writes what it asks.
-    fn follow(&mut self, alloc: Global, out: &mut Vec<u8>, phrase: &Phrase) -> Result<(), CaseStop>;
-}
-
-/// What phrases ask, one answer behind another, with a semicolon and a space between.
-pub fn put_phrases<F: Follows>(
-    alloc: Global,
-    out: &mut Vec<u8>,
-    follower: &mut F,
-    text: &[u8],
-) -> Result<(), CaseStop> {
-    let mut is_first = true;
-    for phrase in &phrases_of(alloc, text)? {
-        let mut told = Vec::new(alloc);
-        follower.follow(alloc, &mut told, phrase)?;
-        if !told.is_empty() {
-            if !is_first {
-                put(out, b"; ")?;
-            }
-            put(out, &told)?;
-            is_first = false;
+/// Writes an answer behind those that stand from a place on, with a semicolon and a space between. An empty one isn't written.
+pub fn put_next(out: &mut Vec<u8>, from: usize, answer: &[u8]) -> Result<(), NoMemory> {
+    if !answer.is_empty() {
+        if from < out.len() {
+            put(out, b"; ")?;
         }
+        put(out, answer)?;
     }
     Ok(())
 }

@@ -16,7 +16,7 @@ mod repeat;
 mod stop;
 mod text;
 
-pub use answers::{Follows, answer_cases, put_phrases};
+pub use answers::{answer_cases, put_next};
 pub use phrase::{Phrase, found, phrases_of};
 pub use repeat::unfolded;
 pub use stop::CaseStop;

@@ -10,14 +10,15 @@ use parallel_eval::KnownStore;
 use std::alloc::Global;
 use std::process::Abort;
 use std::sync::Arc;
+use std::thread::Threads;
 
 /// The nodes of a tree, of which no solid is known.
-pub fn store(rt: &impl Abort, alloc: Global, tree: &CsgTree) -> KnownStore
+pub fn store<R: Abort + Threads + Sync>(rt: &R, alloc: Global, tree: &CsgTree) -> KnownStore
     requires { IsProper (formula_of tree.now) }
 {
     let store = CsgStore::intern(alloc, tree).expect(rt, "memory");
     let store = Arc::new(alloc, store).expect(rt, "memory");
-    KnownStore::new(alloc, store).expect(rt, "memory")
+    KnownStore::new(rt, alloc, 2, store).expect(rt, "memory")
 }
 
 /// So many builders that have built nothing.

@@ -5,3 +5,5 @@ pub mod Pieces
 pub mod FacetPolygons
 pub mod Boundaries
 pub mod Nodes
+pub mod WholeLists
+pub mod RowFacets

@@ -1,3 +1,4 @@
 pub mod Facets
 pub mod Sides
 pub mod Adding
+pub mod Rows

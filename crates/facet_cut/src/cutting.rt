@@ -29,8 +29,8 @@ pub fn facets(alloc: Global, solid: &Solid, most: u32) -> Result<Vec<Facet>, Cut
     listed(alloc, solid, most)
 }
 
-// The same list, of which its definition says all that is promised.
-fn listed(alloc: Global, solid: &Solid, most: u32) -> Result<Vec<Facet>, CutStop>
+/// The same list, of which its definition says all that is promised.
+pub fn listed(alloc: Global, solid: &Solid, most: u32) -> Result<Vec<Facet>, CutStop>
     ensures list { IfOk result (λ v. v.items ≡ facets_of (tree_of solid.now)) }
     ensures fits { IfOk result (λ v. length v.items ≤ most) }
     ensures many { IsErrOf result CutStop.TooMany → most < length (facets_of (tree_of solid.now)) }
@@ -46,8 +46,8 @@ fn listed(alloc: Global, solid: &Solid, most: u32) -> Result<Vec<Facet>, CutStop
     Ok(found)
 }
 
-// The table of a list of planes.
-fn table_of(alloc: Global, planes: &[Plane]) -> Result<PlaneTable, NoMemory>
+/// The table of a list of planes.
+pub fn table_of(alloc: Global, planes: &[Plane]) -> Result<PlaneTable, NoMemory>
     requires { HasNoTwoAlike planes.now }
     ensures { IfOk result (λ t. t ≡ planes.now) }
 {

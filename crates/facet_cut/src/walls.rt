@@ -50,8 +50,8 @@ impl<'a> Walls<'a> {
         }
     }
 
-    // Adds the facets on a face between the solids behind and ahead of its plane.
-    fn push_between(
+    /// Adds the facets on a face between the solids behind and ahead of its plane.
+    pub fn push_between(
         &self,
         alloc: Global,
         behind: Link,

@@ -1,24 +1,27 @@
 //! Things put together by phrases.
 
-use crate::asking::{ask, asking_of, print, printing_of};
+use crate::asking::{Hands, ask, asking_of, print, printing_of};
 use crate::polygons::{Polygons, shaping_of};
 use crate::solids::{Solids, building_of};
 use case_faces::{put_face, put_tabled, tabling_of};
-use case_lines::{CaseStop, Follows, Phrase};
+use case_lines::{CaseStop, Phrase};
 use case_planes::{Walls, lay, laying_of};
 use std::alloc::Global;
+use std::thread::Threads;
 
-/// Planes, polygons with facets, and solids.
+/// Planes, polygons with facets, and solids, and who cuts and writes facets.
 #[derive(Drop)]
-pub struct Bench {
+pub struct Bench<'a, R: Threads + Sync> {
+    hands: Hands<'a, R>,
     walls: Walls,
     polygons: Polygons,
     solids: Solids,
 }
 
-impl Bench {
-    pub fn new(alloc: Global) -> Bench {
+impl<'a, R: Threads + Sync> Bench<'a, R> {
+    pub fn new(rt: &'a R, alloc: Global) -> Self {
         Bench {
+            hands: Hands { rt, workers: None },
             walls: Walls::new(alloc),
             polygons: Polygons {
                 items: Vec::new(alloc),
@@ -40,16 +43,15 @@ impl Bench {
     ) -> Result<(), CaseStop> {
         if let Some(asking) = asking_of(word) {
             let solid = self.solids.last()?;
-            ask(
-                alloc,
-                out,
-                asking,
-                numbers,
-                solid,
-                &mut self.polygons.facets,
-            )
+            let facets = &mut self.polygons.facets;
+            ask(&self.hands, alloc, out, asking, numbers, solid, facets)
         } else if let Some(printing) = printing_of(word) {
-            print(alloc, out, printing, numbers, &self.polygons.facets)
+            let facets = &self.polygons.facets;
+            print(&self.hands, alloc, out, printing, numbers, facets)
+        } else if word == b"workers".as_slice() {
+            let workers = numbers.first().ok_or(CaseStop::Unread)?;
+            self.hands.workers = u64::try_from(*workers).ok();
+            Ok(())
         } else if word == b"face".as_slice() {
             let plane = self.walls.last().ok_or(CaseStop::Unread)?;
             put_face(alloc, out, &plane)
@@ -59,10 +61,9 @@ impl Bench {
             Err(CaseStop::Unread)
         }
     }
-}
 
-impl Follows for Bench {
-    fn follow(
+    /// Does what a phrase says, and writes what it asks.
+    pub fn follow(
         &mut self,
         alloc: Global,
         out: &mut Vec<u8>,

@@ -28,7 +28,7 @@
 //!
 //! Facets: `facets MOST` asks how many the last solid has, and keeps them. `planes`, `around AT` (the corners of one), `text`,
 //! `text 2` (in half units) and `text UNIT N` (its first N bytes) ask for what is kept, where a stroke `|` stands for each newline
-//! of a text.
+//! of a text. `workers N` has N workers cut and write from there on, and `same UNIT` asks whether they write what one thread does.
 #![tactic(auto)]
 
 mod asking;
@@ -38,16 +38,39 @@ mod solids;
 
 use crate::build::Bench;
 use case_faces::put_about;
-use case_lines::{CaseStop, answer_cases, cut, phrases_of, put_phrases, unfolded};
+use case_lines::{CaseStop, answer_cases, cut, phrases_of, put_next, unfolded};
 use std::alloc::Global;
 use std::process::ExitCode;
+use std::thread::Threads;
+
+// The answers of phrases that build.
+fn put_built<R: Threads + Sync>(
+    rt: &R,
+    alloc: Global,
+    out: &mut Vec<u8>,
+    text: &[u8],
+) -> Result<(), CaseStop> {
+    let mut bench = Bench::new(rt, alloc);
+    let from = out.len();
+    for phrase in &phrases_of(alloc, text)? {
+        let mut told = Vec::new(alloc);
+        bench.follow(alloc, &mut told, phrase)?;
+        put_next(out, from, &told)?;
+    }
+    Ok(())
+}
 
 // The answer of a question about numbers, or of phrases that build.
-fn put_answer(alloc: Global, out: &mut Vec<u8>, case: &[u8]) -> Result<(), CaseStop> {
+fn put_answer<R: Threads + Sync>(
+    rt: &R,
+    alloc: Global,
+    out: &mut Vec<u8>,
+    case: &[u8],
+) -> Result<(), CaseStop> {
     let text = unfolded(alloc, case)?;
     let (asked, rest) = cut(&text);
     if asked == b"build".as_slice() {
-        put_phrases(alloc, out, &mut Bench::new(alloc), rest)
+        put_built(rt, alloc, out, rest)
     } else {
         let phrases = phrases_of(alloc, &text)?;
         put_about(alloc, out, phrases.first().ok_or(CaseStop::Unread)?)
@@ -55,9 +78,11 @@ fn put_answer(alloc: Global, out: &mut Vec<u8>, case: &[u8]) -> Result<(), CaseS
 }
 
 fn main(rt: HostRuntime) -> ExitCode {
-    let alloc = rt.alloc();
+    let threads = &rt;
     answer_cases(
         &rt,
-        |out: &mut Vec<u8>, case: &[u8]| -> Result<(), CaseStop> { put_answer(alloc, out, case) },
+        |out: &mut Vec<u8>, case: &[u8]| -> Result<(), CaseStop> {
+            put_answer(threads, threads.alloc(), out, case)
+        },
     )
 }

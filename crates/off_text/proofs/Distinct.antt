@@ -8,7 +8,7 @@ use Rattle.indexmap.specs.IndexSet.{insert_key}
 use Rattle.plane_predicate.specs.Space.{Coordinates}
 use Rattle.off_text.specs.Texts.{same_point, distinct}
 use Rattle.off_text.specs.Numbering.{grown}
-use Rattle.off_text.proofs.Numbers.{same_itself, same_equal}
+use Rattle.off_text.proofs.Numbers.{Known, AllKnown, same_itself, same_equal, grown_knows, grown-append}
 
 -- the point is not numbered yet
 abbrev is_new : List Coordinates → Coordinates → Bool
@@ -86,3 +86,25 @@ grown-distinct (p ∷ points) vertices =
 
 pub grown_from_none : (points : List Coordinates) → grown [] points ≡ distinct points
 grown_from_none points = grown-distinct points [] ∙ filter-all (distinct points)
+
+known_step : (vertices : List Coordinates) (p q : Coordinates) (b t : Bool) → same_point p q ≡ b → Known vertices q → (t ≡ true → Known vertices p) → (b || t) ≡ true → Known vertices p
+known_step vertices p q true t e h more any = subst (λ (r : Coordinates). Known vertices r) (sym (same_equal p q e)) h
+known_step vertices p q false t e h more any = more any
+
+-- what is among numbered points is numbered
+known_among : (vertices points : List Coordinates) (p : Coordinates) → AllKnown vertices points → Known points p → Known vertices p
+known_among vertices [] p h e = absurd (false≢true e)
+known_among vertices (q ∷ points) p h e = known_step vertices p q (same_point p q) (list_any (same_point p) points) refl h.0 (known_among vertices points p h.1) e
+
+inserted_step : (vertices points : List Coordinates) (p : Coordinates) (b : Bool) → list_any (same_point p) points ≡ b →
+    grown vertices (cond b points (points ++ p ∷ [])) ≡ insert_key same_point (grown vertices points) p
+inserted_step vertices points p true e =
+    sym (ap (λ (b : Bool). cond b (grown vertices points) (grown vertices points ++ p ∷ [])) (known_among (grown vertices points) points p (grown_knows points vertices) e))
+inserted_step vertices points p false e = grown-append points (p ∷ []) vertices
+
+-- the vertices of points are put to others as the points are
+pub grown_twice : (points vertices known : List Coordinates) → grown vertices (grown known points) ≡ grown (grown vertices known) points
+grown_twice [] vertices known = refl
+grown_twice (p ∷ points) vertices known =
+    grown_twice points vertices (insert_key same_point known p)
+    ∙ ap (λ (v : List Coordinates). grown v points) (inserted_step vertices known p (list_any (same_point p) known) refl)

@@ -2,7 +2,6 @@
 use Rattle.std.proofs.Common.{◌≡◌, ◌≢◌, ℕ, zero, suc, ◌<◌, ◌≤◌, not, List, filter, [], ◌∷◌, map, length, get_or, refl, sym, ap, ap₂, ◌∙◌, subst, arith, All, pos, ◌<ℤ◌}
 use Rattle.std.proofs.lemmas.List.{length-map}
 use Rattle.std.proofs.lemmas.List.Elements.{All-append, All-filter, All-map, All-from_get_or}
-use Rattle.std.proofs.lemmas.List.Sums.{passes_at_first}
 use Rattle.plane_predicate.specs.declared.unit.Unit.{Unit as LengthUnit}
 use Rattle.plane_predicate.specs.Space.{Coefficients, Coordinates, value, turn, IsPlane, IsPointTimes}
 use Rattle.plane_predicate.specs.InUnits.{in_steps, in_units}
@@ -16,7 +15,7 @@ use Rattle.off_text.specs.Boundaries.{origin, corner, grid_corner, after, Faces,
 use Rattle.off_text.specs.Texts.{same_point, distinct, number_among, from_least, printed_corners, vertices_of, faces_of, AreCornersOf, IsTextOf}
 use Rattle.off_text.specs.Numbering.{AreNumbered}
 use Rattle.off_text.specs.Prints.{IsFaceOf, AreFacesOf, Prints}
-use Rattle.off_text.proofs.Numbers.{Known, AllKnown, place_below, same_equal, grown_knows}
+use Rattle.off_text.proofs.Numbers.{Known, AllKnown, place_below, known_at, grown_knows}
 use Rattle.off_text.proofs.Distinct.{grown_from_none}
 use Rattle.off_text.proofs.Gathered.{joined, known_parts}
 use Rattle.off_text.proofs.Scaled.{AreOnePoint, printed_is}
@@ -38,9 +37,6 @@ pub rest_of : {X : Type 0} (P : X → Type 0) (x : X) (xs : List X) → All P (x
 rest_of P x xs h k d l = h (suc k) d (omega arith)
 
 -- ---- numbered points
-known-at : (vertices : List Coordinates) (p : Coordinates) → Known vertices p → get_or vertices (number_among vertices p) origin ≡ p
-known-at vertices p h = sym (same_equal p _ (passes_at_first (same_point p) vertices origin (place_below (same_point p) vertices h)))
-
 all-known-at : (vertices points : List Coordinates) → AllKnown vertices points → (i : ℕ) → i < length points → Known vertices (get_or points i origin)
 all-known-at vertices [] h i l = absurd (omega arith)
 all-known-at vertices (p ∷ points) h zero l = h.0
@@ -49,13 +45,13 @@ all-known-at vertices (p ∷ points) h (suc i) l = all-known-at vertices points 
 -- a printed corner is the point that is numbered so
 corner-at : (vertices points : List Coordinates) → AllKnown vertices points → (i : ℕ) → i < length points → corner vertices (map (number_among vertices) points) i ≡ get_or points i origin
 corner-at vertices [] h i l = absurd (omega arith)
-corner-at vertices (p ∷ points) h zero l = known-at vertices p h.0
+corner-at vertices (p ∷ points) h zero l = known_at vertices p h.0
 corner-at vertices (p ∷ points) h (suc i) l = corner-at vertices points h.1 i (omega arith)
 
 -- all corners of a printed face
 corners-are : (vertices points : List Coordinates) → AllKnown vertices points → corners_at vertices (map (number_among vertices) points) ≡ points
 corners-are vertices [] h = refl
-corners-are vertices (p ∷ points) h = ap₂ (λ (q : Coordinates) (qs : List Coordinates). q ∷ qs) (known-at vertices p h.0) (corners-are vertices points h.1)
+corners-are vertices (p ∷ points) h = ap₂ (λ (q : Coordinates) (qs : List Coordinates). q ∷ qs) (known_at vertices p h.0) (corners-are vertices points h.1)
 
 -- ---- one face
 module _ (unit : LengthUnit) (s : Outline) (polygon : IsPolygon s) (vertices points : List Coordinates) (printed : ArePrinted unit s points) (known : AllKnown vertices points) where

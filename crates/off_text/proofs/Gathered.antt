@@ -5,8 +5,8 @@ use Rattle.std.proofs.lemmas.List.Elements.{All-append, All-cons, All-nil}
 use Rattle.std.proofs.lemmas.Grind.{flat_map-append}
 use Rattle.plane_predicate.specs.declared.unit.Unit.{Unit as LengthUnit}
 use Rattle.plane_predicate.specs.Space.{Coordinates}
-use Rattle.plane_polygon.specs.Polygons.{Outline, AreReducedFrom, IsPolygon}
-use Rattle.off_text.specs.Texts.{corners_in_units, from_least, number_among, printed_corners, vertices_of, AreCornersOf}
+use Rattle.plane_polygon.specs.Polygons.{Outline, IsPolygon}
+use Rattle.off_text.specs.Texts.{from_least, number_among, printed_corners, vertices_of, AreCornersOf}
 use Rattle.off_text.specs.Numbering.{grown, AddsFace, AreNumbered}
 use Rattle.off_text.proofs.Numbers.{AllKnown, all_kept, grown_knows, grown-append}
 use Rattle.off_text.proofs.Distinct.{grown_from_none}
@@ -23,11 +23,11 @@ pub record AreGathered (unit : LengthUnit) (polygons : List Outline) (vertices :
   pub vertices_are : vertices ≡ grown [] (joined (printed_corners found))
   pub faces_are : faces ≡ map (map (number_among vertices)) (printed_corners found)
 
-corners_more : (unit : LengthUnit) (polygons : List Outline) (found : List (List Coordinates)) (s : Outline) (last : List Coordinates) → AreCornersOf unit polygons found → AreReducedFrom (corners_in_units unit s) last → AreCornersOf unit (polygons ++ s ∷ []) (found ++ last ∷ [])
-corners_more unit [] [] s last h l = (l, tt)
-corners_more unit [] (f ∷ found) s last h l = absurd h
-corners_more unit (t ∷ polygons) [] s last h l = absurd h
-corners_more unit (t ∷ polygons) (f ∷ found) s last h l = (h.0, corners_more unit polygons found s last h.1 l)
+pub corners_append : (unit : LengthUnit) (polygons others : List Outline) (found more : List (List Coordinates)) → AreCornersOf unit polygons found → AreCornersOf unit others more → AreCornersOf unit (polygons ++ others) (found ++ more)
+corners_append unit [] others [] more h l = l
+corners_append unit [] others (f ∷ found) more h l = absurd h
+corners_append unit (t ∷ polygons) others [] more h l = absurd h
+corners_append unit (t ∷ polygons) others (f ∷ found) more h l = (h.0, corners_append unit polygons others found more h.1 l)
 
 pub known_parts : (xs ys vertices : List Coordinates) → AllKnown vertices (xs ++ ys) → AllKnown vertices xs × AllKnown vertices ys
 known_parts [] ys vertices h = (tt, h)
@@ -48,7 +48,7 @@ gathered_more unit polygons vertices faces h s new face a =
     record {
       all_polygons = All-append IsPolygon polygons (s ∷ []) h.all_polygons (All-cons IsPolygon s [] a.polygon (All-nil IsPolygon));
       found = h.found ++ a.found ∷ [];
-      corners = corners_more unit polygons h.found s a.found h.corners a.corners;
+      corners = corners_append unit polygons (s ∷ []) h.found (a.found ∷ []) h.corners (a.corners, tt);
       vertices_are = a.grows ∙ ap (λ (v : List Coordinates). grown v (from_least a.found)) h.vertices_are
           ∙ sym (grown-append (joined (printed_corners h.found)) (from_least a.found) [])
           ∙ ap (λ (l : List Coordinates). grown [] (joined (printed_corners h.found) ++ l)) (sym (append-nil (from_least a.found)))

@@ -13,6 +13,9 @@ pub mod Halves
 pub mod Printed
 pub mod Factors
 pub mod Lines
+pub mod Renamed
+pub mod Cut
+pub mod Together
 pub mod Drawn
 pub mod Covered
 pub mod Unique

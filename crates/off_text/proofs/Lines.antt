@@ -1,4 +1,4 @@
--- The lines of faces, written one after another.
+-- The words of faces, put down one after another, and the text of lines.
 use Rattle.std.proofs.Common.{◌≡◌, ℕ, suc, ◌<◌, ◌≤◌, ◌+◌, List, [], ◌∷◌, ◌++◌, flat_map, take, length, get_or, refl, sym, ap, ap₂, ◌∙◌, append-nil, codes}
 use Rattle.std.proofs.lemmas.List.{length-map}
 use Rattle.std.proofs.lemmas.Grind.{flat_map-append}
@@ -7,37 +7,39 @@ use Rattle.text_place.specs.Decimals.{numeral}
 use Rattle.plane_predicate.specs.declared.unit.Unit.{Unit as LengthUnit}
 use Rattle.plane_predicate.specs.Space.{Coordinates}
 use Rattle.plane_polygon.specs.Polygons.{Outline, IsPolygon}
-use Rattle.off_text.specs.Reading.{vertex_line, face_line, off_text}
+use Rattle.off_text.specs.Reading.{vertex_line, off_text}
 use Rattle.off_text.specs.Texts.{vertices_of, AreCornersOf, IsTextOf}
-use Rattle.off_text.specs.Numbering.{AddsLine, HaveLines}
+use Rattle.off_text.specs.declared.numbering.Word.{Word}
+use Rattle.off_text.specs.Numbering.{HaveLines}
+use Rattle.off_text.specs.Words.{face_words, AddsWords, HaveWords}
 use Rattle.off_text.proofs.Pieces.{text-written}
 use Rattle.off_text.proofs.Gathered.{AreGathered, gathered_next, gathered_end}
 
--- the vertices of these polygons, numbered from none on, and the lines of their faces
-pub record AreWritten (unit : LengthUnit) (polygons : List Outline) (vertices : List Coordinates) (lines : List ℕ) : Type 0 where
+-- the vertices of these polygons, numbered from none on, and the words of the lines of their faces
+pub record AreWritten (unit : LengthUnit) (polygons : List Outline) (vertices : List Coordinates) (words : List Word) : Type 0 where
   pub faces : List (List ℕ)
   pub gathered : AreGathered unit polygons vertices faces
-  pub lines_are : lines ≡ flat_map face_line faces
+  pub words_are : words ≡ flat_map face_words faces
 
-pub written_none : (unit : LengthUnit) (vertices : List Coordinates) (lines : List ℕ) → vertices ≡ [] → lines ≡ [] → AreWritten unit [] vertices lines
-written_none unit vertices lines v l = record {
+pub written_none : (unit : LengthUnit) (vertices : List Coordinates) (words : List Word) → vertices ≡ [] → words ≡ [] → AreWritten unit [] vertices words
+written_none unit vertices words v l = record {
   faces = [];
   gathered = record { all_polygons = All-nil IsPolygon; found = []; corners = tt; vertices_are = v; faces_are = refl };
-  lines_are = l;
+  words_are = l;
 }
 
 -- a polygon more of a list
 pub written_next : (unit : LengthUnit) (polygons : List Outline) (i : ℕ) (s : Outline) → i < length polygons → s ≡ get_or polygons i s →
-    (vertices : List Coordinates) (before : List ℕ) → AreWritten unit (take i polygons) vertices before →
-    (new : List Coordinates) (lines : List ℕ) → AddsLine unit s vertices new before lines → AreWritten unit (take (i + 1) polygons) new lines
-written_next unit polygons i s h is vertices before w new lines a = record {
+    (vertices : List Coordinates) (before : List Word) → AreWritten unit (take i polygons) vertices before →
+    (new : List Coordinates) (words : List Word) → AddsWords unit s vertices new before words → AreWritten unit (take (i + 1) polygons) new words
+written_next unit polygons i s h is vertices before w new words a = record {
   faces = w.faces ++ a.face ∷ [];
   gathered = gathered_next unit polygons i s h is vertices w.faces w.gathered new a.face (w.faces ++ a.face ∷ []) a.adds refl;
-  lines_are = a.line ∙ ap₂ (λ (x y : List ℕ). x ++ y) w.lines_are (sym (append-nil (face_line a.face))) ∙ sym (flat_map-append face_line w.faces (a.face ∷ []));
+  words_are = a.line ∙ ap₂ (λ (x y : List Word). x ++ y) w.words_are (sym (append-nil (face_words a.face))) ∙ sym (flat_map-append face_words w.faces (a.face ∷ []));
 }
 
-pub written_end : (unit : LengthUnit) (polygons : List Outline) (i : ℕ) (vertices : List Coordinates) (lines : List ℕ) → length polygons ≤ i → AreWritten unit (take i polygons) vertices lines → HaveLines unit polygons vertices lines
-written_end unit polygons i vertices lines h w = record { faces = w.faces; numbered = gathered_end unit polygons i vertices w.faces h w.gathered; lines_are = w.lines_are }
+pub written_end : (unit : LengthUnit) (polygons : List Outline) (i : ℕ) (vertices : List Coordinates) (words : List Word) → length polygons ≤ i → AreWritten unit (take i polygons) vertices words → HaveWords unit polygons vertices words
+written_end unit polygons i vertices words h w = record { faces = w.faces; numbered = gathered_end unit polygons i vertices w.faces h w.gathered; words_are = w.words_are }
 
 -- there is a face for each polygon
 faces_counted : (unit : LengthUnit) (polygons : List Outline) (found : List (List Coordinates)) → AreCornersOf unit polygons found → length found ≡ length polygons

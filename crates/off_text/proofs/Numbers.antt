@@ -1,20 +1,21 @@
--- Vertices keep their numbers while more points are numbered.
-use Rattle.std.proofs.Common.{◌≡◌, ℕ, ◌+◌, ◌<◌, ◌≤◌, Bool, true, false, cond, not, ◌||◌, ◌&&◌, eqb, List, [], ◌∷◌, ◌++◌, map, flat_map, length, refl, sym, ap, ap₂, ◌∙◌, subst, arith, append_assoc, add-one, drop, take, get_or, drop-cons}
+-- Vertices keep their numbers while more points are numbered, and stand at them.
+use Rattle.std.proofs.Common.{◌≡◌, ℕ, ◌+◌, ◌<◌, ◌≤◌, Bool, true, false, cond, not, ◌||◌, ◌&&◌, eqb, List, [], ◌∷◌, ◌++◌, map, length, refl, sym, ap, ap₂, ◌∙◌, subst, arith, append_assoc, add-one, drop, take, get_or, drop-cons}
 use Rattle.std.proofs.lemmas.List.{map-append, length-append, length-map, take-append-drop}
-use Rattle.std.proofs.lemmas.Grind.{flat_map-append}
 use Rattle.std.specs.List.{list_any, position_or_len}
 use Rattle.std.specs.Ordering.{int_eq}
 use Rattle.std.proofs.lemmas.Bool.{false≢true, and_from, and_parts, or_left}
 use Rattle.std.proofs.lemmas.Bool.Decides.{Decides-int_eq}
 use Rattle.std.proofs.lemmas.List.Folds.{list_any-append, position_or_len_push}
-use Rattle.std.proofs.lemmas.List.Sums.{prefix_len-le-length}
+use Rattle.std.proofs.lemmas.List.Sums.{prefix_len-le-length, passes_at_first}
 use Rattle.indexmap.specs.IndexSet.{insert_key}
 use Rattle.plane_predicate.specs.Space.{Coordinates}
 use Rattle.plane_predicate.proofs.Opposites.{same_point as equal_points}
-use Rattle.text_place.specs.Decimals.{numeral}
-use Rattle.off_text.specs.Reading.{face_line}
+use Rattle.off_text.specs.declared.numbering.Word.{Word}
+use Rattle.off_text.specs.declared.numbering.Word.TheVariants.{Sides, Corner, End}
+use Rattle.off_text.specs.Boundaries.{origin}
 use Rattle.off_text.specs.Texts.{same_point, number_among}
-use Rattle.off_text.specs.Numbering.{grown, number_word}
+use Rattle.off_text.specs.Numbering.{grown}
+use Rattle.off_text.specs.Words.{face_words, words_among}
 
 -- the point is numbered
 abbrev pub Known : List Coordinates → Coordinates → Type 0
@@ -46,6 +47,10 @@ below_step false t n m more h = omega (arith, more h)
 pub place_below : {X : Type 0} (p : X → Bool) (xs : List X) → list_any p xs ≡ true → position_or_len p xs < length xs
 place_below p [] h = absurd (false≢true h)
 place_below p (x ∷ xs) h = omega (arith, below_step (p x) (list_any p xs) (position_or_len p xs) (length xs) (place_below p xs) h)
+
+-- and stands at its number
+pub known_at : (vertices : List Coordinates) (p : Coordinates) → Known vertices p → get_or vertices (number_among vertices p) origin ≡ p
+known_at vertices p h = sym (same_equal p _ (passes_at_first (same_point p) vertices origin (place_below (same_point p) vertices h)))
 
 inserted_step : (p q : Coordinates) (vertices : List Coordinates) (b : Bool) → Known vertices q →
     Known (cond b vertices (vertices ++ p ∷ [])) q × (number_among (cond b vertices (vertices ++ p ∷ [])) q ≡ number_among vertices q)
@@ -115,14 +120,14 @@ grown-append [] ys vertices = refl
 grown-append (x ∷ xs) ys vertices = grown-append xs ys (insert_key same_point vertices x)
 
 -- one more point of those that are still to be numbered
-words_step : (vertices rest : List Coordinates) (lines : List ℕ) (p : Coordinates) →
-    (lines ++ number_word (number_among vertices p)) ++ flat_map number_word (map (number_among (grown (insert_key same_point vertices p) rest)) rest)
-    ≡ lines ++ flat_map number_word (map (number_among (grown vertices (p ∷ rest))) (p ∷ rest))
-words_step vertices rest lines p =
+words_step : (vertices rest : List Coordinates) (words : List Word) (p : Coordinates) →
+    (words ++ Corner (number_among vertices p) ∷ []) ++ words_among (grown (insert_key same_point vertices p) rest) rest
+    ≡ words ++ words_among (grown vertices (p ∷ rest)) (p ∷ rest)
+words_step vertices rest words p =
     let own = inserted_itself p vertices in
     let kept = grown_keeps p rest (insert_key same_point vertices p) own.0 in
-    append_assoc lines (number_word (number_among vertices p)) (flat_map number_word (map (number_among (grown (insert_key same_point vertices p) rest)) rest))
-    ∙ ap (λ (n : ℕ). lines ++ (number_word n ++ flat_map number_word (map (number_among (grown (insert_key same_point vertices p) rest)) rest))) (sym (kept.1 ∙ own.1))
+    append_assoc words (Corner (number_among vertices p) ∷ []) (words_among (grown (insert_key same_point vertices p) rest) rest)
+    ∙ ap (λ (n : ℕ). words ++ Corner n ∷ words_among (grown (insert_key same_point vertices p) rest) rest) (sym (kept.1 ∙ own.1))
 
 module _ (vertices new corners : List Coordinates) (i : ℕ) (p : Coordinates) (h : i < length corners) (is : p ≡ get_or corners i p) (grows : new ≡ insert_key same_point vertices p) where
   next_left : drop i corners ≡ p ∷ drop (i + 1) corners
@@ -132,39 +137,39 @@ module _ (vertices new corners : List Coordinates) (i : ℕ) (p : Coordinates) (
   pub corner_grows : (whole : List Coordinates) → grown vertices (drop i corners) ≡ whole → grown new (drop (i + 1) corners) ≡ whole
   corner_grows whole e = ap (λ (v : List Coordinates). grown v (drop (i + 1) corners)) grows ∙ ap (grown vertices) (sym next_left) ∙ e
 
-  -- and its number is written
-  pub corner_words : (lines more whole : List ℕ) → more ≡ lines ++ number_word (number_among vertices p) →
-      lines ++ flat_map number_word (map (number_among (grown vertices (drop i corners))) (drop i corners)) ≡ whole →
-      more ++ flat_map number_word (map (number_among (grown new (drop (i + 1) corners))) (drop (i + 1) corners)) ≡ whole
-  corner_words lines more whole m e =
-      ap₂ (λ (l : List ℕ) (v : List Coordinates). l ++ flat_map number_word (map (number_among (grown v (drop (i + 1) corners))) (drop (i + 1) corners))) m grows
-      ∙ words_step vertices (drop (i + 1) corners) lines p
-      ∙ ap (λ (l : List Coordinates). lines ++ flat_map number_word (map (number_among (grown vertices l)) l)) (sym next_left)
+  -- and its number is put down
+  pub corner_words : (words more whole : List Word) → more ≡ words ++ Corner (number_among vertices p) ∷ [] →
+      words ++ words_among (grown vertices (drop i corners)) (drop i corners) ≡ whole →
+      more ++ words_among (grown new (drop (i + 1) corners)) (drop (i + 1) corners) ≡ whole
+  corner_words words more whole m e =
+      ap₂ (λ (l : List Word) (v : List Coordinates). l ++ words_among (grown v (drop (i + 1) corners)) (drop (i + 1) corners)) m grows
+      ∙ words_step vertices (drop (i + 1) corners) words p
+      ∙ ap (λ (l : List Coordinates). words ++ words_among (grown vertices l) l) (sym next_left)
       ∙ e
 
 -- two parts of a face, numbered one after the other
 pub face_grows : (old new last back front : List Coordinates) → new ≡ grown old back → last ≡ grown new front → last ≡ grown old (back ++ front)
 face_grows old new last back front e f = f ∙ ap (λ (v : List Coordinates). grown v front) e ∙ sym (grown-append back front old)
 
-line_of : (before count back front : List ℕ) → (((before ++ count) ++ back) ++ front) ++ 10 ∷ [] ≡ before ++ ((count ++ (back ++ front)) ++ 10 ∷ [])
+line_of : (before : List Word) (count : Word) (back front : List Word) → (((before ++ count ∷ []) ++ back) ++ front) ++ End ∷ [] ≡ before ++ count ∷ ((back ++ front) ++ End ∷ [])
 line_of before count back front = simp append_assoc
 
--- a face's line, whose numbers were written in two parts
-pub face_words : (old new last back front : List Coordinates) (count : ℕ) (before counted half whole line : List ℕ) →
-    new ≡ grown old back → last ≡ grown new front → count ≡ length (back ++ front) → counted ≡ before ++ numeral count →
-    half ≡ counted ++ flat_map number_word (map (number_among new) back) → whole ≡ half ++ flat_map number_word (map (number_among last) front) → line ≡ whole ++ 10 ∷ [] →
-    line ≡ before ++ face_line (map (number_among last) (back ++ front))
-face_words old new last back front count before counted half whole line e f n c h w l =
+-- a face's words, whose numbers were put down in two parts
+pub face_in_words : (old new last back front : List Coordinates) (count : ℕ) (before counted half whole words : List Word) →
+    new ≡ grown old back → last ≡ grown new front → count ≡ length (back ++ front) → counted ≡ before ++ Sides count ∷ [] →
+    half ≡ counted ++ words_among new back → whole ≡ half ++ words_among last front → words ≡ whole ++ End ∷ [] →
+    words ≡ before ++ face_words (map (number_among last) (back ++ front))
+face_in_words old new last back front count before counted half whole words e f n c h w l =
     let known : AllKnown new back = subst (λ (v : List Coordinates). AllKnown v back) (sym e) (grown_knows back old) in
     let kept : map (number_among last) back ≡ map (number_among new) back =
     ap (λ (v : List Coordinates). map (number_among v) back) f ∙ (all_kept front new back known).1 in
-    let words : flat_map number_word (map (number_among last) (back ++ front)) ≡ flat_map number_word (map (number_among last) back) ++ flat_map number_word (map (number_among last) front) =
-    ap (flat_map number_word) (map-append (number_among last) back front) ∙ flat_map-append number_word (map (number_among last) back) (map (number_among last) front) in
+    let all : words_among last (back ++ front) ≡ words_among last back ++ words_among last front =
+    ap (map Corner) (map-append (number_among last) back front) ∙ map-append Corner (map (number_among last) back) (map (number_among last) front) in
     let length_is : length (map (number_among last) (back ++ front)) ≡ count = length-map (back ++ front) (number_among last) ∙ sym n in
-    l ∙ ap (λ (t : List ℕ). t ++ 10 ∷ []) (w ∙ ap (λ (t : List ℕ). t ++ flat_map number_word (map (number_among last) front)) (h
-    ∙ ap₂ (λ (t : List ℕ) (ns : List ℕ). t ++ flat_map number_word ns) c (sym kept)))
-    ∙ line_of before (numeral count) (flat_map number_word (map (number_among last) back)) (flat_map number_word (map (number_among last) front))
-    ∙ ap₂ (λ (k : ℕ) (t : List ℕ). before ++ ((numeral k ++ t) ++ 10 ∷ [])) (sym length_is) (sym words)
+    l ∙ ap (λ (t : List Word). t ++ End ∷ []) (w ∙ ap (λ (t : List Word). t ++ words_among last front) (h
+    ∙ ap₂ (λ (t : List Word) (ns : List ℕ). t ++ map Corner ns) c (sym kept)))
+    ∙ line_of before (Sides count) (words_among last back) (words_among last front)
+    ∙ ap₂ (λ (k : ℕ) (t : List Word). before ++ Sides k ∷ (t ++ End ∷ [])) (sym length_is) (sym all)
 
 pub round_length : (corners : List Coordinates) (n : ℕ) (front back : List Coordinates) → front ≡ take n corners → back ≡ drop n corners → length corners ≡ length (back ++ front)
 round_length corners n front back f g =

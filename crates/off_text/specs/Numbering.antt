@@ -51,12 +51,6 @@ pub record AreNumbered (unit : LengthUnit) (polygons : List Outline) (vertices :
 abbrev pub number_word : ℕ → List ℕ
 number_word i = space ++ numeral i
 
--- a polygon's corners are numbered too, and its line goes last
-pub record AddsLine (unit : LengthUnit) (s : Outline) (old new : List Coordinates) (before lines : List ℕ) : Type 0 where
-  pub face : List ℕ
-  pub adds : AddsFace unit s old new face
-  pub line : lines ≡ before ++ face_line face
-
 -- the vertices of the text of these polygons, and the lines of its faces
 pub record HaveLines (unit : LengthUnit) (polygons : List Outline) (vertices : List Coordinates) (lines : List ℕ) : Type 0 where
   pub faces : List (List ℕ)

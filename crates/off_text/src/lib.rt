@@ -5,6 +5,8 @@ mod corners;
 mod laws;
 mod lowest;
 mod numbering;
+mod part;
+mod parts;
 mod text;
 mod vertex;
 mod writing;
@@ -14,4 +16,4 @@ pub use laws::{
     printed_corners_stay_in_the_world, some_corners, texts_are_boundaries, texts_print_polygons,
     vertices_are_corners,
 };
-pub use text::{OffStop, off_bytes};
+pub use text::{OffStop, off_bytes, off_bytes_by};

@@ -1,50 +1,56 @@
-//! The numbers of vertices, by first appearance, and the lines of faces.
+//! The numbers of vertices, by first appearance, and the words of the lines of faces.
 
-ghost use Rattle.std.specs.Prelude.{◌≡◌, ◌≤◌, ◌++◌, map, flat_map, length, drop, take, OnOk};
-ghost use Rattle.off_text.specs.Reading.{face_line};
+ghost use Rattle.std.specs.Prelude.{◌≡◌, ◌≤◌, ◌++◌, map, length, drop, take, OnOk};
 ghost use Rattle.off_text.specs.Texts.{number_among};
-ghost use Rattle.off_text.specs.Numbering.{grown, number_word};
+ghost use Rattle.off_text.specs.Numbering.{grown};
+ghost use Rattle.off_text.specs.Words.{face_words, words_among};
 
 use crate::vertex::Vertex;
-use crate::writing::push_count;
 use indexmap::IndexSet;
-use std::alloc::Global;
 use text_place::NoMemory;
 
-// Appends the numbers of corners, of which those that are new become vertices, each after a space.
-fn push_numbers(
-    alloc: Global,
+/// A word of the line of a face.
+#[derive(Clone, Copy)]
+pub enum Word {
+    /// How many corners the face has.
+    Sides(usize),
+    /// The number of a corner's vertex.
+    Corner(usize),
+    /// The end of the line.
+    End,
+}
+
+/// Appends the numbers of corners, of which those that are new become vertices.
+pub fn push_numbers(
     vertices: &mut IndexSet<Vertex>,
-    lines: &mut Vec<u8>,
+    words: &mut Vec<Word>,
     corners: &[Vertex],
 ) -> Result<(), NoMemory>
     ensures vertices { OnOk result (vertices.new.keys ≡ grown vertices.old.keys corners.now) }
-    ensures lines { OnOk result (lines.new.items ≡ lines.old.items ++ flat_map number_word (map (number_among vertices.new.keys) corners.now)) }
+    ensures words { OnOk result (words.new.items ≡ words.old.items ++ words_among vertices.new.keys corners.now) }
 {
     for corner in corners {
         let (index, _is_new) = vertices.insert_full(*corner)?;
-        lines.push(b' ')?;
-        push_count(alloc, lines, index)?;
+        words.push(Word::Corner(index))?;
     }
     Ok(())
 }
 
-/// Appends the line of a face, from this one of its corners on.
+/// Appends the words of a face, from this one of its corners on.
 pub fn push_face(
-    alloc: Global,
     vertices: &mut IndexSet<Vertex>,
-    lines: &mut Vec<u8>,
+    words: &mut Vec<Word>,
     corners: &[Vertex],
     start: usize,
 ) -> Result<(), NoMemory>
     requires { start ≤ length corners.now }
     ensures vertices { OnOk result (vertices.new.keys ≡ grown vertices.old.keys (drop start corners.now ++ take start corners.now)) }
-    ensures lines { OnOk result (lines.new.items ≡ lines.old.items ++ face_line (map (number_among vertices.new.keys) (drop start corners.now ++ take start corners.now))) }
+    ensures words { OnOk result (words.new.items ≡ words.old.items ++ face_words (map (number_among vertices.new.keys) (drop start corners.now ++ take start corners.now))) }
 {
     let (front, back) = corners.split_at(start);
-    push_count(alloc, lines, corners.len())?;
-    push_numbers(alloc, vertices, lines, back)?;
-    push_numbers(alloc, vertices, lines, front)?;
-    lines.push(b'\n')?;
+    words.push(Word::Sides(corners.len()))?;
+    push_numbers(vertices, words, back)?;
+    push_numbers(vertices, words, front)?;
+    words.push(Word::End)?;
     Ok(())
 }

@@ -8,17 +8,15 @@ ghost use Rattle.bsp_boolean.specs.Solids.{solid_of};
 ghost use Rattle.facet_cut.specs.Facets.{facets_of};
 ghost use Rattle.off_text.specs.Bounding.{IsBoundary};
 ghost use Rattle.off_text.specs.Prints.{Prints};
-ghost use Rattle.off_text.specs.Numbering.{AddsLine, HaveLines};
 ghost use Rattle.off_text.specs.declared.text.OffStop.{OffStop};
 
-use crate::corners::put_corners;
-use crate::numbering::push_face;
-use crate::vertex::{Vertex, least_corner};
+use crate::part::numbered;
+use crate::parts::{numbered_by, part_length, written_by};
 use crate::writing::written;
 use facet_cut::Facet;
-use indexmap::IndexSet;
 use plane_predicate::Unit;
 use std::alloc::Global;
+use std::thread::Threads;
 use text_place::NoMemory;
 
 // The most corners of all faces together.
@@ -48,13 +46,6 @@ impl From<NoMemory> for OffStop {
     }
 }
 
-// The vertices of faces, and the lines of the faces, in which vertices have their numbers.
-#[derive(Drop)]
-struct Numbering {
-    vertices: IndexSet<Vertex>,
-    lines: Vec<u8>,
-}
-
 // Whether faces have more corners together than a text may have.
 fn has_too_many_corners(facets: &[Facet]) -> bool
     ensures { result ≡ ltb most_corners (corner_count facets.now) }
@@ -68,43 +59,6 @@ fn has_too_many_corners(facets: &[Facet]) -> bool
         room -= count;
     }
     false
-}
-
-// Appends the line of a facet, from its least corner on. `corners` is a list for its corners, which the
-// next facet uses again.
-fn push_facet(
-    alloc: Global,
-    numbering: &mut Numbering,
-    corners: &mut Vec<Vertex>,
-    facet: &Facet,
-    unit: Unit,
-) -> Result<(), NoMemory>
-    ensures { OnOk result (AddsLine unit facet.now numbering.old.vertices.keys numbering.new.vertices.keys numbering.old.lines.items numbering.new.lines.items) }
-{
-    put_corners(corners, &facet.polygon, unit)?;
-    let start = least_corner(corners);
-    push_face(
-        alloc,
-        &mut numbering.vertices,
-        &mut numbering.lines,
-        corners,
-        start,
-    )
-}
-
-// Numbers the corners of faces, and writes their lines.
-fn numbered(alloc: Global, facets: &[Facet], unit: Unit) -> Result<Numbering, NoMemory>
-    ensures { IfOk result (λ r. HaveLines unit facets.now r.vertices.keys r.lines.items) }
-{
-    let mut numbering = Numbering {
-        vertices: IndexSet::new(alloc),
-        lines: Vec::new(alloc),
-    };
-    let mut corners = Vec::new(alloc);
-    for facet in facets {
-        push_facet(alloc, &mut numbering, &mut corners, facet, unit)?;
-    }
-    Ok(numbering)
 }
 
 /// The text of facets, which are in grid steps, with its corners in units. Each corner is reduced;
@@ -126,14 +80,46 @@ pub fn off_bytes(alloc: Global, facets: &[Facet], unit: Unit) -> Result<Vec<u8>,
     if has_too_many_corners(facets) {
         return Err(OffStop::TooManyCorners);
     }
-    let numbered = numbered(alloc, facets, unit)?;
-    if numbered.vertices.len() > VERTICES {
+    let part = numbered(alloc, facets, unit)?;
+    if part.vertices.len() > VERTICES {
         return Err(OffStop::TooManyVertices);
     }
-    Ok(written(
+    Ok(written(alloc, part.vertices.as_slice(), facets.len(), &part.words)?)
+}
+
+/// The text that `off_bytes` gives, and its limits, by at most so many workers. Each of them numbers
+/// the corners of a part of the facets by itself, and once the vertices of all parts are put together,
+/// one part after another, each writes lines. Few facets are one worker's.
+pub fn off_bytes_by<R: Threads + Sync>(
+    rt: &R,
+    alloc: Global,
+    workers: u64,
+    facets: &[Facet],
+    unit: Unit,
+) -> Result<Vec<u8>, OffStop>
+    ensures text { IfOk result (λ text. IsTextOf unit facets.now text.items) }
+    ensures corners { IsErrOf result OffStop.TooManyCorners ↔ (most_corners < corner_count facets.now) }
+    ensures few { OnOk result (HasVertices unit (λ count. count ≤ most_vertices) facets.now) }
+    ensures many { IsErrOf result OffStop.TooManyVertices → HasVertices unit (λ count. most_vertices < count) facets.now }
+    // The text is read back as the facets, one face after another.
+    ensures prints { IfOk result (λ text. Prints unit facets.now text.items) }
+    // Where the facets are those of the solid of a proper tree, the text is the boundary of the tree.
+    ensures boundary { IfOk result (λ text. (f : Formula) → IsProper f → facets.now ≡ facets_of (solid_of f) → IsBoundary unit text.items f) }
+{
+    let size = part_length(facets.len(), workers);
+    if facets.len() <= size || has_too_many_corners(facets) {
+        return off_bytes(alloc, facets, unit);
+    }
+    let merged = numbered_by(rt, alloc, size, facets, unit)?;
+    if merged.vertices.len() > VERTICES {
+        return Err(OffStop::TooManyVertices);
+    }
+    Ok(written_by(
+        rt,
         alloc,
-        numbered.vertices.as_slice(),
+        workers,
+        merged.vertices.as_slice(),
         facets.len(),
-        &numbered.lines,
+        &merged.parts,
     )?)
 }

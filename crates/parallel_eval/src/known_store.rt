@@ -15,6 +15,7 @@ use csg_tree::{CsgNode, CsgStore, TreeKey};
 use std::alloc::Global;
 use std::marker::Model;
 use std::sync::Arc;
+use std::thread::Threads;
 use text_place::NoMemory;
 use tree_names::NamedStore;
 
@@ -46,15 +47,21 @@ impl Model for KnownStore {
 }
 
 impl KnownStore {
-    /// A store with the names of its joins. No solid of a leaf is known.
-    pub fn new(alloc: Global, store: Arc<CsgStore>) -> Result<KnownStore, NoMemory>
+    /// A store with the names of its joins, which at most so many workers make at the same time where threads can be made.
+    /// No solid of a leaf is known.
+    pub fn new<R: Threads + Sync>(
+        rt: &R,
+        alloc: Global,
+        workers: u64,
+        store: Arc<CsgStore>,
+    ) -> Result<KnownStore, NoMemory>
         ensures { IfOk result (λ known. known ≡ arc_value store) }
     {
         let mut leaves = Vec::new(alloc);
         for _number in 0..store.len() {
             leaves.push(None)?;
         }
-        let named = NamedStore::new(alloc, store)?;
+        let named = NamedStore::new(rt, alloc, workers, store)?;
         Ok(KnownStore { named, leaves })
     }
 

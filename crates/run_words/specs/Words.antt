@@ -78,7 +78,7 @@ or_else (Some n) other = n
 
 -- what was given, and the defaults of the rest
 abbrev pub chosen : Given → Settings
-chosen given = Run (or_else given.workers 1) (or_else given.memo 500000) (or_else given.share 0) given.half given.tally
+chosen given = Run (or_else given.workers 4) (or_else given.memo 500000) (or_else given.share 0) given.half given.tally
 
 -- the numbers are in their ranges
 abbrev pub AreInRange : Settings → Type 0

@@ -19,7 +19,7 @@ use std::alloc::{AllocError, Global};
 pub enum Settings {
     /// Serve a script.
     Run {
-        /// How many builders a client has, from 1 to 64.
+        /// How many workers a client may have, from 1 to 64.
         workers: u64,
         /// The budget of the memo, at most 2,000,000.
         memo: u64,
@@ -80,7 +80,7 @@ fn with_defaults(given: Given) -> Settings
     ensures { result ≡ chosen given }
 {
     Settings::Run {
-        workers: given.workers.unwrap_or(1),
+        workers: given.workers.unwrap_or(4),
         memo: given.memo.unwrap_or(500_000),
         share: given.share.unwrap_or(0),
         half: given.half,

@@ -7,4 +7,5 @@ pub mod SomeReply
 pub mod Sums
 pub mod Told
 mod Rows
+mod Refused
 mod WholeOutput

@@ -1,6 +1,6 @@
 //! Exports of sources by what they mean, with solids that a memo may hold.
 
-ghost use Rattle.std.specs.Prelude.{◌≡◌, ◌+◌, ◌^◌, ◌<◌, ◌≤◌, All, length, IfOk, IfErr, OnOk};
+ghost use Rattle.std.specs.Prelude.{◌≡◌, ◌+◌, ◌^◌, ◌<◌, ◌≤◌, ℕ, List, All, length, IfOk, IfErr, OnOk};
 ghost use Rattle.std.specs.Arc.{arc_value};
 ghost use Rattle.csg_tree.specs.Formulas.{Formula};
 ghost use Rattle.csg_tree.specs.ProperTrees.{IsProper};
@@ -12,11 +12,14 @@ ghost use Rattle.bsp_boolean.specs.TreeSolids.{joins, AreWithin, IsTreeStop};
 ghost use Rattle.subtree_memo.specs.Shares.{parts_each, offered_of};
 ghost use Rattle.reply_text.specs.Sums.{LacksNoSolid};
 ghost use Rattle.tree_export.specs.Exports.{IsExported, Bounds};
+ghost use Rattle.plane_predicate.specs.declared.unit.Unit.{Unit as LengthUnit};
+ghost use Rattle.script_server.specs.Meaning.Sources.{Refuses};
 ghost use Rattle.script_server.specs.Meaning.Exports.{reply_of};
 ghost use Rattle.script_server.specs.Clients.{ClientBooks, AreProbed, ExportsFor};
 
 use crate::export::{reply, tree_of};
 use crate::kept_export::{KeptExport, export_kept};
+use crate::under_way::{UnderWay, Workers};
 use bsp_boolean::PlainBuilder;
 use bsp_tree::Solid;
 use csg_tree::{CsgStore, CsgTree, TreeKey};
@@ -35,12 +38,12 @@ use subtree_memo::MemoLedger;
 use text_place::{NoMemory, Stop};
 use tree_export::{Exported, export_made, last_nodes_are_trees, nodes_of_tree, solid_of_nothing};
 
-/// What one client has of its own: its share of the books of the memo and its claims, how many builders it has, how often a
+/// What one client has of its own: its share of the books of the memo and its claims, how many workers it may have, how often a
 /// solid was asked for, the store for which it was asked last, and the text that was made of it.
 #[derive(Drop)]
 pub struct Client<B: FlightBooks> {
     share: FlightShare<B>,
-    workers: u64,
+    workers: Workers,
     asked: u32,
     last: Option<KnownStore>,
     kept: Option<KeptExport>,
@@ -55,8 +58,7 @@ impl<B: FlightBooks> Model for Client<B> {
 
     ghost view = { λ c. record { asked = c.asked; share = c.share.share } };
 
-    ghost invariant = { λ c. (1 ≤ c.workers) × (c.workers ≤ 64)
-        × (c.share.share.parts ≡ parts_each) × (c.share.share.dropped ≤ c.asked * 2 ^ 32)
+    ghost invariant = { λ c. (c.share.share.parts ≡ parts_each) × (c.share.share.dropped ≤ c.asked * 2 ^ 32)
         × (offered_of c.share.share ≤ c.share.share.misses) };
 }
 
@@ -82,9 +84,8 @@ fn builders(alloc: Global, count: u64) -> Result<Vec<PlainBuilder>, NoMemory>
 }
 
 impl<B: FlightBooks> Client<B> {
-    /// A client for which no solid was asked yet, with 1 to 64 builders and a share on which no fill is booked.
-    pub fn new(share: FlightShare<B>, workers: u64) -> Self
-        requires workers { (1 ≤ workers) × (workers ≤ 64) }
+    /// A client for which no solid was asked yet, with so many workers and a share on which no fill is booked.
+    pub fn new(share: FlightShare<B>, workers: Workers) -> Self
         requires share { (share.share.parts ≡ parts_each) × (offered_of share.share ≡ 0) }
         ensures { result ≡ record { asked = 0; share = share.share } }
     {
@@ -115,9 +116,11 @@ impl<B: FlightBooks> Client<B> {
     }
 }
 
-// A store with what the last one knows of it.
-fn known(
+// A store with what the last one knows of it, or else with names that so many workers make.
+fn known<R: Threads + Sync>(
+    rt: &R,
     alloc: Global,
+    workers: u64,
     last: &Option<KnownStore>,
     store: Arc<CsgStore>,
 ) -> Result<KnownStore, NoMemory>
@@ -125,7 +128,7 @@ fn known(
 {
     match last {
         Some(last) => KnownStore::over(alloc, store, last),
-        None => KnownStore::new(alloc, store),
+        None => KnownStore::new(rt, alloc, workers, store),
     }
 }
 
@@ -138,7 +141,7 @@ fn key_of(store: &KnownStore) -> Result<TreeKey, NoMemory>
     store.key(store.store().len())
 }
 
-// The solid of a store for a client, which keeps the store for its next one.
+// The solid of a store for a client by so many builders. The client keeps the store for its next one.
 fn solid_for<
     'a,
     N: Namer<TreeKey> + Send + Sync,
@@ -153,6 +156,7 @@ fn solid_for<
 >(
     builds: &Builds<'a, N, FlightLedgers<H, M, K, E, S, T>, G, R>,
     client: &mut Client<FlightLedgers<H, M, K, E, S, T>>,
+    workers: Workers,
     mut store: KnownStore,
 ) -> Result<Arc<Solid>, EvalStop>
     requires some { 0 < length store }
@@ -163,7 +167,7 @@ fn solid_for<
     ensures probed { OnOk result (AreProbed (joins store) client.old.share client.new.share) }
     ensures asked { client.new.asked ≤ client.old.asked + 1 }
 {
-    let mut builders = builders(builds.alloc, client.workers)?;
+    let mut builders = builders(builds.alloc, workers.count)?;
     client.asked += 1;
     let made = solid_of(
         builds.rt,
@@ -178,7 +182,7 @@ fn solid_for<
     made
 }
 
-// The export of a tree for a client.
+// The export of a tree for a client, by so many workers.
 fn exported<
     'a,
     N: Namer<TreeKey> + Send + Sync,
@@ -193,6 +197,7 @@ fn exported<
 >(
     builds: &Builds<'a, N, FlightLedgers<H, M, K, E, S, T>, G, R>,
     client: &mut Client<FlightLedgers<H, M, K, E, S, T>>,
+    workers: Workers,
     unit: Unit,
     tree: &CsgTree,
 ) -> Result<Exported, NoMemory>
@@ -207,16 +212,35 @@ fn exported<
     let store = nodes_of_tree(builds.alloc, tree)?;
     if store.len() == 0 {
         let solid = solid_of_nothing(builds.alloc)?;
-        return export_made(builds.alloc, Ok(solid), unit);
+        return export_made(builds.rt, builds.alloc, workers.count, Ok(solid), unit);
     }
-    let store = known(builds.alloc, &client.last, store)?;
+    let store = known(builds.rt, builds.alloc, workers.count, &client.last, store)?;
     let key = key_of(&store)?;
-    let made = solid_for(builds, client, store);
-    export_kept(builds.alloc, &mut client.kept, unit, key, made)
+    let made = solid_for(builds, client, workers, store);
+    export_kept(
+        builds.rt,
+        builds.alloc,
+        workers.count,
+        &mut client.kept,
+        unit,
+        key,
+        made,
+    )
 }
 
-/// The reply to the export of a client's source.
-pub fn export_source<
+// The reply to the export of a source that has no tree: no solid is asked for.
+#[tactic(auto, using(crate::proofs::Refused::fault_answered))]
+fn refused(stop: Stop) -> Result<Reply, NoMemory>
+    ensures { (unit : LengthUnit) (source : List ℕ) (books : ClientBooks) → Refuses unit source stop → ExportsFor unit source result books books }
+{
+    match stop {
+        Stop::Fault(fault) => Ok(Reply::Faulted(fault)),
+        Stop::NoMemory => Err(NoMemory),
+    }
+}
+
+// The reply to the export of a client's source, by so many workers.
+fn answer<
     'a,
     N: Namer<TreeKey> + Send + Sync,
     H: MemoLedger + Send + Sync,
@@ -230,6 +254,7 @@ pub fn export_source<
 >(
     builds: &Builds<'a, N, FlightLedgers<H, M, K, E, S, T>, G, R>,
     client: &mut Client<FlightLedgers<H, M, K, E, S, T>>,
+    workers: Workers,
     unit: Unit,
     source: &[u8],
 ) -> Result<Reply, NoMemory>
@@ -238,10 +263,38 @@ pub fn export_source<
     ensures { ExportsFor unit source.now result client.old client.new }
 {
     match tree_of(builds.alloc, unit, source) {
-        Ok(tree) => Ok(reply(exported(builds, client, unit, &tree)?)),
-        Err(Stop::Fault(fault)) => Ok(Reply::Faulted(fault)),
-        Err(Stop::NoMemory) => Err(NoMemory),
+        Ok(tree) => Ok(reply(exported(builds, client, workers, unit, &tree)?)),
+        Err(stop) => refused(stop),
     }
+}
+
+/// The reply to the export of a client's source, by the workers that are the client's part of those under way.
+pub fn export_source<
+    'a,
+    N: Namer<TreeKey> + Send + Sync,
+    H: MemoLedger + Send + Sync,
+    M: Ledger + Send + Sync,
+    K: Ledger + Send + Sync,
+    E: Ledger + Send + Sync,
+    S: Ledger + Send + Sync,
+    T: Ledger + Send + Sync,
+    G: Gate + Sync,
+    R: Threads + Wait + Sync,
+>(
+    builds: &Builds<'a, N, FlightLedgers<H, M, K, E, S, T>, G, R>,
+    under_way: &UnderWay,
+    client: &mut Client<FlightLedgers<H, M, K, E, S, T>>,
+    unit: Unit,
+    source: &[u8],
+) -> Result<Reply, NoMemory>
+    requires short { length source.now ≤ 4198400 }
+    requires few { client.old.asked < 8192 }
+    ensures { ExportsFor unit source.now result client.old client.new }
+{
+    let workers = under_way.begin(client.workers);
+    let given = answer(builds, client, workers, unit, source);
+    under_way.end();
+    given
 }
 
 /// A client with what exports its sources. That is a closure, since no method of a trait can start threads where it runs in

@@ -8,6 +8,7 @@ mod meaning;
 mod program;
 mod running;
 mod server;
+mod under_way;
 
 pub use meaning::{
     one_meaning, one_output, one_reply, own_replies, solids_pass_no_limit, some_meaning, some_reply,

@@ -9,6 +9,7 @@ ghost use Rattle.script_server.specs.Books.{IsRunOf, weights_of};
 ghost use Rattle.script_server.specs.Clients.{ExportsFor};
 
 use crate::exporter::{Client, ClientExporter, export_source};
+use crate::under_way::{UnderWay, Workers};
 use csg_tree::TreeKey;
 use flight_memo::{Flight, FlightBlanks, FlightBooks, FlightLedgers, FlightShare};
 use memo_core::{MemoCore, Namer};
@@ -52,12 +53,11 @@ pub fn weights(
 // The exporters of callers with these fresh shares, in the order of their numbers, in room that is given for them. All
 // export so.
 fn exporters_of<B: FlightBooks, F: Copy + Drop>(
-    workers: u64,
+    workers: Workers,
     shares: Vec<FlightShare<B>>,
     export: F,
     room: Vec<ClientExporter<Client<B>, F>>,
 ) -> Vec<ClientExporter<Client<B>, F>>
-    requires workers { (1 ≤ workers) × (workers ≤ 64) }
     requires fresh { All (λ s. (s.share.parts ≡ parts_each) × (offered_of s.share ≡ 0)) shares.items }
     requires order { map (λ s. s.share) shares.items ≡ opened (length shares.items) }
     requires empty { room.items ≡ [] }
@@ -112,12 +112,11 @@ fn run_over<
     blanks: Blanks,
     claims: FlightBlanks,
     gate: &'run G,
-    workers: u64,
+    workers: Workers,
     unit: Unit,
     script: &Script,
 ) -> Result<Ran<N>, NoMemory>
     requires within { AreWithin script.now.clients }
-    requires workers { (1 ≤ workers) × (workers ≤ 64) }
     requires callers { (blanks.callers ≡ max (length script.now.clients) 1) × (claims.callers ≡ blanks.callers) }
     requires empty { core.journal ≡ [] }
     requires limits { (core.budget ≡ H.budget) × (core.share ≡ H.share) × (blanks.callers ≡ H.callers) }
@@ -142,13 +141,14 @@ fn run_over<
         flight: &flight,
         gate,
     };
-    let lent = &builds;
+    let under_way = UnderWay::none();
+    let (lent, beside) = (&builds, &under_way);
     let export = |client: &mut Client<
         FlightLedgers<H, M, K, E, S, T>,
     >, unit: Unit, source: &[u8],| -> Result<Reply, NoMemory>
         requires { (length source.now ≤ 4198400) × (client.now.asked < 8192) }
         ensures { ExportsFor unit source.now result client.entry.now client.exit.now }
-    { export_source(lent, client, unit, source) };
+    { export_source(lent, beside, client, unit, source) };
     let mut exporters = exporters_of(workers, shares, export, waiting);
     let served = script_run::run_script(rt, alloc, &mut exporters, unit, script);
     let shares = shares_of(exporters, room);
@@ -185,6 +185,7 @@ pub fn run_named<N: Namer<TreeKey> + Send + Sync, G: Gate + Sync, R: Threads + W
     let core = MemoCore::new(alloc, SolidFit, namer, memo, share)?;
     let blanks = Blanks::new(callers);
     let claims = FlightBlanks::beside(&blanks);
+    let workers = Workers { count: workers };
     run_over::<N, Brand, Brand, Brand, Brand, Brand, Brand, G, R>(
         rt, alloc, core, blanks, claims, gate, workers, unit, script,
     )

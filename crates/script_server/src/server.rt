@@ -47,7 +47,7 @@ fn run_clients<R: Threads + Wait + Sync>(
             let unit = if half { Unit::Half } else { Unit::Whole };
             run_script(rt, alloc, script, workers, memo, share, unit)
         }
-        Settings::Demo(_) => run_script(rt, alloc, script, 1, 500_000, 0, Unit::Whole),
+        Settings::Demo(_) => run_script(rt, alloc, script, 4, 500_000, 0, Unit::Whole),
     }
 }
 

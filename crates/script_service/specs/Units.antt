@@ -10,11 +10,6 @@ abbrev pub unit_of : Settings → LengthUnit
 unit_of (Run workers memo share half tally) = if half then Half else Whole
 unit_of (Demo n) = Whole
 
--- the number of builders of each client
-abbrev pub workers_of : Settings → ℕ
-workers_of (Run workers memo share half tally) = workers
-workers_of (Demo n) = 4
-
 -- the budget of the memo
 abbrev pub memo_of : Settings → ℕ
 memo_of (Run workers memo share half tally) = memo

@@ -65,7 +65,7 @@ fn has(letters: &[u8], letter: u8) -> bool {
 // What these options choose.
 fn chosen(letters: &[u8]) -> Settings {
     Settings::Run {
-        workers: if has(letters, b'w') { 7 } else { 1 },
+        workers: if has(letters, b'w') { 7 } else { 4 },
         memo: if has(letters, b'm') {
             2_000_000
         } else {

@@ -18,14 +18,21 @@ mod steps;
 mod table;
 
 use crate::table::Table;
-use case_lines::{CaseStop, answer_cases, put_phrases, unfolded};
+use case_lines::{CaseStop, answer_cases, phrases_of, put_next, unfolded};
 use std::alloc::Global;
 use std::process::ExitCode;
 
 // The answer of phrases about shapes.
 fn put_answer(alloc: Global, out: &mut Vec<u8>, case: &[u8]) -> Result<(), CaseStop> {
     let text = unfolded(alloc, case)?;
-    put_phrases(alloc, out, &mut Table::new(alloc), &text)
+    let mut table = Table::new(alloc);
+    let from = out.len();
+    for phrase in &phrases_of(alloc, &text)? {
+        let mut told = Vec::new(alloc);
+        table.follow(alloc, &mut told, phrase)?;
+        put_next(out, from, &told)?;
+    }
+    Ok(())
 }
 
 fn main(rt: HostRuntime) -> ExitCode {

@@ -5,7 +5,7 @@ use crate::making::{
 };
 use crate::put::{put_corners, put_counts, put_faces, put_planes, put_points};
 use crate::steps::{add_step, kind_of, put_images};
-use case_lines::{CaseStop, Follows, Phrase, found, put};
+use case_lines::{CaseStop, Phrase, found, put};
 use int_transform::Step;
 use plane_predicate::Unit;
 use shape_planes::{Shape, place};
@@ -126,10 +126,9 @@ impl Table {
         }
         Ok(())
     }
-}
 
-impl Follows for Table {
-    fn follow(
+    /// Does what a phrase says, and writes what it asks.
+    pub fn follow(
         &mut self,
         alloc: Global,
         out: &mut Vec<u8>,

@@ -4,7 +4,7 @@
 //! stands by the last digits of its planes' offsets, `long` how long that line is, `alike` whether those of the last two are the
 //! same, and `halves` for the union by halves of all. `key` asks for the number of its bytes, `nodes` for the number of its
 //! nodes, `node N` for one, `same M N` for two keys, `size` for the size of its solid, and `export UNIT` for its text, or the
-//! limit that is passed, `export UNIT N` for the first N bytes.
+//! limit that is passed, `export UNIT N` for the first N bytes. `workers N` has N workers export from there on.
 #![tactic(auto)]
 
 mod proper;
@@ -13,25 +13,39 @@ mod trees;
 mod written;
 
 use crate::trees::Trees;
-use case_lines::{CaseStop, answer_cases, cut, put_phrases, unfolded};
+use case_lines::{CaseStop, answer_cases, cut, phrases_of, put_next, unfolded};
 use std::alloc::Global;
 use std::process::ExitCode;
+use std::thread::Threads;
 
 // The answer of phrases that put trees.
-fn put_answer(alloc: Global, out: &mut Vec<u8>, case: &[u8]) -> Result<(), CaseStop> {
+fn put_answer<R: Threads + Sync>(
+    rt: &R,
+    alloc: Global,
+    out: &mut Vec<u8>,
+    case: &[u8],
+) -> Result<(), CaseStop> {
     let text = unfolded(alloc, case)?;
     let (asked, rest) = cut(&text);
-    if asked == b"tree".as_slice() {
-        put_phrases(alloc, out, &mut Trees::new(alloc), rest)
-    } else {
-        Err(CaseStop::Unread)
+    if asked != b"tree".as_slice() {
+        return Err(CaseStop::Unread);
     }
+    let mut trees = Trees::new(rt, alloc);
+    let from = out.len();
+    for phrase in &phrases_of(alloc, rest)? {
+        let mut told = Vec::new(alloc);
+        trees.follow(alloc, &mut told, phrase)?;
+        put_next(out, from, &told)?;
+    }
+    Ok(())
 }
 
 fn main(rt: HostRuntime) -> ExitCode {
-    let alloc = rt.alloc();
+    let threads = &rt;
     answer_cases(
         &rt,
-        |out: &mut Vec<u8>, case: &[u8]| -> Result<(), CaseStop> { put_answer(alloc, out, case) },
+        |out: &mut Vec<u8>, case: &[u8]| -> Result<(), CaseStop> {
+            put_answer(threads, threads.alloc(), out, case)
+        },
     )
 }

@@ -10,6 +10,7 @@ use plane_predicate::Unit;
 use reply_text::Complex;
 use std::alloc::Global;
 use std::sync::Arc;
+use std::thread::Threads;
 use tree_export::{Exported, export_tree};
 
 #[derive(Clone, Copy)]
@@ -150,23 +151,27 @@ fn put_complex(alloc: Global, out: &mut Vec<u8>, passed: Complex) -> Result<(), 
 }
 
 // The first bytes of a tree's text in a unit, or the first limit that it passes.
-fn put_export(
+fn put_export<R: Threads + Sync>(
+    rt: &R,
     alloc: Global,
+    workers: u64,
     out: &mut Vec<u8>,
     tree: &ProperTree,
     unit: Unit,
     most: usize,
 ) -> Result<(), CaseStop> {
-    match export_tree(alloc, tree.tree(), unit)? {
+    match export_tree(rt, alloc, workers, tree.tree(), unit)? {
         Exported::Text(text) => put_stroked(out, text.items(), most)?,
         Exported::Complex(passed) => put_complex(alloc, out, passed)?,
     }
     Ok(())
 }
 
-/// What a phrase writes of a tree.
-pub fn ask_tree(
+/// What a phrase writes of a tree, whose export is cut and written by so many workers.
+pub fn ask_tree<R: Threads + Sync>(
+    rt: &R,
     alloc: Global,
+    workers: u64,
     out: &mut Vec<u8>,
     asking: TreeAsking,
     numbers: &[i64],
@@ -191,11 +196,11 @@ pub fn ask_tree(
         (TreeAsking::Same, [first, second]) => put_same(alloc, out, tree, *first, *second)?,
         (TreeAsking::Size, []) => put_tree_size(alloc, out, tree)?,
         (TreeAsking::Export, [unit]) => {
-            put_export(alloc, out, tree, unit_of(*unit)?, usize::MAX)?;
+            put_export(rt, alloc, workers, out, tree, unit_of(*unit)?, usize::MAX)?;
         }
         (TreeAsking::Export, [unit, most]) => {
             let most = usize::try_from(*most).unwrap_or(0);
-            put_export(alloc, out, tree, unit_of(*unit)?, most)?;
+            put_export(rt, alloc, workers, out, tree, unit_of(*unit)?, most)?;
         }
         _ => return Err(CaseStop::Unread),
     }

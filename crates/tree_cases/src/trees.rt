@@ -3,10 +3,11 @@
 use crate::proper::ProperTree;
 use crate::stores::{ask_tree, tree_asking_of};
 use crate::written::{put_alike, put_halves};
-use case_lines::{CaseStop, Follows, Phrase, found};
+use case_lines::{CaseStop, Phrase, found};
 use case_planes::{Walls, box_walls, lay, laying_of, slab_walls};
 use csg_tree::Op;
 use std::alloc::Global;
+use std::thread::Threads;
 
 #[derive(Clone, Copy)]
 enum Planting {
@@ -45,16 +46,20 @@ fn slabs(alloc: Global, axis: i64, from: i64, count: i64) -> Result<ProperTree, 
     Ok(all)
 }
 
-/// Trees in the order in which they were put, and the planes for the next leaf.
+/// Trees in the order in which they were put, the planes for the next leaf, and how many workers export.
 #[derive(Drop)]
-pub struct Trees {
+pub struct Trees<'a, R: Threads + Sync> {
+    rt: &'a R,
+    workers: u64,
     walls: Walls,
     items: Vec<ProperTree>,
 }
 
-impl Trees {
-    pub fn new(alloc: Global) -> Trees {
+impl<'a, R: Threads + Sync> Trees<'a, R> {
+    pub fn new(rt: &'a R, alloc: Global) -> Self {
         Trees {
+            rt,
+            workers: 1,
             walls: Walls::new(alloc),
             items: Vec::new(alloc),
         }
@@ -113,10 +118,9 @@ impl Trees {
             _ => Err(CaseStop::Unread),
         }
     }
-}
 
-impl Follows for Trees {
-    fn follow(
+    /// Does what a phrase says, and writes what it asks.
+    pub fn follow(
         &mut self,
         alloc: Global,
         out: &mut Vec<u8>,
@@ -127,8 +131,13 @@ impl Follows for Trees {
             lay(&mut self.walls, laying, numbers)
         } else if let Some(planting) = found(&PLANTINGS, word) {
             self.plant(alloc, out, planting, numbers)
+        } else if word == b"workers".as_slice() {
+            let workers = numbers.first().ok_or(CaseStop::Unread)?;
+            self.workers = u64::try_from(*workers).map_err(|_| CaseStop::Unread)?;
+            Ok(())
         } else if let Some(asking) = tree_asking_of(word) {
-            ask_tree(alloc, out, asking, numbers, self.last()?)
+            let tree = self.last()?;
+            ask_tree(self.rt, alloc, self.workers, out, asking, numbers, tree)
         } else {
             Err(CaseStop::Unread)
         }

@@ -19,12 +19,13 @@ ghost use Rattle.tree_export.specs.Exports.{IsWritten, IsCut, IsExported, Bounds
 use bsp_boolean::{PlainBuilder, TreeStop, tree_solid};
 use bsp_tree::Solid;
 use csg_tree::{CsgStore, CsgTree};
-use facet_cut::{CutStop, Facet, facets};
-use off_text::{OffStop, off_bytes};
+use facet_cut::{CutStop, Facet, facets_by};
+use off_text::{OffStop, off_bytes_by};
 use plane_predicate::Unit;
 use reply_text::Complex;
 use std::alloc::Global;
 use std::sync::Arc;
+use std::thread::Threads;
 use text_place::{Bytes, NoMemory};
 
 // The most facets of an export.
@@ -39,12 +40,18 @@ pub enum Exported {
     Complex(Complex),
 }
 
-// What facets within their limit give.
-fn written(alloc: Global, facets: &[Facet], unit: Unit) -> Result<Exported, NoMemory>
+// What facets within their limit give, by so many workers.
+fn written<R: Threads + Sync>(
+    rt: &R,
+    alloc: Global,
+    workers: u64,
+    facets: &[Facet],
+    unit: Unit,
+) -> Result<Exported, NoMemory>
     ensures written { IfOk result (IsWritten unit facets.now) }
     ensures boundary { (f : Formula) → IsProper f → facets.now ≡ facets_of (solid_of f) → IfOk result (Bounds unit f) }
 {
-    match off_bytes(alloc, facets, unit) {
+    match off_bytes_by(rt, alloc, workers, facets, unit) {
         Ok(bytes) => Ok(Exported::Text(Bytes::of(bytes))),
         Err(OffStop::TooManyCorners) => Ok(Exported::Complex(Complex::Corners)),
         Err(OffStop::TooManyVertices) => Ok(Exported::Complex(Complex::Vertices)),
@@ -52,13 +59,19 @@ fn written(alloc: Global, facets: &[Facet], unit: Unit) -> Result<Exported, NoMe
     }
 }
 
-// What a solid within the limits of size gives.
-fn cut(alloc: Global, solid: &Solid, unit: Unit) -> Result<Exported, NoMemory>
+// What a solid within the limits of size gives, by so many workers.
+fn cut<R: Threads + Sync>(
+    rt: &R,
+    alloc: Global,
+    workers: u64,
+    solid: &Solid,
+    unit: Unit,
+) -> Result<Exported, NoMemory>
     ensures cut { IfOk result (IsCut unit (facets_of (tree_of solid.now))) }
     ensures boundary { (f : Formula) → IsProper f → tree_of solid.now ≡ solid_of f → IfOk result (Bounds unit f) }
 {
-    match facets(alloc, solid, FACETS) {
-        Ok(facets) => written(alloc, &facets, unit),
+    match facets_by(rt, alloc, workers, solid, FACETS) {
+        Ok(facets) => written(rt, alloc, workers, &facets, unit),
         Err(CutStop::TooMany) => Ok(Exported::Complex(Complex::Facets)),
         Err(CutStop::NoMemory) => Err(NoMemory),
     }
@@ -86,13 +99,16 @@ pub fn solid_of_nothing(alloc: Global) -> Result<Arc<Solid>, NoMemory>
     shared(alloc, Solid::leaf(alloc, false))
 }
 
-/// The export of a tree as a text in units, from the solid of its last node or the first node that passes a limit of size.
+/// The export of a tree as a text in units, from the solid of its last node or the first node that passes a limit of size, whose
+/// facets are cut and written by so many workers.
 ///
 /// `Complex` tells the first limit that is passed: at the first node in order of number at which either is passed,
 /// that the node's solid is above 50,000 in size, or else that the solids up to it are above 500,000 together; then
 /// more than 20,000 facets, more than 200,000 corners, more than 60,000 vertices. Where none is passed it is the text.
-pub fn export_made(
+pub fn export_made<R: Threads + Sync>(
+    rt: &R,
     alloc: Global,
+    workers: u64,
     made: Result<Arc<Solid>, TreeStop>,
     unit: Unit,
 ) -> Result<Exported, NoMemory>
@@ -103,7 +119,7 @@ pub fn export_made(
     ensures stopped { OnErr made (IfOk result (λ out. (passed : Limit) × IsSizeLimit passed × (out ≡ exported.Complex passed))) }
 {
     match made {
-        Ok(solid) => cut(alloc, &solid, unit),
+        Ok(solid) => cut(rt, alloc, workers, &solid, unit),
         Err(TreeStop::TooBig(number)) => Ok(Exported::Complex(Complex::Solid(number))),
         Err(TreeStop::SumTooBig(number)) => Ok(Exported::Complex(Complex::Sum(number))),
         Err(TreeStop::NoMemory) => Err(NoMemory),
@@ -126,11 +142,17 @@ fn solid_within(alloc: Global, tree: &CsgTree) -> Result<Arc<Solid>, TreeStop>
 }
 
 /// The export of a proper tree, whose planes are in grid steps, without a memo: `export_made` of its solid.
-pub fn export_tree(alloc: Global, tree: &CsgTree, unit: Unit) -> Result<Exported, NoMemory>
+pub fn export_tree<R: Threads + Sync>(
+    rt: &R,
+    alloc: Global,
+    workers: u64,
+    tree: &CsgTree,
+    unit: Unit,
+) -> Result<Exported, NoMemory>
     requires { IsProper (formula_of tree.now) }
     ensures exported { IfOk result (IsExported unit (formula_of tree.now)) }
     ensures boundary { IfOk result (Bounds unit (formula_of tree.now)) }
 {
     let made = solid_within(alloc, tree);
-    export_made(alloc, made, unit)
+    export_made(rt, alloc, workers, made, unit)
 }

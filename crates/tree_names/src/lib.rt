@@ -4,5 +4,7 @@
 
 mod front_hash;
 mod named_store;
+mod row_names;
+mod workers;
 
 pub use named_store::NamedStore;

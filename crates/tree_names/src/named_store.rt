@@ -11,12 +11,15 @@ ghost use Rattle.csg_tree.specs.Numberings.{tree_numbered, IsNumberIn};
 ghost use Rattle.tree_names.specs.JoinNames.{name_of_join};
 ghost use Rattle.csg_tree.specs.Earlier.{IsNumberOf, AreAllNumbersIn};
 
-use crate::front_hash::{hash_of_front, name_from_front, second_join};
-use csg_tree::{CsgNode, CsgStore, Op, TreeKey, name_of_node};
+use crate::front_hash::{hash_of_front, second_join};
+use crate::row_names::{RowNames, name_made};
+use crate::workers::names_of_store;
+use csg_tree::{CsgNode, CsgStore, Op, TreeKey};
 use sha2::Sha256;
 use std::alloc::Global;
 use std::marker::Model;
 use std::sync::Arc;
+use std::thread::Threads;
 use text_place::NoMemory;
 
 /// A shared store with the SHA-256 of the bytes of each of its joins, which contracts see as the store is
@@ -50,17 +53,16 @@ impl Model for NamedStore {
 }
 
 impl NamedStore {
-    /// A store with the names of its joins.
-    pub fn new(alloc: Global, store: Arc<CsgStore>) -> Result<NamedStore, NoMemory>
+    /// A store with the names of its joins, which at most so many workers make at the same time where threads can be made.
+    pub fn new<R: Threads + Sync>(
+        rt: &R,
+        alloc: Global,
+        workers: u64,
+        store: Arc<CsgStore>,
+    ) -> Result<NamedStore, NoMemory>
         ensures { IfOk result (λ named. named ≡ arc_value store) }
     {
-        let mut names = Vec::with_capacity(alloc, store.len() as usize)?;
-        let mut fronts = Vec::with_capacity(alloc, store.len() as usize)?;
-        for before in 0..store.len() {
-            let hasher = front_made(&store, before + 1);
-            names.push(name_made(&store, before + 1, &hasher)?)?;
-            fronts.push(hasher)?;
-        }
+        let RowNames { names, fronts } = names_of_store(rt, alloc, workers, &store)?;
         Ok(NamedStore {
             store,
             names,
@@ -212,18 +214,8 @@ fn joins_by_left(alloc: Global, store: &CsgStore) -> Result<Vec<u32>, NoMemory>
     Ok(joins)
 }
 
-// The hash of a node that is a join, behind its front.
-fn front_made(store: &CsgStore, number: u32) -> Option<Sha256>
-    requires { IsNumberIn store.now number }
-    ensures { HoldsFrontIfThere (tree_numbered store.now number) result }
-{
-    match store.node(number) {
-        CsgNode::Leaf(_) => None,
-        CsgNode::Join(op, left, right) => Some(hash_of_front(store, op, left, right)),
-    }
-}
-
-// The same, taken from an earlier store where that has the join, or one with the same front.
+// The hash of a node that is a join, behind its front, taken from an earlier store where that has the join, or one with the
+// same front.
 fn front_over(
     store: &CsgStore,
     number: u32,
@@ -270,24 +262,4 @@ fn name_over(
         None => name_made(store, number, front)?,
     };
     Ok(name)
-}
-
-// The name of a node that is a join, made of the bytes of its tree, from where its front left the hash.
-#[tactic(auto, using(crate::proofs::Fronts::front_and_end))]
-fn name_made(
-    store: &CsgStore,
-    number: u32,
-    front: &Option<Sha256>,
-) -> Result<Option<[u8; 32]>, NoMemory>
-    requires number { IsNumberIn store.now number }
-    requires front { HoldsFrontIfThere (tree_numbered store.now number) front.now }
-    ensures { IfOk result (λ name. name ≡ name_of_join (tree_numbered store.now number)) }
-{
-    match (store.node(number), front) {
-        (CsgNode::Leaf(_), _) => Ok(None),
-        (CsgNode::Join(op, _, right), Some(hasher)) => {
-            Ok(Some(name_from_front(hasher, store, op, right)?))
-        }
-        (CsgNode::Join(_, _, _), None) => Ok(Some(name_of_node(store, number))),
-    }
 }

@@ -1,0 +1,133 @@
+-- Facets that were numbered in parts, each by itself, and put together.
+use Rattle.std.proofs.Common.{◌≡◌, ℕ, List, [], ◌∷◌, ◌++◌, map, flat_map, refl, sym, ap, ap₂, ◌∙◌, subst, All, append_assoc, Result, Ok, Err, IfOk}
+use Rattle.std.proofs.lemmas.List.{map-append}
+use Rattle.std.proofs.lemmas.List.Elements.{All-append, All-nil}
+use Rattle.std.proofs.lemmas.List.Folds.{flat_map-map}
+use Rattle.std.proofs.lemmas.Grind.{flat_map-append}
+use Rattle.plane_predicate.specs.declared.unit.Unit.{Unit as LengthUnit}
+use Rattle.plane_predicate.specs.Space.{Coordinates}
+use Rattle.plane_polygon.specs.Polygons.{Outline, IsPolygon}
+use Rattle.off_text.specs.declared.numbering.Word.{Word}
+use Rattle.off_text.specs.declared.numbering.Word.TheVariants.{Corner}
+use Rattle.off_text.specs.declared.part.Part.{Part}
+use Rattle.off_text.specs.declared.parts.NamedPart.{NamedPart}
+use Rattle.off_text.specs.Reading.{face_line}
+use Rattle.off_text.specs.Texts.{from_least, number_among, printed_corners, AreCornersOf}
+use Rattle.off_text.specs.Numbering.{grown, HaveLines}
+use Rattle.off_text.specs.Words.{face_words, words_among, lines_of, HaveWords}
+use Rattle.off_text.specs.Parts.{AreCut, vertices_in, named_in, named, lines_in}
+use Rattle.off_text.proofs.Numbers.{AllKnown, all_kept, grown_knows, grown-append}
+use Rattle.off_text.proofs.Distinct.{grown_from_none, grown_twice}
+use Rattle.off_text.proofs.Gathered.{joined, corners_append, gathered_all}
+use Rattle.off_text.proofs.Renamed.{part_lines}
+
+-- a part numbers these polygons by itself
+abbrev pub IsPart : LengthUnit → List Outline → Part → Type 0
+IsPart unit polygons part = HaveWords unit polygons part.vertices.keys part.words.items
+
+-- these polygons are numbered behind some vertices, and these are the lines of their faces
+record AreTogether (unit : LengthUnit) (polygons : List Outline) (before all : List Coordinates) (lines : List ℕ) : Type 0 where
+  all_polygons : All IsPolygon polygons
+  found : List (List Coordinates)
+  corners : AreCornersOf unit polygons found
+  grows : all ≡ grown before (joined (printed_corners found))
+  lines_are : lines ≡ flat_map face_line (map (map (number_among all)) (printed_corners found))
+
+-- the lines of a part among all vertices
+abbrev lines_among : List Coordinates → Part → List ℕ
+lines_among all part = lines_of (words_among all part.vertices.keys) part.words.items
+
+-- a part before others
+module _ (unit : LengthUnit) (front back : List Outline) (part : Part) (is : IsPart unit front part) (before all : List Coordinates) where
+  keys_are : part.vertices.keys ≡ grown [] (joined (printed_corners is.numbered.found))
+  keys_are = is.numbered.vertices_are ∙ sym (grown_from_none (joined (printed_corners is.numbered.found)))
+
+  keys_known : AllKnown part.vertices.keys (joined (printed_corners is.numbered.found))
+  keys_known = subst (λ (v : List Coordinates). AllKnown v (joined (printed_corners is.numbered.found))) (sym keys_are) (grown_knows (joined (printed_corners is.numbered.found)) [])
+
+  own : lines_among all part ≡ flat_map face_line (map (map (number_among all)) (printed_corners is.numbered.found))
+  own =
+      ap (lines_of (words_among all part.vertices.keys))
+      (is.words_are ∙ ap (flat_map face_words) (is.numbered.faces_are ∙ ap (λ (v : List Coordinates). map (map (number_among v)) (printed_corners is.numbered.found)) (sym is.numbered.vertices_are)))
+      ∙ part_lines part.vertices.keys all (printed_corners is.numbered.found) keys_known
+
+  together_more : (lines : List ℕ) → AreTogether unit back (grown before part.vertices.keys) all lines → AreTogether unit (front ++ back) before all (lines_among all part ++ lines)
+  together_more lines rest =
+      let found = is.numbered.found in
+      let both : printed_corners (found ++ rest.found) ≡ printed_corners found ++ printed_corners rest.found = map-append from_least found rest.found in
+      record {
+        all_polygons = All-append IsPolygon front back is.numbered.all_polygons rest.all_polygons;
+        found = found ++ rest.found;
+        corners = corners_append unit front back found rest.found is.numbered.corners rest.corners;
+        grows = rest.grows
+            ∙ ap (λ (v : List Coordinates). grown v (joined (printed_corners rest.found))) (ap (grown before) keys_are ∙ grown_twice (joined (printed_corners found)) before [])
+            ∙ sym (grown-append (joined (printed_corners found)) (joined (printed_corners rest.found)) before)
+            ∙ ap (grown before) (sym (ap joined both ∙ flat_map-append (λ corners. corners) (printed_corners found) (printed_corners rest.found)));
+        lines_are = ap₂ (λ (x y : List ℕ). x ++ y) own rest.lines_are
+            ∙ sym (flat_map-append face_line (map (map (number_among all)) (printed_corners found)) (map (map (number_among all)) (printed_corners rest.found)))
+            ∙ ap (flat_map face_line) (sym (ap (map (map (number_among all))) both ∙ map-append (map (number_among all)) (printed_corners found) (printed_corners rest.found)));
+      }
+
+all_together : (unit : LengthUnit) (all : List Coordinates) (polygons : List Outline) (parts : List Part) (before : List Coordinates) → AreCut (IsPart unit) polygons parts →
+    all ≡ grown before (vertices_in parts) → AreTogether unit polygons before all (flat_map (lines_among all) parts)
+all_together unit all polygons [] before h e =
+    subst (λ (ps : List Outline). AreTogether unit ps before all []) (sym h) (record { all_polygons = All-nil IsPolygon; found = []; corners = tt; grows = e; lines_are = refl })
+all_together unit all polygons (part ∷ parts) before h e =
+    subst (λ (ps : List Outline). AreTogether unit ps before all (lines_among all part ++ flat_map (lines_among all) parts)) (sym h.2)
+    (together_more unit h.0 h.1 part h.3 before all (flat_map (lines_among all) parts)
+    (all_together unit all h.1 parts (grown before part.vertices.keys) h.4 (e ∙ grown-append part.vertices.keys (vertices_in parts) before)))
+
+-- parts that are put together are numbered as their polygons are, one after another
+pub parts_numbered : (unit : LengthUnit) (all : List Coordinates) (polygons : List Outline) (parts : List Part) (others : List NamedPart) → AreCut (IsPart unit) polygons parts →
+    all ≡ grown [] (vertices_in parts) → map named others ≡ map (named_in all) parts → HaveLines unit polygons all (lines_in others)
+parts_numbered unit all polygons parts others h e names =
+    let t = all_together unit all polygons parts [] h e in
+    let faces = map (map (number_among all)) (printed_corners t.found) in
+    let text = λ (n : List Word × List Word). lines_of n.1 n.0 in
+    record {
+      faces = faces;
+      numbered = gathered_all unit polygons all faces (record { all_polygons = t.all_polygons; found = t.found; corners = t.corners; vertices_are = t.grows; faces_are = refl });
+      lines_are = sym (flat_map-map text named others) ∙ ap (flat_map text) names ∙ flat_map-map text (named_in all) parts ∙ t.lines_are;
+    }
+
+-- ---- one part after another
+-- the words of a part's vertices, which were put down from none on
+pub put_down : (begun items : List Word) (vertices points keys : List Coordinates) → items ≡ begun ++ words_among vertices points → begun ≡ [] → points ≡ keys → items ≡ words_among vertices keys
+put_down begun items vertices points keys e none same = e ∙ ap₂ (λ (ws : List Word) (ps : List Coordinates). ws ++ words_among vertices ps) none same
+
+-- the names of a part stay, whatever comes after it
+names_stay : (rest : List Part) (part : Part) (vertices : List Coordinates) →
+    words_among (grown (grown vertices part.vertices.keys) (vertices_in rest)) part.vertices.keys ≡ words_among (grown vertices part.vertices.keys) part.vertices.keys
+names_stay rest part vertices =
+    ap (map Corner) (all_kept (vertices_in rest) (grown vertices part.vertices.keys) part.vertices.keys (grown_knows part.vertices.keys vertices)).1
+
+module _ (whole left rest : List Part) (part : Part) (e : left ≡ part ∷ rest) (vertices new : List Coordinates) (grows : new ≡ grown vertices part.vertices.keys) where
+  -- a part more is put to those before
+  pub part_grows : grown vertices (vertices_in left) ≡ grown [] (vertices_in whole) → grown new (vertices_in rest) ≡ grown [] (vertices_in whole)
+  part_grows h =
+      ap (λ (v : List Coordinates). grown v (vertices_in rest)) grows ∙ sym (grown-append part.vertices.keys (vertices_in rest) vertices)
+      ∙ ap (λ (ps : List Part). grown vertices (vertices_in ps)) (sym e) ∙ h
+
+  -- and its vertices have the names that they have among all
+  pub part_named : (before more : List NamedPart) (one : NamedPart) → more ≡ before ++ one ∷ [] → grown vertices (vertices_in left) ≡ grown [] (vertices_in whole) →
+      one.words.items ≡ part.words.items → one.names.items ≡ words_among new part.vertices.keys →
+      (names : List (List Word × List Word)) → map named before ++ map (named_in (grown [] (vertices_in whole))) left ≡ names →
+      map named more ++ map (named_in (grown [] (vertices_in whole))) rest ≡ names
+  part_named before more one m h w n names all =
+      let last = grown [] (vertices_in whole) in
+      let own : words_among new part.vertices.keys ≡ words_among last part.vertices.keys =
+      ap (λ (v : List Coordinates). words_among v part.vertices.keys) grows ∙ sym (names_stay rest part vertices)
+      ∙ ap (λ (v : List Coordinates). words_among v part.vertices.keys) (ap (λ (v : List Coordinates). grown v (vertices_in rest)) (sym grows) ∙ part_grows h) in
+      ap (λ (ns : List NamedPart). map named ns ++ map (named_in last) rest) m
+      ∙ ap (λ (ns : List (List Word × List Word)). ns ++ map (named_in last) rest) (map-append named before (one ∷ []))
+      ∙ append_assoc (map named before) (named one ∷ []) (map (named_in last) rest)
+      ∙ ap₂ (λ (x y : List Word). map named before ++ (x, y) ∷ map (named_in last) rest) w (n ∙ own)
+      ∙ ap (λ (ps : List Part). map named before ++ map (named_in last) ps) (sym e)
+      ∙ all
+
+-- the same of what was made of them, if it was
+pub both_made : {V E : Type 0} (unit : LengthUnit) (polygons : List Outline) (parts : List Part) → AreCut (IsPart unit) polygons parts →
+    (keys : V → List Coordinates) (others : V → List NamedPart) (r : Result V E) → IfOk r (λ v. keys v ≡ grown [] (vertices_in parts)) →
+    IfOk r (λ v. map named (others v) ≡ map (named_in (keys v)) parts) → IfOk r (λ v. HaveLines unit polygons (keys v) (lines_in (others v)))
+both_made unit polygons parts h keys others (Ok v) e names = parts_numbered unit (keys v) polygons parts (others v) h e names
+both_made unit polygons parts h keys others (Err stop) e names = tt
