@@ -13,7 +13,7 @@ use Rattle.scad_eval.proofs.Contexts.{context_by, context_from}
 
 -- one evaluation deeper
 pub deeper_context : (old new : InstanceEvaluator) (s : Position) → EvaluationBegins old.evaluation new.evaluation → context_at new s ≡ context_at old s
-deeper_context old new s b = context_from old new s b.calls b.source b.rows b.chain
+deeper_context old new s b = context_from old new s b.calls b.source b.rows b.stands b.chain
 
 pub deeper_evaluations : (old new : InstanceEvaluator) → EvaluationBegins old.evaluation new.evaluation → evaluations_left new ≡ 512 - (old.evaluation.depth + 1)
 deeper_evaluations old new b = ap (λ n. 512 - n) b.depth
@@ -22,10 +22,11 @@ deeper_evaluations old new b = ap (λ n. 512 - n) b.depth
 pub call_context : (old new : InstanceEvaluator) (s : Position) → CallBegins old.evaluation new.evaluation
     → context_at new s ≡ with_calls_left (context_at old s) (64 - (old.evaluation.calls + 1))
 call_context old new s b =
-    ap (λ n. context_by n new.evaluation.source.now (rows_of new.evaluation.scopes.now) s.scope (chain_of new.evaluation.scopes.now) s) b.calls
-    ∙ ap (λ (x : Source). context_by (old.evaluation.calls + 1) x (rows_of new.evaluation.scopes.now) s.scope (chain_of new.evaluation.scopes.now) s) b.source
-    ∙ ap (λ l. context_by (old.evaluation.calls + 1) old.evaluation.source.now l s.scope (chain_of new.evaluation.scopes.now) s) b.rows
-    ∙ ap (λ c. context_by (old.evaluation.calls + 1) old.evaluation.source.now (rows_of old.evaluation.scopes.now) s.scope c s) b.chain
+    ap (λ n. context_by n new.evaluation.source.now (rows_of new.evaluation.scopes.now) new.evaluation.scope (chain_of new.evaluation.scopes.now) s) b.calls
+    ∙ ap (λ (x : Source). context_by (old.evaluation.calls + 1) x (rows_of new.evaluation.scopes.now) new.evaluation.scope (chain_of new.evaluation.scopes.now) s) b.source
+    ∙ ap (λ l. context_by (old.evaluation.calls + 1) old.evaluation.source.now l new.evaluation.scope (chain_of new.evaluation.scopes.now) s) b.rows
+    ∙ ap (λ n. context_by (old.evaluation.calls + 1) old.evaluation.source.now (rows_of old.evaluation.scopes.now) n (chain_of new.evaluation.scopes.now) s) b.stands
+    ∙ ap (λ c. context_by (old.evaluation.calls + 1) old.evaluation.source.now (rows_of old.evaluation.scopes.now) old.evaluation.scope c s) b.chain
 
 pub call_evaluations : (old new : InstanceEvaluator) → CallBegins old.evaluation new.evaluation → evaluations_left new ≡ evaluations_left old
 call_evaluations old new b = ap (λ n. 512 - n) b.depth
@@ -35,10 +36,11 @@ pub specials_context : (old new : InstanceEvaluator) (s : Position) (count : ℕ
     → chain_of new.evaluation.scopes.now ≡ specials ++ chain_of old.evaluation.scopes.now
     → context_at new s ≡ with_chain (context_at old s) (specials ++ chain_of old.evaluation.scopes.now)
 specials_context old new s count specials b e =
-    ap (λ n. context_by n new.evaluation.source.now (rows_of new.evaluation.scopes.now) s.scope (chain_of new.evaluation.scopes.now) s) b.calls
-    ∙ ap (λ (x : Source). context_by old.evaluation.calls x (rows_of new.evaluation.scopes.now) s.scope (chain_of new.evaluation.scopes.now) s) b.source
-    ∙ ap (λ l. context_by old.evaluation.calls old.evaluation.source.now l s.scope (chain_of new.evaluation.scopes.now) s) b.rows
-    ∙ ap (λ c. context_by old.evaluation.calls old.evaluation.source.now (rows_of old.evaluation.scopes.now) s.scope c s) e
+    ap (λ n. context_by n new.evaluation.source.now (rows_of new.evaluation.scopes.now) new.evaluation.scope (chain_of new.evaluation.scopes.now) s) b.calls
+    ∙ ap (λ (x : Source). context_by old.evaluation.calls x (rows_of new.evaluation.scopes.now) new.evaluation.scope (chain_of new.evaluation.scopes.now) s) b.source
+    ∙ ap (λ l. context_by old.evaluation.calls old.evaluation.source.now l new.evaluation.scope (chain_of new.evaluation.scopes.now) s) b.rows
+    ∙ ap (λ n. context_by old.evaluation.calls old.evaluation.source.now (rows_of old.evaluation.scopes.now) n (chain_of new.evaluation.scopes.now) s) b.stands
+    ∙ ap (λ c. context_by old.evaluation.calls old.evaluation.source.now (rows_of old.evaluation.scopes.now) old.evaluation.scope c s) e
 
 pub specials_evaluations : (old new : InstanceEvaluator) (count : ℕ) → SpecialsBegin old.evaluation new.evaluation count → evaluations_left new ≡ evaluations_left old
 specials_evaluations old new count b = ap (λ n. 512 - n) b.depth

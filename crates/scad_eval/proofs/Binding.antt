@@ -1,6 +1,7 @@
 -- One assignment behind another.
-use Rattle.std.proofs.Common.{◌≡◌, ℕ, ◌+◌, ◌<◌, List, ◌∷◌, map, drop, length, get_or, Ok, refl, sym, ap, ◌∙◌}
+use Rattle.std.proofs.Common.{◌≡◌, ℕ, ◌+◌, ◌<◌, List, ◌∷◌, map, drop, length, get_or, Ok, Err, refl, sym, ap, ◌∙◌}
 use Rattle.std.proofs.lemmas.List.{at_drop_more}
+use Rattle.text_place.specs.declared.fault.Stop.{Stop}
 use Rattle.scad_value.specs.Values.{Val}
 use Rattle.scad_blocks.specs.Blocks.{Assigned}
 use Rattle.scad_blocks.specs.declared.text.Assignment.{Assignment}
@@ -10,6 +11,7 @@ use Rattle.scad_func.specs.Evaluations.{Keeps, EvaluationBegins}
 use Rattle.scad_func.specs.declared.evaluation.Evaluation.{Evaluation}
 use Rattle.scad_meaning.specs.Meaning.{Context, assigned_value, assigned, each_assigned}
 use Rattle.scad_pieces.specs.Seen.{HasOutcome}
+use Rattle.scad_eval.proofs.Outcomes.{along, stop_outcome}
 
 -- one assignment behind another
 assigned_then : (evaluations : ℕ) (here : Context) (a : Assigned) (as_ : List Assigned) (out : Outcome Val)
@@ -32,6 +34,11 @@ module _ (start : Outcome Context) (evaluations evaluations_here : ℕ) (here : 
       → HasOutcome see (Ok r) n l (then_with (assigned_value evaluations_here here (assigned_of x) turns) (λ turns v. Gives turns (assigned (assigned_of x) v here)))
       → start ≡ each_assigned evaluations (see l r) (map assigned_of (drop (i + 1) xs)) n
   assigned_next n l t = next ∙ ap (λ o. then_with o (λ turns there. each_assigned evaluations there (map assigned_of (drop (i + 1) xs)) turns)) t.is
+
+  pub assigned_stops : {A B : Type 0} {see : ℕ → A → Context} {after : ℕ → B → Context} {stop : Stop} (m l n k : ℕ)
+      → HasOutcome see (Err stop) m l (then_with (assigned_value evaluations_here here (assigned_of x) turns) (λ turns v. Gives turns (assigned (assigned_of x) v here)))
+      → HasOutcome after (Err stop) n k start
+  assigned_stops m l n k t = along next (stop_outcome (λ turns there. each_assigned evaluations there (map assigned_of (drop (i + 1) xs)) turns) t)
 
 -- an evaluation that began is still one deeper
 pub begun_kept : {first old new : Evaluation} → EvaluationBegins first old → Keeps old new → EvaluationBegins first new

@@ -1,5 +1,5 @@
 -- Where instances stand, before and after steps.
-use Rattle.std.proofs.Common.{◌≡◌, ℕ, ◌-◌, List, ◌++◌, Option, Result, refl, sym, ap, subst, ◌∙◌, append_assoc}
+use Rattle.std.proofs.Common.{◌≡◌, ℕ, ◌-◌, List, ◌++◌, take, Option, Result, refl, sym, ap, subst, ◌∙◌, append_assoc}
 use Rattle.text_place.specs.declared.fault.Stop.{Stop}
 use Rattle.plane_predicate.specs.declared.unit.Unit.{Unit as LengthUnit}
 use Rattle.scad_value.specs.Values.{Val}
@@ -7,7 +7,7 @@ use Rattle.scad_scope.specs.Names.{Pairs, Row}
 use Rattle.scad_scope.specs.Table.{rows_of, chain_of}
 use Rattle.scad_func.specs.Meaning.{Env}
 use Rattle.scad_func.specs.View.{seen}
-use Rattle.scad_func.specs.Evaluations.{Keeps}
+use Rattle.scad_func.specs.Evaluations.{Keeps, scope_here}
 use Rattle.scad_func.specs.declared.evaluation.Evaluation.{Evaluation}
 use Rattle.scad_func.specs.declared.source.Source.{Source}
 use Rattle.scad_meaning.specs.declared.extrusion.Extrusion.{Extrusion}
@@ -30,16 +30,17 @@ context_by calls source rows scope chain s = record {
 }
 
 pub context_from : (old new : InstanceEvaluator) (s : Position) → new.evaluation.calls ≡ old.evaluation.calls → new.evaluation.source.now ≡ old.evaluation.source.now
-    → rows_of new.evaluation.scopes.now ≡ rows_of old.evaluation.scopes.now → chain_of new.evaluation.scopes.now ≡ chain_of old.evaluation.scopes.now
-    → context_at new s ≡ context_at old s
-context_from old new s calls source rows chain =
-    ap (λ n. context_by n new.evaluation.source.now (rows_of new.evaluation.scopes.now) s.scope (chain_of new.evaluation.scopes.now) s) calls
-    ∙ ap (λ (x : Source). context_by old.evaluation.calls x (rows_of new.evaluation.scopes.now) s.scope (chain_of new.evaluation.scopes.now) s) source
-    ∙ ap (λ l. context_by old.evaluation.calls old.evaluation.source.now l s.scope (chain_of new.evaluation.scopes.now) s) rows
-    ∙ ap (λ c. context_by old.evaluation.calls old.evaluation.source.now (rows_of old.evaluation.scopes.now) s.scope c s) chain
+    → rows_of new.evaluation.scopes.now ≡ rows_of old.evaluation.scopes.now → new.evaluation.scope ≡ old.evaluation.scope
+    → chain_of new.evaluation.scopes.now ≡ chain_of old.evaluation.scopes.now → context_at new s ≡ context_at old s
+context_from old new s calls source rows stands chain =
+    ap (λ n. context_by n new.evaluation.source.now (rows_of new.evaluation.scopes.now) new.evaluation.scope (chain_of new.evaluation.scopes.now) s) calls
+    ∙ ap (λ (x : Source). context_by old.evaluation.calls x (rows_of new.evaluation.scopes.now) new.evaluation.scope (chain_of new.evaluation.scopes.now) s) source
+    ∙ ap (λ l. context_by old.evaluation.calls old.evaluation.source.now l new.evaluation.scope (chain_of new.evaluation.scopes.now) s) rows
+    ∙ ap (λ n. context_by old.evaluation.calls old.evaluation.source.now (rows_of old.evaluation.scopes.now) n (chain_of new.evaluation.scopes.now) s) stands
+    ∙ ap (λ c. context_by old.evaluation.calls old.evaluation.source.now (rows_of old.evaluation.scopes.now) old.evaluation.scope c s) chain
 
 pub same_context : (old new : InstanceEvaluator) (s : Position) → Stays old new → context_at new s ≡ context_at old s
-same_context old new s k = context_from old new s k.calls k.source k.rows k.chain
+same_context old new s k = context_from old new s k.calls k.source k.rows k.stands k.chain
 
 pub same_evaluations : (old new : InstanceEvaluator) → Stays old new → evaluations_left new ≡ evaluations_left old
 same_evaluations old new k = ap (λ n. 512 - n) k.depth
@@ -106,24 +107,23 @@ meets_after {old = old} {mid = mid} {s = s} k h judge right =
     meets_at old.unit (evaluations_left old) (context_at old s) k.unit (same_evaluations old mid k) (same_context old mid s k) h judge right
 
 -- a stand in a scope that was entered
-pub entered_context : (old new : InstanceEvaluator) (s : Position) (scope : ℕ) (env : Env) → Enters old new scope
-    → seen new.evaluation.source.now (rows_of new.evaluation.scopes.now) scope ≡ env
-    → context_at new (record { scope = scope; inside = s.inside; under_mark = s.under_mark })
-    ≡ record { calls = 64 - old.evaluation.calls; env = env; chain = chain_of old.evaluation.scopes.now; inside = s.inside; under_mark = s.under_mark }
-entered_context old new s scope env e is =
-    ap (λ n. record { calls = 64 - n; env = seen new.evaluation.source.now (rows_of new.evaluation.scopes.now) scope; chain = chain_of new.evaluation.scopes.now; inside = s.inside; under_mark = s.under_mark }) e.evaluation.calls
+pub entered_context : (old new : InstanceEvaluator) (s : Position) (before : ℕ) (env : Env) → Enters old new before
+    → scope_here new.evaluation ≡ env
+    → context_at new s ≡ record { calls = 64 - old.evaluation.calls; env = env; chain = chain_of old.evaluation.scopes.now; inside = s.inside; under_mark = s.under_mark }
+entered_context old new s before env e is =
+    ap (λ n. record { calls = 64 - n; env = scope_here new.evaluation; chain = chain_of new.evaluation.scopes.now; inside = s.inside; under_mark = s.under_mark }) e.evaluation.calls
     ∙ ap (λ (x : Env). record { calls = 64 - old.evaluation.calls; env = x; chain = chain_of new.evaluation.scopes.now; inside = s.inside; under_mark = s.under_mark }) is
     ∙ ap (λ (c : Pairs Val). record { calls = 64 - old.evaluation.calls; env = env; chain = c; inside = s.inside; under_mark = s.under_mark }) e.evaluation.chain
 
 -- assignments, one behind another
-pub assigns_then : {a b c : InstanceEvaluator} {scope : ℕ} → Assigns a b scope → Assigns b c scope → Assigns a c scope
+pub assigns_then : {a b c : InstanceEvaluator} → Assigns a b → Assigns b c → Assigns a c
 assigns_then {a = a} {b = b} {c = c} f g = record {
   unit = g.unit ∙ f.unit;
   source = g.source ∙ f.source;
   lent = g.lent ∙ f.lent;
   stands = g.stands ∙ f.stands;
   leaves = g.leaves ∙ f.leaves;
-  front = g.front ∙ f.front;
+  front = ap (λ n. take n (rows_of c.evaluation.scopes.now)) (sym f.stands) ∙ g.front ∙ ap (λ n. take n (rows_of b.evaluation.scopes.now)) f.stands ∙ f.front;
   there = g.there ∙ f.there;
   newer = g.newer ++ f.newer;
   chain = g.chain ∙ ap (λ l. g.newer ++ l) f.chain ∙ sym (append_assoc g.newer f.newer (chain_of a.evaluation.scopes.now));

@@ -1,23 +1,22 @@
 -- What is told from where a step began, of steps that stand elsewhere: in a scope that was entered, one evaluation or call
 -- deeper, or with special arguments on the chain.
-use Rattle.std.proofs.Common.{◌≡◌, ℕ, ◌+◌, ◌-◌, Bool, true, false, List, ◌++◌, Option, Some, is_some, codes, Result, Ok, Err, refl, sym, ap, subst, ◌∙◌}
+use Rattle.std.proofs.Common.{◌≡◌, ℕ, ◌+◌, ◌-◌, Bool, true, false, List, ◌++◌, Option, is_some, codes, Result, Ok, Err, refl, sym, ap, subst, ◌∙◌}
 use Rattle.std.specs.Prelude.{OnOk}
 use Rattle.text_place.specs.declared.fault.Stop.{Stop}
 use Rattle.text_place.specs.declared.fault.Stop.TheVariants.{Fault, NoMemory}
 use Rattle.text_place.specs.declared.fault.FaultKind.{FaultKind}
 use Rattle.text_place.specs.declared.fault.Place.{Place}
 use Rattle.csg_tree.specs.declared.op.Op.{Op}
-use Rattle.csg_tree.specs.declared.op.Op.TheVariants.{Union}
 use Rattle.scad_ast.specs.Terms.{StatementTerms, InstanceTerm, BodyTerm}
 use Rattle.scad_value.specs.Values.{Val}
 use Rattle.scad_scope.specs.Names.{Pairs, Row, find_in}
 use Rattle.scad_scope.specs.Table.{rows_of, chain_of}
 use Rattle.scad_blocks.specs.Blocks.{assignments_of}
-use Rattle.scad_func.specs.Meaning.{Outcome, Gives, Faults, Arguments, Slots, Env, Opened, opened, no_call, call_in, entered_scope, then_with, evaluated}
+use Rattle.scad_func.specs.Meaning.{Outcome, Gives, Faults, Arguments, Slots, Env, Opened, call_in, entered_scope, then_with, evaluated}
 use Rattle.scad_arguments.specs.ArgumentsView.{IsFaultAt}
-use Rattle.scad_func.specs.View.{seen, source_text}
+use Rattle.scad_func.specs.View.{Tells, seen, source_text}
 use Rattle.scad_func.specs.Definitions.{IsWhole, statements_at, block_scope}
-use Rattle.scad_func.specs.Evaluations.{CallBegins, EvaluationBegins, SpecialsBegin}
+use Rattle.scad_func.specs.Evaluations.{CallBegins, EvaluationBegins, SpecialsBegin, scope_here}
 use Rattle.scad_func.specs.Evaluations as there
 use Rattle.scad_func.specs.declared.source.Source.{Source}
 use Rattle.scad_value.specs.Operators.{Answer}
@@ -29,14 +28,12 @@ use Rattle.scad_pieces.specs.declared.position.InstanceResult.{InstanceResult}
 use Rattle.scad_pieces.specs.declared.position.MemberResults.{MemberResults}
 use Rattle.scad_eval.specs.declared.evaluator.InstanceEvaluator.{InstanceEvaluator}
 use Rattle.scad_meaning.specs.Verdicts.{Judge, IsRight}
-use Rattle.scad_meaning.specs.Bodies.{children_in, is_marked}
-use Rattle.scad_meaning.specs.Loops.{chosen_among}
-use Rattle.scad_meaning.specs.Meaning.{Context, InstanceDesign, MemberDesigns, Evaluator, inside_scope, with_chain, with_calls_left, inside_mark, setting, evaluator_with, design_within, instance_design, core_design, core_of, joined_members, each_assigned, each_member, children_design, effect_design, answered_with, no_members, and_members}
-use Rattle.scad_pieces.specs.Seen.{AgreesWith, HasOutcome, instance_design_of, member_designs_of, one_member_of, apart, IsLengthened, in_front}
-use Rattle.scad_pieces.specs.Calls.{TellsEffectAt, instances_chosen}
-use Rattle.scad_eval.specs.Keeping.{evaluations_left, evaluator_at, env_at, context_at, Stays, Enters, Assigns, Equation, Meets}
-use Rattle.scad_eval.specs.Steps.{block_members, chosen_children, built_in_given}
-use Rattle.scad_eval.proofs.Outcomes.{along, then_outcome, then_then, front_of_none, no_memory}
+use Rattle.scad_meaning.specs.Bodies.{is_marked}
+use Rattle.scad_meaning.specs.Meaning.{Context, InstanceDesign, MemberDesigns, Evaluator, inside_scope, with_chain, with_calls_left, inside_mark, setting, evaluator_with, design_within, instance_design, core_design, core_of, joined_members, each_assigned, each_member, children_design, effect_design, answered_with, no_members, and_members, apart, block_members, built_in_given, chosen_children, instances_chosen}
+use Rattle.scad_pieces.specs.Seen.{HasOutcome, instance_design_of, member_designs_of, one_member_of, IsLengthened, in_front}
+use Rattle.scad_pieces.specs.Calls.{TellsEffectAt}
+use Rattle.scad_eval.specs.Keeping.{evaluations_left, evaluator_at, context_at, Stays, Enters, Assigns, Equation, Meets}
+use Rattle.scad_eval.proofs.Outcomes.{along, then_outcome, front_of_none, no_memory}
 use Rattle.scad_eval.proofs.Contexts.{meets_at, same_context, entered_context}
 use Rattle.scad_eval.proofs.Beginning.{deeper_context, deeper_evaluations, call_context, call_evaluations, specials_context, specials_evaluations}
 use Rattle.scad_eval.proofs.Counting.{design_deeper, call_counted}
@@ -57,47 +54,41 @@ joined_outcome op members made turns leaves out h joined =
     then_outcome (λ turns ms. Gives turns (joined_members op ms)) h (record { is = ap (λ m. Gives turns m) (sym (joined leaves)) })
 
 -- in a scope that was entered
-pub entered_meets : {A B : Type 0} {see : ℕ → A → B} {r : Result A Stop} (equation : Source → Equation B) (old mid new : InstanceEvaluator) (s t : Position)
-    (scope : ℕ) (env : Env) → Enters old mid scope
-    → seen mid.evaluation.source.now (rows_of mid.evaluation.scopes.now) scope ≡ env
-    → mid.evaluation.turns ≡ old.evaluation.turns
-    → t ≡ record { scope = scope; inside = s.inside; under_mark = s.under_mark }
-    → Meets see mid new t r (equation mid.evaluation.source.now) → (judge : Judge) → IsRight judge
+pub entered_meets : {A B : Type 0} {see : ℕ → A → B} {r : Result A Stop} (equation : Source → Equation B) (old mid new : InstanceEvaluator) (s : Position)
+    (before : ℕ) (env : Env) → Enters old mid before → scope_here mid.evaluation ≡ env → mid.evaluation.turns ≡ old.evaluation.turns
+    → Meets see mid new s r (equation mid.evaluation.source.now) → (judge : Judge) → IsRight judge
     → HasOutcome see r new.evaluation.turns new.leaves
     (equation old.evaluation.source.now (evaluator_at old judge) (inside_scope (context_at old s) env)
     old.evaluation.turns old.leaves)
-entered_meets equation old mid new s t scope env e is turns same h judge right =
+entered_meets equation old mid new s before env e is turns h judge right =
     let l = evaluations_left old in
     let evaluator = evaluator_at old judge in
     let here = inside_scope (context_at old s) env in
     along (ap (λ (x : Source). equation x evaluator here old.evaluation.turns old.leaves) (sym e.evaluation.source)
     ∙ ap (λ n. equation mid.evaluation.source.now evaluator here n old.leaves) (sym turns)
     ∙ ap (λ n. equation mid.evaluation.source.now evaluator here mid.evaluation.turns n) (sym e.leaves))
-    (meets_at old.unit l here e.unit (ap (λ n. 512 - n) e.evaluation.depth)
-    (ap (λ (x : Position). context_at mid x) same ∙ entered_context old mid s scope env e is) h judge right)
+    (meets_at old.unit l here e.unit (ap (λ n. 512 - n) e.evaluation.depth) (entered_context old mid s before env e is) h judge right)
 
 -- a block in a scope that was entered
-pub body_entered : {r : Result MemberResults Stop} (old mid new : InstanceEvaluator) (s t : Position) (scope block : ℕ) (call : Opened) (outer : Env)
+pub body_entered : {r : Result MemberResults Stop} (old mid new : InstanceEvaluator) (s : Position) (before block : ℕ) (call : Opened) (outer : Env)
     (chosen : Option ChosenCall) (statements : StatementTerms)
     → IsWhole (source_text old.evaluation.source.now) → statements_at (source_text old.evaluation.source.now) block ≡ statements
-    → Enters old mid scope
-    → seen mid.evaluation.source.now (rows_of mid.evaluation.scopes.now) scope ≡ block_scope (source_text old.evaluation.source.now) block call outer
+    → Enters old mid before
+    → scope_here mid.evaluation ≡ block_scope (source_text old.evaluation.source.now) block call outer
     → mid.evaluation.turns ≡ old.evaluation.turns
-    → t ≡ record { scope = scope; inside = s.inside; under_mark = s.under_mark }
-    → Meets member_designs_of mid new t r (λ evaluator. block_members evaluator chosen (statements_at (source_text mid.evaluation.source.now) block))
+    → Meets member_designs_of mid new s r (λ evaluator. block_members evaluator chosen (statements_at (source_text mid.evaluation.source.now) block))
     → (judge : Judge) → IsRight judge
     → HasOutcome member_designs_of r new.evaluation.turns new.leaves
     (block_members (evaluator_at old judge) chosen statements
     (inside_scope (context_at old s) (entered_scope statements call outer)) old.evaluation.turns old.leaves)
-body_entered old mid new s t scope block call outer chosen statements whole is e inside turns same h judge right =
-    let l = evaluations_left old in
+body_entered old mid new s before block call outer chosen statements whole is e inside turns h judge right =
     let evaluator = evaluator_at old judge in
     let here : Context = inside_scope (context_at old s) (entered_scope statements call outer) in
     along (ap (λ (st : StatementTerms). block_members evaluator chosen st here old.evaluation.turns old.leaves) (sym is))
     (entered_meets (λ (x : Source) evaluator. block_members evaluator chosen (statements_at (source_text x) block))
-    old mid new s t scope (entered_scope statements call outer) e
+    old mid new s before (entered_scope statements call outer) e
     (inside ∙ whole.scopes block call outer ∙ ap (λ (st : StatementTerms). entered_scope st call outer) is)
-    turns same h judge right)
+    turns h judge right)
 
 -- one evaluation deeper
 pub deeper_meets : {r : Result InstanceResult Stop} (old mid new : InstanceEvaluator) (s : Position) (i : InstanceTerm) → mid.unit ≡ old.unit → mid.leaves ≡ old.leaves
@@ -207,15 +198,15 @@ module _ (old begun : InstanceEvaluator) (s : Position) (at : Place) (m : Builti
       old begun mid new s count given.specials unit leaves b chain k same_leaves h judge right)
 
 -- a block: its assignments, then its instances
-pub block_meets : {A : Type 0} {x : A} {r : Result MemberResults Stop} (old mid new : InstanceEvaluator) (s : Position) (block scope : ℕ) (chosen : Option ChosenCall)
-    (is : List InstanceTerm) → Assigns old mid scope
+pub block_meets : {A : Type 0} {x : A} {r : Result MemberResults Stop} (old mid new : InstanceEvaluator) (s : Position) (block : ℕ) (chosen : Option ChosenCall)
+    (is : List InstanceTerm) → Assigns old mid
     → HasOutcome (λ leaves x. context_at mid s) (Ok x) mid.evaluation.turns mid.leaves
     (each_assigned (evaluations_left old) (context_at old s) (assignments_of (statements_at (source_text old.evaluation.source.now) block)) old.evaluation.turns)
-    → is ≡ instances_chosen (env_at mid s.scope) chosen (statements_at (source_text mid.evaluation.source.now) block)
+    → is ≡ instances_chosen (scope_here mid.evaluation) chosen (statements_at (source_text mid.evaluation.source.now) block)
     → Meets member_designs_of mid new s r (λ evaluator here. each_member evaluator here is) → (judge : Judge) → IsRight judge
     → HasOutcome member_designs_of r new.evaluation.turns new.leaves
     (block_members (evaluator_at old judge) chosen (statements_at (source_text old.evaluation.source.now) block) (context_at old s) old.evaluation.turns old.leaves)
-block_meets old mid new s block scope chosen is a told same h judge right =
+block_meets old mid new s block chosen is a told same h judge right =
     let evaluator = evaluator_at old judge in
     let there = context_at mid s in
     then_outcome (λ turns there. each_member evaluator there (instances_chosen there.env chosen (statements_at (source_text old.evaluation.source.now) block)) turns old.leaves) told
@@ -236,16 +227,6 @@ specials_setting old begun s scope count specials b chain =
     ∙ ap (λ (x : Source). record { deeper = evaluated (512 - old.evaluation.depth); calls = 64 - old.evaluation.calls; env = seen x (rows_of begun.evaluation.scopes.now) scope; chain = chain_of begun.evaluation.scopes.now }) b.source
     ∙ ap (λ (rows : List Row). record { deeper = evaluated (512 - old.evaluation.depth); calls = 64 - old.evaluation.calls; env = seen old.evaluation.source.now rows scope; chain = chain_of begun.evaluation.scopes.now }) b.rows
     ∙ ap (λ (c : Pairs Val). record { deeper = evaluated (512 - old.evaluation.depth); calls = 64 - old.evaluation.calls; env = seen old.evaluation.source.now (rows_of old.evaluation.scopes.now) scope; chain = c }) chain
-
--- the children of a call are members of its block
-pub children_as_members : (evaluator : Evaluator) (here : Context) (children : StatementTerms) (caller : Env) (chosen : ChosenCall) (turns leaves : ℕ)
-    → children_design evaluator here (opened children caller) chosen turns leaves
-    ≡ then_with (block_members evaluator (Some chosen) children (inside_scope here (entered_scope children no_call caller)) turns leaves)
-    (λ turns ms. Gives turns (joined_members Union ms))
-children_as_members evaluator here children caller chosen turns leaves =
-    sym (then_then (each_assigned evaluator.evaluations (inside_scope here (entered_scope children no_call caller)) (assignments_of children) turns)
-    (λ turns there. each_member evaluator there (chosen_among (children_in there.env children) chosen) turns leaves)
-    (λ turns ms. Gives turns (joined_members Union ms)))
 
 -- an instance whose mark counts
 pub marked_form : (evaluator : Evaluator) (here : Context) (i : InstanceTerm) (turns leaves : ℕ)
@@ -283,6 +264,6 @@ first_outcome b before start (Err fault) (Ok after) m l out none long h = absurd
 first_outcome b before start (Err fault) (Err stop) m l out none long h =
     subst (λ (s : Stop). HasOutcome member_designs_of (Err s) m l out) (sym long) (record { is = tells fault h.is })
   where
-    tells : (f : Stop) → AgreesWith (one_member_of b) (Err f) m l out → AgreesWith member_designs_of (Err f) m l out
+    tells : (f : Stop) → Tells (one_member_of b l) (Err f) m out → Tells (member_designs_of l) (Err f) m out
     tells (Fault f) t = t
     tells NoMemory t = tt

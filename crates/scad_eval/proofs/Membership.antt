@@ -1,20 +1,17 @@
--- One member more, and one step of a loop more.
-use Rattle.std.proofs.Common.{◌≡◌, ℕ, ◌+◌, ◌<◌, Bool, true, false, nat_lt, not, List, [], ◌∷◌, map, drop, length, get_or, Result, Ok, Err, refl, sym, ap, ◌∙◌, if◌then◌else◌}
+-- One member more.
+use Rattle.std.proofs.Common.{◌≡◌, ℕ, ◌+◌, ◌<◌, Bool, true, false, not, List, ◌∷◌, map, drop, length, get_or, Result, Ok, Err, refl, sym, ap, ◌∙◌, if◌then◌else◌}
 use Rattle.std.proofs.lemmas.List.{at_drop_more}
 use Rattle.text_place.specs.declared.fault.Stop.{Stop}
 use Rattle.text_place.specs.declared.fault.Stop.TheVariants.{Fault, NoMemory}
-use Rattle.text_place.specs.declared.fault.Place.{Place}
-use Rattle.text_place.specs.declared.fault.FaultKind.TheVariants.{TooManyTurns}
 use Rattle.scad_ast.specs.Terms.{InstanceTerm, AnInstance}
-use Rattle.std.specs.Prelude.{Option}
-use Rattle.scad_design.specs.Designs.{Design}
 use Rattle.scad_func.specs.Meaning.{Outcome, Gives, Faults, Env, then_with}
 use Rattle.scad_pieces.specs.declared.position.InstanceResult.{InstanceResult}
 use Rattle.scad_pieces.specs.declared.numbered.NumberedInstance.{NumberedInstance}
 use Rattle.scad_meaning.specs.Bodies.{says_only, is_child}
-use Rattle.scad_meaning.specs.Meaning.{InstanceDesign, MemberDesigns, as_member, and_members, after_step, core_of}
+use Rattle.scad_meaning.specs.Meaning.{InstanceDesign, MemberDesigns, as_member, and_members, core_of}
 use Rattle.scad_pieces.specs.Positions.{term_of_numbered}
-use Rattle.scad_pieces.specs.Seen.{AgreesWith, HasOutcome, instance_design_of, one_member_of, in_front}
+use Rattle.scad_func.specs.View.{Tells}
+use Rattle.scad_pieces.specs.Seen.{HasOutcome, instance_design_of, one_member_of, in_front}
 
 flipped : (b : Bool) → (if b then false else true) ≡ not b
 flipped true = refl
@@ -25,8 +22,8 @@ pub child_is_member : (env : Env) (i : InstanceTerm) → (if says_only env (core
 child_is_member env (AnInstance at marks core) = flipped (says_only env core)
 
 -- an instance's design, as a member
-as_member_agrees : (b : Bool) (r : Result InstanceResult Stop) (m l : ℕ) (out : Outcome InstanceDesign) → AgreesWith instance_design_of r m l out
-    → AgreesWith (one_member_of b) r m l (then_with out (λ turns x. Gives turns (as_member b x)))
+as_member_agrees : (b : Bool) (r : Result InstanceResult Stop) (m l : ℕ) (out : Outcome InstanceDesign) → Tells (instance_design_of l) r m out
+    → Tells (one_member_of b l) r m (then_with out (λ turns x. Gives turns (as_member b x)))
 as_member_agrees b (Ok made) m l out h = ap (λ o. then_with o (λ turns x. Gives turns (as_member b x))) h
 as_member_agrees b (Err (Fault fault)) m l out h = ap (λ o. then_with o (λ turns x. Gives turns (as_member b x))) h
 as_member_agrees b (Err NoMemory) m l out h = tt
@@ -40,25 +37,6 @@ pub member_step : (b : Bool) (out : Outcome InstanceDesign) (go : ℕ → ℕ �
     ≡ then_with (then_with out (λ turns m. Gives turns (as_member b m))) (λ turns ms. in_front ms (go turns ms.leaves))
 member_step b (Gives turns m) go = refl
 member_step b (Faults kind at) go = refl
-
--- a step of a loop counts a turn more, or none
-turned : (at : Place) (b : Bool) (turns : ℕ) (ms : MemberDesigns) (go : ℕ → ℕ → Outcome MemberDesigns)
-    → (if b then then_with (go (turns + 1) ms.leaves) (λ turns more. Gives turns (and_members ms more)) else Faults TooManyTurns at)
-    ≡ then_with (if b then Gives (turns + 1) ms else Faults TooManyTurns at) (λ turns ms. in_front ms (go turns ms.leaves))
-turned at true turns ms go = refl
-turned at false turns ms go = refl
-
-stepped : (at : Place) (turns leaves : ℕ) (designs : List Design) (marked : Option Design) (go : ℕ → ℕ → Outcome MemberDesigns)
-    → after_step at designs turns (λ turns. then_with (go turns leaves) (λ turns more. Gives turns (and_members (record { leaves = leaves; designs = designs; marked = marked }) more)))
-    ≡ then_with (after_step at designs turns (λ turns. Gives turns (record { leaves = leaves; designs = designs; marked = marked }))) (λ turns ms. in_front ms (go turns ms.leaves))
-stepped at turns leaves [] marked go = turned at (nat_lt turns 100000) turns (record { leaves = leaves; designs = []; marked = marked }) go
-stepped at turns leaves (d ∷ ds) marked go = refl
-
-pub loop_step : (at : Place) (out : Outcome MemberDesigns) (go : ℕ → ℕ → Outcome MemberDesigns)
-    → then_with out (λ turns ms. after_step at ms.designs turns (λ turns. then_with (go turns ms.leaves) (λ turns more. Gives turns (and_members ms more))))
-    ≡ then_with (then_with out (λ turns ms. after_step at ms.designs turns (λ turns. Gives turns ms))) (λ turns ms. in_front ms (go turns ms.leaves))
-loop_step at (Gives turns ms) go = stepped at turns ms.leaves ms.designs ms.marked go
-loop_step at (Faults kind place) go = refl
 
 -- the next of some instances, and the end of them
 pub instances_here : (xs : List NumberedInstance) (i : ℕ) (x : NumberedInstance) → i < length xs → x ≡ get_or xs i x

@@ -2,18 +2,12 @@
 use Rattle.std.proofs.Common.{◌≡◌, ℕ, List, ◌++◌, Option, Some, None, Result, Ok, Err, refl, sym, ap, subst, ◌∙◌, append_assoc}
 use Rattle.text_place.specs.declared.fault.Stop.{Stop}
 use Rattle.text_place.specs.declared.fault.Stop.TheVariants.{Fault, NoMemory}
-use Rattle.scad_value.specs.declared.value.Value.{Value}
-use Rattle.std.specs.declared.vec.Vec.{Vec}
-use Rattle.std.specs.declared.alloc.Global.{Global}
-use Rattle.scad_value.specs.Values.{Val, Vals, vals_from}
-use Rattle.scad_value.specs.View.{val_of, vals_in}
 use Rattle.scad_design.specs.Designs.{Design}
-use Rattle.scad_func.specs.Meaning.{Outcome, Gives, Faults, then_with, Arguments}
-use Rattle.scad_func.specs.View.{Tells, TellsAll, TellsArguments, IsNoMemory, arguments_of}
-use Rattle.scad_arguments.specs.declared.parameters.GivenArguments.{GivenArguments}
+use Rattle.scad_func.specs.Meaning.{Outcome, Gives, Faults, then_with}
+use Rattle.scad_func.specs.View.{Tells, IsNoMemory}
 use Rattle.scad_pieces.specs.declared.position.MemberResults.{MemberResults}
 use Rattle.scad_meaning.specs.Meaning.{MemberDesigns, no_members, and_members, first_marked}
-use Rattle.scad_pieces.specs.Seen.{AgreesWith, HasOutcome, member_designs_of, IsLengthened, in_front}
+use Rattle.scad_pieces.specs.Seen.{HasOutcome, member_designs_of, IsLengthened, in_front}
 
 -- what was told of an outcome is told of an equal one
 pub along : {A B : Type 0} {see : ℕ → A → B} {r : Result A Stop} {turns leaves : ℕ} {a b : Outcome B}
@@ -28,7 +22,7 @@ then_outcome {see = see} {x = x} {m = m} {l = l} go h g = along (ap (λ o. then_
 
 -- a step that stops, and what would be behind it
 stops : {A B C D : Type 0} (see : ℕ → A → B) (after : ℕ → C → D) (stop : Stop) (m l n k : ℕ) (out : Outcome B)
-    (go : ℕ → B → Outcome D) → AgreesWith see (Err stop) m l out → AgreesWith after (Err stop) n k (then_with out go)
+    (go : ℕ → B → Outcome D) → Tells (see l) (Err stop) m out → Tells (after k) (Err stop) n (then_with out go)
 stops see after (Fault fault) m l n k out go h = ap (λ o. then_with o go) h
 stops see after NoMemory m l n k out go h = tt
 
@@ -46,42 +40,10 @@ pub only_no_memory : {A B : Type 0} {see : ℕ → A → B} {m l : ℕ} {out : O
 only_no_memory (Fault fault) h = absurd h
 only_no_memory NoMemory h = record { is = tt }
 
--- what an expression tells
-value_agrees : (r : Result Value Stop) (turns leaves : ℕ) (out : Outcome Val) → Tells r turns out → AgreesWith (λ leaves. val_of) r turns leaves out
-value_agrees (Ok v) turns leaves out h = h.0
-value_agrees (Err (Fault fault)) turns leaves out h = h
-value_agrees (Err NoMemory) turns leaves out h = tt
-
-pub value_outcome : (r : Result Value Stop) (turns leaves : ℕ) (out : Outcome Val) → Tells r turns out → HasOutcome (λ leaves. val_of) r turns leaves out
-value_outcome r turns leaves out h = record { is = value_agrees r turns leaves out h }
-
--- what the arguments of a call tell
-arguments_agree : (r : Result (GivenArguments Value) Stop) (turns leaves : ℕ) (out : Outcome Arguments) → TellsArguments r turns out
-    → AgreesWith (λ leaves. arguments_of) r turns leaves out
-arguments_agree (Ok given) turns leaves out h = h.0
-arguments_agree (Err (Fault fault)) turns leaves out h = h
-arguments_agree (Err NoMemory) turns leaves out h = tt
-
-pub arguments_outcome : (r : Result (GivenArguments Value) Stop) (turns leaves : ℕ) (out : Outcome Arguments) → TellsArguments r turns out
-    → HasOutcome (λ leaves. arguments_of) r turns leaves out
-arguments_outcome r turns leaves out h = record { is = arguments_agree r turns leaves out h }
-
--- what the values of parameters tell
-values_agree : (r : Result (Vec Value Global) Stop) (turns leaves : ℕ) (out : Outcome Vals) → TellsAll r turns out
-    → AgreesWith (λ leaves vs. vals_from (vals_in vs.items)) r turns leaves out
-values_agree (Ok vs) turns leaves out h = h.0
-values_agree (Err (Fault fault)) turns leaves out h = h
-values_agree (Err NoMemory) turns leaves out h = tt
-
-pub values_outcome : (r : Result (Vec Value Global) Stop) (turns leaves : ℕ) (out : Outcome Vals) → TellsAll r turns out
-    → HasOutcome (λ leaves vs. vals_from (vals_in vs.items)) r turns leaves out
-values_outcome r turns leaves out h = record { is = values_agree r turns leaves out h }
-
--- one step behind another
-pub then_then : {A B C : Type 0} (out : Outcome A) (f : ℕ → A → Outcome B) (g : ℕ → B → Outcome C)
-    → then_with (then_with out f) g ≡ then_with out (λ turns x. then_with (f turns x) g)
-then_then (Gives turns x) f g = refl
-then_then (Faults kind at) f g = refl
+-- what an evaluation tells, whatever leaves there are
+pub told_outcome : {A B : Type 0} (see : A → B) (r : Result A Stop) (turns leaves : ℕ) (out : Outcome B) → Tells see r turns out
+    → HasOutcome (λ leaves. see) r turns leaves out
+told_outcome see r turns leaves out h = record { is = h }
 
 -- members
 first_of_three : (a b c : Option Design) → first_marked (first_marked a b) c ≡ first_marked a (first_marked b c)
@@ -120,7 +82,7 @@ module _ {A : Type 0} (see : ℕ → A → MemberDesigns) (counts : (leaves : �
       ∙ ap (λ ms. in_front ms (go turns leaves)) (sym (l first leaves))
   lengthened (Err stop) after turns leaves l t = absurd l
 
-  stopped : (f : Stop) (m l n k : ℕ) → AgreesWith see (Err f) m l step → AgreesWith member_designs_of (Err f) n k start
+  stopped : (f : Stop) (m l n k : ℕ) → Tells (see l) (Err f) m step → Tells (member_designs_of k) (Err f) n start
   stopped (Fault fault) m l n k t =
       s ∙ ap (in_front (member_designs_of first before)) (h ∙ ap (λ o. then_with o (λ turns ms. in_front ms (go turns ms.leaves))) t)
   stopped NoMemory m l n k t = tt

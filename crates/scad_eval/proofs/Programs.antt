@@ -16,7 +16,7 @@ use Rattle.scad_blocks.specs.Blocks.{NumberedText, numbered_text}
 use Rattle.scad_func.specs.Meaning.{Outcome, Gives, then_with, Env, Within, Outermost, no_call, entered_scope}
 use Rattle.scad_func.specs.View.{seen, source_text}
 use Rattle.scad_func.specs.Definitions.{statements_at, block_scope, IsWhole}
-use Rattle.scad_func.specs.Evaluations.{ScopeEnters}
+use Rattle.scad_func.specs.Evaluations.{ScopeEnters, scope_here}
 use Rattle.scad_func.specs.declared.source.Source.{Source}
 use Rattle.scad_func.specs.declared.evaluation.Evaluation.{Evaluation}
 use Rattle.scad_design.specs.Designs.{Design}
@@ -27,9 +27,8 @@ use Rattle.scad_pieces.specs.declared.position.Position.{Position}
 use Rattle.scad_pieces.specs.declared.position.MemberResults.{MemberResults}
 use Rattle.scad_eval.specs.declared.evaluator.InstanceEvaluator.{InstanceEvaluator}
 use Rattle.scad_meaning.specs.Verdicts.{Judge, IsRight}
-use Rattle.scad_meaning.specs.Meaning.{Context, evaluator_with, each_in_scope, program_context, or_all, design_of}
+use Rattle.scad_meaning.specs.Meaning.{Context, evaluator_with, each_in_scope, program_context, or_all, design_of, block_members}
 use Rattle.scad_pieces.specs.Seen.{HasOutcome, member_designs_of}
-use Rattle.scad_eval.specs.Steps.{block_members}
 use Rattle.scad_eval.specs.Keeping.{context_at, Meets}
 use Rattle.scad_meaning.specs.Sources.{a_tree, a_fault, IsMeaning, IsMeaningOfDesign, IsMeaningStop, HoldsFault}
 use Rattle.scad_meaning.proofs.ProgramPlaces.{stop_held}
@@ -55,15 +54,15 @@ program_scope source rows program env whole text first is =
 abbrev pub context_of : ℕ → Env → Pairs Val → Context
 context_of calls env chain = record { calls = 64 - calls; env = env; chain = chain; inside = None; under_mark = false }
 
-pub program_begins : {old new : Evaluation} {scope : ℕ} → ScopeEnters old new scope → (program : List StatementTerm)
+pub program_begins : {old new : Evaluation} {before : ℕ} → ScopeEnters old new before → (program : List StatementTerm)
     → IsWhole (source_text old.source.now) → source_text old.source.now ≡ numbered_text program → rows_of old.scopes.now ≡ first_row ∷ []
     → chain_of old.scopes.now ≡ first_chain → old.calls ≡ 0
-    → seen new.source.now (rows_of new.scopes.now) scope ≡ block_scope (source_text old.source.now) 0 no_call (seen old.source.now (rows_of old.scopes.now) 0)
-    → context_of new.calls (seen new.source.now (rows_of new.scopes.now) scope) (chain_of new.scopes.now) ≡ program_context first_chain (statements_from program)
-program_begins {old = old} {new = new} {scope = scope} e program whole text rows chain none is =
-    ap (λ n. context_of n (seen new.source.now (rows_of new.scopes.now) scope) (chain_of new.scopes.now)) (e.calls ∙ none)
+    → scope_here new ≡ block_scope (source_text old.source.now) 0 no_call (seen old.source.now (rows_of old.scopes.now) 0)
+    → context_of new.calls (scope_here new) (chain_of new.scopes.now) ≡ program_context first_chain (statements_from program)
+program_begins {old = old} {new = new} e program whole text rows chain none is =
+    ap (λ n. context_of n (scope_here new) (chain_of new.scopes.now)) (e.calls ∙ none)
     ∙ ap (λ (x : Env). context_of 0 x (chain_of new.scopes.now))
-    (program_scope old.source.now (rows_of old.scopes.now) program (seen new.source.now (rows_of new.scopes.now) scope) whole text rows is)
+    (program_scope old.source.now (rows_of old.scopes.now) program (scope_here new) whole text rows is)
     ∙ ap (λ (c : Pairs Val). context_of 0 (entered_scope (statements_from program) no_call (Within [] [] [] no_call Outermost)) c) (e.chain ∙ chain)
 
 -- the members of the block

@@ -10,7 +10,7 @@ use Rattle.scad_scope.specs.Table.{rows_of, chain_of}
 use Rattle.scad_func.specs.Meaning.{Outcome, Env, one_call_fewer, turn}
 use Rattle.scad_func.specs.View.{seen, source_text}
 use Rattle.scad_func.specs.Definitions.{IsWhole}
-use Rattle.scad_func.specs.Evaluations.{scopes_there, CallBegins, ScopeEnters}
+use Rattle.scad_func.specs.Evaluations.{scopes_there, scope_here, CallBegins, ScopeEnters}
 use Rattle.scad_func.specs.declared.evaluation.Evaluation.{Evaluation}
 use Rattle.scad_meaning.specs.declared.extrusion.Extrusion.{Extrusion}
 use Rattle.scad_pieces.specs.declared.position.Position.{Position}
@@ -31,11 +31,11 @@ evaluator_at m judge = evaluator_with m.unit judge (evaluations_left m)
 abbrev pub env_at : InstanceEvaluator → ℕ → Env
 env_at m scope = seen m.evaluation.source.now (rows_of m.evaluation.scopes.now) scope
 
--- the context of an instance
+-- the context of an instance of the scope in which is evaluated
 abbrev pub context_at : InstanceEvaluator → Position → Context
 context_at m s = record {
   calls = 64 - m.evaluation.calls;
-  env = env_at m s.scope;
+  env = scope_here m.evaluation;
   chain = chain_of m.evaluation.scopes.now;
   inside = s.inside;
   under_mark = s.under_mark;
@@ -50,10 +50,9 @@ abbrev pub IsChecked : LengthUnit → Option Extrusion → Type 0
 IsChecked unit None = Unit {0}
 IsChecked unit (Some through) = IsThrough unit through
 
--- a position whose scope is there, inside an extrusion with nothing wrong or inside none
+-- a position in a whole source, inside an extrusion with nothing wrong or inside none
 pub record IsPosition (m : InstanceEvaluator) (s : Position) : Type 0 where
   pub whole : IsWhole (source_text m.evaluation.source.now)
-  pub scope : s.scope < scopes_there m.evaluation
   pub inside : IsChecked m.unit s.inside
 
 -- all but the turns and the leaves is as before
@@ -75,32 +74,33 @@ pub record CountsCall (old new : InstanceEvaluator) : Type 0 where
   pub few : old.evaluation.turns < 100000
   pub turns : new.evaluation.turns ≡ old.evaluation.turns + 1
 
--- one scope more, which is the newest: all else but the turns is as before
-pub record Enters (old new : InstanceEvaluator) (scope : ℕ) : Type 0 where
+-- one scope more, which is the newest and the one in which is evaluated, where it was another one: all else but the turns
+-- is as before
+pub record Enters (old new : InstanceEvaluator) (before : ℕ) : Type 0 where
   pub unit : new.unit ≡ old.unit
   pub leaves : new.leaves ≡ old.leaves
-  pub evaluation : ScopeEnters old.evaluation new.evaluation scope
+  pub evaluation : ScopeEnters old.evaluation new.evaluation before
 
 -- the newest scope has more variables: all else but the turns and the leaves is as before
-pub record Binds (old new : InstanceEvaluator) (scope : ℕ) : Type 0 where
+pub record Binds (old new : InstanceEvaluator) : Type 0 where
   pub unit : new.unit ≡ old.unit
   pub source : new.evaluation.source.now ≡ old.evaluation.source.now
   pub lent : new.evaluation.scopes.ghost_name ≡ old.evaluation.scopes.ghost_name
   pub stands : new.evaluation.scope ≡ old.evaluation.scope
-  pub front : take scope (rows_of new.evaluation.scopes.now) ≡ take scope (rows_of old.evaluation.scopes.now)
+  pub front : take old.evaluation.scope (rows_of new.evaluation.scopes.now) ≡ take old.evaluation.scope (rows_of old.evaluation.scopes.now)
   pub there : scopes_there new.evaluation ≡ scopes_there old.evaluation
   pub chain : chain_of new.evaluation.scopes.now ≡ chain_of old.evaluation.scopes.now
   pub calls : new.evaluation.calls ≡ old.evaluation.calls
   pub depth : new.evaluation.depth ≡ old.evaluation.depth
 
 -- the newest scope and the chain have more variables: all else but the turns is as before
-pub record Assigns (old new : InstanceEvaluator) (scope : ℕ) : Type 0 where
+pub record Assigns (old new : InstanceEvaluator) : Type 0 where
   pub unit : new.unit ≡ old.unit
   pub leaves : new.leaves ≡ old.leaves
   pub source : new.evaluation.source.now ≡ old.evaluation.source.now
   pub lent : new.evaluation.scopes.ghost_name ≡ old.evaluation.scopes.ghost_name
   pub stands : new.evaluation.scope ≡ old.evaluation.scope
-  pub front : take scope (rows_of new.evaluation.scopes.now) ≡ take scope (rows_of old.evaluation.scopes.now)
+  pub front : take old.evaluation.scope (rows_of new.evaluation.scopes.now) ≡ take old.evaluation.scope (rows_of old.evaluation.scopes.now)
   pub there : scopes_there new.evaluation ≡ scopes_there old.evaluation
   pub newer : Pairs Val
   pub chain : chain_of new.evaluation.scopes.now ≡ newer ++ chain_of old.evaluation.scopes.now

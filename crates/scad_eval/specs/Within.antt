@@ -1,16 +1,12 @@
 -- Bodies with the numbers of their blocks, and calls of modules.
-use Rattle.std.specs.Prelude.{◌≡◌, ℕ, ◌<◌, List, length, IsTrue}
-use Rattle.scad_ast.specs.StatementView.{params_of, body_of}
+use Rattle.std.specs.Prelude.{ℕ, ◌<◌}
+use Rattle.scad_ast.specs.StatementView.{body_of}
 use Rattle.scad_ast.specs.Terms.{BodyTerm}
-use Rattle.scad_value.specs.declared.value.Value.{Value}
-use Rattle.scad_value.specs.View.{vals_in}
-use Rattle.scad_builtin.specs.Builtins.{are_bounded}
 use Rattle.scad_blocks.specs.Blocks.{NumberedText}
 use Rattle.scad_blocks.specs.declared.text.Module.{Module}
-use Rattle.scad_arguments.specs.declared.parameters.GivenArguments.{GivenArguments}
 use Rattle.scad_func.specs.Definitions.{IsBlockOf}
 use Rattle.scad_func.specs.Evaluations.{scopes_there}
-use Rattle.scad_func.specs.View.{source_text, arguments_of, arguments_bounded}
+use Rattle.scad_func.specs.View.{source_text}
 use Rattle.scad_pieces.specs.declared.position.NumberedBody.{NumberedBody}
 use Rattle.scad_pieces.specs.declared.position.Position.{Position}
 use Rattle.scad_eval.specs.declared.evaluator.InstanceEvaluator.{InstanceEvaluator}
@@ -28,19 +24,8 @@ pub record IsBodyAt (m : InstanceEvaluator) (s : Position) (b : NumberedBody) : 
   pub position : IsPosition m s
   pub block : IsInBlock (source_text m.evaluation.source.now) b
 
--- a call at a position: the call's body stands in its block, and the module's in its own, and the scope of the module is there
-pub record IsCallAt (m : InstanceEvaluator) (s : Position) (defined : Module) (home : ℕ) (body : NumberedBody) : Type 0 where
-  pub position : IsPosition m s
+-- a call's body stands in its block, and the module's in its own, and the scope of the module is there
+pub record IsCallAt (m : InstanceEvaluator) (defined : Module) (home : ℕ) (body : NumberedBody) : Type 0 where
   pub block : IsInBlock (source_text m.evaluation.source.now) body
   pub its_block : IsBlockOf (source_text m.evaluation.source.now) defined.block (body_of defined.body.now)
   pub there : home < scopes_there m.evaluation
-
--- what a call gives to a module: something or nothing to each of its parameters, each value bounded
-pub record AreGivenTo (defined : Module) (given : GivenArguments Value) : Type 0 where
-  pub count : length given.slots.items ≡ length (params_of defined.params.now)
-  pub bounded : IsTrue (arguments_bounded (arguments_of given))
-
--- the values of a module's parameters, each bounded
-pub record AreValuesOf (defined : Module) (values : List Value) : Type 0 where
-  pub count : length values ≡ length defined.params.now.items.items
-  pub bounded : IsTrue (are_bounded (vals_in values))

@@ -5,50 +5,46 @@ ghost use Rattle.scad_blocks.specs.Blocks.{assignments_of};
 ghost use Rattle.scad_blocks.specs.TextView.{assigned_of};
 ghost use Rattle.scad_func.specs.Meaning.{Gives, then_with};
 ghost use Rattle.scad_func.specs.View.{source_text};
-ghost use Rattle.scad_func.specs.Definitions.{statements_at};
+ghost use Rattle.scad_func.specs.Definitions.{statements_at, IsWhole};
 ghost use Rattle.scad_func.specs.Evaluations.{scopes_there};
 ghost use Rattle.scad_meaning.specs.Meaning.{assigned_value, assigned, each_assigned};
-ghost use Rattle.scad_eval.specs.Keeping.{context_at, IsPosition, Assigns, Meets};
+ghost use Rattle.scad_pieces.specs.declared.position.Position.{Position};
+ghost use Rattle.scad_eval.specs.Keeping.{context_at, Assigns, Meets};
 
 use crate::evaluator::InstanceEvaluator;
-use scad_pieces::Position;
 use scad_scope::Assignment;
 use text_place::Stop;
 
 impl InstanceEvaluator<'_, '_> {
     /// Gives the names of a block's assignments their values, from the first on.
-    pub(crate) fn assign_all(&mut self, position: Position, block: u32) -> Result<(), Stop>
-        requires position { IsPosition self.old position }
-        requires newest { position.scope + 1 ≡ scopes_there self.old.evaluation }
+    pub(crate) fn assign_all(&mut self, block: u32) -> Result<(), Stop>
+        requires whole { IsWhole (source_text self.old.evaluation.source.now) }
+        requires newest { self.old.evaluation.scope + 1 ≡ scopes_there self.old.evaluation }
         ensures assigned { let statements = statements_at (source_text self.old.evaluation.source.now) block in
-            Meets (λ leaves x. context_at self.new position) self.old self.new position result (λ evaluator here turns leaves. each_assigned evaluator.evaluations here (assignments_of statements) turns) }
-        ensures assigns { OnOk result (Assigns self.old self.new position.scope) }
+            (s : Position) → Meets (λ leaves x. context_at self.new s) self.old self.new s result (λ evaluator here turns leaves. each_assigned evaluator.evaluations here (assignments_of statements) turns) }
+        ensures assigns { OnOk result (Assigns self.old self.new) }
     {
         let assignments = self.evaluation.assignments(block);
         'each: for assignment in assignments {
-            self.assign(position, assignment)?;
+            self.assign(assignment)?;
         }
         Ok(())
     }
 
     // Gives a name its value: its statement is one evaluation deeper, and its expression one more.
-    fn assign(&mut self, position: Position, assignment: &Assignment<'_>) -> Result<(), Stop>
-        requires position { IsPosition self.old position }
-        requires newest { position.scope + 1 ≡ scopes_there self.old.evaluation }
-        ensures assigned { Meets (λ leaves x. context_at self.new position) self.old self.new position result (λ evaluator here turns leaves.
+    fn assign(&mut self, assignment: &Assignment<'_>) -> Result<(), Stop>
+        requires { self.old.evaluation.scope + 1 ≡ scopes_there self.old.evaluation }
+        ensures assigned { (s : Position) → Meets (λ leaves x. context_at self.new s) self.old self.new s result (λ evaluator here turns leaves.
             then_with (assigned_value evaluator.evaluations here (assigned_of assignment.now) turns) (λ turns v. Gives turns (assigned (assigned_of assignment.now) v here))) }
-        ensures assigns { OnOk result (Assigns self.old self.new position.scope) }
+        ensures assigns { OnOk result (Assigns self.old self.new) }
     {
         self.evaluation.begin_evaluation(assignment.place)?;
-        let value = self
-            .evaluation
-            .expression(position.scope, assignment.value)?;
+        let value = self.evaluation.evaluate(assignment.value)?;
         self.evaluation.end_evaluation();
         if assignment.special {
             self.evaluation.bind_special(assignment.name, value)?;
         } else {
-            self.evaluation
-                .bind(position.scope, assignment.name, value)?;
+            self.evaluation.bind(assignment.name, value)?;
         }
         Ok(())
     }

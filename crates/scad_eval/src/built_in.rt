@@ -1,20 +1,19 @@
 //! Calls of built-in modules.
 
-ghost use Rattle.std.specs.Prelude.{IsTrue, OnOk};
+ghost use Rattle.std.specs.Prelude.{OnOk};
 ghost use Rattle.csg_tree.specs.declared.op.Op.TheVariants.{Union};
 ghost use Rattle.primitives.specs.Sizes.{IsSafe};
 ghost use Rattle.scad_ast.specs.ExprView.{args_of};
 ghost use Rattle.scad_func.specs.Meaning.{Gives, then_with};
-ghost use Rattle.scad_func.specs.View.{arguments_of, arguments_bounded};
+ghost use Rattle.scad_func.specs.View.{arguments_of};
 ghost use Rattle.scad_modules.specs.Bounds.{IsSafeCall};
 ghost use Rattle.scad_modules.specs.Effects.{an_extrusion};
 ghost use Rattle.scad_modules.specs.Table.{module_named};
 ghost use Rattle.scad_modules.specs.View.{call_of};
 ghost use Rattle.scad_design.specs.Designs.{moved_by};
-ghost use Rattle.scad_meaning.specs.Meaning.{built_in_design, effect_design, body_design, moved_design};
+ghost use Rattle.scad_meaning.specs.Meaning.{built_in_design, effect_design, body_design, moved_design, built_in_given};
 ghost use Rattle.scad_pieces.specs.Seen.{instance_design_of};
 ghost use Rattle.scad_eval.specs.Keeping.{Stays, Meets};
-ghost use Rattle.scad_eval.specs.Steps.{built_in_given};
 ghost use Rattle.scad_eval.specs.Within.{body_seen, IsBodyAt};
 
 use crate::evaluator::InstanceEvaluator;
@@ -29,7 +28,7 @@ use scad_pieces::{
     InstanceResult, NumberedBody, Position, arguments_for, effect_of, silent, unknown,
 };
 use scad_scope::GivenArguments;
-use scad_value::Value;
+use scad_value::BoundedValue;
 use text_place::{Place, Stop};
 
 impl InstanceEvaluator<'_, '_> {
@@ -51,7 +50,7 @@ impl InstanceEvaluator<'_, '_> {
         match builtin_module(name) {
             None => Err(unknown(name).at(place)),
             Some(built_in) => {
-                let given = arguments_for(&mut self.evaluation, position.scope, built_in, args)?;
+                let given = arguments_for(&mut self.evaluation, built_in, args)?;
                 self.built_in_made(position, place, built_in, given, body)
             }
         }
@@ -64,11 +63,10 @@ impl InstanceEvaluator<'_, '_> {
         position: Position,
         place: Place,
         built_in: BuiltinModule,
-        given: GivenArguments<'_, Value>,
+        given: GivenArguments<'_, BoundedValue>,
         body: NumberedBody<'_>,
     ) -> Result<InstanceResult, Stop>
         requires stands { IsBodyAt self.old position body }
-        requires bounded { IsTrue (arguments_bounded (arguments_of given)) }
         ensures made { Meets instance_design_of self.old self.new position result (λ evaluator.
             built_in_given evaluator place built_in (arguments_of given.entry) (body_seen body.entry)) }
         ensures stays { OnOk result (Stays self.old self.new) }

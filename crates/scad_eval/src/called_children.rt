@@ -4,10 +4,9 @@ ghost use Rattle.std.specs.Prelude.{OnOk};
 ghost use Rattle.scad_func.specs.Meaning.{call_in};
 ghost use Rattle.scad_modules.specs.Bounds.{IsSafeChoice};
 ghost use Rattle.scad_modules.specs.View.{chosen_of};
-ghost use Rattle.scad_meaning.specs.Meaning.{children_design};
+ghost use Rattle.scad_meaning.specs.Meaning.{children_design, chosen_children};
 ghost use Rattle.scad_pieces.specs.Seen.{instance_design_of};
 ghost use Rattle.scad_eval.specs.Keeping.{IsPosition, Stays, Meets};
-ghost use Rattle.scad_eval.specs.Steps.{chosen_children};
 
 use crate::evaluator::InstanceEvaluator;
 use csg_tree::Op;
@@ -43,16 +42,12 @@ impl InstanceEvaluator<'_, '_> {
         ensures made { Meets instance_design_of self.old self.new position result (λ evaluator here. children_design evaluator here (call_in here.env) (chosen_of chosen.now)) }
         ensures stays { OnOk result (Stays self.old self.new) }
     {
-        match self.evaluation.enclosing_call(position.scope) {
+        match self.evaluation.enclosing_call() {
             None => Ok(nothing_made()),
             Some(call) => {
-                let scope = self.evaluation.enter_body(call.caller, call.children)?;
-                let members = self.members_in_scope(
-                    position.at(scope),
-                    call.children,
-                    Some(chosen),
-                )?;
-                self.evaluation.leave(scope);
+                let before = self.evaluation.enter_body(call.caller, call.children)?;
+                let members = self.members_in_scope(position, call.children, Some(chosen))?;
+                self.evaluation.leave(before);
                 Ok(joined(self.evaluation.alloc, Op::Union, members)?)
             }
         }

@@ -1,25 +1,23 @@
 //! Calls of modules of the source.
 
-ghost use Rattle.std.specs.Prelude.{OnOk};
+ghost use Rattle.std.specs.Prelude.{◌≡◌, OnOk, length};
 ghost use Rattle.scad_ast.specs.ExprView.{args_of};
-ghost use Rattle.scad_value.specs.Values.{vals_from};
-ghost use Rattle.scad_value.specs.View.{vals_in};
+ghost use Rattle.scad_ast.specs.StatementView.{params_of};
 ghost use Rattle.scad_blocks.specs.TextView.{module_of};
 ghost use Rattle.scad_func.specs.Meaning.{module_in};
-ghost use Rattle.scad_func.specs.View.{arguments_of};
-ghost use Rattle.scad_meaning.specs.Meaning.{call_design, module_design};
+ghost use Rattle.scad_func.specs.View.{arguments_of, values_seen};
+ghost use Rattle.scad_meaning.specs.Meaning.{call_design, module_design, module_filled, module_given};
 ghost use Rattle.scad_pieces.specs.Seen.{instance_design_of};
-ghost use Rattle.scad_eval.specs.Keeping.{env_at, Stays, Meets};
-ghost use Rattle.scad_eval.specs.Steps.{module_filled, module_given};
-ghost use Rattle.scad_eval.specs.Within.{body_seen, IsBodyAt, IsCallAt, AreGivenTo, AreValuesOf};
+ghost use Rattle.scad_eval.specs.Keeping.{env_at, IsPosition, Stays, Meets};
+ghost use Rattle.scad_eval.specs.Within.{body_seen, IsBodyAt, IsCallAt};
 
 use crate::evaluator::InstanceEvaluator;
 use csg_tree::Op;
 use scad_ast::Args;
-use scad_func::with;
+use scad_func::{BoundedValues, with};
 use scad_pieces::{InstanceResult, NumberedBody, Position, joined};
 use scad_scope::{GivenArguments, Module, Names};
-use scad_value::Value;
+use scad_value::BoundedValue;
 use text_place::{Place, Stop};
 
 impl InstanceEvaluator<'_, '_> {
@@ -38,10 +36,10 @@ impl InstanceEvaluator<'_, '_> {
             call_design evaluator here place name.now (args_of args.now) (body_seen body.entry) (module_in here.env name.now)) }
         ensures stays { OnOk result (Stays self.old self.new) }
     {
-        match self.evaluation.module(position.scope, name) {
+        match self.evaluation.module(name) {
             Some((defined, home)) => {
                 let names = Names::Params(&defined.params.items);
-                let given = self.evaluation.each_argument(position.scope, names, args)?;
+                let given = self.evaluation.arguments(names, args)?;
                 self.module_called(position, place, defined, home, given, body)
             }
             None => self.built_in_called(position, place, name, args, body),
@@ -56,11 +54,12 @@ impl InstanceEvaluator<'_, '_> {
         place: Place,
         defined: Module<'_>,
         home: u32,
-        given: GivenArguments<'_, Value>,
+        given: GivenArguments<'_, BoundedValue>,
         body: NumberedBody<'_>,
     ) -> Result<InstanceResult, Stop>
-        requires called { IsCallAt self.old position defined home body }
-        requires given { AreGivenTo defined given }
+        requires position { IsPosition self.old position }
+        requires called { IsCallAt self.old defined home body }
+        requires given { length given.slots.items ≡ length (params_of defined.params.now) }
         ensures made { Meets instance_design_of self.old self.new position result (λ evaluator here.
             module_design evaluator here place (module_of defined.entry, env_at self.old home) (arguments_of given.entry) (body_seen body.entry)) }
         ensures stays { OnOk result (Stays self.old self.new) }
@@ -79,11 +78,12 @@ impl InstanceEvaluator<'_, '_> {
         position: Position,
         defined: Module<'_>,
         home: u32,
-        given: GivenArguments<'_, Value>,
+        given: GivenArguments<'_, BoundedValue>,
         body: NumberedBody<'_>,
     ) -> Result<InstanceResult, Stop>
-        requires called { IsCallAt self.old position defined home body }
-        requires given { AreGivenTo defined given }
+        requires position { IsPosition self.old position }
+        requires called { IsCallAt self.old defined home body }
+        requires given { length given.slots.items ≡ length (params_of defined.params.now) }
         ensures made { Meets instance_design_of self.old self.new position result (λ evaluator.
             module_given evaluator (module_of defined.entry, env_at self.old home) (arguments_of given.entry) (body_seen body.entry)) }
         ensures stays { OnOk result (Stays self.old self.new) }
@@ -91,7 +91,7 @@ impl InstanceEvaluator<'_, '_> {
         let GivenArguments { slots, specials } = given;
         let begun = self.evaluation.begin_specials(specials);
         let (slots, length) = with(slots, begun)?;
-        let values = self.evaluation.each_parameter(home, defined.params, slots)?;
+        let values = self.evaluation.parameters_in(home, defined.params, slots)?;
         let made = self.module_made(position, defined, home, values, body)?;
         self.evaluation.end_specials(length);
         Ok(made)
@@ -105,17 +105,18 @@ impl InstanceEvaluator<'_, '_> {
         position: Position,
         defined: Module<'_>,
         home: u32,
-        values: Vec<Value>,
+        values: BoundedValues,
         body: NumberedBody<'_>,
     ) -> Result<InstanceResult, Stop>
-        requires called { IsCallAt self.old position defined home body }
-        requires values { AreValuesOf defined values.items }
-        ensures made { Meets instance_design_of self.old self.new position result (λ evaluator. module_filled evaluator (module_of defined.entry, env_at self.old home) (vals_from (vals_in values.items)) (body_seen body.entry)) }
+        requires position { IsPosition self.old position }
+        requires called { IsCallAt self.old defined home body }
+        requires values { length values.items.items ≡ length defined.params.now.items.items }
+        ensures made { Meets instance_design_of self.old self.new position result (λ evaluator. module_filled evaluator (module_of defined.entry, env_at self.old home) (values_seen values) (body_seen body.entry)) }
         ensures stays { OnOk result (Stays self.old self.new) }
     {
-        let opened = self.enter_module(position, defined, home, values, body)?;
-        let members = self.members_in_scope(position.at(opened), defined.block, None)?;
-        self.evaluation.leave(opened);
+        let before = self.enter_module(defined, home, values, body)?;
+        let members = self.members_in_scope(position, defined.block, None)?;
+        self.evaluation.leave(before);
         Ok(joined(self.evaluation.alloc, Op::Union, members)?)
     }
 }

@@ -128,8 +128,8 @@ impl InstanceEvaluator<'_, '_> {
             if truth_of v then body_design evaluator Union here (body_seen body.entry) turns leaves else Gives turns (no_design leaves))) }
         ensures stays { OnOk result (Stays self.old self.new) }
     {
-        let value = self.evaluation.expression(position.scope, test)?;
-        if truth(&value) {
+        let value = self.evaluation.evaluate(test)?;
+        if truth(&value.value) {
             return self.body(Op::Union, position, body);
         }
         Ok(nothing_made())
@@ -150,8 +150,8 @@ impl InstanceEvaluator<'_, '_> {
             body_design evaluator Union here (if truth_of v then body_seen body.entry else body_seen other.entry) turns leaves)) }
         ensures stays { OnOk result (Stays self.old self.new) }
     {
-        let value = self.evaluation.expression(position.scope, test)?;
-        if truth(&value) {
+        let value = self.evaluation.evaluate(test)?;
+        if truth(&value.value) {
             return self.body(Op::Union, position, body);
         }
         self.body(Op::Union, position, other)
@@ -171,7 +171,7 @@ impl InstanceEvaluator<'_, '_> {
     {
         let mut members = no_members(self.evaluation.alloc);
         'each: for instance in instances {
-            let is_member = is_child(&self.evaluation, position.scope, instance.instance);
+            let is_member = is_child(&self.evaluation, instance.instance);
             let next = self.instance(position, *instance);
             members = with_made(members, is_member, next)?;
         }

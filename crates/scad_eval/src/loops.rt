@@ -1,10 +1,9 @@
 //! Loops.
 
-ghost use Rattle.std.specs.Prelude.{[], map, IsTrue, OnOk};
+ghost use Rattle.std.specs.Prelude.{[], map, OnOk};
 ghost use Rattle.csg_tree.specs.declared.op.Op.TheVariants.{Union};
 ghost use Rattle.scad_ast.specs.StatementView.{binder_of, binders_of};
-ghost use Rattle.scad_value.specs.Values.{is_bounded};
-ghost use Rattle.scad_value.specs.View.{val_of};
+ghost use Rattle.scad_value.specs.BoundedView.{bounded_val};
 ghost use Rattle.scad_meaning.specs.Meaning.{loop_design, each_turn, each_step, in_loop};
 ghost use Rattle.scad_pieces.specs.Items.{remaining_in};
 ghost use Rattle.scad_pieces.specs.Seen.{instance_design_of, member_designs_of};
@@ -19,7 +18,7 @@ use scad_pieces::{
     InstanceResult, Items, MemberResults, NumberedBody, Position, joined, no_members, with_made,
     with_members,
 };
-use scad_value::Value;
+use scad_value::BoundedValue;
 use text_place::{FaultKind, Place, Stop};
 
 // The most scopes in one another when a loop enters that of a variable. Instances and calls enter fewer than a third as
@@ -65,7 +64,7 @@ impl InstanceEvaluator<'_, '_> {
         match binders.split_first() {
             None => self.one_turn(position, place, body),
             Some((binder, rest)) => {
-                let value = self.evaluation.expression(position.scope, &binder.values)?;
+                let value = self.evaluation.evaluate(&binder.values)?;
                 match Items::of(value) {
                     Some(items) => {
                         self.each_item(position, place, binder.name.items(), rest, body, items)
@@ -127,11 +126,10 @@ impl InstanceEvaluator<'_, '_> {
         name: &[u8],
         rest: &[Binder],
         body: NumberedBody<'_>,
-        value: Value,
+        value: BoundedValue,
     ) -> Result<MemberResults, Stop>
         requires stands { IsBodyAt self.old position body }
-        requires bounded { IsTrue (is_bounded (val_of value)) }
-        ensures members { Meets member_designs_of self.old self.new position result (λ evaluator. one_step evaluator place name.now (map binder_of rest.now) (body_seen body.entry) (val_of value)) }
+        ensures members { Meets member_designs_of self.old self.new position result (λ evaluator. one_step evaluator place name.now (map binder_of rest.now) (body_seen body.entry) (bounded_val value)) }
         ensures stays { OnOk result (Stays self.old self.new) }
     {
         let members = self.turns_with(position, place, name, rest, body, value)?;
@@ -151,20 +149,19 @@ impl InstanceEvaluator<'_, '_> {
         name: &[u8],
         rest: &[Binder],
         body: NumberedBody<'_>,
-        value: Value,
+        value: BoundedValue,
     ) -> Result<MemberResults, Stop>
         requires stands { IsBodyAt self.old position body }
-        requires bounded { IsTrue (is_bounded (val_of value)) }
-        ensures members { Meets member_designs_of self.old self.new position result (λ evaluator here. each_turn evaluator place (map binder_of rest.now) (body_seen body.entry) (in_loop here name.now (val_of value))) }
+        ensures members { Meets member_designs_of self.old self.new position result (λ evaluator here. each_turn evaluator place (map binder_of rest.now) (body_seen body.entry) (in_loop here name.now (bounded_val value))) }
         ensures stays { OnOk result (Stays self.old self.new) }
     {
-        let scope = self.evaluation.enter_empty(position.scope)?;
-        if scope > SCOPES {
+        let before = self.evaluation.enter_empty()?;
+        if self.evaluation.scope > SCOPES {
             return Err(Stop::NoMemory);
         }
-        self.evaluation.bind(scope, name, value)?;
-        let members = self.turns(position.at(scope), place, rest, body)?;
-        self.evaluation.leave(scope);
+        self.evaluation.bind(name, value)?;
+        let members = self.turns(position, place, rest, body)?;
+        self.evaluation.leave(before);
         Ok(members)
     }
 }

@@ -62,9 +62,8 @@ fn design_of(
         unit,
         leaves: 0,
     };
-    let scope = evaluator.evaluation.enter_body(0, 0)?;
+    evaluator.evaluation.enter_body(0, 0)?;
     let position = Position {
-        scope,
         inside: None,
         under_mark: false,
     };

@@ -4,11 +4,10 @@ ghost use Rattle.std.specs.Prelude.{◌≡◌, ◌+◌, OnOk};
 ghost use Rattle.scad_func.specs.View.{source_text};
 ghost use Rattle.scad_func.specs.Definitions.{statements_at};
 ghost use Rattle.scad_func.specs.Evaluations.{scopes_there};
-ghost use Rattle.scad_meaning.specs.Meaning.{body_design};
+ghost use Rattle.scad_meaning.specs.Meaning.{body_design, block_members};
 ghost use Rattle.scad_pieces.specs.Seen.{instance_design_of, member_designs_of};
 ghost use Rattle.scad_eval.specs.Keeping.{IsPosition, Stays, Binds, Meets};
 ghost use Rattle.scad_pieces.specs.Calls.{chosen_seen, IsSafeChosen};
-ghost use Rattle.scad_eval.specs.Steps.{block_members};
 ghost use Rattle.scad_eval.specs.Within.{body_seen, IsBodyAt};
 
 use crate::evaluator::InstanceEvaluator;
@@ -32,13 +31,14 @@ impl InstanceEvaluator<'_, '_> {
         ensures made { Meets instance_design_of self.old self.new position result (λ evaluator here. body_design evaluator op here (body_seen body.entry)) }
         ensures stays { OnOk result (Stays self.old self.new) }
     {
-        let scope = self.evaluation.enter_body(position.scope, body.block)?;
-        let members = self.members_in_scope(position.at(scope), body.block, None)?;
-        self.evaluation.leave(scope);
+        let outer = self.evaluation.scope;
+        let before = self.evaluation.enter_body(outer, body.block)?;
+        let members = self.members_in_scope(position, body.block, None)?;
+        self.evaluation.leave(before);
         Ok(joined(self.evaluation.alloc, op, members)?)
     }
 
-    /// The members of a block whose scope is the newest one: its assignments, then its instances, or of
+    /// The members of a block in whose scope is evaluated, the newest one: its assignments, then its instances, or of
     /// its children those that are chosen. Its special names are on the chain meanwhile.
     #[cycle(instances)]
     pub(crate) fn members_in_scope(
@@ -48,15 +48,15 @@ impl InstanceEvaluator<'_, '_> {
         chosen: Option<&Chosen>,
     ) -> Result<MemberResults, Stop>
         requires position { IsPosition self.old position }
-        requires newest { position.scope + 1 ≡ scopes_there self.old.evaluation }
+        requires newest { self.old.evaluation.scope + 1 ≡ scopes_there self.old.evaluation }
         requires safe { IsSafeChosen chosen }
         ensures members { let statements = statements_at (source_text self.old.evaluation.source.now) block in
             Meets member_designs_of self.old self.new position result (λ evaluator. block_members evaluator (chosen_seen chosen.entry) statements) }
-        ensures binds { OnOk result (Binds self.old self.new position.scope) }
+        ensures binds { OnOk result (Binds self.old self.new) }
     {
         let length = self.evaluation.chain_length()?;
-        self.assign_all(position, block)?;
-        let instances = chosen_instances(&self.evaluation, position.scope, block, chosen)?;
+        self.assign_all(block)?;
+        let instances = chosen_instances(&self.evaluation, block, chosen)?;
         let members = self.members(position, &instances)?;
         self.evaluation.end_specials(length);
         Ok(members)

@@ -10,7 +10,6 @@ use Rattle.scad_value.specs.View.{val_of, vals_in}
 use Rattle.scad_value.specs.declared.bounded_value.BoundedValue.{BoundedValue}
 use Rattle.scad_value.specs.BoundedView.{bounded_val}
 use Rattle.scad_ast.specs.Terms.{ArgTerms, ArgTerm}
-use Rattle.std.proofs.lemmas.Bool.{and_parts, and_from}
 use Rattle.scad_arguments.specs.Arguments.{positional_after, Taker, to_parameter, to_special, taker_of, with_argument}
 use Rattle.scad_func.specs.Meaning.{Outcome, Gives, Faults, Setting, value_at, then_with, Arguments, each_argument}
 use Rattle.text_place.specs.declared.fault.Place.{Place}
@@ -18,7 +17,7 @@ use Rattle.text_place.specs.declared.fault.FaultKind.TheVariants.{BadArgument}
 use Rattle.scad_arguments.specs.ArgumentsView.{IsFaultAt}
 use Rattle.scad_func.specs.Steps.{argument_of}
 use Rattle.scad_func.specs.declared.values.BoundedValues.{BoundedValues}
-use Rattle.scad_func.specs.View.{Tells, TellsAs, TellsArguments, IsOneMore, values_seen, arguments_of, arguments_bounded}
+use Rattle.scad_func.specs.View.{Tells, IsOneMore, values_seen, arguments_of}
 use Rattle.scad_answer.specs.View.{IsAlone}
 use Rattle.scad_func.proofs.GivenSeen.{IsHeld}
 use Rattle.scad_arguments.specs.declared.parameters.GivenArguments.{GivenArguments}
@@ -27,7 +26,7 @@ use Rattle.scad_func.specs.declared.evaluation.Evaluation.{Evaluation}
 use Rattle.scad_func.specs.Evaluations.{Keeps, EvaluatesTo, setting_here}
 use Rattle.scad_func.proofs.Kept.{moved}
 use Rattle.scad_func.proofs.Outcomes.{tells_along, front_more, and_arg}
-use Rattle.scad_func.proofs.Steps.{argument_more, argument_fault, bounded_set}
+use Rattle.scad_func.proofs.Steps.{argument_more, argument_fault}
 
 abbrev pub and_then : Outcome Val → (ℕ → Outcome Vals) → Outcome Vals
 and_then step go = then_with step (λ turns v. then_with (go turns) (λ turns vs. Gives turns (and_val v vs)))
@@ -35,7 +34,7 @@ and_then step go = then_with step (λ turns v. then_with (go turns) (λ turns vs
 module _ (start : Outcome Vals) (before : BoundedValues) (now : Outcome Vals) (step : Outcome Val)
     (go : ℕ → Outcome Vals) (s : start ≡ in_front (vals_in before.items.items) now) (h : now ≡ and_then step go) where
   longer_told : (r : Result BoundedValue Stop) (longer : BoundedValues) (then : ℕ) → IsOneMore before r (Ok longer)
-      → TellsAs bounded_val r then step → start ≡ in_front (vals_in longer.items.items) (go then)
+      → Tells bounded_val r then step → start ≡ in_front (vals_in longer.items.items) (go then)
   longer_told (Ok v) longer then l t =
       s ∙ ap (in_front (vals_in before.items.items)) h
       ∙ ap (λ o. in_front (vals_in before.items.items) (and_then o go)) t
@@ -43,23 +42,23 @@ module _ (start : Outcome Vals) (before : BoundedValues) (now : Outcome Vals) (s
       ∙ ap (λ vs. in_front vs (go then)) (sym (ap vals_in l ∙ map-append val_of before.items.items (v.value ∷ [])))
   longer_told (Err stop) longer then l t = absurd l
 
-  fault_told : (f : Stop) (m n : ℕ) → TellsAs bounded_val (Err f) m step → TellsAs values_seen (Err f) n start
+  fault_told : (f : Stop) (m n : ℕ) → Tells bounded_val (Err f) m step → Tells values_seen (Err f) n start
   fault_told (Fault fault) m n t =
       s ∙ ap (in_front (vals_in before.items.items)) h ∙ ap (λ o. in_front (vals_in before.items.items) (and_then o go)) t
   fault_told NoMemory m n t = tt
 
   longer_fault : (r : Result BoundedValue Stop) (stop : Stop) (m n : ℕ) → IsOneMore before r (Err stop)
-      → TellsAs bounded_val r m step → TellsAs values_seen (Err stop) n start
-  longer_fault (Ok v) stop m n l t = subst (λ (x : Stop). TellsAs values_seen (Err x) n start) (sym l) tt
+      → Tells bounded_val r m step → Tells values_seen (Err stop) n start
+  longer_fault (Ok v) stop m n l t = subst (λ (x : Stop). Tells values_seen (Err x) n start) (sym l) tt
   longer_fault (Err f) stop m n l t =
-      subst (λ (x : Stop). TellsAs values_seen (Err x) n start) (sym l) (fault_told f m n t)
+      subst (λ (x : Stop). Tells values_seen (Err x) n start) (sym l) (fault_told f m n t)
 
 -- one item more behind values so far, or its stop: the item gives what `step` says, and those behind it go on by `go`
 module _ (first now : Evaluation) (kept : Keeps first now) (before : BoundedValues) (start out : Outcome Vals)
     (step : Setting → ℕ → Outcome Val) (go : ℕ → Outcome Vals) (s : start ≡ in_front (vals_in before.items.items) out)
     (h : out ≡ and_then (step (setting_here first) now.turns) go) where
   told_here : (new : Evaluation) (r : Result BoundedValue Stop) → EvaluatesTo bounded_val now new r step
-      → TellsAs bounded_val r new.turns (step (setting_here first) now.turns)
+      → Tells bounded_val r new.turns (step (setting_here first) now.turns)
   told_here new r e = tells_along r new.turns _ _ (moved (λ here. step here now.turns) kept) e.value
 
   pub item_told : (new : Evaluation) (r : Result BoundedValue Stop) (longer : BoundedValues) → IsOneMore before r (Ok longer)
@@ -68,29 +67,28 @@ module _ (first now : Evaluation) (kept : Keeps first now) (before : BoundedValu
       longer_told start before out (step (setting_here first) now.turns) go s h r longer new.turns l (told_here new r e)
 
   pub item_stops : (new : Evaluation) (r : Result BoundedValue Stop) (stop : Stop) (n : ℕ) → IsOneMore before r (Err stop)
-      → EvaluatesTo bounded_val now new r step → TellsAs values_seen (Err stop) n start
+      → EvaluatesTo bounded_val now new r step → Tells values_seen (Err stop) n start
   item_stops new r stop n l e =
       longer_fault start before out (step (setting_here first) now.turns) go s h r stop new.turns n l (told_here new r e)
 
--- a value that was told is bounded
-pub told_bounded : (r : Result Value Stop) (turns : ℕ) (out : Outcome Val) → Tells r turns out → IfOk r (λ v. IsTrue (is_bounded (val_of v)))
-told_bounded (Ok v) turns out h = h.1
-told_bounded (Err stop) turns out h = tt
-
--- a value alone is told as its type tells it
+-- a value alone is told as its type tells it, and it is bounded
 pub alone_tells : (r : Result BoundedValue Stop) (alone : Result Value Stop) (turns : ℕ) (out : Outcome Val)
-    → IsAlone r alone → TellsAs bounded_val r turns out → Tells alone turns out
-alone_tells (Ok bounded) (Ok v) turns out e h = (
-  h ∙ ap (λ (x : Value). Gives turns (val_of x)) (sym e),
-  subst (λ (x : Value). IsTrue (is_bounded (val_of x))) (sym e) bounded.bounded,
-)
+    → IsAlone r alone → Tells bounded_val r turns out → Tells val_of alone turns out
+alone_tells (Ok bounded) (Ok v) turns out e h = h ∙ ap (λ (x : Value). Gives turns (val_of x)) (sym e)
 alone_tells (Ok bounded) (Err stop) turns out e h = absurd e
 alone_tells (Err fault) (Ok v) turns out e h = absurd e
 alone_tells (Err fault) (Err stop) turns out e h = stopped fault stop e h
   where
-    stopped : (fault stop : Stop) → stop ≡ fault → TellsAs bounded_val (Err fault) turns out → Tells (Err stop) turns out
-    stopped (Fault fault) stop e h = subst (λ (x : Stop). Tells (Err x) turns out) (sym e) h
-    stopped NoMemory stop e h = subst (λ (x : Stop). Tells (Err x) turns out) (sym e) tt
+    stopped : (fault stop : Stop) → stop ≡ fault → Tells bounded_val (Err fault) turns out → Tells val_of (Err stop) turns out
+    stopped (Fault fault) stop e h = subst (λ (x : Stop). Tells val_of (Err x) turns out) (sym e) h
+    stopped NoMemory stop e h = subst (λ (x : Stop). Tells val_of (Err x) turns out) (sym e) tt
+
+pub alone_bounded : (r : Result BoundedValue Stop) (alone : Result Value Stop) → IsAlone r alone
+    → IfOk alone (λ v. IsTrue (is_bounded (val_of v)))
+alone_bounded (Ok bounded) (Ok v) e = subst (λ (x : Value). IsTrue (is_bounded (val_of x))) (sym e) bounded.bounded
+alone_bounded (Ok bounded) (Err stop) e = absurd e
+alone_bounded (Err fault) (Ok v) e = absurd e
+alone_bounded (Err fault) (Err stop) e = tt
 
 -- what is said of any error, said of this one
 pub if_err_at : {A E : Type 0} (P : E → Type 0) (r : Result A E) (e : E) → r ≡ Err e → IfErr r P → P e
@@ -108,54 +106,40 @@ longer_length before (Err stop) longer l = absurd l
 pub argument_held : (here : Setting) (names : List (List ℕ)) (positional : ℕ) (start : Outcome Arguments) (args : ArgTerms)
     (before : Arguments) (turns : ℕ)
     → start ≡ each_argument here names positional args before turns
-    → (a : ArgTerm) (rest : ArgTerms) (taker : Taker) (then p : ℕ) (r : Result Value Stop) (after : GivenArguments Value)
+    → (a : ArgTerm) (rest : ArgTerms) (taker : Taker) (then p : ℕ) (r : Result BoundedValue Stop) (after : GivenArguments BoundedValue)
     → args ≡ and_arg a rest → taker_of names positional before a ≡ Some taker
-    → Tells r then (value_at here true (argument_of a) turns) → IsHeld before taker r (Ok after)
+    → Tells bounded_val r then (value_at here true (argument_of a) turns) → IsHeld before taker r (Ok after)
     → p ≡ positional_after positional a → start ≡ each_argument here names p rest (arguments_of after) then
 argument_held here names positional start args before turns b a rest taker then p (Ok v) after e f t g q =
-    argument_more here names positional start args before turns b a rest taker then (val_of v) p
-    (arguments_of after) e f t.0 q g
+    argument_more here names positional start args before turns b a rest taker then (bounded_val v) p
+    (arguments_of after) e f t q g
 argument_held here names positional start args before turns b a rest taker then p (Err stop) after e f t g q = absurd g
 
 pub argument_stops : (here : Setting) (names : List (List ℕ)) (positional : ℕ) (start : Outcome Arguments) (args : ArgTerms)
     (before : Arguments) (turns : ℕ)
     → start ≡ each_argument here names positional args before turns
-    → (a : ArgTerm) (rest : ArgTerms) (taker : Taker) (m n : ℕ) (r : Result Value Stop) (stop : Stop)
+    → (a : ArgTerm) (rest : ArgTerms) (taker : Taker) (m n : ℕ) (r : Result BoundedValue Stop) (stop : Stop)
     → args ≡ and_arg a rest → taker_of names positional before a ≡ Some taker
-    → Tells r m (value_at here true (argument_of a) turns) → IsHeld before taker r (Err stop)
-    → TellsArguments (Err stop) n start
+    → Tells bounded_val r m (value_at here true (argument_of a) turns) → IsHeld before taker r (Err stop)
+    → Tells arguments_of (Err stop) n start
 argument_stops here names positional start args before turns b a rest taker m n (Ok v) stop e f t g =
-    subst (λ (x : Stop). TellsArguments (Err x) n start) (sym g) tt
+    subst (λ (x : Stop). Tells arguments_of (Err x) n start) (sym g) tt
 argument_stops here names positional start args before turns b a rest taker m n (Err fault) stop e f t g =
-    subst (λ (x : Stop). TellsArguments (Err x) n start) (sym g)
+    subst (λ (x : Stop). Tells arguments_of (Err x) n start) (sym g)
     (argument_fault here names positional start args before turns b a rest taker m n fault e f t)
 
 -- an argument that nothing takes
 pub argument_refused : (stop : Stop) (n : ℕ) (at : Place) (out : Outcome Arguments) → out ≡ Faults BadArgument at
-    → IsFaultAt stop BadArgument at → TellsArguments (Err stop) n out
+    → IsFaultAt stop BadArgument at → Tells arguments_of (Err stop) n out
 argument_refused (Fault fault) n at out e h = e ∙ ap (λ k. Faults k at) (sym h.0) ∙ ap (Faults fault.kind) (sym h.1)
 argument_refused NoMemory n at out e h = absurd h
-
-taker_bounded : (given : Arguments) (taker : Taker) (v : Val) → IsTrue (arguments_bounded given) → IsTrue (is_bounded v)
-    → IsTrue (arguments_bounded (with_argument given taker v))
-taker_bounded given (to_parameter k) v h b =
-    let p = and_parts _ _ h in and_from _ _ (bounded_set given.slots k v p.0 b) p.1
-taker_bounded given (to_special name) v h b =
-    let p = and_parts _ _ h in and_from _ _ p.0 (and_from _ _ b p.1)
-
-pub argument_held_bounded : (before : Arguments) (taker : Taker) (r : Result Value Stop)
-    (after : GivenArguments Value) → IsHeld before taker r (Ok after) → IsTrue (arguments_bounded before)
-    → IfOk r (λ v. IsTrue (is_bounded (val_of v))) → IsTrue (arguments_bounded (arguments_of after))
-argument_held_bounded before taker (Ok v) after g h b =
-    subst (λ given. IsTrue (arguments_bounded given)) (sym g) (taker_bounded before taker (val_of v) h b)
-argument_held_bounded before taker (Err stop) after g h b = absurd g
 
 taker_length : (given : Arguments) (taker : Taker) (v : Val) → length (with_argument given taker v).slots ≡ length given.slots
 taker_length given (to_parameter k) v = length-set given.slots k (Some v)
 taker_length given (to_special name) v = refl
 
-pub argument_held_length : (before : Arguments) (taker : Taker) (r : Result Value Stop)
-    (after : GivenArguments Value) → IsHeld before taker r (Ok after)
+pub argument_held_length : (before : Arguments) (taker : Taker) (r : Result BoundedValue Stop)
+    (after : GivenArguments BoundedValue) → IsHeld before taker r (Ok after)
     → length (arguments_of after).slots ≡ length before.slots
-argument_held_length before taker (Ok v) after g = ap (λ (given : Arguments). length given.slots) g ∙ taker_length before taker (val_of v)
+argument_held_length before taker (Ok v) after g = ap (λ (given : Arguments). length given.slots) g ∙ taker_length before taker (bounded_val v)
 argument_held_length before taker (Err stop) after g = absurd g

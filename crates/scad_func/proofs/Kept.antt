@@ -14,7 +14,7 @@ use Rattle.scad_blocks.specs.Blocks.{Function}
 use Rattle.scad_func.specs.Meaning.{Outcome, Setting, answered, evaluated, each_argument, function_called, called, function_in, then_with}
 use Rattle.scad_func.specs.declared.source.Source.{Source}
 use Rattle.scad_func.specs.declared.evaluation.Evaluation.{Evaluation}
-use Rattle.scad_func.specs.View.{TellsAs, deepest, seen}
+use Rattle.scad_func.specs.View.{Tells, deepest, seen}
 use Rattle.scad_answer.specs.View.{TellsAnswer}
 use Rattle.scad_func.specs.Evaluations.{Keeps, EvaluatesTo, setting, setting_here, work_left}
 use Rattle.scad_func.proofs.Outcomes.{fault_goes, value_goes, tells_answer}
@@ -101,7 +101,7 @@ module _ {A B C D : Type 0} (see : A → B) (all : C → D) (first : Setting →
   goes old mid new x r e f = record {
     value = value_goes see all (first (setting_here old) old.turns) (go (setting_here old)) r
         new.turns mid.turns (see x) e.value
-        (subst (λ here. TellsAs all r new.turns (go here mid.turns (see x))) e.kept.here f.value);
+        (subst (λ here. Tells all r new.turns (go here mid.turns (see x))) e.kept.here f.value);
     kept = keeps_trans e.kept f.kept;
   }
 

@@ -1,16 +1,10 @@
 -- Where an evaluation stands, and what it keeps.
-use Rattle.std.specs.Prelude.{◌≡◌, ℕ, ◌+◌, ◌-◌, ◌*◌, ◌<◌, ◌≤◌, length, take, Result, List, Option, IsTrue}
+use Rattle.std.specs.Prelude.{◌≡◌, ℕ, ◌+◌, ◌-◌, ◌*◌, ◌<◌, length, take, Result}
 use Rattle.scad_scope.specs.Names.{NumberedEnv, env_of, oldest}
 use Rattle.scad_scope.specs.Table.{rows_of, chain_of}
 use Rattle.text_place.specs.declared.fault.Stop.{Stop}
-use Rattle.scad_value.specs.declared.value.Value.{Value}
-use Rattle.scad_value.specs.View.{vals_in}
-use Rattle.scad_ast.specs.declared.statement.Param.{Param}
-use Rattle.scad_builtin.specs.Builtins.{are_bounded}
-use Rattle.scad_arguments.specs.declared.parameters.GivenArguments.{GivenArguments}
-use Rattle.scad_blocks.specs.declared.text.Function.{Function as FunctionLent}
-use Rattle.scad_func.specs.Meaning.{Outcome, Setting, evaluated}
-use Rattle.scad_func.specs.View.{TellsAs, seen, deepest, function_size, slots_in, slots_bounded, arguments_of, arguments_bounded}
+use Rattle.scad_func.specs.Meaning.{Outcome, Env, Setting, evaluated}
+use Rattle.scad_func.specs.View.{Tells, seen, deepest}
 use Rattle.scad_func.specs.declared.source.Source.{Source}
 use Rattle.scad_func.specs.declared.evaluation.Evaluation.{Evaluation}
 
@@ -27,10 +21,15 @@ setting e scope = record {
   chain = chain_of e.scopes.now;
 }
 
--- the scope in which is evaluated, with all that it stands in, and where an expression of it stands
+-- the scope in which is evaluated, with all that it stands in
 abbrev pub env_here : Evaluation → NumberedEnv
 env_here e = env_of (rows_of e.scopes.now) e.scope
 
+-- the same scope, with what its numbers stand for
+abbrev pub scope_here : Evaluation → Env
+scope_here e = seen e.source.now (rows_of e.scopes.now) e.scope
+
+-- where an expression of the scope in which is evaluated stands
 abbrev pub setting_here : Evaluation → Setting
 setting_here e = setting e e.scope
 
@@ -57,7 +56,7 @@ pub record Keeps (old new : Evaluation) : Type 0 where
 -- before, after a stop too.
 pub record EvaluatesTo {A B : Type 0} (see : A → B) (old new : Evaluation) (result : Result A Stop)
     (meaning : Setting → ℕ → Outcome B) : Type 0 where
-  pub value : TellsAs see result new.turns (meaning (setting_here old) old.turns)
+  pub value : Tells see result new.turns (meaning (setting_here old) old.turns)
   pub kept : Keeps old new
 
 -- all but the scopes, the chain and the turns is as before
@@ -90,14 +89,15 @@ pub record EvaluationBegins (old new : Evaluation) : Type 0 where
   pub depth : new.depth ≡ old.depth + 1
   pub within : old.depth < 512
 
--- one scope more, which is the newest: all else but the turns is as before
-pub record ScopeEnters (old new : Evaluation) (scope : ℕ) : Type 0 where
+-- one scope more, which is the newest and the one in which is evaluated, where it was another one: all else but the turns
+-- is as before
+pub record ScopeEnters (old new : Evaluation) (before : ℕ) : Type 0 where
   pub source : new.source.now ≡ old.source.now
   pub lent : new.scopes.ghost_name ≡ old.scopes.ghost_name
-  pub stands : new.scope ≡ old.scope
-  pub front : take scope (rows_of new.scopes.now) ≡ rows_of old.scopes.now
-  pub number : scope ≡ scopes_there old
-  pub there : scopes_there new ≡ scope + 1
+  pub from : before ≡ old.scope
+  pub front : take new.scope (rows_of new.scopes.now) ≡ rows_of old.scopes.now
+  pub number : new.scope ≡ scopes_there old
+  pub there : scopes_there new ≡ new.scope + 1
   pub chain : chain_of new.scopes.now ≡ chain_of old.scopes.now
   pub calls : new.calls ≡ old.calls
   pub depth : new.depth ≡ old.depth
@@ -114,30 +114,10 @@ pub record SpecialsBegin (old new : Evaluation) (count : ℕ) : Type 0 where
   pub depth : new.depth ≡ old.depth
 
 -- a binding in the newest scope: all else is as before, and where the scope was entered it still is
-pub record BindsIn (old new : Evaluation) (scope : ℕ) : Type 0 where
+pub record BindsIn (old new : Evaluation) : Type 0 where
   pub same : SameSetting old new
-  pub front : take scope (rows_of new.scopes.now) ≡ take scope (rows_of old.scopes.now)
+  pub front : take old.scope (rows_of new.scopes.now) ≡ take old.scope (rows_of old.scopes.now)
   pub there : scopes_there new ≡ scopes_there old
   pub chain : chain_of new.scopes.now ≡ chain_of old.scopes.now
   pub turns : new.turns ≡ old.turns
-  pub entered : (first : Evaluation) → ScopeEnters first old scope → ScopeEnters first new scope
-
--- one slot for each parameter, each value in them bounded
-pub record SlotsFit (params : List Param) (slots : List (Option Value)) : Type 0 where
-  pub count : length slots ≡ length params
-  pub bounded : IsTrue (slots_bounded (slots_in slots))
-
--- one value for each parameter, each of them bounded
-pub record ValuesFit (params : List Param) (values : List Value) : Type 0 where
-  pub count : length values ≡ length params
-  pub bounded : IsTrue (are_bounded (vals_in values))
-
--- arguments that fit a function's parameters, each value of them bounded
-pub record ArgumentsFit (function : FunctionLent) (given : GivenArguments Value) : Type 0 where
-  pub count : length given.slots.items ≡ length function.params.now.items.items
-  pub bounded : IsTrue (arguments_bounded (arguments_of given))
-
--- a call of a function that is no deeper than the source's deepest, with arguments that fit it
-pub record CallFits (source : Source) (function : FunctionLent) (given : GivenArguments Value) : Type 0 where
-  pub within : function_size function ≤ deepest source.blocks.functions.items
-  pub arguments : ArgumentsFit function given
+  pub entered : (first : Evaluation) (before : ℕ) → ScopeEnters first old before → ScopeEnters first new before

@@ -1,31 +1,30 @@
-ghost use Rattle.std.specs.Prelude.{◌≡◌, ◌<◌, ◌≤◌, ℕ, length, IsTrue, IfOk, IfErr, OnOk, Err, ◌++◌, if◌then◌else◌};
+ghost use Rattle.std.specs.Prelude.{◌≡◌, ◌<◌, ◌≤◌, ℕ, length, IfOk, IfErr, OnOk, Err, ◌++◌, if◌then◌else◌};
 ghost use Rattle.text_place.specs.declared.fault.FaultKind.TheVariants.{UnknownFunction, NotInProfile};
 ghost use Rattle.scad_ast.specs.ExprView.{term_of, arg_of, args_of};
 ghost use Rattle.scad_ast.specs.declared.expression.Expr.{size-Expr};
 ghost use Rattle.scad_ast.specs.declared.expression.Arg.{size-Arg};
 ghost use Rattle.scad_ast.specs.Terms.{args_from};
-ghost use Rattle.scad_scope.specs.Names.{have_bounded, oldest};
+ghost use Rattle.scad_scope.specs.Names.{oldest};
 ghost use Rattle.scad_scope.specs.Table.{rows_of, chain_of};
 ghost use Rattle.scad_builtin.specs.Builtins.{applied, builtin_of, is_left_out as left_out};
 ghost use Rattle.scad_func.specs.Meaning.{Setting, then_with, answered, each_value, built_in};
 ghost use Rattle.scad_func.specs.Steps.{have_no_names as no_names, is_named, all_values, argument_of};
 ghost use Rattle.scad_value.specs.BoundedView.{bounded_val};
-ghost use Rattle.scad_func.specs.View.{TellsAs, IsNoMemory, specials_in};
+ghost use Rattle.scad_func.specs.View.{Tells, IsNoMemory, specials_in};
 
 use scad_ast::{Arg, Args, Expr};
 use scad_builtin::{Builtin, builtin, is_left_out};
 use scad_scope::{Scopes, SpecialArgument};
-use scad_value::Value;
+use scad_value::BoundedValue;
 use std::alloc::Global;
 use text_place::{FaultKind, Place, Stop};
 
-/// Gives special names their values, from the first on. `NoMemory` leaves some of them with the older ones as they were.
+// Gives special names their values, from the first on. `NoMemory` leaves some of them with the older ones as they were.
 pub(crate) fn bind_specials(
     alloc: Global,
     scopes: &mut Scopes,
-    specials: Vec<SpecialArgument<'_, Value>>,
+    specials: Vec<SpecialArgument<'_, BoundedValue>>,
 ) -> Result<(), Stop>
-    requires { IsTrue (have_bounded (specials_in specials.items)) }
     ensures bound { OnOk result (chain_of scopes.new ≡ specials_in specials.entry.items ++ chain_of scopes.old) }
     ensures stop { IfErr result IsNoMemory }
     ensures longer { length (chain_of scopes.old) ≤ length (chain_of scopes.new) }
@@ -35,7 +34,7 @@ pub(crate) fn bind_specials(
     let mut left = specials.into_iter();
     'each: while let Some(special) = left.next() {
         if scopes
-            .bind_special(alloc, special.name, special.value)
+            .bind_special(alloc, special.name, special.value.value)
             .is_err()
         {
             return Err(Stop::NoMemory);
@@ -65,7 +64,7 @@ fn has_name(arg: &Arg) -> bool
     }
 }
 
-/// The value of an argument, as an expression.
+// The value of an argument, as an expression.
 pub(crate) fn argument_value(arg: &Arg) -> &Expr
     ensures value { term_of result.now ≡ argument_of (arg_of arg.now) }
     ensures smaller { size-Expr result.now < size-Arg arg.now }
@@ -76,11 +75,11 @@ pub(crate) fn argument_value(arg: &Arg) -> &Expr
     }
 }
 
-/// The built-in function of a call, whose faults stand at its name.
+// The built-in function of a call, whose faults stand at its name.
 pub(crate) fn built_in_for(name: &[u8], place: Place, args: &Args) -> Result<Builtin, Stop>
     ensures called { IfOk result (λ f. (here : Setting) (turns : ℕ) → built_in here place name.now (args_from (args_of args.now)) turns (builtin_of name.now)
         ≡ then_with (each_value here (all_values (args_from (args_of args.now))) turns) (λ turns vs. answered (applied f vs) place turns)) }
-    ensures refused { IfErr result (λ stop. (here : Setting) (turns n : ℕ) → TellsAs bounded_val (Err stop) n (built_in here place name.now (args_from (args_of args.now)) turns (builtin_of name.now))) }
+    ensures refused { IfErr result (λ stop. (here : Setting) (turns n : ℕ) → Tells bounded_val (Err stop) n (built_in here place name.now (args_from (args_of args.now)) turns (builtin_of name.now))) }
 {
     let Some(function) = builtin(name) else {
         return Err(unknown(name).at(place));

@@ -1,10 +1,9 @@
-ghost use Rattle.std.specs.Prelude.{◌≡◌, ◌-◌, ◌<◌, ◌≤◌, ℕ, IsTrue, [], IfOk, IfErr, OnOk, Ok, Err, None, length, true, false, replicate, if◌then◌else◌};
+ghost use Rattle.std.specs.Prelude.{◌≡◌, ◌-◌, ◌<◌, ◌≤◌, ℕ, [], IfOk, IfErr, OnOk, Ok, Err, None, length, true, false, replicate, if◌then◌else◌};
 ghost use Rattle.scad_ast.specs.Terms.{terms_from, args_from, suffixes_from, links_from};
 ghost use Rattle.scad_ast.specs.ExprView.{term_of, terms_of, args_of, suffix_of, suffixes_of, link_of, links_of};
 ghost use Rattle.scad_ast.specs.StatementView.{param_of, params_of};
-ghost use Rattle.scad_value.specs.Values.{Val, ListVal, vals_from, truth_of};
+ghost use Rattle.scad_value.specs.Values.{Val, ListVal, truth_of};
 ghost use Rattle.scad_value.specs.Operators.{made, unary_of};
-ghost use Rattle.scad_value.specs.View.{vals_in};
 ghost use Rattle.scad_value.specs.BoundedView.{bounded_val};
 ghost use Rattle.scad_arguments.specs.Arguments.{nothing_given};
 ghost use Rattle.scad_arguments.specs.ArgumentsView.{names_in};
@@ -12,8 +11,8 @@ ghost use Rattle.scad_func.specs.Meaning.{Outcome, Gives, one_call_fewer, turn, 
 ghost use Rattle.scad_answer.specs.Answers.{range_of, stepped_range_of};
 ghost use Rattle.scad_func.specs.Steps.{all_values, suffixed, linked, with_parameters};
 ghost use Rattle.scad_blocks.specs.TextView.{function_of};
-ghost use Rattle.scad_func.specs.View.{Tells, TellsAs, TellsAll, TellsArguments, values_seen, indexed_val, IsThere, slot_of, slots_in, slots_bounded, slot_is_bounded, arguments_of};
-ghost use Rattle.scad_func.specs.Evaluations.{Keeps, EvaluatesTo, SlotsFit, ValuesFit, ArgumentsFit, CallFits, scopes_there, setting, env_here, setting_here};
+ghost use Rattle.scad_func.specs.View.{Tells, values_seen, indexed_val, IsThere, slot_of, slots_in, arguments_of, function_size, deepest};
+ghost use Rattle.scad_func.specs.Evaluations.{Keeps, EvaluatesTo, scopes_there, setting, env_here};
 
 use crate::answer::{Indexed, applied_to, listed, text_of};
 use crate::arguments::{argument_value, bind_specials, built_in_for};
@@ -22,8 +21,7 @@ use crate::evaluation::Evaluation;
 use crate::limits::{CALLS, EVALUATIONS, TURNS};
 use crate::values::BoundedValues;
 use scad_answer::{
-    binary_value, is_true, range_value, stepped_range_value, unary_value, value_alone, wants_right,
-    with,
+    binary_value, is_true, range_value, stepped_range_value, unary_value, wants_right, with,
 };
 use scad_ast::{Args, Expr, Exprs, Link, Links, Param, Params, Suffix, Suffixes, UnaryOp};
 use scad_scope::{ArgumentsSoFar, Function, GivenArguments, Names, positional_after};
@@ -32,14 +30,14 @@ use std::mem;
 use text_place::{FaultKind, Place, Stop};
 
 impl Evaluation<'_, '_> {
-    // The value of an expression, whose parts are counted where it is a list.
-    //
-    // At 512 evaluations in one another, each through all forms, it takes less than 4 MiB of the stack: 2.9 MiB were
-    // measured, and the frames on the longest way added up to 3.7 MiB, before `BoundedValue` stood in them. No contract
-    // speaks of the stack.
+    /// The value of an expression in the scope in which is evaluated, whose parts are counted where it is a list.
+    ///
+    /// At 512 evaluations in one another, each through all forms, it takes less than 4 MiB of the stack: 2.9 MiB were
+    /// measured, and the frames on the longest way added up to 3.7 MiB, before `BoundedValue` stood in them. No contract
+    /// speaks of the stack.
     #[cycle(value)]
     #[tactic(auto, using(crate::proofs::Kept::keeps_trans))]
-    pub(crate) fn evaluate(&mut self, expr: &Expr) -> Result<BoundedValue, Stop>
+    pub fn evaluate(&mut self, expr: &Expr) -> Result<BoundedValue, Stop>
         ensures { EvaluatesTo bounded_val self.old self.new result (λ here. value_at here true (term_of expr.now)) }
     {
         let value = self.deeper(expr)?;
@@ -50,7 +48,7 @@ impl Evaluation<'_, '_> {
     #[cycle(value)]
     pub(crate) fn evaluate_in(&mut self, scope: u32, expr: &Expr) -> Result<BoundedValue, Stop>
         requires scope { scope < scopes_there self.old }
-        ensures value { TellsAs bounded_val result self.new.turns (value_at (setting self.old scope) true (term_of expr.now) self.old.turns) }
+        ensures value { Tells bounded_val result self.new.turns (value_at (setting self.old scope) true (term_of expr.now) self.old.turns) }
         ensures kept { Keeps self.old self.new }
     {
         let outer = self.scope;
@@ -329,21 +327,21 @@ impl Evaluation<'_, '_> {
     #[cycle(value)]
     #[inline(never)]
     #[tactic(auto, using(crate::proofs::Kept::keeps_trans))]
-    pub(crate) fn arguments<'b>(
+    pub fn arguments<'b>(
         &mut self,
         names: Names<'_>,
         args: &'b Args,
-    ) -> Result<GivenArguments<'b, Value>, Stop>
-        ensures value { TellsArguments result self.new.turns (arguments_at (setting_here self.old) (names_in names.entry) 0 (args_from (args_of args.now)) (nothing_given (length (names_in names.entry))) self.old.turns) }
+    ) -> Result<GivenArguments<'b, BoundedValue>, Stop>
+        ensures given { EvaluatesTo arguments_of self.old self.new result (λ here.
+            arguments_at here (names_in names.entry) 0 (args_from (args_of args.now)) (nothing_given (length (names_in names.entry)))) }
         ensures count { IfOk result (λ given. length given.slots.items ≡ length (names_in names.entry)) }
-        ensures kept { Keeps self.old self.new }
     {
         let mut so_far = ArgumentsSoFar::of(self.alloc, names, &args.items)?;
         let mut positional: usize = 0;
         'each: for arg in &args.items {
             let free = so_far.destination_for(positional, arg);
             let (held, destination) = with(so_far, free)?;
-            let next = value_alone(self.evaluate(argument_value(arg)));
+            let next = self.evaluate(argument_value(arg));
             so_far = held.with_next(self.alloc, destination, next)?;
             positional = positional_after(positional, arg);
         }
@@ -357,10 +355,11 @@ impl Evaluation<'_, '_> {
     fn function_call(
         &mut self,
         function: Function<'_>,
-        given: GivenArguments<'_, Value>,
+        given: GivenArguments<'_, BoundedValue>,
         place: Place,
     ) -> Result<BoundedValue, Stop>
-        requires call { CallFits self.old.source.now function given }
+        requires within { function_size function ≤ deepest self.old.source.now.blocks.functions.items }
+        requires count { length given.slots.items ≡ length function.params.now.items.items }
         ensures { EvaluatesTo bounded_val self.old self.new result (λ here.
             function_called here place (function_of function.entry) (arguments_of given.entry)) }
     {
@@ -378,9 +377,9 @@ impl Evaluation<'_, '_> {
     fn function_value(
         &mut self,
         function: Function<'_>,
-        given: GivenArguments<'_, Value>,
+        given: GivenArguments<'_, BoundedValue>,
     ) -> Result<BoundedValue, Stop>
-        requires arguments { ArgumentsFit function given }
+        requires count { length given.slots.items ≡ length function.params.now.items.items }
         ensures { EvaluatesTo bounded_val self.old self.new result (λ here.
             function_value_at here (function_of function.entry) (arguments_of given.entry)) }
     {
@@ -405,9 +404,9 @@ impl Evaluation<'_, '_> {
     fn with_defaults(
         &mut self,
         function: Function<'_>,
-        slots: Vec<Option<Value>>,
+        slots: Vec<Option<BoundedValue>>,
     ) -> Result<BoundedValue, Stop>
-        requires slots { SlotsFit function.params.now.items.items slots.items }
+        requires count { length slots.items ≡ length function.params.now.items.items }
         ensures { EvaluatesTo bounded_val self.old self.new result (λ here turns.
             then_with (parameters_at here (params_of function.entry.params.now) (slots_in slots.items) turns) (λ turns vs.
             with_parameters here (function_of function.entry) vs turns)) }
@@ -422,11 +421,11 @@ impl Evaluation<'_, '_> {
     fn in_new_scope(
         &mut self,
         function: Function<'_>,
-        values: Vec<Value>,
+        values: BoundedValues,
     ) -> Result<BoundedValue, Stop>
-        requires values { ValuesFit function.params.now.items.items values.items }
+        requires count { length values.items.items ≡ length function.params.now.items.items }
         ensures { EvaluatesTo bounded_val self.old self.new result (λ here.
-            with_parameters here (function_of function.entry) (vals_from (vals_in values.items))) }
+            with_parameters here (function_of function.entry) (values_seen values)) }
     {
         let inner = self.scopes.enter_empty(self.alloc, self.scope)?;
         let value = match bind_all(self.alloc, self.scopes, inner, function.params, values) {
@@ -441,16 +440,14 @@ impl Evaluation<'_, '_> {
     #[cycle(value)]
     #[inline(never)]
     #[tactic(auto, using(crate::proofs::Kept::keeps_trans))]
-    pub(crate) fn parameters(
+    pub fn parameters(
         &mut self,
         params: &Params,
-        slots: Vec<Option<Value>>,
-    ) -> Result<Vec<Value>, Stop>
-        requires count { length slots.items ≡ length params.now.items.items }
-        requires filled { IsTrue (slots_bounded (slots_in slots.items)) }
-        ensures value { TellsAll result self.new.turns (parameters_at (setting_here self.old) (params_of params.now) (slots_in slots.items) self.old.turns) }
-        ensures count { IfOk result (λ vs. length vs.items ≡ length params.now.items.items) }
-        ensures kept { Keeps self.old self.new }
+        slots: Vec<Option<BoundedValue>>,
+    ) -> Result<BoundedValues, Stop>
+        requires { length slots.items ≡ length params.now.items.items }
+        ensures values { EvaluatesTo values_seen self.old self.new result (λ here. parameters_at here (params_of params.now) (slots_in slots.items)) }
+        ensures count { IfOk result (λ values. length values.items.items ≡ length params.now.items.items) }
     {
         let mut open = slots;
         let mut values = BoundedValues::new(self.alloc);
@@ -461,18 +458,21 @@ impl Evaluation<'_, '_> {
             (open, values) = with(open, longer)?;
         }
         drop(open);
-        Ok(values.items)
+        Ok(values)
     }
 
     // A parameter's value: what it was given, its default, or undef.
     #[cycle(value)]
     #[inline(never)]
-    fn parameter(&mut self, param: &Param, given: Option<Value>) -> Result<BoundedValue, Stop>
-        requires filled { IsTrue (slot_is_bounded (slot_of given)) }
+    fn parameter(
+        &mut self,
+        param: &Param,
+        given: Option<BoundedValue>,
+    ) -> Result<BoundedValue, Stop>
         ensures { EvaluatesTo bounded_val self.old self.new result (λ here. parameter_value here (param_of param.now) (slot_of given)) }
     {
         match given {
-            Some(value) => Ok(BoundedValue { value }),
+            Some(value) => Ok(value),
             None => match param {
                 Param::Plain(_, _) => Ok(BoundedValue {
                     value: Value::Undef,
@@ -500,7 +500,7 @@ impl Evaluation<'_, '_> {
     // A value whose parts are counted as turns, where it is a list. TooManyTurns where they are
     // too many.
     fn counted(&mut self, value: BoundedValue, place: Place) -> Result<BoundedValue, Stop>
-        ensures value { TellsAs bounded_val result self.new.turns (counted_at place (Gives self.old.turns (bounded_val value))) }
+        ensures value { Tells bounded_val result self.new.turns (counted_at place (Gives self.old.turns (bounded_val value))) }
         ensures kept { Keeps self.old self.new }
     {
         if let Value::List(_) = &value.value {
@@ -517,7 +517,7 @@ impl Evaluation<'_, '_> {
     fn may_call(&self, place: Place) -> Result<(), Stop>
         ensures within { OnOk result ((self.now.calls < 64) × (self.now.turns < 100000)) }
         ensures refused { IfErr result (λ stop. (go : ℕ → ℕ → Outcome Val) (n : ℕ) →
-            TellsAs bounded_val (Err stop) n (one_call_fewer (64 - self.now.calls) place (λ calls. turn place self.now.turns (go calls)))) }
+            Tells bounded_val (Err stop) n (one_call_fewer (64 - self.now.calls) place (λ calls. turn place self.now.turns (go calls)))) }
     {
         if self.calls == CALLS {
             return Err(FaultKind::TooDeep.at(place));

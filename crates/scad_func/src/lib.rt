@@ -23,3 +23,4 @@ pub use meter::Meter;
 pub use scad_answer::with;
 pub use source::Source;
 pub use value::{value_in, value_of};
+pub use values::BoundedValues;

@@ -6,13 +6,13 @@ ghost use Rattle.scad_func.specs.Evaluations.{Keeps, CallBegins, EvaluationBegin
 use crate::evaluation::Evaluation;
 use text_place::{FaultKind, Place, Stop};
 
-/// The most calls in one another.
+// The most calls in one another.
 pub(crate) const CALLS: u32 = 64;
 
-/// The most evaluations in one another.
+// The most evaluations in one another.
 pub(crate) const EVALUATIONS: u32 = 512;
 
-/// The most turns of one run.
+// The most turns of one run.
 pub(crate) const TURNS: u64 = 100_000;
 
 impl Evaluation<'_, '_> {

@@ -1,10 +1,12 @@
-ghost use Rattle.std.specs.Prelude.{◌≡◌, ◌-◌, ◌<◌, IsTrue, length, true};
+ghost use Rattle.std.specs.Prelude.{◌≡◌, ◌-◌, ◌<◌, IsTrue, IfOk, length, true};
 ghost use Rattle.scad_ast.specs.ExprView.{term_of};
 ghost use Rattle.scad_ast.specs.ProgramView.{program_of};
 ghost use Rattle.scad_scope.specs.Names.{env_of};
 ghost use Rattle.scad_scope.specs.Numbered.{functions_below, modules_below};
 ghost use Rattle.scad_blocks.specs.Blocks.{functions_of_program, modules_of_program, numbered_text};
 ghost use Rattle.scad_scope.specs.Table.{rows_of, chain_of};
+ghost use Rattle.scad_value.specs.Values.{is_bounded};
+ghost use Rattle.scad_value.specs.View.{val_of};
 ghost use Rattle.scad_func.specs.Meaning.{evaluated};
 ghost use Rattle.scad_func.specs.Definitions.{env_in};
 ghost use Rattle.scad_func.specs.View.{Tells, IsNumbered, seen, source_text};
@@ -24,7 +26,7 @@ use text_place::Stop;
 /// within their limit; the meter's calls and depth, scopes and chain are always as before. TooDeep
 /// comes at the 65th call and at the 513th evaluation in one another, TooManyTurns at turn 100,001.
 ///
-/// It takes less than 4 MiB of the stack, as is said at `Evaluation::evaluate`; no contract speaks of that.
+/// `Evaluation::evaluate` says how much of the stack it takes.
 pub fn value_in(
     alloc: Global,
     scopes: &mut Scopes,
@@ -36,8 +38,9 @@ pub fn value_in(
     requires scope { scope < length (rows_of scopes.old) }
     requires numbered { IsNumbered source.now (rows_of scopes.old) }
     requires modules { IsTrue (modules_below (length (source_text source.now).modules) (rows_of scopes.old)) }
-    ensures value { Tells result meter.new.turns (evaluated (512 - meter.old.depth) true (64 - meter.old.calls)
-        (seen source.now (rows_of scopes.old) scope) (chain_of scopes.old) (term_of expr.now) meter.old.turns) }
+    ensures value { Tells val_of result meter.new.turns (evaluated (512 - meter.old.depth) true (64 - meter.old.calls)
+        (seen source.now (rows_of scopes.old) scope) (chain_of scopes.old) (term_of expr.now) meter.old.turns)
+        × IfOk result (λ v. IsTrue (is_bounded (val_of v))) }
     ensures scopes { rows_of scopes.new ≡ rows_of scopes.old }
     ensures chain { chain_of scopes.new ≡ chain_of scopes.old }
     ensures calls { meter.new.calls ≡ meter.old.calls }
@@ -70,8 +73,9 @@ pub fn value_of(
     requires scope { scope < length (rows_of scopes.old) }
     requires numbered { IsTrue (functions_below (length (functions_of_program (program_of program.now))) (rows_of scopes.old)) }
     requires modules { IsTrue (modules_below (length (modules_of_program (program_of program.now))) (rows_of scopes.old)) }
-    ensures value { Tells result meter.new.turns (evaluated (512 - meter.old.depth) true (64 - meter.old.calls)
-        (env_in (numbered_text (program_of program.now)) (env_of (rows_of scopes.old) scope)) (chain_of scopes.old) (term_of expr.now) meter.old.turns) }
+    ensures value { Tells val_of result meter.new.turns (evaluated (512 - meter.old.depth) true (64 - meter.old.calls)
+        (env_in (numbered_text (program_of program.now)) (env_of (rows_of scopes.old) scope)) (chain_of scopes.old) (term_of expr.now) meter.old.turns)
+        × IfOk result (λ v. IsTrue (is_bounded (val_of v))) }
     ensures scopes { rows_of scopes.new ≡ rows_of scopes.old }
     ensures chain { chain_of scopes.new ≡ chain_of scopes.old }
     ensures calls { meter.new.calls ≡ meter.old.calls }

@@ -9,14 +9,15 @@ use text_place::Stop;
 
 /// Values, each of them bounded, which their type keeps.
 #[derive(Drop)]
-pub(crate) struct BoundedValues {
-    pub(crate) items: Vec<Value>,
+pub struct BoundedValues {
+    pub items: Vec<Value>,
     ghost bounded: { IsTrue (are_bounded (vals_in items.items)) },
 }
 
 impl BoundedValues {
     ghost use Rattle.scad_func.specs.View.{IsOneMore};
 
+    // No values.
     pub(crate) fn new(alloc: Global) -> BoundedValues
         ensures { result.items.items ≡ [] }
     {
@@ -25,7 +26,7 @@ impl BoundedValues {
         }
     }
 
-    /// One value more, where there is one.
+    // One value more, where there is one.
     pub(crate) fn with_next(self, next: Result<BoundedValue, Stop>) -> Result<BoundedValues, Stop>
         ensures { IsOneMore self next result }
     {

@@ -33,8 +33,8 @@ use Rattle.scad_meaning.specs.declared.extrusion.Extrusion.{Extrusion}
 use Rattle.scad_meaning.specs.Hulls.{is_nothing, points_of, hull_mesh}
 use Rattle.scad_meaning.specs.Verdicts.{Judge, Verdict, IsRight, IsSolidVerdict, IsFlatVerdict, IsHeightVerdict, IsHullVerdict, solid_of, extruded}
 use Rattle.scad_meaning.specs.Bodies.{evaluated_in, is_child, children_in, is_marked, says_only, is_bare}
-use Rattle.scad_meaning.specs.Loops.{items_of, chosen_among}
-use Rattle.scad_meaning.specs.Meaning.{Context, inside_scope, with_chain, with_calls_left, inside_mark, inside_extrusion, setting, InstanceDesign, MemberDesigns, first_marked, no_design, no_members, as_member, and_members, joined_members, EvaluatesInstance, Evaluator, assigned_value, assigned, each_assigned, core_of, each_member, each_in_scope, each_in_body, body_design, after_step, each_step, in_loop, each_turn, loop_design, leaf_design, checked, hulled, hull_design, answered_with, module_scope, module_design, each_said, arguments_for, children_design, flat_design, effect_design, built_in_design, call_design, core_design, marked_design, instance_design, design_within, evaluator_with, program_context, or_all, design_of}
+use Rattle.scad_meaning.specs.Loops.{items_of}
+use Rattle.scad_meaning.specs.Meaning.{Context, inside_scope, with_chain, with_calls_left, inside_mark, inside_extrusion, setting, InstanceDesign, MemberDesigns, first_marked, no_design, no_members, as_member, and_members, joined_members, EvaluatesInstance, Evaluator, assigned_value, assigned, each_assigned, core_of, each_member, each_in_scope, each_in_body, body_design, after_step, each_step, in_loop, each_turn, loop_design, leaf_design, checked, hulled, hull_design, answered_with, module_scope, module_design, each_said, arguments_for, children_design, flat_design, effect_design, built_in_design, call_design, core_design, marked_design, instance_design, design_within, evaluator_with, program_context, or_all, design_of, counted_step, instances_chosen, block_members, module_given}
 use Rattle.scad_meaning.proofs.Choosing.{all_chosen}
 use Rattle.scad_meaning.proofs.HeldPlaces.{if_keeps, Whatever, Held, first_held, rest_held, ModuleHeld, ScopeHeld, CallHeld, module_found, call_found, variable_held, functions_held, modules_held, entered_held, body_held, AssignedHeld, assignments_held, InstanceHeld, evaluated_held, Keeps, then_keeps, skip_keeps, some_keeps, turn_keeps, call_keeps}
 use Rattle.scad_meaning.proofs.SoundShapes.{HasFlatSides, IsSoundCall, effect_sound, solid_is_shape, extruded_is_shape}
@@ -204,12 +204,22 @@ module _ (P : Place → Type 0) where
             and_held (as_member (if says_only here.env (core_of i) then false else true) m) ms
             (as_member_held (if says_only here.env (core_of i) then false else true) m k) g))
 
-        scope_keeps : (here : Context) (statements : StatementTerms) (turns leaves : ℕ) → ContextHeld here → Held P (places_of_statements statements)
-            → Keeps P MembersHeld (each_in_scope evaluator here statements turns leaves)
-        scope_keeps here statements turns leaves s h =
+        chosen_held : (env : Env) (chosen : Option ChosenCall) (statements : StatementTerms) → Held P (places_of_statements statements)
+            → All (InstanceHeld P) (instances_chosen env chosen statements)
+        chosen_held env None statements h = evaluated_held P statements h
+        chosen_held env (Some chosen) statements h = all_chosen (InstanceHeld P) (children_in env statements) chosen
+            (All-filter (is_child env) (InstanceHeld P) (evaluated_in statements) (evaluated_held P statements h))
+
+        block_keeps : (chosen : Option ChosenCall) (here : Context) (statements : StatementTerms) (turns leaves : ℕ) → ContextHeld here → Held P (places_of_statements statements)
+            → Keeps P MembersHeld (block_members evaluator chosen statements here turns leaves)
+        block_keeps chosen here statements turns leaves s h =
             then_keeps P ContextHeld MembersHeld (each_assigned evaluations here (assignments_of statements) turns) _
             (assignments_keep evaluations here (assignments_of statements) turns s (assignments_held P statements h)) (λ turns there k.
-            members_keep there (evaluated_in statements) turns leaves k (evaluated_held P statements h))
+            members_keep there (instances_chosen there.env chosen statements) turns leaves k (chosen_held there.env chosen statements h))
+
+        scope_keeps : (here : Context) (statements : StatementTerms) (turns leaves : ℕ) → ContextHeld here → Held P (places_of_statements statements)
+            → Keeps P MembersHeld (each_in_scope evaluator here statements turns leaves)
+        scope_keeps here statements turns leaves s h = block_keeps None here statements turns leaves s h
 
         body_keeps : (op : Op) (here : Context) (body : BodyTerm) (turns leaves : ℕ) → ContextHeld here → Held P (places_of_body body)
             → Keeps P DesignsHeld (body_design evaluator op here body turns leaves)
@@ -224,11 +234,11 @@ module _ (P : Place → Type 0) where
             → (vs : Vals) (turns leaves : ℕ) → Keeps P MembersHeld (each_step at step vs turns leaves)
         steps_keep at step p g no_vals turns leaves = none_held leaves
         steps_keep at step p g (and_val v vs) turns leaves =
-            then_keeps P MembersHeld MembersHeld (step v turns leaves) _ (g v turns leaves) (λ turns ms h.
-            after_keeps MembersHeld at ms.designs turns
-            (λ turns. then_with (each_step at step vs turns ms.leaves) (λ turns more. Gives turns (and_members ms more))) p (λ turns.
+            then_keeps P MembersHeld MembersHeld (counted_step at (step v turns leaves)) _
+            (then_keeps P MembersHeld MembersHeld (step v turns leaves) _ (g v turns leaves) (λ turns ms h.
+            after_keeps MembersHeld at ms.designs turns (λ turns. Gives turns ms) p (λ turns. h))) (λ turns ms h.
             then_keeps P MembersHeld MembersHeld (each_step at step vs turns ms.leaves) _ (steps_keep at step p g vs turns ms.leaves) (λ turns more k.
-            and_held ms more h k)))
+            and_held ms more h k))
 
         turns_keep : (at : Place) (binders : List BinderTerm) (body : BodyTerm) (here : Context) (turns leaves : ℕ) → P at
             → Held P (flat_map places_of_binder binders) → Held P (places_of_body body) → ContextHeld here
@@ -260,14 +270,10 @@ module _ (P : Place → Type 0) where
             → Keeps P DesignsHeld (children_design evaluator here call chosen turns leaves)
         children_keep here no_call chosen turns leaves c i = (tt, tt)
         children_keep here (opened children caller) chosen turns leaves c i =
-            then_keeps P ContextHeld DesignsHeld (each_assigned evaluations (inside_scope here (entered_scope children no_call caller)) (assignments_of children) turns) _
-            (assignments_keep evaluations (inside_scope here (entered_scope children no_call caller)) (assignments_of children) turns
-            (entered_held P children no_call caller c.0 tt c.1, i) (assignments_held P children c.0)) (λ turns there s.
-            then_keeps P MembersHeld DesignsHeld (each_member evaluator there (chosen_among (children_in there.env children) chosen) turns leaves) _
-            (members_keep there (chosen_among (children_in there.env children) chosen) turns leaves s
-            (all_chosen (InstanceHeld P) (children_in there.env children) chosen
-            (All-filter (is_child there.env) (InstanceHeld P) (evaluated_in children) (evaluated_held P children c.0))))
-            (λ turns ms k. grouped_members Union ms k))
+            then_keeps P MembersHeld DesignsHeld (block_members evaluator (Some chosen) children (inside_scope here (entered_scope children no_call caller)) turns leaves) _
+            (block_keeps (Some chosen) (inside_scope here (entered_scope children no_call caller)) children turns leaves
+            (entered_held P children no_call caller c.0 tt c.1, i) c.0)
+            (λ turns ms k. grouped_members Union ms k)
 
         flat_keeps : (inside : Option Extrusion) (at : Place) (call : FlatCall) (turns leaves : ℕ) → P at → IsSized inside → HasFlatSides call
             → Keeps P DesignsHeld (flat_design evaluator inside at call turns leaves)
@@ -330,10 +336,7 @@ module _ (P : Place → Type 0) where
         module_keeps here at found given body turns leaves p m o h s =
             call_keeps P DesignsHeld here.calls at _ p (λ calls.
             let there = with_calls_left (with_chain here (given.specials ++ here.chain)) calls in
-            turn_keeps P DesignsHeld at turns
-            (λ turns. then_with (each_parameter (setting evaluations (inside_scope there found.1)) found.0.params given.slots turns) (λ turns vs.
-            then_with (each_in_scope evaluator (inside_scope there (module_scope found.1 found.0 vs (statements_of_body body) here.env)) (statements_of_body found.0.body) turns leaves) (λ turns ms.
-            Gives turns (joined_members Union ms)))) p (λ turns.
+            turn_keeps P DesignsHeld at turns (λ turns. module_given evaluator found given body (with_calls_left here calls) turns leaves) p (λ turns.
             skip_keeps P DesignsHeld (each_parameter (setting evaluations (inside_scope there found.1)) found.0.params given.slots turns) _
             (parameters_keep P (setting evaluations (inside_scope there found.1)) (sits evaluations (inside_scope there found.1) (o, s.1)) found.0.params given.slots turns m.0) (λ turns vs.
             let inner = inside_scope there (module_scope found.1 found.0 vs (statements_of_body body) here.env) in

@@ -29,9 +29,9 @@ use Rattle.scad_design.specs.Trees.{parts_in, pieces_in, IsTrim}
 use Rattle.scad_meaning.specs.declared.extrusion.Extrusion.{Extrusion}
 use Rattle.scad_meaning.specs.Hulls.{is_nothing, hull_mesh}
 use Rattle.scad_meaning.specs.Verdicts.{Judge, Verdict, solid_of, extruded}
-use Rattle.scad_meaning.specs.Bodies.{evaluated_in, children_in, is_marked, says_only, is_bare}
-use Rattle.scad_meaning.specs.Loops.{items_of, chosen_among}
-use Rattle.scad_meaning.specs.Meaning.{Context, inside_scope, with_chain, with_calls_left, inside_mark, inside_extrusion, setting, InstanceDesign, MemberDesigns, first_marked, no_design, no_members, as_member, and_members, joined_members, moved_design, EvaluatesInstance, Evaluator, each_assigned, core_of, each_member, each_in_scope, each_in_body, body_design, after_step, each_step, in_loop, each_turn, loop_design, leaf_design, checked, hulled, hull_design, answered_with, module_scope, module_design, arguments_for, children_design, flat_design, effect_design, built_in_design, call_design, core_design, marked_design, instance_design, design_within, evaluator_with, program_context, or_all, design_of}
+use Rattle.scad_meaning.specs.Bodies.{is_marked, says_only, is_bare}
+use Rattle.scad_meaning.specs.Loops.{items_of}
+use Rattle.scad_meaning.specs.Meaning.{Context, inside_scope, with_chain, with_calls_left, inside_mark, inside_extrusion, setting, InstanceDesign, MemberDesigns, first_marked, no_design, no_members, as_member, and_members, joined_members, moved_design, EvaluatesInstance, Evaluator, each_assigned, core_of, each_member, each_in_scope, each_in_body, body_design, after_step, each_step, in_loop, each_turn, loop_design, leaf_design, checked, hulled, hull_design, answered_with, module_scope, module_design, arguments_for, children_design, flat_design, effect_design, built_in_design, call_design, core_design, marked_design, instance_design, design_within, evaluator_with, program_context, or_all, design_of, counted_step, instances_chosen, block_members, module_given}
 
 -- what holds of that which an outcome gives
 abbrev Has : {A : Type 0} → (A → Type 0) → Outcome A → Type 0
@@ -207,10 +207,14 @@ module _ (grouped_trim : (op : Op) (designs : List Design) → All IsTrim design
         and_small leaves (as_member (if says_only here.env (core_of i) then false else true) m) ms
         (as_member_small (if says_only here.env (core_of i) then false else true) leaves m h) g))
 
-    scope_small : (here : Context) (statements : StatementTerms) (turns leaves : ℕ) → Has (AreSmall leaves) (each_in_scope evaluator here statements turns leaves)
-    scope_small here statements turns leaves =
+    block_small : (chosen : Option ChosenCall) (here : Context) (statements : StatementTerms) (turns leaves : ℕ)
+        → Has (AreSmall leaves) (block_members evaluator chosen statements here turns leaves)
+    block_small chosen here statements turns leaves =
         skip_has (AreSmall leaves) (each_assigned evaluations here (assignments_of statements) turns) _ (λ turns there.
-        members_small there (evaluated_in statements) turns leaves)
+        members_small there (instances_chosen there.env chosen statements) turns leaves)
+
+    scope_small : (here : Context) (statements : StatementTerms) (turns leaves : ℕ) → Has (AreSmall leaves) (each_in_scope evaluator here statements turns leaves)
+    scope_small here statements turns leaves = block_small None here statements turns leaves
 
     body_small : (op : Op) (here : Context) (body : BodyTerm) (turns leaves : ℕ) → Has (IsSmall leaves) (body_design evaluator op here body turns leaves)
     body_small op here body turns leaves =
@@ -223,11 +227,11 @@ module _ (grouped_trim : (op : Op) (designs : List Design) → All IsTrim design
         → (vs : Vals) (turns leaves : ℕ) → Has (AreSmall leaves) (each_step at step vs turns leaves)
     steps_small at step g no_vals turns leaves = none_small leaves
     steps_small at step g (and_val v vs) turns leaves =
-        then_has (AreSmall leaves) (AreSmall leaves) (step v turns leaves) _ (g v turns leaves) (λ turns ms h.
-        after_has (AreSmall leaves) at ms.designs turns
-        (λ turns. then_with (each_step at step vs turns ms.leaves) (λ turns more. Gives turns (and_members ms more))) (λ turns.
+        then_has (AreSmall leaves) (AreSmall leaves) (counted_step at (step v turns leaves)) _
+        (then_has (AreSmall leaves) (AreSmall leaves) (step v turns leaves) _ (g v turns leaves) (λ turns ms h.
+        after_has (AreSmall leaves) at ms.designs turns (λ turns. Gives turns ms) (λ turns. h))) (λ turns ms h.
         then_has (AreSmall ms.leaves) (AreSmall leaves) (each_step at step vs turns ms.leaves) _ (steps_small at step g vs turns ms.leaves) (λ turns more k.
-        and_small leaves ms more h k)))
+        and_small leaves ms more h k))
 
     turns_small : (at : Place) (binders : List BinderTerm) (body : BodyTerm) (here : Context) (turns leaves : ℕ)
         → Has (AreSmall leaves) (each_turn evaluator at binders body here turns leaves)
@@ -252,9 +256,8 @@ module _ (grouped_trim : (op : Op) (designs : List Design) → All IsTrim design
         → Has (IsSmall leaves) (children_design evaluator here call chosen turns leaves)
     children_small here no_call chosen turns leaves = nothing_small leaves
     children_small here (opened children caller) chosen turns leaves =
-        skip_has (IsSmall leaves) (each_assigned evaluations (inside_scope here (entered_scope children no_call caller)) (assignments_of children) turns) _ (λ turns there.
-        then_has (AreSmall leaves) (IsSmall leaves) (each_member evaluator there (chosen_among (children_in there.env children) chosen) turns leaves) _
-        (members_small there (chosen_among (children_in there.env children) chosen) turns leaves) (λ turns ms h. joined_small Union leaves ms h))
+        then_has (AreSmall leaves) (IsSmall leaves) (block_members evaluator (Some chosen) children (inside_scope here (entered_scope children no_call caller)) turns leaves) _
+        (block_small (Some chosen) (inside_scope here (entered_scope children no_call caller)) children turns leaves) (λ turns ms h. joined_small Union leaves ms h)
 
     flat_small : (inside : Option Extrusion) (at : Place) (call : FlatCall) (turns leaves : ℕ)
         → Has (IsSmall leaves) (flat_design evaluator inside at call turns leaves)
@@ -299,10 +302,7 @@ module _ (grouped_trim : (op : Op) (designs : List Design) → All IsTrim design
     module_small here at found given body turns leaves =
         call_has (IsSmall leaves) here.calls at _ (λ calls.
         let there = with_calls_left (with_chain here (given.specials ++ here.chain)) calls in
-        turn_has (IsSmall leaves) at turns
-        (λ turns. then_with (each_parameter (setting evaluations (inside_scope there found.1)) found.0.params given.slots turns) (λ turns vs.
-        then_with (each_in_scope evaluator (inside_scope there (module_scope found.1 found.0 vs (statements_of_body body) here.env)) (statements_of_body found.0.body) turns leaves) (λ turns ms.
-        Gives turns (joined_members Union ms)))) (λ turns.
+        turn_has (IsSmall leaves) at turns (λ turns. module_given evaluator found given body (with_calls_left here calls) turns leaves) (λ turns.
         skip_has (IsSmall leaves) (each_parameter (setting evaluations (inside_scope there found.1)) found.0.params given.slots turns) _ (λ turns vs.
         let inner = inside_scope there (module_scope found.1 found.0 vs (statements_of_body body) here.env) in
         then_has (AreSmall leaves) (IsSmall leaves) (each_in_scope evaluator inner (statements_of_body found.0.body) turns leaves) _

@@ -132,11 +132,20 @@ each_member evaluator here (i ∷ is) turns leaves =
     then_with (each_member evaluator here is turns m.leaves) (λ turns ms.
     Gives turns (and_members (as_member (if says_only here.env (core_of i) then false else true) m) ms)))
 
+-- the instances of a block that are evaluated, or the chosen ones of its children
+abbrev pub instances_chosen : Env → Option ChosenCall → StatementTerms → List InstanceTerm
+instances_chosen env None statements = evaluated_in statements
+instances_chosen env (Some chosen) statements = chosen_among (children_in env statements) chosen
+
+-- a block in its scope: its assignments, then these instances
+abbrev pub block_members : Evaluator → Option ChosenCall → StatementTerms → Context → ℕ → ℕ → Outcome MemberDesigns
+block_members evaluator chosen statements here turns leaves =
+    then_with (each_assigned evaluator.evaluations here (assignments_of statements) turns) (λ turns there.
+    each_member evaluator there (instances_chosen there.env chosen statements) turns leaves)
+
 -- a body in its scope: its assignments, then the instances that are evaluated
 abbrev pub each_in_scope : Evaluator → Context → StatementTerms → ℕ → ℕ → Outcome MemberDesigns
-each_in_scope evaluator here statements turns leaves =
-    then_with (each_assigned evaluator.evaluations here (assignments_of statements) turns) (λ turns here.
-    each_member evaluator here (evaluated_in statements) turns leaves)
+each_in_scope evaluator here statements turns leaves = block_members evaluator None statements here turns leaves
 
 -- a body, in a new scope inside where it stands
 abbrev pub each_in_body : Evaluator → Context → BodyTerm → ℕ → ℕ → Outcome MemberDesigns
@@ -147,17 +156,20 @@ abbrev pub body_design : Evaluator → Op → Context → BodyTerm → ℕ → �
 body_design evaluator op here body turns leaves =
     then_with (each_in_body evaluator here body turns leaves) (λ turns ms. Gives turns (joined_members op ms))
 
--- For each item of a list the members that it gives. A step after which nothing followed counts one turn when it ends
+-- A step of a loop after which nothing followed counts one turn when it ends
 abbrev pub after_step : Place → List Design → ℕ → (ℕ → Outcome MemberDesigns) → Outcome MemberDesigns
 after_step at [] turns go = turn at turns go
 after_step at (d ∷ ds) turns go = go turns
 
+abbrev pub counted_step : Place → Outcome MemberDesigns → Outcome MemberDesigns
+counted_step at step = then_with step (λ turns ms. after_step at ms.designs turns (λ turns. Gives turns ms))
+
+-- for each item of a list the members that its step gives
 abbrev pub each_step : Place → (Val → ℕ → ℕ → Outcome MemberDesigns) → Vals → ℕ → ℕ → Outcome MemberDesigns
 each_step at step no_vals turns leaves = Gives turns (no_members leaves)
 each_step at step (and_val v vs) turns leaves =
-    then_with (step v turns leaves) (λ turns ms.
-    after_step at ms.designs turns (λ turns.
-    then_with (each_step at step vs turns ms.leaves) (λ turns more. Gives turns (and_members ms more))))
+    then_with (counted_step at (step v turns leaves)) (λ turns ms.
+    then_with (each_step at step vs turns ms.leaves) (λ turns more. Gives turns (and_members ms more)))
 
 -- a variable of a loop, in a scope of its own
 abbrev pub in_loop : Context → List ℕ → Val → Context
@@ -211,21 +223,31 @@ abbrev pub children_count : Env → StatementTerms → List ℕ × Val
 children_count caller children =
     (codes "$children", NumberVal (pos (length (children_in (entered_scope children no_call caller) children))))
 
--- a module of the source, one call deeper: its defaults in the scope of its definition, then its body
+-- the scope of a module's body
 abbrev pub module_scope : Env → Module → Vals → StatementTerms → Env → Env
 module_scope home m vs children caller =
     Within (children_count caller children ∷ paired (names_of m.params) vs [])
     (functions_standing_in (statements_of_body m.body)) (modules_standing_in (statements_of_body m.body))
     (opened children caller) home
 
+-- its body, with the values of its parameters, and with its arguments, once its call is counted
+abbrev pub module_filled : Evaluator → Module × Env → Vals → BodyTerm → Context → ℕ → ℕ → Outcome InstanceDesign
+module_filled evaluator found vs body here turns leaves =
+    then_with (each_in_scope evaluator (inside_scope here (module_scope found.1 found.0 vs (statements_of_body body) here.env)) (statements_of_body found.0.body) turns leaves) (λ turns ms.
+    Gives turns (joined_members Union ms))
+
+abbrev pub module_given : Evaluator → Module × Env → Arguments → BodyTerm → Context → ℕ → ℕ → Outcome InstanceDesign
+module_given evaluator found given body here turns leaves =
+    let there = with_chain here (given.specials ++ here.chain) in
+    then_with (each_parameter (setting evaluator.evaluations (inside_scope there found.1)) found.0.params given.slots turns) (λ turns vs.
+    module_filled evaluator found vs body there turns leaves)
+
+-- a module of the source, one call deeper: its defaults in the scope of its definition, then its body
 abbrev pub module_design : Evaluator → Context → Place → Module × Env → Arguments → BodyTerm → ℕ → ℕ → Outcome InstanceDesign
 module_design evaluator here at found given body turns leaves =
     one_call_fewer here.calls at (λ calls.
     turn at turns (λ turns.
-    let there = with_calls_left (with_chain here (given.specials ++ here.chain)) calls in
-    then_with (each_parameter (setting evaluator.evaluations (inside_scope there found.1)) found.0.params given.slots turns) (λ turns vs.
-    then_with (each_in_scope evaluator (inside_scope there (module_scope found.1 found.0 vs (statements_of_body body) here.env)) (statements_of_body found.0.body) turns leaves) (λ turns ms.
-    Gives turns (joined_members Union ms)))))
+    module_given evaluator found given body (with_calls_left here calls) turns leaves))
 
 -- The arguments of `echo`, in order: a name may come twice, a special name may not
 abbrev pub each_said : Setting → ArgTerms → Arguments → ℕ → Outcome Arguments
@@ -247,9 +269,13 @@ arguments_for m here args turns =
 abbrev pub children_design : Evaluator → Context → Opened → ChosenCall → ℕ → ℕ → Outcome InstanceDesign
 children_design evaluator here no_call chosen turns leaves = Gives turns (no_design leaves)
 children_design evaluator here (opened children caller) chosen turns leaves =
-    then_with (each_assigned evaluator.evaluations (inside_scope here (entered_scope children no_call caller)) (assignments_of children) turns) (λ turns there.
-    then_with (each_member evaluator there (chosen_among (children_in there.env children) chosen) turns leaves) (λ turns ms.
-    Gives turns (joined_members Union ms)))
+    then_with (block_members evaluator (Some chosen) children (inside_scope here (entered_scope children no_call caller)) turns leaves) (λ turns ms.
+    Gives turns (joined_members Union ms))
+
+-- one call deeper
+abbrev pub chosen_children : Evaluator → Place → ChosenCall → Context → ℕ → ℕ → Outcome InstanceDesign
+chosen_children evaluator at chosen here turns leaves =
+    one_call_fewer here.calls at (λ calls. children_design evaluator (with_calls_left here calls) (call_in here.env) chosen turns leaves)
 
 -- a program's scope stands inside one that is empty; its chain begins with what it is given
 abbrev pub program_context : Pairs Val → StatementTerms → Context
@@ -287,9 +313,14 @@ effect_design evaluator here at (an_extrusion center height) body turns leaves =
     (body_design evaluator Union (inside_extrusion here (record { center = center; height = height })) body turns leaves)
 effect_design evaluator here at silence body turns leaves =
     if is_bare body then Gives turns (no_design leaves) else Faults NotInProfile at
-effect_design evaluator here at (some_children chosen) body turns leaves =
-    one_call_fewer here.calls at (λ calls.
-    children_design evaluator (with_calls_left here calls) (call_in here.env) chosen turns leaves)
+effect_design evaluator here at (some_children chosen) body turns leaves = chosen_children evaluator at chosen here turns leaves
+
+-- a built-in module with its arguments
+abbrev pub built_in_given : Evaluator → Place → BuiltinModule → Arguments → BodyTerm → Context → ℕ → ℕ → Outcome InstanceDesign
+built_in_given evaluator at m given body here turns leaves =
+    let there = with_chain here (given.specials ++ here.chain) in
+    answered_with (effect_of evaluator.unit (is_some here.inside) (find_in there.chain (codes "fn")) m given.slots) at (λ effect.
+    effect_design evaluator there at effect body turns leaves)
 
 -- a call of a built-in module
 abbrev pub built_in_design : Evaluator → Context → Place → List ℕ → List ArgTerm → BodyTerm → Option BuiltinModule → ℕ → ℕ → Outcome InstanceDesign
@@ -297,9 +328,7 @@ built_in_design evaluator here at name args body None turns leaves =
     Faults (if is_left_out name then NotInProfile else UnknownModule) at
 built_in_design evaluator here at name args body (Some m) turns leaves =
     then_with (arguments_for m (setting evaluator.evaluations here) (args_from args) turns) (λ turns given.
-    let there = with_chain here (given.specials ++ here.chain) in
-    answered_with (effect_of evaluator.unit (is_some here.inside) (find_in there.chain (codes "fn")) m given.slots) at (λ effect.
-    effect_design evaluator there at effect body turns leaves))
+    built_in_given evaluator at m given body here turns leaves)
 
 -- a call of a module: the source's go before built-in ones
 abbrev pub call_design : Evaluator → Context → Place → List ℕ → List ArgTerm → BodyTerm → Option (Module × Env) → ℕ → ℕ → Outcome InstanceDesign
@@ -323,12 +352,15 @@ core_design evaluator here (IntersectionForTerm at binders body) turns leaves =
 core_design evaluator here (ModuleCallTerm at name args body) turns leaves =
     call_design evaluator here at name args body (module_in here.env name) turns leaves
 
+-- what an instance gives that is marked `!`
+abbrev pub apart : InstanceDesign → InstanceDesign
+apart m = record { leaves = m.leaves; design = empty; marked = Some m.design }
+
 -- an instance inside a mark, or one that is not marked
 abbrev pub marked_design : Evaluator → Context → CoreTerm → ℕ → ℕ → Outcome InstanceDesign
 marked_design evaluator here core turns leaves =
     if here.under_mark then core_design evaluator here core turns leaves
-    else then_with (core_design evaluator (inside_mark here) core turns leaves) (λ turns m.
-    Gives turns (record { leaves = m.leaves; design = empty; marked = Some m.design }))
+    else then_with (core_design evaluator (inside_mark here) core turns leaves) (λ turns m. Gives turns (apart m))
 
 -- an instance: the outermost mark `!` counts, and then what it gives is no part of the design around it
 abbrev pub instance_design : Evaluator → EvaluatesInstance

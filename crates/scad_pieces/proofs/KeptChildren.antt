@@ -1,5 +1,5 @@
 -- The children among the instances of a block.
-use Rattle.std.proofs.Common.{◌≡◌, ℕ, ◌≤◌, Bool, true, false, List, [], ◌∷◌, length, map, take, refl, sym, ap, subst, ◌∙◌, cond}
+use Rattle.std.proofs.Common.{◌≡◌, ℕ, ◌≤◌, Bool, true, false, List, [], ◌∷◌, length, map, take, ℤ, refl, sym, ap, subst, ◌∙◌, cond}
 use Rattle.std.specs.Prelude.{All, IfOk, Result, Ok, Err}
 use Rattle.std.specs.declared.vec.Vec.{Vec}
 use Rattle.std.specs.declared.alloc.Global.{Global}
@@ -8,6 +8,12 @@ use Rattle.std.proofs.lemmas.List.{length-map, take_all}
 use Rattle.std.proofs.lemmas.List.Elements.{All-filter}
 use Rattle.scad_ast.specs.Terms.{StatementTerms, InstanceTerm}
 use Rattle.scad_modules.specs.Effects.{ChosenCall}
+use Rattle.scad_value.specs.declared.value.Value.{Number}
+use Rattle.scad_value.specs.declared.value.Value.TheVariants.{rolls-Number}
+use Rattle.scad_value.specs.declared.value.Value.TheOpen.{Number as NumberIn}
+use Rattle.scad_value.specs.declared.value.Value.TheFolds.{fold-roll-Value}
+use Rattle.scad_value.specs.Values.{Val, NumberVal}
+use Rattle.scad_value.specs.View.{val_of, value_step, values_step}
 use Rattle.scad_blocks.specs.Blocks.{NumberedText}
 use Rattle.scad_func.specs.Meaning.{Env, no_call, entered_scope}
 use Rattle.scad_func.specs.View.{source_text}
@@ -70,3 +76,7 @@ children_counted old new block env inner found whole same is e =
     sym (length-map found term_of_numbered) ∙ ap length e
     ∙ ap (λ (x : Source). length (children_in inner (statements_at (source_text x) block))) same
     ∙ ap (λ (x : Env). length (children_in x (statements_at (source_text old) block))) (is ∙ whole.scopes block no_call env)
+
+-- a number in memory
+pub number_form : (n : ℤ) → val_of (Number n) ≡ NumberVal n
+number_form n = ap val_of (sym (rolls-Number n)) ∙ fold-roll-Value Val (List Val) value_step values_step (NumberIn n)

@@ -1,6 +1,5 @@
 -- One argument more of `echo`.
 use Rattle.std.proofs.Common.{◌≡◌, ℕ, List, [], true, Option, Some, None, Result, Ok, Err, sym, ap, subst, ◌∙◌}
-use Rattle.std.specs.Prelude.{IsTrue}
 use Rattle.text_place.specs.declared.fault.Stop.{Stop}
 use Rattle.text_place.specs.declared.fault.Stop.TheVariants.{Fault, NoMemory}
 use Rattle.text_place.specs.declared.fault.Place.{Place}
@@ -12,16 +11,17 @@ use Rattle.scad_ast.specs.declared.expression.Arg.TheOpen.{Arg::Special as Speci
 use Rattle.scad_ast.specs.declared.expression.Arg.TheFolds.{fold-roll-Arg}
 use Rattle.scad_ast.specs.Terms.{Term, ArgTerm, SpecialArgTerm, SuffixTerm, LinkTerm}
 use Rattle.scad_ast.specs.ExprView.{Form, term_of, arg_of, arg_step, expr_step, suffix_step, args_step, call_step, chain_step, choice_step, exprs_step, link_step, links_step, postfix_step, range_step, stepped_range_step, suffixes_step}
-use Rattle.scad_value.specs.declared.value.Value.{Value}
+use Rattle.scad_value.specs.declared.bounded_value.BoundedValue.{BoundedValue}
+use Rattle.scad_value.specs.BoundedView.{bounded_val}
 use Rattle.scad_value.specs.Values.{Val}
 use Rattle.scad_arguments.specs.Arguments.{Taker, taker_of, argument_place, with_argument}
 use Rattle.scad_arguments.specs.ArgumentsView.{given_of, taker_seen, IsFaultAt, IsGiven}
 use Rattle.scad_arguments.specs.declared.parameters.Destination.{Destination}
 use Rattle.scad_arguments.specs.declared.parameters.GivenArguments.{GivenArguments}
 use Rattle.scad_func.specs.Meaning.{Outcome, Gives, then_with, or_fault, Setting, value_at, Arguments}
-use Rattle.scad_func.specs.View.{Tells, TellsArguments, arguments_of, arguments_bounded}
+use Rattle.scad_func.specs.View.{Tells, arguments_of}
 use Rattle.scad_func.proofs.GivenSeen.{IsHeld, taker_given, held_seen}
-use Rattle.scad_func.proofs.Holding.{argument_refused, argument_held_bounded}
+use Rattle.scad_func.proofs.Holding.{argument_refused}
 use Rattle.scad_pieces.specs.Calls.{said_once}
 
 pub special_form : (a : Arg) (at : Place) (name : List ℕ) (value : Expr) → a ≡ Special at name value → arg_of a ≡ SpecialArgTerm at name (term_of value)
@@ -39,42 +39,40 @@ module _ (here : Setting) (at : Place) (name : List ℕ) (value : Term) (given :
   by_taker taker e = ap (λ o. or_fault o BadArgument at (λ taker. with_value taker (value_at here true value turns))) e
 
   special_stops : (taker : Taker) → taker_of [] 0 given (SpecialArgTerm at name value) ≡ Some taker → (stop : Stop) (then : ℕ)
-      → Tells (Err stop) then (value_at here true value turns) → TellsArguments (Err stop) then (said_once here (SpecialArgTerm at name value) given turns)
+      → Tells bounded_val (Err stop) then (value_at here true value turns) → Tells arguments_of (Err stop) then (said_once here (SpecialArgTerm at name value) given turns)
   special_stops taker e (Fault fault) then t = by_taker (Some taker) e ∙ ap (with_value taker) t
   special_stops taker e NoMemory then t = tt
 
   special_said : (taker : Taker) → taker_of [] 0 given (SpecialArgTerm at name value) ≡ Some taker → (then : ℕ)
-      (r : Result Value Stop) (after : Result (GivenArguments Value) Stop) → Tells r then (value_at here true value turns)
-      → IsHeld given taker r after → IsTrue (arguments_bounded given)
-      → TellsArguments after then (said_once here (SpecialArgTerm at name value) given turns)
-  special_said taker e then (Ok v) (Ok after) t held bounded = (
-    by_taker (Some taker) e ∙ ap (with_value taker) t.0 ∙ ap (λ (x : Arguments). Gives then x) (sym held),
-    argument_held_bounded given taker (Ok v) after held bounded t.1,
-  )
-  special_said taker e then (Ok v) (Err stop) t held bounded =
-      subst (λ (x : Stop). TellsArguments (Err x) then (said_once here (SpecialArgTerm at name value) given turns)) (sym held) tt
-  special_said taker e then (Err fault) (Ok after) t held bounded = absurd held
-  special_said taker e then (Err fault) (Err stop) t held bounded =
-      subst (λ (x : Stop). TellsArguments (Err x) then (said_once here (SpecialArgTerm at name value) given turns)) (sym held)
+      (r : Result BoundedValue Stop) (after : Result (GivenArguments BoundedValue) Stop) → Tells bounded_val r then (value_at here true value turns)
+      → IsHeld given taker r after
+      → Tells arguments_of after then (said_once here (SpecialArgTerm at name value) given turns)
+  special_said taker e then (Ok v) (Ok after) t held =
+      by_taker (Some taker) e ∙ ap (with_value taker) t ∙ ap (λ (x : Arguments). Gives then x) (sym held)
+  special_said taker e then (Ok v) (Err stop) t held =
+      subst (λ (x : Stop). Tells arguments_of (Err x) then (said_once here (SpecialArgTerm at name value) given turns)) (sym held) tt
+  special_said taker e then (Err fault) (Ok after) t held = absurd held
+  special_said taker e then (Err fault) (Err stop) t held =
+      subst (λ (x : Stop). Tells arguments_of (Err x) then (said_once here (SpecialArgTerm at name value) given turns)) (sym held)
       (special_stops taker e fault then t)
 
 -- a special argument of `echo`, of a name that something takes, and of one that was given before
 module _ (here : Setting) (a : ArgTerm) (at : Place) (name : List ℕ) (value : Term) (is : a ≡ SpecialArgTerm at name value)
-    (names : List (List ℕ)) (g : GivenArguments Value) (turns : ℕ) where
+    (names : List (List ℕ)) (g : GivenArguments BoundedValue) (turns : ℕ) where
   taker_same : (taker : Option Taker) → taker_of names 0 (given_of g) a ≡ taker → taker_of [] 0 (arguments_of g) (SpecialArgTerm at name value) ≡ taker
   taker_same taker e = ap (taker_of names 0 (arguments_of g)) (sym is) ∙ taker_given names 0 g a ∙ e
 
-  pub taken : (d : Destination) (then : ℕ) (r : Result Value Stop) (after : Result (GivenArguments Value) Stop)
-      → taker_of names 0 (given_of g) a ≡ Some (taker_seen d) → Tells r then (value_at here true value turns) → IsGiven g d r after
-      → IsTrue (arguments_bounded (arguments_of g)) → TellsArguments after then (said_once here a (arguments_of g) turns)
-  taken d then r after e t given bounded =
-      subst (λ x. TellsArguments after then (said_once here x (arguments_of g) turns)) (sym is)
+  pub taken : (d : Destination) (then : ℕ) (r : Result BoundedValue Stop) (after : Result (GivenArguments BoundedValue) Stop)
+      → taker_of names 0 (given_of g) a ≡ Some (taker_seen d) → Tells bounded_val r then (value_at here true value turns) → IsGiven g d r after
+      → Tells arguments_of after then (said_once here a (arguments_of g) turns)
+  taken d then r after e t given =
+      subst (λ x. Tells arguments_of after then (said_once here x (arguments_of g) turns)) (sym is)
       (special_said here at name value (arguments_of g) turns (taker_seen d) (taker_same (Some (taker_seen d)) e) then r after t
-      (held_seen g d r after given) bounded)
+      (held_seen g d r after given))
 
   pub refused : (stop : Stop) (then : ℕ) → taker_of names 0 (given_of g) a ≡ None → IsFaultAt stop BadArgument (argument_place a)
-      → TellsArguments (Err stop) then (said_once here a (arguments_of g) turns)
+      → Tells arguments_of (Err stop) then (said_once here a (arguments_of g) turns)
   refused stop then e fault =
-      subst (λ x. TellsArguments (Err stop) then (said_once here x (arguments_of g) turns)) (sym is)
+      subst (λ x. Tells arguments_of (Err stop) then (said_once here x (arguments_of g) turns)) (sym is)
       (argument_refused stop then at (said_once here (SpecialArgTerm at name value) (arguments_of g) turns)
       (by_taker here at name value (arguments_of g) turns None (taker_same None e)) (subst (λ x. IsFaultAt stop BadArgument (argument_place x)) is fault))

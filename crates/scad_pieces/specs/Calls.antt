@@ -1,21 +1,19 @@
 -- What calls of built-in modules are given, which children are chosen, and what the evaluator's pieces tell of them.
-use Rattle.std.specs.Prelude.{◌≡◌, ℕ, true, List, [], Option, Some, None, option_map, Result, Ok, Err}
+use Rattle.std.specs.Prelude.{◌≡◌, ℕ, true, [], Option, Some, None, option_map, Result, Ok, Err}
 use Rattle.std.specs.Borrow.{Bor}
 use Rattle.text_place.specs.declared.fault.Place.{Place}
 use Rattle.text_place.specs.declared.fault.Stop.{Stop}
 use Rattle.text_place.specs.declared.fault.Stop.TheVariants.{Fault, NoMemory}
 use Rattle.text_place.specs.declared.fault.FaultKind.TheVariants.{BadArgument}
-use Rattle.scad_ast.specs.Terms.{StatementTerms, InstanceTerm, ArgTerm, NamedTerm, SpecialArgTerm, PositionalTerm}
+use Rattle.scad_ast.specs.Terms.{ArgTerm, NamedTerm, SpecialArgTerm, PositionalTerm}
 use Rattle.scad_value.specs.Operators.{Answer}
 use Rattle.scad_arguments.specs.Arguments.{taker_of, with_argument}
-use Rattle.scad_func.specs.Meaning.{Outcome, Gives, then_with, or_fault, Env, Arguments, Setting, value_at}
+use Rattle.scad_func.specs.Meaning.{Outcome, Gives, then_with, or_fault, Arguments, Setting, value_at}
 use Rattle.scad_modules.specs.declared.effects.Chosen.{Chosen}
 use Rattle.scad_modules.specs.declared.effects.Effect.{Effect}
 use Rattle.scad_modules.specs.Bounds.{IsSafeChoice}
 use Rattle.scad_modules.specs.Effects.{ChosenCall, EffectCall}
 use Rattle.scad_modules.specs.View.{chosen_of, call_of}
-use Rattle.scad_meaning.specs.Bodies.{evaluated_in, children_in}
-use Rattle.scad_meaning.specs.Loops.{chosen_among}
 
 abbrev pub chosen_seen : Option (Bor Chosen) → Option ChosenCall
 chosen_seen = option_map (λ c. chosen_of c.now)
@@ -30,11 +28,6 @@ abbrev pub TellsEffectAt : Result Effect Stop → Place → Answer EffectCall �
 TellsEffectAt (Ok effect) at answer = answer ≡ Ok (call_of effect)
 TellsEffectAt (Err (Fault fault)) at answer = (answer ≡ Err fault.kind) × (fault.place ≡ at)
 TellsEffectAt (Err NoMemory) at answer = Unit {0}
-
--- the instances of a block that are evaluated, or the chosen ones of its children
-abbrev pub instances_chosen : Env → Option ChosenCall → StatementTerms → List InstanceTerm
-instances_chosen env None statements = evaluated_in statements
-instances_chosen env (Some chosen) statements = chosen_among (children_in env statements) chosen
 
 -- the arguments of `echo` with one more, which gives something where it is a special one
 abbrev pub said_once : Setting → ArgTerm → Arguments → ℕ → Outcome Arguments

@@ -1,5 +1,5 @@
 -- What designs in memory stand for, and what the evaluator's steps tell.
-use Rattle.std.specs.Prelude.{◌≡◌, ℕ, Bool, map, Some, option_map, Result, Ok, Err, if◌then◌else◌}
+use Rattle.std.specs.Prelude.{◌≡◌, ℕ, Bool, map, option_map, Result, Ok, Err, if◌then◌else◌}
 use Rattle.text_place.specs.declared.fault.Stop.{Stop}
 use Rattle.text_place.specs.declared.fault.Stop.TheVariants.{Fault, NoMemory}
 use Rattle.text_place.specs.declared.fault.Place.{Place}
@@ -7,9 +7,9 @@ use Rattle.text_place.specs.declared.fault.FaultKind.TheVariants.{NotInProfile}
 use Rattle.scad_ast.specs.Terms.{BodyTerm}
 use Rattle.shape_planes.specs.declared.stop.ShapeStop.{ShapeStop}
 use Rattle.shape_planes.specs.declared.stop.ShapeStop.TheVariants as shapes
-use Rattle.scad_design.specs.Designs.{empty}
 use Rattle.scad_design.specs.View.{plain_of}
 use Rattle.scad_func.specs.Meaning.{Outcome, Gives, Faults, then_with}
+use Rattle.scad_func.specs.View.{Tells}
 use Rattle.scad_pieces.specs.declared.position.InstanceResult.{InstanceResult}
 use Rattle.scad_pieces.specs.declared.position.MemberResults.{MemberResults}
 use Rattle.scad_meaning.specs.Bodies.{is_bare}
@@ -24,18 +24,9 @@ member_designs_of leaves ms = record { leaves = leaves; designs = map plain_of m
 abbrev pub one_member_of : Bool → ℕ → InstanceResult → MemberDesigns
 one_member_of is_member leaves m = as_member is_member (instance_design_of leaves m)
 
--- what an instance gives that is marked `!`
-abbrev pub apart : InstanceDesign → InstanceDesign
-apart m = record { leaves = m.leaves; design = empty; marked = Some m.design }
-
 -- what was given, with the turns and the leaves so far, or the fault, unless memory ran out
-abbrev pub AgreesWith : {A B : Type 0} → (ℕ → A → B) → Result A Stop → ℕ → ℕ → Outcome B → Type 0
-AgreesWith see (Ok x) turns leaves out = out ≡ Gives turns (see leaves x)
-AgreesWith see (Err (Fault fault)) turns leaves out = out ≡ Faults fault.kind fault.place
-AgreesWith see (Err NoMemory) turns leaves out = Unit {0}
-
 pub record HasOutcome {A B : Type 0} (see : ℕ → A → B) (r : Result A Stop) (turns leaves : ℕ) (out : Outcome B) : Type 0 where
-  pub is : AgreesWith see r turns leaves out
+  pub is : Tells (see leaves) r turns out
 
 -- members with those that are given next, unless memory ran out or nothing was given
 abbrev pub IsLengthened : {A : Type 0} → (ℕ → A → MemberDesigns) → MemberResults → Result A Stop → Result MemberResults Stop → Type 0

@@ -1,6 +1,6 @@
 //! The arguments of built-in modules, and their effects.
 
-ghost use Rattle.std.specs.Prelude.{◌≡◌, ◌<◌, IsTrue, IfOk, is_some, codes, if◌then◌else◌};
+ghost use Rattle.std.specs.Prelude.{◌≡◌, IfOk, is_some, option_map, codes, if◌then◌else◌};
 ghost use Rattle.text_place.specs.declared.fault.FaultKind.TheVariants.{NotInProfile, UnknownModule};
 ghost use Rattle.scad_ast.specs.Terms.{args_from};
 ghost use Rattle.scad_ast.specs.ExprView.{arg_of, args_of};
@@ -9,12 +9,13 @@ ghost use Rattle.scad_scope.specs.Names.{find_in};
 ghost use Rattle.scad_scope.specs.Table.{chain_of};
 ghost use Rattle.scad_arguments.specs.Arguments.{nothing_given};
 ghost use Rattle.scad_arguments.specs.SoFarView.{only_given};
-ghost use Rattle.scad_func.specs.View.{TellsArguments, slots_in, slots_bounded, arguments_of, arguments_bounded};
-ghost use Rattle.scad_func.specs.Evaluations.{Keeps, scopes_there, setting};
+ghost use Rattle.scad_value.specs.View.{val_of};
+ghost use Rattle.scad_func.specs.View.{slot_of, slots_in, arguments_of};
+ghost use Rattle.scad_func.specs.Evaluations.{EvaluatesTo};
 ghost use Rattle.scad_modules.specs.Bounds.{IsSafeCall};
 ghost use Rattle.scad_modules.specs.Calls.{effect_of as effect_at};
 ghost use Rattle.scad_modules.specs.Table.{is_left_out as leaves_out};
-ghost use Rattle.scad_modules.specs.View.{call_of};
+ghost use Rattle.scad_modules.specs.View.{call_of, slots_of};
 ghost use Rattle.scad_meaning.specs.Meaning.{arguments_for as arguments_at, each_said};
 ghost use Rattle.scad_pieces.specs.Seen.{TellsSilence};
 ghost use Rattle.scad_pieces.specs.Calls.{TellsEffectAt, said_once};
@@ -27,8 +28,9 @@ use scad_ast::{Arg, Args, Body};
 use scad_func::{Evaluation, with};
 use scad_modules::{BuiltinModule, Effect, effect, is_left_out};
 use scad_scope::{ArgumentsSoFar, GivenArguments, Names};
-use scad_value::{Value, ValueStop};
-use text_place::{FaultKind, Place, Stop};
+use scad_value::{BoundedValue, Value, ValueStop};
+use std::alloc::Global;
+use text_place::{FaultKind, NoMemory, Place, Stop};
 
 /// The effect of a call of a built-in module, in a unit. Its faults stand at the module's name.
 pub fn effect_of(
@@ -37,13 +39,13 @@ pub fn effect_of(
     position: Position,
     place: Place,
     built_in: BuiltinModule,
-    slots: Vec<Option<Value>>,
+    slots: Vec<Option<BoundedValue>>,
 ) -> Result<Effect, Stop>
-    requires { IsTrue (slots_bounded (slots_in slots.items)) }
     ensures effect { TellsEffectAt result place (effect_at unit (is_some position.inside)
         (find_in (chain_of evaluation.now.scopes.now) (codes "fn")) built_in (slots_in slots.items)) }
     ensures safe { IfOk result (λ effect. IsSafeCall (call_of effect)) }
 {
+    let slots = slots_alone(evaluation.alloc, slots)?;
     let fragments = match evaluation.scopes.special(b"fn", place) {
         Ok(value) => Some(value),
         Err(_) => None,
@@ -56,39 +58,55 @@ pub fn effect_of(
     }
 }
 
+// Slots without the type that keeps their values bounded, as built-in modules read them.
+fn slots_alone(
+    alloc: Global,
+    slots: Vec<Option<BoundedValue>>,
+) -> Result<Vec<Option<Value>>, NoMemory>
+    ensures { IfOk result (λ alone. slots_of alone.items ≡ slots_in slots.items) }
+{
+    let mut alone = Vec::new(alloc);
+    let mut left = slots.into_iter();
+    'each: while let Some(slot) = left.next() {
+        alone.push(slot_alone(slot))?;
+    }
+    Ok(alone)
+}
+
+fn slot_alone(slot: Option<BoundedValue>) -> Option<Value>
+    ensures { option_map val_of result ≡ slot_of slot }
+{
+    match slot {
+        Some(bounded) => Some(bounded.value),
+        None => None,
+    }
+}
+
 /// The arguments of a call of a built-in module, from the first on. Those of `echo` may be any.
 pub fn arguments_for<'b>(
     evaluation: &mut Evaluation<'_, '_>,
-    scope: u32,
     built_in: BuiltinModule,
     args: &'b Args,
-) -> Result<GivenArguments<'b, Value>, Stop>
-    requires { scope < scopes_there evaluation.old }
-    ensures value { TellsArguments result evaluation.new.turns
-        (arguments_at built_in (setting evaluation.old scope) (args_from (args_of args.now)) evaluation.old.turns) }
-    ensures kept { Keeps evaluation.old evaluation.new }
+) -> Result<GivenArguments<'b, BoundedValue>, Stop>
+    ensures { EvaluatesTo arguments_of evaluation.old evaluation.new result (λ here. arguments_at built_in here (args_from (args_of args.now))) }
 {
     if built_in == BuiltinModule::Echo {
-        return said(evaluation, scope, args);
+        return said(evaluation, args);
     }
     let names = Names::Listed(built_in.parameters());
-    evaluation.each_argument(scope, names, args)
+    evaluation.arguments(names, args)
 }
 
 // The arguments of `echo`, from the first on: a name may come twice, a special name may not.
 fn said<'b>(
     evaluation: &mut Evaluation<'_, '_>,
-    scope: u32,
     args: &'b Args,
-) -> Result<GivenArguments<'b, Value>, Stop>
-    requires { scope < scopes_there evaluation.old }
-    ensures value { TellsArguments result evaluation.new.turns
-        (each_said (setting evaluation.old scope) (args_from (args_of args.now)) (nothing_given 0) evaluation.old.turns) }
-    ensures kept { Keeps evaluation.old evaluation.new }
+) -> Result<GivenArguments<'b, BoundedValue>, Stop>
+    ensures { EvaluatesTo arguments_of evaluation.old evaluation.new result (λ here. each_said here (args_from (args_of args.now)) (nothing_given 0)) }
 {
     let mut so_far = ArgumentsSoFar::of(evaluation.alloc, Names::Listed(&[]), &args.items)?;
     'each: for arg in &args.items {
-        so_far = say(evaluation, scope, so_far, arg)?;
+        so_far = say(evaluation, so_far, arg)?;
     }
     let ArgumentsSoFar { given, .. } = so_far;
     Ok(given)
@@ -97,25 +115,20 @@ fn said<'b>(
 // The arguments of `echo` with one more, which gives something where it is a special one.
 fn say<'n, 'b>(
     evaluation: &mut Evaluation<'_, '_>,
-    scope: u32,
-    so_far: ArgumentsSoFar<'n, 'b, Value>,
+    so_far: ArgumentsSoFar<'n, 'b, BoundedValue>,
     arg: &'b Arg,
-) -> Result<ArgumentsSoFar<'n, 'b, Value>, Stop>
-    requires scope { scope < scopes_there evaluation.old }
-    requires bounded { IsTrue (arguments_bounded (arguments_of so_far.given)) }
-    ensures value { TellsArguments (only_given result) evaluation.new.turns
-        (said_once (setting evaluation.old scope) (arg_of arg.now) (arguments_of so_far.entry.given) evaluation.old.turns) }
-    ensures kept { Keeps evaluation.old evaluation.new }
+) -> Result<ArgumentsSoFar<'n, 'b, BoundedValue>, Stop>
+    ensures { EvaluatesTo arguments_of evaluation.old evaluation.new (only_given result) (λ here. said_once here (arg_of arg.now) (arguments_of so_far.entry.given)) }
 {
     match arg {
         Arg::Special(_, _, value) => {
             let free = so_far.destination_for(0, arg);
             let (held, destination) = with(so_far, free)?;
-            let next = evaluation.expression(scope, value);
+            let next = evaluation.evaluate(value);
             held.with_next(evaluation.alloc, destination, next)
         }
         Arg::Named(_, _, value) | Arg::Positional(value) => {
-            let said = evaluation.expression(scope, value);
+            let said = evaluation.evaluate(value);
             let (held, _) = with(so_far, said)?;
             Ok(held)
         }

@@ -1,36 +1,37 @@
 //! Children of calls.
 
-ghost use Rattle.std.specs.Prelude.{◌≡◌, ◌<◌, pos, All, IfOk, OnOk, IsTrue, length, map, is_some, codes, not, ◌||◌, ◌&&◌};
+ghost use Rattle.std.specs.Prelude.{◌≡◌, pos, All, IfOk, OnOk, length, map, is_some, codes, not, ◌||◌, ◌&&◌};
 ghost use Rattle.std.specs.Str.{bytes_eq};
 ghost use Rattle.scad_ast.specs.StatementView.{instance_of};
-ghost use Rattle.scad_value.specs.Values.{NumberVal, is_bounded};
-ghost use Rattle.scad_scope.specs.Table.{rows_of};
+ghost use Rattle.scad_value.specs.Values.{NumberVal};
+ghost use Rattle.scad_value.specs.BoundedView.{bounded_val};
 ghost use Rattle.scad_func.specs.Meaning.{entered_scope, no_call, module_in};
-ghost use Rattle.scad_func.specs.View.{source_text, seen};
+ghost use Rattle.scad_func.specs.View.{source_text};
 ghost use Rattle.scad_func.specs.Definitions.{statements_at, IsWhole};
-ghost use Rattle.scad_func.specs.Evaluations.{Keeps, scopes_there};
+ghost use Rattle.scad_func.specs.Evaluations.{Keeps, scope_here};
 ghost use Rattle.scad_meaning.specs.Bodies.{children_in, is_child as is_child_at};
 ghost use Rattle.scad_pieces.specs.Positions.{term_of_numbered, HasBlocks};
-ghost use Rattle.scad_pieces.specs.Calls.{chosen_seen, instances_chosen, IsSafeChosen};
+ghost use Rattle.scad_meaning.specs.Meaning.{instances_chosen};
+ghost use Rattle.scad_pieces.specs.Calls.{chosen_seen, IsSafeChosen};
 
 use crate::chosen::chosen_among;
 use crate::numbered::{NumberedInstance, numbered_instances};
 use scad_ast::{Core, Instance};
 use scad_func::Evaluation;
 use scad_modules::Chosen;
+use scad_value::{BoundedValue, Value};
 use text_place::NoMemory;
 
 // The most children of a call: their number is one of the language's.
 const CHILDREN: usize = (1 << 53) - 1;
 
-/// Whether an instance of a scope is a child: `echo` and `assert` are none, where the source defines no
+/// Whether an instance of the scope in which is evaluated is a child: `echo` and `assert` are none, where the source defines no
 /// module of that name.
-pub fn is_child(evaluation: &Evaluation<'_, '_>, scope: u32, instance: &Instance) -> bool
-    requires { scope < scopes_there evaluation.now }
-    ensures { result ≡ is_child_at (seen evaluation.now.source.now (rows_of evaluation.now.scopes.now) scope) (instance_of instance.now) }
+pub fn is_child(evaluation: &Evaluation<'_, '_>, instance: &Instance) -> bool
+    ensures { result ≡ is_child_at (scope_here evaluation.now) (instance_of instance.now) }
 {
     match &instance.core {
-        Core::Call(_, name, _, _) => !says_only(evaluation, scope, name.items()),
+        Core::Call(_, name, _, _) => !says_only(evaluation, name.items()),
         Core::If(_, _, _)
         | Core::IfElse(_, _, _, _)
         | Core::For(_, _, _)
@@ -38,82 +39,76 @@ pub fn is_child(evaluation: &Evaluation<'_, '_>, scope: u32, instance: &Instance
     }
 }
 
-// Whether a name is `echo` or `assert`, and no module of the source, seen from a scope.
-fn says_only(evaluation: &Evaluation<'_, '_>, scope: u32, name: &[u8]) -> bool
-    requires { scope < scopes_there evaluation.now }
+// Whether a name is `echo` or `assert`, and no module of the source, seen from the scope.
+fn says_only(evaluation: &Evaluation<'_, '_>, name: &[u8]) -> bool
     ensures { result ≡ ((bytes_eq name.now (codes "echo") || bytes_eq name.now (codes "assert"))
-        && not (is_some (module_in (seen evaluation.now.source.now (rows_of evaluation.now.scopes.now) scope) name.now))) }
+        && not (is_some (module_in (scope_here evaluation.now) name.now))) }
 {
     (name == b"echo".as_slice() || name == b"assert".as_slice())
-        && evaluation.module(scope, name).is_none()
+        && evaluation.module(name).is_none()
 }
 
 // The children among the instances of a block, in its scope.
 fn children<'a>(
     evaluation: &Evaluation<'a, '_>,
-    scope: u32,
     block: u32,
 ) -> Result<Vec<NumberedInstance<'a>>, NoMemory>
-    requires scope { scope < scopes_there evaluation.now }
-    requires whole { IsWhole (source_text evaluation.now.source.now) }
-    ensures found { let env = seen evaluation.now.source.now (rows_of evaluation.now.scopes.now) scope in
-        IfOk result (λ found. map term_of_numbered found.items ≡ children_in env (statements_at (source_text evaluation.now.source.now) block)) }
+    requires { IsWhole (source_text evaluation.now.source.now) }
+    ensures found { IfOk result (λ found. map term_of_numbered found.items
+        ≡ children_in (scope_here evaluation.now) (statements_at (source_text evaluation.now.source.now) block)) }
     ensures blocks { IfOk result (λ found. All (HasBlocks (source_text evaluation.now.source.now)) found.items) }
 {
     let alloc = evaluation.alloc;
     let instances = numbered_instances(alloc, evaluation.source, block)?;
     let mut children = Vec::new(alloc);
     'each: for instance in &instances {
-        if is_child(evaluation, scope, instance.instance) {
+        if is_child(evaluation, instance.instance) {
             children.push(*instance)?;
         }
     }
     Ok(children)
 }
 
-/// How many children a call has whose body is a block, in a scope of it inside the caller's.
+/// How many children a call has whose body is a block, in a scope of it inside the one in which is evaluated.
 pub fn count_children(
     evaluation: &mut Evaluation<'_, '_>,
-    caller: u32,
     block: u32,
-) -> Result<i64, NoMemory>
-    requires caller { caller < scopes_there evaluation.old }
-    requires whole { IsWhole (source_text evaluation.old.source.now) }
+) -> Result<BoundedValue, NoMemory>
+    requires { IsWhole (source_text evaluation.old.source.now) }
     ensures count { let statements = statements_at (source_text evaluation.old.source.now) block in
-        let env = seen evaluation.old.source.now (rows_of evaluation.old.scopes.now) caller in
-        IfOk result (λ n. n ≡ pos (length (children_in (entered_scope statements no_call env) statements))) }
-    ensures small { IfOk result (λ n. IsTrue (is_bounded (NumberVal n))) }
+        IfOk result (λ n. bounded_val n ≡ NumberVal (pos (length (children_in (entered_scope statements no_call (scope_here evaluation.old)) statements)))) }
     ensures kept { OnOk result (Keeps evaluation.old evaluation.new) }
     ensures turns { evaluation.new.turns ≡ evaluation.old.turns }
 {
-    let scope = evaluation.enter_body(caller, block)?;
-    let children = children(evaluation, scope, block)?;
-    evaluation.leave(scope);
+    let outer = evaluation.scope;
+    let before = evaluation.enter_body(outer, block)?;
+    let children = children(evaluation, block)?;
+    evaluation.leave(before);
     if children.len() > CHILDREN {
         return Err(NoMemory);
     }
-    Ok(children.len() as i64)
+    Ok(BoundedValue {
+        value: Value::Number(children.len() as i64),
+    })
 }
 
 /// The instances of a block that are evaluated, or of its children those that are chosen.
 pub fn chosen_instances<'a>(
     evaluation: &Evaluation<'a, '_>,
-    scope: u32,
     block: u32,
     chosen: Option<&Chosen>,
 ) -> Result<Vec<NumberedInstance<'a>>, NoMemory>
-    requires scope { scope < scopes_there evaluation.now }
     requires whole { IsWhole (source_text evaluation.now.source.now) }
     requires safe { IsSafeChosen chosen }
-    ensures found { let env = seen evaluation.now.source.now (rows_of evaluation.now.scopes.now) scope in
-        IfOk result (λ found. map term_of_numbered found.items ≡ instances_chosen env (chosen_seen chosen.entry) (statements_at (source_text evaluation.now.source.now) block)) }
+    ensures found { IfOk result (λ found. map term_of_numbered found.items
+        ≡ instances_chosen (scope_here evaluation.now) (chosen_seen chosen.entry) (statements_at (source_text evaluation.now.source.now) block)) }
     ensures blocks { IfOk result (λ found. All (HasBlocks (source_text evaluation.now.source.now)) found.items) }
 {
     let alloc = evaluation.alloc;
     match chosen {
         None => numbered_instances(alloc, evaluation.source, block),
         Some(chosen) => {
-            let children = children(evaluation, scope, block)?;
+            let children = children(evaluation, block)?;
             chosen_among(alloc, children, chosen)
         }
     }

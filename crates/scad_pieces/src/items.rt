@@ -3,12 +3,13 @@
 ghost use Rattle.std.specs.Prelude.{◌≡◌, ◌<◌, [], ◌∷◌, IsTrue, IfSome, MatchOption, option_map};
 ghost use Rattle.scad_value.specs.Values.{is_bounded, is_small, ListVal, RangeVal, no_vals, and_val, vals_from, count_of};
 ghost use Rattle.scad_value.specs.View.{val_of, vals_of};
+ghost use Rattle.scad_value.specs.BoundedView.{bounded_val};
 ghost use Rattle.scad_meaning.specs.Loops.{items_of, number_vals, numbers_of_range};
 ghost use Rattle.scad_pieces.specs.BoundedItems.{all_bounded};
 ghost use Rattle.scad_pieces.specs.Items.{remaining_in, numbers_left};
 
 use crate::ranges::{count_of_range, number_at};
-use scad_value::{Value, Values};
+use scad_value::{BoundedValue, Value, Values};
 use std::vec::IntoIter;
 
 /// The numbers of a range that are left, from a place on.
@@ -83,10 +84,10 @@ pub struct Items {
 impl Items {
     /// The items of a list, which are moved and not copied, or the numbers of a range. None where a
     /// value has none.
-    pub fn of(value: Value) -> Option<Items>
-        requires { IsTrue (is_bounded (val_of value)) }
-        ensures { option_map (λ items. remaining_in items.remaining) result ≡ items_of (val_of value) }
+    pub fn of(value: BoundedValue) -> Option<Items>
+        ensures { option_map (λ items. remaining_in items.remaining) result ≡ items_of (bounded_val value) }
     {
+        let BoundedValue { value, .. } = value;
         match value {
             Value::List(items) => Some(Items::listed(items)),
             Value::Range { from, by, upto } => Some(Items::counted(from, by, upto)),
@@ -113,12 +114,14 @@ impl Items {
     }
 
     /// The next item, where one is left.
-    pub fn next(&mut self) -> Option<Value>
+    pub fn next(&mut self) -> Option<BoundedValue>
         ensures next { MatchOption result ((remaining_in self.old.remaining ≡ no_vals) × (remaining_in self.new.remaining ≡ no_vals))
-            (λ v. remaining_in self.old.remaining ≡ and_val (val_of v) (remaining_in self.new.remaining)) }
-        ensures bounded { IfSome result (λ v. IsTrue (is_bounded (val_of v))) }
+            (λ v. remaining_in self.old.remaining ≡ and_val (bounded_val v) (remaining_in self.new.remaining)) }
         ensures fewer { IfSome result (λ _. count_of (remaining_in self.new.remaining) < count_of (remaining_in self.old.remaining)) }
     {
-        self.remaining.next()
+        match self.remaining.next() {
+            Some(value) => Some(BoundedValue { value }),
+            None => None,
+        }
     }
 }

@@ -2,8 +2,8 @@
 
 ghost use Rattle.std.specs.Prelude.{◌≡◌, ℕ, option_map, IfOk};
 ghost use Rattle.scad_design.specs.View.{plain_of};
-ghost use Rattle.scad_meaning.specs.Meaning.{first_marked as first_of, no_design, joined_members, no_members as none_of};
-ghost use Rattle.scad_pieces.specs.Seen.{instance_design_of, member_designs_of, one_member_of, apart, IsLengthened};
+ghost use Rattle.scad_meaning.specs.Meaning.{first_marked as first_of, no_design, joined_members, no_members as none_of, apart};
+ghost use Rattle.scad_pieces.specs.Seen.{instance_design_of, member_designs_of, one_member_of, IsLengthened};
 
 use crate::position::{InstanceResult, MemberResults};
 use csg_tree::Op;

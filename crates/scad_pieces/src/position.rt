@@ -6,11 +6,10 @@ use scad_ast::Body;
 use scad_design::Design;
 use scad_meaning::Extrusion;
 
-/// Where an instance stands: the number of its scope, the extrusion that it is inside of, and whether
-/// it is inside an instance that is marked `!`.
+/// Where an instance stands, beside its scope: the extrusion that it is inside of, and whether it is inside an instance
+/// that is marked `!`.
 #[derive(Clone, Copy)]
 pub struct Position {
-    pub scope: u32,
     pub inside: Option<Extrusion>,
     pub under_mark: bool,
 }
@@ -37,23 +36,11 @@ pub struct MemberResults {
 }
 
 impl Position {
-    /// In another scope.
-    pub fn at(self, scope: u32) -> Position
-        ensures { result ≡ record { scope = scope; inside = self.inside; under_mark = self.under_mark } }
-    {
-        Position {
-            scope,
-            inside: self.inside,
-            under_mark: self.under_mark,
-        }
-    }
-
     /// Inside an instance that is marked `!`.
     pub fn marked(self) -> Position
-        ensures { result ≡ record { scope = self.scope; inside = self.inside; under_mark = true } }
+        ensures { result ≡ record { inside = self.inside; under_mark = true } }
     {
         Position {
-            scope: self.scope,
             inside: self.inside,
             under_mark: true,
         }
@@ -61,10 +48,9 @@ impl Position {
 
     /// Inside an extrusion.
     pub fn inside_extrusion(self, through: Extrusion) -> Position
-        ensures { result ≡ record { scope = self.scope; inside = Some through; under_mark = self.under_mark } }
+        ensures { result ≡ record { inside = Some through; under_mark = self.under_mark } }
     {
         Position {
-            scope: self.scope,
             inside: Some(through),
             under_mark: self.under_mark,
         }

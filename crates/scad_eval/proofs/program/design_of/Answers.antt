@@ -10,7 +10,7 @@ use Rattle.scad_eval.proofs.program.design_of.Goals as goal
 pub returns-in_err-members : goal.returns-in_err-members
 returns-in_err-members c = λ program text judge right.
     let p = err_from_is_err_and c.from_residual-in_err-members.result c.from_residual-in_err-members.ensures.1 in
-    let entered = c.in_ok-scope.ensures in
+    let entered = c.in_ok-enter_body.ensures in
     let new = c.enter_body.new.self in
     let after = c.members_in_scope.new.self in
     let here = program_begins entered.entered program c.requires.whole text c.requires.table.rows c.requires.table.chain refl entered.inside in
@@ -23,7 +23,7 @@ returns-in_err-members c = λ program text judge right.
 
 pub returns : goal.returns
 returns c = λ program text judge right.
-    let entered = c.in_ok-scope.ensures in
+    let entered = c.in_ok-enter_body.ensures in
     let new = c.enter_body.new.self in
     let after = c.members_in_scope.new.self in
     let here = program_begins entered.entered program c.requires.whole text c.requires.table.rows c.requires.table.chain refl entered.inside in

@@ -1,6 +1,5 @@
 use Rattle.std.proofs.Common.{◌≡◌, ◌++◌, ◌≤◌, length, map}
-use Rattle.std.specs.Prelude.{IsTrue}
-use Rattle.scad_scope.specs.Names.{have_bounded, oldest}
+use Rattle.scad_scope.specs.Names.{oldest}
 use Rattle.scad_scope.specs.Table.{rows_of, chain_of}
 use Rattle.scad_func.specs.View.{special_of, specials_in}
 use Rattle.scad_func.proofs.Chains.{set_on}
@@ -10,7 +9,6 @@ abbrev pub invariant-each : goal.invariant-each
 invariant-each l = record {
   told : set_on (map special_of l.left.rest.items) (chain_of l.scopes)
       ≡ specials_in l.fn.specials.items ++ chain_of l.fn.scopes;
-  bounded : IsTrue (have_bounded (map special_of l.left.rest.items));
   longer : length (chain_of l.fn.scopes) ≤ length (chain_of l.scopes);
   older : oldest (length (chain_of l.fn.scopes)) (chain_of l.scopes) ≡ chain_of l.fn.scopes;
   rows : rows_of l.scopes ≡ rows_of l.fn.scopes;

@@ -1,20 +1,18 @@
 use Rattle.std.proofs.Common.{◌≡◌, map, drop}
-use Rattle.std.specs.Prelude.{IsTrue}
 use Rattle.scad_ast.specs.Terms.{args_from}
 use Rattle.scad_ast.specs.ExprView.{arg_of, args_of}
 use Rattle.scad_arguments.specs.Arguments.{nothing_given}
-use Rattle.scad_func.specs.View.{arguments_of, arguments_bounded}
-use Rattle.scad_func.specs.Evaluations.{Keeps, setting}
+use Rattle.scad_func.specs.View.{arguments_of}
+use Rattle.scad_func.specs.Evaluations.{Keeps, setting_here}
 use Rattle.scad_meaning.specs.Meaning.{each_said}
 use Rattle.scad_pieces.proofs.arguments.said.Given as goal
 
 abbrev pub invariant-each : goal.invariant-each
 invariant-each l =
     let old = l.fn.evaluation in
-    let here = setting old l.scope in
+    let here = setting_here old in
     record {
       told : each_said here (args_from (args_of l.args)) (nothing_given 0) old.turns
           ≡ each_said here (args_from (map arg_of (drop l.arg-index l.args.items.items))) (arguments_of l.so_far.given) l.evaluation.turns;
-      bounded : IsTrue (arguments_bounded (arguments_of l.so_far.given));
       kept : Keeps old l.evaluation;
     }

@@ -1,7 +1,7 @@
 use Rattle.std.proofs.Common.{◌≤◌, length, map, ap, subst, sym, ◌∙◌, arith}
 use Rattle.std.specs.Prelude.{All}
-use Rattle.scad_scope.specs.Table.{rows_of}
-use Rattle.scad_func.specs.View.{seen, source_text}
+use Rattle.scad_func.specs.View.{source_text}
+use Rattle.scad_func.specs.Evaluations.{scope_here}
 use Rattle.scad_func.specs.Definitions.{statements_at}
 use Rattle.scad_pieces.specs.Positions.{term_of_numbered, HasBlocks}
 use Rattle.scad_pieces.proofs.KeptChildren.{children_found, children_blocks}
@@ -12,7 +12,7 @@ returns-clause-found c =
     let e = c.args.evaluation.now in
     let xs = c.deref-instance-items.result.now in
     let end : length xs ≤ c.each.instance-index = omega (arith, c.each-test.false) in
-    children_found (seen e.source.now (rows_of e.scopes.now) c.args.scope) xs c.each.children.items c.each.instance-index c.each.invariant end
+    children_found (scope_here e) xs c.each.children.items c.each.instance-index c.each.invariant end
     (statements_at (source_text e.source.now) c.args.block)
     (ap (map term_of_numbered) c.deref-instance-items.ensures.value ∙ c.in_ok-instances.ensures.instances)
 
@@ -21,5 +21,5 @@ returns-clause-blocks c =
     let e = c.args.evaluation.now in
     let xs = c.deref-instance-items.result.now in
     let end : length xs ≤ c.each.instance-index = omega (arith, c.each-test.false) in
-    children_blocks (seen e.source.now (rows_of e.scopes.now) c.args.scope) xs c.each.children.items c.each.instance-index c.each.invariant end
+    children_blocks (scope_here e) xs c.each.children.items c.each.instance-index c.each.invariant end
     (source_text e.source.now) (subst (All (HasBlocks (source_text e.source.now))) (sym c.deref-instance-items.ensures.value) c.in_ok-instances.ensures.blocks)

@@ -1,5 +1,5 @@
-use Rattle.scad_scope.specs.Table.{rows_of}
-use Rattle.scad_func.specs.View.{seen, source_text}
+use Rattle.scad_func.specs.View.{source_text}
+use Rattle.scad_func.specs.Evaluations.{scope_here}
 use Rattle.scad_func.specs.Definitions.{statements_at}
 use Rattle.scad_modules.specs.View.{chosen_of}
 use Rattle.scad_meaning.specs.Bodies.{children_in}
@@ -11,7 +11,7 @@ returns-in_ok-children-in-Some-clause-found c =
     let e = c.args.evaluation.now in
     let statements = statements_at (source_text e.source.now) c.args.block in
     rw (c.in-Some.is) (chosen_found c.chosen_among.result c.in_ok-children-in-Some.children.items (chosen_of c.in-Some.chosen.now) c.chosen_among.ensures
-    (children_in (seen e.source.now (rows_of e.scopes.now) c.args.scope) statements) c.in_ok-children-in-Some.ensures.found)
+    (children_in (scope_here e) statements) c.in_ok-children-in-Some.ensures.found)
 
 pub returns-in_ok-children-in-Some-clause-blocks : goal.returns-in_ok-children-in-Some-clause-blocks
 returns-in_ok-children-in-Some-clause-blocks c =

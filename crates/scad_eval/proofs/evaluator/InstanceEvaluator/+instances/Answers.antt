@@ -8,10 +8,10 @@ use Rattle.csg_tree.specs.declared.op.Op.TheVariants.{Union}
 use Rattle.scad_ast.specs.declared.statement.Binder.{Binder}
 use Rattle.scad_ast.specs.Terms.{BodyTerm, StatementTerms}
 use Rattle.scad_ast.specs.ExprView.{args_of}
-use Rattle.scad_ast.specs.StatementView.{binder_of}
-use Rattle.scad_value.specs.declared.value.Value.{Value}
-use Rattle.scad_value.specs.Values.{Val, Vals, vals_from}
-use Rattle.scad_value.specs.View.{val_of, vals_in}
+use Rattle.scad_ast.specs.StatementView.{binder_of, params_of}
+use Rattle.scad_value.specs.declared.bounded_value.BoundedValue.{BoundedValue}
+use Rattle.scad_value.specs.Values.{Val, Vals}
+use Rattle.scad_value.specs.BoundedView.{bounded_val}
 use Rattle.scad_scope.specs.Names.{Row, oldest}
 use Rattle.scad_scope.specs.Table.{chain_of}
 use Rattle.scad_blocks.specs.TextView.{module_of}
@@ -22,74 +22,79 @@ use Rattle.scad_modules.specs.declared.table.BuiltinModule.{BuiltinModule}
 use Rattle.scad_modules.specs.View.{chosen_of, call_of}
 use Rattle.scad_design.specs.Designs.{moved_by}
 use Rattle.scad_func.specs.Meaning.{Outcome, Gives, Faults, Opened, Within, no_call, with_variable, then_with, or_fault, one_call_fewer, turn, each_parameter, Arguments, Slots, Setting, Env}
-use Rattle.scad_func.specs.View.{seen, source_text, arguments_of, slots_in, specials_in, IsNoMemory}
+use Rattle.scad_func.specs.View.{seen, source_text, arguments_of, slots_in, specials_in, values_seen, IsNoMemory}
 use Rattle.scad_func.specs.Definitions.{statements_at}
-use Rattle.scad_func.specs.Evaluations.{SpecialsBegin}
+use Rattle.scad_func.specs.Evaluations.{SpecialsBegin, scope_here}
 use Rattle.scad_func.specs.declared.source.Source.{Source}
 use Rattle.scad_pieces.specs.declared.numbered.NumberedInstance.{NumberedInstance}
 use Rattle.scad_pieces.specs.declared.position.Position.{Position}
-use Rattle.scad_pieces.specs.Calls.{chosen_seen, instances_chosen}
+use Rattle.scad_pieces.specs.Calls.{chosen_seen}
 use Rattle.scad_pieces.specs.Items.{remaining_in}
 use Rattle.scad_pieces.specs.Positions.{term_of_numbered, HasBlocks}
-use Rattle.scad_pieces.specs.Seen.{one_member_of, member_designs_of, apart}
+use Rattle.scad_pieces.specs.Seen.{one_member_of, member_designs_of}
 use Rattle.scad_meaning.specs.Bodies.{is_child}
-use Rattle.scad_meaning.specs.Meaning.{Context, MemberDesigns, InstanceDesign, Evaluator, joined_members, moved_design, no_design, as_member, and_members, body_design, hull_design, built_in_design, children_design, effect_design, after_step, each_member, each_step, each_turn, in_loop, module_scope, with_calls_left, with_chain, inside_scope, setting}
+use Rattle.scad_meaning.specs.Meaning.{Context, MemberDesigns, InstanceDesign, Evaluator, joined_members, moved_design, no_design, as_member, and_members, body_design, hull_design, built_in_design, children_design, effect_design, after_step, each_member, each_step, each_turn, in_loop, module_scope, with_calls_left, with_chain, inside_scope, setting, apart, block_members, built_in_given, instances_chosen, module_filled, module_given}
 use Rattle.scad_eval.specs.declared.evaluator.InstanceEvaluator.{InstanceEvaluator}
 use Rattle.scad_eval.specs.Keeping.{evaluations_left, evaluator_at, env_at, context_at, CountsCall, StopsBefore}
-use Rattle.scad_eval.specs.Steps.{block_members, module_filled, module_given, built_in_given, one_step}
-use Rattle.scad_eval.specs.Within.{body_seen, AreGivenTo}
+use Rattle.scad_eval.specs.Steps.{one_step}
+use Rattle.scad_eval.specs.Within.{body_seen}
 use Rattle.scad_eval.proofs.Work.{work_falls, work_same}
 use Rattle.scad_eval.proofs.Counting.{design_too_deep, call_counted, call_too_deep, turn_counted}
-use Rattle.scad_eval.proofs.Membership.{child_is_member, as_member_outcome, member_step, loop_step, instances_here}
-use Rattle.scad_eval.proofs.Outcomes.{along, then_outcome, stop_outcome, only_no_memory, outcome_with, value_outcome, arguments_outcome, values_outcome, lengthened, lengthening_stops}
+use Rattle.scad_eval.proofs.Membership.{child_is_member, as_member_outcome, member_step, instances_here}
+use Rattle.scad_eval.proofs.Outcomes.{along, then_outcome, stop_outcome, only_no_memory, outcome_with, told_outcome, lengthened, lengthening_stops}
 use Rattle.scad_eval.proofs.Contexts.{stays_same, stays_alike, stays_then, stays_kept, same_context, meets_after, meets_at}
-use Rattle.scad_eval.proofs.Standing.{position_still, body_still, call_still, entered_position, entered_body, entered_newest, assigned_position, scope_entered, scope_bound, specials_begun, specials_there, call_begun, evaluation_begun, block_bound}
-use Rattle.scad_eval.proofs.Equations.{refused_outcome, joined_outcome, entered_meets, body_entered, block_meets, deeper_meets, call_meets, children_meets, specials_meets, specials_setting, built_in_refused, built_in_meets, children_as_members, marked_form, begun_front, lengthened_on, first_outcome, OnOk-at_ok}
+use Rattle.scad_eval.proofs.Standing.{position_still, body_still, call_still, scope_entered, scope_bound, specials_begun, specials_there, call_begun, evaluation_begun, block_bound}
+use Rattle.scad_eval.proofs.Equations.{refused_outcome, joined_outcome, entered_meets, body_entered, block_meets, deeper_meets, call_meets, children_meets, specials_meets, specials_setting, built_in_refused, built_in_meets, marked_form, begun_front, lengthened_on, first_outcome, OnOk-at_ok}
 use Rattle.scad_eval.proofs.evaluator.InstanceEvaluator.+instances.Goals as goal
 
 pub body-members_in_scope-requires : goal.body-members_in_scope-requires
 body-members_in_scope-requires t c =
     let m = c.args.self.now in
-    let e = c.in_ok-scope.ensures.entered in (
+    let e = c.in_ok-before.ensures.entered in (
       omega (arith, work_same c.enter_body.new.self.depth m.evaluation.depth e.depth, c.decreases),
-      (entered_position m _ c.args.position refl e c.at.ensures c.requires.stands.position, (entered_newest c.args.position e c.at.ensures, tt)),
+      (position_still m _ refl e.source c.requires.stands.position, (sym e.there, tt)),
     )
 
 pub body-returns-in_err-members-clause-made : goal.body-returns-in_err-members-clause-made
 body-returns-in_err-members-clause-made t c =
     let p = err_from_is_err_and c.from_residual-in_err-members.result c.from_residual-in_err-members.ensures.1 in
     let m = c.args.self.now in
-    let e = c.in_ok-scope.ensures.entered in
+    let e = c.in_ok-before.ensures.entered in
     rw (p.1, p.2) (record {
       by = λ judge right.
           stop_outcome (λ turns ms. Gives turns (joined_members c.args.op ms))
-          (body_entered m _ c.members_in_scope.new.self c.args.position c.at.result c.in_ok-scope.scope c.args.body.block no_call
-          (env_at m c.args.position.scope) None (statements_of_body (body_seen c.args.body))
-          c.requires.stands.position.whole c.requires.stands.block (record { unit = refl; leaves = refl; evaluation = e }) c.in_ok-scope.ensures.inside
-          c.enter_body.ensures.turns c.at.ensures c.in_err-members.ensures.members judge right);
+          (body_entered m _ c.members_in_scope.new.self c.args.position c.in_ok-before.before c.args.body.block no_call
+          (scope_here m.evaluation) None (statements_of_body (body_seen c.args.body))
+          c.requires.stands.position.whole c.requires.stands.block (record { unit = refl; leaves = refl; evaluation = e }) c.in_ok-before.ensures.inside
+          c.enter_body.ensures.turns c.in_err-members.ensures.members judge right);
     })
 
 pub body-returns-clause-made : goal.body-returns-clause-made
 body-returns-clause-made t c =
     let m = c.args.self.now in
-    let e = c.in_ok-scope.ensures.entered in
+    let e = c.in_ok-before.ensures.entered in
     record {
       by = λ judge right.
           joined_outcome c.args.op c.in_ok-members.members c.in_ok-joined.field-0 _ _ _
           (outcome_with c.leave.ensures.turns
-          (body_entered m _ c.members_in_scope.new.self c.args.position c.at.result c.in_ok-scope.scope c.args.body.block no_call
-          (env_at m c.args.position.scope) None (statements_of_body (body_seen c.args.body))
-          c.requires.stands.position.whole c.requires.stands.block (record { unit = refl; leaves = refl; evaluation = e }) c.in_ok-scope.ensures.inside
-          c.enter_body.ensures.turns c.at.ensures c.in_ok-members.ensures.members judge right))
+          (body_entered m _ c.members_in_scope.new.self c.args.position c.in_ok-before.before c.args.body.block no_call
+          (scope_here m.evaluation) None (statements_of_body (body_seen c.args.body))
+          c.requires.stands.position.whole c.requires.stands.block (record { unit = refl; leaves = refl; evaluation = e }) c.in_ok-before.ensures.inside
+          c.enter_body.ensures.turns c.in_ok-members.ensures.members judge right))
           c.in_ok-joined.ensures;
     }
 
 pub body-returns-clause-stays : goal.body-returns-clause-stays
 body-returns-clause-stays t c =
     let m = c.args.self.now in
-    let e = c.in_ok-scope.ensures.entered in
+    let e = c.in_ok-before.ensures.entered in
     let b = c.in_ok-members.ensures.binds in
-    stays_kept m _ b.unit (c.leave.ensures.back m.evaluation (scope_bound m c.args.position c.at.ensures b e))
+    stays_kept m _ b.unit (c.leave.ensures.back m.evaluation (scope_bound m b e))
+
+pub body-leave-requires : goal.body-leave-requires
+body-leave-requires t c =
+    let e = c.in_ok-before.ensures.entered in
+    omega (arith, e.from, e.number, c.in_ok-members.ensures.binds.stands, c.args.self.now.evaluation.there)
 
 pub members_in_scope-members-requires : goal.members_in_scope-members-requires
 members_in_scope-members-requires t c =
@@ -97,7 +102,7 @@ members_in_scope-members-requires t c =
     let a = c.in_ok-assign_all.ensures.assigns in (
       omega (arith, work_same c.assign_all.new.self.evaluation.depth m.evaluation.depth a.depth, c.decreases),
       (
-        assigned_position a c.requires.position,
+        position_still m _ a.unit a.source c.requires.position,
         subst (λ (is : List NumberedInstance). All (HasBlocks (source_text c.assign_all.new.self.evaluation.source.now)) is) (sym c.deref.ensures.value)
             c.in_ok-instances.ensures.blocks,
       ),
@@ -111,7 +116,7 @@ members_in_scope-returns-in_err-assign_all-clause-members t c =
       by = λ judge right.
           stop_outcome (λ turns there. each_member (evaluator_at m judge) there (instances_chosen there.env (chosen_seen c.args.chosen)
           (statements_at (source_text m.evaluation.source.now) c.args.block)) turns m.leaves)
-          (c.in_err-assign_all.ensures.assigned.by judge right);
+          ((c.in_err-assign_all.ensures.assigned c.args.position).by judge right);
     })
 
 pub members_in_scope-returns-in_err-members-clause-members : goal.members_in_scope-returns-in_err-members-clause-members
@@ -119,8 +124,8 @@ members_in_scope-returns-in_err-members-clause-members t c =
     let p = err_from_is_err_and c.from_residual-in_err-members.result c.from_residual-in_err-members.ensures.1 in
     rw (p.1, p.2) (record {
       by = λ judge right.
-          block_meets c.args.self.now c.assign_all.new.self c.members.new.self c.args.position c.args.block c.args.position.scope (chosen_seen c.args.chosen)
-          (map term_of_numbered c.deref.result.now) c.in_ok-assign_all.ensures.assigns (c.in_ok-assign_all.ensures.assigned.by judge right)
+          block_meets c.args.self.now c.assign_all.new.self c.members.new.self c.args.position c.args.block (chosen_seen c.args.chosen)
+          (map term_of_numbered c.deref.result.now) c.in_ok-assign_all.ensures.assigns ((c.in_ok-assign_all.ensures.assigned c.args.position).by judge right)
           (ap (map term_of_numbered) c.deref.ensures.value ∙ c.in_ok-instances.ensures.found) c.in_err-members.ensures.members judge right;
     })
 
@@ -128,15 +133,15 @@ pub members_in_scope-returns-clause-members : goal.members_in_scope-returns-clau
 members_in_scope-returns-clause-members t c = record {
   by = λ judge right.
       outcome_with c.end_specials.ensures.turns (
-      block_meets c.args.self.now c.assign_all.new.self c.members.new.self c.args.position c.args.block c.args.position.scope (chosen_seen c.args.chosen)
-      (map term_of_numbered c.deref.result.now) c.in_ok-assign_all.ensures.assigns (c.in_ok-assign_all.ensures.assigned.by judge right)
+      block_meets c.args.self.now c.assign_all.new.self c.members.new.self c.args.position c.args.block (chosen_seen c.args.chosen)
+      (map term_of_numbered c.deref.result.now) c.in_ok-assign_all.ensures.assigns ((c.in_ok-assign_all.ensures.assigned c.args.position).by judge right)
       (ap (map term_of_numbered) c.deref.ensures.value ∙ c.in_ok-instances.ensures.found) c.in_ok-members.ensures.members judge right);
 }
 
 pub members_in_scope-returns-clause-binds : goal.members_in_scope-returns-clause-binds
 members_in_scope-returns-clause-binds t c =
     let m = c.args.self.now in
-    block_bound m c.assign_all.new.self c.members.new.self _ c.args.position.scope c.in_ok-assign_all.ensures.assigns c.in_ok-members.ensures.stays refl
+    block_bound m c.assign_all.new.self c.members.new.self _ c.in_ok-assign_all.ensures.assigns c.in_ok-members.ensures.stays refl
     c.end_specials.ensures.same c.end_specials.ensures.rows
     (c.end_specials.ensures.chain ∙ ap (λ n. oldest n (chain_of c.members.new.self.evaluation.scopes.now)) c.in_ok-length.ensures)
 
@@ -154,61 +159,64 @@ children_made-returns-in-None-clause-made t c = record {
 pub children_made-members_in_scope-requires : goal.children_made-members_in_scope-requires
 children_made-members_in_scope-requires t c =
     let m = c.args.self.now in
-    let e = c.in_ok-scope-in-Some.ensures.entered in (
+    let e = c.in_ok-before-in-Some.ensures.entered in (
       omega (arith, work_same c.enter_body.new.self.depth m.evaluation.depth e.depth, c.decreases),
-      (entered_position m _ c.args.position refl e c.at.ensures c.requires.position, (entered_newest c.args.position e c.at.ensures, c.requires.safe)),
+      (position_still m _ refl e.source c.requires.position, (sym e.there, c.requires.safe)),
     )
 
 pub children_made-returns-in_err-members-in-Some-clause-made : goal.children_made-returns-in_err-members-in-Some-clause-made
 children_made-returns-in_err-members-in-Some-clause-made t c =
     let p = err_from_is_err_and c.from_residual-in_err-members-in-Some.result c.from_residual-in_err-members-in-Some.ensures.1 in
     let m = c.args.self.now in
-    let e = c.in_ok-scope-in-Some.ensures.entered in
+    let e = c.in_ok-before-in-Some.ensures.entered in
     let statements = statements_at (source_text m.evaluation.source.now) c.in-Some.call.children in
     let caller = env_at m c.in-Some.call.caller in
     rw (p.1, p.2) (record {
       by = λ judge right.
           along (ap (λ (o : Opened). children_design (evaluator_at m judge) (context_at m c.args.position) o (chosen_of c.args.chosen.now) m.evaluation.turns m.leaves)
-          c.in-Some.ensures.value
-          ∙ children_as_members (evaluator_at m judge) (context_at m c.args.position) statements caller (chosen_of c.args.chosen.now) m.evaluation.turns m.leaves)
+          c.in-Some.ensures.value)
           (stop_outcome (λ turns ms. Gives turns (joined_members Union ms))
-          (body_entered m _ c.members_in_scope.new.self c.args.position c.at.result c.in_ok-scope-in-Some.scope c.in-Some.call.children no_call caller (Some (chosen_of c.args.chosen.now)) statements
-          c.requires.position.whole refl (record { unit = refl; leaves = refl; evaluation = e }) c.in_ok-scope-in-Some.ensures.inside c.enter_body.ensures.turns
-          c.at.ensures c.in_err-members-in-Some.ensures.members judge right));
+          (body_entered m _ c.members_in_scope.new.self c.args.position c.in_ok-before-in-Some.before c.in-Some.call.children no_call caller (Some (chosen_of c.args.chosen.now)) statements
+          c.requires.position.whole refl (record { unit = refl; leaves = refl; evaluation = e }) c.in_ok-before-in-Some.ensures.inside c.enter_body.ensures.turns
+          c.in_err-members-in-Some.ensures.members judge right));
     })
 
 pub children_made-returns-in_ok-joined-in-Some-clause-made : goal.children_made-returns-in_ok-joined-in-Some-clause-made
 children_made-returns-in_ok-joined-in-Some-clause-made t c =
     let m = c.args.self.now in
-    let e = c.in_ok-scope-in-Some.ensures.entered in
+    let e = c.in_ok-before-in-Some.ensures.entered in
     let statements = statements_at (source_text m.evaluation.source.now) c.in-Some.call.children in
     let caller = env_at m c.in-Some.call.caller in
     record {
       by = λ judge right.
           along (ap (λ (o : Opened). children_design (evaluator_at m judge) (context_at m c.args.position) o (chosen_of c.args.chosen.now) m.evaluation.turns m.leaves)
-          c.in-Some.ensures.value
-          ∙ children_as_members (evaluator_at m judge) (context_at m c.args.position) statements caller (chosen_of c.args.chosen.now) m.evaluation.turns m.leaves)
+          c.in-Some.ensures.value)
           (joined_outcome Union c.in_ok-members-in-Some.members c.in_ok-joined-in-Some.field-0 _ _ _
           (outcome_with c.leave.ensures.turns
-          (body_entered m _ c.members_in_scope.new.self c.args.position c.at.result c.in_ok-scope-in-Some.scope c.in-Some.call.children no_call caller (Some (chosen_of c.args.chosen.now)) statements
-          c.requires.position.whole refl (record { unit = refl; leaves = refl; evaluation = e }) c.in_ok-scope-in-Some.ensures.inside c.enter_body.ensures.turns
-          c.at.ensures c.in_ok-members-in-Some.ensures.members judge right))
+          (body_entered m _ c.members_in_scope.new.self c.args.position c.in_ok-before-in-Some.before c.in-Some.call.children no_call caller (Some (chosen_of c.args.chosen.now)) statements
+          c.requires.position.whole refl (record { unit = refl; leaves = refl; evaluation = e }) c.in_ok-before-in-Some.ensures.inside c.enter_body.ensures.turns
+          c.in_ok-members-in-Some.ensures.members judge right))
           c.in_ok-joined-in-Some.ensures);
     }
 
 pub children_made-returns-in_ok-joined-in-Some-clause-stays : goal.children_made-returns-in_ok-joined-in-Some-clause-stays
 children_made-returns-in_ok-joined-in-Some-clause-stays t c =
     let m = c.args.self.now in
-    let e = c.in_ok-scope-in-Some.ensures.entered in
+    let e = c.in_ok-before-in-Some.ensures.entered in
     let b = c.in_ok-members-in-Some.ensures.binds in
-    stays_kept m _ b.unit (c.leave.ensures.back m.evaluation (scope_bound m c.args.position c.at.ensures b e))
+    stays_kept m _ b.unit (c.leave.ensures.back m.evaluation (scope_bound m b e))
+
+pub children_made-leave-requires : goal.children_made-leave-requires
+children_made-leave-requires t c =
+    let e = c.in_ok-before-in-Some.ensures.entered in
+    omega (arith, e.from, e.number, c.in_ok-members-in-Some.ensures.binds.stands, c.args.self.now.evaluation.there)
 
 pub children_called-children_made-requires : goal.children_called-children_made-requires
 children_called-children_made-requires t c =
     let m = c.args.self.now in
     let b = c.in_ok-begin_call.ensures.begun in (
       omega (arith, work_same c.begin_call.new.self.depth m.evaluation.depth b.depth, c.decreases),
-      (position_still m _ refl b.source b.rows c.requires.position, c.requires.safe),
+      (position_still m _ refl b.source c.requires.position, c.requires.safe),
     )
 
 pub children_called-returns-in_err-begin_call-clause-made : goal.children_called-returns-in_err-begin_call-clause-made
@@ -261,7 +269,7 @@ built_in_made-effect_made-requires t c =
     let begun : InstanceEvaluator = record { evaluation = c.begin_specials-begun.new.self; unit = m.unit; leaves = m.leaves; few_leaves = m.few_leaves } in
     let begins : SpecialsBegin m.evaluation begun.evaluation c.in_ok-slots.length = IfOk-at_ok (λ (n : ℕ). SpecialsBegin m.evaluation begun.evaluation n) ok.1 c.begin_specials-begun.ensures.begun in (
       omega (arith, work_same c.begin_specials-begun.new.self.depth m.evaluation.depth begins.depth, c.decreases),
-      (body_still m _ refl begins.source begins.rows c.requires.stands, c.in_ok-effect.ensures.safe),
+      (body_still m _ refl begins.source c.requires.stands, c.in_ok-effect.ensures.safe),
     )
 
 pub built_in_made-returns-in_err-effect-clause-made : goal.built_in_made-returns-in_err-effect-clause-made
@@ -275,7 +283,7 @@ built_in_made-returns-in_err-effect-clause-made t c =
     rw (p.1, p.2) (record {
       by = λ judge right.
           built_in_refused m begun c.args.position c.args.place c.args.built_in (arguments_of c.args.given) (body_seen c.args.body) (slots_in c.in_ok-slots.slots.items) chain
-          (ap slots_in (ap (λ (v : Vec (Option Value) Global). v.items) (sym ok.0)))
+          (ap slots_in (ap (λ (v : Vec (Option BoundedValue) Global). v.items) (sym ok.0)))
           c.in_err-effect.field-0.0 _ _ c.in_err-effect.ensures.effect judge;
     })
 
@@ -290,7 +298,7 @@ built_in_made-returns-in_err-made-clause-made t c =
     rw (p.1, p.2) (record {
       by = λ judge right.
           built_in_meets m begun c.args.position c.args.place c.args.built_in (arguments_of c.args.given) (body_seen c.args.body) (slots_in c.in_ok-slots.slots.items) chain
-          (ap slots_in (ap (λ (v : Vec (Option Value) Global). v.items) (sym ok.0)))
+          (ap slots_in (ap (λ (v : Vec (Option BoundedValue) Global). v.items) (sym ok.0)))
           _ c.effect_made.new.self c.in_ok-slots.length (call_of c.in_ok-effect.effect) refl refl c.begin_specials-begun.ensures.turns begins (stays_alike begun _ refl refl) refl
           c.in_ok-effect.ensures.effect
           c.in_err-made.ensures.made judge right;
@@ -307,7 +315,7 @@ built_in_made-returns-clause-made t c =
       by = λ judge right.
           outcome_with c.end_specials.ensures.turns
           (built_in_meets m begun c.args.position c.args.place c.args.built_in (arguments_of c.args.given) (body_seen c.args.body) (slots_in c.in_ok-slots.slots.items) chain
-          (ap slots_in (ap (λ (v : Vec (Option Value) Global). v.items) (sym ok.0)))
+          (ap slots_in (ap (λ (v : Vec (Option BoundedValue) Global). v.items) (sym ok.0)))
           _ c.effect_made.new.self c.in_ok-slots.length (call_of c.in_ok-effect.effect) refl refl c.begin_specials-begun.ensures.turns begins (stays_alike begun _ refl refl) refl
           c.in_ok-effect.ensures.effect
           c.in_ok-made.ensures.made judge right);
@@ -340,7 +348,7 @@ built_in_called-returns-in_err-given-in-Some-clause-made t c =
           along (ap (λ (o : Option BuiltinModule). built_in_design (evaluator_at m judge) (context_at m c.args.position) c.args.place c.args.name.now (args_of c.args.args.now) (body_seen c.args.body) o m.evaluation.turns m.leaves)
           (sym c.in-Some.ensures))
           (stop_outcome (λ turns given. built_in_given (evaluator_at m judge) c.args.place c.in-Some.built_in given (body_seen c.args.body) (context_at m c.args.position) turns m.leaves)
-          (arguments_outcome (Err c.in_err-given-in-Some.field-0.0) c.arguments_for.new.evaluation.turns m.leaves _ c.in_err-given-in-Some.ensures.value));
+          (told_outcome arguments_of (Err c.in_err-given-in-Some.field-0.0) c.arguments_for.new.evaluation.turns m.leaves _ c.in_err-given-in-Some.ensures.value));
     })
 
 pub built_in_called-returns-in_ok-given-in-Some-clause-made : goal.built_in_called-returns-in_ok-given-in-Some-clause-made
@@ -351,7 +359,7 @@ built_in_called-returns-in_ok-given-in-Some-clause-made t c =
           along (ap (λ (o : Option BuiltinModule). built_in_design (evaluator_at m judge) (context_at m c.args.position) c.args.place c.args.name.now (args_of c.args.args.now) (body_seen c.args.body) o m.evaluation.turns m.leaves)
           (sym c.in-Some.ensures))
           (then_outcome (λ turns given. built_in_given (evaluator_at m judge) c.args.place c.in-Some.built_in given (body_seen c.args.body) (context_at m c.args.position) turns m.leaves)
-          (arguments_outcome (Ok c.in_ok-given-in-Some.given) c.arguments_for.new.evaluation.turns m.leaves _ c.in_ok-given-in-Some.ensures.value)
+          (told_outcome arguments_of (Ok c.in_ok-given-in-Some.given) c.arguments_for.new.evaluation.turns m.leaves _ c.in_ok-given-in-Some.ensures.value)
           (meets_after (stays_kept m _ refl c.arguments_for.ensures.kept) c.built_in_made.ensures.made judge right));
     }
 
@@ -365,7 +373,7 @@ built_in_called-built_in_made-requires t c =
     let m = c.args.self.now in
     let k = c.arguments_for.ensures.kept in (
       omega (arith, work_same c.arguments_for.new.evaluation.depth m.evaluation.depth k.depth, c.decreases),
-      (body_still m _ refl k.source k.rows c.requires.stands, c.in_ok-given-in-Some.ensures.value.1),
+      body_still m _ refl k.source c.requires.stands,
     )
 
 pub effect_made-returns-in-Solid-clause-made : goal.effect_made-returns-in-Solid-clause-made
@@ -425,7 +433,7 @@ instance-marked_or_not-requires t c =
     let b = c.in_ok-begin_evaluation.ensures.begun in (
       omega (arith, work_falls m.evaluation.depth b.within, work_same c.begin_evaluation.new.self.depth (m.evaluation.depth + 1) b.depth, c.decreases),
       (
-        position_still m _ refl b.source b.rows c.requires.position,
+        position_still m _ refl b.source c.requires.position,
         subst (λ (x : Source). HasBlocks (source_text x) c.args.instance) (sym b.source) c.requires.blocks,
       ),
     )
@@ -504,7 +512,7 @@ members-instance-next-requires t c =
     let h : i < length xs = omega (arith, c.each-test.true) in (
       omega (arith, work_same c.each.self.evaluation.depth m.evaluation.depth k.depth, c.decreases),
       (
-        position_still m _ k.unit k.source k.rows c.requires.position,
+        position_still m _ k.unit k.source c.requires.position,
         subst (λ (x : Source). HasBlocks (source_text x) c.instance-item.result) (sym k.source)
             (subst (λ (x : NumberedInstance). HasBlocks (source_text m.evaluation.source.now) x) (sym c.instance-item.is) (c.requires.blocks i c.instance-item.result h)),
       ),
@@ -560,8 +568,11 @@ module_called-module_with_specials-requires t c =
     let counted : CountsCall m mid = OnOk-at_ok ok.1 c.begin_counted_call-begun.ensures.counted in (
       omega (arith, work_same mid.evaluation.depth m.evaluation.depth counted.begun.depth, c.decreases),
       (
-        call_still m _ counted.unit counted.begun.source counted.begun.rows c.requires.called,
-        subst (λ (given : GivenArguments Value). AreGivenTo c.args.defined given) (sym ok.0) c.requires.given,
+        position_still m _ counted.unit counted.begun.source c.requires.position,
+        (
+          call_still m _ counted.begun.source counted.begun.rows c.requires.called,
+          subst (λ (given : GivenArguments BoundedValue). length given.slots.items ≡ length (params_of c.args.defined.params.now)) (sym ok.0) c.requires.given,
+        ),
       ),
     )
 
@@ -587,7 +598,7 @@ module_called-returns-in_err-made-clause-made t c =
           (λ calls turns. module_given (evaluator_at m judge) (module_of c.args.defined, env_at m c.args.home)
           (arguments_of c.args.given) (body_seen c.args.body) (with_calls_left (context_at m c.args.position) calls) turns m.leaves)
           counted.begun.within counted.few refl counted.turns
-          ∙ ap (λ (given : GivenArguments Value). module_given (evaluator_at m judge) (module_of c.args.defined, env_at m c.args.home)
+          ∙ ap (λ (given : GivenArguments BoundedValue). module_given (evaluator_at m judge) (module_of c.args.defined, env_at m c.args.home)
           (arguments_of given) (body_seen c.args.body) (with_calls_left (context_at m c.args.position) (64 - (m.evaluation.calls + 1))) mid.evaluation.turns m.leaves) (sym ok.0))
           (call_meets (λ (x : Source) (rows : List Row) evaluator. module_given evaluator (module_of c.args.defined, seen x rows c.args.home) (arguments_of c.in_ok-given.given) (body_seen c.args.body))
           m mid c.module_with_specials.new.self c.args.position counted.unit counted.leaves counted.begun c.in_err-made.ensures.made judge right);
@@ -606,7 +617,7 @@ module_called-returns-clause-made t c =
           (λ calls turns. module_given (evaluator_at m judge) (module_of c.args.defined, env_at m c.args.home)
           (arguments_of c.args.given) (body_seen c.args.body) (with_calls_left (context_at m c.args.position) calls) turns m.leaves)
           counted.begun.within counted.few refl counted.turns
-          ∙ ap (λ (given : GivenArguments Value). module_given (evaluator_at m judge) (module_of c.args.defined, env_at m c.args.home)
+          ∙ ap (λ (given : GivenArguments BoundedValue). module_given (evaluator_at m judge) (module_of c.args.defined, env_at m c.args.home)
           (arguments_of given) (body_seen c.args.body) (with_calls_left (context_at m c.args.position) (64 - (m.evaluation.calls + 1))) mid.evaluation.turns m.leaves) (sym ok.0))
           (call_meets (λ (x : Source) (rows : List Row) evaluator. module_given evaluator (module_of c.args.defined, seen x rows c.args.home) (arguments_of c.in_ok-given.given) (body_seen c.args.body))
           m mid c.module_with_specials.new.self c.args.position counted.unit counted.leaves counted.begun c.in_ok-made.ensures.made judge right));
@@ -624,9 +635,9 @@ module_called-returns-clause-stays t c =
 pub module_made-members_in_scope-requires : goal.module_made-members_in_scope-requires
 module_made-members_in_scope-requires t c =
     let m = c.args.self.now in
-    let e = c.in_ok-opened.ensures.entered in (
+    let e = c.in_ok-before.ensures.entered in (
       omega (arith, work_same c.enter_module.new.self.evaluation.depth m.evaluation.depth e.evaluation.depth, c.decreases),
-      (entered_position m _ c.args.position e.unit e.evaluation c.at.ensures c.requires.called.position, (entered_newest c.args.position e.evaluation c.at.ensures, tt)),
+      (position_still m _ e.unit e.evaluation.source c.requires.position, (sym e.evaluation.there, tt)),
     )
 
 pub module_made-returns-in_err-members-clause-made : goal.module_made-returns-in_err-members-clause-made
@@ -634,8 +645,8 @@ module_made-returns-in_err-members-clause-made t c =
     let p = err_from_is_err_and c.from_residual-in_err-members.result c.from_residual-in_err-members.ensures.1 in
     let m = c.args.self.now in
     let home = env_at m c.args.home in
-    let caller = env_at m c.args.position.scope in
-    let vs = vals_from (vals_in c.args.values.items) in
+    let caller = scope_here m.evaluation in
+    let vs = values_seen c.args.values in
     let env = module_scope home (module_of c.args.defined) vs (statements_of_body (body_seen c.args.body)) caller in
     rw (p.1, p.2) (record {
       by = λ judge right.
@@ -643,16 +654,16 @@ module_made-returns-in_err-members-clause-made t c =
           (along (ap (λ (st : StatementTerms). block_members (evaluator_at m judge) None st (inside_scope (context_at m c.args.position) env) m.evaluation.turns m.leaves)
           (sym c.requires.called.its_block))
           (entered_meets (λ (x : Source) evaluator. block_members evaluator None (statements_at (source_text x) c.args.defined.block))
-          m c.enter_module.new.self c.members_in_scope.new.self c.args.position c.at.result c.in_ok-opened.opened env c.in_ok-opened.ensures.entered c.in_ok-opened.ensures.inside
-          c.enter_module.ensures.turns c.at.ensures c.in_err-members.ensures.members judge right));
+          m c.enter_module.new.self c.members_in_scope.new.self c.args.position c.in_ok-before.before env c.in_ok-before.ensures.entered c.in_ok-before.ensures.inside
+          c.enter_module.ensures.turns c.in_err-members.ensures.members judge right));
     })
 
 pub module_made-returns-clause-made : goal.module_made-returns-clause-made
 module_made-returns-clause-made t c =
     let m = c.args.self.now in
     let home = env_at m c.args.home in
-    let caller = env_at m c.args.position.scope in
-    let vs = vals_from (vals_in c.args.values.items) in
+    let caller = scope_here m.evaluation in
+    let vs = values_seen c.args.values in
     let env = module_scope home (module_of c.args.defined) vs (statements_of_body (body_seen c.args.body)) caller in
     record {
       by = λ judge right.
@@ -661,18 +672,18 @@ module_made-returns-clause-made t c =
           (along (ap (λ (st : StatementTerms). block_members (evaluator_at m judge) None st (inside_scope (context_at m c.args.position) env) m.evaluation.turns m.leaves)
           (sym c.requires.called.its_block))
           (entered_meets (λ (x : Source) evaluator. block_members evaluator None (statements_at (source_text x) c.args.defined.block))
-          m c.enter_module.new.self c.members_in_scope.new.self c.args.position c.at.result c.in_ok-opened.opened env c.in_ok-opened.ensures.entered c.in_ok-opened.ensures.inside
-          c.enter_module.ensures.turns c.at.ensures c.in_ok-members.ensures.members judge right)))
+          m c.enter_module.new.self c.members_in_scope.new.self c.args.position c.in_ok-before.before env c.in_ok-before.ensures.entered c.in_ok-before.ensures.inside
+          c.enter_module.ensures.turns c.in_ok-members.ensures.members judge right)))
           c.in_ok-joined.ensures;
     }
 
 pub module_made-returns-clause-stays : goal.module_made-returns-clause-stays
 module_made-returns-clause-stays t c =
     let m = c.args.self.now in
-    let e = c.in_ok-opened.ensures.entered in
+    let e = c.in_ok-before.ensures.entered in
     let b = c.in_ok-members.ensures.binds in
     stays_kept m _ (b.unit ∙ e.unit) (c.leave.ensures.back m.evaluation
-    (scope_bound m c.args.position c.at.ensures b e.evaluation))
+    (scope_bound m b e.evaluation))
 
 -- the values of a module's parameters, and the module with them
 module _ (evaluator : Evaluator) (defined : Module) (home : Env) (given : Arguments) (there : Context) (from : Setting) (slots : Slots) (start : ℕ) {turns : ℕ}
@@ -687,6 +698,11 @@ module _ (evaluator : Evaluator) (defined : Module) (home : Env) (given : Argume
       ≡ module_filled evaluator (defined, home) vs body there after leaves
   filled_from body leaves h = ap (λ o. then_with o (λ turns vs. module_filled evaluator (defined, home) vs body there turns leaves)) (parameters_from ∙ h)
 
+pub module_made-leave-requires : goal.module_made-leave-requires
+module_made-leave-requires t c =
+    let e = c.in_ok-before.ensures.entered.evaluation in
+    omega (arith, e.from, e.number, c.in_ok-members.ensures.binds.stands, c.args.self.now.evaluation.there)
+
 pub module_with_specials-returns-in_err-slots-clause-made : goal.module_with_specials-returns-in_err-slots-clause-made
 module_with_specials-returns-in_err-slots-clause-made t c =
     let p = err_from_is_err_and c.from_residual.result c.from_residual.ensures.1 in
@@ -700,11 +716,14 @@ module_with_specials-module_made-requires t c =
     let ok = c.in_ok-slots.ensures.ok in
     let begun : InstanceEvaluator = record { evaluation = c.begin_specials-begun.new.self; unit = m.unit; leaves = m.leaves; few_leaves = m.few_leaves } in
     let begins : SpecialsBegin m.evaluation begun.evaluation c.in_ok-slots.length = IfOk-at_ok (λ (n : ℕ). SpecialsBegin m.evaluation begun.evaluation n) ok.1 c.begin_specials-begun.ensures.begun in
-    let k = c.each_parameter.ensures.kept in (
-      omega (arith, work_same c.each_parameter.new.self.depth m.evaluation.depth (k.depth ∙ begins.depth), c.decreases),
+    let k = c.parameters_in.ensures.kept in (
+      omega (arith, work_same c.parameters_in.new.self.depth m.evaluation.depth (k.depth ∙ begins.depth), c.decreases),
       (
-        call_still m _ refl (k.source ∙ begins.source) (k.rows ∙ begins.rows) c.requires.called,
-        record { count = c.in_ok-values.ensures.count; bounded = c.in_ok-values.ensures.value.1 },
+        position_still m _ refl (k.source ∙ begins.source) c.requires.position,
+        (
+          call_still m _ (k.source ∙ begins.source) (k.rows ∙ begins.rows) c.requires.called,
+          c.in_ok-values.ensures.count,
+        ),
       ),
     )
 
@@ -724,8 +743,8 @@ module_with_specials-returns-in_err-values-clause-made t c =
           let go : ℕ → Vals → Outcome InstanceDesign = λ turns vs. module_filled (evaluator_at m judge) (module_of c.args.defined, home) vs (body_seen c.args.body) there turns m.leaves in
           along (ap (λ o. then_with o go) (parameters_from (evaluator_at m judge) (module_of c.args.defined) home given there _ _ _
           (specials_setting m begun c.args.position c.args.home c.in_ok-slots.length given.specials begins chain)
-          (ap slots_in (ap (λ (v : Vec (Option Value) Global). v.items) (sym ok.0))) c.begin_specials-begun.ensures.turns))
-          (stop_outcome go (values_outcome (Err c.in_err-values.field-0.0) c.each_parameter.new.self.turns m.leaves _ c.in_err-values.ensures.value));
+          (ap slots_in (ap (λ (v : Vec (Option BoundedValue) Global). v.items) (sym ok.0))) c.begin_specials-begun.ensures.turns))
+          (stop_outcome go (told_outcome values_seen (Err c.in_err-values.field-0.0) c.parameters_in.new.self.turns m.leaves _ c.in_err-values.ensures.values));
     })
 
 pub module_with_specials-returns-in_err-made-clause-made : goal.module_with_specials-returns-in_err-made-clause-made
@@ -743,11 +762,11 @@ module_with_specials-returns-in_err-made-clause-made t c =
           let there = with_chain (context_at m c.args.position) (given.specials ++ chain_of m.evaluation.scopes.now) in
           along (filled_from (evaluator_at m judge) (module_of c.args.defined) home given there _ _ _
           (specials_setting m begun c.args.position c.args.home c.in_ok-slots.length given.specials begins chain)
-          (ap slots_in (ap (λ (v : Vec (Option Value) Global). v.items) (sym ok.0))) c.begin_specials-begun.ensures.turns
-          (body_seen c.args.body) m.leaves c.in_ok-values.ensures.value.0)
-          (specials_meets (λ (x : Source) (rows : List Row) evaluator. module_filled evaluator (module_of c.args.defined, seen x rows c.args.home) (vals_from (vals_in c.in_ok-values.values.items)) (body_seen c.args.body))
+          (ap slots_in (ap (λ (v : Vec (Option BoundedValue) Global). v.items) (sym ok.0))) c.begin_specials-begun.ensures.turns
+          (body_seen c.args.body) m.leaves c.in_ok-values.ensures.values)
+          (specials_meets (λ (x : Source) (rows : List Row) evaluator. module_filled evaluator (module_of c.args.defined, seen x rows c.args.home) (values_seen c.in_ok-values.values) (body_seen c.args.body))
           m begun _ c.module_made.new.self c.args.position c.in_ok-slots.length given.specials refl refl begins chain
-          (stays_kept begun _ refl c.each_parameter.ensures.kept) refl c.in_err-made.ensures.made judge right);
+          (stays_kept begun _ refl c.parameters_in.ensures.kept) refl c.in_err-made.ensures.made judge right);
     })
 
 pub module_with_specials-returns-clause-made : goal.module_with_specials-returns-clause-made
@@ -765,11 +784,11 @@ module_with_specials-returns-clause-made t c =
           outcome_with c.end_specials.ensures.turns
           (along (filled_from (evaluator_at m judge) (module_of c.args.defined) home given there _ _ _
           (specials_setting m begun c.args.position c.args.home c.in_ok-slots.length given.specials begins chain)
-          (ap slots_in (ap (λ (v : Vec (Option Value) Global). v.items) (sym ok.0))) c.begin_specials-begun.ensures.turns
-          (body_seen c.args.body) m.leaves c.in_ok-values.ensures.value.0)
-          (specials_meets (λ (x : Source) (rows : List Row) evaluator. module_filled evaluator (module_of c.args.defined, seen x rows c.args.home) (vals_from (vals_in c.in_ok-values.values.items)) (body_seen c.args.body))
+          (ap slots_in (ap (λ (v : Vec (Option BoundedValue) Global). v.items) (sym ok.0))) c.begin_specials-begun.ensures.turns
+          (body_seen c.args.body) m.leaves c.in_ok-values.ensures.values)
+          (specials_meets (λ (x : Source) (rows : List Row) evaluator. module_filled evaluator (module_of c.args.defined, seen x rows c.args.home) (values_seen c.in_ok-values.values) (body_seen c.args.body))
           m begun _ c.module_made.new.self c.args.position c.in_ok-slots.length given.specials refl refl begins chain
-          (stays_kept begun _ refl c.each_parameter.ensures.kept) refl c.in_ok-made.ensures.made judge right));
+          (stays_kept begun _ refl c.parameters_in.ensures.kept) refl c.in_ok-made.ensures.made judge right));
     }
 
 pub module_with_specials-returns-clause-stays : goal.module_with_specials-returns-clause-stays
@@ -778,7 +797,7 @@ module_with_specials-returns-clause-stays t c =
     let ok = c.in_ok-slots.ensures.ok in
     let begun : InstanceEvaluator = record { evaluation = c.begin_specials-begun.new.self; unit = m.unit; leaves = m.leaves; few_leaves = m.few_leaves } in
     let begins : SpecialsBegin m.evaluation begun.evaluation c.in_ok-slots.length = IfOk-at_ok (λ (n : ℕ). SpecialsBegin m.evaluation begun.evaluation n) ok.1 c.begin_specials-begun.ensures.begun in
-    let k = stays_then (stays_kept begun _ refl c.each_parameter.ensures.kept) c.in_ok-made.ensures.stays in
+    let k = stays_then (stays_kept begun _ refl c.parameters_in.ensures.kept) c.in_ok-made.ensures.stays in
     stays_kept m _ k.unit (c.end_specials.ensures.back m.evaluation (specials_begun m c.in_ok-slots.length k begins))
 
 pub module_with_specials-end_specials-requires : goal.module_with_specials-end_specials-requires
@@ -788,15 +807,15 @@ module_with_specials-end_specials-requires t c =
     let begun : InstanceEvaluator = record { evaluation = c.begin_specials-begun.new.self; unit = m.unit; leaves = m.leaves; few_leaves = m.few_leaves } in
     let begins : SpecialsBegin m.evaluation begun.evaluation c.in_ok-slots.length = IfOk-at_ok (λ (n : ℕ). SpecialsBegin m.evaluation begun.evaluation n) ok.1 c.begin_specials-begun.ensures.begun in
     let chain : chain_of begun.evaluation.scopes.now ≡ specials_in c.args.given.specials.items ++ chain_of m.evaluation.scopes.now = OnOk-at_ok ok.1 c.begin_specials-begun.ensures.chain in
-    let k = stays_then (stays_kept begun _ refl c.each_parameter.ensures.kept) c.in_ok-made.ensures.stays in
+    let k = stays_then (stays_kept begun _ refl c.parameters_in.ensures.kept) c.in_ok-made.ensures.stays in
     specials_there m c.in_ok-slots.length (specials_in c.args.given.specials.items) k begins chain
 
 pub one_or_nothing-returns-clause-made : goal.one_or_nothing-returns-clause-made
 one_or_nothing-returns-clause-made t c = record {
   by = λ judge right.
       let m = c.args.self.now in
-      let n = c.expression.new.self.turns in
-      then_outcome _ (value_outcome (Ok c.in_ok-value.value) n m.leaves _ c.in_ok-value.ensures.value)
+      let n = c.evaluate.new.self.turns in
+      then_outcome _ (told_outcome bounded_val (Ok c.in_ok-value.value) n m.leaves _ c.in_ok-value.ensures.value)
       (record {
         is = ap (λ (b : Bool). if b then body_design (evaluator_at m judge) Union (context_at m c.args.position) (body_seen c.args.body) n m.leaves else Gives n (no_design m.leaves))
             (sym c.truth.ensures ∙ c.if-truth.false)
@@ -808,30 +827,30 @@ pub one_or_nothing-returns-then-truth-clause-made : goal.one_or_nothing-returns-
 one_or_nothing-returns-then-truth-clause-made t c = record {
   by = λ judge right.
       let m = c.args.self.now in
-      let n = c.expression.new.self.turns in
-      then_outcome _ (value_outcome (Ok c.in_ok-value.value) n m.leaves _ c.in_ok-value.ensures.value)
+      let n = c.evaluate.new.self.turns in
+      then_outcome _ (told_outcome bounded_val (Ok c.in_ok-value.value) n m.leaves _ c.in_ok-value.ensures.value)
       (along (ap (λ (b : Bool). if b then body_design (evaluator_at m judge) Union (context_at m c.args.position) (body_seen c.args.body) n m.leaves else Gives n (no_design m.leaves)) (sym c.truth.ensures ∙ c.if-truth.true))
-      (meets_after (stays_kept m _ refl c.expression.ensures.kept) c.body.ensures.made judge right));
+      (meets_after (stays_kept m _ refl c.evaluate.ensures.kept) c.body.ensures.made judge right));
 }
 
 pub one_or_other-returns-then-truth-clause-made : goal.one_or_other-returns-then-truth-clause-made
 one_or_other-returns-then-truth-clause-made t c = record {
   by = λ judge right.
       let m = c.args.self.now in
-      let n = c.expression.new.self.turns in
-      then_outcome _ (value_outcome (Ok c.in_ok-value.value) n m.leaves _ c.in_ok-value.ensures.value)
+      let n = c.evaluate.new.self.turns in
+      then_outcome _ (told_outcome bounded_val (Ok c.in_ok-value.value) n m.leaves _ c.in_ok-value.ensures.value)
       (along (ap (λ (b : Bool). body_design (evaluator_at m judge) Union (context_at m c.args.position) (if b then body_seen c.args.body else body_seen c.args.other) n m.leaves) (sym c.truth.ensures ∙ c.if-truth.true))
-      (meets_after (stays_kept m _ refl c.expression.ensures.kept) c.body.ensures.made judge right));
+      (meets_after (stays_kept m _ refl c.evaluate.ensures.kept) c.body.ensures.made judge right));
 }
 
 pub one_or_other-returns-clause-made : goal.one_or_other-returns-clause-made
 one_or_other-returns-clause-made t c = record {
   by = λ judge right.
       let m = c.args.self.now in
-      let n = c.expression.new.self.turns in
-      then_outcome _ (value_outcome (Ok c.in_ok-value.value) n m.leaves _ c.in_ok-value.ensures.value)
+      let n = c.evaluate.new.self.turns in
+      then_outcome _ (told_outcome bounded_val (Ok c.in_ok-value.value) n m.leaves _ c.in_ok-value.ensures.value)
       (along (ap (λ (b : Bool). body_design (evaluator_at m judge) Union (context_at m c.args.position) (if b then body_seen c.args.body else body_seen c.args.other) n m.leaves) (sym c.truth.ensures ∙ c.if-truth.false))
-      (meets_after (stays_kept m _ refl c.expression.ensures.kept) c.body-2.ensures.made judge right));
+      (meets_after (stays_kept m _ refl c.evaluate.ensures.kept) c.body-2.ensures.made judge right));
 }
 
 pub one_turn-returns-clause-members : goal.one_turn-returns-clause-members
@@ -854,14 +873,14 @@ turns-returns-in-Some-of-clause-members t c = record {
       let m = c.args.self.now in
       let evaluator = evaluator_at m judge in
       let here = context_at m c.args.position in
-      let n = c.expression.new.self.turns in
+      let n = c.evaluate.new.self.turns in
       let binder = c.in-Some.binder.now in
       let turned : List ℕ → Val → ℕ → ℕ → Outcome MemberDesigns = λ name item. each_turn evaluator c.args.place (map binder_of c.in-Some.rest.now) (body_seen c.args.body) (in_loop here name item) in
       along (ap (λ (bs : List Binder). each_turn evaluator c.args.place (map binder_of bs) (body_seen c.args.body) here m.evaluation.turns m.leaves) c.in-Some.ensures.cases.0)
-      (then_outcome _ (value_outcome (Ok c.in_ok-value-in-Some.value) n m.leaves _ c.in_ok-value-in-Some.ensures.value)
+      (then_outcome _ (told_outcome bounded_val (Ok c.in_ok-value-in-Some.value) n m.leaves _ c.in_ok-value-in-Some.ensures.value)
       (along (ap (λ (o : Option Vals). or_fault o TypeMismatch c.args.place (λ items. each_step c.args.place (turned binder.name) items n m.leaves)) (sym c.in-Some-of.ensures)
       ∙ ap (λ (name : List ℕ). each_step c.args.place (turned name) (remaining_in c.in-Some-of.items.remaining) n m.leaves) (sym c.items.ensures))
-      (meets_after (stays_kept m _ refl c.expression.ensures.kept) c.each_item.ensures.members judge right)));
+      (meets_after (stays_kept m _ refl c.evaluate.ensures.kept) c.each_item.ensures.members judge right)));
 }
 
 pub each_item-each-init : goal.each_item-each-init
@@ -875,7 +894,7 @@ each_item-step-next-requires t c =
     let m = c.args.self.now in
     let k = c.each.invariant.stays in (
       omega (arith, work_same c.each.self.evaluation.depth m.evaluation.depth k.depth, c.decreases),
-      (body_still m _ k.unit k.source k.rows c.requires.stands, c.in-Some.ensures.bounded),
+      body_still m _ k.unit k.source c.requires.stands,
     )
 
 pub each_item-returns-in_err-members-clause-members : goal.each_item-returns-in_err-members-clause-members
@@ -892,10 +911,9 @@ each_item-returns-in_err-members-clause-members t c =
           let go : ℕ → ℕ → Outcome MemberDesigns = λ turns leaves. each_step c.args.place turned (remaining_in c.next.new.self.remaining) turns leaves in
           lengthening_stops member_designs_of (λ leaves x. refl) (each_step c.args.place turned (remaining_in c.args.items.remaining) m.evaluation.turns m.leaves) c.each.members m.leaves
           (each_step c.args.place turned (remaining_in c.each.remaining.remaining) mid.evaluation.turns mid.leaves)
-          (one_step evaluator c.args.place c.args.name.now (map binder_of c.args.rest.now) (body_seen c.args.body) (val_of c.in-Some.value) here mid.evaluation.turns mid.leaves) go
+          (one_step evaluator c.args.place c.args.name.now (map binder_of c.args.rest.now) (body_seen c.args.body) (bounded_val c.in-Some.value) here mid.evaluation.turns mid.leaves) go
           (inv.told judge right)
-          (ap (λ vs. each_step c.args.place turned vs mid.evaluation.turns mid.leaves) c.in-Some.ensures.next
-          ∙ loop_step c.args.place (turned (val_of c.in-Some.value) mid.evaluation.turns mid.leaves) go)
+          (ap (λ vs. each_step c.args.place turned vs mid.evaluation.turns mid.leaves) c.in-Some.ensures.next)
           c.step-next.result c.in_err-members.field-0.0 _ _ _ _ c.in_err-members.ensures
           (meets_after inv.stays c.step-next.ensures.members judge right);
     })
@@ -914,10 +932,9 @@ each_item-each-preserved t c =
           let go : ℕ → ℕ → Outcome MemberDesigns = λ turns leaves. each_step c.args.place turned (remaining_in c.next.new.self.remaining) turns leaves in
           lengthened member_designs_of (λ leaves x. refl) (each_step c.args.place turned (remaining_in c.args.items.remaining) m.evaluation.turns m.leaves) c.each.members m.leaves
           (each_step c.args.place turned (remaining_in c.each.remaining.remaining) mid.evaluation.turns mid.leaves)
-          (one_step evaluator c.args.place c.args.name.now (map binder_of c.args.rest.now) (body_seen c.args.body) (val_of c.in-Some.value) here mid.evaluation.turns mid.leaves) go
+          (one_step evaluator c.args.place c.args.name.now (map binder_of c.args.rest.now) (body_seen c.args.body) (bounded_val c.in-Some.value) here mid.evaluation.turns mid.leaves) go
           (inv.told judge right)
-          (ap (λ vs. each_step c.args.place turned vs mid.evaluation.turns mid.leaves) c.in-Some.ensures.next
-          ∙ loop_step c.args.place (turned (val_of c.in-Some.value) mid.evaluation.turns mid.leaves) go)
+          (ap (λ vs. each_step c.args.place turned vs mid.evaluation.turns mid.leaves) c.in-Some.ensures.next)
           c.step-next.result c.in_ok-members.members _ _ c.in_ok-members.ensures
           (meets_after inv.stays c.step-next.ensures.members judge right);
     }
@@ -933,40 +950,46 @@ step-returns-in_err-members-clause-members t c =
 pub turns_with-turns-requires : goal.turns_with-turns-requires
 turns_with-turns-requires t c =
     let m = c.args.self.now in
-    let e = c.bind.ensures.binds.entered m.evaluation c.in_ok-scope.ensures.entered in (
+    let e = c.bind.ensures.binds.entered m.evaluation c.in_ok-before.before c.in_ok-before.ensures.entered in (
       omega (arith, work_same c.bind.new.self.depth m.evaluation.depth e.depth, c.decreases),
-      entered_body m _ c.args.position refl e c.at.ensures c.requires.stands,
+      body_still m _ refl e.source c.requires.stands,
     )
 
 pub turns_with-returns-in_err-members-clause-members : goal.turns_with-returns-in_err-members-clause-members
 turns_with-returns-in_err-members-clause-members t c =
     let p = err_from_is_err_and c.from_residual-in_err-members.result c.from_residual-in_err-members.ensures.1 in
     let m = c.args.self.now in
-    let e = c.bind.ensures.binds.entered m.evaluation c.in_ok-scope.ensures.entered in
+    let e = c.bind.ensures.binds.entered m.evaluation c.in_ok-before.before c.in_ok-before.ensures.entered in
     rw (p.1, p.2) (record {
       by = λ judge right.
           entered_meets (λ (x : Source) evaluator. each_turn evaluator c.args.place (map binder_of c.args.rest.now) (body_seen c.args.body))
-          m _ c.turns.new.self c.args.position c.at.result c.in_ok-scope.scope (Within ((c.args.name.now, val_of c.args.value) ∷ []) [] [] no_call (env_at m c.args.position.scope)) (record { unit = refl; leaves = refl; evaluation = e })
-          (c.in_ok-bind.ensures.bound ∙ ap (λ (x : Env). with_variable c.args.name.now (val_of c.args.value) x) c.in_ok-scope.ensures.inside)
-          (c.bind.ensures.binds.turns ∙ c.enter_empty.ensures.turns) c.at.ensures c.in_err-members.ensures.members judge right;
+          m _ c.turns.new.self c.args.position c.in_ok-before.before (Within ((c.args.name.now, bounded_val c.args.value) ∷ []) [] [] no_call (scope_here m.evaluation)) (record { unit = refl; leaves = refl; evaluation = e })
+          (c.in_ok-bind.ensures.bound ∙ ap (λ (x : Env). with_variable c.args.name.now (bounded_val c.args.value) x) c.in_ok-before.ensures.inside)
+          (c.bind.ensures.binds.turns ∙ c.enter_empty.ensures.turns) c.in_err-members.ensures.members judge right;
     })
 
 pub turns_with-returns-clause-members : goal.turns_with-returns-clause-members
 turns_with-returns-clause-members t c =
     let m = c.args.self.now in
-    let e = c.bind.ensures.binds.entered m.evaluation c.in_ok-scope.ensures.entered in
+    let e = c.bind.ensures.binds.entered m.evaluation c.in_ok-before.before c.in_ok-before.ensures.entered in
     record {
       by = λ judge right.
           outcome_with c.leave.ensures.turns
           (entered_meets (λ (x : Source) evaluator. each_turn evaluator c.args.place (map binder_of c.args.rest.now) (body_seen c.args.body))
-          m _ c.turns.new.self c.args.position c.at.result c.in_ok-scope.scope (Within ((c.args.name.now, val_of c.args.value) ∷ []) [] [] no_call (env_at m c.args.position.scope)) (record { unit = refl; leaves = refl; evaluation = e })
-          (c.in_ok-bind.ensures.bound ∙ ap (λ (x : Env). with_variable c.args.name.now (val_of c.args.value) x) c.in_ok-scope.ensures.inside)
-          (c.bind.ensures.binds.turns ∙ c.enter_empty.ensures.turns) c.at.ensures c.in_ok-members.ensures.members judge right);
+          m _ c.turns.new.self c.args.position c.in_ok-before.before (Within ((c.args.name.now, bounded_val c.args.value) ∷ []) [] [] no_call (scope_here m.evaluation)) (record { unit = refl; leaves = refl; evaluation = e })
+          (c.in_ok-bind.ensures.bound ∙ ap (λ (x : Env). with_variable c.args.name.now (bounded_val c.args.value) x) c.in_ok-before.ensures.inside)
+          (c.bind.ensures.binds.turns ∙ c.enter_empty.ensures.turns) c.in_ok-members.ensures.members judge right);
     }
 
 pub turns_with-returns-clause-stays : goal.turns_with-returns-clause-stays
 turns_with-returns-clause-stays t c =
     let m = c.args.self.now in
-    let e = c.bind.ensures.binds.entered m.evaluation c.in_ok-scope.ensures.entered in
+    let e = c.bind.ensures.binds.entered m.evaluation c.in_ok-before.before c.in_ok-before.ensures.entered in
     let k = c.in_ok-members.ensures.stays in
-    stays_kept m _ k.unit (c.leave.ensures.back m.evaluation (scope_entered m c.in_ok-scope.scope k e))
+    stays_kept m _ k.unit (c.leave.ensures.back m.evaluation (scope_entered m c.in_ok-before.before k e))
+
+pub turns_with-leave-requires : goal.turns_with-leave-requires
+turns_with-leave-requires t c =
+    let m = c.args.self.now in
+    let e = c.bind.ensures.binds.entered m.evaluation c.in_ok-before.before c.in_ok-before.ensures.entered in
+    omega (arith, e.from, e.number, c.in_ok-members.ensures.stays.stands, m.evaluation.there)

@@ -1,8 +1,10 @@
-use Rattle.std.proofs.Common.{◌-◌, ◌<◌, length, map, ap, arith}
+use Rattle.std.proofs.Common.{◌-◌, ◌<◌, length, map, sym, ap, arith}
+use Rattle.std.proofs.lemmas.Result.{err_from_is_err_and}
 use Rattle.scad_blocks.specs.TextView.{assigned_of}
 use Rattle.scad_meaning.specs.Meaning.{each_assigned}
 use Rattle.scad_eval.specs.Keeping.{evaluations_left, context_at}
-use Rattle.scad_eval.proofs.Binding.{assigned_next}
+use Rattle.scad_eval.proofs.Binding.{assigned_next, assigned_stops}
+use Rattle.scad_eval.proofs.Outcomes.{along}
 use Rattle.scad_meaning.proofs.Judges.{some_judge}
 use Rattle.scad_eval.proofs.Contexts.{assigns_then}
 use Rattle.scad_eval.proofs.evaluator.InstanceEvaluator.assign_all.Goals as goal
@@ -19,8 +21,27 @@ each-preserved c =
     let judge = some_judge in
     record {
       assigns = assigns_then inv.assigns g.assigns;
-      told = assigned_next (each_assigned (evaluations_left old) (context_at old c.args.position) (map assigned_of xs) old.evaluation.turns)
-          (evaluations_left old) (evaluations_left here) (context_at here c.args.position) xs i c.assignment-item.result here.evaluation.turns
-          inv.told (ap (λ n. 512 - n) inv.assigns.depth) h c.assignment-item.is
-          c.assign.new.self.evaluation.turns c.assign.new.self.leaves (g.assigned.by judge.0 judge.1);
+      told = λ s. assigned_next (each_assigned (evaluations_left old) (context_at old s) (map assigned_of xs) old.evaluation.turns)
+          (evaluations_left old) (evaluations_left here) (context_at here s) xs i c.assignment-item.result here.evaluation.turns
+          (inv.told s) (ap (λ n. 512 - n) inv.assigns.depth) h c.assignment-item.is
+          c.assign.new.self.evaluation.turns c.assign.new.self.leaves ((g.assigned s).by judge.0 judge.1);
     }
+
+pub returns-in_err-assign-clause-assigned : goal.returns-in_err-assign-clause-assigned
+returns-in_err-assign-clause-assigned c = λ s.
+    let p = err_from_is_err_and c.from_residual.result c.from_residual.ensures.1 in
+    let old = c.args.self.now in
+    let here = c.each.self in
+    let xs = c.assignments-assignments.result.now in
+    let i = c.each.assignment-index in
+    let h : i < length xs = omega (arith, c.each-test.true) in
+    let inv = c.each.invariant in
+    rw (p.1, p.2) (record {
+      by = λ judge right.
+          along (ap (λ l. each_assigned (evaluations_left old) (context_at old s) l old.evaluation.turns)
+          (sym (c.assignments-assignments.ensures c.requires.whole)))
+          (assigned_stops (each_assigned (evaluations_left old) (context_at old s) (map assigned_of xs) old.evaluation.turns)
+          (evaluations_left old) (evaluations_left here) (context_at here s) xs i c.assignment-item.result here.evaluation.turns
+          (inv.told s) (ap (λ n. 512 - n) inv.assigns.depth) h c.assignment-item.is _ _ _ _
+          ((c.in_err-assign.ensures.assigned s).by judge right));
+    })

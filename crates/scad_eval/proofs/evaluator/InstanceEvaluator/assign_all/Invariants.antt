@@ -1,6 +1,7 @@
 use Rattle.std.proofs.Common.{◌≡◌, map, drop}
 use Rattle.scad_blocks.specs.TextView.{assigned_of}
 use Rattle.scad_meaning.specs.Meaning.{each_assigned}
+use Rattle.scad_pieces.specs.declared.position.Position.{Position}
 use Rattle.scad_eval.specs.Keeping.{evaluations_left, context_at, Assigns}
 use Rattle.scad_eval.proofs.evaluator.InstanceEvaluator.assign_all.Given as goal
 
@@ -8,7 +9,7 @@ abbrev pub invariant-each : goal.invariant-each
 invariant-each l =
     let old = l.fn.self in
     record {
-      assigns : Assigns old l.self l.position.scope;
-      told : each_assigned (evaluations_left old) (context_at old l.position) (map assigned_of l.assignments) old.evaluation.turns
-          ≡ each_assigned (evaluations_left old) (context_at l.self l.position) (map assigned_of (drop l.assignment-index l.assignments)) l.self.evaluation.turns;
+      assigns : Assigns old l.self;
+      told : (s : Position) → each_assigned (evaluations_left old) (context_at old s) (map assigned_of l.assignments) old.evaluation.turns
+          ≡ each_assigned (evaluations_left old) (context_at l.self s) (map assigned_of (drop l.assignment-index l.assignments)) l.self.evaluation.turns;
     }

@@ -1,5 +1,5 @@
 use Rattle.std.proofs.Common.{◌≡◌, ◌+◌, ◌-◌, ◌<◌, ◌≤◌, ℕ, List, [], ◌∷◌, ◌++◌, length, map, take, drop, set, get_or, true, false, Some, None, Ok, Err, refl, sym, ap, subst, ◌∙◌, arith, rules}
-use Rattle.std.specs.Prelude.{IsTrue, Option, Result, codes}
+use Rattle.std.specs.Prelude.{Option, Result, codes}
 use Rattle.std.specs.declared.vec.Vec.{Vec}
 use Rattle.std.specs.declared.alloc.Global.{Global}
 use Rattle.std.proofs.lemmas.Result.{err_from_is_err_and}
@@ -11,7 +11,6 @@ use Rattle.scad_ast.specs.declared.expression.Expr.{Expr}
 use Rattle.scad_ast.specs.declared.expression.Arg.{Arg}
 use Rattle.scad_ast.specs.declared.expression.Suffix.{Suffix}
 use Rattle.scad_ast.specs.declared.statement.Param.{Param}
-use Rattle.scad_value.specs.declared.value.Value.{Value}
 use Rattle.scad_value.specs.Values.{Val, ListVal}
 use Rattle.scad_value.specs.Operators.{binary_of, unary_of, made}
 use Rattle.scad_ast.specs.Terms.{terms_from, args_from, suffixes_from, links_from}
@@ -30,20 +29,19 @@ use Rattle.scad_answer.specs.Answers.{range_of}
 use Rattle.scad_answer.specs.View.{TellsAnswer}
 use Rattle.scad_func.specs.Steps.{all_values, suffixed, linked}
 use Rattle.scad_func.specs.declared.values.BoundedValues.{BoundedValues}
-use Rattle.scad_func.specs.View.{TellsAs, TellsArguments, IsOneMore, values_seen, source_text, slots_in, slot_of, indexed_val, arguments_of, arguments_bounded}
+use Rattle.scad_func.specs.View.{Tells, IsOneMore, values_seen, source_text, slots_in, slot_of, indexed_val, arguments_of}
 use Rattle.scad_arguments.specs.declared.parameters.GivenArguments.{GivenArguments}
 use Rattle.scad_arguments.specs.declared.parameters.Names.{Names}
 use Rattle.scad_arguments.specs.declared.so_far.ArgumentsSoFar.{ArgumentsSoFar}
 use Rattle.scad_arguments.specs.declared.parameters.Destination.{Destination}
-use Rattle.scad_func.specs.Evaluations.{ArgumentsFit, EvaluatesTo, env_here, setting_here}
-use Rattle.scad_func.proofs.Outcomes.{tells_along, evaluated_deeper, evaluated_too_deep, value_counted, fault_counted, values_end, terms_here, terms_end, args_here, args_end, values_here, suffixes_here, suffix_step, links_here, step_more, step_fault, name_then, fault_at, link_wants}
+use Rattle.scad_func.specs.Evaluations.{EvaluatesTo, env_here, setting_here}
+use Rattle.scad_func.proofs.Outcomes.{tells_along, fault_goes, evaluated_deeper, evaluated_too_deep, value_counted, fault_counted, values_end, terms_here, terms_end, args_here, args_end, values_here, suffixes_here, suffix_step, links_here, step_more, step_fault, name_then, fault_at, link_wants}
 use Rattle.scad_func.proofs.Environments.{variable_same}
-use Rattle.scad_func.proofs.Steps.{deep_enough, param_deep, params_here, params_end, slots_here, slots_parts, filled_end, fault_of_arguments, argument_none}
+use Rattle.scad_func.proofs.Steps.{deep_enough, param_deep, params_here, params_end, slots_here, filled_end, argument_none}
 use Rattle.scad_func.proofs.Forms.{name_form, special_form, count_form, postfix_form, chain_form, choice_form, link_form, member_form, args_form}
-use Rattle.scad_func.proofs.Again.{nothing_bounded}
 use Rattle.scad_func.proofs.Kept.{stops, goes, answers, keeps_from, keeps_same, keeps_trans, call_found, moved, work_falls}
 use Rattle.scad_func.proofs.GivenSeen.{taker_given, nothing_seen, held_seen}
-use Rattle.scad_func.proofs.Holding.{told_bounded, argument_refused, argument_stops, alone_tells, item_told, item_stops, longer_length, argument_held, argument_held_bounded, if_err_at, if_ok_at}
+use Rattle.scad_func.proofs.Holding.{argument_refused, argument_stops, item_told, item_stops, longer_length, argument_held, if_err_at, if_ok_at}
 use Rattle.scad_func.proofs.evaluation.Evaluation.+value.Goals.{in_new_scope-in-Ok, in_new_scope-in-Err}
 use Rattle.scad_func.proofs.evaluation.Evaluation.+value.Goals as goal
 
@@ -483,30 +481,27 @@ call-returns-in_err-given-in-Some t c =
     let p = err_from_is_err_and c.from_residual.result c.from_residual.ensures.1 in
     let e = c.args.self.now in
     let args = args_from (args_of c.args.args.now) in
-    let told = subst (λ (l : List Param). TellsArguments (Err c.in_err-given-in-Some.field-0.0) c.arguments.new.self.turns
+    let told = subst (λ (l : List Param). Tells arguments_of (Err c.in_err-given-in-Some.field-0.0) c.arguments.new.self.turns
     (each_argument (setting_here e) (names_of (map param_of l)) 0 args (nothing_given (length (names_of (map param_of l)))) e.turns))
-    c.deref.ensures.value c.in_err-given-in-Some.ensures.value in
+    c.deref.ensures.value c.in_err-given-in-Some.ensures.given.value in
     record {
       value = rw (p.1, p.2) (tells_along (Err c.in_err-given-in-Some.field-0.0) c.arguments.new.self.turns _ _
           (call_found e c.in-Some.home (function_of c.in-Some.function) c.args.place c.args.name.now
           (args_from (args_of c.args.args.now)) e.turns c.in-Some.ensures.found)
-          (fault_of_arguments c.in_err-given-in-Some.field-0.0 c.arguments.new.self.turns
-          c.arguments.new.self.turns _ _ told));
-      kept = c.in_err-given-in-Some.ensures.kept;
+          (fault_goes arguments_of bounded_val _ _ c.in_err-given-in-Some.field-0.0 c.arguments.new.self.turns
+          c.arguments.new.self.turns told));
+      kept = c.in_err-given-in-Some.ensures.given.kept;
     }
 
 pub call-function_call-value-requires : goal.call-function_call-value-requires
 call-function_call-value-requires t c =
     let g = c.in_ok-given-in-Some.ensures in (
-      omega (arith, g.kept.work, c.decreases),
-      record {
-        within = rw (g.kept.source) (deep_enough _ _ c.in-Some.ensures.among);
-        arguments = record {
-          count = g.count ∙ length-map (map param_of c.deref.result.now) name_of ∙ length-map c.deref.result.now param_of
-              ∙ ap (λ (l : List Param). length l) c.deref.ensures.value;
-          bounded = g.value.1;
-        };
-      },
+      omega (arith, g.given.kept.work, c.decreases),
+      (
+        rw (g.given.kept.source) (deep_enough _ _ c.in-Some.ensures.among),
+        g.count ∙ length-map (map param_of c.deref.result.now) name_of ∙ length-map c.deref.result.now param_of
+            ∙ ap (λ (l : List Param). length l) c.deref.ensures.value,
+      ),
     )
 
 pub call-returns-in_err-function-in-None : goal.call-returns-in_err-function-in-None
@@ -536,7 +531,6 @@ arguments-each-init t c =
           ∙ ap (λ l. each_argument here names 0 l (arguments_of so_far.given) c.args.self.now.turns) form;
       names = c.in_ok-so_far.ensures.names;
       few = omega arith;
-      filled = subst (λ given. IsTrue (arguments_bounded given)) (sym none) (nothing_bounded (length names));
       kept = keeps_same _;
     }
 
@@ -550,7 +544,7 @@ arguments-each-preserved t c =
     c.deref-arg-items.ensures.value in
     let next = args_here xs i x h is in
     let inv = c.each.invariant in
-    let g = c.evaluate.ensures in
+    let g = c.evaluate-next.ensures in
     let a = arg_of x in
     let rest = args_from (map arg_of (drop (i + 1) xs)) in
     let here = setting_here c.args.self.now in
@@ -563,26 +557,23 @@ arguments-each-preserved t c =
     ∙ taker_given (names_in c.each.so_far.names) c.each.positional before a
     ∙ if_ok_at (λ (d : Destination). taker_of (names_in c.each.so_far.names) c.each.positional (given_of before) a ≡ Some (taker_seen d))
     c.destination_for-free.result d w.1 c.destination_for-free.ensures.free in
-    let step = alone_tells c.evaluate.result c.value_alone-next.result _ _ c.value_alone-next.ensures
-    (tells_along c.evaluate.result _ _ _ (ap (λ e. value_at here true e c.each.self.turns)
+    let step = tells_along c.evaluate-next.result _ _ _ (ap (λ e. value_at here true e c.each.self.turns)
     (sym c.argument_value.ensures.value) ∙ moved (λ s. value_at s true (term_of c.argument_value.result.now) c.each.self.turns)
-    inv.kept) g.value) in
-    let given = held_seen before d c.value_alone-next.result (Ok after.given)
-    (subst (λ (v : ArgumentsSoFar Value). IsGiven v.given d c.value_alone-next.result (Ok after.given)) w.0
+    inv.kept) g.value in
+    let given = held_seen before d c.evaluate-next.result (Ok after.given)
+    (subst (λ (v : ArgumentsSoFar BoundedValue). IsGiven v.given d c.evaluate-next.result (Ok after.given)) w.0
     c.in_ok-so_far-2.ensures.given) in
     record {
       told = argument_held here names c.each.positional _ (args_from (map arg_of (drop i xs))) (arguments_of before) c.each.self.turns
-          inv.told a rest (taker_seen d) c.evaluate.new.self.turns c.positional_after-positional.result c.value_alone-next.result
+          inv.told a rest (taker_seen d) c.evaluate-next.new.self.turns c.positional_after-positional.result c.evaluate-next.result
           after.given next free step given c.positional_after-positional.ensures.value;
-      names = c.in_ok-so_far-2.ensures.names ∙ ap (λ (v : ArgumentsSoFar Value). v.names) w.0 ∙ inv.names;
+      names = c.in_ok-so_far-2.ensures.names ∙ ap (λ (v : ArgumentsSoFar BoundedValue). v.names) w.0 ∙ inv.names;
       few = omega (arith, c.positional_after-positional.ensures.within, inv.few);
-      filled = argument_held_bounded (arguments_of before) (taker_seen d) c.value_alone-next.result after.given given
-          inv.filled (told_bounded c.value_alone-next.result _ _ step);
       kept = keeps_trans inv.kept g.kept;
     }
 
-pub arguments-returns-in_err-held-clause-value : goal.arguments-returns-in_err-held-clause-value
-arguments-returns-in_err-held-clause-value t c =
+pub arguments-returns-in_err-held-clause-given : goal.arguments-returns-in_err-held-clause-given
+arguments-returns-in_err-held-clause-given t c =
     let p = err_from_is_err_and c.from_residual-in_err-held.result c.from_residual-in_err-held.ensures.1 in
     let xs = c.args.args.now.items.items in
     let i = c.each.arg-index in
@@ -599,14 +590,31 @@ arguments-returns-in_err-held-clause-value t c =
     let stop = c.in_err-held.field-0.0 in
     let refused = if_err_at (λ (s : Stop). (taker_of (names_in c.each.so_far.names) c.each.positional (given_of before) a ≡ None) × IsFaultAt s BadArgument (argument_place a))
     c.destination_for-free.result stop c.in_err-held.ensures.err c.destination_for-free.ensures.none in
-    rw (p.1, p.2) (argument_refused stop _ (argument_place a) _
-    (argument_none here names c.each.positional _ (args_from (map arg_of (drop i xs))) (arguments_of before) c.each.self.turns
-    inv.told a rest (args_here xs i x h is)
-    (ap (λ (ns : Names). taker_of (names_in ns) c.each.positional (arguments_of before) a) (sym inv.names)
-    ∙ taker_given (names_in c.each.so_far.names) c.each.positional before a ∙ refused.0)) refused.1)
+    record {
+      value = rw (p.1, p.2) (argument_refused stop _ (argument_place a) _
+          (argument_none here names c.each.positional _ (args_from (map arg_of (drop i xs))) (arguments_of before) c.each.self.turns
+          inv.told a rest (args_here xs i x h is)
+          (ap (λ (ns : Names). taker_of (names_in ns) c.each.positional (arguments_of before) a) (sym inv.names)
+          ∙ taker_given (names_in c.each.so_far.names) c.each.positional before a ∙ refused.0)) refused.1);
+      kept = inv.kept;
+    }
 
-pub arguments-returns-in_err-so_far-2-clause-value : goal.arguments-returns-in_err-so_far-2-clause-value
-arguments-returns-in_err-so_far-2-clause-value t c =
+pub arguments-returns-clause-given : goal.arguments-returns-clause-given
+arguments-returns-clause-given t c =
+    let xs = c.args.args.now.items.items in
+    let i = c.each.arg-index in
+    let le : length xs ≤ i = omega (arith, c.each-test.false, ap length c.deref-arg-items.ensures.value) in
+    let inv = c.each.invariant in
+    let here = setting_here c.args.self.now in
+    let given = c.each.so_far.given in
+    record {
+      value = inv.told ∙ ap (λ l. each_argument here (names_in c.args.names) c.each.positional l (arguments_of given) c.each.self.turns)
+          (args_end xs i le);
+      kept = inv.kept;
+    }
+
+pub arguments-returns-in_err-so_far-2-clause-given : goal.arguments-returns-in_err-so_far-2-clause-given
+arguments-returns-in_err-so_far-2-clause-given t c =
     let p = err_from_is_err_and c.from_residual-in_err-so_far-2.result c.from_residual-in_err-so_far-2.ensures.1 in
     let xs = c.args.args.now.items.items in
     let i = c.each.arg-index in
@@ -619,7 +627,7 @@ arguments-returns-in_err-so_far-2-clause-value t c =
     let rest = args_from (map arg_of (drop (i + 1) xs)) in
     let here = setting_here c.args.self.now in
     let names = names_in c.args.names in
-    let g = c.evaluate.ensures in
+    let g = c.evaluate-next.ensures in
     let before = c.each.so_far.given in
     let d = c.in_ok-held.destination in
     let w = c.in_ok-held.ensures.ok in
@@ -627,16 +635,18 @@ arguments-returns-in_err-so_far-2-clause-value t c =
     ∙ taker_given (names_in c.each.so_far.names) c.each.positional before a
     ∙ if_ok_at (λ (d : Destination). taker_of (names_in c.each.so_far.names) c.each.positional (given_of before) a ≡ Some (taker_seen d))
     c.destination_for-free.result d w.1 c.destination_for-free.ensures.free in
-    let step = alone_tells c.evaluate.result c.value_alone-next.result _ _ c.value_alone-next.ensures
-    (tells_along c.evaluate.result _ _ _ (ap (λ e. value_at here true e c.each.self.turns)
+    let step = tells_along c.evaluate-next.result _ _ _ (ap (λ e. value_at here true e c.each.self.turns)
     (sym c.argument_value.ensures.value) ∙ moved (λ s. value_at s true (term_of c.argument_value.result.now) c.each.self.turns)
-    inv.kept) g.value) in
+    inv.kept) g.value in
     let stop = c.in_err-so_far-2.field-0.0 in
-    let held = held_seen before d c.value_alone-next.result (Err stop)
-    (subst (λ (v : ArgumentsSoFar Value). IsGiven v.given d c.value_alone-next.result (Err stop)) w.0 c.in_err-so_far-2.ensures.given) in
-    rw (p.1, p.2) (argument_stops here names c.each.positional _ (args_from (map arg_of (drop i xs))) (arguments_of before) c.each.self.turns
-    inv.told a rest (taker_seen d) c.evaluate.new.self.turns c.evaluate.new.self.turns c.value_alone-next.result stop
-    (args_here xs i x h is) free step held)
+    let held = held_seen before d c.evaluate-next.result (Err stop)
+    (subst (λ (v : ArgumentsSoFar BoundedValue). IsGiven v.given d c.evaluate-next.result (Err stop)) w.0 c.in_err-so_far-2.ensures.given) in
+    record {
+      value = rw (p.1, p.2) (argument_stops here names c.each.positional _ (args_from (map arg_of (drop i xs))) (arguments_of before) c.each.self.turns
+          inv.told a rest (taker_seen d) c.evaluate-next.new.self.turns c.evaluate-next.new.self.turns c.evaluate-next.result stop
+          (args_here xs i x h is) free step held);
+      kept = keeps_trans inv.kept g.kept;
+    }
 
 pub parameters-parameter-next-requires : goal.parameters-parameter-next-requires
 parameters-parameter-next-requires t c =
@@ -646,14 +656,7 @@ parameters-parameter-next-requires t c =
     let x = c.param-item.result in
     let is : x ≡ get_or xs i x = c.param-item.is ∙ ap (λ (l : List Param). get_or l i x)
     c.deref-param-items.ensures.value in
-    let inv = c.each.invariant in
-    let still = c.each.open.items in
-    let held : i < length still = omega (arith, h, inv.count) in
-    let slot = slots_here still i c.index_mut.result.now held c.index_mut.ensures.value ∙ ap
-    (λ o. slot_of o ∷ slots_in (drop (i + 1) still)) (sym c.replace-given.ensures.value) in (
-      omega (arith, param_deep xs i x h is, inv.kept.work, c.decreases),
-      (slots_parts _ _ _ slot inv.filled).0,
-    )
+    omega (arith, param_deep xs i x h is, c.each.invariant.kept.work, c.decreases)
 
 pub parameters-each-preserved : goal.parameters-each-preserved
 parameters-each-preserved t c =
@@ -674,9 +677,9 @@ parameters-each-preserved t c =
     let w = c.in_ok-open.ensures.ok in
     let unfilled = c.in_ok-open.field-0-0 in
     let values = c.in_ok-open.field-0-1 in
-    let same : unfilled.items ≡ set still i dest = ap (λ (v : Vec (Option Value) Global). v.items) w.0 in
+    let same : unfilled.items ≡ set still i dest = ap (λ (v : Vec (Option BoundedValue) Global). v.items) w.0 in
     let slots = slot ∙ ap (λ l. s ∷ slots_in l) (sym (drop-set-lt (i + 1) still i dest (omega arith)))
-    ∙ ap (λ (l : List (Option Value)). s ∷ slots_in (drop (i + 1) l)) (sym same) in
+    ∙ ap (λ (l : List (Option BoundedValue)). s ∷ slots_in (drop (i + 1) l)) (sym same) in
     let g = c.parameter-next.ensures in
     let r = c.parameter-next.result in
     let longer = subst (λ (y : Result BoundedValues Stop). IsOneMore c.each.values r y) w.1
@@ -692,20 +695,20 @@ parameters-each-preserved t c =
           _ r values longer g;
       count = ap length same ∙ length-set still i dest ∙ inv.count;
       got = longer_length c.each.values r values longer ∙ ap (λ n. n + 1) inv.got;
-      filled = (slots_parts _ _ _ slots inv.filled).1;
       kept = keeps_trans inv.kept g.kept;
     }
 
-pub parameters-returns-clause-value : goal.parameters-returns-clause-value
-parameters-returns-clause-value t c =
+pub parameters-returns-clause-values : goal.parameters-returns-clause-values
+parameters-returns-clause-values t c =
     let xs = c.args.params.now.items.items in
     let i = c.each.i in
-    let le : length xs ≤ i = omega (arith, c.each-test.false, ap length c.deref-param-items.ensures.value) in (
-      filled_end (setting_here c.args.self.now) _ (vals_in c.each.values.items.items)
+    let le : length xs ≤ i = omega (arith, c.each-test.false, ap length c.deref-param-items.ensures.value) in
+    record {
+      value = filled_end (setting_here c.args.self.now) _ (vals_in c.each.values.items.items)
           (map param_of (drop i xs)) (slots_in (drop i c.each.open.items)) c.each.self.turns
-          c.each.invariant.told (params_end xs i le),
-      c.each.values.bounded,
-    )
+          c.each.invariant.told (params_end xs i le);
+      kept = c.each.invariant.kept;
+    }
 
 pub function_call-returns-in_err-given : goal.function_call-returns-in_err-given
 function_call-returns-in_err-given t c =
@@ -713,7 +716,7 @@ function_call-returns-in_err-given t c =
     let e = c.args.self.now in
     let here = setting_here e in
     record {
-      value = rw (p.1, p.2) (if_err_at (λ (stop : Stop). (go : ℕ → ℕ → Outcome Val) (n : ℕ) → TellsAs bounded_val (Err stop) n
+      value = rw (p.1, p.2) (if_err_at (λ (stop : Stop). (go : ℕ → ℕ → Outcome Val) (n : ℕ) → Tells bounded_val (Err stop) n
           (one_call_fewer (64 - e.calls) c.args.place (λ calls. turn c.args.place e.turns (go calls))))
           c.may_call.result c.in_err-given.field-0.0 c.in_err-given.ensures.err c.may_call.ensures.refused
           (λ calls turns. function_value (with_calls here calls) (function_of c.args.function) (arguments_of c.args.given) turns)
@@ -725,8 +728,8 @@ pub function_call-function_value-value-requires : goal.function_call-function_va
 function_call-function_value-value-requires t c =
     let e = c.args.self.now in
     let w = c.in_ok-given.ensures.ok in (
-      omega (arith, work_falls e.source.now e.calls (omega arith), c.requires.call.within, c.decreases),
-      subst (λ (given : GivenArguments Value). ArgumentsFit c.args.function given) (sym w.0) c.requires.call.arguments,
+      omega (arith, work_falls e.source.now e.calls (omega arith), c.requires.within, c.decreases),
+      subst (λ (given : GivenArguments BoundedValue). length given.slots.items ≡ length c.args.function.params.now.items.items) (sym w.0) c.requires.count,
     )
 
 pub suffix-returns-in-Member : goal.suffix-returns-in-Member

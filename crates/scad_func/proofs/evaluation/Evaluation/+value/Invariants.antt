@@ -1,6 +1,5 @@
 -- Work that is left counts for more than any body is deep; in one call the trees get smaller.
 use Rattle.std.proofs.Common.{◌≡◌, ◌+◌, ◌*◌, ◌≤◌, max, drop, map, length}
-use Rattle.std.specs.Prelude.{IsTrue}
 use Rattle.scad_ast.specs.declared.expression.Expr.{size-Expr}
 use Rattle.scad_ast.specs.declared.expression.Exprs.{size-Exprs}
 use Rattle.scad_ast.specs.declared.expression.Link.{size-Link}
@@ -17,7 +16,7 @@ use Rattle.scad_arguments.specs.Arguments.{nothing_given}
 use Rattle.scad_arguments.specs.ArgumentsView.{names_in}
 use Rattle.scad_func.specs.Meaning.{each_value, each_argument, each_parameter, each_suffix, each_link}
 use Rattle.scad_func.specs.Steps.{all_values}
-use Rattle.scad_func.specs.View.{indexed_val, slots_in, slots_bounded, arguments_of, arguments_bounded, function_size, param_size, params_size}
+use Rattle.scad_func.specs.View.{indexed_val, slots_in, arguments_of, function_size, param_size, params_size}
 use Rattle.scad_func.specs.Evaluations.{Keeps, work_left, env_here, setting_here}
 use Rattle.scad_func.proofs.Calls.{in_front}
 use Rattle.scad_func.proofs.evaluation.Evaluation.+value.Given as goal
@@ -153,7 +152,6 @@ invariant-arguments-each l =
           (args_from (map arg_of (drop l.arg-index l.args.items.items))) (arguments_of l.so_far.given) l.self.turns;
       names : l.so_far.names ≡ l.names;
       few : l.positional ≤ l.arg-index;
-      filled : IsTrue (arguments_bounded (arguments_of l.so_far.given));
       kept : Keeps l.fn.self l.self;
     }
 
@@ -166,6 +164,5 @@ invariant-parameters-each l =
           (map param_of (drop l.i l.params.items.items)) (slots_in (drop l.i l.open.items)) l.self.turns);
       count : length l.open.items ≡ length l.params.items.items;
       got : length l.values.items.items ≡ l.i;
-      filled : IsTrue (slots_bounded (slots_in (drop l.i l.open.items)));
       kept : Keeps l.fn.self l.self;
     }
