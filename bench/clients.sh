@@ -1,6 +1,6 @@
 #!/bin/sh
 # Prints by the clock, in milliseconds, the median of 15 runs, what clients take who are served at the same time by the proved
-# build, on one processor and on four, with one builder each and with four: eight clients with 100 parts of their own each,
+# build, on one processor and on four, with one worker each and with four: eight clients with 100 parts of their own each,
 # eight with the same ones, and one client with a sponge, with 200 parts, and with 40 tetrahedra that are joined by halves.
 # Each row is taken with the settings of memory.sh and without them. Run by hand, on a machine with four processors that has
 # nothing else to do, after `rt ci` has built the program.
@@ -20,7 +20,7 @@ work=$(mktemp -d) || exit 1
 trap 'rm -rf "$work"' EXIT
 trap 'exit 1' HUP INT TERM
 
-# The nanoseconds that a run of a script takes on so many processors with so many builders.
+# The nanoseconds that a run of a script takes on so many processors with so many workers.
 nanoseconds() {
     began=$(date +%s%N)
     taskset -c "0-$(($2 - 1))" "$program" run --workers "$3" <"$work/$1" >"$work/out" || exit 1
@@ -76,7 +76,7 @@ END
 
 echo "$(sed -n 's/^model name[^:]*: //p' /proc/cpuinfo | sort | uniq -c | awk '{ $1 = $1 " of"; print }');" \
     "$(awk '/^MemTotal/ { printf "%.0f GB of memory", $2 / 1e6 }' /proc/meminfo); load $(cut -d' ' -f1 /proc/loadavg)"
-echo "clients                        processors builders with memory.sh  without it"
+echo "clients                        processors workers with memory.sh  without it"
 rows own "8, own designs"
 rows same "8, the same design"
 rows sponge "1, sponge of level 3"

@@ -42,7 +42,7 @@ PHASES = {
     # a design to a tree in world position
     "placing": ("scad_design::placing::",),
     # the distinct subtrees by number, and their keys, with the SHA-256 of their bytes
-    "naming": ("csg_tree::", "sha2::", "std_collections::btree::", "std_alloc::vec::lodged::"),
+    "naming": ("csg_tree::", "tree_names::", "sha2::", "std_collections::btree::", "std_alloc::vec::lodged::"),
     # what is asked of the memo and offered to it, with the comparison of keys; what isn't a call stands in `join_solid`
     "probing": (
         "flight_memo::", "subtree_memo::", "memo_core::", "lru::", "csg_tree::tree_key::are_same", "core::sync::Mutex::lock",

@@ -1,6 +1,6 @@
 #!/bin/sh
 # Prints what clients gain who are served at the same time by the proved build, in one run: the time of the demonstration's
-# script with 8 clients for 1, 2 and 4 builders on as many processors, beside one client alone; an export that is repeated
+# script with 8 clients for 1, 2 and 4 workers on as many processors, beside one client alone; an export that is repeated
 # beside its first; and solids with a memo that keeps nothing beside solids without a memo. Run by hand, after `rt ci` has
 # built the program. Times are the least of three.
 set -u
@@ -43,7 +43,7 @@ ratio() {
 client a 2 >"$work/one"
 echo "a export" >>"$work/one"
 alone=$(least "$work/one" 1 --workers 1)
-echo "one client alone, 1 builder, 1 processor:          $alone ms"
+echo "one client alone, 1 worker, 1 processor:          $alone ms"
 number=0
 while [ $number -lt 8 ]; do
     number=$((number + 1))
@@ -54,7 +54,7 @@ first=
 for processors in 1 2 4; do
     time=$(least "$work/eight" $processors --workers $processors)
     [ -n "$first" ] || first=$time
-    echo "8 clients, $processors builders each, $processors processors:       $time ms, $(ratio "$first" "$time") times as fast as on 1"
+    echo "8 clients, $processors workers each, $processors processors:       $time ms, $(ratio "$first" "$time") times as fast as on 1"
 done
 cp "$work/one" "$work/again"
 for _turn in 1 2 3 4 5 6 7 8 9 10; do echo "a export"; done >>"$work/again"

@@ -1,6 +1,6 @@
 #!/bin/sh
 # Runs the program on a script again and again, each time with one allocation more that succeeds before one is refused, with
-# one and with eight builders, until a run is refused none. Each run has to end with the status of Done or of NoMemory, and
+# one and with eight workers, until a run is refused none. Each run has to end with the status of Done or of NoMemory, and
 # the replies of a run that is done have to be those of the script without the commands that were answered `nomem`. Run by
 # hand, after `rt ci` has built the program; it needs a C compiler for the one call that refuses.
 set -u
@@ -91,7 +91,7 @@ for workers in 1 8; do
             "$program" run --workers $workers <"$work/script" >"$work/out"
         status=$?
         if [ $status -ne 0 ] && [ $status -ne 6 ]; then
-            echo "refused-memory: status $status at allocation $number of $workers builders" >&2
+            echo "refused-memory: status $status at allocation $number of $workers workers" >&2
             exit 1
         fi
         if [ $status -eq 6 ]; then
@@ -103,11 +103,11 @@ for workers in 1 8; do
             replies "$work/out" >"$work/told_replies"
             replies "$work/wanted" >"$work/wanted_replies"
             if ! cmp -s "$work/told_replies" "$work/wanted_replies"; then
-                echo "refused-memory: other replies at allocation $number of $workers builders" >&2
+                echo "refused-memory: other replies at allocation $number of $workers workers" >&2
                 exit 1
             fi
         fi
         [ -e "$work/told" ] || break
     done
-    echo "$workers builders: $number runs, $done done and $wanting without memory, each as it must be"
+    echo "$workers workers: $number runs, $done done and $wanting without memory, each as it must be"
 done

@@ -1,6 +1,6 @@
--- The words of faces, put down one after another, and the text of lines.
+-- The numbers of faces, put down one after another, and the text of lines.
 use Rattle.std.proofs.Common.{◌≡◌, ℕ, suc, ◌<◌, ◌≤◌, ◌+◌, List, [], ◌∷◌, ◌++◌, flat_map, take, length, get_or, refl, sym, ap, ap₂, ◌∙◌, append-nil, codes}
-use Rattle.std.proofs.lemmas.List.{length-map}
+use Rattle.std.proofs.lemmas.List.{length-map, map-append}
 use Rattle.std.proofs.lemmas.Grind.{flat_map-append}
 use Rattle.std.proofs.lemmas.List.Elements.{All-nil}
 use Rattle.text_place.specs.Decimals.{numeral}
@@ -9,37 +9,40 @@ use Rattle.plane_predicate.specs.Space.{Coordinates}
 use Rattle.plane_polygon.specs.Polygons.{Outline, IsPolygon}
 use Rattle.off_text.specs.Reading.{vertex_line, off_text}
 use Rattle.off_text.specs.Texts.{vertices_of, AreCornersOf, IsTextOf}
-use Rattle.off_text.specs.declared.numbering.Word.{Word}
+use Rattle.off_text.specs.declared.numbering.FaceNumbers.{FaceNumbers}
 use Rattle.off_text.specs.Numbering.{HaveLines}
-use Rattle.off_text.specs.Words.{face_words, AddsWords, HaveWords}
+use Rattle.off_text.specs.FaceNumbers.{sides_of, all_numbers, AddsNumbers, HaveNumbers}
 use Rattle.off_text.proofs.Pieces.{text-written}
 use Rattle.off_text.proofs.Gathered.{AreGathered, gathered_next, gathered_end}
 
--- the vertices of these polygons, numbered from none on, and the words of the lines of their faces
-pub record AreWritten (unit : LengthUnit) (polygons : List Outline) (vertices : List Coordinates) (words : List Word) : Type 0 where
+-- the vertices of these polygons, numbered from none on, and the numbers of their faces
+pub record AreWritten (unit : LengthUnit) (polygons : List Outline) (vertices : List Coordinates) (all : FaceNumbers) : Type 0 where
   pub faces : List (List ℕ)
   pub gathered : AreGathered unit polygons vertices faces
-  pub words_are : words ≡ flat_map face_words faces
+  pub sides : all.sides.items ≡ sides_of faces
+  pub numbers : all.numbers.items ≡ all_numbers faces
 
-pub written_none : (unit : LengthUnit) (vertices : List Coordinates) (words : List Word) → vertices ≡ [] → words ≡ [] → AreWritten unit [] vertices words
-written_none unit vertices words v l = record {
+pub written_none : (unit : LengthUnit) (vertices : List Coordinates) (all : FaceNumbers) → vertices ≡ [] → all.sides.items ≡ [] → all.numbers.items ≡ [] → AreWritten unit [] vertices all
+written_none unit vertices all v s n = record {
   faces = [];
   gathered = record { all_polygons = All-nil IsPolygon; found = []; corners = tt; vertices_are = v; faces_are = refl };
-  words_are = l;
+  sides = s;
+  numbers = n;
 }
 
 -- a polygon more of a list
 pub written_next : (unit : LengthUnit) (polygons : List Outline) (i : ℕ) (s : Outline) → i < length polygons → s ≡ get_or polygons i s →
-    (vertices : List Coordinates) (before : List Word) → AreWritten unit (take i polygons) vertices before →
-    (new : List Coordinates) (words : List Word) → AddsWords unit s vertices new before words → AreWritten unit (take (i + 1) polygons) new words
-written_next unit polygons i s h is vertices before w new words a = record {
+    (vertices : List Coordinates) (before : FaceNumbers) → AreWritten unit (take i polygons) vertices before →
+    (new : List Coordinates) (all : FaceNumbers) → AddsNumbers unit s vertices new before all → AreWritten unit (take (i + 1) polygons) new all
+written_next unit polygons i s h is vertices before w new all a = record {
   faces = w.faces ++ a.face ∷ [];
   gathered = gathered_next unit polygons i s h is vertices w.faces w.gathered new a.face (w.faces ++ a.face ∷ []) a.adds refl;
-  words_are = a.line ∙ ap₂ (λ (x y : List Word). x ++ y) w.words_are (sym (append-nil (face_words a.face))) ∙ sym (flat_map-append face_words w.faces (a.face ∷ []));
+  sides = a.sides ∙ ap (λ (ns : List ℕ). ns ++ length a.face ∷ []) w.sides ∙ sym (map-append (λ (face : List ℕ). length face) w.faces (a.face ∷ []));
+  numbers = a.numbers ∙ ap₂ (λ (x y : List ℕ). x ++ y) w.numbers (sym (append-nil a.face)) ∙ sym (flat_map-append (λ (face : List ℕ). face) w.faces (a.face ∷ []));
 }
 
-pub written_end : (unit : LengthUnit) (polygons : List Outline) (i : ℕ) (vertices : List Coordinates) (words : List Word) → length polygons ≤ i → AreWritten unit (take i polygons) vertices words → HaveWords unit polygons vertices words
-written_end unit polygons i vertices words h w = record { faces = w.faces; numbered = gathered_end unit polygons i vertices w.faces h w.gathered; words_are = w.words_are }
+pub written_end : (unit : LengthUnit) (polygons : List Outline) (i : ℕ) (vertices : List Coordinates) (all : FaceNumbers) → length polygons ≤ i → AreWritten unit (take i polygons) vertices all → HaveNumbers unit polygons vertices all
+written_end unit polygons i vertices all h w = record { faces = w.faces; numbered = gathered_end unit polygons i vertices w.faces h w.gathered; sides = w.sides; numbers = w.numbers }
 
 -- there is a face for each polygon
 faces_counted : (unit : LengthUnit) (polygons : List Outline) (found : List (List Coordinates)) → AreCornersOf unit polygons found → length found ≡ length polygons

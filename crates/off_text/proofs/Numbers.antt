@@ -10,12 +10,10 @@ use Rattle.std.proofs.lemmas.List.Sums.{prefix_len-le-length, passes_at_first}
 use Rattle.indexmap.specs.IndexSet.{insert_key}
 use Rattle.plane_predicate.specs.Space.{Coordinates}
 use Rattle.plane_predicate.proofs.Opposites.{same_point as equal_points}
-use Rattle.off_text.specs.declared.numbering.Word.{Word}
-use Rattle.off_text.specs.declared.numbering.Word.TheVariants.{Sides, Corner, End}
 use Rattle.off_text.specs.Boundaries.{origin}
 use Rattle.off_text.specs.Texts.{same_point, number_among}
 use Rattle.off_text.specs.Numbering.{grown}
-use Rattle.off_text.specs.Words.{face_words, words_among}
+use Rattle.off_text.specs.FaceNumbers.{numbers_among}
 
 -- the point is numbered
 abbrev pub Known : List Coordinates → Coordinates → Type 0
@@ -120,14 +118,14 @@ grown-append [] ys vertices = refl
 grown-append (x ∷ xs) ys vertices = grown-append xs ys (insert_key same_point vertices x)
 
 -- one more point of those that are still to be numbered
-words_step : (vertices rest : List Coordinates) (words : List Word) (p : Coordinates) →
-    (words ++ Corner (number_among vertices p) ∷ []) ++ words_among (grown (insert_key same_point vertices p) rest) rest
-    ≡ words ++ words_among (grown vertices (p ∷ rest)) (p ∷ rest)
-words_step vertices rest words p =
+numbers_step : (vertices rest : List Coordinates) (numbers : List ℕ) (p : Coordinates) →
+    (numbers ++ number_among vertices p ∷ []) ++ numbers_among (grown (insert_key same_point vertices p) rest) rest
+    ≡ numbers ++ numbers_among (grown vertices (p ∷ rest)) (p ∷ rest)
+numbers_step vertices rest numbers p =
     let own = inserted_itself p vertices in
     let kept = grown_keeps p rest (insert_key same_point vertices p) own.0 in
-    append_assoc words (Corner (number_among vertices p) ∷ []) (words_among (grown (insert_key same_point vertices p) rest) rest)
-    ∙ ap (λ (n : ℕ). words ++ Corner n ∷ words_among (grown (insert_key same_point vertices p) rest) rest) (sym (kept.1 ∙ own.1))
+    append_assoc numbers (number_among vertices p ∷ []) (numbers_among (grown (insert_key same_point vertices p) rest) rest)
+    ∙ ap (λ (n : ℕ). numbers ++ n ∷ numbers_among (grown (insert_key same_point vertices p) rest) rest) (sym (kept.1 ∙ own.1))
 
 module _ (vertices new corners : List Coordinates) (i : ℕ) (p : Coordinates) (h : i < length corners) (is : p ≡ get_or corners i p) (grows : new ≡ insert_key same_point vertices p) where
   next_left : drop i corners ≡ p ∷ drop (i + 1) corners
@@ -138,38 +136,30 @@ module _ (vertices new corners : List Coordinates) (i : ℕ) (p : Coordinates) (
   corner_grows whole e = ap (λ (v : List Coordinates). grown v (drop (i + 1) corners)) grows ∙ ap (grown vertices) (sym next_left) ∙ e
 
   -- and its number is put down
-  pub corner_words : (words more whole : List Word) → more ≡ words ++ Corner (number_among vertices p) ∷ [] →
-      words ++ words_among (grown vertices (drop i corners)) (drop i corners) ≡ whole →
-      more ++ words_among (grown new (drop (i + 1) corners)) (drop (i + 1) corners) ≡ whole
-  corner_words words more whole m e =
-      ap₂ (λ (l : List Word) (v : List Coordinates). l ++ words_among (grown v (drop (i + 1) corners)) (drop (i + 1) corners)) m grows
-      ∙ words_step vertices (drop (i + 1) corners) words p
-      ∙ ap (λ (l : List Coordinates). words ++ words_among (grown vertices l) l) (sym next_left)
+  pub corner_numbers : (numbers more whole : List ℕ) → more ≡ numbers ++ number_among vertices p ∷ [] →
+      numbers ++ numbers_among (grown vertices (drop i corners)) (drop i corners) ≡ whole →
+      more ++ numbers_among (grown new (drop (i + 1) corners)) (drop (i + 1) corners) ≡ whole
+  corner_numbers numbers more whole m e =
+      ap₂ (λ (l : List ℕ) (v : List Coordinates). l ++ numbers_among (grown v (drop (i + 1) corners)) (drop (i + 1) corners)) m grows
+      ∙ numbers_step vertices (drop (i + 1) corners) numbers p
+      ∙ ap (λ (l : List Coordinates). numbers ++ numbers_among (grown vertices l) l) (sym next_left)
       ∙ e
 
 -- two parts of a face, numbered one after the other
 pub face_grows : (old new last back front : List Coordinates) → new ≡ grown old back → last ≡ grown new front → last ≡ grown old (back ++ front)
 face_grows old new last back front e f = f ∙ ap (λ (v : List Coordinates). grown v front) e ∙ sym (grown-append back front old)
 
-line_of : (before : List Word) (count : Word) (back front : List Word) → (((before ++ count ∷ []) ++ back) ++ front) ++ End ∷ [] ≡ before ++ count ∷ ((back ++ front) ++ End ∷ [])
-line_of before count back front = simp append_assoc
-
--- a face's words, whose numbers were put down in two parts
-pub face_in_words : (old new last back front : List Coordinates) (count : ℕ) (before counted half whole words : List Word) →
-    new ≡ grown old back → last ≡ grown new front → count ≡ length (back ++ front) → counted ≡ before ++ Sides count ∷ [] →
-    half ≡ counted ++ words_among new back → whole ≡ half ++ words_among last front → words ≡ whole ++ End ∷ [] →
-    words ≡ before ++ face_words (map (number_among last) (back ++ front))
-face_in_words old new last back front count before counted half whole words e f n c h w l =
+-- and their numbers, put down in two parts
+pub face_numbers : (old new last back front : List Coordinates) (before half whole : List ℕ) →
+    new ≡ grown old back → last ≡ grown new front → half ≡ before ++ numbers_among new back → whole ≡ half ++ numbers_among last front →
+    whole ≡ before ++ numbers_among last (back ++ front)
+face_numbers old new last back front before half whole e f h w =
     let known : AllKnown new back = subst (λ (v : List Coordinates). AllKnown v back) (sym e) (grown_knows back old) in
-    let kept : map (number_among last) back ≡ map (number_among new) back =
-    ap (λ (v : List Coordinates). map (number_among v) back) f ∙ (all_kept front new back known).1 in
-    let all : words_among last (back ++ front) ≡ words_among last back ++ words_among last front =
-    ap (map Corner) (map-append (number_among last) back front) ∙ map-append Corner (map (number_among last) back) (map (number_among last) front) in
-    let length_is : length (map (number_among last) (back ++ front)) ≡ count = length-map (back ++ front) (number_among last) ∙ sym n in
-    l ∙ ap (λ (t : List Word). t ++ End ∷ []) (w ∙ ap (λ (t : List Word). t ++ words_among last front) (h
-    ∙ ap₂ (λ (t : List Word) (ns : List ℕ). t ++ map Corner ns) c (sym kept)))
-    ∙ line_of before (Sides count) (words_among last back) (words_among last front)
-    ∙ ap₂ (λ (k : ℕ) (t : List Word). before ++ Sides k ∷ (t ++ End ∷ [])) (sym length_is) (sym all)
+    let kept : numbers_among last back ≡ numbers_among new back =
+    ap (λ (v : List Coordinates). numbers_among v back) f ∙ (all_kept front new back known).1 in
+    w ∙ ap (λ (ns : List ℕ). ns ++ numbers_among last front) (h ∙ ap (λ (ns : List ℕ). before ++ ns) (sym kept))
+    ∙ append_assoc before (numbers_among last back) (numbers_among last front)
+    ∙ ap (λ (ns : List ℕ). before ++ ns) (sym (map-append (number_among last) back front))
 
 pub round_length : (corners : List Coordinates) (n : ℕ) (front back : List Coordinates) → front ≡ take n corners → back ≡ drop n corners → length corners ≡ length (back ++ front)
 round_length corners n front back f g =

@@ -1,74 +1,73 @@
 -- Faces whose vertices have names in place of their numbers.
-use Rattle.std.proofs.Common.{◌≡◌, ℕ, List, [], ◌∷◌, ◌++◌, map, flat_map, length, refl, sym, ap, ap₂, ◌∙◌, append_assoc}
-use Rattle.std.proofs.lemmas.List.{map-append, length-map, get_or-map}
-use Rattle.std.proofs.lemmas.List.Folds.{flat_map-map}
-use Rattle.std.proofs.lemmas.Grind.{flat_map-append}
-use Rattle.text_place.specs.Decimals.{numeral}
+use Rattle.std.proofs.Common.{◌≡◌, ℕ, ◌≤◌, List, [], ◌∷◌, ◌++◌, map, flat_map, length, take, drop, refl, sym, ap, ap₂, ◌∙◌, append-nil, arith}
+use Rattle.std.proofs.lemmas.List.{length-map, get_or-map, take-append-le, drop-append-le, take_all, drop_all}
 use Rattle.plane_predicate.specs.declared.unit.Unit.{Unit as LengthUnit}
 use Rattle.plane_predicate.specs.Space.{Coordinates}
 use Rattle.plane_polygon.specs.Polygons.{Outline}
-use Rattle.off_text.specs.declared.numbering.Word.{Word}
-use Rattle.off_text.specs.declared.numbering.Word.TheVariants.{Sides, Corner, End}
-use Rattle.off_text.specs.Reading.{newline, face_line}
+use Rattle.off_text.specs.declared.numbering.FaceNumbers.{FaceNumbers}
+use Rattle.off_text.specs.Reading.{face_line}
 use Rattle.off_text.specs.Boundaries.{origin}
 use Rattle.off_text.specs.Texts.{same_point, number_among}
-use Rattle.off_text.specs.Numbering.{number_word, HaveLines}
-use Rattle.off_text.specs.Words.{face_words, words_among, word_text, renamed, lines_of, HaveWords}
+use Rattle.off_text.specs.Numbering.{HaveLines}
+use Rattle.off_text.specs.FaceNumbers.{sides_of, all_numbers, numbers_among, renamed, lines_from, lines_of, HaveNumbers}
 use Rattle.off_text.proofs.Numbers.{Known, AllKnown, place_below, known_at}
 use Rattle.off_text.proofs.Gathered.{joined, known_parts}
 
-face_text : (indices : List ℕ) → flat_map word_text (face_words indices) ≡ face_line indices
-face_text indices =
-    ap (λ (t : List ℕ). numeral (length indices) ++ t)
-    (flat_map-append word_text (map Corner indices) (End ∷ []) ∙ ap (λ (t : List ℕ). t ++ newline) (flat_map-map word_text Corner indices))
-    ∙ sym (append_assoc (numeral (length indices)) (flat_map number_word indices) newline)
+-- a face's numbers before those of others
+own_front : (face rest : List ℕ) → take (length face) (face ++ rest) ≡ face
+own_front face rest = let whole : length face ≤ length face = omega arith in take-append-le (length face) face rest whole ∙ take_all (length face) face whole
 
--- a face whose numbers have these names
-face_renamed : (names : List Word) (indices others : List ℕ) → map (renamed names) (map Corner indices) ≡ map Corner others → lines_of names (face_words indices) ≡ face_line others
-face_renamed names indices others e =
-    let count : length indices ≡ length others =
-    sym (length-map (map Corner indices) (renamed names) ∙ length-map indices Corner) ∙ ap length e ∙ length-map others Corner in
-    sym (flat_map-map word_text (renamed names) (face_words indices))
-    ∙ ap (flat_map word_text)
-    (ap (λ (ws : List Word). Sides (length indices) ∷ ws) (map-append (renamed names) (map Corner indices) (End ∷ []))
-    ∙ ap₂ (λ (n : ℕ) (ws : List Word). Sides n ∷ (ws ++ End ∷ [])) count e)
-    ∙ face_text others
+own_back : (face rest : List ℕ) → drop (length face) (face ++ rest) ≡ rest
+own_back face rest = let whole : length face ≤ length face = omega arith in drop-append-le (length face) face rest whole ∙ ap (λ (ns : List ℕ). ns ++ rest) (drop_all (length face) face whole)
+
+-- the lines of faces whose vertices have names
+pub lines_named : (names : List ℕ) (faces : List (List ℕ)) → lines_from names (sides_of faces) (all_numbers faces) ≡ flat_map face_line (map (map (renamed names)) faces)
+lines_named names [] = refl
+lines_named names (face ∷ faces) =
+    ap₂ (λ (x y : List ℕ). x ++ y)
+    (ap (λ (ns : List ℕ). face_line (map (renamed names) ns)) (own_front face (all_numbers faces)))
+    (ap (lines_from names (sides_of faces)) (own_back face (all_numbers faces)) ∙ lines_named names faces)
 
 -- ---- names among all vertices
-point_renamed : (keys all : List Coordinates) (p : Coordinates) → Known keys p → renamed (words_among all keys) (Corner (number_among keys p)) ≡ Corner (number_among all p)
+point_renamed : (keys all : List Coordinates) (p : Coordinates) → Known keys p → renamed (numbers_among all keys) (number_among keys p) ≡ number_among all p
 point_renamed keys all p h =
     let i = number_among keys p in
-    let below = place_below (same_point p) keys h in
-    get_or-map Corner (map (number_among all) keys) i 0 (Corner i) (rw (length-map keys (number_among all)) below)
-    ∙ ap Corner (get_or-map (number_among all) keys i origin 0 below ∙ ap (number_among all) (known_at keys p h))
+    get_or-map (number_among all) keys i origin i (place_below (same_point p) keys h) ∙ ap (number_among all) (known_at keys p h)
 
 points_renamed : (keys all points : List Coordinates) → AllKnown keys points →
-    map (renamed (words_among all keys)) (map Corner (map (number_among keys) points)) ≡ map Corner (map (number_among all) points)
+    map (renamed (numbers_among all keys)) (map (number_among keys) points) ≡ map (number_among all) points
 points_renamed keys all [] h = refl
-points_renamed keys all (p ∷ points) h = ap₂ (λ (w : Word) (ws : List Word). w ∷ ws) (point_renamed keys all p h.0) (points_renamed keys all points h.1)
+points_renamed keys all (p ∷ points) h = ap₂ (λ (n : ℕ) (ns : List ℕ). n ∷ ns) (point_renamed keys all p h.0) (points_renamed keys all points h.1)
 
--- the faces that have numbers among some vertices have these names among all
-pub part_lines : (keys all : List Coordinates) (loops : List (List Coordinates)) → AllKnown keys (joined loops) →
-    lines_of (words_among all keys) (flat_map face_words (map (map (number_among keys)) loops)) ≡ flat_map face_line (map (map (number_among all)) loops)
-part_lines keys all [] h = refl
-part_lines keys all (points ∷ loops) h =
+-- faces that have numbers among some vertices have these names among all
+loops_renamed : (keys all : List Coordinates) (loops : List (List Coordinates)) → AllKnown keys (joined loops) →
+    map (map (renamed (numbers_among all keys))) (map (map (number_among keys)) loops) ≡ map (map (number_among all)) loops
+loops_renamed keys all [] h = refl
+loops_renamed keys all (points ∷ loops) h =
     let parts = known_parts points (joined loops) keys h in
-    flat_map-append (λ (word : Word). word_text (renamed (words_among all keys) word)) (face_words (map (number_among keys) points)) (flat_map face_words (map (map (number_among keys)) loops))
-    ∙ ap₂ (λ (x y : List ℕ). x ++ y)
-    (face_renamed (words_among all keys) (map (number_among keys) points) (map (number_among all) points) (points_renamed keys all points parts.0))
-    (part_lines keys all loops parts.1)
+    ap₂ (λ (ns : List ℕ) (rest : List (List ℕ)). ns ∷ rest) (points_renamed keys all points parts.0) (loops_renamed keys all loops parts.1)
+
+pub part_lines : (keys all : List Coordinates) (loops : List (List Coordinates)) (faces : FaceNumbers) → AllKnown keys (joined loops) →
+    faces.sides.items ≡ sides_of (map (map (number_among keys)) loops) → faces.numbers.items ≡ all_numbers (map (map (number_among keys)) loops) →
+    lines_of (numbers_among all keys) faces ≡ flat_map face_line (map (map (number_among all)) loops)
+part_lines keys all loops faces h sides numbers =
+    ap₂ (lines_from (numbers_among all keys)) sides numbers
+    ∙ lines_named (numbers_among all keys) (map (map (number_among keys)) loops)
+    ∙ ap (flat_map face_line) (loops_renamed keys all loops h)
 
 -- ---- no names
-own_words : (indices : List ℕ) → map (renamed []) (map Corner indices) ≡ map Corner indices
-own_words [] = refl
-own_words (i ∷ indices) = ap (λ (ws : List Word). Corner i ∷ ws) (own_words indices)
+own_numbers : (face : List ℕ) → map (renamed []) face ≡ face
+own_numbers [] = refl
+own_numbers (i ∷ face) = ap (λ (ns : List ℕ). i ∷ ns) (own_numbers face)
 
-own_faces : (faces : List (List ℕ)) → lines_of [] (flat_map face_words faces) ≡ flat_map face_line faces
+own_faces : (faces : List (List ℕ)) → map (map (renamed [])) faces ≡ faces
 own_faces [] = refl
-own_faces (face ∷ faces) =
-    flat_map-append (λ (word : Word). word_text (renamed [] word)) (face_words face) (flat_map face_words faces)
-    ∙ ap₂ (λ (x y : List ℕ). x ++ y) (face_renamed [] face face (own_words face)) (own_faces faces)
+own_faces (face ∷ faces) = ap₂ (λ (ns : List ℕ) (rest : List (List ℕ)). ns ∷ rest) (own_numbers face) (own_faces faces)
 
--- words without other names are the lines
-pub own_lines : (unit : LengthUnit) (polygons : List Outline) (vertices : List Coordinates) (words : List Word) → HaveWords unit polygons vertices words → HaveLines unit polygons vertices (lines_of [] words)
-own_lines unit polygons vertices words h = record { faces = h.faces; numbered = h.numbered; lines_are = ap (lines_of []) h.words_are ∙ own_faces h.faces }
+-- vertices without other names have their numbers
+pub own_lines : (unit : LengthUnit) (polygons : List Outline) (vertices : List Coordinates) (faces : FaceNumbers) → HaveNumbers unit polygons vertices faces → HaveLines unit polygons vertices (lines_of [] faces)
+own_lines unit polygons vertices faces h = record {
+  faces = h.faces;
+  numbered = h.numbered;
+  lines_are = ap₂ (lines_from []) h.sides h.numbers ∙ lines_named [] h.faces ∙ ap (flat_map face_line) (own_faces h.faces);
+}

@@ -7,14 +7,13 @@ use Rattle.std.proofs.lemmas.Grind.{flat_map-append}
 use Rattle.plane_predicate.specs.declared.unit.Unit.{Unit as LengthUnit}
 use Rattle.plane_predicate.specs.Space.{Coordinates}
 use Rattle.plane_polygon.specs.Polygons.{Outline, IsPolygon}
-use Rattle.off_text.specs.declared.numbering.Word.{Word}
-use Rattle.off_text.specs.declared.numbering.Word.TheVariants.{Corner}
+use Rattle.off_text.specs.declared.numbering.FaceNumbers.{FaceNumbers}
 use Rattle.off_text.specs.declared.part.Part.{Part}
 use Rattle.off_text.specs.declared.parts.NamedPart.{NamedPart}
 use Rattle.off_text.specs.Reading.{face_line}
 use Rattle.off_text.specs.Texts.{from_least, number_among, printed_corners, AreCornersOf}
 use Rattle.off_text.specs.Numbering.{grown, HaveLines}
-use Rattle.off_text.specs.Words.{face_words, words_among, lines_of, HaveWords}
+use Rattle.off_text.specs.FaceNumbers.{sides_of, all_numbers, numbers_among, lines_of, HaveNumbers}
 use Rattle.off_text.specs.Parts.{AreCut, vertices_in, named_in, named, lines_in}
 use Rattle.off_text.proofs.Numbers.{AllKnown, all_kept, grown_knows, grown-append}
 use Rattle.off_text.proofs.Distinct.{grown_from_none, grown_twice}
@@ -23,7 +22,7 @@ use Rattle.off_text.proofs.Renamed.{part_lines}
 
 -- a part numbers these polygons by itself
 abbrev pub IsPart : LengthUnit → List Outline → Part → Type 0
-IsPart unit polygons part = HaveWords unit polygons part.vertices.keys part.words.items
+IsPart unit polygons part = HaveNumbers unit polygons part.vertices.keys part.faces
 
 -- these polygons are numbered behind some vertices, and these are the lines of their faces
 record AreTogether (unit : LengthUnit) (polygons : List Outline) (before all : List Coordinates) (lines : List ℕ) : Type 0 where
@@ -35,7 +34,7 @@ record AreTogether (unit : LengthUnit) (polygons : List Outline) (before all : L
 
 -- the lines of a part among all vertices
 abbrev lines_among : List Coordinates → Part → List ℕ
-lines_among all part = lines_of (words_among all part.vertices.keys) part.words.items
+lines_among all part = lines_of (numbers_among all part.vertices.keys) part.faces
 
 -- a part before others
 module _ (unit : LengthUnit) (front back : List Outline) (part : Part) (is : IsPart unit front part) (before all : List Coordinates) where
@@ -45,11 +44,11 @@ module _ (unit : LengthUnit) (front back : List Outline) (part : Part) (is : IsP
   keys_known : AllKnown part.vertices.keys (joined (printed_corners is.numbered.found))
   keys_known = subst (λ (v : List Coordinates). AllKnown v (joined (printed_corners is.numbered.found))) (sym keys_are) (grown_knows (joined (printed_corners is.numbered.found)) [])
 
+  faces_are : is.faces ≡ map (map (number_among part.vertices.keys)) (printed_corners is.numbered.found)
+  faces_are = is.numbered.faces_are ∙ ap (λ (v : List Coordinates). map (map (number_among v)) (printed_corners is.numbered.found)) (sym is.numbered.vertices_are)
+
   own : lines_among all part ≡ flat_map face_line (map (map (number_among all)) (printed_corners is.numbered.found))
-  own =
-      ap (lines_of (words_among all part.vertices.keys))
-      (is.words_are ∙ ap (flat_map face_words) (is.numbered.faces_are ∙ ap (λ (v : List Coordinates). map (map (number_among v)) (printed_corners is.numbered.found)) (sym is.numbered.vertices_are)))
-      ∙ part_lines part.vertices.keys all (printed_corners is.numbered.found) keys_known
+  own = part_lines part.vertices.keys all (printed_corners is.numbered.found) part.faces keys_known (is.sides ∙ ap sides_of faces_are) (is.numbers ∙ ap all_numbers faces_are)
 
   together_more : (lines : List ℕ) → AreTogether unit back (grown before part.vertices.keys) all lines → AreTogether unit (front ++ back) before all (lines_among all part ++ lines)
   together_more lines rest =
@@ -83,7 +82,7 @@ pub parts_numbered : (unit : LengthUnit) (all : List Coordinates) (polygons : Li
 parts_numbered unit all polygons parts others h e names =
     let t = all_together unit all polygons parts [] h e in
     let faces = map (map (number_among all)) (printed_corners t.found) in
-    let text = λ (n : List Word × List Word). lines_of n.1 n.0 in
+    let text = λ (n : FaceNumbers × List ℕ). lines_of n.1 n.0 in
     record {
       faces = faces;
       numbered = gathered_all unit polygons all faces (record { all_polygons = t.all_polygons; found = t.found; corners = t.corners; vertices_are = t.grows; faces_are = refl });
@@ -91,15 +90,14 @@ parts_numbered unit all polygons parts others h e names =
     }
 
 -- ---- one part after another
--- the words of a part's vertices, which were put down from none on
-pub put_down : (begun items : List Word) (vertices points keys : List Coordinates) → items ≡ begun ++ words_among vertices points → begun ≡ [] → points ≡ keys → items ≡ words_among vertices keys
-put_down begun items vertices points keys e none same = e ∙ ap₂ (λ (ws : List Word) (ps : List Coordinates). ws ++ words_among vertices ps) none same
+-- the names of a part's vertices, which were put down from none on
+pub put_down : (begun items : List ℕ) (vertices points keys : List Coordinates) → items ≡ begun ++ numbers_among vertices points → begun ≡ [] → points ≡ keys → items ≡ numbers_among vertices keys
+put_down begun items vertices points keys e none same = e ∙ ap₂ (λ (ns : List ℕ) (ps : List Coordinates). ns ++ numbers_among vertices ps) none same
 
 -- the names of a part stay, whatever comes after it
 names_stay : (rest : List Part) (part : Part) (vertices : List Coordinates) →
-    words_among (grown (grown vertices part.vertices.keys) (vertices_in rest)) part.vertices.keys ≡ words_among (grown vertices part.vertices.keys) part.vertices.keys
-names_stay rest part vertices =
-    ap (map Corner) (all_kept (vertices_in rest) (grown vertices part.vertices.keys) part.vertices.keys (grown_knows part.vertices.keys vertices)).1
+    numbers_among (grown (grown vertices part.vertices.keys) (vertices_in rest)) part.vertices.keys ≡ numbers_among (grown vertices part.vertices.keys) part.vertices.keys
+names_stay rest part vertices = (all_kept (vertices_in rest) (grown vertices part.vertices.keys) part.vertices.keys (grown_knows part.vertices.keys vertices)).1
 
 module _ (whole left rest : List Part) (part : Part) (e : left ≡ part ∷ rest) (vertices new : List Coordinates) (grows : new ≡ grown vertices part.vertices.keys) where
   -- a part more is put to those before
@@ -110,18 +108,18 @@ module _ (whole left rest : List Part) (part : Part) (e : left ≡ part ∷ rest
 
   -- and its vertices have the names that they have among all
   pub part_named : (before more : List NamedPart) (one : NamedPart) → more ≡ before ++ one ∷ [] → grown vertices (vertices_in left) ≡ grown [] (vertices_in whole) →
-      one.words.items ≡ part.words.items → one.names.items ≡ words_among new part.vertices.keys →
-      (names : List (List Word × List Word)) → map named before ++ map (named_in (grown [] (vertices_in whole))) left ≡ names →
+      one.faces ≡ part.faces → one.names.items ≡ numbers_among new part.vertices.keys →
+      (names : List (FaceNumbers × List ℕ)) → map named before ++ map (named_in (grown [] (vertices_in whole))) left ≡ names →
       map named more ++ map (named_in (grown [] (vertices_in whole))) rest ≡ names
   part_named before more one m h w n names all =
       let last = grown [] (vertices_in whole) in
-      let own : words_among new part.vertices.keys ≡ words_among last part.vertices.keys =
-      ap (λ (v : List Coordinates). words_among v part.vertices.keys) grows ∙ sym (names_stay rest part vertices)
-      ∙ ap (λ (v : List Coordinates). words_among v part.vertices.keys) (ap (λ (v : List Coordinates). grown v (vertices_in rest)) (sym grows) ∙ part_grows h) in
+      let own : numbers_among new part.vertices.keys ≡ numbers_among last part.vertices.keys =
+      ap (λ (v : List Coordinates). numbers_among v part.vertices.keys) grows ∙ sym (names_stay rest part vertices)
+      ∙ ap (λ (v : List Coordinates). numbers_among v part.vertices.keys) (ap (λ (v : List Coordinates). grown v (vertices_in rest)) (sym grows) ∙ part_grows h) in
       ap (λ (ns : List NamedPart). map named ns ++ map (named_in last) rest) m
-      ∙ ap (λ (ns : List (List Word × List Word)). ns ++ map (named_in last) rest) (map-append named before (one ∷ []))
+      ∙ ap (λ (ns : List (FaceNumbers × List ℕ)). ns ++ map (named_in last) rest) (map-append named before (one ∷ []))
       ∙ append_assoc (map named before) (named one ∷ []) (map (named_in last) rest)
-      ∙ ap₂ (λ (x y : List Word). map named before ++ (x, y) ∷ map (named_in last) rest) w (n ∙ own)
+      ∙ ap₂ (λ (x : FaceNumbers) (y : List ℕ). map named before ++ (x, y) ∷ map (named_in last) rest) w (n ∙ own)
       ∙ ap (λ (ps : List Part). map named before ++ map (named_in last) ps) (sym e)
       ∙ all
 

@@ -1,56 +1,63 @@
-//! The numbers of vertices, by first appearance, and the words of the lines of faces.
+//! The numbers of vertices, by first appearance, and faces by the numbers of their vertices.
 
-ghost use Rattle.std.specs.Prelude.{◌≡◌, ◌≤◌, ◌++◌, map, length, drop, take, OnOk};
-ghost use Rattle.off_text.specs.Texts.{number_among};
+ghost use Rattle.std.specs.Prelude.{◌≡◌, ◌≤◌, ◌++◌, ◌∷◌, [], length, drop, take, OnOk};
 ghost use Rattle.off_text.specs.Numbering.{grown};
-ghost use Rattle.off_text.specs.Words.{face_words, words_among};
+ghost use Rattle.off_text.specs.FaceNumbers.{numbers_among};
 
 use crate::vertex::Vertex;
 use indexmap::IndexSet;
 use text_place::NoMemory;
 
-/// A word of the line of a face.
-#[derive(Clone, Copy)]
-pub enum Word {
-    /// How many corners the face has.
-    Sides(usize),
-    /// The number of a corner's vertex.
-    Corner(usize),
-    /// The end of the line.
-    End,
+/// Faces by the numbers of their vertices, in four bytes for each corner and four for each face.
+#[derive(Drop)]
+pub struct FaceNumbers {
+    /// How many corners each face has.
+    pub sides: Vec<u32>,
+    /// The numbers of all corners' vertices, one face after another.
+    pub numbers: Vec<u32>,
+}
+
+// Appends a number. Vertices of which one has a number above 32 bits take 256 GiB, so there is no memory for them.
+fn push_number(numbers: &mut Vec<u32>, number: usize) -> Result<(), NoMemory>
+    ensures { OnOk result (numbers.new.items ≡ numbers.old.items ++ number ∷ []) }
+{
+    match u32::try_from(number) {
+        Ok(number) => Ok(numbers.push(number)?),
+        Err(_) => Err(NoMemory),
+    }
 }
 
 /// Appends the numbers of corners, of which those that are new become vertices.
 pub fn push_numbers(
     vertices: &mut IndexSet<Vertex>,
-    words: &mut Vec<Word>,
+    numbers: &mut Vec<u32>,
     corners: &[Vertex],
 ) -> Result<(), NoMemory>
     ensures vertices { OnOk result (vertices.new.keys ≡ grown vertices.old.keys corners.now) }
-    ensures words { OnOk result (words.new.items ≡ words.old.items ++ words_among vertices.new.keys corners.now) }
+    ensures numbers { OnOk result (numbers.new.items ≡ numbers.old.items ++ numbers_among vertices.new.keys corners.now) }
 {
     for corner in corners {
         let (index, _is_new) = vertices.insert_full(*corner)?;
-        words.push(Word::Corner(index))?;
+        push_number(numbers, index)?;
     }
     Ok(())
 }
 
-/// Appends the words of a face, from this one of its corners on.
+/// Appends a face, from this one of its corners on.
 pub fn push_face(
     vertices: &mut IndexSet<Vertex>,
-    words: &mut Vec<Word>,
+    faces: &mut FaceNumbers,
     corners: &[Vertex],
     start: usize,
 ) -> Result<(), NoMemory>
     requires { start ≤ length corners.now }
     ensures vertices { OnOk result (vertices.new.keys ≡ grown vertices.old.keys (drop start corners.now ++ take start corners.now)) }
-    ensures words { OnOk result (words.new.items ≡ words.old.items ++ face_words (map (number_among vertices.new.keys) (drop start corners.now ++ take start corners.now))) }
+    ensures sides { OnOk result (faces.new.sides.items ≡ faces.old.sides.items ++ length corners.now ∷ []) }
+    ensures numbers { OnOk result (faces.new.numbers.items ≡ faces.old.numbers.items ++ numbers_among vertices.new.keys (drop start corners.now ++ take start corners.now)) }
 {
     let (front, back) = corners.split_at(start);
-    words.push(Word::Sides(corners.len()))?;
-    push_numbers(vertices, words, back)?;
-    push_numbers(vertices, words, front)?;
-    words.push(Word::End)?;
+    push_number(&mut faces.sides, corners.len())?;
+    push_numbers(vertices, &mut faces.numbers, back)?;
+    push_numbers(vertices, &mut faces.numbers, front)?;
     Ok(())
 }

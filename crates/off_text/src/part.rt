@@ -1,10 +1,10 @@
-//! The vertices and the words of facets that are numbered one after another.
+//! The vertices and the faces of facets that are numbered one after another.
 
 ghost use Rattle.std.specs.Prelude.{IfOk, OnOk};
-ghost use Rattle.off_text.specs.Words.{AddsWords, HaveWords};
+ghost use Rattle.off_text.specs.FaceNumbers.{AddsNumbers, HaveNumbers};
 
 use crate::corners::put_corners;
-use crate::numbering::{Word, push_face};
+use crate::numbering::{FaceNumbers, push_face};
 use crate::vertex::{Vertex, least_corner};
 use facet_cut::Facet;
 use indexmap::IndexSet;
@@ -12,14 +12,14 @@ use plane_predicate::Unit;
 use std::alloc::Global;
 use text_place::NoMemory;
 
-/// The vertices of facets, and the words of their faces' lines, in which vertices have their numbers.
+/// The vertices of facets, and their faces.
 #[derive(Drop)]
 pub struct Part {
     pub vertices: IndexSet<Vertex>,
-    pub words: Vec<Word>,
+    pub faces: FaceNumbers,
 }
 
-// Appends the words of a facet's line, from its least corner on. `corners` is a list for its corners, which
+// Appends a facet's face, from its least corner on. `corners` is a list for its corners, which
 // the next facet uses again.
 fn push_facet(
     part: &mut Part,
@@ -27,21 +27,35 @@ fn push_facet(
     facet: &Facet,
     unit: Unit,
 ) -> Result<(), NoMemory>
-    ensures { OnOk result (AddsWords unit facet.now part.old.vertices.keys part.new.vertices.keys part.old.words.items part.new.words.items) }
+    ensures { OnOk result (AddsNumbers unit facet.now part.old.vertices.keys part.new.vertices.keys part.old.faces part.new.faces) }
 {
     put_corners(corners, &facet.polygon, unit)?;
     let start = least_corner(corners);
-    push_face(&mut part.vertices, &mut part.words, corners, start)
+    push_face(&mut part.vertices, &mut part.faces, corners, start)
 }
 
-/// Numbers the corners of facets, and gives the words of their lines.
+// How many corners facets have together, for the room that their numbers take.
+fn corners_of(facets: &[Facet]) -> usize {
+    let mut count: usize = 0;
+    for facet in facets {
+        count = count.saturating_add(facet.polygon.edges().len());
+    }
+    count
+}
+
+/// Numbers the corners of facets.
 pub fn numbered(alloc: Global, facets: &[Facet], unit: Unit) -> Result<Part, NoMemory>
-    ensures { IfOk result (λ part. HaveWords unit facets.now part.vertices.keys part.words.items) }
+    ensures { IfOk result (λ part. HaveNumbers unit facets.now part.vertices.keys part.faces) }
 {
     let mut part = Part {
         vertices: IndexSet::new(alloc),
-        words: Vec::new(alloc),
+        faces: FaceNumbers {
+            sides: Vec::new(alloc),
+            numbers: Vec::new(alloc),
+        },
     };
+    part.faces.sides.reserve(facets.len())?;
+    part.faces.numbers.reserve(corners_of(facets))?;
     let mut corners = Vec::new(alloc);
     for facet in facets {
         push_facet(&mut part, &mut corners, facet, unit)?;

@@ -4,10 +4,10 @@ ghost use Rattle.std.specs.Prelude.{◌≡◌, ◌++◌, ◌∷◌, [], ◌<◌,
 ghost use Rattle.text_place.specs.Decimals.{numeral};
 ghost use Rattle.off_text.specs.Reading.{vertex_line};
 ghost use Rattle.off_text.specs.Numbering.{grown, HaveLines};
-ghost use Rattle.off_text.specs.Words.{HaveWords};
+ghost use Rattle.off_text.specs.FaceNumbers.{HaveNumbers};
 ghost use Rattle.off_text.specs.Parts.{AreCut, vertices_in, named_in, named, lines_in};
 
-use crate::numbering::{Word, push_numbers};
+use crate::numbering::{FaceNumbers, push_numbers};
 use crate::part::{Part, numbered};
 use crate::vertex::Vertex;
 use crate::writing::{begun, push_lines, push_vertices};
@@ -30,11 +30,11 @@ pub fn part_length(count: usize, workers: u64) -> usize
     count.div_ceil(workers.max(1) as usize).max(FEWEST)
 }
 
-/// The words of a part, and the names of its vertices among those of all parts.
+/// The faces of a part, and the names of its vertices: their numbers among those of all parts.
 #[derive(Drop)]
 pub struct NamedPart {
-    pub words: Vec<Word>,
-    pub names: Vec<Word>,
+    pub faces: FaceNumbers,
+    pub names: Vec<u32>,
 }
 
 /// The vertices of all parts, and the parts.
@@ -64,10 +64,10 @@ fn parts_by<R: Threads + Sync>(
     unit: Unit,
 ) -> Result<Vec<Part>, NoMemory>
     requires { 0 < size }
-    ensures { IfOk result (λ parts. AreCut (λ polygons part. HaveWords unit polygons part.vertices.keys part.words.items) facets.now parts.items) }
+    ensures { IfOk result (λ parts. AreCut (λ polygons part. HaveNumbers unit polygons part.vertices.keys part.faces) facets.now parts.items) }
 {
     let part = |_start: usize, chunk: &[Facet]| -> Result<Part, NoMemory>
-        ensures { IfOk result (λ part. HaveWords unit chunk.now part.vertices.keys part.words.items) }
+        ensures { IfOk result (λ part. HaveNumbers unit chunk.now part.vertices.keys part.faces) }
     { numbered(alloc, chunk, unit) };
     all_made(alloc, thread::map_chunks(rt, alloc, facets, size, &part)?)
 }
@@ -85,7 +85,7 @@ fn put_together(alloc: Global, parts: Vec<Part>) -> Result<Merged, NoMemory>
         let mut names = Vec::new(alloc);
         push_numbers(&mut merged.vertices, &mut names, part.vertices.as_slice())?;
         merged.parts.push(NamedPart {
-            words: part.words,
+            faces: part.faces,
             names,
         })?;
     }
@@ -121,7 +121,7 @@ fn part_lines(alloc: Global, parts: &[NamedPart]) -> Result<Vec<u8>, NoMemory>
 {
     let mut lines = Vec::new(alloc);
     for part in parts {
-        push_lines(alloc, &mut lines, &part.words, &part.names)?;
+        push_lines(alloc, &mut lines, &part.faces, &part.names)?;
     }
     Ok(lines)
 }

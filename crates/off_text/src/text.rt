@@ -84,7 +84,7 @@ pub fn off_bytes(alloc: Global, facets: &[Facet], unit: Unit) -> Result<Vec<u8>,
     if part.vertices.len() > VERTICES {
         return Err(OffStop::TooManyVertices);
     }
-    Ok(written(alloc, part.vertices.as_slice(), facets.len(), &part.words)?)
+    Ok(written(alloc, part.vertices.as_slice(), facets.len(), &part.faces)?)
 }
 
 /// The text that `off_bytes` gives, and its limits, by at most so many workers. Each of them numbers

@@ -1,11 +1,11 @@
 //! The lines of a 4OFF text.
 
-ghost use Rattle.std.specs.Prelude.{◌≡◌, ◌++◌, ◌∷◌, [], codes, flat_map, length, OnOk, IfOk};
+ghost use Rattle.std.specs.Prelude.{◌≡◌, ◌++◌, ◌∷◌, [], codes, map, flat_map, length, OnOk, IfOk};
 ghost use Rattle.text_place.specs.Decimals.{numeral};
-ghost use Rattle.off_text.specs.Reading.{vertex_line};
-ghost use Rattle.off_text.specs.Words.{word_text, renamed, lines_of};
+ghost use Rattle.off_text.specs.Reading.{vertex_line, face_line};
+ghost use Rattle.off_text.specs.FaceNumbers.{renamed, lines_of};
 
-use crate::numbering::Word;
+use crate::numbering::FaceNumbers;
 use crate::vertex::Vertex;
 use std::alloc::Global;
 use text_place::{NoMemory, push_decimal};
@@ -42,48 +42,43 @@ pub fn push_vertices(alloc: Global, out: &mut Vec<u8>, vertices: &[Vertex]) -> R
     Ok(())
 }
 
-// A word in which a vertex has the name at its number, among the names that are given. Where there is none,
-// it keeps its number.
-fn renamed(word: Word, names: &[Word]) -> Word
-    ensures { result ≡ renamed names.now word }
+// The name at a vertex's number, among the names that are given, or the number where there is no name.
+fn renamed(number: u32, names: &[u32]) -> u32
+    ensures { result ≡ renamed names.now number }
 {
-    match word {
-        Word::Corner(number) => match names.get(number) {
-            Some(name) => *name,
-            None => word,
-        },
-        Word::Sides(_) | Word::End => word,
+    match names.get(number as usize) {
+        Some(name) => *name,
+        None => number,
     }
 }
 
-// Appends a word of a face's line, with the sign before or after it.
-fn push_word(alloc: Global, out: &mut Vec<u8>, word: Word) -> Result<(), NoMemory>
-    ensures { OnOk result (out.new.items ≡ out.old.items ++ word_text word) }
+// Appends the line of a face with these numbers, whose vertices have these names.
+fn push_line(alloc: Global, out: &mut Vec<u8>, face: &[u32], names: &[u32]) -> Result<(), NoMemory>
+    ensures { OnOk result (out.new.items ≡ out.old.items ++ face_line (map (renamed names.now) face.now)) }
 {
-    match word {
-        Word::Sides(count) => push_count(alloc, out, count),
-        Word::Corner(number) => {
-            out.push(b' ')?;
-            push_count(alloc, out, number)
-        }
-        Word::End => {
-            out.push(b'\n')?;
-            Ok(())
-        }
+    push_count(alloc, out, face.len())?;
+    for number in face {
+        out.push(b' ')?;
+        push_count(alloc, out, renamed(*number, names) as usize)?;
     }
+    out.push(b'\n')?;
+    Ok(())
 }
 
-/// Appends the lines that have these words, in which vertices have these names.
+/// Appends the lines of faces whose vertices have these names.
 pub fn push_lines(
     alloc: Global,
     out: &mut Vec<u8>,
-    words: &[Word],
-    names: &[Word],
+    faces: &FaceNumbers,
+    names: &[u32],
 ) -> Result<(), NoMemory>
-    ensures { OnOk result (out.new.items ≡ out.old.items ++ lines_of names.now words.now) }
+    ensures { OnOk result (out.new.items ≡ out.old.items ++ lines_of names.now faces.now) }
 {
-    for word in words {
-        push_word(alloc, out, renamed(*word, names))?;
+    let mut left = faces.numbers.as_slice();
+    for count in &faces.sides {
+        let (face, rest) = left.split_at((*count as usize).min(left.len()));
+        push_line(alloc, out, face, names)?;
+        left = rest;
     }
     Ok(())
 }
@@ -100,17 +95,17 @@ pub fn begun(alloc: Global, vertices: usize, faces: usize) -> Result<Vec<u8>, No
     Ok(text)
 }
 
-/// The text of these vertices and of this many faces, whose lines have these words.
+/// The text of these vertices and of these faces, of which there are so many.
 pub fn written(
     alloc: Global,
     vertices: &[Vertex],
-    faces: usize,
-    words: &[Word],
+    count: usize,
+    faces: &FaceNumbers,
 ) -> Result<Vec<u8>, NoMemory>
-    ensures { IfOk result (λ text. text.items ≡ codes "4OFF\n" ++ numeral (length vertices.now) ++ 32 ∷ numeral faces ++ codes " 0\n" ++ flat_map vertex_line vertices.now ++ lines_of [] words.now) }
+    ensures { IfOk result (λ text. text.items ≡ codes "4OFF\n" ++ numeral (length vertices.now) ++ 32 ∷ numeral count ++ codes " 0\n" ++ flat_map vertex_line vertices.now ++ lines_of [] faces.now) }
 {
-    let mut text = begun(alloc, vertices.len(), faces)?;
+    let mut text = begun(alloc, vertices.len(), count)?;
     push_vertices(alloc, &mut text, vertices)?;
-    push_lines(alloc, &mut text, words, &[])?;
+    push_lines(alloc, &mut text, faces, &[])?;
     Ok(text)
 }

@@ -1,12 +1,13 @@
-use Rattle.std.proofs.Common.{◌≡◌, ◌≤◌, ℕ, List, ◌++◌, map, length, drop, take, sym, ap, ap₂, ◌∙◌, subst, Result, Ok, Err, OnOk}
+use Rattle.std.proofs.Common.{◌≡◌, ◌≤◌, ℕ, List, [], ◌∷◌, ◌++◌, map, length, drop, take, refl, sym, ap, ap₂, ◌∙◌, subst, Result, Ok, Err, OnOk}
+use Rattle.std.proofs.lemmas.List.{length-map}
 use Rattle.plane_predicate.specs.declared.unit.Unit.{Unit as LengthUnit}
 use Rattle.plane_predicate.specs.Space.{Coordinates}
 use Rattle.plane_polygon.specs.Polygons.{Outline, AreReducedFrom, IsPolygon}
-use Rattle.off_text.specs.declared.numbering.Word.{Word}
+use Rattle.off_text.specs.declared.numbering.FaceNumbers.{FaceNumbers}
 use Rattle.off_text.specs.Texts.{corners_in_units, from_least, is_least, number_among, place_of_least}
 use Rattle.off_text.specs.Numbering.{grown}
-use Rattle.off_text.specs.Words.{face_words, AddsWords}
-use Rattle.off_text.proofs.Numbers.{place_at_most}
+use Rattle.off_text.specs.FaceNumbers.{numbers_among, AddsNumbers}
+use Rattle.off_text.proofs.Numbers.{place_at_most, round_length}
 use Rattle.off_text.proofs.part.push_facet.Goals as goal
 
 pub push_face-requires : goal.push_face-requires
@@ -15,16 +16,22 @@ push_face-requires c =
     let same : c.deref.result.now ≡ points = c.deref.ensures.value ∙ sym c.deref-2.ensures.value in
     subst (λ (n : ℕ). n ≤ length points) (sym (c.least_corner-start.ensures ∙ ap place_of_least same)) (place_at_most (is_least points) points)
 
--- a face whose words are put down from its least corner on
-adds : {V E : Type 0} (r : Result V E) (unit : LengthUnit) (s : Outline) (old new found round : List Coordinates) (before words : List Word) →
-    IsPolygon s → AreReducedFrom (corners_in_units unit s) found → round ≡ from_least found →
-    OnOk r (new ≡ grown old round) → OnOk r (words ≡ before ++ face_words (map (number_among new) round)) → OnOk r (AddsWords unit s old new before words)
-adds (Ok v) unit s old new found round before words h k e g l = record {
-  face = map (number_among new) round;
-  adds = record { polygon = h; found = found; corners = k; grows = g ∙ ap (grown old) e; numbers = ap (map (number_among new)) e };
-  line = l;
-}
-adds (Err stop) unit s old new found round before words h k e g l = tt
+-- a face whose numbers are put down from its least corner on
+adds : {V E : Type 0} (r : Result V E) (unit : LengthUnit) (s : Outline) (old new found points : List Coordinates) (start : ℕ) (before all : FaceNumbers) →
+    IsPolygon s → AreReducedFrom (corners_in_units unit s) found → start ≡ place_of_least found → points ≡ found →
+    OnOk r (new ≡ grown old (drop start points ++ take start points)) → OnOk r (all.sides.items ≡ before.sides.items ++ length points ∷ []) →
+    OnOk r (all.numbers.items ≡ before.numbers.items ++ numbers_among new (drop start points ++ take start points)) → OnOk r (AddsNumbers unit s old new before all)
+adds (Ok v) unit s old new found points start before all h k at same g c n =
+    let round : drop start points ++ take start points ≡ from_least found = ap₂ (λ (i : ℕ) (ps : List Coordinates). drop i ps ++ take i ps) at same in
+    let count : length points ≡ length (numbers_among new (drop start points ++ take start points)) =
+    round_length points start (take start points) (drop start points) refl refl ∙ sym (length-map (drop start points ++ take start points) (number_among new)) in
+    record {
+      face = numbers_among new (drop start points ++ take start points);
+      adds = record { polygon = h; found = found; corners = k; grows = g ∙ ap (grown old) round; numbers = ap (map (number_among new)) round };
+      sides = c ∙ ap (λ (i : ℕ). before.sides.items ++ i ∷ []) count;
+      numbers = n;
+    }
+adds (Err stop) unit s old new found points start before all h k at same g c n = tt
 
 pub returns : goal.returns
 returns c =
@@ -33,10 +40,7 @@ returns c =
     let found = c.put_corners.new.corners.items in
     let polygon : IsPolygon s = subst IsPolygon c.facet.view_is c.in_ok-put_corners.ensures.polygon in
     let corners : AreReducedFrom (corners_in_units unit s) found = subst (λ (t : Outline). AreReducedFrom (corners_in_units unit t) found) c.facet.view_is c.in_ok-put_corners.ensures.corners in
-    let start : c.least_corner-start.result ≡ place_of_least found = c.least_corner-start.ensures ∙ ap place_of_least c.deref.ensures.value in
-    adds c.push_face.result unit s c.args.part.now.vertices.keys c.push_face.new.vertices.keys found
-    (drop c.least_corner-start.result c.deref-2.result.now ++ take c.least_corner-start.result c.deref-2.result.now)
-    c.args.part.now.words.items c.push_face.new.words.items
-    polygon corners
-    (ap₂ (λ (n : ℕ) (ps : List Coordinates). drop n ps ++ take n ps) start c.deref-2.ensures.value)
-    c.push_face.ensures.vertices c.push_face.ensures.words
+    adds c.push_face.result unit s c.args.part.now.vertices.keys c.push_face.new.vertices.keys found c.deref-2.result.now c.least_corner-start.result
+    c.args.part.now.faces c.push_face.new.faces
+    polygon corners (c.least_corner-start.ensures ∙ ap place_of_least c.deref.ensures.value) c.deref-2.ensures.value
+    c.push_face.ensures.vertices c.push_face.ensures.sides c.push_face.ensures.numbers

@@ -16,5 +16,5 @@ loop-part-preserved c =
     record {
       vertices = part_grows whole left rest part e vertices new grows c.loop-part.invariant.vertices;
       parts = part_named whole left rest part e vertices new grows c.loop-part.merged.parts.items c.push.new.self.items _ c.in_ok-push.ensures.items c.loop-part.invariant.vertices
-          refl (put_down c.new-names.result.items c.push_numbers.new.words.items new c.as_slice.result.now part.vertices.keys c.in_ok-push_numbers.ensures.words c.new-names.ensures.items c.as_slice.ensures.keys) _ c.loop-part.invariant.parts;
+          refl (put_down c.new-names.result.items c.push_numbers.new.numbers.items new c.as_slice.result.now part.vertices.keys c.in_ok-push_numbers.ensures.numbers c.new-names.ensures.items c.as_slice.ensures.keys) _ c.loop-part.invariant.parts;
     }

@@ -1,0 +1,48 @@
+-- Faces by the numbers of their vertices, and their lines.
+use Rattle.std.specs.Prelude.{◌≡◌, ℕ, List, [], ◌∷◌, ◌++◌, map, flat_map, length, take, drop, slice_index_or}
+use Rattle.plane_predicate.specs.declared.unit.Unit.{Unit as LengthUnit}
+use Rattle.plane_predicate.specs.Space.{Coordinates}
+use Rattle.plane_polygon.specs.Polygons.{Outline}
+use Rattle.off_text.specs.declared.numbering.FaceNumbers.{FaceNumbers}
+use Rattle.off_text.specs.Reading.{face_line}
+use Rattle.off_text.specs.Texts.{number_among}
+use Rattle.off_text.specs.Numbering.{AddsFace, AreNumbered}
+
+-- how many corners each face has
+abbrev pub sides_of : List (List ℕ) → List ℕ
+sides_of faces = map (λ face. length face) faces
+
+-- the numbers of all corners, one face after another
+abbrev pub all_numbers : List (List ℕ) → List ℕ
+all_numbers faces = flat_map (λ face. face) faces
+
+-- the numbers of points among numbered vertices
+abbrev pub numbers_among : List Coordinates → List Coordinates → List ℕ
+numbers_among vertices points = map (number_among vertices) points
+
+-- a polygon's corners are numbered too, and its face goes last
+pub record AddsNumbers (unit : LengthUnit) (s : Outline) (old new : List Coordinates) (before after : FaceNumbers) : Type 0 where
+  pub face : List ℕ
+  pub adds : AddsFace unit s old new face
+  pub sides : after.sides.items ≡ before.sides.items ++ length face ∷ []
+  pub numbers : after.numbers.items ≡ before.numbers.items ++ face
+
+-- the vertices of the text of these polygons, and the numbers of its faces
+pub record HaveNumbers (unit : LengthUnit) (polygons : List Outline) (vertices : List Coordinates) (all : FaceNumbers) : Type 0 where
+  pub faces : List (List ℕ)
+  pub numbered : AreNumbered unit polygons vertices faces
+  pub sides : all.sides.items ≡ sides_of faces
+  pub numbers : all.numbers.items ≡ all_numbers faces
+
+-- the name at a vertex's number, or the number where there is no name
+abbrev pub renamed : List ℕ → ℕ → ℕ
+renamed names i = slice_index_or names i i
+
+-- the lines of faces that have so many corners, one face after another, by these numbers of vertices with these names
+abbrev pub lines_from : List ℕ → List ℕ → List ℕ → List ℕ
+lines_from names [] numbers = []
+lines_from names (count ∷ sides) numbers = face_line (map (renamed names) (take count numbers)) ++ lines_from names sides (drop count numbers)
+
+-- the lines of faces whose vertices have these names
+abbrev pub lines_of : List ℕ → FaceNumbers → List ℕ
+lines_of names faces = lines_from names faces.sides.items faces.numbers.items
