@@ -37,7 +37,8 @@ PHASES = {
     "reading": ("scad_lexer::", "scad_parser::", "scad_expressions::", "scad_source::scad_ast"),
     # a program to a design
     "evaluating": (
-        "scad_eval::", "scad_func::", "scad_scope::", "scad_blocks::", "scad_arguments::", "newest_names::", "scad_design::",
+        "scad_eval::", "scad_evaluation::", "scad_func::", "scad_scope::", "scad_blocks::", "scad_arguments::", "newest_names::",
+        "scad_design::",
     ),
     # a design to a tree in world position
     "placing": ("scad_design::placing::",),

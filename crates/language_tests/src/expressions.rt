@@ -1,6 +1,7 @@
 use crate::reading::{at, read};
 use scad_ast::{Expr, Program, Statement};
-use scad_func::{Meter, value_of};
+use scad_evaluation::Meter;
+use scad_func::value_of;
 use scad_scope::{Blocks, Scopes};
 use scad_value::Value;
 use std::alloc::Global;

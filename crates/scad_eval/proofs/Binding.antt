@@ -6,9 +6,9 @@ use Rattle.scad_value.specs.Values.{Val}
 use Rattle.scad_blocks.specs.Blocks.{Assigned}
 use Rattle.scad_blocks.specs.declared.text.Assignment.{Assignment}
 use Rattle.scad_blocks.specs.TextView.{assigned_of}
-use Rattle.scad_func.specs.Meaning.{Outcome, Gives, Faults, then_with}
-use Rattle.scad_func.specs.Evaluations.{Keeps, EvaluationBegins}
-use Rattle.scad_func.specs.declared.evaluation.Evaluation.{Evaluation}
+use Rattle.scad_evaluation.specs.Meaning.{Outcome, Gives, Faults, then_with}
+use Rattle.scad_evaluation.specs.Evaluations.{Keeps, EvaluationBegins}
+use Rattle.scad_evaluation.specs.declared.evaluation.Evaluation.{Evaluation}
 use Rattle.scad_meaning.specs.Meaning.{Context, assigned_value, assigned, each_assigned}
 use Rattle.scad_pieces.specs.Seen.{HasOutcome}
 use Rattle.scad_eval.proofs.Outcomes.{along, stop_outcome}

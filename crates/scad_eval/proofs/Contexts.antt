@@ -5,11 +5,11 @@ use Rattle.plane_predicate.specs.declared.unit.Unit.{Unit as LengthUnit}
 use Rattle.scad_value.specs.Values.{Val}
 use Rattle.scad_scope.specs.Names.{Pairs, Row}
 use Rattle.scad_scope.specs.Table.{rows_of, chain_of}
-use Rattle.scad_func.specs.Meaning.{Env}
-use Rattle.scad_func.specs.View.{seen}
-use Rattle.scad_func.specs.Evaluations.{Keeps, scope_here}
-use Rattle.scad_func.specs.declared.evaluation.Evaluation.{Evaluation}
-use Rattle.scad_func.specs.declared.source.Source.{Source}
+use Rattle.scad_evaluation.specs.Meaning.{Env}
+use Rattle.scad_evaluation.specs.View.{seen}
+use Rattle.scad_evaluation.specs.Evaluations.{Keeps, scope_here}
+use Rattle.scad_evaluation.specs.declared.evaluation.Evaluation.{Evaluation}
+use Rattle.scad_evaluation.specs.declared.source.Source.{Source}
 use Rattle.scad_meaning.specs.declared.extrusion.Extrusion.{Extrusion}
 use Rattle.scad_pieces.specs.declared.position.Position.{Position}
 use Rattle.scad_eval.specs.declared.evaluator.InstanceEvaluator.{InstanceEvaluator}

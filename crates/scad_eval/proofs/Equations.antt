@@ -12,13 +12,13 @@ use Rattle.scad_value.specs.Values.{Val}
 use Rattle.scad_scope.specs.Names.{Pairs, Row, find_in}
 use Rattle.scad_scope.specs.Table.{rows_of, chain_of}
 use Rattle.scad_blocks.specs.Blocks.{assignments_of}
-use Rattle.scad_func.specs.Meaning.{Outcome, Gives, Faults, Arguments, Slots, Env, Opened, call_in, entered_scope, then_with, evaluated}
+use Rattle.scad_evaluation.specs.Meaning.{Outcome, Gives, Faults, Arguments, Slots, Env, Opened, call_in, entered_scope, then_with, evaluated}
 use Rattle.scad_arguments.specs.ArgumentsView.{IsFaultAt}
-use Rattle.scad_func.specs.View.{Tells, seen, source_text}
-use Rattle.scad_func.specs.Definitions.{IsWhole, statements_at, block_scope}
-use Rattle.scad_func.specs.Evaluations.{CallBegins, EvaluationBegins, SpecialsBegin, scope_here}
-use Rattle.scad_func.specs.Evaluations as there
-use Rattle.scad_func.specs.declared.source.Source.{Source}
+use Rattle.scad_evaluation.specs.View.{Tells, seen, source_text}
+use Rattle.scad_evaluation.specs.Definitions.{IsWhole, statements_at, block_scope}
+use Rattle.scad_evaluation.specs.Evaluations.{CallBegins, EvaluationBegins, SpecialsBegin, scope_here}
+use Rattle.scad_evaluation.specs.Evaluations as there
+use Rattle.scad_evaluation.specs.declared.source.Source.{Source}
 use Rattle.scad_value.specs.Operators.{Answer}
 use Rattle.scad_modules.specs.Effects.{ChosenCall, EffectCall}
 use Rattle.scad_modules.specs.Calls.{effect_of}

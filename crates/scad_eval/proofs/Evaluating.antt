@@ -6,7 +6,7 @@ use Rattle.plane_predicate.specs.declared.unit.Unit.{Unit as LengthUnit}
 use Rattle.csg_tree.specs.Formulas.{Formula}
 use Rattle.scad_ast.specs.Terms.{StatementTerm, statements_from}
 use Rattle.scad_scope.specs.Names.{first_chain}
-use Rattle.scad_func.specs.Meaning.{Outcome, Gives}
+use Rattle.scad_evaluation.specs.Meaning.{Outcome, Gives}
 use Rattle.scad_design.specs.declared.design.Design.{Design as DesignIn}
 use Rattle.scad_design.specs.Designs.{Design}
 use Rattle.scad_design.specs.View.{plain_of}

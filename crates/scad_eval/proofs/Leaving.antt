@@ -11,7 +11,7 @@ use Rattle.scad_meaning.specs.declared.extrusion.Extrusion.{Extrusion}
 use Rattle.text_place.specs.declared.fault.Place.{Place}
 use Rattle.shape_planes.specs.Shapes.{Mesh}
 use Rattle.scad_meaning.specs.Verdicts.{Verdict}
-use Rattle.scad_func.specs.Meaning.{Outcome, Gives, then_with}
+use Rattle.scad_evaluation.specs.Meaning.{Outcome, Gives, then_with}
 use Rattle.scad_meaning.specs.Hulls.{is_nothing, hull_mesh}
 use Rattle.scad_meaning.specs.Meaning.{InstanceDesign, checked, leaf_design, hulled, hull_design}
 use Rattle.scad_pieces.specs.Seen.{IsStopAt}

@@ -7,12 +7,12 @@ use Rattle.scad_arguments.specs.Arguments.{names_of}
 use Rattle.scad_scope.specs.Names.{Row}
 use Rattle.scad_scope.specs.Table.{rows_of}
 use Rattle.scad_blocks.specs.Blocks.{Module, NumberedText, statements_of_body}
-use Rattle.scad_func.specs.Meaning.{Env, Within, no_call, opened, functions_standing_in, modules_standing_in, entered_scope, with_variable, with_values, paired}
-use Rattle.scad_func.specs.View.{seen, source_text}
-use Rattle.scad_func.specs.Definitions.{statements_at, block_scope, IsBlockOf, IsWhole}
-use Rattle.scad_func.specs.Evaluations.{Keeps, scope_here}
-use Rattle.scad_func.specs.declared.evaluation.Evaluation.{Evaluation}
-use Rattle.scad_func.specs.declared.source.Source.{Source}
+use Rattle.scad_evaluation.specs.Meaning.{Env, Within, no_call, opened, functions_standing_in, modules_standing_in, entered_scope, with_variable, with_values, paired}
+use Rattle.scad_evaluation.specs.View.{seen, source_text}
+use Rattle.scad_evaluation.specs.Definitions.{statements_at, block_scope, IsBlockOf, IsWhole}
+use Rattle.scad_evaluation.specs.Evaluations.{Keeps, scope_here}
+use Rattle.scad_evaluation.specs.declared.evaluation.Evaluation.{Evaluation}
+use Rattle.scad_evaluation.specs.declared.source.Source.{Source}
 use Rattle.scad_meaning.specs.Bodies.{children_in}
 use Rattle.scad_meaning.specs.Meaning.{module_scope}
 

@@ -3,8 +3,8 @@ use Rattle.std.proofs.Common.{◌≡◌, ℕ, List, ◌++◌, Option, Some, None
 use Rattle.text_place.specs.declared.fault.Stop.{Stop}
 use Rattle.text_place.specs.declared.fault.Stop.TheVariants.{Fault, NoMemory}
 use Rattle.scad_design.specs.Designs.{Design}
-use Rattle.scad_func.specs.Meaning.{Outcome, Gives, Faults, then_with}
-use Rattle.scad_func.specs.View.{Tells, IsNoMemory}
+use Rattle.scad_evaluation.specs.Meaning.{Outcome, Gives, Faults, then_with}
+use Rattle.scad_evaluation.specs.View.{Tells, IsNoMemory}
 use Rattle.scad_pieces.specs.declared.position.MemberResults.{MemberResults}
 use Rattle.scad_meaning.specs.Meaning.{MemberDesigns, no_members, and_members, first_marked}
 use Rattle.scad_pieces.specs.Seen.{HasOutcome, member_designs_of, IsLengthened, in_front}

@@ -13,12 +13,12 @@ use Rattle.scad_value.specs.Values.{Val}
 use Rattle.scad_scope.specs.Names.{Pairs, Row, env_of, first_row, first_chain}
 use Rattle.scad_scope.specs.Table.{rows_of, chain_of}
 use Rattle.scad_blocks.specs.Blocks.{NumberedText, numbered_text}
-use Rattle.scad_func.specs.Meaning.{Outcome, Gives, then_with, Env, Within, Outermost, no_call, entered_scope}
-use Rattle.scad_func.specs.View.{seen, source_text}
-use Rattle.scad_func.specs.Definitions.{statements_at, block_scope, IsWhole}
-use Rattle.scad_func.specs.Evaluations.{ScopeEnters, scope_here}
-use Rattle.scad_func.specs.declared.source.Source.{Source}
-use Rattle.scad_func.specs.declared.evaluation.Evaluation.{Evaluation}
+use Rattle.scad_evaluation.specs.Meaning.{Outcome, Gives, then_with, Env, Within, Outermost, no_call, entered_scope}
+use Rattle.scad_evaluation.specs.View.{seen, source_text}
+use Rattle.scad_evaluation.specs.Definitions.{statements_at, block_scope, IsWhole}
+use Rattle.scad_evaluation.specs.Evaluations.{ScopeEnters, scope_here}
+use Rattle.scad_evaluation.specs.declared.source.Source.{Source}
+use Rattle.scad_evaluation.specs.declared.evaluation.Evaluation.{Evaluation}
 use Rattle.scad_design.specs.Designs.{Design}
 use Rattle.scad_design.specs.Trees.{IsPlacedAs, IsStopOf}
 use Rattle.scad_design.specs.View.{plain_of}

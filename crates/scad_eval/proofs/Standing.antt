@@ -5,10 +5,10 @@ use Rattle.scad_value.specs.Values.{Val}
 use Rattle.scad_scope.specs.Names.{Pairs, oldest}
 use Rattle.scad_scope.specs.Table.{rows_of, chain_of}
 use Rattle.scad_blocks.specs.declared.text.Module.{Module}
-use Rattle.scad_func.specs.View.{source_text}
-use Rattle.scad_func.specs.Definitions.{IsBlockOf, IsWhole}
-use Rattle.scad_func.specs.Evaluations.{SameSetting, ScopeEnters, CallBegins, EvaluationBegins, SpecialsBegin}
-use Rattle.scad_func.specs.declared.source.Source.{Source}
+use Rattle.scad_evaluation.specs.View.{source_text}
+use Rattle.scad_evaluation.specs.Definitions.{IsBlockOf, IsWhole}
+use Rattle.scad_evaluation.specs.Evaluations.{SameSetting, ScopeEnters, CallBegins, EvaluationBegins, SpecialsBegin}
+use Rattle.scad_evaluation.specs.declared.source.Source.{Source}
 use Rattle.scad_pieces.specs.declared.position.NumberedBody.{NumberedBody}
 use Rattle.scad_pieces.specs.declared.position.Position.{Position}
 use Rattle.scad_eval.specs.declared.evaluator.InstanceEvaluator.{InstanceEvaluator}

@@ -7,11 +7,11 @@ use Rattle.primitives.specs.Sizes.{AreSizes, IsSafe}
 use Rattle.scad_value.specs.Values.{Val}
 use Rattle.scad_scope.specs.Names.{Pairs}
 use Rattle.scad_scope.specs.Table.{rows_of, chain_of}
-use Rattle.scad_func.specs.Meaning.{Outcome, Env, one_call_fewer, turn}
-use Rattle.scad_func.specs.View.{seen, source_text}
-use Rattle.scad_func.specs.Definitions.{IsWhole}
-use Rattle.scad_func.specs.Evaluations.{scopes_there, scope_here, CallBegins, ScopeEnters}
-use Rattle.scad_func.specs.declared.evaluation.Evaluation.{Evaluation}
+use Rattle.scad_evaluation.specs.Meaning.{Outcome, Env, one_call_fewer, turn}
+use Rattle.scad_evaluation.specs.View.{seen, source_text}
+use Rattle.scad_evaluation.specs.Definitions.{IsWhole}
+use Rattle.scad_evaluation.specs.Evaluations.{scopes_there, scope_here, CallBegins, ScopeEnters}
+use Rattle.scad_evaluation.specs.declared.evaluation.Evaluation.{Evaluation}
 use Rattle.scad_meaning.specs.declared.extrusion.Extrusion.{Extrusion}
 use Rattle.scad_pieces.specs.declared.position.Position.{Position}
 use Rattle.scad_eval.specs.declared.evaluator.InstanceEvaluator.{InstanceEvaluator}

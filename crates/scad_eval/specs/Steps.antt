@@ -3,7 +3,7 @@ use Rattle.std.specs.Prelude.{ℕ, List}
 use Rattle.text_place.specs.declared.fault.Place.{Place}
 use Rattle.scad_ast.specs.Terms.{BinderTerm, BodyTerm}
 use Rattle.scad_value.specs.Values.{Val}
-use Rattle.scad_func.specs.Meaning.{Outcome}
+use Rattle.scad_evaluation.specs.Meaning.{Outcome}
 use Rattle.scad_meaning.specs.Meaning.{Context, MemberDesigns, Evaluator, each_turn, in_loop, counted_step}
 
 -- the turns of a loop for one value of a variable, and one turn more where nothing followed

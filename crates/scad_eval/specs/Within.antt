@@ -4,9 +4,9 @@ use Rattle.scad_ast.specs.StatementView.{body_of}
 use Rattle.scad_ast.specs.Terms.{BodyTerm}
 use Rattle.scad_blocks.specs.Blocks.{NumberedText}
 use Rattle.scad_blocks.specs.declared.text.Module.{Module}
-use Rattle.scad_func.specs.Definitions.{IsBlockOf}
-use Rattle.scad_func.specs.Evaluations.{scopes_there}
-use Rattle.scad_func.specs.View.{source_text}
+use Rattle.scad_evaluation.specs.Definitions.{IsBlockOf}
+use Rattle.scad_evaluation.specs.Evaluations.{scopes_there}
+use Rattle.scad_evaluation.specs.View.{source_text}
 use Rattle.scad_pieces.specs.declared.position.NumberedBody.{NumberedBody}
 use Rattle.scad_pieces.specs.declared.position.Position.{Position}
 use Rattle.scad_eval.specs.declared.evaluator.InstanceEvaluator.{InstanceEvaluator}

@@ -3,15 +3,16 @@
 ghost use Rattle.std.specs.Prelude.{◌≡◌, ◌+◌, OnOk};
 ghost use Rattle.scad_blocks.specs.Blocks.{assignments_of};
 ghost use Rattle.scad_blocks.specs.TextView.{assigned_of};
-ghost use Rattle.scad_func.specs.Meaning.{Gives, then_with};
-ghost use Rattle.scad_func.specs.View.{source_text};
-ghost use Rattle.scad_func.specs.Definitions.{statements_at, IsWhole};
-ghost use Rattle.scad_func.specs.Evaluations.{scopes_there};
+ghost use Rattle.scad_evaluation.specs.Meaning.{Gives, then_with};
+ghost use Rattle.scad_evaluation.specs.View.{source_text};
+ghost use Rattle.scad_evaluation.specs.Definitions.{statements_at, IsWhole};
+ghost use Rattle.scad_evaluation.specs.Evaluations.{scopes_there};
 ghost use Rattle.scad_meaning.specs.Meaning.{assigned_value, assigned, each_assigned};
 ghost use Rattle.scad_pieces.specs.declared.position.Position.{Position};
 ghost use Rattle.scad_eval.specs.Keeping.{context_at, Assigns, Meets};
 
 use crate::evaluator::InstanceEvaluator;
+use scad_func::evaluate;
 use scad_scope::Assignment;
 use text_place::Stop;
 
@@ -39,7 +40,7 @@ impl InstanceEvaluator<'_, '_> {
         ensures assigns { OnOk result (Assigns self.old self.new) }
     {
         self.evaluation.begin_evaluation(assignment.place)?;
-        let value = self.evaluation.evaluate(assignment.value)?;
+        let value = evaluate(&mut self.evaluation, assignment.value)?;
         self.evaluation.end_evaluation();
         if assignment.special {
             self.evaluation.bind_special(assignment.name, value)?;

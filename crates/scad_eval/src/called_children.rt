@@ -1,7 +1,7 @@
 //! Calls of children.
 
 ghost use Rattle.std.specs.Prelude.{OnOk};
-ghost use Rattle.scad_func.specs.Meaning.{call_in};
+ghost use Rattle.scad_evaluation.specs.Meaning.{call_in};
 ghost use Rattle.scad_modules.specs.Bounds.{IsSafeChoice};
 ghost use Rattle.scad_modules.specs.View.{chosen_of};
 ghost use Rattle.scad_meaning.specs.Meaning.{children_design, chosen_children};

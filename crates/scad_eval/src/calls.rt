@@ -4,8 +4,8 @@ ghost use Rattle.std.specs.Prelude.{◌≡◌, OnOk, length};
 ghost use Rattle.scad_ast.specs.ExprView.{args_of};
 ghost use Rattle.scad_ast.specs.StatementView.{params_of};
 ghost use Rattle.scad_blocks.specs.TextView.{module_of};
-ghost use Rattle.scad_func.specs.Meaning.{module_in};
-ghost use Rattle.scad_func.specs.View.{arguments_of, values_seen};
+ghost use Rattle.scad_evaluation.specs.Meaning.{module_in};
+ghost use Rattle.scad_evaluation.specs.View.{arguments_of, values_seen};
 ghost use Rattle.scad_meaning.specs.Meaning.{call_design, module_design, module_filled, module_given};
 ghost use Rattle.scad_pieces.specs.Seen.{instance_design_of};
 ghost use Rattle.scad_eval.specs.Keeping.{env_at, IsPosition, Stays, Meets};
@@ -14,7 +14,8 @@ ghost use Rattle.scad_eval.specs.Within.{body_seen, IsBodyAt, IsCallAt};
 use crate::evaluator::InstanceEvaluator;
 use csg_tree::Op;
 use scad_ast::Args;
-use scad_func::{BoundedValues, with};
+use scad_evaluation::BoundedValues;
+use scad_func::{arguments, parameters_in, with};
 use scad_pieces::{InstanceResult, NumberedBody, Position, joined};
 use scad_scope::{GivenArguments, Module, Names};
 use scad_value::BoundedValue;
@@ -39,7 +40,7 @@ impl InstanceEvaluator<'_, '_> {
         match self.evaluation.module(name) {
             Some((defined, home)) => {
                 let names = Names::Params(&defined.params.items);
-                let given = self.evaluation.arguments(names, args)?;
+                let given = arguments(&mut self.evaluation, names, args)?;
                 self.module_called(position, place, defined, home, given, body)
             }
             None => self.built_in_called(position, place, name, args, body),
@@ -91,7 +92,7 @@ impl InstanceEvaluator<'_, '_> {
         let GivenArguments { slots, specials } = given;
         let begun = self.evaluation.begin_specials(specials);
         let (slots, length) = with(slots, begun)?;
-        let values = self.evaluation.parameters_in(home, defined.params, slots)?;
+        let values = parameters_in(&mut self.evaluation, home, defined.params, slots)?;
         let made = self.module_made(position, defined, home, values, body)?;
         self.evaluation.end_specials(length);
         Ok(made)

@@ -3,15 +3,15 @@
 ghost use Rattle.std.specs.Prelude.{◌≡◌, IfOk, IfErr, OnOk, length};
 ghost use Rattle.scad_blocks.specs.Blocks.{statements_of_body};
 ghost use Rattle.scad_blocks.specs.TextView.{module_of};
-ghost use Rattle.scad_func.specs.View.{source_text, values_seen};
-ghost use Rattle.scad_func.specs.Definitions.{IsWhole};
-ghost use Rattle.scad_func.specs.Evaluations.{scope_here};
+ghost use Rattle.scad_evaluation.specs.View.{source_text, values_seen};
+ghost use Rattle.scad_evaluation.specs.Definitions.{IsWhole};
+ghost use Rattle.scad_evaluation.specs.Evaluations.{scope_here};
 ghost use Rattle.scad_meaning.specs.Meaning.{module_scope};
 ghost use Rattle.scad_eval.specs.Keeping.{env_at, Enters, CountsCall, StopsBefore};
 ghost use Rattle.scad_eval.specs.Within.{body_seen, IsCallAt};
 
 use crate::evaluator::InstanceEvaluator;
-use scad_func::BoundedValues;
+use scad_evaluation::BoundedValues;
 use scad_pieces::{NumberedBody, count_children};
 use scad_scope::Module;
 use text_place::{NoMemory, Place, Stop};

@@ -1,7 +1,7 @@
 ghost use Rattle.std.specs.Prelude.{◌≤◌};
 
 use plane_predicate::Unit;
-use scad_func::Evaluation;
+use scad_evaluation::Evaluation;
 
 /// The evaluation of instances under way: that of their expressions, the unit of lengths, and the leaves
 /// so far, of which the type keeps the limit.

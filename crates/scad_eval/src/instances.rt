@@ -4,8 +4,8 @@ ghost use Rattle.std.specs.Prelude.{All, true, map, OnOk, if◌then◌else◌};
 ghost use Rattle.csg_tree.specs.declared.op.Op.TheVariants.{Union};
 ghost use Rattle.scad_ast.specs.ExprView.{term_of};
 ghost use Rattle.scad_value.specs.Values.{truth_of};
-ghost use Rattle.scad_func.specs.Meaning.{Gives, then_with, value_at};
-ghost use Rattle.scad_func.specs.View.{source_text};
+ghost use Rattle.scad_evaluation.specs.Meaning.{Gives, then_with, value_at};
+ghost use Rattle.scad_evaluation.specs.View.{source_text};
 ghost use Rattle.scad_meaning.specs.Meaning.{setting, body_design, no_design, each_member, core_of, core_design, instance_design};
 ghost use Rattle.scad_pieces.specs.Positions.{term_of_numbered, HasBlocks};
 ghost use Rattle.scad_pieces.specs.Seen.{instance_design_of, member_designs_of};
@@ -15,6 +15,7 @@ ghost use Rattle.scad_eval.specs.Within.{body_seen, IsInBlock, IsBodyAt};
 use crate::evaluator::InstanceEvaluator;
 use csg_tree::Op;
 use scad_ast::{Core, Expr};
+use scad_func::evaluate;
 use scad_pieces::{
     InstanceResult, MemberResults, NumberedBody, NumberedInstance, Position, is_child, is_marked,
     no_members, nothing_made, set_apart, with_made,
@@ -128,7 +129,7 @@ impl InstanceEvaluator<'_, '_> {
             if truth_of v then body_design evaluator Union here (body_seen body.entry) turns leaves else Gives turns (no_design leaves))) }
         ensures stays { OnOk result (Stays self.old self.new) }
     {
-        let value = self.evaluation.evaluate(test)?;
+        let value = evaluate(&mut self.evaluation, test)?;
         if truth(&value.value) {
             return self.body(Op::Union, position, body);
         }
@@ -150,7 +151,7 @@ impl InstanceEvaluator<'_, '_> {
             body_design evaluator Union here (if truth_of v then body_seen body.entry else body_seen other.entry) turns leaves)) }
         ensures stays { OnOk result (Stays self.old self.new) }
     {
-        let value = self.evaluation.evaluate(test)?;
+        let value = evaluate(&mut self.evaluation, test)?;
         if truth(&value.value) {
             return self.body(Op::Union, position, body);
         }

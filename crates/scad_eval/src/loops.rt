@@ -14,6 +14,7 @@ ghost use Rattle.scad_eval.specs.Within.{body_seen, IsBodyAt};
 use crate::evaluator::InstanceEvaluator;
 use csg_tree::Op;
 use scad_ast::{Binder, Binders};
+use scad_func::evaluate;
 use scad_pieces::{
     InstanceResult, Items, MemberResults, NumberedBody, Position, joined, no_members, with_made,
     with_members,
@@ -64,7 +65,7 @@ impl InstanceEvaluator<'_, '_> {
         match binders.split_first() {
             None => self.one_turn(position, place, body),
             Some((binder, rest)) => {
-                let value = self.evaluation.evaluate(&binder.values)?;
+                let value = evaluate(&mut self.evaluation, &binder.values)?;
                 match Items::of(value) {
                     Some(items) => {
                         self.each_item(position, place, binder.name.items(), rest, body, items)

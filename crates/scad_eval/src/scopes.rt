@@ -1,9 +1,9 @@
 //! Bodies, in scopes of their own.
 
 ghost use Rattle.std.specs.Prelude.{◌≡◌, ◌+◌, OnOk};
-ghost use Rattle.scad_func.specs.View.{source_text};
-ghost use Rattle.scad_func.specs.Definitions.{statements_at};
-ghost use Rattle.scad_func.specs.Evaluations.{scopes_there};
+ghost use Rattle.scad_evaluation.specs.View.{source_text};
+ghost use Rattle.scad_evaluation.specs.Definitions.{statements_at};
+ghost use Rattle.scad_evaluation.specs.Evaluations.{scopes_there};
 ghost use Rattle.scad_meaning.specs.Meaning.{body_design, block_members};
 ghost use Rattle.scad_pieces.specs.Seen.{instance_design_of, member_designs_of};
 ghost use Rattle.scad_eval.specs.Keeping.{IsPosition, Stays, Binds, Meets};

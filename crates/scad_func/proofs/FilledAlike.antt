@@ -7,8 +7,8 @@ use Rattle.scad_ast.specs.Terms.{Term, ArgTerm, NamedTerm, SpecialArgTerm, Posit
 use Rattle.scad_value.specs.Values.{Val}
 use Rattle.scad_scope.specs.Names.{Pairs, find_in}
 use Rattle.scad_arguments.specs.Arguments.{Given, Taker, nothing_given, to_parameter, to_special, unless_filled, taken_by, taker_of, with_argument, or_place, argument_place, matched, only_slots}
-use Rattle.scad_func.specs.Meaning.{Outcome, Gives, Faults, then_with, or_fault, Setting, value_at, Arguments, each_argument}
-use Rattle.scad_func.specs.View.{IsFilledAs}
+use Rattle.scad_evaluation.specs.Meaning.{Outcome, Gives, Faults, then_with, or_fault, Setting, value_at, Arguments, each_argument}
+use Rattle.scad_evaluation.specs.View.{IsFilledAs}
 
 abbrev pub names_given : {A : Type 0} → Pairs A → List (List ℕ)
 names_given = map (λ p. p.0)

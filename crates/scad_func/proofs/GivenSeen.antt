@@ -13,9 +13,9 @@ use Rattle.scad_arguments.specs.ArgumentsView.{special_pair, special_pairs, give
 use Rattle.scad_arguments.specs.declared.parameters.SpecialArgument.{SpecialArgument}
 use Rattle.scad_arguments.specs.declared.parameters.GivenArguments.{GivenArguments}
 use Rattle.scad_arguments.specs.declared.parameters.Destination.{Destination}
-use Rattle.scad_func.specs.Meaning.{Arguments}
+use Rattle.scad_evaluation.specs.Meaning.{Arguments}
 use Rattle.scad_func.proofs.FilledAlike.{names_given, Alike, found_alike, taker_alike}
-use Rattle.scad_func.specs.View.{special_of, specials_in, slot_of, slots_in, arguments_of}
+use Rattle.scad_evaluation.specs.View.{special_of, specials_in, slot_of, slots_in, arguments_of}
 
 abbrev value_pair : List ℕ × BoundedValue → List ℕ × Val
 value_pair p = (p.0, bounded_val p.1)

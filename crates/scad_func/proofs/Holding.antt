@@ -1,6 +1,6 @@
 -- One step more of a loop that holds values while it evaluates.
 use Rattle.std.proofs.Common.{◌≡◌, ℕ, ◌+◌, List, [], ◌∷◌, length, true, Some, Result, Ok, Err, refl, sym, ap, subst, ◌∙◌}
-use Rattle.std.specs.Prelude.{IsTrue, IfOk, IfErr}
+use Rattle.std.specs.Prelude.{IsTrue, IfOk, IfErr, OnOk, OnErr}
 use Rattle.std.proofs.lemmas.List.{map-append, length-append, length-set}
 use Rattle.text_place.specs.declared.fault.Stop.{Stop}
 use Rattle.text_place.specs.declared.fault.Stop.TheVariants.{Fault, NoMemory}
@@ -11,19 +11,19 @@ use Rattle.scad_value.specs.declared.bounded_value.BoundedValue.{BoundedValue}
 use Rattle.scad_value.specs.BoundedView.{bounded_val}
 use Rattle.scad_ast.specs.Terms.{ArgTerms, ArgTerm}
 use Rattle.scad_arguments.specs.Arguments.{positional_after, Taker, to_parameter, to_special, taker_of, with_argument}
-use Rattle.scad_func.specs.Meaning.{Outcome, Gives, Faults, Setting, value_at, then_with, Arguments, each_argument}
+use Rattle.scad_evaluation.specs.Meaning.{Outcome, Gives, Faults, Setting, value_at, then_with, Arguments, each_argument}
 use Rattle.text_place.specs.declared.fault.Place.{Place}
 use Rattle.text_place.specs.declared.fault.FaultKind.TheVariants.{BadArgument}
 use Rattle.scad_arguments.specs.ArgumentsView.{IsFaultAt}
 use Rattle.scad_func.specs.Steps.{argument_of}
-use Rattle.scad_func.specs.declared.values.BoundedValues.{BoundedValues}
-use Rattle.scad_func.specs.View.{Tells, IsOneMore, values_seen, arguments_of}
+use Rattle.scad_evaluation.specs.declared.values.BoundedValues.{BoundedValues}
+use Rattle.scad_evaluation.specs.View.{Tells, IsNoMemory, IsOneMore, values_seen, arguments_of}
 use Rattle.scad_answer.specs.View.{IsAlone}
 use Rattle.scad_func.proofs.GivenSeen.{IsHeld}
 use Rattle.scad_arguments.specs.declared.parameters.GivenArguments.{GivenArguments}
 use Rattle.scad_func.proofs.Calls.{in_front}
-use Rattle.scad_func.specs.declared.evaluation.Evaluation.{Evaluation}
-use Rattle.scad_func.specs.Evaluations.{Keeps, EvaluatesTo, setting_here}
+use Rattle.scad_evaluation.specs.declared.evaluation.Evaluation.{Evaluation}
+use Rattle.scad_evaluation.specs.Evaluations.{Keeps, EvaluatesTo, setting_here}
 use Rattle.scad_func.proofs.Kept.{moved}
 use Rattle.scad_func.proofs.Outcomes.{tells_along, front_more, and_arg}
 use Rattle.scad_func.proofs.Steps.{argument_more, argument_fault}
@@ -96,6 +96,17 @@ if_err_at P r e is h = subst (λ x. IfErr x P) is h
 
 pub if_ok_at : {A E : Type 0} (P : A → Type 0) (r : Result A E) (x : A) → r ≡ Ok x → IfOk r P → P x
 if_ok_at P r x is h = subst (λ y. IfOk y P) is h
+
+pub on_ok_at : {A E : Type 0} (P : Type 0) (r : Result A E) (x : A) → r ≡ Ok x → OnOk r P → P
+on_ok_at P r x is h = subst (λ y. OnOk y P) is h
+
+pub on_err_at : {A E : Type 0} (P : Type 0) (r : Result A E) (e : E) → r ≡ Err e → OnErr r P → P
+on_err_at P r e is h = subst (λ y. OnErr y P) is h
+
+-- of want of memory nothing is told
+pub none_told : {A B : Type 0} (see : A → B) (stop : Stop) (n : ℕ) (out : Outcome B) → IsNoMemory stop → Tells see (Err stop) n out
+none_told see (Fault fault) n out h = absurd h
+none_told see NoMemory n out h = tt
 
 pub longer_length : (before : BoundedValues) (r : Result BoundedValue Stop) (longer : BoundedValues)
     → IsOneMore before r (Ok longer) → length longer.items.items ≡ length before.items.items + 1

@@ -1,5 +1,5 @@
 -- What evaluations keep, one after another.
-use Rattle.std.proofs.Common.{◌≡◌, ℕ, ◌+◌, ◌-◌, ◌*◌, ◌<◌, ◌≤◌, List, length, Some, Result, Ok, Err, refl, sym, ap, subst, ◌∙◌, arith}
+use Rattle.std.proofs.Common.{◌≡◌, ℕ, ◌+◌, ◌-◌, ◌*◌, ◌<◌, ◌≤◌, List, ◌++◌, length, take, Some, Result, Ok, Err, refl, sym, ap, subst, ◌∙◌, arith}
 use Rattle.text_place.specs.declared.fault.Place.{Place}
 use Rattle.text_place.specs.declared.fault.Stop.{Stop}
 use Rattle.scad_ast.specs.Terms.{ArgTerms}
@@ -7,16 +7,16 @@ use Rattle.scad_value.specs.Values.{Val}
 use Rattle.scad_value.specs.declared.bounded_value.BoundedValue.{BoundedValue}
 use Rattle.scad_value.specs.BoundedView.{bounded_val}
 use Rattle.scad_value.specs.Operators.{Answer}
-use Rattle.scad_scope.specs.Names.{Pairs, Row}
+use Rattle.scad_scope.specs.Names.{Pairs, Row, oldest}
 use Rattle.scad_scope.specs.Table.{rows_of, chain_of}
 use Rattle.scad_arguments.specs.Arguments.{names_of, nothing_given}
 use Rattle.scad_blocks.specs.Blocks.{Function}
-use Rattle.scad_func.specs.Meaning.{Outcome, Setting, answered, evaluated, each_argument, function_called, called, function_in, then_with}
-use Rattle.scad_func.specs.declared.source.Source.{Source}
-use Rattle.scad_func.specs.declared.evaluation.Evaluation.{Evaluation}
-use Rattle.scad_func.specs.View.{Tells, deepest, seen}
+use Rattle.scad_evaluation.specs.Meaning.{Outcome, Env, Setting, in_scope, with_specials, answered, evaluated, each_argument, function_called, called, function_in, then_with}
+use Rattle.scad_evaluation.specs.declared.source.Source.{Source}
+use Rattle.scad_evaluation.specs.declared.evaluation.Evaluation.{Evaluation}
+use Rattle.scad_evaluation.specs.View.{Tells, deepest, seen}
 use Rattle.scad_answer.specs.View.{TellsAnswer}
-use Rattle.scad_func.specs.Evaluations.{Keeps, EvaluatesTo, setting, setting_here, work_left}
+use Rattle.scad_evaluation.specs.Evaluations.{Keeps, EvaluatesTo, SpecialsBegin, ScopeEnters, setting, setting_here, scope_here, work_left}
 use Rattle.scad_func.proofs.Outcomes.{fault_goes, value_goes, tells_answer}
 
 -- where an expression stands, by what it depends on
@@ -66,6 +66,56 @@ keeps_trans f g = keeps_from _ _ (g.source ∙ f.source) (g.lent ∙ f.lent) (g.
 -- what is said of a setting stays
 pub moved : {A : Type 0} (F : Setting → A) {old new : Evaluation} → Keeps old new → F (setting_here old) ≡ F (setting_here new)
 moved F k = ap F (sym k.here)
+
+-- where special names were put on the chain, or a scope was entered, behind evaluations that keep all
+pub specials_kept : (old : Evaluation) (count : ℕ) {mid new : Evaluation} → SpecialsBegin old mid count → Keeps mid new → SpecialsBegin old new count
+specials_kept old count b k = record {
+  source = k.source ∙ b.source;
+  lent = k.lent ∙ b.lent;
+  stands = k.stands ∙ b.stands;
+  rows = k.rows ∙ b.rows;
+  older = ap (oldest count) k.chain ∙ b.older;
+  number = b.number;
+  calls = k.calls ∙ b.calls;
+  depth = k.depth ∙ b.depth;
+}
+
+pub scope_kept : (old : Evaluation) (before : ℕ) {mid new : Evaluation} → ScopeEnters old mid before → Keeps mid new → ScopeEnters old new before
+scope_kept old before {mid = mid} {new = new} e k = record {
+  source = k.source ∙ e.source;
+  lent = k.lent ∙ e.lent;
+  from = e.from;
+  front = ap (λ n. take n (rows_of new.scopes.now)) k.stands ∙ ap (take mid.scope) k.rows ∙ e.front;
+  number = k.stands ∙ e.number;
+  there = k.count ∙ e.there ∙ ap (λ n. n + 1) (sym k.stands);
+  chain = k.chain ∙ e.chain;
+  calls = k.calls ∙ e.calls;
+  depth = k.depth ∙ e.depth;
+}
+
+-- where an expression stands with more special names, or in a scope that was entered
+pub specials_setting : (old new : Evaluation) (count : ℕ) (specials : Pairs Val) → SpecialsBegin old new count
+    → chain_of new.scopes.now ≡ specials ++ chain_of old.scopes.now → setting_here new ≡ with_specials (setting_here old) specials
+unfolding setting_by
+specials_setting old new count specials b e =
+    ap (λ (x : Source). setting_by x (rows_of new.scopes.now) new.scope new.depth new.calls (chain_of new.scopes.now)) b.source
+    ∙ ap (λ rows. setting_by old.source.now rows new.scope new.depth new.calls (chain_of new.scopes.now)) b.rows
+    ∙ ap (λ n. setting_by old.source.now (rows_of old.scopes.now) n new.depth new.calls (chain_of new.scopes.now)) b.stands
+    ∙ ap (λ n. setting_by old.source.now (rows_of old.scopes.now) old.scope n new.calls (chain_of new.scopes.now)) b.depth
+    ∙ ap (λ n. setting_by old.source.now (rows_of old.scopes.now) old.scope old.depth n (chain_of new.scopes.now)) b.calls
+    ∙ ap (setting_by old.source.now (rows_of old.scopes.now) old.scope old.depth old.calls) e
+
+setting_with : ℕ → ℕ → Env → Pairs Val → Setting
+setting_with depth calls env chain = record { deeper = evaluated (512 - depth); calls = 64 - calls; env = env; chain = chain }
+
+pub scope_setting : (old new : Evaluation) (before : ℕ) (env : Env) → ScopeEnters old new before → scope_here new ≡ env
+    → setting_here new ≡ in_scope (setting_here old) env
+unfolding setting_with
+scope_setting old new before env e h =
+    ap (λ n. setting_with n new.calls (scope_here new) (chain_of new.scopes.now)) e.depth
+    ∙ ap (λ n. setting_with old.depth n (scope_here new) (chain_of new.scopes.now)) e.calls
+    ∙ ap (λ (x : Env). setting_with old.depth old.calls x (chain_of new.scopes.now)) h
+    ∙ ap (setting_with old.depth old.calls env) e.chain
 
 -- one call deeper
 pub work_falls : (source : Source) (calls : ℕ) → calls < 64

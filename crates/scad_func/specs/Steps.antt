@@ -7,7 +7,7 @@ use Rattle.scad_value.specs.Operators.{binary_of, index_of}
 use Rattle.scad_answer.specs.Answers.{member_of, wants_right}
 use Rattle.scad_arguments.specs.Arguments.{names_of}
 use Rattle.scad_blocks.specs.Blocks.{Function}
-use Rattle.scad_func.specs.Meaning.{Outcome, Gives, then_with, or_fault, answered, Setting, value_at, in_scope, Within, no_call, paired, operand}
+use Rattle.scad_evaluation.specs.Meaning.{Outcome, Gives, then_with, or_fault, answered, Setting, value_at, in_scope, Within, no_call, paired, operand}
 
 -- the values of all arguments
 abbrev pub all_values : ArgTerms → Terms

@@ -2,9 +2,9 @@ ghost use Rattle.std.specs.Prelude.{◌≡◌, ℕ, List, length};
 ghost use Rattle.scad_ast.specs.Terms.{StatementTerm, ArgTerm, args_from};
 ghost use Rattle.scad_arguments.specs.Arguments.{matching_of, nothing_given};
 ghost use Rattle.scad_blocks.specs.Blocks.{numbered_text};
-ghost use Rattle.scad_func.specs.Meaning.{Env, Opened, Setting, Gives, Arguments, entered_scope, each_argument};
-ghost use Rattle.scad_func.specs.Definitions.{statements_at, block_scope};
-ghost use Rattle.scad_func.specs.View.{IsFilledAs};
+ghost use Rattle.scad_evaluation.specs.Meaning.{Env, Opened, Setting, Gives, Arguments, entered_scope, each_argument};
+ghost use Rattle.scad_evaluation.specs.Definitions.{statements_at, block_scope};
+ghost use Rattle.scad_evaluation.specs.View.{IsFilledAs};
 
 /// The law that the scope of a block of a program, by the numbers of its definitions, is that of the
 /// statements that stand in the block.

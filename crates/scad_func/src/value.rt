@@ -7,15 +7,14 @@ ghost use Rattle.scad_blocks.specs.Blocks.{functions_of_program, modules_of_prog
 ghost use Rattle.scad_scope.specs.Table.{rows_of, chain_of};
 ghost use Rattle.scad_value.specs.Values.{is_bounded};
 ghost use Rattle.scad_value.specs.View.{val_of};
-ghost use Rattle.scad_func.specs.Meaning.{evaluated};
-ghost use Rattle.scad_func.specs.Definitions.{env_in};
-ghost use Rattle.scad_func.specs.View.{Tells, IsNumbered, seen, source_text};
+ghost use Rattle.scad_evaluation.specs.Meaning.{evaluated};
+ghost use Rattle.scad_evaluation.specs.Definitions.{env_in};
+ghost use Rattle.scad_evaluation.specs.View.{Tells, IsNumbered, seen, source_text};
 
-use crate::evaluation::Evaluation;
-use crate::meter::Meter;
-use crate::source::Source;
+use crate::evaluator::evaluate;
 use scad_answer::value_alone;
 use scad_ast::{Expr, Program};
+use scad_evaluation::{Evaluation, Meter, Source};
 use scad_scope::Scopes;
 use scad_value::Value;
 use std::alloc::Global;
@@ -26,7 +25,7 @@ use text_place::Stop;
 /// within their limit; the meter's calls and depth, scopes and chain are always as before. TooDeep
 /// comes at the 65th call and at the 513th evaluation in one another, TooManyTurns at turn 100,001.
 ///
-/// `Evaluation::evaluate` says how much of the stack it takes.
+/// `evaluate` says how much of the stack it takes.
 pub fn value_in(
     alloc: Global,
     scopes: &mut Scopes,
@@ -55,7 +54,7 @@ pub fn value_in(
         depth: meter.depth,
         turns: meter.turns,
     };
-    let value = value_alone(evaluation.evaluate(expr));
+    let value = value_alone(evaluate(&mut evaluation, expr));
     meter.turns = evaluation.turns;
     value
 }

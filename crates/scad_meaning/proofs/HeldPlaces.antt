@@ -13,7 +13,7 @@ use Rattle.scad_value.specs.Values.{Val}
 use Rattle.scad_value.specs.Operators.{Answer}
 use Rattle.scad_scope.specs.Names.{Pairs, find_in, or_else}
 use Rattle.scad_blocks.specs.Blocks.{Function, Module, Assigned, same_name, with_assigned, all_assigned, assigned_in, assigned_by, assignments_of, statements_of_body}
-use Rattle.scad_func.specs.Meaning.{Outcome, Gives, Faults, then_with, or_fault, answered, Env, Outermost, Within, Opened, no_call, opened, standing_in, function_in, module_in, or_outer, call_in, functions_standing_in, function_standing, modules_standing_in, module_standing, entered_scope, with_variable, turn, one_call_fewer}
+use Rattle.scad_evaluation.specs.Meaning.{Outcome, Gives, Faults, then_with, or_fault, answered, Env, Outermost, Within, Opened, no_call, opened, standing_in, function_in, module_in, or_outer, call_in, functions_standing_in, function_standing, modules_standing_in, module_standing, entered_scope, with_variable, turn, one_call_fewer}
 use Rattle.scad_meaning.specs.Bodies.{instances_in, instances_of, is_on, evaluated_in}
 
 -- lists

@@ -7,7 +7,7 @@ use Rattle.csg_tree.specs.declared.op.Op.TheVariants.{Union, Difference}
 use Rattle.scad_ast.specs.declared.operator.Modifier.TheVariants.{Root}
 use Rattle.scad_ast.specs.Terms.{NumberTerm, NameTerm, ListTerm, no_terms, and_term, PositionalTerm, InstanceStatement, no_statements, and_statement, AnInstance, ModuleCallTerm, EmptyBody, BlockBody, InstanceBody}
 use Rattle.scad_scope.specs.Names.{first_chain}
-use Rattle.scad_func.specs.Meaning.{Gives, Faults, evaluated}
+use Rattle.scad_evaluation.specs.Meaning.{Gives, Faults, evaluated}
 use Rattle.scad_design.specs.Designs.{Part, empty, a_part, grouped}
 use Rattle.scad_meaning.specs.Verdicts.{Judge}
 use Rattle.scad_meaning.specs.Meaning.{design_within, design_of}

@@ -4,7 +4,7 @@ use Rattle.plane_predicate.specs.declared.unit.Unit.{Unit as LengthUnit}
 use Rattle.plane_predicate.specs.Space.{Coefficients}
 use Rattle.scad_ast.specs.Terms.{StatementTerm, statements_from}
 use Rattle.scad_scope.specs.Names.{first_chain}
-use Rattle.scad_func.specs.Meaning.{Outcome, Gives, Faults}
+use Rattle.scad_evaluation.specs.Meaning.{Outcome, Gives, Faults}
 use Rattle.scad_design.specs.Designs.{Design}
 use Rattle.scad_design.specs.Placing.{Placed, placed, unplaced, Places}
 use Rattle.scad_meaning.specs.Verdicts.{Judge, IsRight}

@@ -19,7 +19,7 @@ use Rattle.scad_value.specs.Operators.{Answer}
 use Rattle.scad_scope.specs.Names.{Pairs, find_in}
 use Rattle.scad_arguments.specs.Arguments.{names_of, nothing_given}
 use Rattle.scad_blocks.specs.Blocks.{Module, assignments_of, statements_of_body}
-use Rattle.scad_func.specs.Meaning.{Outcome, Gives, Faults, then_with, or_fault, Env, Opened, no_call, opened, module_in, call_in, entered_scope, turn, one_call_fewer, value_at, Arguments, each_argument, each_parameter}
+use Rattle.scad_evaluation.specs.Meaning.{Outcome, Gives, Faults, then_with, or_fault, Env, Opened, no_call, opened, module_in, call_in, entered_scope, turn, one_call_fewer, value_at, Arguments, each_argument, each_parameter}
 use Rattle.scad_modules.specs.declared.table.BuiltinModule.{BuiltinModule}
 use Rattle.scad_modules.specs.Table.{module_named}
 use Rattle.scad_modules.specs.Effects.{EffectCall, a_solid, a_flat, a_move, a_join, a_hull, an_extrusion, silence, some_children, FlatCall, ChosenCall}

@@ -14,7 +14,7 @@ use Rattle.csg_tree.specs.Formulas.{Formula}
 use Rattle.scad_ast.specs.Terms.{StatementTerm, statements_from}
 use Rattle.scad_ast.specs.Places.{places_of_program, HoldsPlace}
 use Rattle.scad_scope.specs.Names.{first_chain}
-use Rattle.scad_func.specs.Meaning.{Outcome, Gives, Faults}
+use Rattle.scad_evaluation.specs.Meaning.{Outcome, Gives, Faults}
 use Rattle.scad_design.specs.Designs.{Design, empty, a_part, joined}
 use Rattle.scad_design.specs.Placing.{Placed, placed, unplaced, joined_placed, PlacesRight, Places}
 use Rattle.scad_meaning.specs.Verdicts.{Judge, IsRight}

@@ -10,7 +10,7 @@ use Rattle.csg_tree.specs.Formulas.{Formula}
 use Rattle.csg_tree.specs.ProperTrees.{IsProper}
 use Rattle.scad_ast.specs.Terms.{StatementTerm, statements_from}
 use Rattle.scad_scope.specs.Names.{first_chain}
-use Rattle.scad_func.specs.Meaning.{Outcome, Gives, Faults}
+use Rattle.scad_evaluation.specs.Meaning.{Outcome, Gives, Faults}
 use Rattle.scad_design.specs.Designs.{Design, grouped, moved_by}
 use Rattle.scad_design.specs.Placing.{Placed, placed, unplaced, Places}
 use Rattle.scad_design.specs.Trees.{parts_in, pieces_in, IsPlacedAs, IsSound, IsTrim}

@@ -6,7 +6,7 @@ use Rattle.scad_ast.specs.declared.operator.Modifier.{Modifier}
 use Rattle.scad_ast.specs.declared.operator.Modifier.TheVariants.{Disable, Background, Highlight, Root}
 use Rattle.scad_ast.specs.Terms.{StatementTerm, EmptyStatement, BlockStatement, AssignmentTerm, SpecialAssignmentTerm, ModuleTerm, FunctionTerm, InstanceStatement, StatementTerms, no_statements, and_statement, InstanceTerm, AnInstance, CoreTerm, ModuleCallTerm, BodyTerm, EmptyBody, BlockBody, InstanceBody}
 use Rattle.scad_blocks.specs.Blocks.{Assigned, same_name}
-use Rattle.scad_func.specs.Meaning.{Env, module_in}
+use Rattle.scad_evaluation.specs.Meaning.{Env, module_in}
 
 -- whether an assignment's name is among those of others
 abbrev pub is_named_in : List Assigned → Assigned → Bool

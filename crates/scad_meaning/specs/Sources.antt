@@ -9,7 +9,7 @@ use Rattle.scad_ast.specs.Places.{HoldsPlace}
 use Rattle.text_place.specs.declared.fault.Stop.{Stop}
 use Rattle.text_place.specs.declared.fault.Stop.TheVariants.{Fault, NoMemory}
 use Rattle.scad_scope.specs.Names.{first_chain}
-use Rattle.scad_func.specs.Meaning.{Outcome, Gives, Faults}
+use Rattle.scad_evaluation.specs.Meaning.{Outcome, Gives, Faults}
 use Rattle.scad_design.specs.Designs.{Design}
 use Rattle.scad_meaning.specs.Verdicts.{Judge, IsRight}
 use Rattle.scad_meaning.specs.Meaning.{design_of}

@@ -15,10 +15,10 @@ use Rattle.scad_value.specs.declared.value.Value.TheFolds.{fold-roll-Value}
 use Rattle.scad_value.specs.Values.{Val, NumberVal}
 use Rattle.scad_value.specs.View.{val_of, value_step, values_step}
 use Rattle.scad_blocks.specs.Blocks.{NumberedText}
-use Rattle.scad_func.specs.Meaning.{Env, no_call, entered_scope}
-use Rattle.scad_func.specs.View.{source_text}
-use Rattle.scad_func.specs.Definitions.{statements_at, block_scope, IsWhole}
-use Rattle.scad_func.specs.declared.source.Source.{Source}
+use Rattle.scad_evaluation.specs.Meaning.{Env, no_call, entered_scope}
+use Rattle.scad_evaluation.specs.View.{source_text}
+use Rattle.scad_evaluation.specs.Definitions.{statements_at, block_scope, IsWhole}
+use Rattle.scad_evaluation.specs.declared.source.Source.{Source}
 use Rattle.scad_pieces.specs.declared.numbered.NumberedInstance.{NumberedInstance}
 use Rattle.scad_meaning.specs.Bodies.{is_child, evaluated_in, children_in}
 use Rattle.scad_pieces.specs.Positions.{term_of_numbered, HasBlocks}

@@ -12,7 +12,7 @@ use Rattle.scad_ast.specs.declared.statement.Body.TheFolds.{fold_out-Instance, f
 use Rattle.scad_ast.specs.Terms.{StatementTerm, EmptyStatement, BlockStatement, AssignmentTerm, SpecialAssignmentTerm, ModuleTerm, FunctionTerm, InstanceStatement, StatementTerms, no_statements, and_statement, statements_from, InstanceTerm, AnInstance, CoreTerm, IfTerm, IfElseTerm, ForTerm, IntersectionForTerm, ModuleCallTerm, BodyTerm, EmptyBody, BlockBody, InstanceBody}
 use Rattle.scad_ast.specs.StatementView.{statement_of, statements_of, instance_of, core_of as core_in_memory, body_step, core_step, statement_step, instance_step, statements_step}
 use Rattle.scad_blocks.specs.Blocks.{Beginning, a_block, a_function, a_module, beginnings_of, beginnings_in, beginnings_of_instance, beginnings_of_core, beginnings_of_body, count_blocks, nothing_there, NumberedText, StandAt}
-use Rattle.scad_func.specs.Definitions.{statements_at, IsBlockOf, IsWhole}
+use Rattle.scad_evaluation.specs.Definitions.{statements_at, IsBlockOf, IsWhole}
 use Rattle.scad_meaning.specs.Bodies.{is_on, instances_in, instances_of, evaluated_in}
 use Rattle.scad_meaning.specs.Meaning.{core_of}
 use Rattle.scad_pieces.specs.Positions.{CoreHasBlocks, has_else}

@@ -7,7 +7,7 @@ use Rattle.scad_value.specs.declared.value.Value.{Value}
 use Rattle.scad_value.specs.declared.bounded_value.BoundedValue.{BoundedValue}
 use Rattle.scad_value.specs.Values.{Val}
 use Rattle.scad_value.specs.View.{val_of}
-use Rattle.scad_func.specs.View.{slot_of, slots_in}
+use Rattle.scad_evaluation.specs.View.{slot_of, slots_in}
 use Rattle.scad_modules.specs.Bounds.{is_slot_bounded, are_bounded}
 use Rattle.scad_modules.specs.View.{slots_of}
 

@@ -8,7 +8,7 @@ use Rattle.text_place.specs.declared.fault.FaultKind.TheVariants.{BadArgument}
 use Rattle.scad_ast.specs.Terms.{ArgTerm, NamedTerm, SpecialArgTerm, PositionalTerm}
 use Rattle.scad_value.specs.Operators.{Answer}
 use Rattle.scad_arguments.specs.Arguments.{taker_of, with_argument}
-use Rattle.scad_func.specs.Meaning.{Outcome, Gives, then_with, or_fault, Arguments, Setting, value_at}
+use Rattle.scad_evaluation.specs.Meaning.{Outcome, Gives, then_with, or_fault, Arguments, Setting, value_at}
 use Rattle.scad_modules.specs.declared.effects.Chosen.{Chosen}
 use Rattle.scad_modules.specs.declared.effects.Effect.{Effect}
 use Rattle.scad_modules.specs.Bounds.{IsSafeChoice}

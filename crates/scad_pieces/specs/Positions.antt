@@ -3,7 +3,7 @@ use Rattle.std.specs.Prelude.{ℕ, Bool, true, false}
 use Rattle.scad_ast.specs.StatementView.{instance_of}
 use Rattle.scad_ast.specs.Terms.{InstanceTerm, CoreTerm, IfTerm, IfElseTerm, ForTerm, IntersectionForTerm, ModuleCallTerm}
 use Rattle.scad_blocks.specs.Blocks.{NumberedText}
-use Rattle.scad_func.specs.Definitions.{IsBlockOf}
+use Rattle.scad_evaluation.specs.Definitions.{IsBlockOf}
 use Rattle.scad_meaning.specs.Meaning.{core_of}
 use Rattle.scad_pieces.specs.declared.numbered.NumberedInstance.{NumberedInstance}
 

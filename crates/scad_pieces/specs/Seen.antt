@@ -8,8 +8,8 @@ use Rattle.scad_ast.specs.Terms.{BodyTerm}
 use Rattle.shape_planes.specs.declared.stop.ShapeStop.{ShapeStop}
 use Rattle.shape_planes.specs.declared.stop.ShapeStop.TheVariants as shapes
 use Rattle.scad_design.specs.View.{plain_of}
-use Rattle.scad_func.specs.Meaning.{Outcome, Gives, Faults, then_with}
-use Rattle.scad_func.specs.View.{Tells}
+use Rattle.scad_evaluation.specs.Meaning.{Outcome, Gives, Faults, then_with}
+use Rattle.scad_evaluation.specs.View.{Tells}
 use Rattle.scad_pieces.specs.declared.position.InstanceResult.{InstanceResult}
 use Rattle.scad_pieces.specs.declared.position.MemberResults.{MemberResults}
 use Rattle.scad_meaning.specs.Bodies.{is_bare}

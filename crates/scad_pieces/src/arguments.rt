@@ -10,8 +10,8 @@ ghost use Rattle.scad_scope.specs.Table.{chain_of};
 ghost use Rattle.scad_arguments.specs.Arguments.{nothing_given};
 ghost use Rattle.scad_arguments.specs.SoFarView.{only_given};
 ghost use Rattle.scad_value.specs.View.{val_of};
-ghost use Rattle.scad_func.specs.View.{slot_of, slots_in, arguments_of};
-ghost use Rattle.scad_func.specs.Evaluations.{EvaluatesTo};
+ghost use Rattle.scad_evaluation.specs.View.{slot_of, slots_in, arguments_of};
+ghost use Rattle.scad_evaluation.specs.Evaluations.{EvaluatesTo};
 ghost use Rattle.scad_modules.specs.Bounds.{IsSafeCall};
 ghost use Rattle.scad_modules.specs.Calls.{effect_of as effect_at};
 ghost use Rattle.scad_modules.specs.Table.{is_left_out as leaves_out};
@@ -25,7 +25,8 @@ use crate::joins::nothing_made;
 use crate::position::{InstanceResult, Position};
 use plane_predicate::Unit;
 use scad_ast::{Arg, Args, Body};
-use scad_func::{Evaluation, with};
+use scad_evaluation::Evaluation;
+use scad_func::{arguments, evaluate, with};
 use scad_modules::{BuiltinModule, Effect, effect, is_left_out};
 use scad_scope::{ArgumentsSoFar, GivenArguments, Names};
 use scad_value::{BoundedValue, Value, ValueStop};
@@ -94,7 +95,7 @@ pub fn arguments_for<'b>(
         return said(evaluation, args);
     }
     let names = Names::Listed(built_in.parameters());
-    evaluation.arguments(names, args)
+    arguments(evaluation, names, args)
 }
 
 // The arguments of `echo`, from the first on: a name may come twice, a special name may not.
@@ -124,11 +125,11 @@ fn say<'n, 'b>(
         Arg::Special(_, _, value) => {
             let free = so_far.destination_for(0, arg);
             let (held, destination) = with(so_far, free)?;
-            let next = evaluation.evaluate(value);
+            let next = evaluate(evaluation, value);
             held.with_next(evaluation.alloc, destination, next)
         }
         Arg::Named(_, _, value) | Arg::Positional(value) => {
-            let said = evaluation.evaluate(value);
+            let said = evaluate(evaluation, value);
             let (held, _) = with(so_far, said)?;
             Ok(held)
         }

@@ -6,14 +6,14 @@ ghost use Rattle.std.specs.List.{All, filter};
 ghost use Rattle.scad_ast.specs.Terms.{statements_from};
 ghost use Rattle.scad_ast.specs.StatementView.{core_of, instance_of, statement_of, statements_of};
 ghost use Rattle.scad_blocks.specs.Blocks.{NumberedText, StandAt, beginnings_in, beginnings_of, beginnings_of_instance, count_blocks, nothing_there};
-ghost use Rattle.scad_func.specs.Definitions.{statements_at, IsWhole};
-ghost use Rattle.scad_func.specs.View.{source_text};
+ghost use Rattle.scad_evaluation.specs.Definitions.{statements_at, IsWhole};
+ghost use Rattle.scad_evaluation.specs.View.{source_text};
 ghost use Rattle.scad_meaning.specs.Bodies.{instances_of, evaluated_in, is_on as is_on_at};
 ghost use Rattle.scad_pieces.specs.Positions.{term_of_numbered, HasBlocks, has_else as has_else_at};
 
 use crate::bodies::is_on;
 use scad_ast::{Core, Instance, Statement, Statements};
-use scad_func::Source;
+use scad_evaluation::Source;
 use scad_scope::BlockText;
 use std::alloc::Global;
 use text_place::NoMemory;

@@ -2,8 +2,8 @@ use Rattle.std.proofs.Common.{refl}
 use Rattle.std.proofs.lemmas.Result.{err_from_is_err_and}
 use Rattle.scad_ast.specs.Terms.{statements_from}
 use Rattle.scad_scope.specs.Names.{first_chain}
-use Rattle.scad_func.specs.View.{source_text}
-use Rattle.scad_func.specs.Definitions.{statements_at}
+use Rattle.scad_evaluation.specs.View.{source_text}
+use Rattle.scad_evaluation.specs.Definitions.{statements_at}
 use Rattle.scad_eval.proofs.Programs.{program_begins, program_members, program_statements, design_outcome, design_stops}
 use Rattle.scad_eval.proofs.program.design_of.Goals as goal
 

@@ -1,4 +1,4 @@
-use Rattle.scad_func.proofs.Standing.{standing}
+use Rattle.scad_evaluation.proofs.Standing.{standing}
 use Rattle.scad_func.proofs.laws.enter_what_stands.Goals as goal
 
 pub returns : goal.returns

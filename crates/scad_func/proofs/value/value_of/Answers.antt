@@ -6,9 +6,9 @@ use Rattle.scad_blocks.specs.Blocks.{NumberedText}
 use Rattle.scad_scope.specs.Numbered.{functions_below, modules_below}
 use Rattle.scad_scope.specs.Table.{rows_of, chain_of}
 use Rattle.scad_value.specs.View.{val_of}
-use Rattle.scad_func.specs.Meaning.{evaluated}
-use Rattle.scad_func.specs.Definitions.{env_in}
-use Rattle.scad_func.specs.View.{Tells}
+use Rattle.scad_evaluation.specs.Meaning.{evaluated}
+use Rattle.scad_evaluation.specs.Definitions.{env_in}
+use Rattle.scad_evaluation.specs.View.{Tells}
 use Rattle.scad_func.proofs.value.value_of.Goals as goal
 
 pub value_in-requires-clause-numbered : goal.value_in-requires-clause-numbered

@@ -2,8 +2,8 @@ use Rattle.std.proofs.Common.{◌≡◌, map, drop}
 use Rattle.scad_ast.specs.Terms.{args_from}
 use Rattle.scad_ast.specs.ExprView.{arg_of, args_of}
 use Rattle.scad_arguments.specs.Arguments.{nothing_given}
-use Rattle.scad_func.specs.View.{arguments_of}
-use Rattle.scad_func.specs.Evaluations.{Keeps, setting_here}
+use Rattle.scad_evaluation.specs.View.{arguments_of}
+use Rattle.scad_evaluation.specs.Evaluations.{Keeps, setting_here}
 use Rattle.scad_meaning.specs.Meaning.{each_said}
 use Rattle.scad_pieces.proofs.arguments.said.Given as goal
 

@@ -9,7 +9,7 @@ use Rattle.scad_arguments.specs.ArgumentsView.{names_in, given_of, taker_seen, I
 use Rattle.scad_arguments.specs.SoFarView.{only_given}
 use Rattle.scad_arguments.specs.declared.parameters.Destination.{Destination}
 use Rattle.scad_arguments.specs.declared.so_far.ArgumentsSoFar.{ArgumentsSoFar}
-use Rattle.scad_func.specs.Evaluations.{setting_here}
+use Rattle.scad_evaluation.specs.Evaluations.{setting_here}
 use Rattle.scad_func.proofs.Kept.{keeps_same}
 use Rattle.scad_pieces.proofs.Said.{special_form, taken, refused}
 use Rattle.scad_pieces.proofs.arguments.say.Goals as goal
@@ -39,7 +39,7 @@ returns-in_ok-held-in-Special c =
     record {
       value = taken (setting_here c.args.evaluation.now) a x.field-0 x.field-1 (term_of x.value)
           (special_form c.args.arg.now x.field-0 x.field-1 x.value x.is) (names_in so_far.names) so_far.given c.args.evaluation.now.turns
-          d c.evaluate-next.new.self.turns c.evaluate-next.result (only_given c.with_next.result)
+          d c.evaluate-next.new.evaluation.turns c.evaluate-next.result (only_given c.with_next.result)
           (IfOk-at_ok (λ (d : Destination). taker_of (names_in so_far.names) 0 (given_of so_far.given) a ≡ Some (taker_seen d)) w.1 c.destination_for-free.ensures.free)
           c.evaluate-next.ensures.value
           (subst (λ (v : ArgumentsSoFar BoundedValue). IsGiven v.given d c.evaluate-next.result (only_given c.with_next.result)) w.0 c.with_next.ensures.given);

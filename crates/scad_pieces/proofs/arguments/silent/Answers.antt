@@ -1,6 +1,6 @@
 use Rattle.std.proofs.Common.{sym, ap, ◌∙◌, if◌then◌else◌}
 use Rattle.text_place.specs.declared.fault.FaultKind.TheVariants.{NotInProfile}
-use Rattle.scad_func.specs.Meaning.{Gives, Faults}
+use Rattle.scad_evaluation.specs.Meaning.{Gives, Faults}
 use Rattle.scad_meaning.specs.Meaning.{no_design}
 use Rattle.scad_pieces.proofs.arguments.silent.Goals as goal
 

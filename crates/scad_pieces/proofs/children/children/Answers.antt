@@ -1,8 +1,8 @@
 use Rattle.std.proofs.Common.{◌≤◌, length, map, ap, subst, sym, ◌∙◌, arith}
 use Rattle.std.specs.Prelude.{All}
-use Rattle.scad_func.specs.View.{source_text}
-use Rattle.scad_func.specs.Evaluations.{scope_here}
-use Rattle.scad_func.specs.Definitions.{statements_at}
+use Rattle.scad_evaluation.specs.View.{source_text}
+use Rattle.scad_evaluation.specs.Evaluations.{scope_here}
+use Rattle.scad_evaluation.specs.Definitions.{statements_at}
 use Rattle.scad_pieces.specs.Positions.{term_of_numbered, HasBlocks}
 use Rattle.scad_pieces.proofs.KeptChildren.{children_found, children_blocks}
 use Rattle.scad_pieces.proofs.children.children.Goals as goal

@@ -1,6 +1,6 @@
-use Rattle.scad_func.specs.View.{source_text}
-use Rattle.scad_func.specs.Evaluations.{scope_here}
-use Rattle.scad_func.specs.Definitions.{statements_at}
+use Rattle.scad_evaluation.specs.View.{source_text}
+use Rattle.scad_evaluation.specs.Evaluations.{scope_here}
+use Rattle.scad_evaluation.specs.Definitions.{statements_at}
 use Rattle.scad_modules.specs.View.{chosen_of}
 use Rattle.scad_meaning.specs.Bodies.{children_in}
 use Rattle.scad_pieces.proofs.KeptChildren.{chosen_found, chosen_blocks}

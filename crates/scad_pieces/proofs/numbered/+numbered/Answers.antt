@@ -2,7 +2,7 @@ use Rattle.std.proofs.Common.{◌≡◌, ◌<◌, ◌+◌, ◌∙◌, List, leng
 use Rattle.scad_ast.specs.declared.statement.Statement.{Statement}
 use Rattle.scad_ast.specs.Terms.{StatementTerm, statements_from}
 use Rattle.scad_ast.specs.StatementView.{statement_of, statements_of}
-use Rattle.scad_func.specs.View.{source_text}
+use Rattle.scad_evaluation.specs.View.{source_text}
 use Rattle.scad_blocks.specs.Blocks.{StandAt, beginnings_of}
 use Rattle.scad_pieces.specs.Positions.{term_of_numbered}
 use Rattle.scad_pieces.proofs.Numbering.{remaining_more, statements_here, here_stands, nesting_here, nesting_of, block_form}

@@ -2,7 +2,7 @@ use Rattle.std.proofs.Common.{◌+◌, ◌*◌, map, drop}
 use Rattle.std.specs.List.{All}
 use Rattle.scad_ast.specs.Terms.{statements_from}
 use Rattle.scad_ast.specs.StatementView.{statement_of, statements_of}
-use Rattle.scad_func.specs.View.{source_text}
+use Rattle.scad_evaluation.specs.View.{source_text}
 use Rattle.scad_pieces.specs.Positions.{term_of_numbered, HasBlocks}
 use Rattle.scad_pieces.proofs.Numbering.{RemainingStatements, nesting_in, nesting_of}
 use Rattle.scad_pieces.proofs.numbered.+numbered.Given as goal

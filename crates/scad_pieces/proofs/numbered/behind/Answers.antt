@@ -1,5 +1,5 @@
 use Rattle.std.proofs.Common.{sym, ap, ◌∙◌}
-use Rattle.scad_func.specs.View.{source_text}
+use Rattle.scad_evaluation.specs.View.{source_text}
 use Rattle.scad_pieces.specs.Positions.{term_of_numbered, has_else}
 use Rattle.scad_pieces.proofs.Numbering.{core_there, second_is_there, second_ends}
 use Rattle.scad_pieces.proofs.numbered.behind.Goals as goal

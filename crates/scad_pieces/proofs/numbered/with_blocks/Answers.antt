@@ -1,6 +1,6 @@
 use Rattle.std.proofs.Common.{sym}
 use Rattle.scad_ast.specs.StatementView.{instance_of}
-use Rattle.scad_func.specs.View.{source_text}
+use Rattle.scad_evaluation.specs.View.{source_text}
 use Rattle.scad_pieces.proofs.Numbering.{instance_blocks}
 use Rattle.scad_pieces.proofs.numbered.with_blocks.Goals as goal
 

@@ -21,11 +21,11 @@ use Rattle.scad_modules.specs.declared.effects.Effect.{Effect}
 use Rattle.scad_modules.specs.declared.table.BuiltinModule.{BuiltinModule}
 use Rattle.scad_modules.specs.View.{chosen_of, call_of}
 use Rattle.scad_design.specs.Designs.{moved_by}
-use Rattle.scad_func.specs.Meaning.{Outcome, Gives, Faults, Opened, Within, no_call, with_variable, then_with, or_fault, one_call_fewer, turn, each_parameter, Arguments, Slots, Setting, Env}
-use Rattle.scad_func.specs.View.{seen, source_text, arguments_of, slots_in, specials_in, values_seen, IsNoMemory}
-use Rattle.scad_func.specs.Definitions.{statements_at}
-use Rattle.scad_func.specs.Evaluations.{SpecialsBegin, scope_here}
-use Rattle.scad_func.specs.declared.source.Source.{Source}
+use Rattle.scad_evaluation.specs.Meaning.{Outcome, Gives, Faults, Opened, Within, no_call, with_variable, then_with, or_fault, one_call_fewer, turn, each_parameter, Arguments, Slots, Setting, Env}
+use Rattle.scad_evaluation.specs.View.{seen, source_text, arguments_of, slots_in, specials_in, values_seen, IsNoMemory}
+use Rattle.scad_evaluation.specs.Definitions.{statements_at}
+use Rattle.scad_evaluation.specs.Evaluations.{SpecialsBegin, scope_here}
+use Rattle.scad_evaluation.specs.declared.source.Source.{Source}
 use Rattle.scad_pieces.specs.declared.numbered.NumberedInstance.{NumberedInstance}
 use Rattle.scad_pieces.specs.declared.position.Position.{Position}
 use Rattle.scad_pieces.specs.Calls.{chosen_seen}
@@ -717,7 +717,7 @@ module_with_specials-module_made-requires t c =
     let begun : InstanceEvaluator = record { evaluation = c.begin_specials-begun.new.self; unit = m.unit; leaves = m.leaves; few_leaves = m.few_leaves } in
     let begins : SpecialsBegin m.evaluation begun.evaluation c.in_ok-slots.length = IfOk-at_ok (λ (n : ℕ). SpecialsBegin m.evaluation begun.evaluation n) ok.1 c.begin_specials-begun.ensures.begun in
     let k = c.parameters_in.ensures.kept in (
-      omega (arith, work_same c.parameters_in.new.self.depth m.evaluation.depth (k.depth ∙ begins.depth), c.decreases),
+      omega (arith, work_same c.parameters_in.new.evaluation.depth m.evaluation.depth (k.depth ∙ begins.depth), c.decreases),
       (
         position_still m _ refl (k.source ∙ begins.source) c.requires.position,
         (
@@ -744,7 +744,7 @@ module_with_specials-returns-in_err-values-clause-made t c =
           along (ap (λ o. then_with o go) (parameters_from (evaluator_at m judge) (module_of c.args.defined) home given there _ _ _
           (specials_setting m begun c.args.position c.args.home c.in_ok-slots.length given.specials begins chain)
           (ap slots_in (ap (λ (v : Vec (Option BoundedValue) Global). v.items) (sym ok.0))) c.begin_specials-begun.ensures.turns))
-          (stop_outcome go (told_outcome values_seen (Err c.in_err-values.field-0.0) c.parameters_in.new.self.turns m.leaves _ c.in_err-values.ensures.values));
+          (stop_outcome go (told_outcome values_seen (Err c.in_err-values.field-0.0) c.parameters_in.new.evaluation.turns m.leaves _ c.in_err-values.ensures.values));
     })
 
 pub module_with_specials-returns-in_err-made-clause-made : goal.module_with_specials-returns-in_err-made-clause-made
@@ -814,7 +814,7 @@ pub one_or_nothing-returns-clause-made : goal.one_or_nothing-returns-clause-made
 one_or_nothing-returns-clause-made t c = record {
   by = λ judge right.
       let m = c.args.self.now in
-      let n = c.evaluate.new.self.turns in
+      let n = c.evaluate.new.evaluation.turns in
       then_outcome _ (told_outcome bounded_val (Ok c.in_ok-value.value) n m.leaves _ c.in_ok-value.ensures.value)
       (record {
         is = ap (λ (b : Bool). if b then body_design (evaluator_at m judge) Union (context_at m c.args.position) (body_seen c.args.body) n m.leaves else Gives n (no_design m.leaves))
@@ -827,7 +827,7 @@ pub one_or_nothing-returns-then-truth-clause-made : goal.one_or_nothing-returns-
 one_or_nothing-returns-then-truth-clause-made t c = record {
   by = λ judge right.
       let m = c.args.self.now in
-      let n = c.evaluate.new.self.turns in
+      let n = c.evaluate.new.evaluation.turns in
       then_outcome _ (told_outcome bounded_val (Ok c.in_ok-value.value) n m.leaves _ c.in_ok-value.ensures.value)
       (along (ap (λ (b : Bool). if b then body_design (evaluator_at m judge) Union (context_at m c.args.position) (body_seen c.args.body) n m.leaves else Gives n (no_design m.leaves)) (sym c.truth.ensures ∙ c.if-truth.true))
       (meets_after (stays_kept m _ refl c.evaluate.ensures.kept) c.body.ensures.made judge right));
@@ -837,7 +837,7 @@ pub one_or_other-returns-then-truth-clause-made : goal.one_or_other-returns-then
 one_or_other-returns-then-truth-clause-made t c = record {
   by = λ judge right.
       let m = c.args.self.now in
-      let n = c.evaluate.new.self.turns in
+      let n = c.evaluate.new.evaluation.turns in
       then_outcome _ (told_outcome bounded_val (Ok c.in_ok-value.value) n m.leaves _ c.in_ok-value.ensures.value)
       (along (ap (λ (b : Bool). body_design (evaluator_at m judge) Union (context_at m c.args.position) (if b then body_seen c.args.body else body_seen c.args.other) n m.leaves) (sym c.truth.ensures ∙ c.if-truth.true))
       (meets_after (stays_kept m _ refl c.evaluate.ensures.kept) c.body.ensures.made judge right));
@@ -847,7 +847,7 @@ pub one_or_other-returns-clause-made : goal.one_or_other-returns-clause-made
 one_or_other-returns-clause-made t c = record {
   by = λ judge right.
       let m = c.args.self.now in
-      let n = c.evaluate.new.self.turns in
+      let n = c.evaluate.new.evaluation.turns in
       then_outcome _ (told_outcome bounded_val (Ok c.in_ok-value.value) n m.leaves _ c.in_ok-value.ensures.value)
       (along (ap (λ (b : Bool). body_design (evaluator_at m judge) Union (context_at m c.args.position) (if b then body_seen c.args.body else body_seen c.args.other) n m.leaves) (sym c.truth.ensures ∙ c.if-truth.false))
       (meets_after (stays_kept m _ refl c.evaluate.ensures.kept) c.body-2.ensures.made judge right));
@@ -873,7 +873,7 @@ turns-returns-in-Some-of-clause-members t c = record {
       let m = c.args.self.now in
       let evaluator = evaluator_at m judge in
       let here = context_at m c.args.position in
-      let n = c.evaluate.new.self.turns in
+      let n = c.evaluate.new.evaluation.turns in
       let binder = c.in-Some.binder.now in
       let turned : List ℕ → Val → ℕ → ℕ → Outcome MemberDesigns = λ name item. each_turn evaluator c.args.place (map binder_of c.in-Some.rest.now) (body_seen c.args.body) (in_loop here name item) in
       along (ap (λ (bs : List Binder). each_turn evaluator c.args.place (map binder_of bs) (body_seen c.args.body) here m.evaluation.turns m.leaves) c.in-Some.ensures.cases.0)

@@ -2,8 +2,8 @@ use Rattle.std.proofs.Common.{◌∙◌}
 use Rattle.scad_value.specs.BoundedView.{bounded_val}
 use Rattle.scad_scope.specs.Table.{rows_of}
 use Rattle.scad_blocks.specs.TextView.{module_of}
-use Rattle.scad_func.specs.View.{seen, source_text, values_seen}
-use Rattle.scad_func.specs.Evaluations.{scope_here}
+use Rattle.scad_evaluation.specs.View.{seen, source_text, values_seen}
+use Rattle.scad_evaluation.specs.Evaluations.{scope_here}
 use Rattle.scad_eval.specs.Within.{body_seen}
 use Rattle.scad_eval.proofs.ModuleScopes.{module_inside, call_scope_same}
 use Rattle.scad_eval.proofs.evaluator.InstanceEvaluator.enter_module.Goals as goal

@@ -1,6 +1,6 @@
 use Rattle.std.proofs.Common.{refl}
 use Rattle.std.proofs.lemmas.Result.{err_from_is_err_and}
-use Rattle.scad_func.specs.Meaning.{Gives}
+use Rattle.scad_evaluation.specs.Meaning.{Gives}
 use Rattle.scad_meaning.specs.Meaning.{hulled}
 use Rattle.scad_pieces.specs.Seen.{instance_design_of}
 use Rattle.scad_eval.proofs.Outcomes.{along, stop_outcome, then_outcome}

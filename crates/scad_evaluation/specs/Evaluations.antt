@@ -1,0 +1,123 @@
+-- Where an evaluation stands, and what it keeps.
+use Rattle.std.specs.Prelude.{◌≡◌, ℕ, ◌+◌, ◌-◌, ◌*◌, ◌<◌, length, take, Result}
+use Rattle.scad_scope.specs.Names.{NumberedEnv, env_of, oldest}
+use Rattle.scad_scope.specs.Table.{rows_of, chain_of}
+use Rattle.text_place.specs.declared.fault.Stop.{Stop}
+use Rattle.scad_evaluation.specs.Meaning.{Outcome, Env, Setting, evaluated}
+use Rattle.scad_evaluation.specs.View.{Tells, seen, deepest}
+use Rattle.scad_evaluation.specs.declared.source.Source.{Source}
+use Rattle.scad_evaluation.specs.declared.evaluation.Evaluation.{Evaluation}
+
+-- how many scopes there are
+abbrev pub scopes_there : Evaluation → ℕ
+scopes_there e = length (rows_of e.scopes.now)
+
+-- where an expression of a scope stands
+abbrev pub setting : Evaluation → ℕ → Setting
+setting e scope = record {
+  deeper = evaluated (512 - e.depth);
+  calls = 64 - e.calls;
+  env = seen e.source.now (rows_of e.scopes.now) scope;
+  chain = chain_of e.scopes.now;
+}
+
+-- the scope in which is evaluated, with all that it stands in
+abbrev pub env_here : Evaluation → NumberedEnv
+env_here e = env_of (rows_of e.scopes.now) e.scope
+
+-- the same scope, with what its numbers stand for
+abbrev pub scope_here : Evaluation → Env
+scope_here e = seen e.source.now (rows_of e.scopes.now) e.scope
+
+-- where an expression of the scope in which is evaluated stands
+abbrev pub setting_here : Evaluation → Setting
+setting_here e = setting e e.scope
+
+-- the calls that are left, times more than any function is deep
+unfoldable pub work_left : Source → ℕ → ℕ
+work_left source calls = (64 - calls) * (4 * deepest source.blocks.functions.items + 8)
+
+-- what stays, after a fault too: all but the turns
+pub record Keeps (old new : Evaluation) : Type 0 where
+  pub source : new.source.now ≡ old.source.now
+  pub lent : new.scopes.ghost_name ≡ old.scopes.ghost_name
+  pub stands : new.scope ≡ old.scope
+  pub rows : rows_of new.scopes.now ≡ rows_of old.scopes.now
+  pub chain : chain_of new.scopes.now ≡ chain_of old.scopes.now
+  pub calls : new.calls ≡ old.calls
+  pub depth : new.depth ≡ old.depth
+  pub work : work_left new.source.now new.calls ≡ work_left old.source.now old.calls
+  pub count : scopes_there new ≡ scopes_there old
+  pub same : (scope : ℕ) → setting new scope ≡ setting old scope
+  pub here : setting_here new ≡ setting_here old
+
+-- What a function of the evaluator does: what it gives, as it is seen, is what its meaning gives in the evaluation's
+-- scope behind the turns so far, or its stop is the meaning's fault, unless memory ran out; and all but the turns is as
+-- before, after a stop too.
+pub record EvaluatesTo {A B : Type 0} (see : A → B) (old new : Evaluation) (result : Result A Stop)
+    (meaning : Setting → ℕ → Outcome B) : Type 0 where
+  pub value : Tells see result new.turns (meaning (setting_here old) old.turns)
+  pub kept : Keeps old new
+
+-- all but the scopes, the chain and the turns is as before
+pub record SameSetting (old new : Evaluation) : Type 0 where
+  pub source : new.source.now ≡ old.source.now
+  pub lent : new.scopes.ghost_name ≡ old.scopes.ghost_name
+  pub stands : new.scope ≡ old.scope
+  pub calls : new.calls ≡ old.calls
+  pub depth : new.depth ≡ old.depth
+
+-- one call deeper: all else but the turns is as before
+pub record CallBegins (old new : Evaluation) : Type 0 where
+  pub source : new.source.now ≡ old.source.now
+  pub lent : new.scopes.ghost_name ≡ old.scopes.ghost_name
+  pub stands : new.scope ≡ old.scope
+  pub rows : rows_of new.scopes.now ≡ rows_of old.scopes.now
+  pub chain : chain_of new.scopes.now ≡ chain_of old.scopes.now
+  pub calls : new.calls ≡ old.calls + 1
+  pub depth : new.depth ≡ old.depth
+  pub within : old.calls < 64
+
+-- one evaluation deeper: all else but the turns is as before
+pub record EvaluationBegins (old new : Evaluation) : Type 0 where
+  pub source : new.source.now ≡ old.source.now
+  pub lent : new.scopes.ghost_name ≡ old.scopes.ghost_name
+  pub stands : new.scope ≡ old.scope
+  pub rows : rows_of new.scopes.now ≡ rows_of old.scopes.now
+  pub chain : chain_of new.scopes.now ≡ chain_of old.scopes.now
+  pub calls : new.calls ≡ old.calls
+  pub depth : new.depth ≡ old.depth + 1
+  pub within : old.depth < 512
+
+-- one scope more, which is the newest and the one in which is evaluated, where it was another one: all else but the turns
+-- is as before
+pub record ScopeEnters (old new : Evaluation) (before : ℕ) : Type 0 where
+  pub source : new.source.now ≡ old.source.now
+  pub lent : new.scopes.ghost_name ≡ old.scopes.ghost_name
+  pub from : before ≡ old.scope
+  pub front : take new.scope (rows_of new.scopes.now) ≡ rows_of old.scopes.now
+  pub number : new.scope ≡ scopes_there old
+  pub there : scopes_there new ≡ new.scope + 1
+  pub chain : chain_of new.scopes.now ≡ chain_of old.scopes.now
+  pub calls : new.calls ≡ old.calls
+  pub depth : new.depth ≡ old.depth
+
+-- more special names, in front of so many: all else but the turns is as before
+pub record SpecialsBegin (old new : Evaluation) (count : ℕ) : Type 0 where
+  pub source : new.source.now ≡ old.source.now
+  pub lent : new.scopes.ghost_name ≡ old.scopes.ghost_name
+  pub stands : new.scope ≡ old.scope
+  pub rows : rows_of new.scopes.now ≡ rows_of old.scopes.now
+  pub older : oldest count (chain_of new.scopes.now) ≡ chain_of old.scopes.now
+  pub number : count ≡ length (chain_of old.scopes.now)
+  pub calls : new.calls ≡ old.calls
+  pub depth : new.depth ≡ old.depth
+
+-- a binding in the newest scope: all else is as before, and where the scope was entered it still is
+pub record BindsIn (old new : Evaluation) : Type 0 where
+  pub same : SameSetting old new
+  pub front : take old.scope (rows_of new.scopes.now) ≡ take old.scope (rows_of old.scopes.now)
+  pub there : scopes_there new ≡ scopes_there old
+  pub chain : chain_of new.scopes.now ≡ chain_of old.scopes.now
+  pub turns : new.turns ≡ old.turns
+  pub entered : (first : Evaluation) (before : ℕ) → ScopeEnters first old before → ScopeEnters first new before

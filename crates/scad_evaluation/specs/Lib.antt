@@ -1,0 +1,4 @@
+pub mod Meaning
+pub mod Definitions
+pub mod View
+pub mod Evaluations

@@ -1,0 +1,133 @@
+-- What the evaluator's answers tell, and the words of its conditions.
+use Rattle.std.specs.Prelude.{◌≡◌, ℕ, List, [], ◌∷◌, ◌++◌, length, map, reverse, IsTrue, is_some, Option, Some, None, Result, Ok, Err}
+use Rattle.text_place.specs.declared.fault.Stop.{Stop}
+use Rattle.text_place.specs.declared.fault.Stop.TheVariants.{Fault, NoMemory}
+use Rattle.text_place.specs.declared.fault.Place.{Place}
+use Rattle.scad_value.specs.declared.bounded_value.BoundedValue.{BoundedValue}
+use Rattle.scad_value.specs.BoundedView.{bounded_val}
+use Rattle.scad_evaluation.specs.declared.values.BoundedValues.{BoundedValues}
+use Rattle.scad_value.specs.Values.{Val, UndefVal, Vals, vals_from}
+use Rattle.scad_value.specs.View.{vals_in}
+use Rattle.scad_scope.specs.Names.{Pairs, Row, NumberedEnv, env_of, variable_in}
+use Rattle.scad_ast.specs.Terms.{StatementTerm}
+use Rattle.scad_blocks.specs.Blocks.{Function, Module, NumberedText, numbered_text}
+use Rattle.scad_scope.specs.declared.table.ModuleCall.{ModuleCall}
+use Rattle.scad_blocks.specs.Tables.{text_held}
+use Rattle.scad_blocks.specs.TextView.{function_of, module_of}
+use Rattle.scad_evaluation.specs.Meaning.{Outcome, Gives, Faults, Env, Opened, no_call, opened, Slots, Arguments}
+use Rattle.scad_evaluation.specs.Definitions.{env_in, statements_at}
+use Rattle.scad_evaluation.specs.declared.source.Source.{Source}
+use Rattle.scad_arguments.specs.declared.parameters.SpecialArgument.{SpecialArgument}
+use Rattle.scad_arguments.specs.declared.parameters.GivenArguments.{GivenArguments}
+use Rattle.scad_evaluation.specs.declared.names.Indexed.{Indexed}
+use Rattle.scad_evaluation.specs.declared.names.Indexed.TheVariants.{Variable, Made}
+use Rattle.scad_scope.specs.Numbered.{functions_below}
+use Rattle.scad_blocks.specs.declared.text.Function.{Function as FunctionLent}
+use Rattle.scad_blocks.specs.declared.text.Module.{Module as ModuleLent}
+use Rattle.scad_ast.specs.declared.expression.Expr.{size-Expr}
+use Rattle.scad_ast.specs.declared.statement.Param.{Param}
+use Rattle.scad_ast.specs.declared.statement.Param.TheVariants.{Plain, WithDefault}
+use Rattle.std.specs.Prelude.{max}
+
+-- the outcome is what was given, as it is seen, or the fault, unless memory ran out
+abbrev pub Tells : {A B : Type 0} → (A → B) → Result A Stop → ℕ → Outcome B → Type 0
+Tells see (Ok x) turns out = out ≡ Gives turns (see x)
+Tells see (Err (Fault fault)) turns out = out ≡ Faults fault.kind fault.place
+Tells see (Err NoMemory) turns out = Unit {0}
+
+-- that memory ran out
+abbrev pub IsNoMemory : Stop → Type 0
+IsNoMemory (Fault fault) = ⊥
+IsNoMemory NoMemory = Unit {0}
+
+-- the values of a list that its type keeps bounded
+abbrev pub values_seen : BoundedValues → Vals
+values_seen values = vals_from (vals_in values.items.items)
+
+-- values with one more, unless memory ran out or there is none
+abbrev pub IsOneMore : BoundedValues → Result BoundedValue Stop → Result BoundedValues Stop → Type 0
+IsOneMore values (Ok bounded) (Ok longer) = longer.items.items ≡ values.items.items ++ bounded.value ∷ []
+IsOneMore values (Ok bounded) (Err stop) = stop ≡ NoMemory
+IsOneMore values (Err fault) (Ok longer) = ⊥
+IsOneMore values (Err fault) (Err stop) = stop ≡ fault
+
+-- the values of slots, of which some are filled
+abbrev pub slot_of : Option BoundedValue → Option Val
+slot_of (Some v) = Some (bounded_val v)
+slot_of None = None
+
+abbrev pub slots_in : List (Option BoundedValue) → Slots
+slots_in slots = map slot_of slots
+
+-- the special arguments of a call; in memory the newest is the last one
+abbrev pub special_of : SpecialArgument BoundedValue → List ℕ × Val
+special_of special = (special.name.now, bounded_val special.value)
+
+abbrev pub specials_in : List (SpecialArgument BoundedValue) → Pairs Val
+specials_in specials = reverse (map special_of specials)
+
+abbrev pub arguments_of : GivenArguments BoundedValue → Arguments
+arguments_of given = record { slots = slots_in given.slots.items; specials = specials_in given.specials.items }
+
+-- each argument was put to its parameter, and the same parameters were given values
+abbrev pub IsFilledAs : Result (List (Option ℕ)) Place → Slots → Type 0
+IsFilledAs (Ok numbers) slots = map is_some numbers ≡ map is_some slots
+IsFilledAs (Err at) slots = ⊥
+
+-- what a source holds by number, and whether it is the text of a program
+abbrev pub source_text : Source → NumberedText
+source_text source = text_held source.blocks
+
+abbrev pub IsTextOf : Source → List StatementTerm → Type 0
+IsTextOf source program = source_text source ≡ numbered_text program
+
+-- a scope with what its numbers stand for
+abbrev pub seen : Source → List Row → ℕ → Env
+seen source rows scope = env_in (source_text source) (env_of rows scope)
+
+-- each number of a function in the table of scopes is that of a function of the program
+abbrev pub IsNumbered : Source → List Row → Type 0
+IsNumbered source rows = IsTrue (functions_below (length (source_text source).functions) rows)
+
+-- a function and the number of the scope in which it stands, or none
+abbrev pub IsFunctionFound : Source → List Row → Option (Function × Env) → Option (FunctionLent × ℕ) → Type 0
+IsFunctionFound source rows wanted None = wanted ≡ None
+IsFunctionFound source rows wanted (Some found) = wanted ≡ Some (function_of found.0, seen source rows found.1)
+
+abbrev pub IsModuleFound : Source → List Row → Option (Module × Env) → Option (ModuleLent × ℕ) → Type 0
+IsModuleFound source rows wanted None = wanted ≡ None
+IsModuleFound source rows wanted (Some found) = wanted ≡ Some (module_of found.0, seen source rows found.1)
+
+-- a call with the statements that are its children and the scope of its caller, or none
+abbrev pub IsCallFound : NumberedText → List Row → Opened → Option ModuleCall → Type 0
+IsCallFound text rows wanted None = wanted ≡ no_call
+IsCallFound text rows wanted (Some call) = wanted ≡ opened (statements_at text call.children) (env_in text (env_of rows call.caller))
+
+-- the greatest depth of a function's value and of its defaults
+abbrev pub param_size : Param → ℕ
+param_size (Plain at name) = 0
+param_size (WithDefault at name value) = size-Expr value
+
+abbrev pub params_size : List Param → ℕ
+params_size [] = 0
+params_size (p ∷ ps) = max (param_size p) (params_size ps)
+
+abbrev pub function_size : FunctionLent → ℕ
+function_size f = max (size-Expr f.value.now) (params_size f.params.now.items.items)
+
+abbrev pub deepest : List FunctionLent → ℕ
+deepest [] = 0
+deepest (f ∷ fs) = max (function_size f) (deepest fs)
+
+-- what is indexed: the value of a variable, or a value that was made
+abbrev pub or_undef : Option Val → Val
+or_undef (Some v) = v
+or_undef None = UndefVal
+
+abbrev pub indexed_val : NumberedEnv → Indexed → Val
+indexed_val env (Variable name) = or_undef (variable_in env name.now)
+indexed_val env (Made v) = bounded_val v
+
+abbrev pub IsThere : NumberedEnv → Indexed → Type 0
+IsThere env (Variable name) = IsTrue (is_some (variable_in env name.now))
+IsThere env (Made v) = Unit {0}

@@ -1,0 +1,207 @@
+ghost use Rattle.std.specs.Prelude.{◌≡◌, ◌<◌, ◌≤◌, ◌+◌, [], ◌∷◌, ◌++◌, length, map, IfOk, IfErr, IfSome, OnOk, OnErr};
+ghost use Rattle.scad_ast.specs.StatementView.{params_of, body_of};
+ghost use Rattle.scad_value.specs.BoundedView.{bounded_val};
+ghost use Rattle.scad_scope.specs.Names.{oldest};
+ghost use Rattle.scad_arguments.specs.Arguments.{names_of};
+ghost use Rattle.scad_scope.specs.Table.{rows_of, chain_of};
+ghost use Rattle.scad_blocks.specs.Blocks.{assignments_of};
+ghost use Rattle.scad_blocks.specs.TextView.{assigned_of};
+ghost use Rattle.scad_evaluation.specs.Meaning.{Within, call_in, module_in, no_call, opened, with_variable, with_values};
+ghost use Rattle.scad_evaluation.specs.View.{IsCallFound, IsModuleFound, IsNoMemory, specials_in, values_seen, seen, source_text};
+ghost use Rattle.scad_evaluation.specs.Definitions.{statements_at, block_scope, IsBlockOf, IsWhole};
+ghost use Rattle.scad_evaluation.specs.Evaluations.{Keeps, SameSetting, ScopeEnters, SpecialsBegin, BindsIn, scopes_there, scope_here};
+
+use crate::bind::{bind_all, bind_one};
+use crate::evaluation::Evaluation;
+use crate::functions::find_module;
+use crate::specials::bind_specials;
+use crate::values::BoundedValues;
+use scad_ast::Params;
+use scad_scope::{Assignment, Module, ModuleCall, SpecialArgument};
+use scad_value::BoundedValue;
+use text_place::{NoMemory, Stop};
+
+impl<'a> Evaluation<'a, '_> {
+    /// The module that a name stands for, the newest of its name from the scope outward, with its body's block,
+    /// and the number of the scope in which it stands. None where no scope outward has one.
+    pub fn module(&self, name: &[u8]) -> Option<(Module<'a>, u32)>
+        ensures found { IsModuleFound self.now.source.now (rows_of self.now.scopes.now) (module_in (scope_here self.now) name.now) result }
+        ensures there { IfSome result (λ found. found.1 < scopes_there self.now) }
+        ensures body { IsWhole (source_text self.now.source.now) →
+            IfSome result (λ found. IsBlockOf (source_text self.now.source.now) found.0.block (body_of found.0.body.now)) }
+    {
+        find_module(self.source, self.scopes, self.scope, name)
+    }
+
+    /// The assignments of a block, each name once, in the order of the text: a name that is assigned more than
+    /// once has the place of its first assignment and the expression of its last. A block that isn't there has
+    /// none.
+    pub fn assignments(&self, block: u32) -> &'a [Assignment<'a>]
+        ensures { IsWhole (source_text self.now.source.now) →
+            map assigned_of result.now ≡ assignments_of (statements_at (source_text self.now.source.now) block) }
+    {
+        let blocks = &self.source.blocks;
+        if (block as usize) < blocks.count() {
+            return blocks.assignments(block);
+        }
+        &[]
+    }
+
+    /// Enters a new scope of a block inside an outer scope, and answers the scope in which was evaluated before.
+    /// `NoMemory` leaves all as it was.
+    pub fn enter_body(&mut self, outer: u32, block: u32) -> Result<u32, NoMemory>
+        requires { outer < scopes_there self.old }
+        ensures entered { IfOk result (ScopeEnters self.old self.new) }
+        ensures inside { OnOk result (scope_here self.new
+            ≡ block_scope (source_text self.old.source.now) block no_call (seen self.old.source.now (rows_of self.old.scopes.now) outer)) }
+        ensures kept { OnErr result (Keeps self.old self.new) }
+        ensures turns { self.new.turns ≡ self.old.turns }
+    {
+        let source = self.source;
+        let before = self.scope;
+        self.scope = self.scopes.enter(self.alloc, outer, &source.blocks, block)?;
+        Ok(before)
+    }
+
+    /// Enters a new scope without definitions inside the one in which is evaluated, and answers that one: a scope in
+    /// which a loop binds a variable. `NoMemory` leaves all as it was.
+    pub fn enter_empty(&mut self) -> Result<u32, NoMemory>
+        ensures entered { IfOk result (ScopeEnters self.old self.new) }
+        ensures inside { OnOk result (scope_here self.new ≡ Within [] [] [] no_call (scope_here self.old)) }
+        ensures kept { OnErr result (Keeps self.old self.new) }
+        ensures turns { self.new.turns ≡ self.old.turns }
+    {
+        let before = self.scope;
+        self.scope = self.scopes.enter_empty(self.alloc, before)?;
+        Ok(before)
+    }
+
+    /// Enters a new scope of a module's body inside the scope of the definition, as the scope of a call with its
+    /// children's block, and answers the scope in which was evaluated before, the caller's. `NoMemory` leaves all
+    /// as it was.
+    pub fn enter_call(&mut self, home: u32, block: u32, children: u32) -> Result<u32, NoMemory>
+        requires { home < scopes_there self.old }
+        ensures entered { IfOk result (ScopeEnters self.old self.new) }
+        ensures inside { OnOk result (scope_here self.new
+            ≡ block_scope (source_text self.old.source.now) block
+            (opened (statements_at (source_text self.old.source.now) children) (scope_here self.old))
+            (seen self.old.source.now (rows_of self.old.scopes.now) home)) }
+        ensures kept { OnErr result (Keeps self.old self.new) }
+        ensures turns { self.new.turns ≡ self.old.turns }
+    {
+        let source = self.source;
+        let caller = self.scope;
+        let call = ModuleCall { children, caller };
+        self.scope = self
+            .scopes
+            .enter_call(self.alloc, home, &source.blocks, block, call)?;
+        Ok(caller)
+    }
+
+    /// Leaves the scope in which is evaluated, which was entered and is the newest, to the one in which was evaluated
+    /// before.
+    pub fn leave(&mut self, before: u32)
+        requires { before < self.old.scope }
+        ensures back { (first : Evaluation) → ScopeEnters first self.old before → Keeps first self.new }
+        ensures turns { self.new.turns ≡ self.old.turns }
+    {
+        let newest = self.scope;
+        self.scope = before;
+        self.scopes.leave(newest);
+    }
+
+    /// Gives a name a value in the scope in which is evaluated, which is the newest. `NoMemory` leaves all as it was.
+    pub fn bind(&mut self, name: &[u8], value: BoundedValue) -> Result<(), NoMemory>
+        requires { self.old.scope + 1 ≡ scopes_there self.old }
+        ensures bound { OnOk result (scope_here self.new ≡ with_variable name.now (bounded_val value) (scope_here self.old)) }
+        ensures binds { BindsIn self.old self.new }
+        ensures kept { OnErr result (Keeps self.old self.new) }
+    {
+        bind_one(self.alloc, self.scopes, self.scope, name, value)
+    }
+
+    /// Gives parameters their values in the scope in which is evaluated, which is the newest. `NoMemory` leaves some of
+    /// them.
+    pub fn bind_parameters(
+        &mut self,
+        params: &Params,
+        values: BoundedValues,
+    ) -> Result<(), NoMemory>
+        requires newest { self.old.scope + 1 ≡ scopes_there self.old }
+        requires count { length values.items.items ≡ length params.now.items.items }
+        ensures bound { OnOk result (scope_here self.new ≡ with_values (names_of (params_of params.now)) (values_seen values) (scope_here self.old)) }
+        ensures binds { BindsIn self.old self.new }
+    {
+        bind_all(self.alloc, self.scopes, self.scope, params, values)
+    }
+
+    /// Puts special arguments on the chain, and answers its length before. `NoMemory` leaves all as it was.
+    pub fn begin_specials(
+        &mut self,
+        specials: Vec<SpecialArgument<'_, BoundedValue>>,
+    ) -> Result<u32, Stop>
+        ensures begun { IfOk result (SpecialsBegin self.old self.new) }
+        ensures chain { OnOk result (chain_of self.new.scopes.now ≡ specials_in specials.entry.items ++ chain_of self.old.scopes.now) }
+        ensures stop { IfErr result IsNoMemory }
+        ensures kept { OnErr result (Keeps self.old self.new) }
+        ensures turns { self.new.turns ≡ self.old.turns }
+    {
+        let length = self.scopes.chain_length();
+        if length > u32::MAX as usize {
+            return Err(Stop::NoMemory);
+        }
+        let length = length as u32;
+        match bind_specials(self.alloc, self.scopes, specials) {
+            Ok(()) => Ok(length),
+            Err(stop) => {
+                self.scopes.unwind(length);
+                Err(stop)
+            }
+        }
+    }
+
+    /// Gives a special name a value, as the newest of the chain, and answers its length before. `NoMemory`
+    /// leaves all as it was.
+    pub fn bind_special(&mut self, name: &[u8], value: BoundedValue) -> Result<u32, NoMemory>
+        ensures begun { IfOk result (SpecialsBegin self.old self.new) }
+        ensures chain { OnOk result (chain_of self.new.scopes.now ≡ (name.now, bounded_val value) ∷ chain_of self.old.scopes.now) }
+        ensures kept { OnErr result (Keeps self.old self.new) }
+        ensures same { SameSetting self.old self.new }
+        ensures rows { rows_of self.new.scopes.now ≡ rows_of self.old.scopes.now }
+        ensures turns { self.new.turns ≡ self.old.turns }
+    {
+        self.scopes.bind_special(self.alloc, name, value.value)
+    }
+
+    /// How many special names there are. `NoMemory` where they are 2^32 or more.
+    pub fn chain_length(&self) -> Result<u32, NoMemory>
+        ensures { IfOk result (λ n. n ≡ length (chain_of self.now.scopes.now)) }
+    {
+        let length = self.scopes.chain_length();
+        if length > u32::MAX as usize {
+            return Err(NoMemory);
+        }
+        Ok(length as u32)
+    }
+
+    /// Takes special names from the chain, to where they were put on it.
+    pub fn end_specials(&mut self, to: u32)
+        requires { to ≤ length (chain_of self.old.scopes.now) }
+        ensures back { (first : Evaluation) → SpecialsBegin first self.old to → Keeps first self.new }
+        ensures same { SameSetting self.old self.new }
+        ensures rows { rows_of self.new.scopes.now ≡ rows_of self.old.scopes.now }
+        ensures chain { chain_of self.new.scopes.now ≡ oldest to (chain_of self.old.scopes.now) }
+        ensures turns { self.new.turns ≡ self.old.turns }
+    {
+        self.scopes.unwind(to);
+    }
+
+    /// The innermost call of a module whose scope is the one in which is evaluated or stands around it, with the block of
+    /// its children and the scope of its caller.
+    pub fn enclosing_call(&self) -> Option<ModuleCall>
+        ensures value { IsCallFound (source_text self.now.source.now) (rows_of self.now.scopes.now) (call_in (scope_here self.now)) result }
+        ensures there { IfSome result (λ call. call.caller < scopes_there self.now) }
+    {
+        self.scopes.call_of(self.scope)
+    }
+}
