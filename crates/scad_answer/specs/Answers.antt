@@ -8,15 +8,17 @@ use Rattle.scad_ast.specs.declared.operator.BinaryOp.TheVariants.{Or, And}
 use Rattle.scad_value.specs.Values.{Val, NumberVal, RangeVal, truth_of}
 use Rattle.scad_value.specs.Operators.{Answer}
 
--- the range of two and of three values
+-- the range of two values, by a step of 1
 abbrev pub range_of : Val → Val → Answer Val
 range_of (NumberVal from) (NumberVal to) = if int_lt to from then Err RangeOrder else Ok (RangeVal from (pos 1) to)
 range_of v w = Err TypeMismatch
 
+-- a range by a step, which must not be 0
 abbrev pub stepped : ℤ → ℤ → ℤ → Answer Val
 stepped from (pos zero) to = Err RangeOrder
 stepped from step to = Ok (RangeVal from step to)
 
+-- the range of three values, of which the second is the step
 abbrev pub stepped_range_of : Val → Val → Val → Answer Val
 stepped_range_of (NumberVal from) (NumberVal step) (NumberVal to) = stepped from step to
 stepped_range_of u v w = Err TypeMismatch

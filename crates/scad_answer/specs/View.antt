@@ -12,10 +12,10 @@ use Rattle.scad_value.specs.Values.{Val}
 use Rattle.scad_value.specs.Operators.{Answer}
 
 -- an operator's answer, with its faults at a place
-abbrev pub TellsAnswer : Result BoundedValue Stop → Answer Val → Place → Type 0
-TellsAnswer (Ok v) answer at = answer ≡ Ok (bounded_val v)
-TellsAnswer (Err (Fault fault)) answer at = (answer ≡ Err fault.kind) × (fault.place ≡ at)
-TellsAnswer (Err NoMemory) answer at = Unit {0}
+abbrev pub MeetsAnswerAt : Result BoundedValue Stop → Answer Val → Place → Type 0
+MeetsAnswerAt (Ok v) answer at = answer ≡ Ok (bounded_val v)
+MeetsAnswerAt (Err (Fault fault)) answer at = (answer ≡ Err fault.kind) × (fault.place ≡ at)
+MeetsAnswerAt (Err NoMemory) answer at = Unit {0}
 
 -- the value alone, or the stop
 abbrev pub IsAlone : Result BoundedValue Stop → Result Value Stop → Type 0

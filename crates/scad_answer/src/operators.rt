@@ -4,7 +4,7 @@ ghost use Rattle.scad_value.specs.Operators.{Answer, binary_of, unary_of};
 ghost use Rattle.scad_value.specs.View.{MeetsAnswer, GivesBounded};
 ghost use Rattle.scad_value.specs.BoundedView.{bounded_val};
 ghost use Rattle.scad_answer.specs.Answers.{wants_right as wants_right_at};
-ghost use Rattle.scad_answer.specs.View.{TellsAnswer};
+ghost use Rattle.scad_answer.specs.View.{MeetsAnswerAt};
 
 // A value is lent where something can still fail: what is held there would be dropped on each way out, and each way
 // would be proved with a drop of a type as deep as values are.
@@ -17,7 +17,7 @@ use text_place::{Place, Stop};
 /// An operator's answer, with its faults at a place.
 pub fn placed(answer: Result<Value, ValueStop>, place: Place) -> Result<BoundedValue, Stop>
     requires { GivesBounded answer }
-    ensures { (wanted : Answer Val) → MeetsAnswer answer wanted → TellsAnswer result wanted place }
+    ensures { (wanted : Answer Val) → MeetsAnswer answer wanted → MeetsAnswerAt result wanted place }
 {
     match answer {
         Ok(value) => Ok(BoundedValue { value }),
@@ -35,11 +35,12 @@ pub fn binary_value(
     right: BoundedValue,
     place: Place,
 ) -> Result<BoundedValue, Stop>
-    ensures { TellsAnswer result (binary_of op (bounded_val left) (bounded_val right)) place }
+    ensures { MeetsAnswerAt result (binary_of op (bounded_val left) (bounded_val right)) place }
 {
     binary_of_lent(alloc, op, &left, &right, place)
 }
 
+// The value of an operator of two sides, which are lent.
 fn binary_of_lent(
     alloc: Global,
     op: BinaryOp,
@@ -47,7 +48,7 @@ fn binary_of_lent(
     right: &BoundedValue,
     place: Place,
 ) -> Result<BoundedValue, Stop>
-    ensures { TellsAnswer result (binary_of op (bounded_val left.now) (bounded_val right.now)) place }
+    ensures { MeetsAnswerAt result (binary_of op (bounded_val left.now) (bounded_val right.now)) place }
 {
     placed(binary(alloc, op, &left.value, &right.value), place)
 }
@@ -60,18 +61,19 @@ pub fn unary_value(
     of: BoundedValue,
     place: Place,
 ) -> Result<BoundedValue, Stop>
-    ensures { TellsAnswer result (unary_of op (bounded_val of)) place }
+    ensures { MeetsAnswerAt result (unary_of op (bounded_val of)) place }
 {
     unary_of_lent(alloc, op, &of, place)
 }
 
+// The value of an operator before its operand, which is lent.
 fn unary_of_lent(
     alloc: Global,
     op: UnaryOp,
     of: &BoundedValue,
     place: Place,
 ) -> Result<BoundedValue, Stop>
-    ensures { TellsAnswer result (unary_of op (bounded_val of.now)) place }
+    ensures { MeetsAnswerAt result (unary_of op (bounded_val of.now)) place }
 {
     placed(unary(alloc, op, &of.value), place)
 }

@@ -1,6 +1,6 @@
 ghost use Rattle.scad_value.specs.BoundedView.{bounded_val};
 ghost use Rattle.scad_answer.specs.Answers.{range_of, stepped_range_of};
-ghost use Rattle.scad_answer.specs.View.{TellsAnswer};
+ghost use Rattle.scad_answer.specs.View.{MeetsAnswerAt};
 
 use scad_value::{BoundedValue, Value};
 use text_place::{FaultKind, Place, Stop};
@@ -12,17 +12,18 @@ pub fn range_value(
     upto: BoundedValue,
     place: Place,
 ) -> Result<BoundedValue, Stop>
-    ensures { TellsAnswer result (range_of (bounded_val from) (bounded_val upto)) place }
+    ensures { MeetsAnswerAt result (range_of (bounded_val from) (bounded_val upto)) place }
 {
     range_between(&from, &upto, place)
 }
 
+// The range of two values, which are lent.
 fn range_between(
     from: &BoundedValue,
     upto: &BoundedValue,
     place: Place,
 ) -> Result<BoundedValue, Stop>
-    ensures { TellsAnswer result (range_of (bounded_val from.now) (bounded_val upto.now)) place }
+    ensures { MeetsAnswerAt result (range_of (bounded_val from.now) (bounded_val upto.now)) place }
 {
     match (&from.value, &upto.value) {
         (Value::Number(a), Value::Number(b)) => {
@@ -49,18 +50,19 @@ pub fn stepped_range_value(
     upto: BoundedValue,
     place: Place,
 ) -> Result<BoundedValue, Stop>
-    ensures { TellsAnswer result (stepped_range_of (bounded_val from) (bounded_val by) (bounded_val upto)) place }
+    ensures { MeetsAnswerAt result (stepped_range_of (bounded_val from) (bounded_val by) (bounded_val upto)) place }
 {
     range_by_steps(&from, &by, &upto, place)
 }
 
+// The range of three values, which are lent.
 fn range_by_steps(
     from: &BoundedValue,
     by: &BoundedValue,
     upto: &BoundedValue,
     place: Place,
 ) -> Result<BoundedValue, Stop>
-    ensures { TellsAnswer result (stepped_range_of (bounded_val from.now) (bounded_val by.now) (bounded_val upto.now)) place }
+    ensures { MeetsAnswerAt result (stepped_range_of (bounded_val from.now) (bounded_val by.now) (bounded_val upto.now)) place }
 {
     match (&from.value, &by.value, &upto.value) {
         (Value::Number(a), Value::Number(s), Value::Number(b)) => {

@@ -13,15 +13,15 @@ use Rattle.scad_arguments.specs.ArgumentsView.{taker_seen}
 use Rattle.scad_arguments.specs.declared.parameters.Destination.{Destination}
 use Rattle.scad_arguments.specs.declared.parameters.Destination.TheVariants.{Parameter, Special}
 use Rattle.std.proofs.lemmas.List.{length-set}
-use Rattle.scad_arguments.specs.Lookup.{numbered_from, names_told, is_told, taken_after}
+use Rattle.scad_arguments.specs.Lookup.{numbered_from, names_of_pairs, is_among, taken_after}
 
 -- a name is found where it is one of the names
-pub told_found : {A : Type 0} (ps : Pairs A) (name : List ℕ) → is_some (find_in ps name) ≡ is_told (names_told ps) name
+pub told_found : {A : Type 0} (ps : Pairs A) (name : List ℕ) → is_some (find_in ps name) ≡ is_among (names_of_pairs ps) name
 told_found [] name = refl
 told_found (p ∷ ps) name = by_name (bytes_eq p.0 name) (told_found ps name)
   where
-    by_name : (b : Bool) → is_some (find_in ps name) ≡ is_told (names_told ps) name
-        → is_some (cond b (Some p.1) (find_in ps name)) ≡ cond b true (is_told (names_told ps) name)
+    by_name : (b : Bool) → is_some (find_in ps name) ≡ is_among (names_of_pairs ps) name
+        → is_some (cond b (Some p.1) (find_in ps name)) ≡ cond b true (is_among (names_of_pairs ps) name)
     by_name true rest = refl
     by_name false rest = rest
 
@@ -99,7 +99,7 @@ lent_found (Some x) = refl
 
 -- an argument that something takes adds its special name alone, and fills a slot that is there
 pub names_taken : {T : Type 0} (given : Given T) (d : Destination) (x : T)
-    → names_told (with_argument given (taker_seen d) x).specials ≡ taken_after (names_told given.specials) d
+    → names_of_pairs (with_argument given (taker_seen d) x).specials ≡ taken_after (names_of_pairs given.specials) d
 names_taken given (Parameter number) x = refl
 names_taken given (Special name) x = refl
 

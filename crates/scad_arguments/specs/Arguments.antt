@@ -8,10 +8,12 @@ use Rattle.text_place.specs.declared.fault.FaultKind.TheVariants.{BadArgument}
 use Rattle.scad_ast.specs.Terms.{place_of, ParamTerm, PlainTerm, DefaultTerm, ArgTerm, NamedTerm, SpecialArgTerm, PositionalTerm}
 use Rattle.newest_names.specs.Newest.{Pairs, find_in, next}
 
+-- the name of a parameter
 abbrev pub name_of : ParamTerm → List ℕ
 name_of (PlainTerm at name) = name
 name_of (DefaultTerm at name value) = name
 
+-- the names of parameters in order
 abbrev pub names_of : List ParamTerm → List (List ℕ)
 names_of = map name_of
 
@@ -28,6 +30,7 @@ taken_by names positional (PositionalTerm value) = if nat_lt positional (length 
 taken_by names positional (NamedTerm at name value) = first_named names name
 taken_by names positional (SpecialArgTerm at name value) = None
 
+-- how many positional arguments there are with this one
 abbrev pub positional_after : ℕ → ArgTerm → ℕ
 positional_after positional (PositionalTerm value) = positional + 1
 positional_after positional (NamedTerm at name value) = positional
@@ -78,9 +81,9 @@ or_place (Some taker) place go = go taker
 -- The numbers of the arguments from this number on, put to what takes them, or the place of the first that nothing takes.
 abbrev pub matched : List (List ℕ) → ℕ → ℕ → List ArgTerm → Given ℕ → Result (Given ℕ) Place
 matched names number positional [] given = Ok given
-matched names number positional (a ∷ args) given =
-    or_place (taker_of names positional given a) (argument_place a) (λ taker.
-    matched names (number + 1) (positional_after positional a) args (with_argument given taker number))
+matched names number positional (arg ∷ args) given =
+    or_place (taker_of names positional given arg) (argument_place arg) (λ taker.
+    matched names (number + 1) (positional_after positional arg) args (with_argument given taker number))
 
 -- for each parameter the number of its argument, or none
 abbrev pub only_slots : Result (Given ℕ) Place → Result (List (Option ℕ)) Place
@@ -92,10 +95,10 @@ abbrev pub matching_of : List (List ℕ) → List ArgTerm → Result (List (Opti
 matching_of names args = only_slots (matched names 0 0 args (nothing_given (length names)))
 
 -- the matching, or a fault at an argument's place, unless memory ran out
-abbrev pub TellsMatching : Result (List (Option ℕ)) Stop → Result (List (Option ℕ)) Place → Type 0
-TellsMatching (Ok slots) out = out ≡ Ok slots
-TellsMatching (Err (Fault fault)) out = (fault.kind ≡ BadArgument) × (out ≡ Err fault.place)
-TellsMatching (Err NoMemory) out = Unit {0}
+abbrev pub MeetsMatching : Result (List (Option ℕ)) Stop → Result (List (Option ℕ)) Place → Type 0
+MeetsMatching (Ok slots) out = out ≡ Ok slots
+MeetsMatching (Err (Fault fault)) out = (fault.kind ≡ BadArgument) × (out ≡ Err fault.place)
+MeetsMatching (Err NoMemory) out = Unit {0}
 
 -- a number after so many others
 abbrev pub later : ℕ → Option ℕ → Option ℕ

@@ -29,10 +29,11 @@ abbrev pub names_in : Names → List (List ℕ)
 names_in (Params params) = names_of (map param_of params.now)
 names_in (Listed names) = names_seen names.now
 
--- special arguments; in memory the newest is the last one
+-- a special argument with its name
 abbrev pub special_pair : {T : Type 0} → SpecialArgument T → List ℕ × T
 special_pair special = (special.name.now, special.value)
 
+-- special arguments with their names, the newest first; in memory it is the last one
 abbrev pub special_pairs : {T : Type 0} → List (SpecialArgument T) → Pairs T
 special_pairs specials = reverse (map special_pair specials)
 
@@ -45,6 +46,7 @@ abbrev pub taker_seen : Destination → Taker
 taker_seen (Parameter number) = to_parameter number
 taker_seen (Special name) = to_special name.now
 
+-- what takes an argument, if something does
 abbrev pub takers_seen : Option Destination → Option Taker
 takers_seen None = None
 takers_seen (Some target) = Some (taker_seen target)

@@ -11,15 +11,15 @@ numbered_from i [] = []
 numbered_from i (n ∷ ns) = (n, i) ∷ numbered_from (i + 1) ns
 
 -- the names of pairs
-abbrev pub names_told : {A : Type 0} → Pairs A → List (List ℕ)
-names_told pairs = map (λ p. p.0) pairs
+abbrev pub names_of_pairs : {A : Type 0} → Pairs A → List (List ℕ)
+names_of_pairs pairs = map (λ p. p.0) pairs
 
 -- whether a name is one of these
-abbrev pub is_told : List (List ℕ) → List ℕ → Bool
-is_told [] name = false
-is_told (n ∷ ns) name = if bytes_eq n name then true else is_told ns name
+abbrev pub is_among : List (List ℕ) → List ℕ → Bool
+is_among [] name = false
+is_among (n ∷ ns) name = if bytes_eq n name then true else is_among ns name
 
 -- special names behind an argument that something takes
 abbrev pub taken_after : List (List ℕ) → Destination → List (List ℕ)
-taken_after told (Parameter number) = told
-taken_after told (Special name) = name.now ∷ told
+taken_after names (Parameter number) = names
+taken_after names (Special name) = name.now ∷ names

@@ -2,7 +2,7 @@ ghost use Rattle.std.specs.Prelude.{◌≡◌, ◌<◌, ℕ, List, [], length, I
 ghost use Rattle.newest_names.specs.Names.{newest_first};
 ghost use Rattle.scad_arguments.specs.Arguments.{first_named as first_of};
 ghost use Rattle.scad_arguments.specs.ArgumentsView.{names_in};
-ghost use Rattle.scad_arguments.specs.Lookup.{is_told, names_told, numbered_from, taken_after};
+ghost use Rattle.scad_arguments.specs.Lookup.{is_among, names_of_pairs, numbered_from, taken_after};
 
 use crate::parameters::{Destination, Names, count_of, name_at};
 use newest_names::NameList;
@@ -31,7 +31,7 @@ impl NameIndex {
 
     /// Whether a special name is there.
     pub(crate) fn has_special(&self, name: &[u8]) -> bool
-        ensures { result ≡ is_told (names_told (newest_first self.now.specials)) name.now }
+        ensures { result ≡ is_among (names_of_pairs (newest_first self.now.specials)) name.now }
     {
         self.specials.find(name).is_some()
     }
@@ -43,8 +43,8 @@ impl NameIndex {
         destination: Destination<'_>,
     ) -> Result<(), NoMemory>
         ensures parameters { self.new.parameters ≡ self.old.parameters }
-        ensures added { OnOk result (names_told (newest_first self.new.specials)
-            ≡ taken_after (names_told (newest_first self.old.specials)) destination.entry) }
+        ensures added { OnOk result (names_of_pairs (newest_first self.new.specials)
+            ≡ taken_after (names_of_pairs (newest_first self.old.specials)) destination.entry) }
     {
         match destination {
             Destination::Parameter(_) => Ok(()),

@@ -1,10 +1,9 @@
-ghost use Rattle.std.specs.Prelude.{◌≡◌, ℕ, ◌+◌, ◌^◌, ◌<◌, ◌≤◌, length, map, replicate, Some, None, slice_index_or, [], is_some, if◌then◌else◌, IfSome, IfOk, IfErr};
-ghost use Rattle.text_place.specs.declared.fault.FaultKind.TheVariants.{BadArgument};
+ghost use Rattle.std.specs.Prelude.{◌≡◌, ℕ, ◌+◌, ◌^◌, ◌<◌, ◌≤◌, length, map, replicate, Some, None, slice_index_or, [], is_some, if◌then◌else◌, IfSome, IfOk};
 ghost use Rattle.scad_ast.specs.ExprView.{arg_of};
 ghost use Rattle.scad_ast.specs.StatementView.{param_of};
 ghost use Rattle.newest_names.specs.Newest.{find_in};
-ghost use Rattle.scad_arguments.specs.Arguments.{name_of as name_at, names_of, first_named as first_of, taken_by as taken_at, argument_place as place_at, positional_after as positional_at, matching_of, nothing_given as nothing_at, unless_filled, taker_of, to_special, TellsMatching};
-ghost use Rattle.scad_arguments.specs.ArgumentsView.{names_seen, names_in, special_pairs, given_of, taker_seen, takers_seen, IsTakerThere, IsGiven, IsFaultAt};
+ghost use Rattle.scad_arguments.specs.Arguments.{name_of as name_at, names_of, first_named as first_of, argument_place as place_at, positional_after as positional_at, matching_of, nothing_given as nothing_at, unless_filled, MeetsMatching};
+ghost use Rattle.scad_arguments.specs.ArgumentsView.{names_seen, names_in, special_pairs, given_of, takers_seen, IsTakerThere, IsGiven};
 
 use crate::so_far::ArgumentsSoFar;
 use scad_ast::{Arg, Param};
@@ -83,7 +82,7 @@ pub fn arguments(
     _place: Place,
 ) -> Result<Matching, Stop>
     ensures size { IfOk result (λ m. length m ≡ length params.now) }
-    ensures value { TellsMatching result (matching_of (names_of (map param_of params.now)) (map arg_of args.now)) }
+    ensures value { MeetsMatching result (matching_of (names_of (map param_of params.now)) (map arg_of args.now)) }
 {
     let mut so_far = ArgumentsSoFar::of(alloc, Names::Params(params), args)?;
     let mut positional: usize = 0;
@@ -123,6 +122,7 @@ pub(crate) fn nothing_given<'a, T: Drop>(
     })
 }
 
+// A slot without anything for each of so many parameters.
 fn no_slots<T: Drop>(alloc: Global, params: usize) -> Result<Vec<Option<T>>, NoMemory>
     ensures { IfOk result (λ slots. slots.items ≡ replicate params None) }
 {
@@ -174,6 +174,7 @@ pub(crate) fn first_named(names: Names<'_>, name: &[u8]) -> Option<usize>
     }
 }
 
+// The first parameter of a name, of a definition of the source.
 fn first_param(params: &[Param], name: &[u8]) -> Option<usize>
     ensures value { result ≡ first_of (names_of (map param_of params.now)) name.now }
     ensures within { IfSome result (λ k. k < length params.now) }
@@ -186,6 +187,7 @@ fn first_param(params: &[Param], name: &[u8]) -> Option<usize>
     None
 }
 
+// The first of these names that is a name.
 fn first_listed(names: &[&[u8]], name: &[u8]) -> Option<usize>
     ensures value { result ≡ first_of (names_seen names.now) name.now }
     ensures within { IfSome result (λ k. k < length names.now) }

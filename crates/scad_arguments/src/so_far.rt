@@ -2,7 +2,7 @@ ghost use Rattle.std.specs.Prelude.{◌≡◌, length};
 ghost use Rattle.std.specs.Option.{ForSome};
 ghost use Rattle.newest_names.specs.Names.{newest_first};
 ghost use Rattle.scad_arguments.specs.ArgumentsView.{names_in, special_pairs};
-ghost use Rattle.scad_arguments.specs.Lookup.{names_told, numbered_from};
+ghost use Rattle.scad_arguments.specs.Lookup.{names_of_pairs, numbered_from};
 
 use crate::lookup::{NameIndex, are_many, index_of};
 use crate::parameters::{
@@ -24,7 +24,7 @@ pub struct ArgumentsSoFar<'n, 'a, T> {
     pub(crate) index: Option<Box<NameIndex>>,
     ghost one_slot_each: { length given.slots.items ≡ length (names_in names) },
     ghost parameters_indexed: { ForSome index (λ index. newest_first index.value.parameters ≡ numbered_from 0 (names_in names)) },
-    ghost specials_indexed: { ForSome index (λ index. names_told (newest_first index.value.specials) ≡ names_told (special_pairs given.specials.items)) },
+    ghost specials_indexed: { ForSome index (λ index. names_of_pairs (newest_first index.value.specials) ≡ names_of_pairs (special_pairs given.specials.items)) },
 }
 
 impl<'n, 'a, T: Drop> ArgumentsSoFar<'n, 'a, T> {
@@ -54,7 +54,7 @@ impl<'n, 'a, T: Drop> ArgumentsSoFar<'n, 'a, T> {
         })
     }
 
-    /// What takes an argument behind others. BadArgument at its first token where nothing does. Takes no memory.
+    /// What takes an argument behind others. BadArgument at its first token where nothing does.
     pub fn destination_for(&self, positional: usize, arg: &'a Arg) -> Result<Destination<'a>, Stop>
         ensures free { IfOk result (λ t. taker_of (names_in self.now.names) positional (given_of self.now.given) (arg_of arg.now) ≡ Some (taker_seen t)) }
         ensures within { IfOk result (IsTakerThere (length self.now.given.slots.items)) }
@@ -150,6 +150,7 @@ impl<'n, 'a, T: Drop> ArgumentsSoFar<'n, 'a, T> {
         }
     }
 
+    // Arguments of which one more gives a value, with its special name in the index.
     fn with_value(self, alloc: Global, destination: Destination<'a>, value: T) -> Result<Self, Stop>
         requires { IsTakerThere (length self.given.slots.items) destination }
         ensures given { IsGiven self.entry.given destination.entry (Ok value) (only_given result) }

@@ -4,7 +4,7 @@ use Rattle.scad_ast.specs.Terms.{StatementTerm, EmptyStatement, BlockStatement, 
 use Rattle.scad_ast.specs.declared.statement.Statement.{Statement}
 use Rattle.scad_ast.specs.StatementView.{statement_of}
 use Rattle.scad_ast.specs.Counts.{begun_by, begun_in, begun_by_instance, begun_by_core, begun_by_body}
-use Rattle.scad_blocks.specs.Blocks.{Beginning, a_block, a_function, a_module, beginnings_of, beginnings_in, beginnings_of_instance, beginnings_of_core, beginnings_of_body, no_own, Entry, entry_at, NumberedText}
+use Rattle.scad_blocks.specs.Blocks.{Beginning, a_block, a_function, a_module, beginnings_of, beginnings_in, beginnings_of_instance, beginnings_of_core, beginnings_of_body, no_own, SourceBlock, entry_at, NumberedText}
 use Rattle.scad_blocks.specs.Walk.{numbered, with_beginning, after, with_text}
 use Rattle.scad_blocks.proofs.Scans.{statements_here}
 
@@ -51,7 +51,7 @@ numbered_after w (beginning ∷ beginnings) = omega (arith, numbered_after (with
 
 pub numbered_begun : (w : NumberedText) (s : StatementTerms) → numbered (with_text w s) ≡ numbered w + 1
 numbered_begun w s =
-    let e : Entry = record { statements = s; own = no_own; behind = 0 } in
+    let e : SourceBlock = record { statements = s; own = no_own; behind = 0 } in
     omega (arith, length-append w.entries (e ∷ []))
 
 -- a statement of those that are left has room where all of them have

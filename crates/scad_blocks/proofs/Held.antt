@@ -2,9 +2,9 @@
 use Rattle.std.proofs.Common.{◌≡◌, ℕ, zero, suc, ◌<◌, List, [], ◌∷◌, ◌++◌, length, map, get_or, set, Bool, true, false, cond, Option, Some, None, refl, sym, ap, subst, ◌∙◌, arith}
 use Rattle.std.proofs.lemmas.List.{map-set}
 use Rattle.newest_names.specs.Newest.{next}
-use Rattle.scad_blocks.specs.Blocks.{Assigned, same_name, place_in, with_assigned, Entry, nothing_there}
-use Rattle.scad_blocks.specs.declared.text.Entry.{Entry as EntryIn}
-use Rattle.scad_blocks.specs.declared.text.Own.{Own as OwnIn}
+use Rattle.scad_blocks.specs.Blocks.{Assigned, same_name, place_in, with_assigned, SourceBlock, nothing_there}
+use Rattle.scad_blocks.specs.declared.text.Entry.{Entry}
+use Rattle.scad_blocks.specs.declared.text.Own.{Own}
 use Rattle.scad_blocks.specs.declared.text.Assignment.{Assignment}
 use Rattle.scad_blocks.specs.TextView.{entry_of, own_of, assigned_of}
 use Rattle.scad_blocks.specs.Walk.{entry_ended}
@@ -18,13 +18,13 @@ at_mapped f [] k x d h e = absurd (omega arith)
 at_mapped f (y ∷ ys) zero x d h e = ap f (sym e)
 at_mapped f (y ∷ ys) (suc k) x d h e = at_mapped f ys k x d (omega arith) e
 
-pub entry_set : (es : List EntryIn) (k : ℕ) (x : EntryIn) (own : OwnIn) (b : ℕ) → k < length es → x ≡ get_or es k x → b ≡ length es
+pub entry_set : (es : List Entry) (k : ℕ) (x : Entry) (own : Own) (b : ℕ) → k < length es → x ≡ get_or es k x → b ≡ length es
     → map entry_of (set es k (record { text = x.text; own = own; behind = b }))
     ≡ set (map entry_of es) k (entry_ended (get_or (map entry_of es) k nothing_there) (own_of own) (length (map entry_of es)))
 entry_set es k x own b h e n =
     map-set entry_of es k (record { text = x.text; own = own; behind = b })
     ∙ ap (λ m. set (map entry_of es) k (entry_ended (entry_of x) (own_of own) m)) (n ∙ sym (mapped_length entry_of es))
-    ∙ ap (λ (y : Entry). set (map entry_of es) k (entry_ended y (own_of own) (length (map entry_of es))))
+    ∙ ap (λ (y : SourceBlock). set (map entry_of es) k (entry_ended y (own_of own) (length (map entry_of es))))
     (sym (at_mapped entry_of es k x nothing_there h e))
 
 none_some : (i : ℕ) (o : Option ℕ) → o ≡ None → o ≡ Some i → ⊥

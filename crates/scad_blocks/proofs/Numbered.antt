@@ -5,7 +5,7 @@ use Rattle.std.proofs.lemmas.Bool.{and_parts, and_from, lt-ltb}
 use Rattle.newest_names.specs.Newest.{Pairs}
 use Rattle.scad_ast.specs.Terms.{StatementTerm, EmptyStatement, BlockStatement, AssignmentTerm, SpecialAssignmentTerm, ModuleTerm, FunctionTerm, InstanceStatement, StatementTerms, no_statements, and_statement, InstanceTerm, AnInstance, CoreTerm, IfTerm, IfElseTerm, ForTerm, IntersectionForTerm, ModuleCallTerm, BodyTerm, EmptyBody, BlockBody, InstanceBody, statements_from}
 use Rattle.scad_blocks.specs.declared.blocks.Blocks.{Blocks}
-use Rattle.scad_blocks.specs.Blocks.{Function, Module, Beginning, a_block, a_function, a_module, beginnings_of, beginnings_in, beginnings_of_instance, beginnings_of_core, beginnings_of_body, beginnings_of_program, functions_of_program, modules_of_program, count_functions, count_modules, own_functions, own_function, own_modules, own_module, Entry, nothing_there, entries_from}
+use Rattle.scad_blocks.specs.Blocks.{SourceFunction, SourceModule, Beginning, a_block, a_function, a_module, beginnings_of, beginnings_in, beginnings_of_instance, beginnings_of_core, beginnings_of_body, beginnings_of_program, functions_of_program, modules_of_program, count_functions, count_modules, own_functions, own_function, own_modules, own_module, SourceBlock, nothing_there, entries_from}
 use Rattle.scad_blocks.specs.Tables.{text_held, functions_held, modules_held}
 use Rattle.scad_blocks.specs.TextView.{function_of, module_of}
 use Rattle.scad_blocks.specs.Numbered.{numbers_below, entries_below}
@@ -81,10 +81,10 @@ block_text s t b f m n k p q =
     let own = all_fit f m n k s p q in
     and_from _ _ (and_from _ _ own.0 own.1) (t (b + 1) f m n k p q)
 
-function_text : (g : Function) (xs : List Beginning) → IsText xs → IsText (a_function g ∷ xs)
+function_text : (g : SourceFunction) (xs : List Beginning) → IsText xs → IsText (a_function g ∷ xs)
 function_text g xs t b f m n k p q = t b (f + 1) m n k (omega (arith, p)) q
 
-module_text : (d : Module) (xs : List Beginning) → IsText xs → IsText (a_module d ∷ xs)
+module_text : (d : SourceModule) (xs : List Beginning) → IsText xs → IsText (a_module d ∷ xs)
 module_text d xs t b f m n k p q = t b f (m + 1) n k p (omega (arith, q))
 
 no_body : IsText (a_block no_statements ∷ [])
@@ -131,7 +131,7 @@ pub program_below : (program : List StatementTerm) → IsTrue (entries_below (le
 program_below program = block_text (statements_from program) (text_in (statements_from program)) 0 0 0
     (length (functions_of_program program)) (length (modules_of_program program)) (omega arith) (omega arith)
 
-entry_below : (n k : ℕ) (es : List Entry) (i : ℕ) → IsTrue (entries_below n k es)
+entry_below : (n k : ℕ) (es : List SourceBlock) (i : ℕ) → IsTrue (entries_below n k es)
     → IsTrue (numbers_below n (get_or es i nothing_there).own.functions) × IsTrue (numbers_below k (get_or es i nothing_there).own.modules)
 entry_below n k [] i h = (refl, refl)
 entry_below n k (e ∷ es) zero h = and_parts _ _ (and_parts _ _ h).0

@@ -2,11 +2,11 @@
 use Rattle.std.proofs.Common.{◌≡◌, ℕ, zero, suc, ◌+◌, ◌<◌, List, [], ◌∷◌, ◌++◌, length, get_or, refl, sym, ap, subst, ◌∙◌, arith, append_assoc, append-nil, length-append}
 use Rattle.std.proofs.Math.Seq.{get_or-append_seam}
 use Rattle.scad_ast.specs.Terms.{ParamTerm, StatementTerm, EmptyStatement, BlockStatement, AssignmentTerm, SpecialAssignmentTerm, ModuleTerm, FunctionTerm, InstanceStatement, StatementTerms, no_statements, and_statement, InstanceTerm, AnInstance, CoreTerm, IfTerm, IfElseTerm, ForTerm, IntersectionForTerm, ModuleCallTerm, BodyTerm, EmptyBody, BlockBody, InstanceBody, statements_from}
-use Rattle.scad_blocks.specs.Blocks.{Module, Beginning, a_block, a_function, a_module, beginnings_of, beginnings_in, beginnings_of_instance, beginnings_of_core, beginnings_of_body, beginnings_of_program, modules_among, bodies_from, count_blocks, Entry, nothing_there, entry_at, entries_from, NumberedText, numbered_text, StandAt, StandsInOrder}
+use Rattle.scad_blocks.specs.Blocks.{SourceModule, Beginning, a_block, a_function, a_module, beginnings_of, beginnings_in, beginnings_of_instance, beginnings_of_core, beginnings_of_body, beginnings_of_program, modules_among, bodies_from, count_blocks, SourceBlock, nothing_there, entry_at, entries_from, NumberedText, numbered_text, StandAt, StandsInOrder}
 
 -- where the entries hold those of a text behind others
 module _ (t : NumberedText) where
-  pub stand_there : (pre : List Entry) (f m : ℕ) (xs : List Beginning) (post : List Entry)
+  pub stand_there : (pre : List SourceBlock) (f m : ℕ) (xs : List Beginning) (post : List SourceBlock)
       → t.entries ≡ pre ++ (entries_from (length pre) f m xs ++ post) → StandAt t (length pre) xs
   stand_there pre f m [] post h = tt
   stand_there pre f m (a_block s ∷ xs) post h =
@@ -17,8 +17,8 @@ module _ (t : NumberedText) where
       h ∙ sym (append_assoc pre (e ∷ []) rest)
       ∙ ap (λ n. (pre ++ e ∷ []) ++ (entries_from n f m xs ++ post)) (sym len) in (
         omega (arith, ap length h, length-append pre (e ∷ rest)),
-        ap (λ (es : List Entry). (get_or es (length pre) nothing_there).statements) h
-            ∙ ap (λ (x : Entry). x.statements) (get_or-append_seam pre e rest nothing_there),
+        ap (λ (es : List SourceBlock). (get_or es (length pre) nothing_there).statements) h
+            ∙ ap (λ (x : SourceBlock). x.statements) (get_or-append_seam pre e rest nothing_there),
         subst (λ n. StandAt t n xs) len (stand_there (pre ++ e ∷ []) f m xs post moved),
       )
   stand_there pre f m (a_function g ∷ xs) post h = stand_there pre (f + 1) m xs post h
@@ -48,7 +48,7 @@ module _ (t : NumberedText) where
   Nested n xs = (j : ℕ) → j < count_blocks xs → Here (n + j)
 
   abbrev Bodies : ℕ → List Beginning → Type 0
-  Bodies n xs = (k : ℕ) (d : Module) → k < length (modules_among xs) → d ≡ get_or (modules_among xs) k d
+  Bodies n xs = (k : ℕ) (d : SourceModule) → k < length (modules_among xs) → d ≡ get_or (modules_among xs) k d
       → StandAt t (get_or (bodies_from n xs) k 0) (beginnings_of_body d.body)
 
   abbrev InOrder : List Beginning → Type 0
@@ -67,7 +67,7 @@ module _ (t : NumberedText) where
   nested_joined n (a_function f ∷ xs) ys front behind j g = nested_joined n xs ys front behind j g
   nested_joined n (a_module d ∷ xs) ys front behind j g = nested_joined n xs ys front behind j g
 
-  body_at : (b c : ℕ) (ys : List Beginning) (k : ℕ) (d : Module) → b ≡ c → StandAt t (get_or (bodies_from b ys) k 0) (beginnings_of_body d.body)
+  body_at : (b c : ℕ) (ys : List Beginning) (k : ℕ) (d : SourceModule) → b ≡ c → StandAt t (get_or (bodies_from b ys) k 0) (beginnings_of_body d.body)
       → StandAt t (get_or (bodies_from c ys) k 0) (beginnings_of_body d.body)
   body_at b c ys k d e h = subst (λ n. StandAt t (get_or (bodies_from n ys) k 0) (beginnings_of_body d.body)) e h
 
@@ -99,7 +99,7 @@ module _ (t : NumberedText) where
   body_first params b inner n h = ((inner n h).0, bodies)
     where
       bodies : Bodies n (a_module (record { params = params; body = b }) ∷ beginnings_of_body b)
-      bodies zero d g e = subst (λ (c : Module). StandAt t n (beginnings_of_body c.body)) (sym e) h
+      bodies zero d g e = subst (λ (c : SourceModule). StandAt t n (beginnings_of_body c.body)) (sym e) h
       bodies (suc k) d g e = (inner n h).1 k d (omega (arith, g)) e
 
   single : (i : InstanceTerm) → InOrder (beginnings_of_instance i)

@@ -1,8 +1,8 @@
 -- A list of statements, from one on.
-use Rattle.std.proofs.Common.{◌≡◌, ℕ, zero, suc, ◌+◌, ◌<◌, ◌≤◌, List, [], ◌∷◌, length, map, drop, get_or, refl, ap, arith, add-one, drop-cons}
+use Rattle.std.proofs.Common.{◌≡◌, ℕ, ◌+◌, ◌<◌, List, [], ◌∷◌, length, map, drop, get_or, refl, ap, add-one, drop-cons}
 use Rattle.scad_ast.specs.declared.statement.Statement.{Statement}
 use Rattle.scad_ast.specs.declared.statement.Body.TheFolds.{fold_out-Instance}
-use Rattle.scad_ast.specs.Terms.{BodyTerm, CoreTerm, StatementTerm, InstanceTerm, no_statements, and_statement, statements_from}
+use Rattle.scad_ast.specs.Terms.{BodyTerm, CoreTerm, StatementTerm, InstanceTerm, and_statement, statements_from}
 use Rattle.scad_ast.specs.declared.statement.Instance.{Instance}
 use Rattle.scad_ast.specs.StatementView.{statement_of, instance_of, core_of, body_step, core_step, statement_step, instance_step, statements_step}
 use Rattle.scad_blocks.specs.Blocks.{beginnings_of_instance, beginnings_of_core}
@@ -17,12 +17,6 @@ statements_here ss i s h e = ap (λ (l : List Statement). statements_from (map s
     rest : (ss : List Statement) (i : ℕ) (s : Statement) → i < length ss → s ≡ get_or ss i s →
         drop i ss ≡ s ∷ drop (i + 1) ss
     rest ss i s h e = rw (add-one, drop-cons ss i s h, ← e) refl
-
-pub statements_past : (ss : List Statement) (i : ℕ) → length ss ≤ i → statements_from (map statement_of (drop i ss)) ≡ no_statements
-statements_past [] zero h = refl
-statements_past [] (suc i) h = refl
-statements_past (s ∷ ss) zero h = absurd (omega arith)
-statements_past (s ∷ ss) (suc i) h = statements_past ss i (omega arith)
 
 -- an instance begins what its core begins
 pub instance_beginnings : (i : Instance) → beginnings_of_instance (instance_of i) ≡ beginnings_of_core (core_of i.core)

@@ -1,15 +1,15 @@
 -- A walk through a text, part by part.
-use Rattle.std.proofs.Common.{◌≡◌, ℕ, ◌+◌, ◌<◌, ◌≤◌, List, [], ◌∷◌, ◌++◌, length, map, drop, get_or, set, refl, sym, ap, ◌∙◌, arith, append_assoc, append-nil, length-append}
+use Rattle.std.proofs.Common.{◌≡◌, ℕ, ◌+◌, ◌<◌, List, [], ◌∷◌, ◌++◌, length, map, drop, get_or, set, refl, sym, ap, ◌∙◌, arith, append_assoc, append-nil, length-append}
 use Rattle.std.proofs.Math.Seq.{set-append_seam}
 use Rattle.std.proofs.lemmas.List.{get_or-set_same}
 use Rattle.scad_ast.specs.declared.statement.Statement.{Statement}
 use Rattle.scad_ast.specs.Terms.{StatementTerm, InstanceStatement, InstanceTerm, StatementTerms, no_statements, and_statement, statements_from}
 use Rattle.scad_ast.specs.StatementView.{statement_of}
-use Rattle.scad_blocks.specs.Blocks.{Function, Module, Beginning, a_block, a_function, a_module, Assigned, beginnings_of, beginnings_in, beginnings_of_instance, count_functions, count_modules, count_blocks, own_functions, own_function, own_modules, own_module, assigned_in, assigned_by, with_assigned, all_assigned, functions_among, modules_among, bodies_from, Own, no_own, own_of_block, Entry, nothing_there, entry_at, entries_from, NumberedText}
+use Rattle.scad_blocks.specs.Blocks.{SourceFunction, SourceModule, Beginning, a_block, a_function, a_module, Assigned, beginnings_of, beginnings_in, beginnings_of_instance, count_functions, count_modules, count_blocks, own_functions, own_function, own_modules, own_module, assigned_in, assigned_by, with_assigned, all_assigned, functions_among, modules_among, bodies_from, OwnDefinitions, no_own, own_of_block, SourceBlock, nothing_there, entry_at, entries_from, NumberedText}
 use Rattle.scad_blocks.specs.Walk.{own_with, own_by, with_beginning, after, with_text, ended, entry_ended, nothing_walked}
 use Rattle.std.specs.Prelude.{OnOk}
 use Rattle.std.proofs.Common.{Result, Ok, Err}
-use Rattle.scad_blocks.proofs.Scans.{statements_here, statements_past}
+use Rattle.scad_blocks.proofs.Scans.{statements_here}
 
 pub after_joined : (w : NumberedText) (xs ys : List Beginning) → after w (xs ++ ys) ≡ after (after w xs) ys
 after_joined w [] ys = refl
@@ -47,31 +47,24 @@ walked_more w v whole ss i s h e f told =
     ∙ sym (after_joined w (beginnings_of (statement_of s)) (beginnings_in rest))
     ∙ ap (λ l. after w (beginnings_in l)) (sym (statements_here ss i s h e)) ∙ told
 
-pub walked_end : (w whole : NumberedText) (ss : List Statement) (i : ℕ) → length ss ≤ i
-    → after w (beginnings_in (statements_from (map statement_of (drop i ss)))) ≡ whole → w ≡ whole
-walked_end w whole ss i h told = ap (λ l. after w (beginnings_in l)) (sym (statements_past ss i h)) ∙ told
-
 assigned_joined : (before xs ys : List Assigned) → all_assigned before (xs ++ ys) ≡ all_assigned (all_assigned before xs) ys
 assigned_joined before [] ys = refl
 assigned_joined before (x ∷ xs) ys = assigned_joined (with_assigned before x) xs ys
 
-own_is : (a b : Own) → a.functions ≡ b.functions → a.modules ≡ b.modules → a.assignments ≡ b.assignments → a ≡ b
+own_is : (a b : OwnDefinitions) → a.functions ≡ b.functions → a.modules ≡ b.modules → a.assignments ≡ b.assignments → a ≡ b
 own_is a b f m s =
     ap (λ x. record { functions = x; modules = a.modules; assignments = a.assignments }) f
     ∙ ap (λ x. record { functions = b.functions; modules = x; assignments = a.assignments }) m
     ∙ ap (λ x. record { functions = b.functions; modules = b.modules; assignments = x }) s
 
-own_step : (own : Own) (f m : ℕ) (s : StatementTerm) (rest : StatementTerms)
+own_step : (own : OwnDefinitions) (f m : ℕ) (s : StatementTerm) (rest : StatementTerms)
     → own_with (own_by own f m s) (f + count_functions (beginnings_of s)) (m + count_modules (beginnings_of s)) rest ≡ own_with own f m (and_statement s rest)
 own_step own f m s rest = own_is _ _
     (append_assoc own.functions (own_function f s) (own_functions (f + count_functions (beginnings_of s)) rest))
     (append_assoc own.modules (own_module m s) (own_modules (m + count_modules (beginnings_of s)) rest))
     (sym (assigned_joined own.assignments (assigned_by s) (assigned_in rest)))
 
-own_none : (own : Own) (f m : ℕ) → own_with own f m no_statements ≡ own
-own_none own f m = own_is _ _ (append-nil own.functions) (append-nil own.modules) refl
-
-pub own_more : (own next whole : Own) (w v : NumberedText) (ss : List Statement) (i : ℕ) (s : Statement) → i < length ss → s ≡ get_or ss i s
+pub own_more : (own next whole : OwnDefinitions) (w v : NumberedText) (ss : List Statement) (i : ℕ) (s : Statement) → i < length ss → s ≡ get_or ss i s
     → v ≡ after w (beginnings_of (statement_of s))
     → next ≡ own_by own (length w.functions) (length w.modules) (statement_of s)
     → own_with own (length w.functions) (length w.modules) (statements_from (map statement_of (drop i ss))) ≡ whole
@@ -87,47 +80,43 @@ own_more own next whole w v ss i s h e f g told =
     ∙ own_step own (length w.functions) (length w.modules) (statement_of s) rest
     ∙ ap (own_with own (length w.functions) (length w.modules)) (sym (statements_here ss i s h e)) ∙ told
 
-pub own_end : (own whole : Own) (f m : ℕ) (ss : List Statement) (i : ℕ) → length ss ≤ i
-    → own_with own f m (statements_from (map statement_of (drop i ss))) ≡ whole → own ≡ whole
-own_end own whole f m ss i h told = sym (own_none own f m) ∙ ap (own_with own f m) (sym (statements_past ss i h)) ∙ told
-
 -- two walks that differ in one entry differ in that entry in the end
-abbrev placed : List Entry → Entry → List Entry → List Function → List Module → List ℕ → NumberedText
+abbrev placed : List SourceBlock → SourceBlock → List SourceBlock → List SourceFunction → List SourceModule → List ℕ → NumberedText
 placed es e r fs ms bs = record { entries = es ++ e ∷ r; functions = fs; modules = ms; bodies = bs }
 
-abbrev put : ℕ → Entry → NumberedText → NumberedText
+abbrev put : ℕ → SourceBlock → NumberedText → NumberedText
 put k e w = record w { entries = set w.entries k e }
 
-longer : (es : List Entry) (e : Entry) (r : List Entry) (x : Entry) → (es ++ e ∷ r) ++ x ∷ [] ≡ es ++ e ∷ (r ++ x ∷ [])
+longer : (es : List SourceBlock) (e : SourceBlock) (r : List SourceBlock) (x : SourceBlock) → (es ++ e ∷ r) ++ x ∷ [] ≡ es ++ e ∷ (r ++ x ∷ [])
 longer es e r x = append_assoc es (e ∷ r) (x ∷ [])
 
-same_length : (es : List Entry) (e d : Entry) (r : List Entry) → length (es ++ e ∷ r) ≡ length (es ++ d ∷ r)
+same_length : (es : List SourceBlock) (e d : SourceBlock) (r : List SourceBlock) → length (es ++ e ∷ r) ≡ length (es ++ d ∷ r)
 same_length es e d r = length-append es (e ∷ r) ∙ sym (length-append es (d ∷ r))
 
-swapped : (es : List Entry) (e d : Entry) (r : List Entry) (fs : List Function) (ms : List Module) (bs : List ℕ) (xs : List Beginning)
+swapped : (es : List SourceBlock) (e d : SourceBlock) (r : List SourceBlock) (fs : List SourceFunction) (ms : List SourceModule) (bs : List ℕ) (xs : List Beginning)
     → after (placed es e r fs ms bs) xs ≡ put (length es) e (after (placed es d r fs ms bs) xs)
 swapped es e d r fs ms bs [] =
     ap (λ l. record { entries = l; functions = fs; modules = ms; bodies = bs }) (sym (set-append_seam es d r e))
 swapped es e d r fs ms bs (a_block s ∷ xs) =
     let x = entry_at (length (es ++ e ∷ r)) (length fs) (length ms) s in
     let y = entry_at (length (es ++ d ∷ r)) (length fs) (length ms) s in
-    ap (λ (l : List Entry). after (record { entries = l; functions = fs; modules = ms; bodies = bs }) xs) (longer es e r x)
+    ap (λ (l : List SourceBlock). after (record { entries = l; functions = fs; modules = ms; bodies = bs }) xs) (longer es e r x)
     ∙ ap (λ n. after (placed es e (r ++ entry_at n (length fs) (length ms) s ∷ []) fs ms bs) xs) (same_length es e d r)
     ∙ swapped es e d (r ++ y ∷ []) fs ms bs xs
-    ∙ ap (λ (l : List Entry). put (length es) e (after (record { entries = l; functions = fs; modules = ms; bodies = bs }) xs)) (sym (longer es d r y))
+    ∙ ap (λ (l : List SourceBlock). put (length es) e (after (record { entries = l; functions = fs; modules = ms; bodies = bs }) xs)) (sym (longer es d r y))
 swapped es e d r fs ms bs (a_function f ∷ xs) = swapped es e d r (fs ++ f ∷ []) ms bs xs
 swapped es e d r fs ms bs (a_module m ∷ xs) =
     ap (λ n. after (placed es e r fs (ms ++ m ∷ []) (bs ++ n ∷ [])) xs) (same_length es e d r)
     ∙ swapped es e d r fs (ms ++ m ∷ []) (bs ++ length (es ++ d ∷ r) ∷ []) xs
 
-entry_is : (a b : Entry) → a.statements ≡ b.statements → a.own ≡ b.own → a.behind ≡ b.behind → a ≡ b
+entry_is : (a b : SourceBlock) → a.statements ≡ b.statements → a.own ≡ b.own → a.behind ≡ b.behind → a ≡ b
 entry_is a b s o n =
     ap (λ x. record { statements = x; own = a.own; behind = a.behind }) s
     ∙ ap (λ x. record { statements = b.statements; own = x; behind = a.behind }) o
     ∙ ap (λ x. record { statements = b.statements; own = b.own; behind = x }) n
 
 module _ (w : NumberedText) (s : StatementTerms) (xs : List Beginning) where
-  text_only : Entry
+  text_only : SourceBlock
   text_only = record { statements = s; own = no_own; behind = 0 }
 
   begun : NumberedText
@@ -145,24 +134,16 @@ module _ (w : NumberedText) (s : StatementTerms) (xs : List Beginning) where
   there = ap (λ (u : NumberedText). get_or u.entries (length w.entries) nothing_there) kept
       ∙ get_or-set_same begun.entries (length w.entries) text_only nothing_there (omega (arith, far))
 
-  pub block_walked : (own : Own) → own ≡ own_of_block (length w.functions) (length w.modules) s
+  pub block_walked : (own : OwnDefinitions) → own ≡ own_of_block (length w.functions) (length w.modules) s
       → count_blocks xs ≡ count_blocks (beginnings_in s)
       → ended (after (with_text w s) xs) (length w.entries) own ≡ after w (a_block s ∷ xs)
   unfolding begun text_only
   block_walked own o n =
       let e = entry_at (length w.entries) (length w.functions) (length w.modules) s in
       let entry : entry_ended (get_or begun.entries (length w.entries) nothing_there) own (length begun.entries) ≡ e =
-      entry_is _ e (ap (λ (x : Entry). x.statements) there) o (omega (arith, far, n)) in
+      entry_is _ e (ap (λ (x : SourceBlock). x.statements) there) o (omega (arith, far, n)) in
       ap (λ x. put (length w.entries) x begun) entry
       ∙ sym (swapped w.entries e text_only [] w.functions w.modules w.bodies xs)
-
--- what one statement adds to a block's own
-pub own_by_nothing : (own : Own) (f m : ℕ) (s : StatementTerm) → own_function f s ≡ [] → own_module m s ≡ [] → assigned_by s ≡ []
-    → own ≡ own_by own f m s
-own_by_nothing own f m s a b c = own_is _ _
-    (sym (ap (λ l. own.functions ++ l) a ∙ append-nil own.functions))
-    (sym (ap (λ l. own.modules ++ l) b ∙ append-nil own.modules))
-    (ap (all_assigned own.assignments) (sym c))
 
 -- a block's own definitions of a single instance
 pub own_single : (f m : ℕ) (i : InstanceTerm) → no_own ≡ own_of_block f m (and_statement (InstanceStatement i) no_statements)
@@ -221,7 +202,7 @@ whole_text xs =
     ∙ ap (λ x. record { entries = entries_from 0 0 0 xs; functions = functions_among xs; modules = modules_among xs; bodies = x }) (bodies_after nothing_walked xs)
 
 -- a block that ends
-pub ending : (w v u : NumberedText) (n : ℕ) (own : Own) (s : StatementTerms) (xs : List Beginning)
+pub ending : (w v u : NumberedText) (n : ℕ) (own : OwnDefinitions) (s : StatementTerms) (xs : List Beginning)
     → u ≡ ended v n own → v ≡ after (with_text w s) xs → n ≡ length w.entries
     → own ≡ own_of_block (length w.functions) (length w.modules) s → count_blocks xs ≡ count_blocks (beginnings_in s)
     → u ≡ after w (a_block s ∷ xs)
@@ -231,7 +212,7 @@ ending w v u n own s xs e f g o m =
 pub begun_there : (w v : NumberedText) (n : ℕ) (s : StatementTerms) (xs : List Beginning) → v ≡ after (with_text w s) xs
     → n ≡ length w.entries → n < length v.entries
 begun_there w v n s xs f g =
-    let x : Entry = record { statements = s; own = no_own; behind = 0 } in
+    let x : SourceBlock = record { statements = s; own = no_own; behind = 0 } in
     omega (arith, ap (λ (t : NumberedText). length t.entries) f, after_entries (with_text w s) xs, length-append w.entries (x ∷ []), g)
 
 pub joined_told : {A E : Type 0} (r : Result A E) (w v u : NumberedText) (xs ys : List Beginning) → OnOk r (u ≡ after v ys) → v ≡ after w xs

@@ -6,20 +6,21 @@ use Rattle.text_place.specs.declared.fault.Place.{Place}
 use Rattle.scad_ast.specs.Terms.{Term, ParamTerm, StatementTerm, EmptyStatement, BlockStatement, AssignmentTerm, SpecialAssignmentTerm, ModuleTerm, FunctionTerm, InstanceStatement, StatementTerms, no_statements, and_statement, InstanceTerm, AnInstance, CoreTerm, IfTerm, IfElseTerm, ForTerm, IntersectionForTerm, ModuleCallTerm, BodyTerm, EmptyBody, BlockBody, InstanceBody, statements_from}
 use Rattle.newest_names.specs.Newest.{Pairs, next}
 
--- a function and a module of the source
-pub record Function : Type 0 where
+-- a function of the source: its parameters and its value
+pub record SourceFunction : Type 0 where
   pub params : List ParamTerm
   pub value : Term
 
-pub record Module : Type 0 where
+-- a module of the source: its parameters and its body
+pub record SourceModule : Type 0 where
   pub params : List ParamTerm
   pub body : BodyTerm
 
 -- what begins in a text: a block with the statements that stand in it, a function or a module
 pub data Beginning : Type 0 where
   a_block : (statements : StatementTerms) → Beginning
-  a_function : (function : Function) → Beginning
-  a_module : (defined : Module) → Beginning
+  a_function : (function : SourceFunction) → Beginning
+  a_module : (defined : SourceModule) → Beginning
 
 -- the statements of a body; a single instance is one statement
 abbrev pub statements_of_body : BodyTerm → StatementTerms
@@ -39,13 +40,16 @@ abbrev mutual
       a_function (record { params = params; value = value }) ∷ a_block no_statements ∷ []
   beginnings_of (InstanceStatement instance) = beginnings_of_instance instance
 
+  -- those of statements one after another
   pub beginnings_in : StatementTerms → List Beginning
   beginnings_in no_statements = []
   beginnings_in (and_statement s rest) = beginnings_of s ++ beginnings_in rest
 
+  -- those of an instance, whose modifiers begin nothing
   pub beginnings_of_instance : InstanceTerm → List Beginning
   beginnings_of_instance (AnInstance at beginnings core) = beginnings_of_core core
 
+  -- those of its bodies
   pub beginnings_of_core : CoreTerm → List Beginning
   beginnings_of_core (IfTerm at test body) = beginnings_of_body body
   beginnings_of_core (IfElseTerm at test body other) = beginnings_of_body body ++ beginnings_of_body other
@@ -53,6 +57,7 @@ abbrev mutual
   beginnings_of_core (IntersectionForTerm at binders body) = beginnings_of_body body
   beginnings_of_core (ModuleCallTerm at name args body) = beginnings_of_body body
 
+  -- a body is a block, and what stands in it begins behind it
   pub beginnings_of_body : BodyTerm → List Beginning
   beginnings_of_body (EmptyBody at) = a_block no_statements ∷ []
   beginnings_of_body (BlockBody at statements) = a_block statements ∷ beginnings_in statements
@@ -63,32 +68,37 @@ abbrev mutual
 abbrev pub beginnings_of_program : List StatementTerm → List Beginning
 beginnings_of_program program = a_block (statements_from program) ∷ beginnings_in (statements_from program)
 
--- the functions and the modules that begin in a text, in order: their numbers count from 0
-abbrev pub functions_among : List Beginning → List Function
+-- the functions that begin in a text, in order; as those of modules, their numbers count from 0
+abbrev pub functions_among : List Beginning → List SourceFunction
 functions_among [] = []
 functions_among (a_block inner ∷ beginnings) = functions_among beginnings
 functions_among (a_function f ∷ beginnings) = f ∷ functions_among beginnings
 functions_among (a_module d ∷ beginnings) = functions_among beginnings
 
-abbrev pub modules_among : List Beginning → List Module
+-- the modules that begin in a text, in order
+abbrev pub modules_among : List Beginning → List SourceModule
 modules_among [] = []
 modules_among (a_block inner ∷ beginnings) = modules_among beginnings
 modules_among (a_function f ∷ beginnings) = modules_among beginnings
 modules_among (a_module d ∷ beginnings) = d ∷ modules_among beginnings
 
-abbrev pub functions_of_program : List StatementTerm → List Function
+-- the functions of a program by number
+abbrev pub functions_of_program : List StatementTerm → List SourceFunction
 functions_of_program program = functions_among (beginnings_of_program program)
 
-abbrev pub modules_of_program : List StatementTerm → List Module
+-- the modules of a program by number
+abbrev pub modules_of_program : List StatementTerm → List SourceModule
 modules_of_program program = modules_among (beginnings_of_program program)
 
--- how many functions, modules and blocks begin in a text
+-- how many functions begin in a text
 abbrev pub count_functions : List Beginning → ℕ
 count_functions beginnings = length (functions_among beginnings)
 
+-- how many modules begin in a text
 abbrev pub count_modules : List Beginning → ℕ
 count_modules beginnings = length (modules_among beginnings)
 
+-- how many blocks begin in a text
 abbrev pub count_blocks : List Beginning → ℕ
 count_blocks [] = 0
 count_blocks (a_block inner ∷ beginnings) = suc (count_blocks beginnings)
@@ -110,6 +120,7 @@ abbrev mutual
   own_functions before (and_statement s rest) = own_function before s ++ own_functions
       (before + count_functions (beginnings_of s)) rest
 
+  -- the function that a statement defines, or those of a bare block
   pub own_function : ℕ → StatementTerm → Pairs ℕ
   own_function before (EmptyStatement at) = []
   own_function before (BlockStatement at statements) = own_functions before statements
@@ -126,6 +137,7 @@ abbrev mutual
   own_modules before (and_statement s rest) = own_module before s ++ own_modules (before + count_modules
       (beginnings_of s)) rest
 
+  -- the module that a statement defines, or those of a bare block
   pub own_module : ℕ → StatementTerm → Pairs ℕ
   own_module before (EmptyStatement at) = []
   own_module before (BlockStatement at statements) = own_modules before statements
@@ -142,6 +154,7 @@ pub record Assigned : Type 0 where
   pub name : List ℕ
   pub value : Term
 
+-- whether two assignments are of one name: `$a` is another one than `a`
 abbrev pub same_name : Assigned → Assigned → Bool
 same_name a b = beq a.special b.special && bytes_eq a.name b.name
 
@@ -156,6 +169,7 @@ abbrev pub place_in : List Assigned → Assigned → Option ℕ
 place_in [] a = None
 place_in (b ∷ bs) a = if same_name b a then Some zero else next (place_in bs a)
 
+-- assignments one after another, behind those that are there
 abbrev pub all_assigned : List Assigned → List Assigned → List Assigned
 all_assigned before [] = before
 all_assigned before (a ∷ rest) = all_assigned (with_assigned before a) rest
@@ -166,6 +180,7 @@ abbrev mutual
   assigned_in no_statements = []
   assigned_in (and_statement s rest) = assigned_by s ++ assigned_in rest
 
+  -- the assignment that a statement is, or those of a bare block
   pub assigned_by : StatementTerm → List Assigned
   assigned_by (EmptyStatement at) = []
   assigned_by (BlockStatement at statements) = assigned_in statements
@@ -180,15 +195,17 @@ abbrev pub assignments_of : StatementTerms → List Assigned
 assignments_of statements = all_assigned [] (assigned_in statements)
 
 -- a block's own definitions with their numbers, in the order of the text, and its assignments
-pub record Own : Type 0 where
+pub record OwnDefinitions : Type 0 where
   pub functions : Pairs ℕ
   pub modules : Pairs ℕ
   pub assignments : List Assigned
 
-abbrev pub no_own : Own
+-- a block in which nothing stands has none
+abbrev pub no_own : OwnDefinitions
 no_own = record { functions = []; modules = []; assignments = [] }
 
-abbrev pub own_of_block : ℕ → ℕ → StatementTerms → Own
+-- a block's own, behind so many functions and modules
+abbrev pub own_of_block : ℕ → ℕ → StatementTerms → OwnDefinitions
 own_of_block functions modules statements = record {
   functions = own_functions functions statements;
   modules = own_modules modules statements;
@@ -196,16 +213,17 @@ own_of_block functions modules statements = record {
 }
 
 -- what a block has: its statements, its own, and the number of the first block behind it and all that stands in it
-pub record Entry : Type 0 where
+pub record SourceBlock : Type 0 where
   pub statements : StatementTerms
-  pub own : Own
+  pub own : OwnDefinitions
   pub behind : ℕ
 
 -- a block that isn't there has nothing
-abbrev pub nothing_there : Entry
+abbrev pub nothing_there : SourceBlock
 nothing_there = record { statements = no_statements; own = no_own; behind = 0 }
 
-abbrev pub entry_at : ℕ → ℕ → ℕ → StatementTerms → Entry
+-- the block of a number, behind so many functions and modules
+abbrev pub entry_at : ℕ → ℕ → ℕ → StatementTerms → SourceBlock
 entry_at number functions modules statements = record {
   statements = statements;
   own = own_of_block functions modules statements;
@@ -213,7 +231,7 @@ entry_at number functions modules statements = record {
 }
 
 -- the blocks that begin in a text, behind so many blocks, functions and modules
-abbrev pub entries_from : ℕ → ℕ → ℕ → List Beginning → List Entry
+abbrev pub entries_from : ℕ → ℕ → ℕ → List Beginning → List SourceBlock
 entries_from number functions modules [] = []
 entries_from number functions modules (a_block statements ∷ beginnings) =
     entry_at number functions modules statements ∷ entries_from (number + 1) functions modules beginnings
@@ -222,11 +240,12 @@ entries_from number functions modules (a_module d ∷ beginnings) = entries_from
 
 -- a program's blocks, functions and modules by number, and for each module the number of its body's block
 pub record NumberedText : Type 0 where
-  pub entries : List Entry
-  pub functions : List Function
-  pub modules : List Module
+  pub entries : List SourceBlock
+  pub functions : List SourceFunction
+  pub modules : List SourceModule
   pub bodies : List ℕ
 
+-- a program by numbers, each counted from 0 in the order of the text
 abbrev pub numbered_text : List StatementTerm → NumberedText
 numbered_text program = record {
   entries = entries_from 0 0 0 (beginnings_of_program program);
@@ -249,5 +268,5 @@ StandAt text number (a_module d ∷ beginnings) = StandAt text number beginnings
 pub record StandsInOrder (text : NumberedText) : Type 0 where
   pub blocks : (n : ℕ) → n < length text.entries
       → StandAt text (n + 1) (beginnings_in (slice_index_or text.entries n nothing_there).statements)
-  pub bodies : (k : ℕ) (d : Module) → k < length text.modules → d ≡ slice_index_or text.modules k d
+  pub bodies : (k : ℕ) (d : SourceModule) → k < length text.modules → d ≡ slice_index_or text.modules k d
       → StandAt text (slice_index_or text.bodies k 0) (beginnings_of_body d.body)

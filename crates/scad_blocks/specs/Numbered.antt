@@ -2,7 +2,7 @@
 use Rattle.std.specs.Prelude.{ℕ, List, [], ◌∷◌, length, Bool, true, ◌&&◌, nat_lt}
 use Rattle.newest_names.specs.Newest.{Pairs}
 use Rattle.scad_ast.specs.Terms.{StatementTerm}
-use Rattle.scad_blocks.specs.Blocks.{Entry, functions_of_program, modules_of_program}
+use Rattle.scad_blocks.specs.Blocks.{SourceBlock, functions_of_program, modules_of_program}
 
 -- each number is below this one
 abbrev pub numbers_below : ℕ → Pairs ℕ → Bool
@@ -10,14 +10,15 @@ numbers_below n [] = true
 numbers_below n (p ∷ ps) = nat_lt p.1 n && numbers_below n ps
 
 -- the numbers of each block's own functions and modules are below these
-abbrev pub entries_below : ℕ → ℕ → List Entry → Bool
+abbrev pub entries_below : ℕ → ℕ → List SourceBlock → Bool
 entries_below functions modules [] = true
 entries_below functions modules (e ∷ es) =
     (numbers_below functions e.own.functions && numbers_below modules e.own.modules) && entries_below functions modules es
 
--- how many functions and modules a program has
+-- how many functions a program has
 abbrev pub count_of_functions : List StatementTerm → ℕ
 count_of_functions program = length (functions_of_program program)
 
+-- how many modules a program has
 abbrev pub count_of_modules : List StatementTerm → ℕ
 count_of_modules program = length (modules_of_program program)

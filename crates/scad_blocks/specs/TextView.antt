@@ -5,45 +5,59 @@ use Rattle.scad_ast.specs.ExprView.{term_of}
 use Rattle.scad_ast.specs.StatementView.{params_of, statements_of, instance_of, body_of}
 use Rattle.scad_blocks.specs.declared.text.BlockText.{BlockText}
 use Rattle.scad_blocks.specs.declared.text.BlockText.TheVariants.{Nothing, Statements, Single}
-use Rattle.scad_blocks.specs.declared.text.Function.{Function as FunctionIn}
-use Rattle.scad_blocks.specs.declared.text.Module.{Module as ModuleIn}
+use Rattle.scad_blocks.specs.declared.text.Function.{Function}
+use Rattle.scad_blocks.specs.declared.text.Module.{Module}
 use Rattle.scad_blocks.specs.declared.text.Assignment.{Assignment}
 use Rattle.scad_blocks.specs.declared.text.Named.{Named}
-use Rattle.scad_blocks.specs.declared.text.Own.{Own as OwnIn}
-use Rattle.scad_blocks.specs.declared.text.Entry.{Entry as EntryIn}
-use Rattle.scad_blocks.specs.Blocks.{Function, Module, Assigned, Own, Entry, NumberedText}
+use Rattle.scad_blocks.specs.declared.text.Own.{Own}
+use Rattle.scad_blocks.specs.declared.text.Entry.{Entry}
+use Rattle.scad_blocks.specs.Blocks.{SourceFunction, SourceModule, Assigned, OwnDefinitions, SourceBlock, NumberedText}
 
+-- the statements of a block: none, those in braces, or a single instance
 abbrev pub statements_held : BlockText → StatementTerms
 statements_held Nothing = no_statements
-statements_held (Statements ss) = statements_from (statements_of ss.now)
-statements_held (Single i) = and_statement (InstanceStatement (instance_of i.now)) no_statements
+statements_held (Statements statements) = statements_from (statements_of statements.now)
+statements_held (Single instance) = and_statement (InstanceStatement (instance_of instance.now)) no_statements
 
-abbrev pub function_of : FunctionIn → Function
-function_of f = record { params = params_of f.params.now; value = term_of f.value.now }
+-- a function as its plain parameters and value
+abbrev pub function_of : Function → SourceFunction
+function_of function = record { params = params_of function.params.now; value = term_of function.value.now }
 
-abbrev pub module_of : ModuleIn → Module
-module_of m = record { params = params_of m.params.now; body = body_of m.body.now }
+-- a module as its plain parameters and body
+abbrev pub module_of : Module → SourceModule
+module_of defined = record { params = params_of defined.params.now; body = body_of defined.body.now }
 
-abbrev pub block_of_module : ModuleIn → ℕ
-block_of_module m = m.block
+-- the number of the block of a module's body
+abbrev pub block_of_module : Module → ℕ
+block_of_module defined = defined.block
 
+-- an assignment as its plain name and expression
 abbrev pub assigned_of : Assignment → Assigned
-assigned_of a = record { at = a.place; special = a.special; name = a.name.now; value = term_of a.value.now }
-
-abbrev pub named_of : Named → List ℕ × ℕ
-named_of n = (n.name.now, n.number)
-
-abbrev pub own_of : OwnIn → Own
-own_of o = record {
-  functions = map named_of o.functions.items;
-  modules = map named_of o.modules.items;
-  assignments = map assigned_of o.assignments.items;
+assigned_of assignment = record {
+  at = assignment.place;
+  special = assignment.special;
+  name = assignment.name.now;
+  value = term_of assignment.value.now;
 }
 
-abbrev pub entry_of : EntryIn → Entry
-entry_of e = record { statements = statements_held e.text; own = own_of e.own; behind = e.behind }
+-- a name with the number of its definition
+abbrev pub named_of : Named → List ℕ × ℕ
+named_of named = (named.name.now, named.number)
 
-abbrev pub text_in : List EntryIn → List FunctionIn → List ModuleIn → NumberedText
+-- a block's own definitions and assignments
+abbrev pub own_of : Own → OwnDefinitions
+own_of own = record {
+  functions = map named_of own.functions.items;
+  modules = map named_of own.modules.items;
+  assignments = map assigned_of own.assignments.items;
+}
+
+-- a block with its statements and its own
+abbrev pub entry_of : Entry → SourceBlock
+entry_of entry = record { statements = statements_held entry.text; own = own_of entry.own; behind = entry.behind }
+
+-- a program by numbers, of its blocks, functions and modules
+abbrev pub text_in : List Entry → List Function → List Module → NumberedText
 text_in entries functions modules = record {
   entries = map entry_of entries;
   functions = map function_of functions;

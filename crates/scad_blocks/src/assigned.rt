@@ -31,6 +31,7 @@ impl Places {
     ghost use Rattle.std.specs.Bool.{beq};
     ghost use Rattle.scad_blocks.specs.PlacesView.{places_of};
 
+    // The number of the assignment of a name, of special or of ordinary ones.
     fn find(&self, special: bool, name: &[u8]) -> Option<usize>
         ensures { result ≡ find_in (places_of self.now special) name.now }
     {
@@ -41,6 +42,7 @@ impl Places {
         }
     }
 
+    // One name more, with the number of its assignment.
     fn push(
         &mut self,
         alloc: Global,
@@ -65,6 +67,7 @@ impl<'a> OwnSoFar<'a> {
     ghost use Rattle.scad_blocks.specs.Blocks.{with_assigned, no_own};
     ghost use Rattle.scad_blocks.specs.TextView.{own_of};
 
+    /// Nothing yet.
     pub(crate) fn new(alloc: Global) -> OwnSoFar<'a>
         ensures { own_of result.own ≡ no_own }
     {

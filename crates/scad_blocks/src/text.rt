@@ -65,6 +65,7 @@ pub(crate) struct Entry<'a> {
 }
 
 impl<'a> Own<'a> {
+    /// A block in which nothing stands.
     pub(crate) fn new(alloc: Global) -> Own<'a>
         ensures { own_of result ≡ no_own }
     {

@@ -62,6 +62,7 @@ impl<'a> Walk<'a> {
         Ok(())
     }
 
+    // Goes on through one statement of a block.
     #[cycle(walk)]
     #[tactic(auto, using(crate::proofs::Begun::numbered_beginning))]
     fn statement(
@@ -103,6 +104,7 @@ impl<'a> Walk<'a> {
         }
     }
 
+    // Goes on through the bodies of an instance.
     #[cycle(walk)]
     fn core(&mut self, core: &'a Core) -> Result<(), NoMemory>
         requires { numbered (walked self.old) + length (beginnings_of_core (core_of core.now)) < 2 ^ 32 }
@@ -117,6 +119,7 @@ impl<'a> Walk<'a> {
         }
     }
 
+    // Goes on through two bodies one after another.
     #[cycle(walk)]
     #[tactic(auto, using(crate::proofs::Begun::numbered_after))]
     fn two(&mut self, body: &'a Body, other: &'a Body) -> Result<(), NoMemory>
@@ -128,6 +131,7 @@ impl<'a> Walk<'a> {
         self.body(other)
     }
 
+    // Goes on through a body, which is a block.
     #[cycle(walk)]
     fn body(&mut self, body: &'a Body) -> Result<(), NoMemory>
         requires { numbered (walked self.old) + length (beginnings_of_body (body_of body.now)) < 2 ^ 32 }

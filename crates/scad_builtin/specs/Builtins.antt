@@ -12,6 +12,7 @@ abbrev pub named_in : {A : Type 0} → List (List ℕ × A) → List ℕ → Opt
 named_in [] name = None
 named_in (p ∷ ps) name = if bytes_eq p.0 name then Some p.1 else named_in ps name
 
+-- the built-in function of a name
 abbrev pub builtin_of : List ℕ → Option Builtin
 builtin_of name = named_in
     ((codes "abs", Abs) ∷ (codes "sign", Sign) ∷ (codes "floor", Floor) ∷ (codes "ceil", Ceil)
@@ -19,11 +20,12 @@ builtin_of name = named_in
     ∷ (codes "concat", Concat) ∷ (codes "pow", Pow) ∷ (codes "is_undef", IsUndef) ∷ (codes "is_num", IsNum)
     ∷ (codes "is_bool", IsBool) ∷ (codes "is_list", IsList) ∷ []) name
 
--- functions of OpenSCAD that the profile leaves out
+-- whether a name is one of these
 abbrev pub is_among : List (List ℕ) → List ℕ → Bool
 is_among [] name = false
 is_among (n ∷ ns) name = if bytes_eq n name then true else is_among ns name
 
+-- functions of OpenSCAD that the profile leaves out
 abbrev pub is_left_out : List ℕ → Bool
 is_left_out = is_among
     (codes "str" ∷ codes "chr" ∷ codes "ord" ∷ codes "sin" ∷ codes "cos" ∷ codes "tan" ∷ codes "asin"
@@ -44,20 +46,23 @@ abbrev pub of_number : (ℤ → Answer ℤ) → Val → Answer Val
 of_number row (NumberVal n) = number (row n)
 of_number row v = Err TypeMismatch
 
+-- -1, 0 or 1
 abbrev pub sign_of : ℤ → ℤ
 sign_of (pos zero) = pos 0
 sign_of (pos (suc n)) = pos 1
 sign_of (negsuc n) = negsuc 0
 
--- the least or the greatest of numbers, by the test of what goes before
+-- the one of two numbers that goes before the other, by a test
 abbrev pub better : (ℤ → ℤ → Bool) → ℤ → ℤ → ℤ
 better before a b = if before b a then b else a
 
+-- of a number and further values, which must be numbers, the one that goes before all others
 abbrev pub best_of : (ℤ → ℤ → Bool) → ℤ → Vals → Answer Val
 best_of before best no_vals = Ok (NumberVal best)
 best_of before best (and_val (NumberVal n) vs) = best_of before (better before best n) vs
 best_of before best (and_val v vs) = Err TypeMismatch
 
+-- the same of one or more numbers
 abbrev pub best : (ℤ → ℤ → Bool) → Vals → Answer Val
 best before (and_val (NumberVal n) vs) = best_of before n vs
 best before vs = Err TypeMismatch
@@ -73,15 +78,17 @@ length_of (ListVal items) = number (sized (pos (count_of items)))
 length_of (TextVal bytes) = number (sized (pos (length bytes)))
 length_of v = Err TypeMismatch
 
--- the items of each list, and another value as one item
+-- the items of a list in order
 abbrev pub list_of : Vals → List Val
 list_of no_vals = []
 list_of (and_val v vs) = v ∷ list_of vs
 
+-- the items of a list, and another value as one item
 abbrev pub items_as : Val → List Val
 items_as (ListVal items) = list_of items
 items_as v = v ∷ []
 
+-- the items of all values, one behind the other
 abbrev pub joined_items : Vals → List Val
 joined_items no_vals = []
 joined_items (and_val v vs) = items_as v ++ joined_items vs
@@ -91,6 +98,7 @@ abbrev pub power : ℤ → ℕ → ℤ
 power b zero = pos 1
 power b (suc e) = b *ℤ power b e
 
+-- the power of two whole numbers, where it is whole: an exponent below 0 is for 1 and -1 alone
 abbrev pub power_row : ℤ → ℤ → Answer ℤ
 power_row b (pos e) = sized (power b e)
 power_row (pos zero) (negsuc e) = Err ZeroDivisor
@@ -98,22 +106,27 @@ power_row (pos (suc zero)) (negsuc e) = Ok (pos 1)
 power_row (negsuc zero) (negsuc e) = Ok (power (negsuc zero) (suc e))
 power_row b (negsuc e) = Err NotWhole
 
+-- the power of two numbers
 abbrev pub power_of : Val → Val → Answer Val
 power_of (NumberVal b) (NumberVal e) = number (power_row b e)
 power_of v w = Err TypeMismatch
 
+-- whether a value is `undef`
 abbrev pub is_undef : Val → Bool
 is_undef UndefVal = true
 is_undef v = false
 
+-- whether a value is a number
 abbrev pub is_num : Val → Bool
 is_num (NumberVal n) = true
 is_num v = false
 
+-- whether a value is a truth
 abbrev pub is_bool : Val → Bool
 is_bool (TruthVal b) = true
 is_bool v = false
 
+-- whether a value is a list
 abbrev pub is_list : Val → Bool
 is_list (ListVal items) = true
 is_list v = false

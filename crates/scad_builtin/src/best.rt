@@ -1,6 +1,6 @@
 ghost use Rattle.std.specs.Prelude.{◌≡◌, int_lt};
 ghost use Rattle.scad_value.specs.Values.{vals_from, and_val, no_vals};
-ghost use Rattle.scad_value.specs.Operators.{number as number_at};
+ghost use Rattle.scad_value.specs.Operators.{number};
 ghost use Rattle.scad_value.specs.View.{val_of, vals_of, vals_in, MeetsAnswer};
 ghost use Rattle.scad_builtin.specs.Builtins.{better as better_at, best_of as best_of_at, best as best_at, best_among as best_among_at};
 ghost use Rattle.scad_builtin.specs.Rows.{is_before};
@@ -17,6 +17,7 @@ pub(crate) enum Wanted {
 }
 
 impl Wanted {
+    // The wanted one of two numbers.
     fn better(self, left: i64, right: i64) -> i64
         ensures { result ≡ better_at (is_before self) left right }
     {
@@ -27,12 +28,14 @@ impl Wanted {
     }
 }
 
+// The lesser of two numbers.
 fn least(left: i64, right: i64) -> i64
     ensures { result ≡ better_at int_lt left right }
 {
     if left < right { left } else { right }
 }
 
+// The greater of two numbers.
 fn greatest(left: i64, right: i64) -> i64
     ensures { result ≡ better_at (λ a b. int_lt b a) left right }
 {
@@ -49,6 +52,7 @@ pub(crate) fn best_among(wanted: Wanted, values: &Values) -> Result<Value, Value
     }
 }
 
+// The best of the items of a list, or a number alone.
 fn best_in(wanted: Wanted, value: &Value) -> Result<Value, ValueStop>
     ensures { MeetsAnswer result (best_among_at (is_before wanted) (and_val (val_of value.now) no_vals)) }
 {
@@ -69,6 +73,7 @@ fn best(wanted: Wanted, values: &[Value]) -> Result<Value, ValueStop>
     }
 }
 
+// The best of a first value and further ones, which are all numbers.
 fn best_from(wanted: Wanted, first: &Value, rest: &[Value]) -> Result<Value, ValueStop>
     ensures { MeetsAnswer result (best_at (is_before wanted)
         (and_val (val_of first.now) (vals_from (vals_in rest.now)))) }
@@ -81,7 +86,7 @@ fn best_from(wanted: Wanted, first: &Value, rest: &[Value]) -> Result<Value, Val
 
 // The best of a number and further ones.
 fn best_of(wanted: Wanted, first: i64, rest: &[Value]) -> Result<i64, FaultKind>
-    ensures { number_at result ≡ best_of_at (is_before wanted) first (vals_from (vals_in rest.now)) }
+    ensures { number result ≡ best_of_at (is_before wanted) first (vals_from (vals_in rest.now)) }
 {
     let mut best = first;
     for value in rest {

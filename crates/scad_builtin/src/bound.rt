@@ -11,6 +11,7 @@ pub fn are_bounded(values: &Values) -> bool
     each_is_bounded(values.items())
 }
 
+// Whether each of these is bounded.
 fn each_is_bounded(values: &[Value]) -> bool
     ensures { result ≡ are_all_bounded (vals_in values.now) }
 {

@@ -55,6 +55,7 @@ impl Builtin {
         self.value_of(alloc, values)
     }
 
+    // The value by the table of functions. That it is bounded follows from its definition.
     fn value_of(self, alloc: Global, values: Values) -> Result<Value, ValueStop>
         ensures { MeetsAnswer result (applied self (vals_from (vals_of values))) }
     {
@@ -67,6 +68,7 @@ impl Builtin {
         }
     }
 
+    // The value of a function of one value, or TypeMismatch where there is another number.
     fn of_only(self, values: &Values) -> Result<Value, ValueStop>
         ensures { MeetsAnswer result (of_one_value (row_of self) (vals_from (vals_of values.now))) }
     {
@@ -76,6 +78,7 @@ impl Builtin {
         }
     }
 
+    // The value by the rows of functions of one value.
     fn of_one(self, value: &Value) -> Result<Value, ValueStop>
         ensures { MeetsAnswer result (row_of self (val_of value.now)) }
     {

@@ -20,6 +20,7 @@ pub(crate) fn length(value: &Value) -> Result<Value, ValueStop>
     }
 }
 
+// How many items a list has.
 fn item_count(values: &Values) -> u64
     ensures { result ≡ count_of (vals_from (vals_of values.now)) }
 {
@@ -33,12 +34,14 @@ pub(crate) fn concat(alloc: Global, values: Values) -> Result<Value, ValueStop>
     Ok(made(list(joined(alloc, values.into_items())?))?)
 }
 
+// The value of a list of these items.
 fn list(items: Vec<Value>) -> Value
     ensures { val_of result ≡ ListVal (vals_from (vals_in items.items)) }
 {
     Value::List(Values::of(items))
 }
 
+// The items of all values, one behind the other.
 fn joined(alloc: Global, values: Vec<Value>) -> Result<Vec<Value>, NoMemory>
     ensures { IfOk result (λ items. vals_in items.items ≡ joined_items (vals_from (vals_in values.items))) }
 {
@@ -49,6 +52,7 @@ fn joined(alloc: Global, values: Vec<Value>) -> Result<Vec<Value>, NoMemory>
     Ok(items)
 }
 
+// The items of a value behind those that are there.
 fn append(items: &mut Vec<Value>, value: Value) -> Result<(), NoMemory>
     ensures { OnOk result (vals_in items.new.items ≡ vals_in items.old.items ++ items_as (val_of value)) }
 {

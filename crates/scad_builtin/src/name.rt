@@ -4,12 +4,14 @@ ghost use Rattle.scad_builtin.specs.Builtins.{builtin_of, named_in as named, is_
 
 use crate::function::Builtin;
 
+// Whether two names are the same.
 fn same(known: &[u8], name: &[u8]) -> bool
     ensures { result ≡ bytes_eq known.now name.now }
 {
     known == name
 }
 
+// The names of the built-in functions.
 const BUILTINS: [(&[u8], Builtin); 14] = [
     (b"abs", Builtin::Abs),
     (b"sign", Builtin::Sign),
@@ -34,6 +36,7 @@ pub fn builtin(name: &[u8]) -> Option<Builtin>
     named_in(&BUILTINS, name)
 }
 
+// What a name stands for in a table.
 fn named_in(names: &[(&[u8], Builtin)], name: &[u8]) -> Option<Builtin>
     ensures { result ≡ named (map (λ known. (known.0.now, known.1)) names.now) name.now }
 {
@@ -45,6 +48,7 @@ fn named_in(names: &[(&[u8], Builtin)], name: &[u8]) -> Option<Builtin>
     None
 }
 
+// The functions of OpenSCAD that the profile leaves out.
 const LEFT_OUT: [&[u8]; 24] = [
     b"str",
     b"chr",
@@ -79,6 +83,7 @@ pub fn is_left_out(name: &[u8]) -> bool
     is_among(&LEFT_OUT, name)
 }
 
+// Whether a name is one of these.
 fn is_among(names: &[&[u8]], name: &[u8]) -> bool
     ensures { result ≡ among (map (λ known. known.now) names.now) name.now }
 {

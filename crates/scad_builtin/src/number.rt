@@ -20,6 +20,7 @@ pub(crate) enum NumberRow {
 }
 
 impl NumberRow {
+    // The row of a number.
     fn of(self, n: i64) -> Result<i64, FaultKind>
         ensures { result ≡ number_row self n }
     {
@@ -58,6 +59,7 @@ pub(crate) fn power(values: &Values) -> Result<Value, ValueStop>
     }
 }
 
+// The power of two values, which are numbers, or TypeMismatch.
 fn power_of(base: &Value, exponent: &Value) -> Result<Value, ValueStop>
     ensures { MeetsAnswer result (power_of_values (val_of base.now) (val_of exponent.now)) }
 {
@@ -67,6 +69,7 @@ fn power_of(base: &Value, exponent: &Value) -> Result<Value, ValueStop>
     }
 }
 
+// The power of two whole numbers, or its fault.
 fn power_row(base: i64, exponent: i64) -> Result<i64, FaultKind>
     ensures { result ≡ power_row_at base exponent }
 {

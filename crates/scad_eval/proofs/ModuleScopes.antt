@@ -6,7 +6,7 @@ use Rattle.scad_value.specs.Values.{Val, NumberVal, Vals}
 use Rattle.scad_arguments.specs.Arguments.{names_of}
 use Rattle.scad_scope.specs.Names.{Row}
 use Rattle.scad_scope.specs.Table.{rows_of}
-use Rattle.scad_blocks.specs.Blocks.{Module, NumberedText, statements_of_body}
+use Rattle.scad_blocks.specs.Blocks.{SourceModule, NumberedText, statements_of_body}
 use Rattle.scad_evaluation.specs.Meaning.{Env, Within, no_call, opened, functions_standing_in, modules_standing_in, entered_scope, with_variable, with_values, paired}
 use Rattle.scad_evaluation.specs.View.{seen, source_text}
 use Rattle.scad_evaluation.specs.Definitions.{statements_at, block_scope, IsBlockOf, IsWhole}
@@ -21,7 +21,7 @@ abbrev scope_by : Val → List (List ℕ) → Vals → StatementTerms → Statem
 scope_by n names vs inner children caller home = Within ((codes "$children", n) ∷ paired names vs [])
     (functions_standing_in inner) (modules_standing_in inner) (opened children caller) home
 
-pub module_inside : (text : NumberedText) (block children : ℕ) (m : Module) (call : BodyTerm) (vs : Vals) (caller home a b c : Env) (n : Val)
+pub module_inside : (text : NumberedText) (block children : ℕ) (m : SourceModule) (call : BodyTerm) (vs : Vals) (caller home a b c : Env) (n : Val)
     → IsWhole text → IsBlockOf text block m.body → IsBlockOf text children call
     → a ≡ block_scope text block (opened (statements_at text children) caller) home
     → b ≡ with_values (names_of m.params) vs a

@@ -46,6 +46,7 @@ pub record IsThrough (unit : LengthUnit) (through : Extrusion) : Type 0 where
   pub safe : IsSafe through.height
   pub sizes : AreSizes unit through.center (through.height ∷ [])
 
+-- an extrusion with nothing wrong, or none
 abbrev pub IsChecked : LengthUnit → Option Extrusion → Type 0
 IsChecked unit None = Unit {0}
 IsChecked unit (Some through) = IsThrough unit through
@@ -111,6 +112,7 @@ pub record Assigns (old new : InstanceEvaluator) : Type 0 where
 abbrev pub Equation : Type 0 → Type 0
 Equation B = Evaluator → Context → ℕ → ℕ → Outcome B
 
+-- what a step gave is what an equation says of where it stands, by whatever judge is right about shapes
 pub record Meets {A B : Type 0} (see : ℕ → A → B) (old new : InstanceEvaluator) (s : Position) (r : Result A Stop) (equation : Equation B) : Type 0 where
   pub by : (judge : Judge) → IsRight judge → HasOutcome see r new.evaluation.turns new.leaves
       (equation (evaluator_at old judge) (context_at old s) old.evaluation.turns old.leaves)

@@ -12,6 +12,7 @@ use Rattle.scad_pieces.specs.declared.position.Position.{Position}
 use Rattle.scad_eval.specs.declared.evaluator.InstanceEvaluator.{InstanceEvaluator}
 use Rattle.scad_eval.specs.Keeping.{IsPosition}
 
+-- a body without the number of its block
 abbrev pub body_seen : NumberedBody → BodyTerm
 body_seen b = body_of b.body.now
 

@@ -1,7 +1,7 @@
 //! Shapes, as the leaves of designs.
 
 ghost use Rattle.scad_modules.specs.Bounds.{IsSafeSolid, IsSafeFlat};
-ghost use Rattle.scad_modules.specs.View.{solid_of as solid_call, flat_of as flat_call};
+ghost use Rattle.scad_modules.specs.View.{solid_call_of, flat_call_of};
 ghost use Rattle.scad_design.specs.View.{plain_of};
 ghost use Rattle.scad_pieces.specs.declared.position.Position.{Position};
 ghost use Rattle.scad_meaning.specs.Verdicts.{solid_of, extruded};
@@ -24,9 +24,9 @@ const LEAVES: u32 = 1024;
 impl InstanceEvaluator<'_, '_> {
     /// A solid, as one leaf more.
     pub(crate) fn solid(&mut self, place: Place, shape: &SolidShape) -> Result<InstanceResult, Stop>
-        requires { IsSafeSolid (solid_call shape.now) }
+        requires { IsSafeSolid (solid_call_of shape.now) }
         ensures made { (s : Position) → Meets instance_design_of self.old self.new s result (λ evaluator here turns leaves.
-            checked (evaluator.judge.solid evaluator.unit (solid_call shape.now)) place (leaf_design place (solid_of evaluator.unit (solid_call shape.now)) turns leaves)) }
+            checked (evaluator.judge.solid evaluator.unit (solid_call_of shape.now)) place (leaf_design place (solid_of evaluator.unit (solid_call_of shape.now)) turns leaves)) }
         ensures stays { Stays self.old self.new }
     {
         match solid_shape(self.evaluation.alloc, self.unit, shape) {
@@ -43,8 +43,8 @@ impl InstanceEvaluator<'_, '_> {
         shape: &FlatShape,
     ) -> Result<InstanceResult, Stop>
         requires position { IsPosition self.old position }
-        requires safe { IsSafeFlat (flat_call shape.now) }
-        ensures made { Meets instance_design_of self.old self.new position result (λ evaluator here. flat_design evaluator here.inside place (flat_call shape.now)) }
+        requires safe { IsSafeFlat (flat_call_of shape.now) }
+        ensures made { Meets instance_design_of self.old self.new position result (λ evaluator here. flat_design evaluator here.inside place (flat_call_of shape.now)) }
         ensures stays { Stays self.old self.new }
     {
         match position.inside {
@@ -61,9 +61,9 @@ impl InstanceEvaluator<'_, '_> {
         shape: &FlatShape,
     ) -> Result<InstanceResult, Stop>
         requires through { IsThrough self.old.unit through }
-        requires safe { IsSafeFlat (flat_call shape.now) }
+        requires safe { IsSafeFlat (flat_call_of shape.now) }
         ensures made { (s : Position) → Meets instance_design_of self.old self.new s result (λ evaluator here turns leaves.
-            checked (evaluator.judge.flat evaluator.unit (flat_call shape.now)) place (leaf_design place (extruded evaluator.unit through (flat_call shape.now)) turns leaves)) }
+            checked (evaluator.judge.flat evaluator.unit (flat_call_of shape.now)) place (leaf_design place (extruded evaluator.unit through (flat_call_of shape.now)) turns leaves)) }
         ensures stays { Stays self.old self.new }
     {
         let alloc = self.evaluation.alloc;

@@ -8,7 +8,7 @@ use Rattle.scad_blocks.specs.Blocks.{NumberedText, StandAt, beginnings_of_body}
 use Rattle.scad_blocks.specs.TextView.{module_of, block_of_module}
 use Rattle.scad_blocks.specs.Tables.{text_held}
 use Rattle.scad_blocks.specs.declared.blocks.Blocks.{Blocks}
-use Rattle.scad_blocks.specs.declared.text.Module.{Module as ModuleLent}
+use Rattle.scad_blocks.specs.declared.text.Module.{Module}
 use Rattle.scad_evaluation.specs.Definitions.{IsBlockOf, IsWhole}
 
 body_there : (text : NumberedText) (n : ℕ) (b : BodyTerm) → StandAt text n (beginnings_of_body b) → IsBlockOf text n b
@@ -22,7 +22,7 @@ mapped f (y ∷ ys) zero x d h = refl
 mapped f (y ∷ ys) (suc k) x d h = mapped f ys k x d (omega (arith, h))
 
 -- a module's body begins at its number
-pub module_block : (blocks : Blocks) (m : ModuleLent) → IsWhole (text_held blocks) → Contains blocks.modules.items m
+pub module_block : (blocks : Blocks) (m : Module) → IsWhole (text_held blocks) → Contains blocks.modules.items m
     → IsBlockOf (text_held blocks) m.block (body_of m.body.now)
 module_block blocks m whole h =
     let t = text_held blocks in

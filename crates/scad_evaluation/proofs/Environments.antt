@@ -6,9 +6,9 @@ use Rattle.std.proofs.lemmas.Bool.{and_parts, and_from, ltb-true}
 use Rattle.scad_scope.specs.Names.{Pairs, Row, find_in, or_else, envs_from, env_behind, env_of, NumberedEnv, NumberedOutermost, NumberedWithin, NumberedCall, no_numbered_call, numbered_call, enclosing_call, or_outer_call, variable_in as numbered_variable_in, standing_in as numbered_standing_in, function_in as numbered_function_in, module_in as numbered_module_in}
 use Rattle.scad_blocks.specs.Numbered.{numbers_below}
 use Rattle.scad_scope.specs.Numbered.{each_row}
-use Rattle.scad_blocks.specs.Blocks.{Function, Module, NumberedText}
+use Rattle.scad_blocks.specs.Blocks.{SourceFunction, SourceModule, NumberedText}
 use Rattle.scad_scope.specs.declared.table.ModuleCall.{ModuleCall}
-use Rattle.scad_scope.specs.Table.{call_told}
+use Rattle.scad_scope.specs.Table.{numbered_call_of}
 use Rattle.scad_evaluation.specs.View.{IsCallFound}
 use Rattle.scad_evaluation.specs.Meaning.{Env, variable_in, standing_in, function_in, module_in, call_in, or_outer}
 use Rattle.scad_evaluation.specs.Definitions.{numbered, named, resolved, env_in, call_seen}
@@ -98,7 +98,7 @@ pub record Kind (A : Type 0) (text : NumberedText) : Type 0 where
       ≡ or_else (standing_in (env_in text (NumberedWithin number row call outer)) (find_in (resolved all (own row)) name))
       (defined (env_in text outer) name)
 
-abbrev pub functions_of : (text : NumberedText) → Kind Function text
+abbrev pub functions_of : (text : NumberedText) → Kind SourceFunction text
 functions_of text = record {
   all = text.functions;
   own = λ r. r.functions;
@@ -110,7 +110,7 @@ functions_of text = record {
   next_defined = λ number row call outer name. refl;
 }
 
-abbrev pub modules_of : (text : NumberedText) → Kind Module text
+abbrev pub modules_of : (text : NumberedText) → Kind SourceModule text
 modules_of text = record {
   all = text.modules;
   own = λ r. r.modules;
@@ -230,8 +230,8 @@ call_same text NumberedOutermost = refl
 call_same text (NumberedWithin number row call outer) =
     ap (or_outer (call_seen text call)) (call_same text outer) ∙ outer_same text call (enclosing_call outer)
 
-pub call_told_seen : (text : NumberedText) (rows : List Row) (scope : ℕ) (result : Option ModuleCall)
-    → enclosing_call (env_of rows scope) ≡ call_told (env_of rows) result
+pub enclosing_call_seen : (text : NumberedText) (rows : List Row) (scope : ℕ) (result : Option ModuleCall)
+    → enclosing_call (env_of rows scope) ≡ numbered_call_of (env_of rows) result
     → IsCallFound text rows (call_in (env_in text (env_of rows scope))) result
-call_told_seen text rows scope None e = call_same text (env_of rows scope) ∙ ap (call_seen text) e
-call_told_seen text rows scope (Some call) e = call_same text (env_of rows scope) ∙ ap (call_seen text) e
+enclosing_call_seen text rows scope None e = call_same text (env_of rows scope) ∙ ap (call_seen text) e
+enclosing_call_seen text rows scope (Some call) e = call_same text (env_of rows scope) ∙ ap (call_seen text) e

@@ -7,7 +7,7 @@ use Rattle.scad_ast.specs.declared.operator.BinaryOp.TheVariants.{And, Add, Subt
 use Rattle.scad_ast.specs.Terms.{Term, NumberTerm, TruthTerm, SpecialTerm, NameTerm, CallTerm, ListTerm, RangeTerm, PostfixTerm, ChainTerm, ChoiceTerm, no_terms, and_term, ArgTerms, no_args, and_named, and_special, and_positional, no_suffixes, and_index, no_links, and_link, PlainTerm, DefaultTerm, BlockStatement, FunctionTerm, no_statements, and_statement}
 use Rattle.scad_value.specs.Values.{Val, NumberVal, TruthVal, ListVal, UndefVal, vals_from}
 use Rattle.scad_scope.specs.Names.{Pairs}
-use Rattle.scad_blocks.specs.Blocks.{Function}
+use Rattle.scad_blocks.specs.Blocks.{SourceFunction}
 use Rattle.scad_evaluation.specs.Meaning.{Outcome, Gives, Faults, Env, Outermost, Within, no_call, opened, functions_standing_in, call_in, evaluated}
 
 abbrev at : ℕ → Place
@@ -187,7 +187,7 @@ unfolding evaluated
 special_of_built_in = refl
 
 -- the functions of { function f() = 1; } function f() = 2; function g() = 3;, the newest first
-abbrev constant : ℕ → Function
+abbrev constant : ℕ → SourceFunction
 constant n = record { params = []; value = num 1 n }
 
 standing : functions_standing_in (and_statement (BlockStatement (at 1) (and_statement (FunctionTerm (at 2) (codes "f") (at 3) [] (num 1 1)) no_statements))

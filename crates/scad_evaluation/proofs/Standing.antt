@@ -3,7 +3,7 @@ use Rattle.std.proofs.Common.{◌≡◌, ℕ, zero, suc, ◌+◌, ◌<◌, List,
 use Rattle.std.proofs.lemmas.List.{reverse-append}
 use Rattle.scad_ast.specs.Terms.{StatementTerm, EmptyStatement, BlockStatement, AssignmentTerm, SpecialAssignmentTerm, ModuleTerm, FunctionTerm, InstanceStatement, StatementTerms, no_statements, and_statement, InstanceTerm, AnInstance, CoreTerm, IfTerm, IfElseTerm, ForTerm, IntersectionForTerm, ModuleCallTerm, BodyTerm, EmptyBody, BlockBody, InstanceBody, statements_from}
 use Rattle.scad_scope.specs.Names.{Pairs}
-use Rattle.scad_blocks.specs.Blocks.{Function, Module, Beginning, a_block, a_function, a_module, beginnings_of, beginnings_in, beginnings_of_instance, beginnings_of_core, beginnings_of_body, beginnings_of_program, functions_among, modules_among, count_functions, count_modules, own_functions, own_function, own_modules, own_module, Entry, nothing_there, entries_from, numbered_text, NumberedText, assignments_of, count_blocks, StandsInOrder}
+use Rattle.scad_blocks.specs.Blocks.{SourceFunction, SourceModule, Beginning, a_block, a_function, a_module, beginnings_of, beginnings_in, beginnings_of_instance, beginnings_of_core, beginnings_of_body, beginnings_of_program, functions_among, modules_among, count_functions, count_modules, own_functions, own_function, own_modules, own_module, SourceBlock, nothing_there, entries_from, numbered_text, NumberedText, assignments_of, count_blocks, StandsInOrder}
 use Rattle.scad_evaluation.specs.Meaning.{Env, Within, Opened, functions_standing_in, function_standing, modules_standing_in, module_standing, entered_scope}
 use Rattle.scad_evaluation.specs.Definitions.{numbered, named, resolved, statements_at, block_scope, IsWhole}
 
@@ -74,7 +74,7 @@ stands_by all n xs ys e s = subst (λ l. Stands all n l) e s
 
 -- the own functions of statements
 mutual
-  functions_in : (all : List Function) (n : ℕ) (ss : StatementTerms) → Stands all n (functions_among (beginnings_in ss))
+  functions_in : (all : List SourceFunction) (n : ℕ) (ss : StatementTerms) → Stands all n (functions_among (beginnings_in ss))
       → resolved all (reverse (own_functions n ss)) ≡ functions_standing_in ss
   functions_in all n no_statements s = refl
   functions_in all n (and_statement x rest) s =
@@ -83,7 +83,7 @@ mutual
       (functions_of all n x (stands_first all n _ _ t))
       (functions_in all (n + count_functions (beginnings_of x)) rest (stands_next all n _ _ t))
 
-  functions_of : (all : List Function) (n : ℕ) (x : StatementTerm) → Stands all n (functions_among (beginnings_of x))
+  functions_of : (all : List SourceFunction) (n : ℕ) (x : StatementTerm) → Stands all n (functions_among (beginnings_of x))
       → resolved all (reverse (own_function n x)) ≡ function_standing x
   functions_of all n (EmptyStatement at) s = refl
   functions_of all n (BlockStatement at statements) s = functions_in all n statements s
@@ -97,7 +97,7 @@ mutual
 
 -- the own modules of statements
 mutual
-  modules_in : (all : List Module) (n : ℕ) (ss : StatementTerms) → Stands all n (modules_among (beginnings_in ss))
+  modules_in : (all : List SourceModule) (n : ℕ) (ss : StatementTerms) → Stands all n (modules_among (beginnings_in ss))
       → resolved all (reverse (own_modules n ss)) ≡ modules_standing_in ss
   modules_in all n no_statements s = refl
   modules_in all n (and_statement x rest) s =
@@ -106,7 +106,7 @@ mutual
       (modules_of all n x (stands_first all n _ _ t))
       (modules_in all (n + count_modules (beginnings_of x)) rest (stands_next all n _ _ t))
 
-  modules_of : (all : List Module) (n : ℕ) (x : StatementTerm) → Stands all n (modules_among (beginnings_of x))
+  modules_of : (all : List SourceModule) (n : ℕ) (x : StatementTerm) → Stands all n (modules_among (beginnings_of x))
       → resolved all (reverse (own_module n x)) ≡ module_standing x
   modules_of all n (EmptyStatement at) s = refl
   modules_of all n (BlockStatement at statements) s = modules_in all n statements s
@@ -119,12 +119,12 @@ mutual
   modules_of all n (InstanceStatement instance) s = refl
 
 -- the entries of a text, each of which holds what stands in its statements
-module _ (fs : List Function) (ms : List Module) where
-  record Good (e : Entry) : Type 0 where
+module _ (fs : List SourceFunction) (ms : List SourceModule) where
+  record Good (e : SourceBlock) : Type 0 where
     functions : resolved fs (reverse e.own.functions) ≡ functions_standing_in e.statements
     modules : resolved ms (reverse e.own.modules) ≡ modules_standing_in e.statements
 
-  abbrev Goods : List Entry → Type 0
+  abbrev Goods : List SourceBlock → Type 0
   Goods [] = Unit {0}
   Goods (e ∷ es) = Good e × Goods es
 
@@ -217,7 +217,7 @@ module _ (fs : List Function) (ms : List Module) where
       goods_instance f m instance rest s go (b + 1),
     )
 
-  good_at : (es : List Entry) (n : ℕ) → Goods es → Good (get_or es n nothing_there)
+  good_at : (es : List SourceBlock) (n : ℕ) → Goods es → Good (get_or es n nothing_there)
   good_at [] n g = record { functions = refl; modules = refl }
   good_at (e ∷ es) zero g = g.0
   good_at (e ∷ es) (suc n) g = good_at es n g.1
@@ -237,7 +237,7 @@ standing program number call outer =
     let whole = subst (λ l. Goods fs ms (entries_from 1 0 0 l)) (right_nil (beginnings_in ss)) rest in
     let good = good_at fs ms (entries_from 0 0 0 (beginnings_of_program program)) number
     (record { functions = functions_in fs 0 ss (all_stands fs); modules = modules_in ms 0 ss (all_stands ms) }, whole) in
-    let e : Entry = get_or (entries_from 0 0 0 (beginnings_of_program program)) number nothing_there in
+    let e : SourceBlock = get_or (entries_from 0 0 0 (beginnings_of_program program)) number nothing_there in
     ap (λ l. Within [] l (resolved ms (reverse e.own.modules)) call outer) good.functions
     ∙ ap (λ l. Within [] (functions_standing_in e.statements) l call outer) good.modules
 

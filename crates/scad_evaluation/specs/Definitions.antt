@@ -5,6 +5,7 @@ use Rattle.scad_scope.specs.Names.{Pairs, NumberedEnv, NumberedOutermost, Number
 use Rattle.scad_blocks.specs.Blocks.{NumberedText, nothing_there, assignments_of, statements_of_body, beginnings_in, count_blocks, StandsInOrder}
 use Rattle.scad_evaluation.specs.Meaning.{Env, Outermost, Within, Opened, no_call, opened, entered_scope}
 
+-- the item with a number, counted from 0, where there is one
 abbrev pub numbered : {A : Type 0} → List A → ℕ → Option A
 numbered [] n = None
 numbered (x ∷ xs) zero = Some x
@@ -15,6 +16,7 @@ abbrev pub named : {A : Type 0} → List ℕ → Option A → Pairs A → Pairs 
 named name (Some x) pairs = (name, x) ∷ pairs
 named name None pairs = pairs
 
+-- names with the definitions of their numbers, of which those that stand for nothing are left out
 abbrev pub resolved : {A : Type 0} → List A → Pairs ℕ → Pairs A
 resolved all [] = []
 resolved all (p ∷ ps) = named p.0 (numbered all p.1) (resolved all ps)

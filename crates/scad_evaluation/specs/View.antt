@@ -10,7 +10,7 @@ use Rattle.scad_value.specs.Values.{Val, UndefVal, Vals, vals_from}
 use Rattle.scad_value.specs.View.{vals_in}
 use Rattle.scad_scope.specs.Names.{Pairs, Row, NumberedEnv, env_of, variable_in}
 use Rattle.scad_ast.specs.Terms.{StatementTerm}
-use Rattle.scad_blocks.specs.Blocks.{Function, Module, NumberedText, numbered_text}
+use Rattle.scad_blocks.specs.Blocks.{SourceFunction, SourceModule, NumberedText, numbered_text}
 use Rattle.scad_scope.specs.declared.table.ModuleCall.{ModuleCall}
 use Rattle.scad_blocks.specs.Tables.{text_held}
 use Rattle.scad_blocks.specs.TextView.{function_of, module_of}
@@ -22,8 +22,8 @@ use Rattle.scad_arguments.specs.declared.parameters.GivenArguments.{GivenArgumen
 use Rattle.scad_evaluation.specs.declared.names.Indexed.{Indexed}
 use Rattle.scad_evaluation.specs.declared.names.Indexed.TheVariants.{Variable, Made}
 use Rattle.scad_scope.specs.Numbered.{functions_below}
-use Rattle.scad_blocks.specs.declared.text.Function.{Function as FunctionLent}
-use Rattle.scad_blocks.specs.declared.text.Module.{Module as ModuleLent}
+use Rattle.scad_blocks.specs.declared.text.Function.{Function}
+use Rattle.scad_blocks.specs.declared.text.Module.{Module}
 use Rattle.scad_ast.specs.declared.expression.Expr.{size-Expr}
 use Rattle.scad_ast.specs.declared.statement.Param.{Param}
 use Rattle.scad_ast.specs.declared.statement.Param.TheVariants.{Plain, WithDefault}
@@ -56,6 +56,7 @@ abbrev pub slot_of : Option BoundedValue → Option Val
 slot_of (Some v) = Some (bounded_val v)
 slot_of None = None
 
+-- the values of all slots
 abbrev pub slots_in : List (Option BoundedValue) → Slots
 slots_in slots = map slot_of slots
 
@@ -63,9 +64,11 @@ slots_in slots = map slot_of slots
 abbrev pub special_of : SpecialArgument BoundedValue → List ℕ × Val
 special_of special = (special.name.now, bounded_val special.value)
 
+-- the special arguments of a call with their values, the newest first
 abbrev pub specials_in : List (SpecialArgument BoundedValue) → Pairs Val
 specials_in specials = reverse (map special_of specials)
 
+-- what the arguments of a call gave
 abbrev pub arguments_of : GivenArguments BoundedValue → Arguments
 arguments_of given = record { slots = slots_in given.slots.items; specials = specials_in given.specials.items }
 
@@ -78,6 +81,7 @@ IsFilledAs (Err at) slots = ⊥
 abbrev pub source_text : Source → NumberedText
 source_text source = text_held source.blocks
 
+-- what a source holds by number is the text of this program
 abbrev pub IsTextOf : Source → List StatementTerm → Type 0
 IsTextOf source program = source_text source ≡ numbered_text program
 
@@ -90,11 +94,12 @@ abbrev pub IsNumbered : Source → List Row → Type 0
 IsNumbered source rows = IsTrue (functions_below (length (source_text source).functions) rows)
 
 -- a function and the number of the scope in which it stands, or none
-abbrev pub IsFunctionFound : Source → List Row → Option (Function × Env) → Option (FunctionLent × ℕ) → Type 0
+abbrev pub IsFunctionFound : Source → List Row → Option (SourceFunction × Env) → Option (Function × ℕ) → Type 0
 IsFunctionFound source rows wanted None = wanted ≡ None
 IsFunctionFound source rows wanted (Some found) = wanted ≡ Some (function_of found.0, seen source rows found.1)
 
-abbrev pub IsModuleFound : Source → List Row → Option (Module × Env) → Option (ModuleLent × ℕ) → Type 0
+-- a module and the number of the scope in which it stands, or none
+abbrev pub IsModuleFound : Source → List Row → Option (SourceModule × Env) → Option (Module × ℕ) → Type 0
 IsModuleFound source rows wanted None = wanted ≡ None
 IsModuleFound source rows wanted (Some found) = wanted ≡ Some (module_of found.0, seen source rows found.1)
 
@@ -108,14 +113,17 @@ abbrev pub param_size : Param → ℕ
 param_size (Plain at name) = 0
 param_size (WithDefault at name value) = size-Expr value
 
+-- the greatest depth of the defaults of parameters
 abbrev pub params_size : List Param → ℕ
 params_size [] = 0
 params_size (p ∷ ps) = max (param_size p) (params_size ps)
 
-abbrev pub function_size : FunctionLent → ℕ
+-- the greatest depth of a function's value and of its defaults
+abbrev pub function_size : Function → ℕ
 function_size f = max (size-Expr f.value.now) (params_size f.params.now.items.items)
 
-abbrev pub deepest : List FunctionLent → ℕ
+-- the greatest depth of all functions
+abbrev pub deepest : List Function → ℕ
 deepest [] = 0
 deepest (f ∷ fs) = max (function_size f) (deepest fs)
 
@@ -124,10 +132,12 @@ abbrev pub or_undef : Option Val → Val
 or_undef (Some v) = v
 or_undef None = UndefVal
 
+-- the value of what is indexed
 abbrev pub indexed_val : NumberedEnv → Indexed → Val
 indexed_val env (Variable name) = or_undef (variable_in env name.now)
 indexed_val env (Made v) = bounded_val v
 
+-- what is indexed has a value
 abbrev pub IsThere : NumberedEnv → Indexed → Type 0
 IsThere env (Variable name) = IsTrue (is_some (variable_in env name.now))
 IsThere env (Made v) = Unit {0}

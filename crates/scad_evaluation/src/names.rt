@@ -5,7 +5,7 @@ ghost use Rattle.scad_value.specs.BoundedView.{bounded_val};
 ghost use Rattle.scad_scope.specs.Names.{variable_in, find_in};
 ghost use Rattle.scad_scope.specs.Table.{chain_of, IsMissing, IsVariable};
 ghost use Rattle.scad_answer.specs.Answers.{member_of as member_at};
-ghost use Rattle.scad_answer.specs.View.{TellsAnswer};
+ghost use Rattle.scad_answer.specs.View.{MeetsAnswerAt};
 ghost use Rattle.text_place.specs.declared.fault.FaultKind.TheVariants.{UnknownName, NotInProfile};
 ghost use Rattle.scad_arguments.specs.ArgumentsView.{IsFaultAt};
 ghost use Rattle.scad_evaluation.specs.Meaning.{or_zero, or_fault, answered, Gives};
@@ -126,7 +126,7 @@ impl Evaluation<'_, '_> {
         place: Place,
     ) -> Result<BoundedValue, Stop>
         requires there { IsThere (env_here self.now) of }
-        ensures { TellsAnswer result (index_of (indexed_val (env_here self.now) of.entry) (bounded_val at)) place }
+        ensures { MeetsAnswerAt result (index_of (indexed_val (env_here self.now) of.entry) (bounded_val at)) place }
     {
         self.item_at(&of, &at, place)
     }
@@ -138,7 +138,7 @@ impl Evaluation<'_, '_> {
         place: Place,
     ) -> Result<BoundedValue, Stop>
         requires there { IsThere (env_here self.now) of.now }
-        ensures { TellsAnswer result (index_of (indexed_val (env_here self.now) of.now) (bounded_val at.now)) place }
+        ensures { MeetsAnswerAt result (index_of (indexed_val (env_here self.now) of.now) (bounded_val at.now)) place }
     {
         match of {
             Indexed::Variable(name) => match self.variable(name, place) {

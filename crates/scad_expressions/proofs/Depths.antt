@@ -1,10 +1,9 @@
 -- What is read at a depth, by what is read one deeper.
-use Rattle.std.proofs.Common.{◌≡◌, ◌≢◌, ℕ, zero, suc, ◌-◌, List, [], ◌∷◌, refl, sym, ap, arith}
+use Rattle.std.proofs.Common.{◌≡◌, ◌≢◌, ℕ, zero, suc, ◌-◌, List, [], refl, sym, ap, arith}
 use Rattle.scad_lexer.specs.declared.token.Token.{Token}
-use Rattle.scad_grammar.specs.Classes.{name}
 use Rattle.scad_grammar.specs.Faults.{left_out, left_out_of_expressions}
-use Rattle.scad_grammar.specs.Reads.{firsts_of_expression, nested, choice_read, unary_read, primary_read, arg_read, arg_in, expr_read, operand_read}
-use Rattle.scad_grammar.specs.StatementReads.{firsts_of_statement, firsts_of_body, param_read, param_in, binder_read, binder_in, instance_in, statement_over, statement_read, body_over, body_read}
+use Rattle.scad_grammar.specs.Reads.{firsts_of_expression, nested, choice_read, unary_read, primary_read, arg_in, expr_read, operand_read}
+use Rattle.scad_grammar.specs.StatementReads.{firsts_of_statement, firsts_of_body, param_in, instance_in, statement_over, statement_read, body_over, body_read}
 
 pub expr_none : (d : ℕ) (ts : List Token) → d ≡ 0 → expr_read d ts ≡ nested firsts_of_expression left_out_of_expressions ts
 unfolding expr_read operand_read
@@ -25,30 +24,6 @@ pub operand_deeper : (d : ℕ) (ts : List Token) → d ≢ 0 → operand_read d 
 unfolding expr_read operand_read
 operand_deeper zero ts h = absurd (h refl)
 operand_deeper (suc d) ts h = let e : suc d - 1 ≡ d = omega arith in ap (λ k. unary_read (expr_read k) (operand_read k) (primary_read (expr_read k) (arg_in k (expr_read k))) ts) (sym e)
-
-pub arg_none : (d : ℕ) (ts : List Token) → d ≡ 0 → arg_in d (expr_read d) ts ≡ nested firsts_of_expression left_out_of_expressions ts
-arg_none zero ts h = refl
-arg_none (suc d) ts h = absurd (omega arith)
-
-pub arg_some : (d : ℕ) (ts : List Token) → d ≢ 0 → arg_in d (expr_read d) ts ≡ arg_read (expr_read d) ts
-arg_some zero ts h = absurd (h refl)
-arg_some (suc d) ts h = refl
-
-pub param_none : (d : ℕ) (ts : List Token) → d ≡ 0 → param_in d (expr_read d) ts ≡ nested (name ∷ []) left_out ts
-param_none zero ts h = refl
-param_none (suc d) ts h = absurd (omega arith)
-
-pub param_some : (d : ℕ) (ts : List Token) → d ≢ 0 → param_in d (expr_read d) ts ≡ param_read (expr_read d) ts
-param_some zero ts h = absurd (h refl)
-param_some (suc d) ts h = refl
-
-pub binder_none : (d : ℕ) (ts : List Token) → d ≡ 0 → binder_in d (expr_read d) ts ≡ nested (name ∷ []) left_out ts
-binder_none zero ts h = refl
-binder_none (suc d) ts h = absurd (omega arith)
-
-pub binder_some : (d : ℕ) (ts : List Token) → d ≢ 0 → binder_in d (expr_read d) ts ≡ binder_read (expr_read d) ts
-binder_some zero ts h = absurd (h refl)
-binder_some (suc d) ts h = refl
 
 pub statement_none : (d : ℕ) (ts : List Token) → d ≡ 0 → statement_read d ts ≡ nested firsts_of_statement left_out ts
 unfolding statement_read body_read

@@ -7,7 +7,7 @@ use Rattle.scad_grammar.specs.Classes.{argument_names, assign_sign, among, is}
 use Rattle.scad_grammar.specs.Faults.{Reads}
 use Rattle.scad_grammar.specs.Grammar.{given_of}
 use Rattle.scad_grammar.specs.Reading.{Read, after, mapped, ahead}
-use Rattle.scad_grammar.specs.Reads.{given, arg_in, expr_read}
+use Rattle.scad_grammar.specs.Reads.{arg_in, expr_read}
 use Rattle.scad_tokens.specs.Views.{value_assigned}
 
 pub both_hold : (b c : Bool) → (b && c) ≡ true → (b ≡ true) × (c ≡ true)

@@ -10,12 +10,12 @@ use Rattle.scad_value.specs.Operators.{Answer}
 use Rattle.scad_scope.specs.Names.{Pairs, Row, oldest}
 use Rattle.scad_scope.specs.Table.{rows_of, chain_of}
 use Rattle.scad_arguments.specs.Arguments.{names_of, nothing_given}
-use Rattle.scad_blocks.specs.Blocks.{Function}
+use Rattle.scad_blocks.specs.Blocks.{SourceFunction}
 use Rattle.scad_evaluation.specs.Meaning.{Outcome, Env, Setting, in_scope, with_specials, answered, evaluated, each_argument, function_called, called, function_in, then_with}
 use Rattle.scad_evaluation.specs.declared.source.Source.{Source}
 use Rattle.scad_evaluation.specs.declared.evaluation.Evaluation.{Evaluation}
 use Rattle.scad_evaluation.specs.View.{Tells, deepest, seen}
-use Rattle.scad_answer.specs.View.{TellsAnswer}
+use Rattle.scad_answer.specs.View.{MeetsAnswerAt}
 use Rattle.scad_evaluation.specs.Evaluations.{Keeps, EvaluatesTo, SpecialsBegin, ScopeEnters, setting, setting_here, scope_here, work_left}
 use Rattle.scad_func.proofs.Outcomes.{fault_goes, value_goes, tells_answer}
 
@@ -126,7 +126,7 @@ work_falls source calls h =
     rw k (omega arith)
 
 -- a call of the function that a name stands for
-pub call_found : (e : Evaluation) (home : ℕ) (f : Function) (at : Place) (name : List ℕ) (args : ArgTerms) (turns : ℕ)
+pub call_found : (e : Evaluation) (home : ℕ) (f : SourceFunction) (at : Place) (name : List ℕ) (args : ArgTerms) (turns : ℕ)
     → function_in (setting_here e).env name ≡ Some (f, seen e.source.now (rows_of e.scopes.now) home)
     → called (setting_here e) at name args turns (function_in (setting_here e).env name)
     ≡ then_with (each_argument (setting_here e) (names_of f.params) 0 args (nothing_given (length (names_of f.params))) turns)
@@ -156,6 +156,6 @@ module _ {A B C D : Type 0} (see : A → B) (all : C → D) (first : Setting →
   }
 
 -- an operator's answer behind a step
-pub answers : (e : Evaluation) (r : Result BoundedValue Stop) (answer : Answer Val) (at : Place) → TellsAnswer r answer at
+pub answers : (e : Evaluation) (r : Result BoundedValue Stop) (answer : Answer Val) (at : Place) → MeetsAnswerAt r answer at
     → EvaluatesTo bounded_val e e r (λ here turns. answered answer at turns)
 answers e r answer at h = record { value = tells_answer r e.turns answer at h; kept = keeps_same e }

@@ -6,7 +6,7 @@ use Rattle.scad_value.specs.Values.{Val, Vals, NumberVal, TruthVal, truth_of}
 use Rattle.scad_value.specs.Operators.{binary_of, index_of}
 use Rattle.scad_answer.specs.Answers.{member_of, wants_right}
 use Rattle.scad_arguments.specs.Arguments.{names_of}
-use Rattle.scad_blocks.specs.Blocks.{Function}
+use Rattle.scad_blocks.specs.Blocks.{SourceFunction}
 use Rattle.scad_evaluation.specs.Meaning.{Outcome, Gives, then_with, or_fault, answered, Setting, value_at, in_scope, Within, no_call, paired, operand}
 
 -- the values of all arguments
@@ -50,6 +50,6 @@ linked here v link turns =
     else Gives turns (TruthVal (truth_of v))
 
 -- the value of a function whose parameters have values, in a scope of its own
-abbrev pub with_parameters : Setting → Function → Vals → ℕ → Outcome Val
+abbrev pub with_parameters : Setting → SourceFunction → Vals → ℕ → Outcome Val
 with_parameters home f vs turns =
     value_at (in_scope home (Within (paired (names_of f.params) vs []) [] [] no_call home.env)) true f.value turns

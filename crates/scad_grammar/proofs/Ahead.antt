@@ -9,11 +9,6 @@ two a b [] = false
 two a b (t ∷ []) = false
 two a b (t ∷ u ∷ ts) = a t && b u
 
-abbrev pub tail2 : {T : Type 0} → List T → List T
-tail2 [] = []
-tail2 (t ∷ []) = []
-tail2 (t ∷ u ∷ ts) = ts
-
 abbrev pub Two : {T A C : Type 0} → (T → T → A → C) → (T → Bool) → (T → Bool) → (A → List T → Type 0) → C → List T → Type 0
 Two {T} {A} f a b L c s = (t : T) × (u : T) × (x : A) × (p : List T) × (a t ≡ true) × (b u ≡ true) × L x p × (c ≡ f t u x) × (s ≡ t ∷ u ∷ p)
 

@@ -1,5 +1,5 @@
 -- Readers that are built in the same way: a law of two readers that each way of building keeps holds of what is built.
-use Rattle.std.proofs.Common.{◌≡◌, ℕ, List, [], ◌∷◌, length, ◌≤◌, Bool, true, false, cond, not, Ok, Err, Option, Some, None, ◌⊎◌, inl, refl, sym, ap, ◌∙◌, subst}
+use Rattle.std.proofs.Common.{◌≡◌, ℕ, List, [], ◌∷◌, length, ◌≤◌, Bool, true, false, not, Err, Option, Some, None, ◌⊎◌, refl, sym, ap, ◌∙◌}
 use Rattle.scad_lexer.specs.declared.token.Token.{Token}
 use Rattle.scad_ast.specs.Terms.{Term, SuffixTerm, NumberTerm, TextTerm, TruthTerm, UndefTerm, ChildCountTerm, SpecialTerm, ArgTerm, PositionalTerm, ParamTerm, BinderTerm, MarkTerm, StatementTerm, EmptyStatement, InstanceStatement, InstanceTerm, CoreTerm, BodyTerm, EmptyBody, InstanceBody}
 use Rattle.scad_grammar.specs.declared.SyntaxFault.{SyntaxFault}
@@ -7,8 +7,8 @@ use Rattle.scad_grammar.specs.declared.SyntaxFault.TheVariants.{Nested}
 use Rattle.scad_grammar.specs.Classes.{or_sign, and_sign, equal_sign, not_equal_sign, less_sign, less_equal_sign, greater_sign, greater_equal_sign, times_sign, divide_sign, remainder_sign, numeral, text, true_word, false_word, undef_word, child_count, special, argument_names, name, end, if_word, else_word, for_word, module_word, function_word, open_parenthesis_sign, close_parenthesis_sign, open_bracket_sign, close_bracket_sign, open_brace_sign, close_brace_sign, comma_sign, semicolon_sign, assign_sign, colon_sign, question_sign, dot_sign, minus_sign, plus_sign, not_sign, among, is, other_than, class_of, number_of, bytes_of}
 use Rattle.scad_grammar.specs.Languages.{first_of, second_of, pair_of, cons}
 use Rattle.scad_grammar.specs.Grammar.{Rest, items, link, chain_of, unary_of, postfix_of, index_of, member_of, levels, choice_of, named_of, paren_of, bracket_of, range_of, binder_of, param_of, mark_of, if_of, loop_of, call_of, instance_of, block_of, bare_block_of, special_assignment_of, module_of, function_of}
-use Rattle.scad_grammar.specs.Reading.{Read, after, mapped, nothing, both, choice, maybe, ahead, many, trailing}
-use Rattle.scad_grammar.specs.Faults.{Reads, one, first, fault_of, left_out}
+use Rattle.scad_grammar.specs.Reading.{Read, mapped, nothing, both, choice, maybe, ahead, many, trailing}
+use Rattle.scad_grammar.specs.Faults.{Reads, one, first}
 use Rattle.scad_grammar.specs.Reads.{suffix_read, postfix_read, unary_read, chain_read, given, arg_read, args_read, in_parentheses, range_read, rest_read, bracket_read, name_read, paren_read, primary_read, choice_read}
 use Rattle.scad_grammar.specs.StatementReads.{mark_signs, loop_words, firsts_of_statement, param_read, binder_read, params_read, binders_read, if_read, call_read, marks_read, braces_read, body_over, ended_read, function_read, definition_read, assigned, special_read, statement_over}
 use Rattle.scad_grammar.proofs.Ahead.{rest_of}
@@ -54,14 +54,6 @@ pub record Keeps (R : (A : Type 0) → Reads A → Reads A → Type 0) (T : (A :
 -- nothing is asked for
 abbrev pub Free : (A : Type 0) → List ℕ → Reads A → Type 0
 Free A cs r = Unit {0}
-
--- the words that begin something are taken by what begins with one of them
-pub first_takes : {B C : Type 0} (f : Token → B → C) (test : Token → Bool) (r : Reads B) → ((ts : List Token) → length (rest_of (r ts)) ≤ length ts) → Takes test (both f (one test) r)
-first_takes {B = B} f test r shrinks t more w h = inl (subst (λ q. length (rest_of q) ≤ length more) (sym (ap (λ b. after (cond b (Ok (t, more)) (Err (fault_of left_out (Some t), t ∷ more))) (λ u us. after (r us) (λ y vs. Ok (f u y, vs)))) h)) (go (r more) (shrinks more)))
-  where
-    go : (q : Read Token SyntaxFault B) → length (rest_of q) ≤ length more → length (rest_of (after q (λ y vs. Ok (f t y, vs)))) ≤ length more
-    go (Ok p) l = l
-    go (Err e) l = l
 
 module _ (R : (A : Type 0) → Reads A → Reads A → Type 0) (T : (A : Type 0) → List ℕ → Reads A → Type 0) (k : Keeps R T) where
   maybe_keeps : {A : Type 0} (test : Token → Bool) (r q : Reads A) → Steady test → R A r q → R (Option A) (maybe test r) (maybe test q)

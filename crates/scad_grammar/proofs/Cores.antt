@@ -93,9 +93,6 @@ params_reads m P Q im op =
     (both_opens first_of _ _ (is name) (both_opens cons P _ (is name) op))
     (λ x s rest h k. ap (λ l. starts (is name) (l ++ rest)) h.1 ∙ no_close closes (name ∷ []) refl rest k)
 
-pub some_params : (Q : Language ParamTerm) → Some_of (Params Q)
-some_params Q = ([], [], inr (refl, refl))
-
 pub binders_reads : (n : Reads BinderTerm) (E F : Language Term) → IsReader n (Binder E) (Binder F) (λ x. among expression_more) → IsReader (binders_read n) (Binders E) (Binders F) (λ x. other_than closes)
 binders_reads n E F im = separated_reads (is comma_sign) (is name) n (Binder E) (Binder F) (λ x. among expression_more) (other_than closes) im (binder_opens E) (λ x. next_apart (comma_sign ∷ []) expression_more refl) (λ x. no_close closes expression_more refl) (no_close closes (comma_sign ∷ []) refl) (no_close closes (name ∷ []) refl)
 

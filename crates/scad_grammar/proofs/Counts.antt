@@ -5,7 +5,7 @@ use Rattle.scad_ast.specs.Terms.{Term, ArgTerm, BinderTerm, ParamTerm, MarkTerm,
 use Rattle.scad_ast.specs.Counts.{begun_by, begun_in, begun_by_instance, begun_by_core, begun_by_body, begun_by_program}
 use Rattle.scad_grammar.specs.Classes.{open_brace_sign, close_brace_sign, semicolon_sign, name, end, if_word, else_word, for_word, intersection_for_word, module_word, function_word, is, among}
 use Rattle.scad_grammar.specs.Languages.{Language, One, Mapped, Both, BothIf, EitherOf, Nothing, Many, Maybe, Never, Before, first_of, second_of, pair_of}
-use Rattle.scad_grammar.specs.Grammar.{InParentheses, whole, Expr, ArgsIn, ParamsIn, BindersIn, StatementsIn, InstanceIn, Core, Instance, BodyOf, StatementOf, Statement, Body, Program, if_of, IsNearest, loop_of, call_of, instance_of, block_of, bare_block_of, module_of, function_of}
+use Rattle.scad_grammar.specs.Grammar.{InParentheses, whole, Expr, ArgsIn, ParamsIn, BindersIn, StatementsIn, InstanceIn, Core, Instance, BodyOf, StatementOf, Statement, Body, WholeProgram, if_of, IsNearest, loop_of, call_of, instance_of, block_of, bare_block_of, module_of, function_of}
 
 -- what is written has at most as many as tokens write it
 record Counts {A : Type 0} (count : A → ℕ) (L : Language A) : Type 0 where
@@ -151,6 +151,6 @@ counts_at (suc d) =
       body_count (InstanceIn whole d (Body whole d)) (StatementsIn d (Statement whole d)) i ss,
     )
 
-pub few_begun : (d : ℕ) (x : List StatementTerm) (s : List Token) → Program d x s → begun_by_program x ≤ length s
+pub few_begun : (d : ℕ) (x : List StatementTerm) (s : List Token) → WholeProgram d x s → begun_by_program x ≤ length s
 few_begun d x s h =
     (both_count first_of of_list (λ t. 1) begun_by_program (λ a t. omega arith) (many_count (counts_at d).0) (one_count (is end))).at x s h

@@ -1,5 +1,5 @@
 -- With more depth the reading is the same, where the lesser one doesn't run out of depth.
-use Rattle.std.proofs.Common.{◌≡◌, ℕ, zero, suc, List, [], ◌∷◌, length, Bool, true, false, cond, Ok, Err, ◌⊎◌, inl, inr, refl, sym, ap, ◌∙◌, ◌&&◌, Some, None}
+use Rattle.std.proofs.Common.{◌≡◌, ℕ, zero, suc, List, [], ◌∷◌, length, Bool, true, false, cond, Ok, Err, ◌⊎◌, inl, inr, refl, sym, ap, ◌∙◌, ◌&&◌, Some}
 use Rattle.scad_lexer.specs.declared.token.Token.{Token}
 use Rattle.scad_ast.specs.Terms.{Term, ArgTerm, ParamTerm, BinderTerm, StatementTerm, InstanceStatement, BodyTerm, InstanceBody, PositionalTerm}
 use Rattle.scad_grammar.specs.declared.SyntaxFault.{SyntaxFault}
@@ -7,7 +7,7 @@ use Rattle.scad_grammar.specs.declared.SyntaxFault.TheVariants.{Nested}
 use Rattle.scad_grammar.specs.Classes.{numeral, text, true_word, false_word, undef_word, child_count, special, argument_names, name, end, if_word, module_word, function_word, open_parenthesis_sign, open_bracket_sign, open_brace_sign, comma_sign, semicolon_sign, assign_sign, minus_sign, plus_sign, not_sign, among, is}
 use Rattle.scad_grammar.specs.Languages.{first_of}
 use Rattle.scad_grammar.specs.Grammar.{chain_of, postfix_of, levels, choice_of, bracket_of, binder_of, param_of, call_of, instance_of}
-use Rattle.scad_grammar.specs.Reading.{Read, after, starts, one_of, mapped, nothing, both, choice, maybe, ahead, with_front, many_times, many, trailing_times, trailing}
+use Rattle.scad_grammar.specs.Reading.{Read, after, starts, one_of, mapped, nothing, both, choice, ahead, with_front, many_times, many, trailing_times, trailing}
 use Rattle.scad_grammar.specs.Faults.{Reads, one, first, fault_of, left_out, left_out_of_expressions}
 use Rattle.scad_grammar.specs.Reads.{head_of, nested, firsts_of_expression, unary_read, chain_read, given, arg_read, primary_read, choice_read, arg_in, expr_read, operand_read}
 use Rattle.scad_grammar.specs.StatementReads.{mark_signs, loop_words, firsts_of_core, firsts_of_instance, firsts_of_body, firsts_of_statement, param_read, binder_read, binders_read, core_read, instance_read, body_over, ended_read, definition_read, assigned, statement_over, param_in, binder_in, statement_read, body_read, program_read}
@@ -43,9 +43,6 @@ cond_alike false r q s p h k = k
 
 choice_agrees : {A : Type 0} (test : Token → Bool) (r q s p : Reads A) → Agrees r q → Agrees s p → Agrees (choice test r s) (choice test q p)
 choice_agrees test r q s p h k = record { at = λ ts. cond_alike (starts test ts) (r ts) (q ts) (s ts) (p ts) (h.at ts) (k.at ts) }
-
-maybe_agrees : {A : Type 0} (test : Token → Bool) (r q : Reads A) → Agrees r q → Agrees (maybe test r) (maybe test q)
-maybe_agrees test r q h = choice_agrees test (mapped Some r) (mapped Some q) (nothing None) (nothing None) (mapped_agrees Some r q h) (same (nothing None))
 
 ahead_at : {A C : Type 0} (f : Token → Token → A → C) (a b : Token → Bool) (r q : Reads A) (s p : Reads C) → Agrees r q → Agrees s p → (ts : List Token) → Alike (ahead f a b r s ts) (ahead f a b q p ts)
 ahead_at f a b r q s p h k [] = k.at []

@@ -2,7 +2,7 @@
 use Rattle.std.proofs.Common.{◌≡◌, ℕ, suc, List, ◌++◌, take, length, refl, subst}
 use Rattle.scad_lexer.specs.declared.token.Token.{Token}
 use Rattle.scad_ast.specs.Terms.{StatementTerm}
-use Rattle.scad_grammar.specs.Grammar.{Program, Outline}
+use Rattle.scad_grammar.specs.Grammar.{WholeProgram, Outline}
 use Rattle.scad_grammar.specs.Depths.{HasDepths, AllBelow, BeginsShallow, program_depths}
 use Rattle.scad_grammar.specs.FirstFault.{BeginsWithin}
 use Rattle.scad_grammar.proofs.Fronts.{no_gap_front, front_shown, filled_shown, filled_all}
@@ -11,10 +11,10 @@ use Rattle.scad_grammar.proofs.Wider.{is_outline}
 use Rattle.scad_grammar.proofs.Shown.{program_shows}
 use Rattle.scad_grammar.proofs.Filled.{program_fills}
 
-pub shallow_program : (d : ℕ) (x : List StatementTerm) (s : List Token) (depths : List ℕ) → HasDepths x s depths → AllBelow (suc d) depths → Program (suc d) x s
+pub shallow_program : (d : ℕ) (x : List StatementTerm) (s : List Token) (depths : List ℕ) → HasDepths x s depths → AllBelow (suc d) depths → WholeProgram (suc d) x s
 shallow_program d x s depths h b = (program_shows h.0 d).kept x s h.1 (subst (AllBelow (suc d)) h.2 b)
 
-pub program_is_shallow : (d : ℕ) (x : List StatementTerm) (s : List Token) → Program (suc d) x s → (depths : List ℕ) × HasDepths x s depths × AllBelow (suc d) depths
+pub program_is_shallow : (d : ℕ) (x : List StatementTerm) (s : List Token) → WholeProgram (suc d) x s → (depths : List ℕ) × HasDepths x s depths × AllBelow (suc d) depths
 program_is_shallow d x s p =
     let f = (program_fills d).at x s (is_outline (suc d) x s p) in
     let depths = (program_depths (suc (suc d))).of f.0 f.1 f.2 in

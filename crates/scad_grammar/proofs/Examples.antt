@@ -9,7 +9,7 @@ use Rattle.scad_lexer.specs.declared.token.Symbol.TheVariants.{Semicolon, Assign
 use Rattle.scad_ast.specs.Terms.{StatementTerm, EmptyStatement, InstanceStatement, AnInstance, IfTerm, UndefTerm, EmptyBody}
 use Rattle.scad_grammar.specs.declared.SyntaxFault.{SyntaxFault}
 use Rattle.scad_grammar.specs.declared.SyntaxFault.TheVariants.{Expected, Nested, NotInProfile}
-use Rattle.scad_grammar.specs.Grammar.{InParentheses, Core, ArgsIn, BindersIn, outline, Expr, Operand, Statement, Body, Program, Outline}
+use Rattle.scad_grammar.specs.Grammar.{InParentheses, Core, ArgsIn, BindersIn, outline, Expr, Operand, Statement, Body, WholeProgram, Outline}
 use Rattle.scad_grammar.specs.Reading.{many, many_times, trailing, trailing_times}
 use Rattle.scad_grammar.specs.Reads.{expr_read, operand_read}
 use Rattle.scad_grammar.specs.StatementReads.{statement_read, body_read}
@@ -26,11 +26,11 @@ abbrev end_token : Token
 end_token = token End 9
 
 -- an empty source
-empty_program : (d : ℕ) → Program d [] (token End 1 ∷ [])
+empty_program : (d : ℕ) → WholeProgram d [] (token End 1 ∷ [])
 empty_program d = ([], token End 1, [], token End 1 ∷ [], refl, (refl, refl), refl, refl)
 
 -- `;`
-one_semicolon : (d : ℕ) → Program (suc d) (EmptyStatement (at 1) ∷ []) (token (Symbol Semicolon) 1 ∷ token End 2 ∷ [])
+one_semicolon : (d : ℕ) → WholeProgram (suc d) (EmptyStatement (at 1) ∷ []) (token (Symbol Semicolon) 1 ∷ token End 2 ∷ [])
 unfolding Statement
 one_semicolon d = (
   EmptyStatement (at 1) ∷ [],

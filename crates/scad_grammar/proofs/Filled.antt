@@ -6,8 +6,8 @@ use Rattle.scad_lexer.specs.declared.token.TokenKind.TheVariants.{Symbol}
 use Rattle.scad_lexer.specs.declared.token.Symbol.TheVariants.{Semicolon}
 use Rattle.scad_ast.specs.Terms.{Term, ArgTerm, PositionalTerm, ParamTerm, BinderTerm, StatementTerm, InstanceStatement, InstanceTerm, CoreTerm, BodyTerm, InstanceBody, EmptyBody, UndefTerm}
 use Rattle.scad_grammar.specs.Classes.{numeral, text, true_word, false_word, undef_word, child_count, special, argument_names, open_parenthesis_sign, close_parenthesis_sign, open_bracket_sign, close_bracket_sign, open_brace_sign, close_brace_sign, comma_sign, semicolon_sign, assign_sign, colon_sign, question_sign, dot_sign, minus_sign, plus_sign, not_sign, times_sign, remainder_sign, hash_sign, caret_sign, name, end, if_word, else_word, for_word, intersection_for_word, module_word, function_word, is, among}
-use Rattle.scad_grammar.specs.Languages.{Language, One, Mapped, Both, BothIf, EitherOf, Nothing, Many, Maybe, Never, Behind, Before, Separated, first_of, second_of, pair_of, cons}
-use Rattle.scad_grammar.specs.Grammar.{InParentheses, Rest, range_of, Arg, Args, Param, Params, Binders, Bracket, Primary, Suffix, Unary, Chain, Choice, whole, outline, ArgsIn, ParamsIn, BindersIn, StatementsIn, InstanceIn, Expr, Operand, Core, Instance, BodyOf, StatementOf, Statement, Body, Program, Outline, levels, chain_of, link, items, if_of, IsNearest, ends_open, instance_open, core_open, instance_of, loop_of, call_of, block_of}
+use Rattle.scad_grammar.specs.Languages.{Language, One, Mapped, Both, BothIf, EitherOf, Nothing, Many, Maybe, Behind, Before, Separated, first_of, second_of, pair_of, cons}
+use Rattle.scad_grammar.specs.Grammar.{InParentheses, Rest, range_of, Arg, Args, Param, Params, Binders, Bracket, Primary, Suffix, Unary, Chain, Choice, whole, outline, ArgsIn, ParamsIn, BindersIn, StatementsIn, InstanceIn, Expr, Operand, Core, Instance, BodyOf, StatementOf, Statement, Body, WholeProgram, Outline, levels, chain_of, link, items, if_of, IsNearest, ends_open, instance_open, core_open, instance_of, loop_of, call_of, block_of}
 use Rattle.scad_grammar.specs.Depths.{Depths, deeper, one_depth, mapped_depths, both_depths, both_if_depths, either_depths, nothing_depths, of_many, many_depths, maybe_depths, behind_depths, before_depths, separated_depths, parentheses_depths, arg_depths, args_depths, param_depths, params_depths, binders_depths, bracket_depths, primary_depths, suffix_depths, unary_depths, chain_depths, choice_depths, args_in_depths, params_in_depths, binders_in_depths, expr_depths, operand_depths, core_depths, instance_depths, body_of_depths, statement_of_depths, statements_in_depths, instance_in_depths, statement_depths, body_depths, program_depths}
 use Rattle.scad_grammar.proofs.Fronts.{Filled, filled_joined, filled_deeper}
 use Rattle.scad_grammar.proofs.Operands.{token}
@@ -84,9 +84,6 @@ gap_fills : {A : Type 0} {d : ℕ} (o : A → Bool) (f : Token → A) (W : Langu
 gap_fills {A} {d} o f W D x s h e = record {
   at = λ y os z. (x, s, h, after_gap d os [] s (D.of x s h) z.0 z.1.0 z.1.1, λ k. e);
 }
-
-never_fills : {A : Type 0} {d : ℕ} (o : A → Bool) (W : Language A) (D : Depths W) → Fills d o Never W D
-never_fills o W D = record { at = λ y os z. elim z [ ] }
 
 module _ {A : Type 0} (d : ℕ) (o : A → Bool) (O W : Language A) (D : Depths W) (h : Fills d o O W D) where
   many_fill : (ys : List A) (os : List Token) → Many O ys os → Fill d closed (Many W) (many_depths D) ys os
@@ -369,5 +366,5 @@ body_fills : (d : ℕ) → FillsBody d
 body_fills zero = (no_statements, zero_body)
 body_fills (suc d) = (many_fills (next_statement d (body_fills d)), next_body d (body_fills d))
 
-pub program_fills : (d : ℕ) → Fills (suc d) closed (Outline (suc d)) (Program (suc (suc d))) (program_depths (suc (suc d)))
+pub program_fills : (d : ℕ) → Fills (suc d) closed (Outline (suc d)) (WholeProgram (suc (suc d))) (program_depths (suc (suc d)))
 program_fills d = before_fills end (many_fills (next_statement d (body_fills d)))

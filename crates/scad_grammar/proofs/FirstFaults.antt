@@ -10,7 +10,7 @@ use Rattle.scad_grammar.specs.Classes.{numeral, end, among, is, class_of}
 use Rattle.scad_grammar.specs.Languages.{Language, first_of}
 use Rattle.scad_grammar.specs.Reading.{Read, after, many}
 use Rattle.scad_grammar.specs.Faults.{Reads, one, fault_of, left_out, left_out_of_expressions}
-use Rattle.scad_grammar.specs.Grammar.{Program, Outline}
+use Rattle.scad_grammar.specs.Grammar.{WholeProgram, Outline}
 use Rattle.scad_grammar.specs.StatementReads.{firsts_of_statement, statement_read, program_read}
 use Rattle.scad_grammar.specs.FirstFault.{BeginsSome, BeginsWithin, IsFault, IsFirstFault}
 use Rattle.scad_grammar.proofs.Readers.{Begins, Told, IsReader, SameHead, seen}
@@ -89,8 +89,8 @@ fault_deeper (suc k) d ts fault at n e = let z : suc k + d ≡ suc (k + d) = ome
 dead_some : (d : ℕ) (ts : List Token) (fault : SyntaxFault) (t : Token) (more s : List Token) → fault ≢ Nested → program_read d ts ≡ Err (fault, t ∷ more) → ts ≡ s ++ t ∷ more → BeginsSome (s ++ t ∷ []) → ⊥
 dead_some d ts fault t more s n e is b =
     let swap : d + b.0 ≡ b.0 + d = omega arith in
-    dead (program_read (b.0 + d)) (Program (b.0 + d)) (Program (suc (suc (b.0 + d)))) (program_reads (b.0 + d)) ts fault t more s (fault_deeper b.0 d ts fault (t ∷ more) n e) is b.1 b.2
-    (subst (λ n. Program n b.1 ((s ++ t ∷ []) ++ b.2)) swap (lift d b.0 b.1 ((s ++ t ∷ []) ++ b.2) b.3))
+    dead (program_read (b.0 + d)) (WholeProgram (b.0 + d)) (WholeProgram (suc (suc (b.0 + d)))) (program_reads (b.0 + d)) ts fault t more s (fault_deeper b.0 d ts fault (t ∷ more) n e) is b.1 b.2
+    (subst (λ n. WholeProgram n b.1 ((s ++ t ∷ []) ++ b.2)) swap (lift d b.0 b.1 ((s ++ t ∷ []) ++ b.2) b.3))
 
 -- what the reading of tokens with one end gives
 abbrev Ends : ReadProgram → Type 0
@@ -139,17 +139,17 @@ too_deep d ts s t more e is b = go (program_read d ts) (outline_read d ts) refl 
 -- a numeral that a reader goes beyond, or that is too deep, begins some program
 numeral_goes_on : (d : ℕ) (s : List Token) (n : Token) (more : List Token) → Past n more (program_read d (s ++ n ∷ more)) → BeginsSome (s ++ n ∷ [])
 numeral_goes_on d s n more (inl l) =
-    let b = reaches (program_read d) (Program d) (Program (suc (suc d))) (program_reads d) (s ++ n ∷ more) (s ++ n ∷ []) more (sym (append_assoc s (n ∷ []) more)) l in
+    let b = reaches (program_read d) (WholeProgram d) (WholeProgram (suc (suc d))) (program_reads d) (s ++ n ∷ more) (s ++ n ∷ []) more (sym (append_assoc s (n ∷ []) more)) l in
     (suc (suc d), b.1, b.0, b.2)
 numeral_goes_on d s n more (inr e) = go (program_read d (s ++ n ∷ more)) e ((program_reads d).told (s ++ n ∷ more))
   where
-    go : (q : ReadProgram) → q ≡ Err (Nested, n ∷ more) → Told (program_read d) (Program d) (Program (suc (suc d))) (s ++ n ∷ more) q → BeginsSome (s ++ n ∷ [])
+    go : (q : ReadProgram) → q ≡ Err (Nested, n ∷ more) → Told (program_read d) (WholeProgram d) (WholeProgram (suc (suc d))) (s ++ n ∷ more) q → BeginsSome (s ++ n ∷ [])
     go (Ok p) f t = elim (no_both p.0 p.1 Nested (n ∷ more) (Ok p) refl f) [ ]
     go (Err x) f t =
         let pair = same_error x.0 Nested x.1 (n ∷ more) (Err x) refl f in
         let tail : x.1 ≡ n ∷ more = ap (λ (p : SyntaxFault × List Token). p.1) pair in
         let same : t.0 ≡ s = append_cancel_right t.0 s (n ∷ more) (ap (λ l. t.0 ++ l) (sym tail) ∙ sym t.1) in
-        let begun : Begins (Program (suc (suc d))) (s ++ n ∷ []) = subst (λ u. Begins (Program (suc (suc d))) (u ++ n ∷ [])) same (subst (λ (p : SyntaxFault × List Token). Begins (Program (suc (suc d))) (t.0 ++ seen p.0 p.1)) pair t.2) in
+        let begun : Begins (WholeProgram (suc (suc d))) (s ++ n ∷ []) = subst (λ u. Begins (WholeProgram (suc (suc d))) (u ++ n ∷ [])) same (subst (λ (p : SyntaxFault × List Token). Begins (WholeProgram (suc (suc d))) (t.0 ++ seen p.0 p.1)) pair t.2) in
         (suc (suc d), begun.1, begun.0, begun.2)
 
 -- a word of a statement that is refused
@@ -214,7 +214,7 @@ module _ (d : ℕ) (ts s : List Token) (t : Token) (more : List Token) (is_at : 
       out (inr h) = h ∙ ap (λ b. cond b NotInProfile Expected) (classes_within left_out left_out_of_expressions refl (class_of t.kind) a)
 
   -- where the rest of the tokens begins something deeper, as readers tell
-  is_fault : (k : SyntaxFault) → program_read d ts ≡ Err (k, t ∷ more) → OfKind (k, t ∷ more) → Begins (Program (suc (suc d))) (s ++ seen k (t ∷ more)) → IsFault d k s t
+  is_fault : (k : SyntaxFault) → program_read d ts ≡ Err (k, t ∷ more) → OfKind (k, t ∷ more) → Begins (WholeProgram (suc (suc d))) (s ++ seen k (t ∷ more)) → IsFault d k s t
   is_fault Nested e h b = ((suc (suc d), b.1, b.0, b.2), too_deep d ts s t more e is_at)
   is_fault Expected e (inl h) b = absurd (cc)
   is_fault Expected e (inr h) b = by_list (among left_out t) refl
@@ -233,31 +233,31 @@ module _ (d : ℕ) (ts s : List Token) (t : Token) (more : List Token) (is_at : 
 pub first_fault : (d : ℕ) (ts : List Token) (fault : SyntaxFault) (at : List Token) → ends_once ts ≡ true → program_read d ts ≡ Err (fault, at) → IsFirstFault d ts fault at
 first_fault d ts fault at n e = go (program_read d ts) refl e (reading_ends d ts (ends_once_is ts n)) ((program_reads d).told ts)
   where
-    here : (at : List Token) → EndsOnce at → OfKind (fault, at) → program_read d ts ≡ Err (fault, at) → (s : List Token) → ts ≡ s ++ at → Begins (Program (suc (suc d))) (s ++ seen fault at) → IsFirstFault d ts fault at
+    here : (at : List Token) → EndsOnce at → OfKind (fault, at) → program_read d ts ≡ Err (fault, at) → (s : List Token) → ts ≡ s ++ at → Begins (WholeProgram (suc (suc d))) (s ++ seen fault at) → IsFirstFault d ts fault at
     here [] x k e s i b = elim x [ ]
     here (t ∷ more) x k e s i b =
-        let some : BeginsSome s = (suc (suc d), b.1, seen fault (t ∷ more) ++ b.0, subst (Program (suc (suc d)) b.1) (append_assoc s (seen fault (t ∷ more)) b.0) b.2) in
+        let some : BeginsSome s = (suc (suc d), b.1, seen fault (t ∷ more) ++ b.0, subst (WholeProgram (suc (suc d)) b.1) (append_assoc s (seen fault (t ∷ more)) b.0) b.2) in
         let o = outline_begins d ts s (t ∷ more) fault e i in
         (s, t, more, i, refl, (some, o.0, o.1, o.2), is_fault d ts s t more i fault e k b)
 
-    go : (q : ReadProgram) → program_read d ts ≡ q → q ≡ Err (fault, at) → Ends q → Told (program_read d) (Program d) (Program (suc (suc d))) ts q → IsFirstFault d ts fault at
+    go : (q : ReadProgram) → program_read d ts ≡ q → q ≡ Err (fault, at) → Ends q → Told (program_read d) (WholeProgram d) (WholeProgram (suc (suc d))) ts q → IsFirstFault d ts fault at
     go (Ok p) f e x t = elim (no_both p.0 p.1 fault at (Ok p) refl e) [ ]
     go (Err y) f e x t =
         let pair = same_error y.0 fault y.1 at (Err y) refl e in
         let kind = subst (λ (p : SyntaxFault × List Token). OfKind p × EndsOnce p.1) pair x in
         let tail : y.1 ≡ at = ap (λ (p : SyntaxFault × List Token). p.1) pair in
-        here at kind.1 kind.0 (f ∙ e) t.0 (t.1 ∙ ap (λ l. t.0 ++ l) tail) (subst (λ (p : SyntaxFault × List Token). Begins (Program (suc (suc d))) (t.0 ++ seen p.0 p.1)) pair t.2)
+        here at kind.1 kind.0 (f ∙ e) t.0 (t.1 ∙ ap (λ l. t.0 ++ l) tail) (subst (λ (p : SyntaxFault × List Token). Begins (WholeProgram (suc (suc d))) (t.0 ++ seen p.0 p.1)) pair t.2)
 
 -- or the program that they are
-pub is_found : (d : ℕ) (ts : List Token) (x : List StatementTerm) (rest : List Token) → ends_once ts ≡ true → program_read d ts ≡ Ok (x, rest) → (rest ≡ []) × Program d x ts
+pub is_found : (d : ℕ) (ts : List Token) (x : List StatementTerm) (rest : List Token) → ends_once ts ≡ true → program_read d ts ≡ Ok (x, rest) → (rest ≡ []) × WholeProgram d x ts
 is_found d ts x rest n e = go (program_read d ts) e (reading_ends d ts (ends_once_is ts n)) ((program_reads d).told ts)
   where
-    go : (q : ReadProgram) → q ≡ Ok (x, rest) → Ends q → Told (program_read d) (Program d) (Program (suc (suc d))) ts q → (rest ≡ []) × Program d x ts
+    go : (q : ReadProgram) → q ≡ Ok (x, rest) → Ends q → Told (program_read d) (WholeProgram d) (WholeProgram (suc (suc d))) ts q → (rest ≡ []) × WholeProgram d x ts
     go (Ok p) e f t =
         let g : ◌≡◌ {A = ReadProgram} (Ok p) (Ok (x, rest)) = e in
         let pair : ◌≡◌ {A = List StatementTerm × List Token} p (x, rest) = cc in
         let all : ts ≡ t.0 = t.1 ∙ ap (λ l. t.0 ++ l) f ∙ append-nil t.0 in
-        (sym (ap (λ (p : List StatementTerm × List Token). p.1) pair) ∙ f, subst (λ s. Program d x s) (sym all) (subst (λ x. Program d x t.0) (ap (λ (p : List StatementTerm × List Token). p.0) pair) t.2))
+        (sym (ap (λ (p : List StatementTerm × List Token). p.1) pair) ∙ f, subst (λ s. WholeProgram d x s) (sym all) (subst (λ x. WholeProgram d x t.0) (ap (λ (p : List StatementTerm × List Token). p.0) pair) t.2))
     go (Err y) e f t = elim (no_both x rest y.0 y.1 (Err y) e refl) [ ]
 
 -- two divisions of one list at a token: the one is before the other, or they are the same
@@ -293,7 +293,7 @@ not_behind : (d : ℕ) (k : SyntaxFault) (s : List Token) (t : Token) (v r : Lis
 not_behind d k s t v r f e b =
     let apart : s ++ t ∷ v ≡ (s ++ t ∷ []) ++ v = sym (append_assoc s (t ∷ []) v) in
     not_alive d k s t f (
-      (b.0.0, b.0.1, v ++ b.0.2, subst (Program b.0.0 b.0.1) (ap (λ l. l ++ b.0.2) (e ∙ apart) ∙ append_assoc (s ++ t ∷ []) v b.0.2) b.0.3),
+      (b.0.0, b.0.1, v ++ b.0.2, subst (WholeProgram b.0.0 b.0.1) (ap (λ l. l ++ b.0.2) (e ∙ apart) ∙ append_assoc (s ++ t ∷ []) v b.0.2) b.0.3),
       b.1,
       v ++ b.2,
       subst (Outline d b.1) (ap (λ l. l ++ b.2) (e ∙ apart) ∙ append_assoc (s ++ t ∷ []) v b.2) b.3,
@@ -327,12 +327,12 @@ one_fault d ts k l at bt f g =
     ]
 
 -- a program has no fault
-pub no_fault : (d : ℕ) (ts : List Token) (x : List StatementTerm) (k : SyntaxFault) (at : List Token) → Program d x ts → IsFirstFault d ts k at → ⊥
+pub no_fault : (d : ℕ) (ts : List Token) (x : List StatementTerm) (k : SyntaxFault) (at : List Token) → WholeProgram d x ts → IsFirstFault d ts k at → ⊥
 no_fault d ts x k at h f =
     let s = f.0 in
     let t = f.1 in
     let whole : ts ≡ (s ++ t ∷ []) ++ f.2 = f.3 ∙ ap (λ l. s ++ l) f.4 ∙ sym (append_assoc s (t ∷ []) f.2) in
-    let is : Program d x ((s ++ t ∷ []) ++ f.2) = subst (Program d x) whole h in
+    let is : WholeProgram d x ((s ++ t ∷ []) ++ f.2) = subst (WholeProgram d x) whole h in
     not_alive d k s t f.6 ((d, x, f.2, is), x, f.2, is_outline d x ((s ++ t ∷ []) ++ f.2) is)
 
 -- and a first fault is what the reading gives
@@ -344,9 +344,9 @@ only_fault d ts fault at n f = go (program_read d ts) refl
     go (Err x) e = let k = one_fault d ts x.0 fault x.1 at (first_fault d ts x.0 x.1 n e) f in e ∙ ap (λ k. Err (k, x.1)) k.0 ∙ ap (λ l. Err (fault, l)) k.1
 
 -- tokens with one end are a program, or have a fault
-pub program_or_fault : (d : ℕ) (ts : List Token) → ends_once ts ≡ true → ((x : List StatementTerm) × Program d x ts) ⊎ ((k : SyntaxFault) × (at : List Token) × IsFirstFault d ts k at)
+pub program_or_fault : (d : ℕ) (ts : List Token) → ends_once ts ≡ true → ((x : List StatementTerm) × WholeProgram d x ts) ⊎ ((k : SyntaxFault) × (at : List Token) × IsFirstFault d ts k at)
 program_or_fault d ts n = go (program_read d ts) refl
   where
-    go : (q : ReadProgram) → program_read d ts ≡ q → ((x : List StatementTerm) × Program d x ts) ⊎ ((k : SyntaxFault) × (at : List Token) × IsFirstFault d ts k at)
+    go : (q : ReadProgram) → program_read d ts ≡ q → ((x : List StatementTerm) × WholeProgram d x ts) ⊎ ((k : SyntaxFault) × (at : List Token) × IsFirstFault d ts k at)
     go (Ok p) e = inl (p.0, (is_found d ts p.0 p.1 n e).1)
     go (Err x) e = inr (x.0, x.1, first_fault d ts x.0 x.1 n e)

@@ -384,9 +384,3 @@ loop_end whole q xs ts e f = e ∙ ap (in_front xs) f ∙ ap (λ l. Ok (l, ts)) 
 
 pub loop_fault : {T A : Type 0} (whole q : Read T Kind (List A)) (xs : List A) (x : Kind × List T) → whole ≡ in_front xs q → q ≡ Err x → whole ≡ Err x
 loop_fault whole q xs x e f = e ∙ ap (in_front xs) f
-
-pub both_ok : {T A B C : Type 0} (f : A → B → C) (ra : Reader T Kind A) (rb : Reader T Kind B) (ts : List T) (a : A) (us : List T) (b : B) (vs : List T) → ra ts ≡ Ok (a, us) → rb us ≡ Ok (b, vs) → both f ra rb ts ≡ Ok (f a b, vs)
-both_ok f ra rb ts a us b vs e g = ap (λ r. after r (λ a ts. after (rb ts) (λ b ts. Ok (f a b, ts)))) e ∙ ap (λ r. after r (λ b ts. Ok (f a b, ts))) g
-
-pub both_second_fault : {T A B C : Type 0} (f : A → B → C) (ra : Reader T Kind A) (rb : Reader T Kind B) (ts : List T) (a : A) (us : List T) (x : Kind × List T) → ra ts ≡ Ok (a, us) → rb us ≡ Err x → both f ra rb ts ≡ Err x
-both_second_fault f ra rb ts a us x e g = ap (λ r. after r (λ a ts. after (rb ts) (λ b ts. Ok (f a b, ts)))) e ∙ ap (λ r. after r (λ b ts. Ok (f a b, ts))) g

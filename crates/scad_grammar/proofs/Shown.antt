@@ -8,7 +8,7 @@ use Rattle.scad_lexer.specs.declared.token.Symbol.TheVariants.{Caret}
 use Rattle.scad_ast.specs.Terms.{Term, ArgTerm, PositionalTerm, ParamTerm, BinderTerm, MarkTerm, StatementTerm, InstanceStatement, InstanceTerm, CoreTerm, BodyTerm, InstanceBody, EmptyBody, UndefTerm}
 use Rattle.scad_grammar.specs.Classes.{numeral, text, true_word, false_word, undef_word, child_count, special, argument_names, open_parenthesis_sign, close_parenthesis_sign, open_bracket_sign, close_bracket_sign, open_brace_sign, close_brace_sign, comma_sign, semicolon_sign, assign_sign, colon_sign, question_sign, dot_sign, minus_sign, plus_sign, not_sign, times_sign, remainder_sign, hash_sign, caret_sign, name, end, if_word, else_word, for_word, intersection_for_word, module_word, function_word, class_of, is, among}
 use Rattle.scad_grammar.specs.Languages.{Language, One, Mapped, Both, BothIf, EitherOf, Nothing, Many, Maybe, Never, Behind, Before, Separated, first_of, second_of, pair_of, cons}
-use Rattle.scad_grammar.specs.Grammar.{InParentheses, Arg, Args, Param, Params, Binder, Binders, Bracket, Primary, Suffix, Unary, Chain, Choice, whole, outline, ArgsIn, ParamsIn, BindersIn, StatementsIn, InstanceIn, Expr, Operand, Core, Instance, BodyOf, StatementOf, Statement, Body, Program, Outline, levels, chain_of, link, items, if_of, IsNearest, ends_open, instance_open, core_open, instance_of, loop_of, call_of, block_of}
+use Rattle.scad_grammar.specs.Grammar.{InParentheses, Arg, Args, Param, Params, Binder, Binders, Bracket, Primary, Suffix, Unary, Chain, Choice, whole, outline, ArgsIn, ParamsIn, BindersIn, StatementsIn, InstanceIn, Expr, Operand, Core, Instance, BodyOf, StatementOf, Statement, Body, WholeProgram, Outline, levels, chain_of, link, items, if_of, IsNearest, ends_open, instance_open, core_open, instance_of, loop_of, call_of, block_of}
 use Rattle.scad_grammar.specs.Depths.{Depths, deeper, one_depth, mapped_depths, both_depths, both_if_depths, of_either, either_depths, nothing_depths, of_many, many_depths, of_maybe, maybe_depths, never_depths, behind_depths, before_depths, separated_depths, parentheses_depths, arg_depths, args_depths, param_depths, params_depths, binders_depths, bracket_depths, primary_depths, suffix_depths, unary_depths, chain_depths, choice_depths, args_in_depths, params_in_depths, binders_in_depths, expr_depths, operand_depths, core_depths, instance_depths, body_of_depths, statement_of_depths, statements_in_depths, instance_in_depths, statement_depths, body_depths, program_depths, AllBelow}
 use Rattle.scad_grammar.specs.Reading.{starts}
 use Rattle.scad_grammar.specs.StatementReads.{firsts_of_statement, firsts_of_instance}
@@ -535,5 +535,5 @@ statement_shows : (k d : ℕ) → ShowsStatement k (suc d)
 statement_shows zero d = no_statement (suc d)
 statement_shows (suc k) d = next_statement k d (body_shows k d)
 
-pub program_shows : (k d : ℕ) → Shows (suc d) closed (Program k) (program_depths k) (Program (suc d)) (Outline (suc d))
+pub program_shows : (k d : ℕ) → Shows (suc d) closed (WholeProgram k) (program_depths k) (WholeProgram (suc d)) (Outline (suc d))
 program_shows k d = before_shows end refl (many_shows (statement_shows k d))

@@ -7,7 +7,7 @@ use Rattle.scad_lexer.specs.declared.token.Symbol.TheVariants.{OpenParenthesis, 
 use Rattle.scad_ast.specs.Terms.{Term, ArgTerm, ParamTerm, BinderTerm, StatementTerm, EmptyStatement, BlockStatement, AssignmentTerm, SpecialAssignmentTerm, ModuleTerm, FunctionTerm, InstanceStatement, InstanceTerm, BodyTerm, EmptyBody, InstanceBody}
 use Rattle.scad_grammar.specs.Classes.{name, special, end, module_word, function_word, if_word, else_word, for_word, intersection_for_word, close_parenthesis_sign, open_brace_sign, close_brace_sign, semicolon_sign, assign_sign, among, is, other_than, class_of}
 use Rattle.scad_grammar.specs.Languages.{Language, One, Mapped, Both, EitherOf, Nothing, Many, Never, Behind, Before, second_of, pair_of}
-use Rattle.scad_grammar.specs.Grammar.{binder_of, param_of, mark_of, if_of, loop_of, call_of, instance_of, Binders, InParentheses, Param, Params, Binder, Core, Instance, BodyOf, StatementOf, Detail, whole, BindersIn, ParamsIn, StatementsIn, InstanceIn, Expr, Statement, Body, Program, block_of, bare_block_of, assignment_of, special_assignment_of, module_of, function_of, ends_open, instance_open}
+use Rattle.scad_grammar.specs.Grammar.{binder_of, param_of, mark_of, if_of, loop_of, call_of, instance_of, Binders, InParentheses, Param, Params, Binder, Core, Instance, BodyOf, StatementOf, Detail, whole, BindersIn, ParamsIn, StatementsIn, InstanceIn, Expr, Statement, Body, WholeProgram, block_of, bare_block_of, assignment_of, special_assignment_of, module_of, function_of, ends_open, instance_open}
 use Rattle.scad_grammar.specs.Reading.{Read, starts, mapped, both, choice, ahead, many}
 use Rattle.scad_grammar.specs.declared.SyntaxFault.{SyntaxFault}
 use Rattle.scad_grammar.specs.Faults.{Reads, one, fault_of, left_out}
@@ -519,7 +519,7 @@ statement_depth_reads (suc d) =
     )
 
 -- a program is read
-pub program_reads : (d : ℕ) → IsReader (program_read d) (Program d) (Program (suc (suc d))) (λ x t. false)
+pub program_reads : (d : ℕ) → IsReader (program_read d) (WholeProgram d) (WholeProgram (suc (suc d))) (λ x t. false)
 program_reads d =
     before_reads (many (among firsts_of_statement) (statement_read d)) (Many (Statement whole d)) (Many (Statement whole (suc (suc d)))) end (λ x. among statements_more) end_one (token End) refl
     (statements_reads (statement_read d) (Statement whole d) (Statement whole (suc (suc d))) (statement_depth_reads d).0 (statement_at_opens whole d)) (λ x. next_apart (end ∷ []) statements_more refl)

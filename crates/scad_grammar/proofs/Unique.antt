@@ -4,7 +4,7 @@ use Rattle.scad_lexer.specs.declared.token.Token.{Token}
 use Rattle.scad_ast.specs.Terms.{Term, ArgTerm, PositionalTerm, ParamTerm, BinderTerm, StatementTerm, InstanceStatement, InstanceTerm, BodyTerm, InstanceBody, statements_from}
 use Rattle.scad_grammar.specs.Classes.{numeral, text, true_word, false_word, undef_word, child_count, special, open_parenthesis_sign, close_parenthesis_sign, open_bracket_sign, close_bracket_sign, open_brace_sign, close_brace_sign, comma_sign, semicolon_sign, assign_sign, colon_sign, question_sign, dot_sign, name, end, if_word, else_word, for_word, intersection_for_word, module_word, function_word, class_of, is, among}
 use Rattle.scad_grammar.specs.Languages.{Language, One, Mapped, Both, BothIf, EitherOf, Nothing, Many, Maybe, Never, Behind, Before, Separated, first_of, second_of, pair_of, cons}
-use Rattle.scad_grammar.specs.Grammar.{InParentheses, items, range_of, Arg, Args, Param, Params, Binders, Bracket, Primary, Suffix, Unary, Chain, Choice, whole, ArgsIn, ParamsIn, BindersIn, StatementsIn, InstanceIn, Expr, Operand, Core, Instance, BodyOf, StatementOf, Statement, Body, Program, levels, link, chain_of, choice_of, unary_of, postfix_of, index_of, member_of, named_of, paren_of, bracket_of, given_of, param_of, binder_of, if_of, IsNearest, instance_of, loop_of, call_of, block_of, bare_block_of, assignment_of, special_assignment_of, module_of, function_of}
+use Rattle.scad_grammar.specs.Grammar.{InParentheses, items, range_of, Arg, Args, Param, Params, Binders, Bracket, Primary, Suffix, Unary, Chain, Choice, whole, ArgsIn, ParamsIn, BindersIn, StatementsIn, InstanceIn, Expr, Operand, Core, Instance, BodyOf, StatementOf, Statement, Body, WholeProgram, levels, link, chain_of, choice_of, unary_of, postfix_of, index_of, member_of, named_of, paren_of, bracket_of, given_of, param_of, binder_of, if_of, IsNearest, instance_of, loop_of, call_of, block_of, bare_block_of, assignment_of, special_assignment_of, module_of, function_of}
 use Rattle.scad_grammar.specs.Reading.{starts}
 use Rattle.scad_grammar.specs.Depths.{Depths, deeper, one_depth, mapped_depths, both_depths, both_if_depths, of_either, either_depths, nothing_depths, of_many, many_depths, of_maybe, maybe_depths, never_depths, behind_depths, before_depths, separated_depths, parentheses_depths, arg_depths, args_depths, param_depths, params_depths, binders_depths, bracket_depths, primary_depths, suffix_depths, unary_depths, chain_depths, choice_depths, args_in_depths, params_in_depths, binders_in_depths, expr_depths, operand_depths, core_depths, instance_depths, body_of_depths, statement_of_depths, statements_in_depths, instance_in_depths, statement_depths, body_depths, program_depths, HasDepths}
 use Rattle.scad_grammar.proofs.Tests.{apart, classes_apart}
@@ -348,7 +348,7 @@ statement_walks : (k : ℕ) → WalksStatement k
 statement_walks zero = no_statement
 statement_walks (suc k) = next_statement k (body_walks k)
 
-program_walks : (k : ℕ) → Walks (λ x. and_then (each statement x) one) any (Program k) (program_depths k)
+program_walks : (k : ℕ) → Walks (λ x. and_then (each statement x) one) any (WholeProgram k) (program_depths k)
 program_walks k = before_walks end (many_walks (statement_walks k))
 
 told : (x : List StatementTerm) (s : List Token) (depths : List ℕ) → HasDepths x s depths → and_then (each statement x) one (s ++ []) ≡ (depths, [])

@@ -4,7 +4,7 @@ use Rattle.scad_lexer.specs.declared.token.Token.{Token}
 use Rattle.scad_ast.specs.Terms.{Term, ArgTerm, StatementTerm, InstanceStatement, InstanceTerm, ParamTerm, BinderTerm, BodyTerm, InstanceBody, PositionalTerm}
 use Rattle.scad_grammar.specs.Classes.{open_parenthesis_sign, close_parenthesis_sign, close_bracket_sign, open_brace_sign, close_brace_sign, comma_sign, semicolon_sign, assign_sign, colon_sign, question_sign, open_bracket_sign, name, end, if_word, else_word, is, among}
 use Rattle.scad_grammar.specs.Languages.{Language, One, Mapped, Both, BothIf, EitherOf, Nothing, Many, Maybe, Never, Behind, Before, Separated, first_of, second_of, pair_of, cons}
-use Rattle.scad_grammar.specs.Grammar.{InParentheses, Arg, Args, Param, Params, Binders, Bracket, Primary, Suffix, Unary, Chain, Choice, Detail, whole, outline, ArgsIn, ParamsIn, BindersIn, StatementsIn, InstanceIn, Expr, Operand, Instance, BodyOf, StatementOf, Statement, Body, ProgramIn, Program, Outline, levels, link, chain_of, items, if_of, IsNearest}
+use Rattle.scad_grammar.specs.Grammar.{InParentheses, Arg, Args, Param, Params, Binders, Bracket, Primary, Suffix, Unary, Chain, Choice, Detail, whole, outline, ArgsIn, ParamsIn, BindersIn, StatementsIn, InstanceIn, Expr, Operand, Instance, BodyOf, StatementOf, Statement, Body, ProgramIn, WholeProgram, Outline, levels, link, chain_of, items, if_of, IsNearest}
 
 record Within {A : Type 0} (L M : Language A) : Type 0 where
   at : (x : A) (s : List Token) → L x s → M x s
@@ -189,12 +189,12 @@ module _ (g : Detail) where
         body_within (InstanceIn whole d (Body whole d)) (InstanceIn g k (Body g k)) i (StatementsIn d (Statement whole d)) (StatementsIn k (Statement g k)) s,
       )
 
-  pub program_within : (d k : ℕ) → d ≤ k → (x : List StatementTerm) (s : List Token) → Program d x s → ProgramIn g k x s
+  pub program_within : (d k : ℕ) → d ≤ k → (x : List StatementTerm) (s : List Token) → WholeProgram d x s → ProgramIn g k x s
   program_within d k l = (before_within (is end) (many_within (statement_in_within d k l).0)).at
 
-pub lift : (n d : ℕ) (x : List StatementTerm) (s : List Token) → Program d x s → Program (n + d) x s
+pub lift : (n d : ℕ) (x : List StatementTerm) (s : List Token) → WholeProgram d x s → WholeProgram (n + d) x s
 lift n d = program_within whole d (n + d) (omega arith)
 
 -- a program is its own outline
-pub is_outline : (d : ℕ) (x : List StatementTerm) (s : List Token) → Program d x s → Outline d x s
+pub is_outline : (d : ℕ) (x : List StatementTerm) (s : List Token) → WholeProgram d x s → Outline d x s
 is_outline d = program_within outline d d (omega arith)

@@ -7,7 +7,7 @@ use Rattle.scad_lexer.specs.declared.token.Token.{Token}
 use Rattle.scad_ast.specs.Terms.{Term, ArgTerm, PositionalTerm, ParamTerm, BinderTerm, StatementTerm, InstanceStatement, InstanceTerm, BodyTerm, InstanceBody}
 use Rattle.scad_grammar.specs.Classes.{open_parenthesis_sign, close_parenthesis_sign, open_bracket_sign, close_bracket_sign, open_brace_sign, close_brace_sign, comma_sign, semicolon_sign, assign_sign, colon_sign, question_sign, dot_sign, name, end, if_word, else_word, module_word, function_word, is, among}
 use Rattle.scad_grammar.specs.Languages.{Language, One, Mapped, Both, BothIf, EitherOf, Nothing, Many, Maybe, Never, Behind, Before, Separated, first_of, second_of, pair_of, cons}
-use Rattle.scad_grammar.specs.Grammar.{InParentheses, Arg, Args, Param, Params, Binders, Bracket, Primary, Suffix, Unary, Chain, Choice, whole, ArgsIn, ParamsIn, BindersIn, StatementsIn, InstanceIn, Expr, Operand, Core, Instance, BodyOf, StatementOf, Statement, Body, Program, levels, chain_of, link, items, if_of, IsNearest}
+use Rattle.scad_grammar.specs.Grammar.{InParentheses, Arg, Args, Param, Params, Binders, Bracket, Primary, Suffix, Unary, Chain, Choice, whole, ArgsIn, ParamsIn, BindersIn, StatementsIn, InstanceIn, Expr, Operand, Core, Instance, BodyOf, StatementOf, Statement, Body, WholeProgram, levels, chain_of, link, items, if_of, IsNearest}
 
 -- the depths of the tokens with which a thing is written, in their order, by how it is written
 pub record Depths {A : Type 0} (L : Language A) : Type 0 where
@@ -191,12 +191,12 @@ unfoldable mutual
   body_depths zero = never_depths
   body_depths (suc k) = body_of_depths (instance_in_depths k (body_depths k)) (statements_in_depths k (statement_depths k))
 
-abbrev pub program_depths : (k : ℕ) → Depths (Program k)
+abbrev pub program_depths : (k : ℕ) → Depths (WholeProgram k)
 program_depths k = before_depths (is end) (many_depths (statement_depths k))
 
 -- these are the depths of the tokens of a program, in their order
 abbrev pub HasDepths : List StatementTerm → List Token → List ℕ → Type 0
-HasDepths x s depths = (k : ℕ) × (h : Program k x s) × (depths ≡ (program_depths k).of x s h)
+HasDepths x s depths = (k : ℕ) × (h : WholeProgram k x s) × (depths ≡ (program_depths k).of x s h)
 
 -- each is less than so much
 abbrev pub AllBelow : ℕ → List ℕ → Type 0

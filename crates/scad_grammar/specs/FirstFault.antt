@@ -6,11 +6,11 @@ use Rattle.scad_grammar.specs.declared.SyntaxFault.{SyntaxFault}
 use Rattle.scad_grammar.specs.declared.SyntaxFault.TheVariants.{Expected, Nested, NotInProfile}
 use Rattle.scad_grammar.specs.Classes.{numeral, among, is}
 use Rattle.scad_grammar.specs.Faults.{left_out, left_out_of_expressions}
-use Rattle.scad_grammar.specs.Grammar.{Program, Outline}
+use Rattle.scad_grammar.specs.Grammar.{WholeProgram, Outline}
 
 -- some program, however deep, begins with these tokens
 abbrev pub BeginsSome : List Token → Type 0
-BeginsSome s = (d : ℕ) × (x : List StatementTerm) × (w : List Token) × Program d x (s ++ w)
+BeginsSome s = (d : ℕ) × (x : List StatementTerm) × (w : List Token) × WholeProgram d x (s ++ w)
 
 -- Some program begins with these tokens in which each of them is less deep than so much: an outline does,
 -- and before its first gap an outline shows only what is less deep.

@@ -12,12 +12,9 @@ use Rattle.scad_ast.specs.Terms.{Term, NumberTerm, TextTerm, TruthTerm, UndefTer
 use Rattle.scad_grammar.specs.Classes.{numeral, name, child_count, special, text, end, module_word, function_word, if_word, else_word, for_word, intersection_for_word, true_word, false_word, undef_word, open_parenthesis_sign, close_parenthesis_sign, open_bracket_sign, close_bracket_sign, open_brace_sign, close_brace_sign, comma_sign, semicolon_sign, assign_sign, colon_sign, question_sign, dot_sign, plus_sign, minus_sign, times_sign, divide_sign, remainder_sign, less_sign, greater_sign, less_equal_sign, greater_equal_sign, equal_sign, not_equal_sign, and_sign, or_sign, not_sign, hash_sign, caret_sign, argument_names, class_of, among, is, number_of, bytes_of}
 use Rattle.scad_grammar.specs.Languages.{Language, One, Mapped, Both, BothIf, EitherOf, Nothing, Many, Maybe, Never, first_of, pair_of, Behind, Before, Separated}
 
--- something in parentheses, brackets or braces
+-- something in parentheses
 abbrev pub InParentheses : {A : Type 0} → Language A → Language A
 InParentheses L = Behind (is open_parenthesis_sign) (Before L (is close_parenthesis_sign))
-
-abbrev pub InBraces : {A : Type 0} → Language A → Language A
-InBraces L = Behind (is open_brace_sign) (Before L (is close_brace_sign))
 
 -- the operators of a level
 abbrev pub binary_at : ℕ → BinaryOp
@@ -326,8 +323,8 @@ abbrev pub ProgramIn : Detail → ℕ → Language (List StatementTerm)
 ProgramIn g d = Before (Many (Statement g d)) (is end)
 
 -- a program whose tokens are less deep than so much
-abbrev pub Program : ℕ → Language (List StatementTerm)
-Program = ProgramIn whole
+abbrev pub WholeProgram : ℕ → Language (List StatementTerm)
+WholeProgram = ProgramIn whole
 
 -- an outline whose tokens are less deep than so much, but for the gaps and what stands behind one
 abbrev pub Outline : ℕ → Language (List StatementTerm)

@@ -6,7 +6,7 @@ ghost use Rattle.scad_lexer.specs.declared.token.Token.{Token};
 ghost use Rattle.scad_lexer.specs.Tokens.{ends_once};
 ghost use Rattle.scad_ast.specs.Terms.{StatementTerm};
 ghost use Rattle.scad_ast.specs.Counts.{begun_by_program};
-ghost use Rattle.scad_grammar.specs.Grammar.{Program};
+ghost use Rattle.scad_grammar.specs.Grammar.{WholeProgram};
 ghost use Rattle.scad_grammar.specs.Depths.{HasDepths, AllBelow, BeginsShallow};
 ghost use Rattle.scad_grammar.specs.FirstFault.{BeginsWithin, IsFirstFault};
 
@@ -23,17 +23,17 @@ pub enum SyntaxFault {
 
 /// No list of tokens has two programs, however deep they may be.
 pub fn one_program_each()
-    ensures { (d k : ℕ) (x y : List StatementTerm) (s : List Token) → Program d x s → Program k y s → x ≡ y }
+    ensures { (d k : ℕ) (x y : List StatementTerm) (s : List Token) → WholeProgram d x s → WholeProgram k y s → x ≡ y }
 {}
 
 /// Tokens that end with their only end are a program in which each is less deep than so much, or have a first fault.
 pub fn program_or_fault()
-    ensures { (d : ℕ) (s : List Token) → ends_once s ≡ true → ((x : List StatementTerm) × Program d x s) ⊎ ((fault : SyntaxFault) × (at : List Token) × IsFirstFault d s fault at) }
+    ensures { (d : ℕ) (s : List Token) → ends_once s ≡ true → ((x : List StatementTerm) × WholeProgram d x s) ⊎ ((fault : SyntaxFault) × (at : List Token) × IsFirstFault d s fault at) }
 {}
 
 /// A program in which each token is less deep than so much has no fault.
 pub fn no_program_has_a_fault()
-    ensures { (d : ℕ) (x : List StatementTerm) (s : List Token) (fault : SyntaxFault) (at : List Token) → Program d x s → IsFirstFault d s fault at → ⊥ }
+    ensures { (d : ℕ) (x : List StatementTerm) (s : List Token) (fault : SyntaxFault) (at : List Token) → WholeProgram d x s → IsFirstFault d s fault at → ⊥ }
 {}
 
 /// No list of tokens has two first faults, neither of two kinds nor at two places.
@@ -43,7 +43,7 @@ pub fn one_fault_each()
 
 /// A program has no more blocks, functions and modules than tokens.
 pub fn few_definitions()
-    ensures { (d : ℕ) (x : List StatementTerm) (s : List Token) → Program d x s → begun_by_program x ≤ length s }
+    ensures { (d : ℕ) (x : List StatementTerm) (s : List Token) → WholeProgram d x s → begun_by_program x ≤ length s }
 {}
 
 /// Each token of a program has a depth.
@@ -53,8 +53,8 @@ pub fn one_depth_each()
 
 /// A program's tokens are less deep than so much exactly where each of their depths is less.
 pub fn programs_by_depth()
-    ensures depths { (d : ℕ) (x : List StatementTerm) (s : List Token) → Program (suc d) x s → (depths : List ℕ) × HasDepths x s depths × AllBelow (suc d) depths }
-    ensures program { (d : ℕ) (x : List StatementTerm) (s : List Token) (depths : List ℕ) → HasDepths x s depths → AllBelow (suc d) depths → Program (suc d) x s }
+    ensures depths { (d : ℕ) (x : List StatementTerm) (s : List Token) → WholeProgram (suc d) x s → (depths : List ℕ) × HasDepths x s depths × AllBelow (suc d) depths }
+    ensures program { (d : ℕ) (x : List StatementTerm) (s : List Token) (depths : List ℕ) → HasDepths x s depths → AllBelow (suc d) depths → WholeProgram (suc d) x s }
 {}
 
 /// An outline begins with some tokens exactly where a program does in which each of them is less deep than so much:

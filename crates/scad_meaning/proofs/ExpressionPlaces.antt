@@ -9,7 +9,7 @@ use Rattle.scad_value.specs.Values.{Val, NumberVal, TruthVal, TextVal, ListVal, 
 use Rattle.scad_value.specs.Operators.{binary_of, unary_of, index_of, made}
 use Rattle.scad_scope.specs.Names.{Pairs, find_in}
 use Rattle.scad_arguments.specs.Arguments.{names_of, nothing_given, taker_of, with_argument}
-use Rattle.scad_blocks.specs.Blocks.{Function}
+use Rattle.scad_blocks.specs.Blocks.{SourceFunction}
 use Rattle.scad_builtin.specs.declared.function.Builtin.{Builtin}
 use Rattle.scad_builtin.specs.Builtins.{builtin_of, takes, applied}
 use Rattle.scad_evaluation.specs.Meaning.{Outcome, Gives, Faults, then_with, answered, Env, Within, no_call, variable_in, function_in, counted, Evaluates, Setting, value_at, with_calls, in_scope, with_specials, each_value, with_front, only_values, count_of_terms, Slots, Arguments, each_argument, parameter_value, each_parameter, paired, function_value, function_called, built_in, called, operand, each_suffix, each_link, settled, evaluated}
@@ -117,7 +117,7 @@ module _ (P : Place → Type 0) where
       (parameters_keep here s ps slots turns (rest_held P (places_of_param p) (flat_map places_of_param ps) h)) (λ turns vs. tt))
 
   -- calls
-  function_keeps : (home : Setting) → Sits home → (f : Function) (given : Arguments) (turns : ℕ) → FunctionHeld P f
+  function_keeps : (home : Setting) → Sits home → (f : SourceFunction) (given : Arguments) (turns : ℕ) → FunctionHeld P f
       → Keeps P Whatever (function_value home f given turns)
   function_keeps home s f given turns h =
       skip_keeps P Whatever (each_parameter (with_specials home given.specials) f.params given.slots turns) _
@@ -125,7 +125,7 @@ module _ (P : Place → Type 0) where
       value_keeps (in_scope (with_specials home given.specials) (Within (paired (names_of f.params) vs []) [] [] no_call home.env))
       (s.0, (tt, tt, tt, s.1)) true f.value turns h.1)
 
-  function_called_keeps : (home : Setting) → Sits home → (at : Place) (f : Function) (given : Arguments) (turns : ℕ) → P at → FunctionHeld P f
+  function_called_keeps : (home : Setting) → Sits home → (at : Place) (f : SourceFunction) (given : Arguments) (turns : ℕ) → P at → FunctionHeld P f
       → Keeps P Whatever (function_called home at f given turns)
   function_called_keeps home s at f given turns p h =
       call_keeps P Whatever home.calls at _ p (λ calls.
@@ -141,7 +141,7 @@ module _ (P : Place → Type 0) where
       (then_with (each_value here es turns) (λ turns vs. answered (applied builtin vs) at turns)) (Faults BadArgument at)
       (skip_keeps P Whatever (each_value here es turns) _ (values_keep here s es turns g) (λ turns vs. answered_keeps P (applied builtin vs) at turns p)) p)
 
-  called_keeps : (here : Setting) → Sits here → (at : Place) (name : List ℕ) (args : ArgTerms) (turns : ℕ) (found : Option (Function × Env))
+  called_keeps : (here : Setting) → Sits here → (at : Place) (name : List ℕ) (args : ArgTerms) (turns : ℕ) (found : Option (SourceFunction × Env))
       → P at → Held P (places_of_args args) → IfSome found (λ f. FunctionHeld P f.0 × ScopeHeld P f.1)
       → Keeps P Whatever (called here at name args turns found)
   called_keeps here s at name args turns None p h g = built_in_keeps here s at name args turns (builtin_of name) p h

@@ -12,7 +12,7 @@ use Rattle.scad_ast.specs.Places.{places_of_term, places_of_param, places_of_sta
 use Rattle.scad_value.specs.Values.{Val}
 use Rattle.scad_value.specs.Operators.{Answer}
 use Rattle.scad_scope.specs.Names.{Pairs, find_in, or_else}
-use Rattle.scad_blocks.specs.Blocks.{Function, Module, Assigned, same_name, with_assigned, all_assigned, assigned_in, assigned_by, assignments_of, statements_of_body}
+use Rattle.scad_blocks.specs.Blocks.{SourceFunction, SourceModule, Assigned, same_name, with_assigned, all_assigned, assigned_in, assigned_by, assignments_of, statements_of_body}
 use Rattle.scad_evaluation.specs.Meaning.{Outcome, Gives, Faults, then_with, or_fault, answered, Env, Outermost, Within, Opened, no_call, opened, standing_in, function_in, module_in, or_outer, call_in, functions_standing_in, function_standing, modules_standing_in, module_standing, entered_scope, with_variable, turn, one_call_fewer}
 use Rattle.scad_meaning.specs.Bodies.{instances_in, instances_of, is_on, evaluated_in}
 
@@ -50,10 +50,10 @@ module _ (P : Place → Type 0) where
   rest_held (x ∷ xs) ys h = rest_held xs ys h.1
 
   -- definitions, and scopes with all definitions and calls in them
-  abbrev pub FunctionHeld : Function → Type 0
+  abbrev pub FunctionHeld : SourceFunction → Type 0
   FunctionHeld f = Held (flat_map places_of_param f.params) × Held (places_of_term f.value)
 
-  abbrev pub ModuleHeld : Module → Type 0
+  abbrev pub ModuleHeld : SourceModule → Type 0
   ModuleHeld m = Held (flat_map places_of_param m.params) × Held (places_of_body m.body)
 
   abbrev mutual

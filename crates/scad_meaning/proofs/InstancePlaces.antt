@@ -17,7 +17,7 @@ use Rattle.scad_value.specs.Values.{Val, Vals, no_vals, and_val, truth_of}
 use Rattle.scad_value.specs.Operators.{Answer}
 use Rattle.scad_scope.specs.Names.{Pairs, find_in}
 use Rattle.scad_arguments.specs.Arguments.{names_of, nothing_given, taker_of, with_argument}
-use Rattle.scad_blocks.specs.Blocks.{Module, Assigned, assignments_of, statements_of_body}
+use Rattle.scad_blocks.specs.Blocks.{SourceModule, Assigned, assignments_of, statements_of_body}
 use Rattle.scad_evaluation.specs.Meaning.{Outcome, Gives, Faults, then_with, Env, Outermost, Within, Opened, no_call, opened, module_in, call_in, entered_scope, with_variable, Setting, value_at, Arguments, each_argument, each_parameter}
 use Rattle.scad_modules.specs.declared.table.BuiltinModule.{BuiltinModule}
 use Rattle.scad_modules.specs.declared.table.BuiltinModule.TheVariants.{Echo}
@@ -330,7 +330,7 @@ module _ (P : Place → Type 0) where
             (effect_sound unit (is_some here.inside) (find_in (given.specials ++ here.chain) (codes "fn")) m given.slots) (λ effect sound.
             call_effect_keeps (with_chain here (given.specials ++ here.chain)) at effect body turns leaves p h s sound))
 
-        module_keeps : (here : Context) (at : Place) (found : Module × Env) (given : Arguments) (body : BodyTerm) (turns leaves : ℕ) → P at
+        module_keeps : (here : Context) (at : Place) (found : SourceModule × Env) (given : Arguments) (body : BodyTerm) (turns leaves : ℕ) → P at
             → ModuleHeld P found.0 → ScopeHeld P found.1 → Held P (places_of_body body) → ContextHeld here
             → Keeps P DesignsHeld (module_design evaluator here at found given body turns leaves)
         module_keeps here at found given body turns leaves p m o h s =
@@ -346,7 +346,7 @@ module _ (P : Place → Type 0) where
             ((functions_held P (statements_of_body found.0.body) own, modules_held P (statements_of_body found.0.body) own, (body_held P body h, s.0), o), s.1) own)
             (λ turns ms k. grouped_members Union ms k))))
 
-        called_keeps : (here : Context) (at : Place) (name : List ℕ) (args : List ArgTerm) (body : BodyTerm) (found : Option (Module × Env)) (turns leaves : ℕ)
+        called_keeps : (here : Context) (at : Place) (name : List ℕ) (args : List ArgTerm) (body : BodyTerm) (found : Option (SourceModule × Env)) (turns leaves : ℕ)
             → P at → Held P (places_of_args (args_from args)) → Held P (places_of_body body) → ContextHeld here
             → IfSome found (λ f. ModuleHeld P f.0 × ScopeHeld P f.1)
             → Keeps P DesignsHeld (call_design evaluator here at name args body found turns leaves)

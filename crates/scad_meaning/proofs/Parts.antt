@@ -18,7 +18,7 @@ use Rattle.scad_value.specs.Values.{Val, Vals, no_vals, and_val, truth_of}
 use Rattle.scad_value.specs.Operators.{Answer}
 use Rattle.scad_scope.specs.Names.{Pairs, find_in}
 use Rattle.scad_arguments.specs.Arguments.{names_of, nothing_given}
-use Rattle.scad_blocks.specs.Blocks.{Module, assignments_of, statements_of_body}
+use Rattle.scad_blocks.specs.Blocks.{SourceModule, assignments_of, statements_of_body}
 use Rattle.scad_evaluation.specs.Meaning.{Outcome, Gives, Faults, then_with, or_fault, Env, Opened, no_call, opened, module_in, call_in, entered_scope, turn, one_call_fewer, value_at, Arguments, each_argument, each_parameter}
 use Rattle.scad_modules.specs.declared.table.BuiltinModule.{BuiltinModule}
 use Rattle.scad_modules.specs.Table.{module_named}
@@ -297,7 +297,7 @@ module _ (grouped_trim : (op : Op) (designs : List Design) → All IsTrim design
         answered_has (IsSmall leaves) (effect_of unit (is_some here.inside) (find_in (given.specials ++ here.chain) (codes "fn")) m given.slots) at _ (λ effect.
         effect_small (with_chain here (given.specials ++ here.chain)) at effect body turns leaves))
 
-    module_small : (here : Context) (at : Place) (found : Module × Env) (given : Arguments) (body : BodyTerm) (turns leaves : ℕ)
+    module_small : (here : Context) (at : Place) (found : SourceModule × Env) (given : Arguments) (body : BodyTerm) (turns leaves : ℕ)
         → Has (IsSmall leaves) (module_design evaluator here at found given body turns leaves)
     module_small here at found given body turns leaves =
         call_has (IsSmall leaves) here.calls at _ (λ calls.
@@ -308,7 +308,7 @@ module _ (grouped_trim : (op : Op) (designs : List Design) → All IsTrim design
         then_has (AreSmall leaves) (IsSmall leaves) (each_in_scope evaluator inner (statements_of_body found.0.body) turns leaves) _
         (scope_small inner (statements_of_body found.0.body) turns leaves) (λ turns ms h. joined_small Union leaves ms h))))
 
-    called_small : (here : Context) (at : Place) (name : List ℕ) (args : List ArgTerm) (body : BodyTerm) (found : Option (Module × Env)) (turns leaves : ℕ)
+    called_small : (here : Context) (at : Place) (name : List ℕ) (args : List ArgTerm) (body : BodyTerm) (found : Option (SourceModule × Env)) (turns leaves : ℕ)
         → Has (IsSmall leaves) (call_design evaluator here at name args body found turns leaves)
     called_small here at name args body (Some found) turns leaves =
         skip_has (IsSmall leaves) (each_argument (setting evaluations here) (names_of found.0.params) 0 (args_from args) (nothing_given (length found.0.params)) turns) _

@@ -17,10 +17,12 @@ abbrev pub first_of : Assigned → List Assigned → Option Assigned
 first_of a [] = None
 first_of a (b ∷ bs) = if same_name a b then Some b else first_of a bs
 
+-- the later of two assignments, where there is one
 abbrev pub or_later : Option Assigned → Option Assigned → Option Assigned
 or_later earlier None = earlier
 or_later earlier (Some b) = Some b
 
+-- the last assignment of a name
 abbrev pub last_of : Assigned → List Assigned → Option Assigned
 last_of a [] = None
 last_of a (b ∷ bs) = or_later (if same_name a b then Some b else None) (last_of a bs)
@@ -57,6 +59,7 @@ switches_off Background = true
 switches_off Highlight = false
 switches_off Root = false
 
+-- whether a modifier marks the root, as `!` does
 abbrev pub is_root : Modifier → Bool
 is_root Disable = false
 is_root Background = false
@@ -71,6 +74,7 @@ is_on (AnInstance at marks core) = not (list_any (λ m. switches_off m.modifier)
 abbrev pub is_marked : InstanceTerm → Bool
 is_marked (AnInstance at marks core) = list_any (λ m. is_root m.modifier) marks
 
+-- the instances of a body that are evaluated
 abbrev pub evaluated_in : StatementTerms → List InstanceTerm
 evaluated_in statements = filter is_on (instances_in statements)
 
@@ -80,6 +84,7 @@ says_only env (ModuleCallTerm at name args body) =
     (bytes_eq name (codes "echo") || bytes_eq name (codes "assert")) && not (is_some (module_in env name))
 says_only env core = false
 
+-- whether an instance is a child: one that doesn't only say something
 abbrev pub is_child : Env → InstanceTerm → Bool
 is_child env (AnInstance at marks core) = not (says_only env core)
 
@@ -87,6 +92,7 @@ is_child env (AnInstance at marks core) = not (says_only env core)
 abbrev pub children_in : Env → StatementTerms → List InstanceTerm
 children_in env statements = filter (is_child env) (evaluated_in statements)
 
+-- whether a list has no items
 abbrev pub has_no_items : {A : Type 0} → List A → Bool
 has_no_items [] = true
 has_no_items (x ∷ xs) = false

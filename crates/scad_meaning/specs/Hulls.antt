@@ -12,6 +12,7 @@ use Rattle.scad_hull.specs.Refusals.{HaveHull, IsHullStop}
 use Rattle.scad_design.specs.Designs.{Design, empty, a_part, joined}
 use Rattle.scad_design.specs.Placing.{StaysSafe}
 
+-- whether a design has no part
 abbrev pub is_nothing : Design → Bool
 is_nothing empty = true
 is_nothing (a_part part) = false

@@ -14,9 +14,11 @@ abbrev pub numbers_by : ℕ → ℤ → ℤ → List ℤ
 numbers_by zero from step = []
 numbers_by (suc count) from step = from ∷ numbers_by count (from +ℤ step) step
 
+-- the numbers of a range
 abbrev pub numbers_of_range : ℤ → ℤ → ℤ → List ℤ
 numbers_of_range from step upto = numbers_by (count_of_range from step upto) from step
 
+-- numbers as values
 abbrev pub number_vals : List ℤ → Vals
 number_vals [] = no_vals
 number_vals (n ∷ ns) = and_val (NumberVal n) (number_vals ns)
@@ -33,10 +35,12 @@ nth_item [] n = []
 nth_item (x ∷ xs) zero = x ∷ []
 nth_item (x ∷ xs) (suc n) = nth_item xs n
 
+-- the item of a whole number, where there is one: a number below 0 has none
 abbrev pub item_numbered : {A : Type 0} → List A → ℤ → List A
 item_numbered xs (pos n) = nth_item xs n
 item_numbered xs (negsuc n) = []
 
+-- the items of numbers, in the order of the numbers
 abbrev pub items_numbered : {A : Type 0} → List A → List ℤ → List A
 items_numbered xs [] = []
 items_numbered xs (n ∷ ns) = item_numbered xs n ++ items_numbered xs ns

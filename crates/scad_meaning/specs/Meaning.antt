@@ -12,7 +12,7 @@ use Rattle.scad_value.specs.Values.{Val, NumberVal, Vals, no_vals, and_val, trut
 use Rattle.scad_value.specs.Operators.{Answer}
 use Rattle.scad_scope.specs.Names.{Pairs, find_in}
 use Rattle.scad_arguments.specs.Arguments.{names_of, nothing_given, taker_of, with_argument}
-use Rattle.scad_blocks.specs.Blocks.{Module, Assigned, assignments_of, statements_of_body}
+use Rattle.scad_blocks.specs.Blocks.{SourceModule, Assigned, assignments_of, statements_of_body}
 use Rattle.scad_evaluation.specs.Meaning.{Outcome, Gives, Faults, then_with, or_fault, Env, Outermost, Within, Opened, no_call, opened, module_in, call_in, functions_standing_in, modules_standing_in, entered_scope, with_variable, turn, Setting, value_at, one_call_fewer, Arguments, each_argument, each_parameter, paired, evaluated}
 use Rattle.scad_modules.specs.declared.table.BuiltinModule.{BuiltinModule}
 use Rattle.scad_modules.specs.declared.table.BuiltinModule.TheVariants.{Echo}
@@ -35,18 +35,23 @@ pub record Context : Type 0 where
   pub inside : Option Extrusion
   pub under_mark : Bool
 
+-- the same context in another scope
 abbrev pub inside_scope : Context → Env → Context
 inside_scope here env = record { calls = here.calls; env = env; chain = here.chain; inside = here.inside; under_mark = here.under_mark }
 
+-- the same context with another chain of special names
 abbrev pub with_chain : Context → Pairs Val → Context
 with_chain here chain = record { calls = here.calls; env = here.env; chain = chain; inside = here.inside; under_mark = here.under_mark }
 
+-- the same context with so many calls left
 abbrev pub with_calls_left : Context → ℕ → Context
 with_calls_left here calls = record { calls = calls; env = here.env; chain = here.chain; inside = here.inside; under_mark = here.under_mark }
 
+-- the same context inside an instance that is marked `!`
 abbrev pub inside_mark : Context → Context
 inside_mark here = record { calls = here.calls; env = here.env; chain = here.chain; inside = here.inside; under_mark = true }
 
+-- the same context inside an extrusion
 abbrev pub inside_extrusion : Context → Extrusion → Context
 inside_extrusion here through = record { calls = here.calls; env = here.env; chain = here.chain; inside = Some through; under_mark = here.under_mark }
 
@@ -66,13 +71,16 @@ pub record MemberDesigns : Type 0 where
   pub designs : List Design
   pub marked : Option Design
 
+-- the first of the designs that are marked `!`
 abbrev pub first_marked : Option Design → Option Design → Option Design
 first_marked (Some design) later = Some design
 first_marked None later = later
 
+-- an instance that gives nothing
 abbrev pub no_design : ℕ → InstanceDesign
 no_design leaves = record { leaves = leaves; design = empty; marked = None }
 
+-- instances that give nothing
 abbrev pub no_members : ℕ → MemberDesigns
 no_members leaves = record { leaves = leaves; designs = []; marked = None }
 
@@ -80,6 +88,7 @@ no_members leaves = record { leaves = leaves; designs = []; marked = None }
 abbrev pub as_member : Bool → InstanceDesign → MemberDesigns
 as_member is_member m = record { leaves = m.leaves; designs = if is_member then m.design ∷ [] else []; marked = m.marked }
 
+-- members before others
 abbrev pub and_members : MemberDesigns → MemberDesigns → MemberDesigns
 and_members first later = record {
   leaves = later.leaves;
@@ -91,6 +100,7 @@ and_members first later = record {
 abbrev pub joined_members : Op → MemberDesigns → InstanceDesign
 joined_members op ms = record { leaves = ms.leaves; design = grouped op ms.designs; marked = ms.marked }
 
+-- what an instance gives, with its design moved
 abbrev pub moved_design : (Design → Design) → InstanceDesign → InstanceDesign
 moved_design move m = record { leaves = m.leaves; design = move m.design; marked = m.marked }
 
@@ -111,6 +121,7 @@ abbrev pub assigned_value : ℕ → Context → Assigned → ℕ → Outcome Val
 assigned_value zero here a turns = Faults TooDeep a.at
 assigned_value (suc evaluations) here a turns = value_at (setting evaluations here) true a.value turns
 
+-- the context with one more assignment: a special name goes on the chain, a variable into the scope
 abbrev pub assigned : Assigned → Val → Context → Context
 assigned a v here =
     if a.special then with_chain here ((a.name, v) ∷ here.chain) else inside_scope here (with_variable a.name v here.env)
@@ -125,6 +136,7 @@ each_assigned evaluations here (a ∷ as_) turns =
 abbrev pub core_of : InstanceTerm → CoreTerm
 core_of (AnInstance at marks core) = core
 
+-- what instances give as members, from the first on
 abbrev pub each_member : Evaluator → Context → List InstanceTerm → ℕ → ℕ → Outcome MemberDesigns
 each_member evaluator here [] turns leaves = Gives turns (no_members leaves)
 each_member evaluator here (i ∷ is) turns leaves =
@@ -152,6 +164,7 @@ abbrev pub each_in_body : Evaluator → Context → BodyTerm → ℕ → ℕ →
 each_in_body evaluator here body turns leaves =
     each_in_scope evaluator (inside_scope here (entered_scope (statements_of_body body) no_call here.env)) (statements_of_body body) turns leaves
 
+-- a body's members in a new scope, joined by an operation
 abbrev pub body_design : Evaluator → Op → Context → BodyTerm → ℕ → ℕ → Outcome InstanceDesign
 body_design evaluator op here body turns leaves =
     then_with (each_in_body evaluator here body turns leaves) (λ turns ms. Gives turns (joined_members op ms))
@@ -161,6 +174,7 @@ abbrev pub after_step : Place → List Design → ℕ → (ℕ → Outcome Membe
 after_step at [] turns go = turn at turns go
 after_step at (d ∷ ds) turns go = go turns
 
+-- a step of a loop with the turn that it counts when it ends
 abbrev pub counted_step : Place → Outcome MemberDesigns → Outcome MemberDesigns
 counted_step at step = then_with step (λ turns ms. after_step at ms.designs turns (λ turns. Gives turns ms))
 
@@ -187,6 +201,7 @@ each_turn evaluator at (b ∷ bs) body here turns leaves =
     or_fault (items_of v) TypeMismatch at (λ items.
     each_step at (λ item. each_turn evaluator at bs body (in_loop here b.name item)) items turns leaves))
 
+-- the turns of a loop, joined by an operation
 abbrev pub loop_design : Evaluator → Op → Context → Place → List BinderTerm → BodyTerm → ℕ → ℕ → Outcome InstanceDesign
 loop_design evaluator op here at binders body turns leaves =
     then_with (each_turn evaluator at binders body here turns leaves) (λ turns ms. Gives turns (joined_members op ms))
@@ -208,12 +223,14 @@ checked (Some kind) at next = Faults kind at
 abbrev pub hulled : InstanceDesign → InstanceDesign → InstanceDesign
 hulled m leaf = record { leaves = leaf.leaves; design = leaf.design; marked = m.marked }
 
+-- the hull of what children give, which counts as one leaf more
 abbrev pub hull_design : Verdict → Place → InstanceDesign → ℕ → Outcome InstanceDesign
 hull_design verdict at m turns =
     if is_nothing m.design then Gives turns m
     else checked verdict at
     (then_with (leaf_design at (hull_mesh m.design) turns m.leaves) (λ turns leaf. Gives turns (hulled m leaf)))
 
+-- what follows from an answer, or its fault at a place
 abbrev pub answered_with : {A B : Type 0} → Answer A → Place → (A → Outcome B) → Outcome B
 answered_with (Ok x) at go = go x
 answered_with (Err kind) at go = Faults kind at
@@ -224,26 +241,27 @@ children_count caller children =
     (codes "$children", NumberVal (pos (length (children_in (entered_scope children no_call caller) children))))
 
 -- the scope of a module's body
-abbrev pub module_scope : Env → Module → Vals → StatementTerms → Env → Env
+abbrev pub module_scope : Env → SourceModule → Vals → StatementTerms → Env → Env
 module_scope home m vs children caller =
     Within (children_count caller children ∷ paired (names_of m.params) vs [])
     (functions_standing_in (statements_of_body m.body)) (modules_standing_in (statements_of_body m.body))
     (opened children caller) home
 
 -- its body, with the values of its parameters, and with its arguments, once its call is counted
-abbrev pub module_filled : Evaluator → Module × Env → Vals → BodyTerm → Context → ℕ → ℕ → Outcome InstanceDesign
+abbrev pub module_filled : Evaluator → SourceModule × Env → Vals → BodyTerm → Context → ℕ → ℕ → Outcome InstanceDesign
 module_filled evaluator found vs body here turns leaves =
     then_with (each_in_scope evaluator (inside_scope here (module_scope found.1 found.0 vs (statements_of_body body) here.env)) (statements_of_body found.0.body) turns leaves) (λ turns ms.
     Gives turns (joined_members Union ms))
 
-abbrev pub module_given : Evaluator → Module × Env → Arguments → BodyTerm → Context → ℕ → ℕ → Outcome InstanceDesign
+-- a module with its arguments: its special arguments stand on the chain, and its defaults are evaluated in the scope of its definition
+abbrev pub module_given : Evaluator → SourceModule × Env → Arguments → BodyTerm → Context → ℕ → ℕ → Outcome InstanceDesign
 module_given evaluator found given body here turns leaves =
     let there = with_chain here (given.specials ++ here.chain) in
     then_with (each_parameter (setting evaluator.evaluations (inside_scope there found.1)) found.0.params given.slots turns) (λ turns vs.
     module_filled evaluator found vs body there turns leaves)
 
 -- a module of the source, one call deeper: its defaults in the scope of its definition, then its body
-abbrev pub module_design : Evaluator → Context → Place → Module × Env → Arguments → BodyTerm → ℕ → ℕ → Outcome InstanceDesign
+abbrev pub module_design : Evaluator → Context → Place → SourceModule × Env → Arguments → BodyTerm → ℕ → ℕ → Outcome InstanceDesign
 module_design evaluator here at found given body turns leaves =
     one_call_fewer here.calls at (λ calls.
     turn at turns (λ turns.
@@ -260,6 +278,7 @@ each_said here (and_special at name value rest) given turns =
 each_said here (and_positional value rest) given turns =
     then_with (value_at here true value turns) (λ turns v. each_said here rest given turns)
 
+-- the arguments of a built-in module
 abbrev pub arguments_for : BuiltinModule → Setting → ArgTerms → ℕ → Outcome Arguments
 arguments_for Echo here args turns = each_said here args (nothing_given 0) turns
 arguments_for m here args turns =
@@ -331,13 +350,14 @@ built_in_design evaluator here at name args body (Some m) turns leaves =
     built_in_given evaluator at m given body here turns leaves)
 
 -- a call of a module: the source's go before built-in ones
-abbrev pub call_design : Evaluator → Context → Place → List ℕ → List ArgTerm → BodyTerm → Option (Module × Env) → ℕ → ℕ → Outcome InstanceDesign
+abbrev pub call_design : Evaluator → Context → Place → List ℕ → List ArgTerm → BodyTerm → Option (SourceModule × Env) → ℕ → ℕ → Outcome InstanceDesign
 call_design evaluator here at name args body (Some found) turns leaves =
     then_with (each_argument (setting evaluator.evaluations here) (names_of found.0.params) 0 (args_from args) (nothing_given (length found.0.params)) turns) (λ turns given.
     module_design evaluator here at found given body turns leaves)
 call_design evaluator here at name args body None turns leaves =
     built_in_design evaluator here at name args body (module_named name) turns leaves
 
+-- what an instance without its modifiers gives
 abbrev pub core_design : Evaluator → Context → CoreTerm → ℕ → ℕ → Outcome InstanceDesign
 core_design evaluator here (IfTerm at test body) turns leaves =
     then_with (value_at (setting evaluator.evaluations here) true test turns) (λ turns v.

@@ -15,10 +15,12 @@ use Rattle.scad_meaning.specs.Verdicts.{Judge, IsRight}
 use Rattle.scad_meaning.specs.Meaning.{design_of}
 use Rattle.scad_design.specs.Placing.{Placed, placed, unplaced, Places}
 
+-- a program means a tree, or has a first fault
 pub data Meaning : Type 0 where
   a_tree : (tree : Formula) → Meaning
   a_fault : (kind : FaultKind) → (at : Place) → Meaning
 
+-- this is what the placing of a design means
 abbrev pub IsMeaningOf : Placed → Meaning → Type 0
 IsMeaningOf (placed tree known) meaning = meaning ≡ a_tree tree
 IsMeaningOf (unplaced kind at) meaning = meaning ≡ a_fault kind at

@@ -27,6 +27,7 @@ pub record Judge : Type 0 where
   pub height : LengthUnit → Bool → ℤ → Verdict
   pub hull : Design → Verdict
 
+-- what is wrong with the call of a solid, or that nothing is
 abbrev pub IsSolidVerdict : LengthUnit → SolidCall → Verdict → Type 0
 IsSolidVerdict unit (cube_call center size) None = AreSizes unit center size
 IsSolidVerdict unit (cube_call center size) (Some kind) = IsSizeFault unit center size kind
@@ -35,6 +36,7 @@ IsSolidVerdict unit (polyhedron_call points faces) (Some kind) = IsFaultOf (chec
 IsSolidVerdict unit (cylinder_call center height low high) None = AreCylinderSizes unit center height low high
 IsSolidVerdict unit (cylinder_call center height low high) (Some kind) = IsCylinderFault unit center height low high kind
 
+-- what is wrong with the call of a flat shape, or that nothing is
 abbrev pub IsFlatVerdict : LengthUnit → FlatCall → Verdict → Type 0
 IsFlatVerdict unit (square_call center size) None = AreSizes unit center size
 IsFlatVerdict unit (square_call center size) (Some kind) = IsSizeFault unit center size kind
@@ -43,10 +45,12 @@ IsFlatVerdict unit (polygon_call points) (Some kind) = IsPolygonFault unit point
 IsFlatVerdict unit (circle_call radius) None = IsCircleSize unit radius
 IsFlatVerdict unit (circle_call radius) (Some kind) = IsCircleFault unit radius kind
 
+-- what is wrong with the height of an extrusion, or that nothing is
 abbrev pub IsHeightVerdict : LengthUnit → Bool → ℤ → Verdict → Type 0
 IsHeightVerdict unit center height None = AreSizes unit center (height ∷ [])
 IsHeightVerdict unit center height (Some kind) = IsSizeFault unit center (height ∷ []) kind
 
+-- why a design has no hull, or that it has one
 abbrev pub IsHullVerdict : Design → Verdict → Type 0
 IsHullVerdict design None = HasHull design
 IsHullVerdict design (Some kind) = IsHullFault design kind
@@ -64,10 +68,12 @@ solid_of unit (cube_call center size) = cube_of unit center size
 solid_of unit (polyhedron_call points faces) = mesh_of unit points faces
 solid_of unit (cylinder_call center height low high) = cylinder_of unit center height low high
 
+-- the outline of a flat shape with nothing wrong, in grid steps
 abbrev pub outline_of : LengthUnit → FlatCall → List (List ℤ)
 outline_of unit (square_call center size) = square_of unit center size
 outline_of unit (polygon_call points) = polygon_of unit points
 outline_of unit (circle_call radius) = circle_of unit radius
 
+-- the extrusion of a flat shape, in grid steps
 abbrev pub extruded : LengthUnit → Extrusion → FlatCall → Mesh
 extruded unit through call = extrusion_of unit through.center (outline_of unit call) through.height

@@ -145,11 +145,6 @@ choice_safe slots choice b e =
     subst (OnRead IsSafeChoice) e
     (default_safe IsSafeChoice all_children chosen_in (slot slots 0) tt chosen_safe (slot_small slots 0 b))
 
-pub height_safe : (slots : Slots) (v : Val) (n : ℤ) → IsTrue (are_bounded slots) → slot slots 0 ≡ Some v
-    → number_in v ≡ Some n → IsSafe n
-height_safe slots v n b e f =
-    subst (OnRead IsSafe) f (number_safe v (subst (OnRead IsSmallVal) e (slot_small slots 0 b)))
-
 -- what the code has read
 pub reads_safe : {A : Type 0} (P : A → Type 0) (r : Result A FaultKind) (read : Option A) → Reads r read
     → OnRead P read → IfOk r P

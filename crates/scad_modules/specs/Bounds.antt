@@ -5,32 +5,35 @@ use Rattle.scad_value.specs.Values.{Val, is_bounded}
 use Rattle.scad_modules.specs.Effects.{SolidCall, cube_call, polyhedron_call, cylinder_call, FlatCall, square_call, polygon_call, circle_call, ChosenCall, all_children, numbered, ranged, EffectCall, a_solid, a_flat, a_move, a_join, a_hull, an_extrusion, silence, some_children}
 use Rattle.scad_modules.specs.Reading.{Slots}
 
--- each value that is given is bounded
+-- a value that is given is bounded
 abbrev pub is_slot_bounded : Option Val → Bool
 is_slot_bounded None = true
 is_slot_bounded (Some v) = is_bounded v
 
+-- each value that is given is bounded
 abbrev pub are_bounded : Slots → Bool
 are_bounded [] = true
 are_bounded (given ∷ slots) = is_slot_bounded given && are_bounded slots
 
--- what the calls of shapes want of sizes; they test points themselves
+-- what the calls of solid shapes want of sizes; they test points themselves
 abbrev pub IsSafeSolid : SolidCall → Type 0
 IsSafeSolid (cube_call center size) = All IsSafe size
 IsSafeSolid (polyhedron_call points faces) = Unit {0}
 IsSafeSolid (cylinder_call center height low high) = IsSafe height × IsSafe low × IsSafe high
 
+-- the same of shapes in the plane
 abbrev pub IsSafeFlat : FlatCall → Type 0
 IsSafeFlat (square_call center size) = All IsSafe size
 IsSafeFlat (polygon_call points) = Unit {0}
 IsSafeFlat (circle_call radius) = IsSafe radius
 
+-- the same of the numbers by which children are chosen
 abbrev pub IsSafeChoice : ChosenCall → Type 0
 IsSafeChoice all_children = Unit {0}
 IsSafeChoice (numbered numbers) = All IsSafe numbers
 IsSafeChoice (ranged from by upto) = IsSafe from × IsSafe by × IsSafe upto
 
--- (a step keeps its own bounds)
+-- the same of all effects; a step keeps its own bounds
 abbrev pub IsSafeCall : EffectCall → Type 0
 IsSafeCall (a_solid solid) = IsSafeSolid solid
 IsSafeCall (a_flat flat) = IsSafeFlat flat

@@ -18,9 +18,11 @@ chosen_in (NumberVal n) = Some (numbered (n ∷ []))
 chosen_in (RangeVal from by upto) = Some (ranged from by upto)
 chosen_in v = option_map numbered (numbers_in v)
 
+-- children(index): all children of the enclosing call, where it is missing
 abbrev pub children_effect : Slots → Answer EffectCall
 children_effect slots = of_type (or_default all_children chosen_in (slot slots 0)) (λ chosen. Ok (some_children chosen))
 
+-- assert(condition): nothing where the condition holds
 abbrev pub assert_effect : Slots → Answer EffectCall
 assert_effect slots = required (slot slots 0) (λ v. refused_where (not (truth_of v)) AssertFailed (Ok silence))
 

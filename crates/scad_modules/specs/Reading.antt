@@ -9,39 +9,46 @@ use Rattle.scad_value.specs.Operators.{Answer}
 abbrev pub Slots : Type 0
 Slots = List (Option Val)
 
+-- the value that a call gives for a parameter, by its number from 0
 abbrev pub slot : Slots → ℕ → Option Val
 slot slots k = slice_index_or slots k None
 
+-- a number, where a value is one
 abbrev pub number_in : Val → Option ℤ
 number_in (NumberVal n) = Some n
 number_in v = None
 
+-- a truth, where a value is one
 abbrev pub truth_in : Val → Option Bool
 truth_in (TruthVal truth) = Some truth
 truth_in v = None
 
--- what all items of a list are
+-- the first item as it is read, and the others
 abbrev pub with_first : {A : Type 0} → Option A → Option (List A) → Option (List A)
 with_first None others = None
 with_first (Some x) None = None
 with_first (Some x) (Some xs) = Some (x ∷ xs)
 
+-- each item as it is read, where all can be
 abbrev pub each_in : {A : Type 0} → (Val → Option A) → Vals → Option (List A)
 each_in read no_vals = Some []
 each_in read (and_val v vs) = with_first (read v) (each_in read vs)
 
+-- a list by its items
 abbrev pub list_in : {A : Type 0} → (Val → Option A) → Val → Option (List A)
 list_in read (ListVal items) = each_in read items
 list_in read v = None
 
+-- a list of so many items, or none
 abbrev pub of_length : {A : Type 0} → ℕ → Option (List A) → Option (List A)
 of_length n None = None
 of_length n (Some xs) = if nat_eq (length xs) n then Some xs else None
 
--- a list of so many numbers
+-- a list of numbers
 abbrev pub numbers_in : Val → Option (List ℤ)
 numbers_in = list_in number_in
 
+-- a list of so many numbers
 abbrev pub vector_in : ℕ → Val → Option (List ℤ)
 vector_in n v = of_length n (numbers_in v)
 
@@ -50,16 +57,18 @@ abbrev pub sides_in : ℕ → Val → Option (List ℤ)
 sides_in n (NumberVal side) = Some (replicate n side)
 sides_in n v = vector_in n v
 
--- two numbers, with a third one that stands for the missing, or three
+-- three numbers, or two with one that stands for the missing third
 abbrev pub filled : ℤ → List ℤ → Option (List ℤ)
 filled third (x ∷ y ∷ []) = Some (x ∷ y ∷ third ∷ [])
 filled third (x ∷ y ∷ z ∷ []) = Some (x ∷ y ∷ z ∷ [])
 filled third numbers = None
 
+-- the same of numbers that were read, if there are some
 abbrev pub filled_from : ℤ → Option (List ℤ) → Option (List ℤ)
 filled_from third None = None
 filled_from third (Some numbers) = filled third numbers
 
+-- two or three numbers, as coordinates
 abbrev pub coordinates_in : ℤ → Val → Option (List ℤ)
 coordinates_in third v = filled_from third (numbers_in v)
 
@@ -67,14 +76,16 @@ coordinates_in third v = filled_from third (numbers_in v)
 abbrev pub points_in : ℕ → Val → Option (List (List ℤ))
 points_in n = list_in (vector_in n)
 
--- the number of a face's corner; a number that no point can have stands for all that name none
+-- a number that no corner of a face can have
 abbrev pub no_corner : ℕ
 no_corner = 4294967295
 
+-- the number of a face's corner; that which no corner can have stands for all that name none
 abbrev pub corner_number : ℤ → ℕ
 corner_number (pos n) = if nat_lt n no_corner then n else no_corner
 corner_number (negsuc n) = no_corner
 
+-- a value as the number of a corner
 abbrev pub corner_in : Val → Option ℕ
 corner_in v = option_map corner_number (number_in v)
 
@@ -82,6 +93,7 @@ corner_in v = option_map corner_number (number_in v)
 abbrev pub face_in : Val → Option (List ℕ)
 face_in = list_in corner_in
 
+-- the faces of a polyhedron
 abbrev pub faces_in : Val → Option (List (List ℕ))
 faces_in = list_in face_in
 

@@ -43,11 +43,12 @@ polygon_effect inside slots =
     refused_where (not inside) WrongDimension
     (Ok (a_flat (polygon_call points))))))
 
--- the number of fragments must be 4
+-- the number of fragments, which must be given
 abbrev pub fragments_in : Option Val → Option ℤ
 fragments_in None = None
 fragments_in (Some v) = number_in v
 
+-- goes on where there are four fragments, and else it is of another type or left out
 abbrev pub with_four : Option Val → Answer EffectCall → Answer EffectCall
 with_four fragments next =
     of_type (fragments_in fragments) (λ n. refused_where (not (int_eq n (pos 4))) NotInProfile next)

@@ -4,6 +4,7 @@ use Rattle.scad_builtin.specs.Builtins.{named_in, is_among}
 use Rattle.scad_modules.specs.declared.table.BuiltinModule.{BuiltinModule}
 use Rattle.scad_modules.specs.declared.table.BuiltinModule.TheVariants.{Cube, Polyhedron, Cylinder, Square, Polygon, Circle, LinearExtrude, Translate, Rotate, Mirror, Scale, Multmatrix, Union, Difference, Intersection, Hull, Color, Render, Echo, Assert, Children}
 
+-- the built-in module of a name
 abbrev pub module_named : List ℕ → Option BuiltinModule
 module_named name = named_in
     ((codes "cube", Cube) ∷ (codes "polyhedron", Polyhedron) ∷ (codes "cylinder", Cylinder) ∷ (codes "square", Square)

@@ -12,9 +12,11 @@ use Rattle.scad_value.specs.Operators.{Answer}
 use Rattle.scad_modules.specs.Effects.{EffectCall, a_move}
 use Rattle.scad_modules.specs.Reading.{Slots, slot, vector_in, coordinates_in, points_in, required, left_out, of_type, refused_where}
 
+-- a number of a vector or a row, by its place from 0
 abbrev pub part : List ℤ → ℕ → ℤ
 part numbers k = get_or numbers k (pos 0)
 
+-- whether a number is 0
 abbrev pub is_zero : ℤ → Bool
 is_zero n = int_eq n (pos 0)
 
@@ -62,6 +64,7 @@ quarters_of angle =
     let quarters = (unsigned_abs angle / 90) % 4 in
     if int_lt angle (pos 0) then (4 - quarters) % 4 else quarters
 
+-- the turn about an axis by an angle
 abbrev pub turned : ℕ → ℤ → Affine
 turned axis angle = repeated (quarter_turn axis) (quarters_of angle)
 
@@ -69,6 +72,7 @@ turned axis angle = repeated (quarter_turn axis) (quarters_of angle)
 abbrev pub tilts_plane : Bool → List ℤ → Bool
 tilts_plane inside angles = inside && not (is_zero (part angles 0) && is_zero (part angles 1))
 
+-- the turns about x, y and z, the first done first
 abbrev pub turns_of : List ℤ → List Affine
 turns_of angles = turned 0 (part angles 0) ∷ turned 1 (part angles 1) ∷ turned 2 (part angles 2) ∷ []
 
@@ -93,6 +97,7 @@ axis_of by =
     else (if is_alone (part by 1) (part by 0) (part by 2) then Some 1
     else (if is_alone (part by 2) (part by 0) (part by 1) then Some 2 else None))
 
+-- goes on with the axis, or leaves out a vector that has none
 abbrev pub along : Option ℕ → (ℕ → Answer EffectCall) → Answer EffectCall
 along None go = Err NotInProfile
 along (Some axis) go = go axis
@@ -123,23 +128,27 @@ scale_call inside slots =
     refused_where (some_part is_zero by) Singular
     (Ok (a_move (scaling (point_at (factors_for inside by)) ∷ [])))))
 
--- 3 rows of 4 numbers; a fourth row must be 0 0 0 1
+-- whether a row of 4 numbers is 0 0 0 1
 abbrev pub is_last_row : List ℤ → Bool
 is_last_row row =
     is_zero (part row 0) && (is_zero (part row 1) && (is_zero (part row 2) && int_eq (part row 3) (pos 1)))
 
+-- three rows, or four of which the last is that of the identity
 abbrev pub three_rows : List (List ℤ) → Option (List (List ℤ))
 three_rows (x ∷ y ∷ z ∷ []) = Some (x ∷ y ∷ z ∷ [])
 three_rows (x ∷ y ∷ z ∷ last ∷ []) = if is_last_row last then Some (x ∷ y ∷ z ∷ []) else None
 three_rows rows = None
 
+-- the same of rows that were read, if there are some
 abbrev pub three_rows_from : Option (List (List ℤ)) → Option (List (List ℤ))
 three_rows_from None = None
 three_rows_from (Some rows) = three_rows rows
 
+-- the rows of a matrix
 abbrev pub rows_in : Val → Option (List (List ℤ))
 rows_in v = three_rows_from (points_in 4 v)
 
+-- a row by its place from 0
 abbrev pub row_at : List (List ℤ) → ℕ → List ℤ
 row_at rows k = get_or rows k []
 
@@ -147,7 +156,8 @@ row_at rows k = get_or rows k []
 abbrev pub some_row : (List ℤ → Bool) → List (List ℤ) → Bool
 some_row test rows = test (row_at rows 0) || (test (row_at rows 1) || test (row_at rows 2))
 
--- a row's linear part is its first three numbers, and its move the fourth
+-- whether an entry of the linear part is past 65535 in size; a row's linear part is its first three numbers, and its move
+-- the fourth
 abbrev pub is_past_matrix : ℤ → Bool
 is_past_matrix n = nat_lt 65535 (unsigned_abs n)
 
@@ -162,14 +172,16 @@ keeps_plane rows =
 abbrev pub leaves_plane_by : Bool → List (List ℤ) → Bool
 leaves_plane_by inside rows = inside && not (keeps_plane rows)
 
--- the rows with their moves in grid steps
+-- a row with its move in grid steps
 abbrev pub row_on_grid : LengthUnit → List ℤ → List ℤ
 row_on_grid unit row = part row 0 ∷ part row 1 ∷ part row 2 ∷ in_steps unit (part row 3) ∷ []
 
+-- the rows with their moves in grid steps
 abbrev pub rows_on_grid : LengthUnit → List (List ℤ) → List (List ℤ)
 rows_on_grid unit rows =
     row_on_grid unit (row_at rows 0) ∷ row_on_grid unit (row_at rows 1) ∷ row_on_grid unit (row_at rows 2) ∷ []
 
+-- whether the move of a row is past 2^53 - 1 grid steps
 abbrev pub moves_past : LengthUnit → List ℤ → Bool
 moves_past unit row = is_past (in_steps unit (part row 3))
 

@@ -21,6 +21,7 @@ use Rattle.scad_modules.specs.Effects.{SolidCall, cube_call, polyhedron_call, cy
 use Rattle.scad_modules.specs.Reading.{Slots}
 use Rattle.scad_modules.specs.Bounds.{IsSafeCall}
 
+-- the values that a call gives
 abbrev pub slots_of : List (Option Value) → Slots
 slots_of = map (option_map val_of)
 
@@ -28,24 +29,28 @@ slots_of = map (option_map val_of)
 abbrev pub fragments_of : Option (Bor Value) → Option Val
 fragments_of = option_map (λ value. val_of value.now)
 
-abbrev pub solid_of : SolidShape → SolidCall
-solid_of (Cube size center) = cube_call center size
-solid_of (Polyhedron points faces) = polyhedron_call points.items faces.items
-solid_of (Cylinder height low high center) = cylinder_call center height low high
+-- a solid shape by its plain numbers
+abbrev pub solid_call_of : SolidShape → SolidCall
+solid_call_of (Cube size center) = cube_call center size
+solid_call_of (Polyhedron points faces) = polyhedron_call points.items faces.items
+solid_call_of (Cylinder height low high center) = cylinder_call center height low high
 
-abbrev pub flat_of : FlatShape → FlatCall
-flat_of (Square size center) = square_call center size
-flat_of (Polygon points) = polygon_call points.items
-flat_of (Circle radius) = circle_call radius
+-- a shape in the plane by its plain numbers
+abbrev pub flat_call_of : FlatShape → FlatCall
+flat_call_of (Square size center) = square_call center size
+flat_call_of (Polygon points) = polygon_call points.items
+flat_call_of (Circle radius) = circle_call radius
 
+-- which children are wanted
 abbrev pub chosen_of : Chosen → ChosenCall
 chosen_of All = all_children
 chosen_of (Numbered numbers) = numbered numbers.items
 chosen_of (Range from by upto) = ranged from by upto
 
+-- what a call does
 abbrev pub call_of : Effect → EffectCall
-call_of (Solid shape) = a_solid (solid_of shape)
-call_of (Flat shape) = a_flat (flat_of shape)
+call_of (Solid shape) = a_solid (solid_call_of shape)
+call_of (Flat shape) = a_flat (flat_call_of shape)
 call_of (Move steps) = a_move steps.items
 call_of (Join op) = a_join op
 call_of Hull = a_hull
@@ -54,10 +59,10 @@ call_of Nothing = silence
 call_of (Children chosen) = some_children (chosen_of chosen)
 
 -- what was given is the effect or the fault, unless memory ran out
-abbrev pub TellsEffect : Result Effect ValueStop → Answer EffectCall → Type 0
-TellsEffect (Ok effect) answer = answer ≡ Ok (call_of effect)
-TellsEffect (Err (Kind kind)) answer = answer ≡ Err kind
-TellsEffect (Err NoMemory) answer = Unit {0}
+abbrev pub MeetsEffect : Result Effect ValueStop → Answer EffectCall → Type 0
+MeetsEffect (Ok effect) answer = answer ≡ Ok (call_of effect)
+MeetsEffect (Err (Kind kind)) answer = answer ≡ Err kind
+MeetsEffect (Err NoMemory) answer = Unit {0}
 
 -- the effect that was given has numbers of at most 2^53 - 1 in size
 abbrev pub GivesSafe : Result Effect ValueStop → Type 0

@@ -6,7 +6,7 @@ ghost use Rattle.scad_modules.specs.Bounds.{are_bounded};
 ghost use Rattle.scad_modules.specs.Calls.{chosen_in, assert_effect, children_effect, effect_of, hull_effect};
 ghost use Rattle.scad_modules.specs.Effects.{all_children};
 ghost use Rattle.scad_modules.specs.Reading.{slot, or_default};
-ghost use Rattle.scad_modules.specs.View.{fragments_of, slots_of, chosen_of, ReadsAs, TellsEffect, GivesSafe};
+ghost use Rattle.scad_modules.specs.View.{fragments_of, slots_of, chosen_of, ReadsAs, MeetsEffect, GivesSafe};
 
 use crate::effects::{Chosen, Effect};
 use crate::lists::numbers;
@@ -40,7 +40,7 @@ pub fn effect(
     slots: &[Option<Value>],
 ) -> Result<Effect, ValueStop>
     requires { IsTrue (are_bounded (slots_of slots.now)) }
-    ensures effect { TellsEffect result (effect_of unit inside (fragments_of fragments.entry) called (slots_of slots.now)) }
+    ensures effect { MeetsEffect result (effect_of unit inside (fragments_of fragments.entry) called (slots_of slots.now)) }
     ensures safe { GivesSafe result }
 {
     match called {
@@ -70,7 +70,7 @@ pub fn effect(
 
 // The effect of `hull`, or WrongDimension.
 fn hull(inside: bool) -> Result<Effect, ValueStop>
-    ensures effect { TellsEffect result (hull_effect inside) }
+    ensures effect { MeetsEffect result (hull_effect inside) }
     ensures safe { GivesSafe result }
 {
     if inside {
@@ -81,7 +81,7 @@ fn hull(inside: bool) -> Result<Effect, ValueStop>
 
 // The effect of `assert`, or its first fault: BadArgument or AssertFailed.
 fn asserted(slots: &[Option<Value>]) -> Result<Effect, ValueStop>
-    ensures effect { TellsEffect result (assert_effect (slots_of slots.now)) }
+    ensures effect { MeetsEffect result (assert_effect (slots_of slots.now)) }
     ensures safe { GivesSafe result }
 {
     if !truth(required(slots, 0)?) {
@@ -93,12 +93,13 @@ fn asserted(slots: &[Option<Value>]) -> Result<Effect, ValueStop>
 // The effect of `children`, or TypeMismatch.
 fn children(alloc: Global, slots: &[Option<Value>]) -> Result<Effect, ValueStop>
     requires { IsTrue (are_bounded (slots_of slots.now)) }
-    ensures effect { TellsEffect result (children_effect (slots_of slots.now)) }
+    ensures effect { MeetsEffect result (children_effect (slots_of slots.now)) }
     ensures safe { GivesSafe result }
 {
     Ok(Effect::Children(chosen(alloc, slots)?))
 }
 
+// Which children are wanted: all, where no index is given.
 fn chosen(alloc: Global, slots: &[Option<Value>]) -> Result<Chosen, ValueStop>
     ensures { ReadsAs chosen_of result (or_default all_children chosen_in (slot (slots_of slots.now) 0)) }
 {

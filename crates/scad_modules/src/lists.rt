@@ -62,6 +62,7 @@ fn face(alloc: Global, value: &Value) -> Result<Corners, ValueStop>
     }
 }
 
+// Each value as a number, or TypeMismatch.
 fn each_number(alloc: Global, values: &[Value]) -> Result<Vec<i64>, ValueStop>
     ensures { ReadsAs (λ v. v.items) result (each_in number_in (vals_from (vals_in values.now))) }
 {
@@ -75,6 +76,7 @@ fn each_number(alloc: Global, values: &[Value]) -> Result<Vec<i64>, ValueStop>
     Ok(numbers)
 }
 
+// Each value as the number of a corner, or TypeMismatch.
 fn each_corner(alloc: Global, values: &[Value]) -> Result<Vec<u32>, ValueStop>
     ensures { ReadsAs (λ v. v.items) result (each_in corner_in (vals_from (vals_in values.now))) }
 {
@@ -88,6 +90,7 @@ fn each_corner(alloc: Global, values: &[Value]) -> Result<Vec<u32>, ValueStop>
     Ok(corners)
 }
 
+// Each value as a point of two numbers, or TypeMismatch.
 fn each_pair(alloc: Global, values: &[Value]) -> Result<Vec<[i64; 2]>, ValueStop>
     ensures { ReadsAs (λ v. v.items) result (each_in (vector_in 2) (vals_from (vals_in values.now))) }
 {
@@ -101,6 +104,7 @@ fn each_pair(alloc: Global, values: &[Value]) -> Result<Vec<[i64; 2]>, ValueStop
     Ok(points)
 }
 
+// Each value as a point of three numbers, or TypeMismatch.
 fn each_triple(alloc: Global, values: &[Value]) -> Result<Vec<[i64; 3]>, ValueStop>
     ensures { ReadsAs (λ v. v.items) result (each_in (vector_in 3) (vals_from (vals_in values.now))) }
 {
@@ -114,6 +118,7 @@ fn each_triple(alloc: Global, values: &[Value]) -> Result<Vec<[i64; 3]>, ValueSt
     Ok(points)
 }
 
+// Each value as the corners of a face, or TypeMismatch.
 fn each_face(alloc: Global, values: &[Value]) -> Result<Vec<Corners>, ValueStop>
     ensures { ReadsAs (λ v. v.items) result (each_in face_in (vals_from (vals_in values.now))) }
 {

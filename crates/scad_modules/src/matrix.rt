@@ -6,8 +6,8 @@ ghost use Rattle.int_transform.specs.Maps.{affine_of, determinant_of};
 ghost use Rattle.scad_value.specs.Values.{vals_from};
 ghost use Rattle.scad_value.specs.View.{val_of, vals_in};
 ghost use Rattle.scad_modules.specs.Reading.{each_in, vector_in};
-ghost use Rattle.scad_modules.specs.Transforms.{part, row_at, is_zero, some_part, some_row, is_last_row as is_the_last_row, three_rows_from, rows_in, is_past_matrix, keeps_plane as keeps_the_plane, leaves_plane_by, moves_past, row_on_grid as row_on_the_grid, rows_on_grid as rows_on_the_grid, multmatrix_call};
-ghost use Rattle.scad_modules.specs.View.{slots_of, TellsEffect, GivesSafe};
+ghost use Rattle.scad_modules.specs.Transforms.{part, row_at, is_zero, some_part, some_row, is_last_row as is_the_last_row, three_rows_from, rows_in, is_past_matrix, keeps_plane as keeps_the_plane, leaves_plane_by, moves_past, row_on_grid as row_on_the_grid, rows_on_grid, multmatrix_call};
+ghost use Rattle.scad_modules.specs.View.{slots_of, MeetsEffect, GivesSafe};
 
 use crate::effects::Effect;
 use crate::numbers::quadruple;
@@ -30,7 +30,7 @@ pub(crate) fn multmatrix(
     inside: bool,
     slots: &[Option<Value>],
 ) -> Result<Effect, ValueStop>
-    ensures effect { TellsEffect result (multmatrix_call unit inside (slots_of slots.now)) }
+    ensures effect { MeetsEffect result (multmatrix_call unit inside (slots_of slots.now)) }
     ensures safe { GivesSafe result }
 {
     let rows = rows(required(slots, 0)?).ok_or(FaultKind::TypeMismatch)?;
@@ -59,6 +59,7 @@ fn rows(value: &Value) -> Option<[[i64; 4]; 3]>
     }
 }
 
+// Three of these values as rows, or four of which the last is 0 0 0 1.
 fn rows_of(values: &[Value]) -> Option<[[i64; 4]; 3]>
     ensures { result ≡ three_rows_from (each_in (vector_in 4) (vals_from (vals_in values.now))) }
 {
@@ -76,6 +77,7 @@ fn rows_of(values: &[Value]) -> Option<[[i64; 4]; 3]>
     }
 }
 
+// Whether a row is 0 0 0 1.
 fn is_last_row(row: [i64; 4]) -> bool
     ensures { result ≡ is_the_last_row row }
 {
@@ -89,12 +91,14 @@ fn is_steep(rows: [[i64; 4]; 3]) -> bool
     is_steep_row(rows[0]) || is_steep_row(rows[1]) || is_steep_row(rows[2])
 }
 
+// Whether a linear entry of a row is past 65535 in size.
 fn is_steep_row(row: [i64; 4]) -> bool
     ensures { result ≡ some_part is_past_matrix row }
 {
     is_steep_entry(row[0]) || is_steep_entry(row[1]) || is_steep_entry(row[2])
 }
 
+// Whether a number is past 65535 in size.
 fn is_steep_entry(entry: i64) -> bool
     ensures { result ≡ is_past_matrix entry }
 {
@@ -134,7 +138,7 @@ fn keeps_plane(rows: [[i64; 4]; 3]) -> bool
 
 // The rows with their moves in grid steps, or TooLarge where one is past 2^53 - 1 in size.
 fn on_grid(unit: Unit, rows: [[i64; 4]; 3]) -> Result<[[i64; 4]; 3], FaultKind>
-    ensures value { MatchResult result (λ moved. (moved ≡ rows_on_the_grid unit rows) × (some_row (moves_past unit) rows ≡ false))
+    ensures value { MatchResult result (λ moved. (moved ≡ rows_on_grid unit rows) × (some_row (moves_past unit) rows ≡ false))
         (λ kind. (kind ≡ TooLarge) × (some_row (moves_past unit) rows ≡ true)) }
     ensures safe { IfOk result (λ moved. (unsigned_abs (part (row_at moved 0) 3) ≤ 9007199254740991) × (unsigned_abs (part (row_at moved 1) 3) ≤ 9007199254740991) × (unsigned_abs (part (row_at moved 2) 3) ≤ 9007199254740991)) }
 {
@@ -144,6 +148,7 @@ fn on_grid(unit: Unit, rows: [[i64; 4]; 3]) -> Result<[[i64; 4]; 3], FaultKind>
     Ok([x, y, z])
 }
 
+// A row with its move in grid steps, or TooLarge where that is past 2^53 - 1 in size.
 fn row_on_grid(unit: Unit, row: [i64; 4]) -> Result<[i64; 4], FaultKind>
     ensures value { MatchResult result (λ moved. (moved ≡ row_on_the_grid unit row) × (moves_past unit row ≡ false))
         (λ kind. (kind ≡ TooLarge) × (moves_past unit row ≡ true)) }

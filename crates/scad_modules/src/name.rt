@@ -5,12 +5,14 @@ ghost use Rattle.scad_modules.specs.Table.{module_named, is_left_out as leaves_o
 
 use crate::table::BuiltinModule;
 
+// Whether two names are the same.
 fn same(known: &[u8], name: &[u8]) -> bool
     ensures { result ≡ bytes_eq known.now name.now }
 {
     known == name
 }
 
+// The names of the built-in modules.
 const MODULES: [(&[u8], BuiltinModule); 21] = [
     (b"cube", BuiltinModule::Cube),
     (b"polyhedron", BuiltinModule::Polyhedron),
@@ -42,6 +44,7 @@ pub fn builtin_module(name: &[u8]) -> Option<BuiltinModule>
     named_in(&MODULES, name)
 }
 
+// What a name stands for in a table.
 fn named_in(names: &[(&[u8], BuiltinModule)], name: &[u8]) -> Option<BuiltinModule>
     ensures { result ≡ named (map (λ known. (known.0.now, known.1)) names.now) name.now }
 {
@@ -53,6 +56,7 @@ fn named_in(names: &[(&[u8], BuiltinModule)], name: &[u8]) -> Option<BuiltinModu
     None
 }
 
+// The modules of OpenSCAD that the profile leaves out.
 const LEFT_OUT: [&[u8]; 9] = [
     b"sphere",
     b"minkowski",
@@ -72,6 +76,7 @@ pub fn is_left_out(name: &[u8]) -> bool
     is_among(&LEFT_OUT, name)
 }
 
+// Whether a name is one of these.
 fn is_among(names: &[&[u8]], name: &[u8]) -> bool
     ensures { result ≡ among (map (λ known. known.now) names.now) name.now }
 {

@@ -1,6 +1,6 @@
 //! Values as numbers, and as vectors of a fixed number of them.
 
-ghost use Rattle.std.specs.Prelude.{◌≡◌, pos};
+ghost use Rattle.std.specs.Prelude.{◌≡◌};
 ghost use Rattle.scad_value.specs.Values.{vals_from};
 ghost use Rattle.scad_value.specs.View.{val_of, vals_in};
 ghost use Rattle.scad_modules.specs.Reading.{number_in, truth_in, corner_number as corner_number_of, each_in, of_length, vector_in, filled_from, coordinates_in, sides_in};
@@ -125,6 +125,7 @@ pub(crate) fn factors(value: &Value) -> Option<[i64; 3]>
     }
 }
 
+// The numbers of two values.
 fn two_numbers(values: &[Value]) -> Option<[i64; 2]>
     ensures { result ≡ of_length 2 (each_in number_in (vals_from (vals_in values.now))) }
 {
@@ -134,6 +135,7 @@ fn two_numbers(values: &[Value]) -> Option<[i64; 2]>
     }
 }
 
+// The numbers of three values.
 fn three_numbers(values: &[Value]) -> Option<[i64; 3]>
     ensures { result ≡ of_length 3 (each_in number_in (vals_from (vals_in values.now))) }
 {
@@ -143,6 +145,7 @@ fn three_numbers(values: &[Value]) -> Option<[i64; 3]>
     }
 }
 
+// The numbers of four values.
 fn four_numbers(values: &[Value]) -> Option<[i64; 4]>
     ensures { result ≡ of_length 4 (each_in number_in (vals_from (vals_in values.now))) }
 {
@@ -152,6 +155,7 @@ fn four_numbers(values: &[Value]) -> Option<[i64; 4]>
     }
 }
 
+// The numbers of three values, or of two with one that stands for the missing third.
 fn coordinates_of(values: &[Value], third: i64) -> Option<[i64; 3]>
     ensures { result ≡ filled_from third (each_in number_in (vals_from (vals_in values.now))) }
 {

@@ -6,7 +6,7 @@ ghost use Rattle.primitives.specs.Sizes.{IsSafe};
 ghost use Rattle.scad_modules.specs.Bounds.{are_bounded};
 ghost use Rattle.scad_modules.specs.Reading.{slot, or_default, sides_in};
 ghost use Rattle.scad_modules.specs.Shapes.{fragments_in, cube_effect, polyhedron_effect, square_effect, polygon_effect, circle_effect, cylinder_effect, extrude_effect};
-ghost use Rattle.scad_modules.specs.View.{fragments_of, slots_of, Reads, TellsEffect, GivesSafe};
+ghost use Rattle.scad_modules.specs.View.{fragments_of, slots_of, Reads, MeetsEffect, GivesSafe};
 
 use crate::effects::{Effect, FlatShape, SolidShape};
 use crate::lists::{faces, flat_points, points};
@@ -16,14 +16,77 @@ use scad_value::{Value, ValueStop};
 use std::alloc::Global;
 use text_place::FaultKind;
 
+// Parameters by their numbers, in the order of their names: `size` of `cube` and `square`.
+const SIZE: usize = 0;
+
+// `center` of `cube` and `square`.
+const CENTER: usize = 1;
+
+// `points` of `polyhedron` and `polygon`.
+const POINTS: usize = 0;
+
+// `faces` of `polyhedron`.
+const FACES: usize = 1;
+
+// `paths` of `polygon`, which the profile leaves out.
+const PATHS: usize = 1;
+
+// `h` of `cylinder`.
+const CYLINDER_HEIGHT: usize = 0;
+
+// `r1` of `cylinder`.
+const CYLINDER_LOW: usize = 1;
+
+// `r2` of `cylinder`.
+const CYLINDER_HIGH: usize = 2;
+
+// `center` of `cylinder`.
+const CYLINDER_CENTER: usize = 3;
+
+// `r` of `cylinder`.
+const CYLINDER_RADIUS: usize = 4;
+
+// `d` of `cylinder`, which the profile leaves out.
+const CYLINDER_DIAMETER: usize = 5;
+
+// `d1` of `cylinder`, which the profile leaves out.
+const CYLINDER_LOW_DIAMETER: usize = 6;
+
+// `d2` of `cylinder`, which the profile leaves out.
+const CYLINDER_HIGH_DIAMETER: usize = 7;
+
+// `r` of `circle`.
+const CIRCLE_RADIUS: usize = 0;
+
+// `d` of `circle`, which the profile leaves out.
+const CIRCLE_DIAMETER: usize = 1;
+
+// `height` of `linear_extrude`.
+const EXTRUSION_HEIGHT: usize = 0;
+
+// `center` of `linear_extrude`.
+const EXTRUSION_CENTER: usize = 1;
+
+// `twist` of `linear_extrude`, which the profile leaves out.
+const EXTRUSION_TWIST: usize = 3;
+
+// `scale` of `linear_extrude`, which the profile leaves out.
+const EXTRUSION_SCALE: usize = 4;
+
+// `slices` of `linear_extrude`, which the profile leaves out.
+const EXTRUSION_SLICES: usize = 5;
+
+// How many fragments a circle must have.
+const FRAGMENTS: i64 = 4;
+
 /// The effect of `cube`, or its first fault: TypeMismatch or WrongDimension.
 pub(crate) fn cube(inside: bool, slots: &[Option<Value>]) -> Result<Effect, ValueStop>
     requires { IsTrue (are_bounded (slots_of slots.now)) }
-    ensures effect { TellsEffect result (cube_effect inside (slots_of slots.now)) }
+    ensures effect { MeetsEffect result (cube_effect inside (slots_of slots.now)) }
     ensures safe { GivesSafe result }
 {
     let size = cube_size(slots)?;
-    let center = is_centered(slots, 1)?;
+    let center = is_centered(slots, CENTER)?;
     if inside {
         return Err(ValueStop::Kind(FaultKind::WrongDimension));
     }
@@ -36,11 +99,11 @@ pub(crate) fn polyhedron(
     inside: bool,
     slots: &[Option<Value>],
 ) -> Result<Effect, ValueStop>
-    ensures effect { TellsEffect result (polyhedron_effect inside (slots_of slots.now)) }
+    ensures effect { MeetsEffect result (polyhedron_effect inside (slots_of slots.now)) }
     ensures safe { GivesSafe result }
 {
-    let point_list = required(slots, 0)?;
-    let face_list = required(slots, 1)?;
+    let point_list = required(slots, POINTS)?;
+    let face_list = required(slots, FACES)?;
     let points = points(alloc, point_list)?;
     let faces = faces(alloc, face_list)?;
     if inside {
@@ -57,20 +120,23 @@ pub(crate) fn cylinder(
     slots: &[Option<Value>],
 ) -> Result<Effect, ValueStop>
     requires { IsTrue (are_bounded (slots_of slots.now)) }
-    ensures effect { TellsEffect result (cylinder_effect inside (fragments_of fragments.entry) (slots_of slots.now)) }
+    ensures effect { MeetsEffect result (cylinder_effect inside (fragments_of fragments.entry) (slots_of slots.now)) }
     ensures safe { GivesSafe result }
 {
-    if is_given(slots, 5) || is_given(slots, 6) || is_given(slots, 7) {
+    if is_given(slots, CYLINDER_DIAMETER)
+        || is_given(slots, CYLINDER_LOW_DIAMETER)
+        || is_given(slots, CYLINDER_HIGH_DIAMETER)
+    {
         return Err(ValueStop::Kind(FaultKind::NotInProfile));
     }
     if has_two_radii(slots) {
         return Err(ValueStop::Kind(FaultKind::BadArgument));
     }
-    let height = number_or(slots, 0, 1)?;
-    let radius = number_or(slots, 4, 1)?;
-    let low = number_or(slots, 1, radius)?;
-    let high = number_or(slots, 2, radius)?;
-    let center = is_centered(slots, 3)?;
+    let height = number_or(slots, CYLINDER_HEIGHT, 1)?;
+    let radius = number_or(slots, CYLINDER_RADIUS, 1)?;
+    let low = number_or(slots, CYLINDER_LOW, radius)?;
+    let high = number_or(slots, CYLINDER_HIGH, radius)?;
+    let center = is_centered(slots, CYLINDER_CENTER)?;
     if inside {
         return Err(ValueStop::Kind(FaultKind::WrongDimension));
     }
@@ -88,11 +154,11 @@ pub(crate) fn cylinder(
 /// The effect of `square`, or its first fault: TypeMismatch or WrongDimension.
 pub(crate) fn square(inside: bool, slots: &[Option<Value>]) -> Result<Effect, ValueStop>
     requires { IsTrue (are_bounded (slots_of slots.now)) }
-    ensures effect { TellsEffect result (square_effect inside (slots_of slots.now)) }
+    ensures effect { MeetsEffect result (square_effect inside (slots_of slots.now)) }
     ensures safe { GivesSafe result }
 {
     let size = square_size(slots)?;
-    let center = is_centered(slots, 1)?;
+    let center = is_centered(slots, CENTER)?;
     if !inside {
         return Err(ValueStop::Kind(FaultKind::WrongDimension));
     }
@@ -106,11 +172,11 @@ pub(crate) fn polygon(
     inside: bool,
     slots: &[Option<Value>],
 ) -> Result<Effect, ValueStop>
-    ensures effect { TellsEffect result (polygon_effect inside (slots_of slots.now)) }
+    ensures effect { MeetsEffect result (polygon_effect inside (slots_of slots.now)) }
     ensures safe { GivesSafe result }
 {
-    let point_list = required(slots, 0)?;
-    if is_given(slots, 1) {
+    let point_list = required(slots, POINTS)?;
+    if is_given(slots, PATHS) {
         return Err(ValueStop::Kind(FaultKind::NotInProfile));
     }
     let points = flat_points(alloc, point_list)?;
@@ -128,13 +194,13 @@ pub(crate) fn circle(
     slots: &[Option<Value>],
 ) -> Result<Effect, ValueStop>
     requires { IsTrue (are_bounded (slots_of slots.now)) }
-    ensures effect { TellsEffect result (circle_effect inside (fragments_of fragments.entry) (slots_of slots.now)) }
+    ensures effect { MeetsEffect result (circle_effect inside (fragments_of fragments.entry) (slots_of slots.now)) }
     ensures safe { GivesSafe result }
 {
-    if is_given(slots, 1) {
+    if is_given(slots, CIRCLE_DIAMETER) {
         return Err(ValueStop::Kind(FaultKind::NotInProfile));
     }
-    let radius = number_or(slots, 0, 1)?;
+    let radius = number_or(slots, CIRCLE_RADIUS, 1)?;
     if !inside {
         return Err(ValueStop::Kind(FaultKind::WrongDimension));
     }
@@ -148,15 +214,18 @@ pub(crate) fn circle(
 /// WrongDimension.
 pub(crate) fn linear_extrude(inside: bool, slots: &[Option<Value>]) -> Result<Effect, ValueStop>
     requires { IsTrue (are_bounded (slots_of slots.now)) }
-    ensures effect { TellsEffect result (extrude_effect inside (slots_of slots.now)) }
+    ensures effect { MeetsEffect result (extrude_effect inside (slots_of slots.now)) }
     ensures safe { GivesSafe result }
 {
-    let given_height = required(slots, 0)?;
-    if is_given(slots, 3) || is_given(slots, 4) || is_given(slots, 5) {
+    let given_height = required(slots, EXTRUSION_HEIGHT)?;
+    if is_given(slots, EXTRUSION_TWIST)
+        || is_given(slots, EXTRUSION_SCALE)
+        || is_given(slots, EXTRUSION_SLICES)
+    {
         return Err(ValueStop::Kind(FaultKind::NotInProfile));
     }
     let height = number(given_height).ok_or(FaultKind::TypeMismatch)?;
-    let center = is_centered(slots, 1)?;
+    let center = is_centered(slots, EXTRUSION_CENTER)?;
     if inside {
         return Err(ValueStop::Kind(FaultKind::WrongDimension));
     }
@@ -172,10 +241,11 @@ fn cube_size(slots: &[Option<Value>]) -> Result<[i64; 3], FaultKind>
     found_cube_size(slots)
 }
 
+// The sizes of a cube: 1, where they are missing.
 fn found_cube_size(slots: &[Option<Value>]) -> Result<[i64; 3], FaultKind>
     ensures { Reads result (or_default (pos 1 ∷ pos 1 ∷ pos 1 ∷ []) (sides_in 3) (slot (slots_of slots.now) 0)) }
 {
-    match given(slots, 0) {
+    match given(slots, SIZE) {
         Some(value) => three_sides(value).ok_or(FaultKind::TypeMismatch),
         None => Ok([1, 1, 1]),
     }
@@ -190,10 +260,11 @@ fn square_size(slots: &[Option<Value>]) -> Result<[i64; 2], FaultKind>
     found_square_size(slots)
 }
 
+// The sizes of a square: 1, where they are missing.
 fn found_square_size(slots: &[Option<Value>]) -> Result<[i64; 2], FaultKind>
     ensures { Reads result (or_default (pos 1 ∷ pos 1 ∷ []) (sides_in 2) (slot (slots_of slots.now) 0)) }
 {
-    match given(slots, 0) {
+    match given(slots, SIZE) {
         Some(value) => two_sides(value).ok_or(FaultKind::TypeMismatch),
         None => Ok([1, 1]),
     }
@@ -203,7 +274,8 @@ fn found_square_size(slots: &[Option<Value>]) -> Result<[i64; 2], FaultKind>
 fn has_two_radii(slots: &[Option<Value>]) -> bool
     ensures { result ≡ (is_some (slot (slots_of slots.now) 4) && (is_some (slot (slots_of slots.now) 1) || is_some (slot (slots_of slots.now) 2))) }
 {
-    is_given(slots, 4) && (is_given(slots, 1) || is_given(slots, 2))
+    is_given(slots, CYLINDER_RADIUS)
+        && (is_given(slots, CYLINDER_LOW) || is_given(slots, CYLINDER_HIGH))
 }
 
 // The number of fragments, or TypeMismatch.
@@ -220,5 +292,5 @@ fn fragment_count(fragments: Option<&Value>) -> Result<i64, FaultKind>
 fn is_round(count: i64) -> bool
     ensures { result ≡ not (int_eq count (pos 4)) }
 {
-    count != 4
+    count != FRAGMENTS
 }

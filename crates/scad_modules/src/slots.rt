@@ -55,6 +55,7 @@ pub(crate) fn number_or(
     found_number(slots, parameter, default)
 }
 
+// The number that a parameter has, or its default. That it is safe follows from its definition.
 fn found_number(slots: &[Option<Value>], parameter: usize, default: i64) -> Result<i64, FaultKind>
     ensures { Reads result (or_default default number_in (slot (slots_of slots.now) parameter)) }
 {

@@ -1,13 +1,13 @@
 //! Calls of transforms.
 
-ghost use Rattle.std.specs.Prelude.{◌≡◌, ◌<◌, ◌≤◌, ◌&&◌, not, true, false, nat_eq, unsigned_abs, Ok, [], ◌∷◌, IfOk, IfSome, IsTrue, MatchResult};
+ghost use Rattle.std.specs.Prelude.{◌≡◌, ◌<◌, ◌≤◌, ◌&&◌, true, false, nat_eq, unsigned_abs, Ok, [], ◌∷◌, IfOk, IfSome, IsTrue, MatchResult};
 ghost use Rattle.text_place.specs.declared.fault.FaultKind.TheVariants.{TooLarge};
 ghost use Rattle.plane_predicate.specs.Space.{point_at};
 ghost use Rattle.int_transform.specs.Maps.{HasSafeCoordinates};
 ghost use Rattle.scad_modules.specs.Bounds.{are_bounded};
 ghost use Rattle.scad_modules.specs.Effects.{a_move};
-ghost use Rattle.scad_modules.specs.Transforms.{part, is_zero, is_past, in_steps as in_grid_steps, on_grid as on_the_grid, some_part, leaves_plane as leaves_the_plane, tilts_plane as tilts_the_plane, translate_call, is_skew as is_skew_angle, quarters_of, turned, turns_of, rotate_call, is_alone as is_alone_among, axis_of as axis_along, mirror_call, factors_for as factors_inside, scale_call};
-ghost use Rattle.scad_modules.specs.View.{slots_of, TellsEffect, GivesSafe};
+ghost use Rattle.scad_modules.specs.Transforms.{is_zero, is_past, in_steps as in_grid_steps, on_grid as on_the_grid, some_part, leaves_plane as leaves_the_plane, tilts_plane as tilts_the_plane, translate_call, is_skew as is_skew_angle, quarters_of, turned, turns_of, rotate_call, is_alone as is_alone_among, axis_of as axis_along, mirror_call, factors_for as factors_inside, scale_call};
+ghost use Rattle.scad_modules.specs.View.{slots_of, MeetsEffect, GivesSafe};
 
 use crate::effects::Effect;
 use crate::numbers::{angles, coordinates, factors};
@@ -26,7 +26,7 @@ pub(crate) fn translate(
     inside: bool,
     slots: &[Option<Value>],
 ) -> Result<Effect, ValueStop>
-    ensures effect { TellsEffect result (translate_call unit inside (slots_of slots.now)) }
+    ensures effect { MeetsEffect result (translate_call unit inside (slots_of slots.now)) }
     ensures safe { GivesSafe result }
 {
     let by = coordinates(required(slots, 0)?, 0).ok_or(FaultKind::TypeMismatch)?;
@@ -44,7 +44,7 @@ pub(crate) fn rotate(
     inside: bool,
     slots: &[Option<Value>],
 ) -> Result<Effect, ValueStop>
-    ensures effect { TellsEffect result (rotate_call inside (slots_of slots.now)) }
+    ensures effect { MeetsEffect result (rotate_call inside (slots_of slots.now)) }
     ensures safe { GivesSafe result }
 {
     let angle = required(slots, 0)?;
@@ -68,7 +68,7 @@ pub(crate) fn mirror(
     inside: bool,
     slots: &[Option<Value>],
 ) -> Result<Effect, ValueStop>
-    ensures effect { TellsEffect result (mirror_call inside (slots_of slots.now)) }
+    ensures effect { MeetsEffect result (mirror_call inside (slots_of slots.now)) }
     ensures safe { GivesSafe result }
 {
     let by = coordinates(required(slots, 0)?, 0).ok_or(FaultKind::TypeMismatch)?;
@@ -86,7 +86,7 @@ pub(crate) fn scale(
     slots: &[Option<Value>],
 ) -> Result<Effect, ValueStop>
     requires { IsTrue (are_bounded (slots_of slots.now)) }
-    ensures effect { TellsEffect result (scale_call inside (slots_of slots.now)) }
+    ensures effect { MeetsEffect result (scale_call inside (slots_of slots.now)) }
     ensures safe { GivesSafe result }
 {
     let by = factors(required(slots, 0)?).ok_or(FaultKind::TypeMismatch)?;
@@ -101,7 +101,7 @@ pub(crate) fn scale(
 
 /// The move by one step.
 pub(crate) fn moved(alloc: Global, step: Step) -> Result<Effect, ValueStop>
-    ensures effect { TellsEffect result (Ok (a_move (step ∷ []))) }
+    ensures effect { MeetsEffect result (Ok (a_move (step ∷ []))) }
     ensures safe { GivesSafe result }
 {
     Ok(Effect::Move(vec![in alloc; step]?))
@@ -149,6 +149,7 @@ fn is_skew(angle: i64) -> bool
     angle.unsigned_abs() % 90 != 0
 }
 
+// Whether one of three angles is no number of quarter turns.
 fn are_skew(angles: [i64; 3]) -> bool
     ensures { result ≡ some_part is_skew_angle angles }
 {
@@ -170,7 +171,7 @@ fn quarters(angle: i64) -> u8
 
 // The turns about x, then y, then z.
 fn turns(alloc: Global, by: [i64; 3]) -> Result<Effect, ValueStop>
-    ensures effect { TellsEffect result (Ok (a_move (turns_of by))) }
+    ensures effect { MeetsEffect result (Ok (a_move (turns_of by))) }
     ensures safe { GivesSafe result }
 {
     let steps = vec![in alloc; turn(0, by[0]), turn(1, by[1]), turn(2, by[2])]?;
@@ -216,6 +217,7 @@ fn is_across_plane(inside: bool, axis: u8) -> bool
     inside && axis == 2
 }
 
+// Whether one of three factors is 0.
 fn has_zero(by: [i64; 3]) -> bool
     ensures { result ≡ some_part is_zero by }
 {

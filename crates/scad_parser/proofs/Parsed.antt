@@ -5,13 +5,13 @@ use Rattle.std.specs.Prelude.{Contains}
 use Rattle.text_place.specs.declared.fault.Stop.{Stop}
 use Rattle.text_place.specs.declared.fault.Stop.TheVariants.{Fault, NoMemory}
 use Rattle.scad_lexer.specs.declared.token.Token.{Token}
-use Rattle.scad_ast.specs.declared.program.Program.{Program as ProgramIn}
+use Rattle.scad_ast.specs.declared.program.Program.{Program}
 use Rattle.scad_ast.specs.Terms.{StatementTerm}
 use Rattle.scad_ast.specs.Counts.{begun_by_program}
 use Rattle.scad_ast.specs.ProgramView.{program_of}
 use Rattle.scad_grammar.specs.declared.SyntaxFault.{SyntaxFault}
 use Rattle.scad_grammar.specs.FirstFault.{IsFirstFault}
-use Rattle.scad_grammar.specs.Grammar.{Program}
+use Rattle.scad_grammar.specs.Grammar.{WholeProgram}
 use Rattle.scad_grammar.specs.Reading.{after}
 use Rattle.scad_grammar.proofs.Counts.{few_begun}
 use Rattle.scad_grammar.proofs.FirstFaults.{no_fault}
@@ -20,11 +20,11 @@ use Rattle.scad_parser.specs.Parsing.{ends, nothing_behind, whole_read, kind_of,
 use Rattle.scad_parser.proofs.Whole.{ReadProgram, verdict, whole_found, only_whole}
 
 module _ (d : ℕ) (ts : List Token) where
-  pub found : (r : Result ProgramIn Stop) → IsRead r (whole_read d ts) → IfOk r (λ p. Program d (program_of p) ts)
+  pub found : (r : Result Program Stop) → IsRead r (whole_read d ts) → IfOk r (λ p. WholeProgram d (program_of p) ts)
   found (Ok p) h = whole_found d ts (program_of p) h.0 h.1
   found (Err s) h = tt
 
-  pub few : (r : Result ProgramIn Stop) → IsRead r (whole_read d ts) → IfOk r (λ p. begun_by_program (program_of p) ≤ length ts)
+  pub few : (r : Result Program Stop) → IsRead r (whole_read d ts) → IfOk r (λ p. begun_by_program (program_of p) ≤ length ts)
   few (Ok p) h = few_begun d (program_of p) ts (whole_found d ts (program_of p) h.0 h.1)
   few (Err s) h = tt
 
@@ -32,7 +32,7 @@ module _ (d : ℕ) (ts : List Token) where
   pub few_read : (x : List StatementTerm) (us : List Token) → length ts < 2 ^ 32 → whole_read d ts ≡ Ok (x, us) → begun_by_program x < 2 ^ 32
   few_read x us h e = omega (arith, few_begun d x ts (whole_found d ts x us e), h)
 
-  pub program : (r : Result ProgramIn Stop) → IsRead r (whole_read d ts) → (x : List StatementTerm) → Program d x ts → AnswersProgram r x
+  pub program : (r : Result Program Stop) → IsRead r (whole_read d ts) → (x : List StatementTerm) → WholeProgram d x ts → AnswersProgram r x
   program (Ok p) h x g =
       let read = ap (λ (q : ReadProgram). after q nothing_behind) (complete_at d x ts g) in
       let both : ◌≡◌ {A = ReadProgram} (Ok (program_of p, h.0)) (Ok (x, [])) = sym h.1 ∙ read in
@@ -43,7 +43,7 @@ module _ (d : ℕ) (ts : List Token) where
       absurd (let both : ◌≡◌ {A = ReadProgram} (Err (h.0, h.1)) (Ok (x, [])) = sym h.2 ∙ read in cc)
   program (Err NoMemory) h x g = tt
 
-  pub only : (r : Result ProgramIn Stop) → IsRead r (whole_read d ts) → (k : SyntaxFault) (at : List Token) → IsFirstFault d ts k at → AnswersFault r k at
+  pub only : (r : Result Program Stop) → IsRead r (whole_read d ts) → (k : SyntaxFault) (at : List Token) → IsFirstFault d ts k at → AnswersFault r k at
   only (Ok p) h k at g = elim (no_fault d ts (program_of p) k at (whole_found d ts (program_of p) h.0 h.1) g) [ ]
   only (Err (Fault f)) h k at g =
       let both : ◌≡◌ {A = ReadProgram} (Err (h.0, h.1)) (Err (k, at)) = sym h.2 ∙ only_whole d ts k at g in
@@ -51,7 +51,7 @@ module _ (d : ℕ) (ts : List Token) where
       (h.3 ∙ ap (λ (p : SyntaxFault × List Token). kind_of p.0) pair, h.4 ∙ ap (λ (p : SyntaxFault × List Token). place_at p.1) pair)
   only (Err NoMemory) h k at g = tt
 
-  pub fault : (r : Result ProgramIn Stop) → ends ts ≡ true → IsRead r (whole_read d ts) → IfErr r (λ stop. IsStopOf d ts stop)
+  pub fault : (r : Result Program Stop) → ends ts ≡ true → IsRead r (whole_read d ts) → IfErr r (λ stop. IsStopOf d ts stop)
   fault (Ok p) e h = tt
   fault (Err (Fault f)) e h = elim (verdict d ts e) [
     | inl p ↦ absurd (let both : ◌≡◌ {A = ReadProgram} (Err (h.0, h.1)) (Ok (p.0, [])) = sym h.2 ∙ p.2 in cc)
@@ -59,7 +59,7 @@ module _ (d : ℕ) (ts : List Token) where
   ]
   fault (Err NoMemory) e h = tt
 
-  pub stands : (r : Result ProgramIn Stop) → IfErr r (λ stop. IsStopOf d ts stop) → IfErr r (λ stop. StandsAtToken ts stop)
+  pub stands : (r : Result Program Stop) → IfErr r (λ stop. IsStopOf d ts stop) → IfErr r (λ stop. StandsAtToken ts stop)
   stands (Ok p) h = tt
   stands (Err (Fault f)) h =
       let first = h.2 in

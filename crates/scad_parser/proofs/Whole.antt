@@ -10,7 +10,7 @@ use Rattle.scad_grammar.specs.declared.SyntaxFault.TheVariants.{Expected, NotInP
 use Rattle.scad_grammar.specs.Classes.{among}
 use Rattle.scad_grammar.specs.Faults.{fault_of, left_out}
 use Rattle.scad_grammar.specs.FirstFault.{BeginsSome, IsFault, IsFirstFault}
-use Rattle.scad_grammar.specs.Grammar.{Program}
+use Rattle.scad_grammar.specs.Grammar.{WholeProgram}
 use Rattle.scad_grammar.specs.Reading.{Read, after, starts}
 use Rattle.scad_grammar.specs.StatementReads.{program_read}
 use Rattle.scad_grammar.proofs.FirstFaults.{only_fault, one_fault, no_fault, program_or_fault}
@@ -55,15 +55,15 @@ never : (r : List Token) → starts (λ t. false) r ≡ false
 never [] = refl
 never (t ∷ r) = refl
 
-complete_over : (d : ℕ) (x : List StatementTerm) (s r : List Token) → Program d x s → program_read d (s ++ r) ≡ Ok (x, r)
+complete_over : (d : ℕ) (x : List StatementTerm) (s r : List Token) → WholeProgram d x s → program_read d (s ++ r) ≡ Ok (x, r)
 complete_over d x s r h = (program_reads d).complete x s r h (never r)
 
 -- so no program goes on behind one
-dead : (d : ℕ) (x : List StatementTerm) (s : List Token) (t : Token) → Program d x s → BeginsSome (s ++ t ∷ []) → ⊥
+dead : (d : ℕ) (x : List StatementTerm) (s : List Token) (t : Token) → WholeProgram d x s → BeginsSome (s ++ t ∷ []) → ⊥
 dead d x s t h b =
     let w = b.2 in
     let e : d + b.0 ≡ b.0 + d = omega arith in
-    let g : Program b.0 b.1 (s ++ t ∷ w) = subst (Program b.0 b.1) (append_assoc s (t ∷ []) w) b.3 in
+    let g : WholeProgram b.0 b.1 (s ++ t ∷ w) = subst (WholeProgram b.0 b.1) (append_assoc s (t ∷ []) w) b.3 in
     let one = complete_over (b.0 + d) x s (t ∷ w) (lift b.0 d x s h) in
     let other = complete_at (b.0 + d) b.1 (s ++ t ∷ w) (rw (sym e) (lift d b.0 b.1 (s ++ t ∷ w) g)) in
     let both : ◌≡◌ {A = ReadProgram} (Ok (x, t ∷ w)) (Ok (b.1, [])) = sym one ∙ other in
@@ -72,16 +72,16 @@ dead d x s t h b =
     absurd (cc)
 
 -- and the next token is the first fault
-fault_behind : (d : ℕ) (x : List StatementTerm) (s : List Token) (t : Token) → Program d x s
+fault_behind : (d : ℕ) (x : List StatementTerm) (s : List Token) (t : Token) → WholeProgram d x s
     → (b : Bool) → among left_out t ≡ b → IsFault d (cond b NotInProfile Expected) s t
 fault_behind d x s t h true e = (dead d x s t h, inl e)
 fault_behind d x s t h false e =
     (dead d x s t h, λ l. elim l [ inl a ↦ absurd (let f : true ≡ false = sym a ∙ e in cc) | inr a ↦ dead d x s a.1.0 h a.1.2 ])
 
-behind : (d : ℕ) (x : List StatementTerm) (s : List Token) (t : Token) (more : List Token) → Program d x s
+behind : (d : ℕ) (x : List StatementTerm) (s : List Token) (t : Token) (more : List Token) → WholeProgram d x s
     → IsFirstFault d (s ++ t ∷ more) (fault_of left_out (Some t)) (t ∷ more)
 behind d x s t more h =
-    let all : Program d x (s ++ []) = subst (Program d x) (sym (append-nil s)) h in
+    let all : WholeProgram d x (s ++ []) = subst (WholeProgram d x) (sym (append-nil s)) h in
     (s, t, more, refl, refl, ((d, x, [], all), x, [], is_outline d x (s ++ []) all), fault_behind d x s t h (among left_out t) refl)
 
 -- a fault before the first end is the same whatever stands behind that end
@@ -92,7 +92,7 @@ same_front (u ∷ us) r t more e = refl
 fault_over : (d : ℕ) (s r : List Token) (k : SyntaxFault) (at : List Token) → ends_once s ≡ true → IsFirstFault d s k at
     → program_read d (s ++ r) ≡ Err (k, at ++ r)
 fault_over d s r k at n f =
-    let told = subst (Told (program_read d) (Program d) (Program (suc (suc d))) s) (only_fault d s k at n f) ((program_reads d).told s) in
+    let told = subst (Told (program_read d) (WholeProgram d) (WholeProgram (suc (suc d))) s) (only_fault d s k at n f) ((program_reads d).told s) in
     ap (λ l. program_read d (l ++ r)) told.1 ∙ ap (program_read d) (append_assoc told.0 at r)
     ∙ told.3 (at ++ r) (same_front at r f.1 f.2 f.4)
 
@@ -103,12 +103,12 @@ first_over d s r k at f =
 -- what is read of tokens is their program, or their first fault
 abbrev Verdict : ℕ → List Token → Type 0
 Verdict d ts =
-    ((x : List StatementTerm) × Program d x ts × (whole_read d ts ≡ Ok (x, [])))
+    ((x : List StatementTerm) × WholeProgram d x ts × (whole_read d ts ≡ Ok (x, [])))
     ⊎ ((k : SyntaxFault) × (at : List Token) × IsFirstFault d ts k at × (whole_read d ts ≡ Err (k, at)))
 
-of_program : (d : ℕ) (x : List StatementTerm) (s r : List Token) → Program d x s → Verdict d (s ++ r)
+of_program : (d : ℕ) (x : List StatementTerm) (s r : List Token) → WholeProgram d x s → Verdict d (s ++ r)
 of_program d x s [] h =
-    inl (x, subst (Program d x) (sym (append-nil s)) h, ap (λ (q : ReadProgram). after q nothing_behind) (complete_over d x s [] h))
+    inl (x, subst (WholeProgram d x) (sym (append-nil s)) h, ap (λ (q : ReadProgram). after q nothing_behind) (complete_over d x s [] h))
 of_program d x s (t ∷ more) h =
     inr (
       fault_of left_out (Some t),
@@ -132,14 +132,14 @@ pub verdict : (d : ℕ) (ts : List Token) → ends ts ≡ true → Verdict d ts
 verdict d ts e = let c = cut ts e in subst (Verdict d) (sym c.2) (verdict_over d c.0 c.1 c.3)
 
 -- what was read is a program that the tokens write
-pub whole_found : (d : ℕ) (ts : List Token) (x : List StatementTerm) (rest : List Token) → whole_read d ts ≡ Ok (x, rest) → Program d x ts
+pub whole_found : (d : ℕ) (ts : List Token) (x : List StatementTerm) (rest : List Token) → whole_read d ts ≡ Ok (x, rest) → WholeProgram d x ts
 whole_found d ts x rest e = go (program_read d ts) e ((program_reads d).told ts)
   where
-    go : (q : ReadProgram) → after q nothing_behind ≡ Ok (x, rest) → Told (program_read d) (Program d) (Program (suc (suc d))) ts q → Program d x ts
+    go : (q : ReadProgram) → after q nothing_behind ≡ Ok (x, rest) → Told (program_read d) (WholeProgram d) (WholeProgram (suc (suc d))) ts q → WholeProgram d x ts
     go (Ok (y, [])) e t =
         let g : ◌≡◌ {A = ReadProgram} (Ok (y, [])) (Ok (x, rest)) = e in
         let pair : ◌≡◌ {A = List StatementTerm × List Token} (y, []) (x, rest) = cc in
-        subst (λ s. Program d x s) (sym (t.1 ∙ append-nil t.0)) (subst (λ x. Program d x t.0) (ap (λ (p : List StatementTerm × List Token). p.0) pair) t.2)
+        subst (λ s. WholeProgram d x s) (sym (t.1 ∙ append-nil t.0)) (subst (λ x. WholeProgram d x t.0) (ap (λ (p : List StatementTerm × List Token). p.0) pair) t.2)
     go (Ok (y, u ∷ us)) e t = absurd (cc)
     go (Err y) e t = absurd (cc)
 
@@ -155,7 +155,7 @@ looks_ahead d k s t us vs e = go (program_read d (s ++ t ∷ us)) e ((program_re
     same [] e = absurd (cc)
     same (u ∷ ws) e = let pair : ◌≡◌ {A = Token × List Token} (u, ws) (t, us) = cc in ap (λ (p : Token × List Token). p.0) pair
 
-    go : (q : ReadProgram) → after q nothing_behind ≡ Err (k, t ∷ us) → Told (program_read d) (Program d) (Program (suc (suc d))) (s ++ t ∷ us) q
+    go : (q : ReadProgram) → after q nothing_behind ≡ Err (k, t ∷ us) → Told (program_read d) (WholeProgram d) (WholeProgram (suc (suc d))) (s ++ t ∷ us) q
         → whole_read d (s ++ t ∷ vs) ≡ Err (k, t ∷ vs)
     go (Ok (y, [])) e h = absurd (cc)
     go (Ok (y, u ∷ ws)) e h =

@@ -8,7 +8,7 @@ use Rattle.text_place.specs.declared.fault.Stop.{Stop}
 use Rattle.text_place.specs.declared.fault.Stop.TheVariants.{Fault, NoMemory}
 use Rattle.scad_lexer.specs.declared.token.Token.{Token}
 use Rattle.scad_lexer.specs.Tokens.{is_end}
-use Rattle.scad_ast.specs.declared.program.Program.{Program as ProgramIn}
+use Rattle.scad_ast.specs.declared.program.Program.{Program}
 use Rattle.scad_ast.specs.Terms.{StatementTerm}
 use Rattle.scad_ast.specs.ProgramView.{program_of}
 use Rattle.scad_grammar.specs.declared.SyntaxFault.{SyntaxFault}
@@ -44,13 +44,13 @@ StandsAtToken tokens (Fault f) = (t : Token) × Contains tokens t × (f.place �
 StandsAtToken tokens NoMemory = Unit {0}
 
 -- the answer is this program, unless memory ran out
-abbrev pub AnswersProgram : Result ProgramIn Stop → List StatementTerm → Type 0
+abbrev pub AnswersProgram : Result Program Stop → List StatementTerm → Type 0
 AnswersProgram (Ok p) x = program_of p ≡ x
 AnswersProgram (Err (Fault f)) x = ⊥
 AnswersProgram (Err NoMemory) x = Unit {0}
 
 -- the answer is this fault at the first of these tokens, unless memory ran out
-abbrev pub AnswersFault : Result ProgramIn Stop → SyntaxFault → List Token → Type 0
+abbrev pub AnswersFault : Result Program Stop → SyntaxFault → List Token → Type 0
 AnswersFault (Ok p) fault at = ⊥
 AnswersFault (Err (Fault f)) fault at = (f.kind ≡ kind_of fault) × (f.place ≡ place_at at)
 AnswersFault (Err NoMemory) fault at = Unit {0}
@@ -71,7 +71,7 @@ abbrev pub whole_read : ℕ → Reads (List StatementTerm)
 whole_read d ts = after (program_read d ts) nothing_behind
 
 -- the answer is what a reader of the grammar reads, unless memory ran out
-abbrev pub IsRead : Result ProgramIn Stop → Read Token SyntaxFault (List StatementTerm) → Type 0
+abbrev pub IsRead : Result Program Stop → Read Token SyntaxFault (List StatementTerm) → Type 0
 IsRead (Ok p) read = (rest : List Token) × (read ≡ Ok (program_of p, rest))
 IsRead (Err (Fault f)) read = (fault : SyntaxFault) × (at : List Token) × (read ≡ Err (fault, at)) × (f.kind ≡ kind_of fault) × (f.place ≡ place_at at)
 IsRead (Err NoMemory) read = Unit {0}

@@ -6,7 +6,7 @@ ghost use Rattle.scad_ast.specs.Counts.{begun_by_program};
 ghost use Rattle.scad_ast.specs.ProgramView.{program_of};
 ghost use Rattle.scad_ast.specs.StatementView.{statements_of};
 ghost use Rattle.scad_grammar.specs.declared.SyntaxFault.{SyntaxFault};
-ghost use Rattle.scad_grammar.specs.Grammar.{Program as ProgramAt};
+ghost use Rattle.scad_grammar.specs.Grammar.{WholeProgram};
 ghost use Rattle.scad_grammar.specs.FirstFault.{IsFirstFault};
 ghost use Rattle.scad_parser.specs.Parsing.{ends, whole_read, IsStopOf, StandsAtToken, AnswersProgram, AnswersFault, IsRead, kind_of as kind_at, place_at};
 ghost use Rattle.scad_tokens.specs.Views.{Gives};
@@ -27,9 +27,9 @@ const DEPTH: u32 = 65;
 pub fn parse(alloc: Global, tokens: &[Token]) -> Result<Program, Stop>
     requires { length tokens.now < 2 ^ 32 }
     // What is given is a program that the tokens write.
-    ensures found { IfOk result (λ p. ProgramAt 65 (program_of p) tokens.now) }
+    ensures found { IfOk result (λ p. WholeProgram 65 (program_of p) tokens.now) }
     // The program that the tokens write is given, unless memory runs out.
-    ensures program { (x : List StatementTerm) → ProgramAt 65 x tokens.now → AnswersProgram result x }
+    ensures program { (x : List StatementTerm) → WholeProgram 65 x tokens.now → AnswersProgram result x }
     // A fault of tokens that end with an end is their first one, at its token's place.
     ensures fault { ends tokens.now ≡ true → IfErr result (λ stop. IsStopOf 65 tokens.now stop) }
     // The place of such a fault is that of one of the tokens, which may be the end.

@@ -4,7 +4,7 @@ ghost use Rattle.scad_ast.specs.StatementView.{statement_of, statements_of, inst
 ghost use Rattle.scad_grammar.specs.Classes.{among, is, name, comma_sign, else_word};
 ghost use Rattle.scad_grammar.specs.Languages.{second_of};
 ghost use Rattle.scad_grammar.specs.Faults.{one};
-ghost use Rattle.scad_grammar.specs.Grammar.{mark_of as mark_at, instance_of as instance_at, assignment_of as assignment_at};
+ghost use Rattle.scad_grammar.specs.Grammar.{mark_of as mark_at, instance_of as instance_at, assignment_of};
 ghost use Rattle.scad_grammar.specs.Reading.{both, many, mapped, trailing, in_front};
 ghost use Rattle.scad_grammar.specs.Reads.{expr_read, arg_in, in_parentheses};
 ghost use Rattle.scad_grammar.specs.StatementReads.{firsts_of_statement, param_in, params_read, binder_in, binders_read, if_read, loop_read, call_read, core_read, marks_read, instance_in, braces_read, body_read, body_over as body_from, module_read, function_read, ended_read, special_read, definition_read, statement_over as statement_from, statement_read};
@@ -91,7 +91,7 @@ fn assignment<'a>(
     tokens: &'a [Token],
     depth: u32,
 ) -> Parsed<'a, Statement>
-    ensures value { Gives (λ p. (statement_of p.0, p.1.now)) result (mapped (assignment_at name.now) (ended_read (expr_read depth)) tokens.now) }
+    ensures value { Gives (λ p. (statement_of p.0, p.1.now)) result (mapped (assignment_of name.now) (ended_read (expr_read depth)) tokens.now) }
 {
     let bytes = bytes(alloc, &name.kind)?;
     let (value, rest) = ended(alloc, tokens, depth)?;

@@ -12,6 +12,7 @@ TellsShape (Ok shape) verdict mesh = (verdict ≡ None) × (shape ≡ mesh)
 TellsShape (Err (Kind kind)) verdict mesh = verdict ≡ Some kind
 TellsShape (Err NoMemory) verdict mesh = Unit {0}
 
+-- the outline, where nothing is wrong with it, or the check that it fails, unless memory ran out
 abbrev pub TellsFlat : Result (List (List ℤ)) ShapeStop → Verdict → List (List ℤ) → Type 0
 TellsFlat (Ok flat) verdict outline = (verdict ≡ None) × (flat ≡ outline)
 TellsFlat (Err (Kind kind)) verdict outline = verdict ≡ Some kind

@@ -15,6 +15,7 @@ use Rattle.scad_modules.specs.Bounds.{IsSafeChoice}
 use Rattle.scad_modules.specs.Effects.{ChosenCall, EffectCall}
 use Rattle.scad_modules.specs.View.{chosen_of, call_of}
 
+-- which children are chosen, where some are
 abbrev pub chosen_seen : Option (Bor Chosen) → Option ChosenCall
 chosen_seen = option_map (λ c. chosen_of c.now)
 

@@ -7,6 +7,7 @@ use Rattle.scad_evaluation.specs.Definitions.{IsBlockOf}
 use Rattle.scad_meaning.specs.Meaning.{core_of}
 use Rattle.scad_pieces.specs.declared.numbered.NumberedInstance.{NumberedInstance}
 
+-- an instance without the numbers of its blocks
 abbrev pub term_of_numbered : NumberedInstance → InstanceTerm
 term_of_numbered i = instance_of i.instance.now
 
@@ -18,6 +19,7 @@ CoreHasBlocks text (ForTerm at binders body) block other = IsBlockOf text block 
 CoreHasBlocks text (IntersectionForTerm at binders body) block other = IsBlockOf text block body
 CoreHasBlocks text (ModuleCallTerm at name args body) block other = IsBlockOf text block body
 
+-- the bodies of an instance stand in its blocks
 abbrev pub HasBlocks : NumberedText → NumberedInstance → Type 0
 HasBlocks text i = CoreHasBlocks text (core_of (term_of_numbered i)) i.block i.other
 

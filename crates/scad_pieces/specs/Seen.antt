@@ -15,12 +15,15 @@ use Rattle.scad_pieces.specs.declared.position.MemberResults.{MemberResults}
 use Rattle.scad_meaning.specs.Bodies.{is_bare}
 use Rattle.scad_meaning.specs.Meaning.{InstanceDesign, MemberDesigns, as_member, and_members, no_design}
 
+-- what an instance gave, with the leaves so far
 abbrev pub instance_design_of : ℕ → InstanceResult → InstanceDesign
 instance_design_of leaves m = record { leaves = leaves; design = plain_of m.design; marked = option_map plain_of m.marked }
 
+-- what members gave, with the leaves so far
 abbrev pub member_designs_of : ℕ → MemberResults → MemberDesigns
 member_designs_of leaves ms = record { leaves = leaves; designs = map plain_of ms.designs.items; marked = option_map plain_of ms.marked }
 
+-- one member, or none where the instance is no member
 abbrev pub one_member_of : Bool → ℕ → InstanceResult → MemberDesigns
 one_member_of is_member leaves m = as_member is_member (instance_design_of leaves m)
 

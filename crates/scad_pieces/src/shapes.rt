@@ -1,7 +1,7 @@
 //! Shapes by what is known of them, or the first check that they fail.
 
 ghost use Rattle.scad_modules.specs.Bounds.{IsSafeSolid, IsSafeFlat};
-ghost use Rattle.scad_modules.specs.View.{solid_of as solid_call, flat_of as flat_call};
+ghost use Rattle.scad_modules.specs.View.{solid_call_of, flat_call_of};
 ghost use Rattle.scad_meaning.specs.Verdicts.{Judge, IsRight, solid_of, outline_of};
 ghost use Rattle.scad_pieces.specs.Answers.{TellsShape, TellsFlat};
 
@@ -15,9 +15,9 @@ use std::alloc::Global;
 
 /// A solid shape in grid steps, or the first check of shapes that it fails.
 pub fn solid_shape(alloc: Global, unit: Unit, shape: &SolidShape) -> Result<Shape, ShapeStop>
-    requires { IsSafeSolid (solid_call shape.now) }
+    requires { IsSafeSolid (solid_call_of shape.now) }
     ensures { (judge : Judge) → IsRight judge →
-        TellsShape result (judge.solid unit (solid_call shape.now)) (solid_of unit (solid_call shape.now)) }
+        TellsShape result (judge.solid unit (solid_call_of shape.now)) (solid_of unit (solid_call_of shape.now)) }
 {
     match shape {
         SolidShape::Cube { size, center } => cube_shape(alloc, *size, *center, unit),
@@ -33,9 +33,9 @@ pub fn solid_shape(alloc: Global, unit: Unit, shape: &SolidShape) -> Result<Shap
 
 /// A shape in the plane in grid steps, or the first check of shapes that it fails.
 pub fn flat_shape(alloc: Global, unit: Unit, shape: &FlatShape) -> Result<Flat, ShapeStop>
-    requires { IsSafeFlat (flat_call shape.now) }
+    requires { IsSafeFlat (flat_call_of shape.now) }
     ensures { (judge : Judge) → IsRight judge →
-        TellsFlat result (judge.flat unit (flat_call shape.now)) (outline_of unit (flat_call shape.now)) }
+        TellsFlat result (judge.flat unit (flat_call_of shape.now)) (outline_of unit (flat_call_of shape.now)) }
 {
     match shape {
         FlatShape::Square { size, center } => square_flat(alloc, *size, *center, unit),

@@ -12,7 +12,7 @@ use Rattle.std.specs.Prelude.{IfOk, OnOk, OnErr}
 use Rattle.std.proofs.Common.{Result, Ok, Err}
 use Rattle.scad_scope.specs.Names.{Row, NumberedEnv, NumberedOutermost, NumberedWithin, NumberedCall, no_numbered_call, numbered_call, call_behind, env_behind, or_outer_call, enclosing_call, envs_from, env_of, find_in, or_else, standing_in, variable_in}
 use Rattle.scad_scope.specs.declared.table.ModuleCall.{ModuleCall}
-use Rattle.scad_scope.specs.Table.{call_told}
+use Rattle.scad_scope.specs.Table.{numbered_call_of}
 use Rattle.scad_scope.specs.View.{row_of, rows_in, pairs_of, definition_in}
 
 pub envs_length : (before : List NumberedEnv) (rs : List Row) → length (envs_from before rs) ≡ length before + length
@@ -172,8 +172,8 @@ module _ (ss : List Scope) (k : ℕ) (s : Scope) (name : List ℕ) (h : k < leng
     unfolding outside
     enclosing_here = ap enclosing_call (env_at ss k s h e)
 
-    pub call_found : (call : ModuleCall) → call_behind (env_of (rows_in ss)) k (row_of s).call ≡ call_told (env_of (rows_in ss)) (Some call)
-        → enclosing_call (env_of (rows_in ss) k) ≡ call_told (env_of (rows_in ss)) (Some call)
+    pub call_found : (call : ModuleCall) → call_behind (env_of (rows_in ss)) k (row_of s).call ≡ numbered_call_of (env_of (rows_in ss)) (Some call)
+        → enclosing_call (env_of (rows_in ss) k) ≡ numbered_call_of (env_of (rows_in ss)) (Some call)
     call_found call f = enclosing_here ∙ ap (λ c. or_outer_call c (enclosing_call outside)) f
 
     pub call_none : call_behind (env_of (rows_in ss)) k (row_of s).call ≡ no_numbered_call → k ≤ s.outer

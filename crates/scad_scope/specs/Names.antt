@@ -1,6 +1,6 @@
 -- Scopes as lists of pairs of a name and what it stands for, searched from the newest.
-use Rattle.std.specs.Prelude.{ℕ, zero, suc, ◌-◌, ◌^◌, pos, List, [], ◌∷◌, ◌++◌, length, Bool, true, ◌&&◌, Option, Some, None, slice_index_or, if◌then◌else◌, nat_lt, codes}
-use Rattle.scad_value.specs.Values.{Val, NumberVal, is_bounded}
+use Rattle.std.specs.Prelude.{ℕ, zero, suc, ◌-◌, ◌^◌, pos, List, [], ◌∷◌, ◌++◌, length, Option, Some, None, slice_index_or, if◌then◌else◌, nat_lt, codes}
+use Rattle.scad_value.specs.Values.{Val, NumberVal}
 pub use Rattle.newest_names.specs.Newest.{Pairs, find_in, oldest}
 
 -- a scope in the table of scopes: its pairs, and the number of the scope outside it
@@ -31,28 +31,30 @@ call_behind scope count (Some call) = if nat_lt call.1 count then numbered_call 
 
 -- a row behind these scopes, inside one of them or inside none
 abbrev pub env_behind : List NumberedEnv → Row → NumberedEnv
-env_behind before r =
-    NumberedWithin (length before) r (call_behind (λ k. slice_index_or before k NumberedOutermost) (length before) r.call)
-    (slice_index_or before r.outer NumberedOutermost)
+env_behind before row =
+    NumberedWithin (length before) row (call_behind (λ k. slice_index_or before k NumberedOutermost) (length before) row.call)
+    (slice_index_or before row.outer NumberedOutermost)
 
 -- each scope of a table
 abbrev pub envs_from : List NumberedEnv → List Row → List NumberedEnv
 envs_from before [] = before
-envs_from before (r ∷ rs) = envs_from (before ++ env_behind before r ∷ []) rs
+envs_from before (row ∷ rows) = envs_from (before ++ env_behind before row ∷ []) rows
 
 -- the scope of a number
 unfoldable pub env_of : List Row → ℕ → NumberedEnv
 env_of rows k = slice_index_or (envs_from [] rows) k NumberedOutermost
 
--- The call that encloses a scope: the innermost one whose scope it is or stands in (OpenSCAD User Manual, "Children").
+-- a call, or where there is none the one outside it
 abbrev pub or_outer_call : NumberedCall → NumberedCall → NumberedCall
 or_outer_call no_numbered_call outer = outer
 or_outer_call (numbered_call children caller) outer = numbered_call children caller
 
+-- The call that encloses a scope: the innermost one whose scope it is or stands in (OpenSCAD User Manual, "Children").
 abbrev pub enclosing_call : NumberedEnv → NumberedCall
 enclosing_call NumberedOutermost = no_numbered_call
 enclosing_call (NumberedWithin number row call outer) = or_outer_call call (enclosing_call outer)
 
+-- what was found, or else what is found further out
 abbrev pub or_else : {A : Type 0} → Option A → Option A → Option A
 or_else (Some x) other = Some x
 or_else None other = other
@@ -62,6 +64,7 @@ abbrev pub variable_in : NumberedEnv → List ℕ → Option Val
 variable_in NumberedOutermost name = None
 variable_in (NumberedWithin number row call outer) name = or_else (find_in row.variables name) (variable_in outer name)
 
+-- a definition that was found, with the scope that it stands in
 abbrev pub standing_in : NumberedEnv → Option ℕ → Option (NumberedEnv × ℕ)
 standing_in env (Some definition) = Some (env, definition)
 standing_in env None = None
@@ -97,13 +100,8 @@ with_variable name value row = record row { variables = (name, value) ∷ row.va
 -- a table with one more variable in a scope
 abbrev pub bound_in : List Row → ℕ → List ℕ → Val → List Row
 bound_in [] k name value = []
-bound_in (r ∷ rs) zero name value = with_variable name value r ∷ rs
-bound_in (r ∷ rs) (suc k) name value = r ∷ bound_in rs k name value
-
--- each variable is bounded
-abbrev pub have_bounded : Pairs Val → Bool
-have_bounded [] = true
-have_bounded (p ∷ ps) = is_bounded p.1 && have_bounded ps
+bound_in (row ∷ rows) zero name value = with_variable name value row ∷ rows
+bound_in (row ∷ rows) (suc k) name value = row ∷ bound_in rows k name value
 
 -- a scope with one more variable, inside the same scopes
 abbrev pub with_pair : List ℕ → Val → NumberedEnv → NumberedEnv

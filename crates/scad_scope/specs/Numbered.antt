@@ -4,17 +4,18 @@ use Rattle.std.specs.Bool.{IsTrue}
 use Rattle.scad_blocks.specs.Numbered.{numbers_below}
 use Rattle.scad_scope.specs.Names.{Row}
 
+-- each scope of a table passes a test
 abbrev pub each_row : (Row → Bool) → List Row → Bool
 each_row test [] = true
-each_row test (r ∷ rs) = test r && each_row test rs
+each_row test (row ∷ rows) = test row && each_row test rows
 
 -- each function of a table's scopes is one of so many
 abbrev pub functions_below : ℕ → List Row → Bool
-functions_below n = each_row (λ r. numbers_below n r.functions)
+functions_below n = each_row (λ row. numbers_below n row.functions)
 
 -- each module of a table's scopes is one of so many
 abbrev pub modules_below : ℕ → List Row → Bool
-modules_below n = each_row (λ r. numbers_below n r.modules)
+modules_below n = each_row (λ row. numbers_below n row.modules)
 
 -- after a change each function and each module of a table's scopes is one of so many, where it was so before
 pub record StaysBelow (count_of_functions count_of_modules : ℕ) (before after : List Row) : Type 0 where

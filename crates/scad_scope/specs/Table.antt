@@ -14,11 +14,11 @@ use Rattle.scad_scope.specs.View.{variables_of, rows_in}
 
 -- the scopes by number
 abbrev pub rows_of : Scopes → List Row
-rows_of s = rows_in s.scopes.items
+rows_of scopes = rows_in scopes.scopes.items
 
 -- the chain of special variables, the newest first
 abbrev pub chain_of : Scopes → Pairs Val
-chain_of s = variables_of s.chain
+chain_of scopes = variables_of scopes.chain
 
 -- the number of a scope that is there, and of a definition that stands in it
 pub record IsFound (rows : List Row) (wanted : Option (NumberedEnv × ℕ)) (found : Found) : Type 0 where
@@ -37,10 +37,10 @@ pub record IsVariable (wanted : Option Val) (value : Value) : Type 0 where
   pub same : wanted ≡ Some (val_of value)
   pub bounded : IsTrue (is_bounded (val_of value))
 
--- what is answered as a call of a table's scopes
-abbrev pub call_told : (ℕ → NumberedEnv) → Option ModuleCall → NumberedCall
-call_told scope None = no_numbered_call
-call_told scope (Some call) = numbered_call call.children (scope call.caller)
+-- the call that is answered by numbers, with the scope of its caller
+abbrev pub numbered_call_of : (ℕ → NumberedEnv) → Option ModuleCall → NumberedCall
+numbered_call_of scope None = no_numbered_call
+numbered_call_of scope (Some call) = numbered_call call.children (scope call.caller)
 
 -- each scope that was there, and the chain, is as before
 pub record KeepsScopes (before after : Scopes) : Type 0 where

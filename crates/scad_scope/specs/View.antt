@@ -14,32 +14,37 @@ use Rattle.scad_scope.specs.Names.{Pairs, Row, NumberedEnv, function_in, module_
 
 -- variables by what their values are
 abbrev pub variable_seen : List ℕ × BoundedValue → List ℕ × Val
-variable_seen p = (p.0, val_of p.1.value)
+variable_seen variable = (variable.0, val_of variable.1.value)
 
+-- the variables of a scope or of the chain, the newest first
 abbrev pub variables_of : NameList BoundedValue → Pairs Val
 variables_of names = map variable_seen (newest_first names)
 
+-- the number of the block of a call's children, and that of its caller's scope
 abbrev pub call_seen : Option ModuleCall → Option (ℕ × ℕ)
 call_seen None = None
-call_seen (Some c) = Some (c.children, c.caller)
+call_seen (Some call) = Some (call.children, call.caller)
 
+-- a scope as its pairs and numbers
 abbrev pub row_of : Scope → Row
-row_of s = record {
-  variables = variables_of s.variables;
-  functions = newest_first s.functions;
-  modules = newest_first s.modules;
-  outer = s.outer;
-  call = call_seen s.call;
+row_of scope = record {
+  variables = variables_of scope.variables;
+  functions = newest_first scope.functions;
+  modules = newest_first scope.modules;
+  outer = scope.outer;
+  call = call_seen scope.call;
 }
 
+-- the scopes of a table in order
 abbrev pub rows_in : List Scope → List Row
-rows_in ss = map row_of ss
+rows_in scopes = map row_of scopes
 
--- the functions or the modules of a scope, and of the scopes outside it
+-- the functions or the modules of a scope
 abbrev pub pairs_of : Family → Row → Pairs ℕ
 pairs_of Functions row = row.functions
 pairs_of Modules row = row.modules
 
+-- a function or a module with the scope that it stands in, from the inner scope outward
 abbrev pub definition_in : Family → NumberedEnv → List ℕ → Option (NumberedEnv × ℕ)
 definition_in Functions env name = function_in env name
 definition_in Modules env name = module_in env name

@@ -40,6 +40,7 @@ pub(crate) fn empty(alloc: Global, outer: u32) -> Scope
     }
 }
 
+// A new scope with the definitions of a block.
 fn filled(alloc: Global, outer: u32, own: &Own<'_>) -> Result<Scope, NoMemory>
     ensures { IfOk result (λ s. row_of s ≡ own_row outer (own_of own.now)) }
 {
@@ -52,6 +53,7 @@ fn filled(alloc: Global, outer: u32, own: &Own<'_>) -> Result<Scope, NoMemory>
     })
 }
 
+// The names of definitions with their numbers, the newest last.
 fn defined(alloc: Global, names: &[Named<'_>]) -> Result<NameList<u32>, NoMemory>
     ensures { IfOk result (λ ds. newest_first ds ≡ reverse (map named_of names.now)) }
 {

@@ -30,7 +30,7 @@ impl Scopes {
     ghost use Rattle.scad_blocks.specs.Tables.{text_held, functions_held, modules_held};
     ghost use Rattle.scad_scope.specs.Numbered.{functions_below, modules_below, StaysBelow, StaysNumbered};
     ghost use Rattle.scad_scope.specs.View.{definition_in, row_of};
-    ghost use Rattle.scad_scope.specs.Table.{rows_of, chain_of, call_told, IsFound, IsMissing, IsVariable, KeepsScopes};
+    ghost use Rattle.scad_scope.specs.Table.{rows_of, chain_of, numbered_call_of, IsFound, IsMissing, IsVariable, KeepsScopes};
 
     /// One empty scope, number 0, outside all others, and the chain with `$fn` 0, `$fa` 12 and `$fs` 2.
     pub fn new(alloc: Global) -> Result<Scopes, NoMemory>
@@ -120,6 +120,7 @@ impl Scopes {
         self.add(empty(alloc, outer))
     }
 
+    // One scope more, and its number.
     fn add(&mut self, scope: Scope) -> Result<u32, NoMemory>
         ensures number { IfOk result (λ n. n ≡ length (rows_of self.old)) }
         ensures added { OnOk result (rows_of self.new ≡ rows_of self.old ++ row_of scope ∷ []) }
@@ -158,7 +159,7 @@ impl Scopes {
     /// what is evaluated in the scope. None where there is no such call.
     pub fn call_of(&self, scope: u32) -> Option<ModuleCall>
         requires { scope < length (rows_of self.now) }
-        ensures value { enclosing_call (env_of (rows_of self.now) scope) ≡ call_told (env_of (rows_of self.now)) result }
+        ensures value { enclosing_call (env_of (rows_of self.now) scope) ≡ numbered_call_of (env_of (rows_of self.now)) result }
         ensures there { IfSome result (λ c. c.caller < length (rows_of self.now)) }
     {
         let mut at = scope;
@@ -196,6 +197,7 @@ impl Scopes {
         self.add_variable(alloc, scope, name, BoundedValue { value })
     }
 
+    // One variable more in a scope. What it changes of other scopes follows from that.
     fn add_variable(
         &mut self,
         alloc: Global,
@@ -311,6 +313,7 @@ impl Scopes {
         }
     }
 
+    // The function or the module of a name, from a scope outward, or none.
     fn definition(&self, family: Family, scope: u32, name: &[u8]) -> Option<Found>
         requires { scope < length (rows_of self.now) }
         ensures { MatchOption result (definition_in family (env_of (rows_of self.now) scope) name.now ≡ None)

@@ -3,7 +3,7 @@ ghost use Rattle.newest_names.specs.Names.{newest_first};
 ghost use Rattle.scad_value.specs.Values.{NumberVal, is_bounded};
 ghost use Rattle.scad_value.specs.View.{val_of};
 ghost use Rattle.scad_scope.specs.Names.{find_in, with_variable, NumberedEnv, call_behind, called_row, first_chain};
-ghost use Rattle.scad_scope.specs.Table.{call_told};
+ghost use Rattle.scad_scope.specs.Table.{numbered_call_of};
 ghost use Rattle.scad_scope.specs.View.{variables_of, IsValueFound, pairs_of, row_of};
 
 use newest_names::NameList;
@@ -132,7 +132,7 @@ fn with_number(
 
 /// The call of a scope of this number, where the caller's scope comes before it.
 pub(crate) fn call_before(scope: &Scope, number: u32) -> Option<ModuleCall>
-    ensures told { (look : ℕ → NumberedEnv) → call_behind look number (row_of scope.now).call ≡ call_told look result }
+    ensures told { (look : ℕ → NumberedEnv) → call_behind look number (row_of scope.now).call ≡ numbered_call_of look result }
     ensures before { IfSome result (λ c. c.caller < number) }
 {
     match scope.call {

@@ -5,15 +5,15 @@ use Rattle.text_place.specs.declared.fault.Stop.TheVariants as stop
 use Rattle.text_place.specs.declared.fault.Fault.{Fault}
 use Rattle.scad_lexer.specs.declared.token.Token.{Token}
 use Rattle.scad_lexer.specs.Tokens.{Lexes, Gives, Faults}
-use Rattle.scad_ast.specs.declared.program.Program.{Program as Syntax}
+use Rattle.scad_ast.specs.declared.program.Program.{Program}
 use Rattle.scad_ast.specs.ProgramView.{program_of}
 use Rattle.scad_ast.specs.Terms.{StatementTerm}
-use Rattle.scad_grammar.specs.Grammar.{Program}
+use Rattle.scad_grammar.specs.Grammar.{WholeProgram}
 use Rattle.scad_parser.specs.Parsing.{ends, IsStopOf, HasFault as HasSyntaxFault}
 
 -- the source's tokens are the program's, at most 64 deep
 abbrev pub Writes : List ℕ → List StatementTerm → Type 0
-Writes source program = (tokens : List Token) × Lexes source (Gives tokens) × Program 65 program tokens
+Writes source program = (tokens : List Token) × Lexes source (Gives tokens) × WholeProgram 65 program tokens
 
 -- the first fault of a source that writes no program: of its bytes, or else of its tokens
 abbrev pub HasTextFault : List ℕ → Fault → Type 0
@@ -28,13 +28,13 @@ RefusesText source stop.NoMemory = Unit {0}
 
 -- what came of tokens: something that may be made of the program that they write, or, where the last one is an end, why they are
 -- refused
-abbrev pub IsMadeOfTokens : {T : Type 0} → (Syntax → Result T Stop → Type 0) → List Token → Result T Stop → Type 0
+abbrev pub IsMadeOfTokens : {T : Type 0} → (Program → Result T Stop → Type 0) → List Token → Result T Stop → Type 0
 IsMadeOfTokens makes tokens r =
-    ((program : Syntax) × Program 65 (program_of program) tokens × makes program r)
+    ((program : Program) × WholeProgram 65 (program_of program) tokens × makes program r)
     ⊎ ((why : Stop) × (ends tokens ≡ true → IsStopOf 65 tokens why) × (r ≡ Err why))
 
 -- what came of a source: something that may be made of the program that it writes, or why it is refused
-abbrev pub IsMadeOf : {T : Type 0} → (Syntax → Result T Stop → Type 0) → List ℕ → Result T Stop → Type 0
+abbrev pub IsMadeOf : {T : Type 0} → (Program → Result T Stop → Type 0) → List ℕ → Result T Stop → Type 0
 IsMadeOf makes source r =
-    ((program : Syntax) × Writes source (program_of program) × makes program r)
+    ((program : Program) × Writes source (program_of program) × makes program r)
     ⊎ ((why : Stop) × RefusesText source why × (r ≡ Err why))

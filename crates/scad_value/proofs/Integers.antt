@@ -1,5 +1,5 @@
 -- Quotients, remainders and sums of whole numbers, as the code computes them.
-use Rattle.std.proofs.Common.{◌≡◌, ℕ, zero, suc, ◌+◌, ◌*◌, ◌/◌, ◌^◌, ◌<◌, ◌≤◌, ℤ, pos, negsuc, ◌+ℤ◌, ◌-ℤ◌, ◌*ℤ◌, neg_ℤ, refl, sym, ap, subst, ◌∙◌, arith, ◌≤ℤ◌, ◌<ℤ◌, List, Ok, Err, to_z, of_z}
+use Rattle.std.proofs.Common.{◌≡◌, ℕ, zero, suc, ◌+◌, ◌*◌, ◌/◌, ◌^◌, ◌<◌, ◌≤◌, ℤ, pos, negsuc, ◌+ℤ◌, ◌-ℤ◌, ◌*ℤ◌, neg_ℤ, refl, sym, ap, subst, ◌∙◌, arith, Ok, Err, to_z, of_z}
 use Rattle.std.specs.Prelude.{unsigned_abs, int_div, int_rem, IsTrue}
 use Rattle.std.proofs.lemmas.Int.{to_z-of_z, ints, fits_signed_from_abs, unsigned_abs-mul}
 use Rattle.std.proofs.Math.Nat.{div-le_self, mul-le-mul}
@@ -8,8 +8,8 @@ use mir.Syntax.{w64, w128}
 use mir.Val.{SFits}
 use lib.Signed.{mag_rem}
 use Rattle.text_place.specs.declared.fault.FaultKind.TheVariants.{NotWhole, ZeroDivisor}
-use Rattle.scad_value.specs.Values.{is_small, Vals, ListVal, TextVal, NumberVal, UndefVal}
-use Rattle.scad_value.specs.Operators.{Answer, sized, unless_zero, exact, quotient_row, remainder_row, plus, index_of, item_at, byte_at}
+use Rattle.scad_value.specs.Values.{is_small}
+use Rattle.scad_value.specs.Operators.{Answer, sized, unless_zero, exact, quotient_row, remainder_row, plus}
 
 abs_neg : (n : ℕ) → unsigned_abs (neg_ℤ (pos n)) ≡ n
 abs_neg zero = refl
@@ -116,11 +116,7 @@ pub remainder_told : (a d : ℤ) → (of_z w64 d ≡ 0 → ⊥) → SFits w64 a 
 remainder_told a d n f g = ap sized (remainder_is a d _ _ (widened a f) (widened d g) f)
     ∙ sym (nonzero d (sized (int_rem a d)) n)
 
--- nothing and an answer
-pub plus_zero : (answer : Answer ℤ) → plus (pos 0) answer ≡ answer
-plus_zero (Ok n) = ap (λ x. Ok x) (omega (arith, ints))
-plus_zero (Err kind) = refl
-
+-- numbers added to an answer one after another
 pub plus_plus : (a b : ℤ) (answer : Answer ℤ) → plus a (plus b answer) ≡ plus (a +ℤ b) answer
 plus_plus a b (Ok n) = ap (λ x. Ok x) (omega (arith, ints))
 plus_plus a b (Err kind) = refl
@@ -238,16 +234,3 @@ module _ (s n : ℤ) (i : ℕ) (h : unsigned_abs s ≤ i * 2 ^ 106) (k : unsigne
 
   pub sum_is : to_z w128 (of_z w128 (s +ℤ to_z w128 (of_z w128 n))) ≡ s +ℤ n
   sum_is = ap (λ x. to_z w128 (of_z w128 (s +ℤ x))) n_is ∙ to_z-of_z w128 (s +ℤ n) fits
-
--- an index below 0 and another one
-pub negative_place : (vs : Vals) (bytes : List ℕ) (n : ℤ) → n <ℤ pos 0
-    → (index_of (ListVal vs) (NumberVal n) ≡ Ok UndefVal) × (index_of (TextVal bytes) (NumberVal n)
-    ≡ Ok UndefVal)
-negative_place vs bytes (pos n) h = absurd (omega (arith, ints, h))
-negative_place vs bytes (negsuc n) h = (refl, refl)
-
-pub place_from : (vs : Vals) (bytes : List ℕ) (n : ℤ) → pos 0 ≤ℤ n
-    → (index_of (ListVal vs) (NumberVal n) ≡ Ok (item_at vs (of_z w64 n)))
-    × (index_of (TextVal bytes) (NumberVal n) ≡ Ok (byte_at bytes (of_z w64 n)))
-place_from vs bytes (pos n) h = (refl, refl)
-place_from vs bytes (negsuc n) h = absurd (omega (arith, ints, h))

@@ -7,11 +7,9 @@ use Rattle.std.proofs.lemmas.Bool.{eq-eqb, ne_eqb, and_parts}
 use Rattle.scad_value.specs.declared.stop.ValueStop.{ValueStop}
 use Rattle.scad_value.specs.declared.stop.ValueStop.TheVariants.{Kind, NoMemory}
 use Rattle.scad_value.specs.declared.value.Value.{Value}
-use Rattle.scad_value.specs.declared.value.Values.{Values, roll-Values}
-use Rattle.scad_value.specs.declared.value.Value.TheOpen.{Values-F}
-use Rattle.scad_value.specs.declared.value.Value.TheFolds.{fold_out-Values, fold-roll-Values}
+use Rattle.scad_value.specs.declared.value.Values.{Values}
+use Rattle.scad_value.specs.declared.value.Value.TheFolds.{fold_out-Values}
 use Rattle.scad_value.specs.Values.{Val, NumberVal, TruthVal, TextVal, ListVal, RangeVal, UndefVal, Vals, no_vals, and_val, vals_from, count_of, parts_in, parts_of, truth_of, are_same, all_same, has_small_numbers, have_small_numbers}
-use Rattle.text_place.specs.declared.fault.FaultKind.{FaultKind}
 use Rattle.text_place.specs.declared.fault.FaultKind.TheVariants.{TypeMismatch}
 use Rattle.scad_value.specs.Operators.{Answer, in_front, if_equal, by_parts, pairs_by_parts, each_part, each_of_parts, and_then, dot_of, product_at, plus, dot_row, number, sized, item_at, byte_at}
 use Rattle.scad_value.specs.View.{val_of, vals_of, vals_in, value_step, values_step, MeetsAnswer, MeetsAnswers}
@@ -59,9 +57,6 @@ pub apart_out : (vs ws : Values) → (length vs.items.items ≡ length ws.items.
 apart_out vs ws h = sym (ap (λ xs. all_same (vals_from xs) (vals_from (vals_of ws))) (vals_out vs)
     ∙ ap (λ xs. all_same (vals_from (vals_in vs.items.items)) (vals_from xs)) (vals_out ws)
     ∙ apart vs.items.items ws.items.items h)
-
-pub vals_roll : (vs : Values-F Value Values) → vals_of (roll-Values vs) ≡ vals_in vs.items.items
-vals_roll = fold-roll-Values Val (List Val) value_step values_step
 
 -- the values from one on
 pub from_here : (vs : List Value) (i : ℕ) (v : Value) → i < length vs → v ≡ get_or vs i v
@@ -183,18 +178,6 @@ dot_more vs ws i v w n h k e f g =
     (from_here ws i w k f)
     ∙ ap (λ (a : Answer ℤ). and_then a (λ n. plus n tail)) (sym g)
 
--- a fault of a product
-pub dot_fault : (vs ws : List Value) (i : ℕ) (v w : Value) (kind : FaultKind) → i < length vs
-    → i < length ws → v ≡ get_or vs i v → w ≡ get_or ws i w
-    → Err kind ≡ product_at (val_of v) (val_of w)
-    → dot_of (vals_from (vals_in (drop i vs))) (vals_from (vals_in (drop i ws))) ≡ Err kind
-dot_fault vs ws i v w kind h k e f g =
-    let tail = dot_of (vals_from (vals_in (drop (i + 1) vs))) (vals_from (vals_in (drop (i + 1) ws))) in
-    ap (λ (l : Vals). dot_of l (vals_from (vals_in (drop i ws)))) (from_here vs i v h e)
-    ∙ ap (λ (l : Vals). dot_of (and_val (val_of v) (vals_from (vals_in (drop (i + 1) vs)))) l)
-    (from_here ws i w k f)
-    ∙ ap (λ (a : Answer ℤ). and_then a (λ n. plus n tail)) (sym g)
-
 pub length-le_parts : (vs : List Value) → length vs ≤ parts_in (vals_from (vals_in vs))
 length-le_parts [] = omega arith
 length-le_parts (v ∷ vs) = omega (arith, length-le_parts vs, some_part (val_of v))
@@ -228,14 +211,6 @@ dot_row_is vs ws n e = filled (vals_from (vals_of vs)) (λ z. n (sym (count_out 
         (vals_of ws))) sized))
     filled no_vals h = absurd (h refl)
     filled (and_val v l) h = refl
-
-pub dot_row_empty : (vs ws : Values) → length vs.items.items ≡ 0
-    → dot_row (vals_from (vals_of vs)) (vals_from (vals_of ws)) ≡ Err TypeMismatch
-dot_row_empty vs ws e = none (vals_from (vals_of vs)) (count_out vs ∙ e)
-  where
-    none : (l : Vals) → count_of l ≡ 0 → dot_row l (vals_from (vals_of ws)) ≡ Err TypeMismatch
-    none no_vals h = refl
-    none (and_val v l) h = absurd (omega (arith, h))
 
 pub dot_row_apart : (vs ws : Values) → (length vs.items.items ≡ length ws.items.items → ⊥)
     → dot_row (vals_from (vals_of vs)) (vals_from (vals_of ws)) ≡ Err TypeMismatch

@@ -23,6 +23,7 @@ and_then (Err kind) go = Err kind
 abbrev pub sized : ℤ → Answer ℤ
 sized n = if is_small n then Ok n else Err TooLarge
 
+-- the value of a number, or its fault
 abbrev pub number : Answer ℤ → Answer Val
 number (Ok n) = Ok (NumberVal n)
 number (Err kind) = Err kind
@@ -32,10 +33,12 @@ abbrev pub made : Answer Val → Answer Val
 made (Ok v) = if is_long v then Err LongList else Ok v
 made (Err kind) = Err kind
 
+-- the list of values, or the first fault of one
 abbrev pub listed : Answer (List Val) → Answer Val
 listed (Ok vs) = Ok (ListVal (vals_from vs))
 listed (Err kind) = Err kind
 
+-- values that come before those of an answer
 abbrev pub in_front : List Val → Answer (List Val) → Answer (List Val)
 in_front vs (Ok ws) = Ok (vs ++ ws)
 in_front vs (Err kind) = Err kind
@@ -52,6 +55,7 @@ abbrev mutual
       listed (if_equal (count_of vs) (count_of ws) (pairs_by_parts row vs ws))
   by_parts row v w = Err TypeMismatch
 
+  -- the values of two lists of one length, pair by pair
   pub pairs_by_parts : (ℤ → ℤ → Answer ℤ) → Vals → Vals → Answer (List Val)
   pairs_by_parts row (and_val v vs) (and_val w ws) =
       and_then (by_parts row v w) (λ x. in_front (x ∷ []) (pairs_by_parts row vs ws))
@@ -64,6 +68,7 @@ abbrev mutual
   each_part row (ListVal vs) = listed (each_of_parts row vs)
   each_part row v = Err TypeMismatch
 
+  -- the values of all items, in order
   pub each_of_parts : (ℤ → Answer ℤ) → Vals → Answer (List Val)
   each_of_parts row no_vals = Ok []
   each_of_parts row (and_val v vs) =
@@ -73,9 +78,11 @@ abbrev mutual
 abbrev pub sum_row : ℤ → ℤ → Answer ℤ
 sum_row a b = sized (a +ℤ b)
 
+-- the first less the second
 abbrev pub difference_row : ℤ → ℤ → Answer ℤ
 difference_row a b = sized (a -ℤ b)
 
+-- the product, within the profile
 abbrev pub product_row : ℤ → ℤ → Answer ℤ
 product_row a b = sized (a *ℤ b)
 
@@ -91,6 +98,7 @@ exact (pos zero) quotient = sized quotient
 exact (pos (suc n)) quotient = Err NotWhole
 exact (negsuc n) quotient = Err NotWhole
 
+-- a whole quotient: a divisor of 0 is ZeroDivisor, a remainder NotWhole
 abbrev pub quotient_row : ℤ → ℤ → Answer ℤ
 quotient_row a b = unless_zero b (exact (int_rem a b) (int_div a b))
 
@@ -98,15 +106,17 @@ quotient_row a b = unless_zero b (exact (int_rem a b) (int_div a b))
 abbrev pub remainder_row : ℤ → ℤ → Answer ℤ
 remainder_row a b = unless_zero b (sized (int_rem a b))
 
--- the sum of the products of numbers, place by place
+-- a number added to an answer
 abbrev pub plus : ℤ → Answer ℤ → Answer ℤ
 plus n (Ok m) = Ok (n +ℤ m)
 plus n (Err kind) = Err kind
 
+-- the product of a pair of items, which must be numbers; only the sum of all must be within the profile
 abbrev pub product_at : Val → Val → Answer ℤ
 product_at (NumberVal a) (NumberVal b) = Ok (a *ℤ b)
 product_at v w = Err TypeMismatch
 
+-- the dot product of two lists of numbers: the sum of the products, place by place
 abbrev pub dot_of : Vals → Vals → Answer ℤ
 dot_of (and_val v vs) (and_val w ws) = and_then (product_at v w) (λ n. plus n (dot_of vs ws))
 dot_of vs ws = Ok (pos 0)
@@ -130,6 +140,7 @@ abbrev pub quotient_of : Val → Val → Answer Val
 quotient_of v (NumberVal b) = each_part (λ a. quotient_row a b) v
 quotient_of v w = Err TypeMismatch
 
+-- of two numbers alone
 abbrev pub remainder_of : Val → Val → Answer Val
 remainder_of (NumberVal a) (NumberVal b) = number (remainder_row a b)
 remainder_of v w = Err TypeMismatch
@@ -139,6 +150,7 @@ abbrev pub order_of : Val → Val → Answer Ordering
 order_of (NumberVal a) (NumberVal b) = Ok (int_cmp a b)
 order_of v w = Err TypeMismatch
 
+-- whether the order of two numbers passes a test
 abbrev pub tested : (Ordering → Bool) → Answer Ordering → Answer Val
 tested test (Ok order) = Ok (TruthVal (test order))
 tested test (Err kind) = Err kind
@@ -159,6 +171,7 @@ binary_of Multiply v w = made (product_of v w)
 binary_of Divide v w = made (quotient_of v w)
 binary_of Remainder v w = remainder_of v w
 
+-- the operators before an operand: of numbers, and of lists by parts; `!` takes any value
 abbrev pub unary_of : UnaryOp → Val → Answer Val
 unary_of Negate v = made (each_part (λ n. sized (neg_ℤ n)) v)
 unary_of Keep v = made (each_part sized v)

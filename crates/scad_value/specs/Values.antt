@@ -4,6 +4,7 @@ use Rattle.std.specs.Ordering.{int_eq}
 use Rattle.std.specs.Str.{bytes_eq}
 
 mutual
+  -- a number, a truth, the bytes of a text, a list, a range from one number by a step to another one, or `undef`
   pub data Val : Type 0 where
     NumberVal : (n : ℤ) → Val
     TruthVal : (truth : Bool) → Val
@@ -12,6 +13,7 @@ mutual
     RangeVal : (from step to : ℤ) → Val
     UndefVal : Val
 
+  -- the items of a list in order
   pub data Vals : Type 0 where
     no_vals : Vals
     and_val : (first : Val) → (rest : Vals) → Vals
@@ -32,6 +34,7 @@ abbrev mutual
   parts_of (ListVal items) = suc (parts_in items)
   parts_of v = 1
 
+  -- the parts of all items together
   pub parts_in : Vals → ℕ
   parts_in no_vals = 0
   parts_in (and_val v vs) = parts_of v + parts_in vs
@@ -42,6 +45,7 @@ abbrev mutual
   nesting_of (ListVal items) = suc (nesting_in items)
   nesting_of v = 0
 
+  -- how deep the deepest item is
   pub nesting_in : Vals → ℕ
   nesting_in no_vals = 0
   nesting_in (and_val v vs) = max (nesting_of v) (nesting_in vs)
@@ -62,6 +66,7 @@ abbrev mutual
   has_small_numbers (ListVal items) = have_small_numbers items
   has_small_numbers v = true
 
+  -- each item has only such numbers
   pub have_small_numbers : Vals → Bool
   have_small_numbers no_vals = true
   have_small_numbers (and_val v vs) = has_small_numbers v && have_small_numbers vs
@@ -81,12 +86,13 @@ truth_of (ListVal (and_val v vs)) = true
 truth_of (RangeVal from step to) = true
 truth_of UndefVal = false
 
--- equal kind and parts
+-- equal truths
 abbrev pub same_truth : Bool → Bool → Bool
 same_truth true b = b
 same_truth false b = not b
 
 abbrev mutual
+  -- equal kind and parts
   pub are_same : Val → Val → Bool
   are_same (NumberVal a) (NumberVal b) = int_eq a b
   are_same (TruthVal a) (TruthVal b) = same_truth a b
@@ -96,6 +102,7 @@ abbrev mutual
   are_same UndefVal UndefVal = true
   are_same v w = false
 
+  -- lists of one length whose items are equal, each to its own
   pub all_same : Vals → Vals → Bool
   all_same no_vals no_vals = true
   all_same (and_val v vs) (and_val w ws) = are_same v w && all_same vs ws

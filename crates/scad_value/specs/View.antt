@@ -19,15 +19,19 @@ value_step (ListIn items) = ListVal (vals_from items)
 value_step (Range from step to) = RangeVal from step to
 value_step Undef = UndefVal
 
+-- the items of a list, seen already
 abbrev pub values_step : Values-F Val (List Val) → List Val
 values_step vs = vs.items.items
 
+-- a value as a plain tree
 abbrev pub val_of : Value → Val
 val_of = fold-Value Val (List Val) value_step values_step
 
+-- the items of a list of values
 abbrev pub vals_of : Values → List Val
 vals_of = fold-Values Val (List Val) value_step values_step
 
+-- the values of a vector
 abbrev pub vals_in : List Value → List Val
 vals_in vs = map val_of vs
 
@@ -42,6 +46,7 @@ MeetsAnswer (Ok v) answer = answer ≡ Ok (val_of v)
 MeetsAnswer (Err (Kind kind)) answer = answer ≡ Err kind
 MeetsAnswer (Err NoMemory) answer = Unit {0}
 
+-- the same for the items of a list
 abbrev pub MeetsAnswers : Result Values ValueStop → Answer (List Val) → Type 0
 MeetsAnswers (Ok vs) answer = answer ≡ Ok (vals_of vs)
 MeetsAnswers (Err (Kind kind)) answer = answer ≡ Err kind

@@ -37,6 +37,7 @@ pub fn sized(n: i128) -> Result<i64, FaultKind>
     }
 }
 
+// The sum or the difference, unless it is TooLarge.
 fn pair(row: PairRow, left: i64, right: i64) -> Result<i64, FaultKind>
     ensures { result ≡ pair_row row left right }
 {
@@ -53,6 +54,7 @@ pub fn product_of_two(left: i64, right: i64) -> Result<i64, FaultKind>
     sized(left as i128 * right as i128)
 }
 
+// What is done with one number, or its fault.
 fn part(row: PartRow, n: i64) -> Result<i64, FaultKind>
     ensures { result ≡ part_row row n }
 {
@@ -64,6 +66,7 @@ fn part(row: PartRow, n: i64) -> Result<i64, FaultKind>
     }
 }
 
+// The exact quotient. ZeroDivisor, or NotWhole where there is a remainder.
 fn quotient(left: i64, right: i64) -> Result<i64, FaultKind>
     ensures { result ≡ quotient_row left right }
 {
@@ -103,6 +106,7 @@ pub(crate) fn by_parts(
     }
 }
 
+// Two lists by parts, or TypeMismatch where one is longer.
 #[cycle(pairs)]
 fn equal_lists(
     alloc: Global,
@@ -119,6 +123,7 @@ fn equal_lists(
     each_pair(alloc, row, left, right)
 }
 
+// The values of two lists of one length, pair by pair, up to the first fault.
 #[cycle(pairs)]
 fn each_pair(
     alloc: Global,
@@ -148,6 +153,7 @@ pub(crate) fn each_part(alloc: Global, row: PartRow, of: &Value) -> Result<Value
     }
 }
 
+// The values of all items of a list in order, up to the first fault.
 #[cycle(parts)]
 fn each_of(alloc: Global, row: PartRow, of: &Values) -> Result<Values, ValueStop>
     ensures { MeetsAnswers result (each_of_parts (part_row row) (vals_from (vals_of of.now))) }
@@ -174,6 +180,7 @@ pub(crate) fn dot(left: &Values, right: &Values) -> Result<i128, FaultKind>
     Ok(sum)
 }
 
+// The product of two items, which are numbers, or TypeMismatch.
 fn product(left: &Value, right: &Value) -> Result<i128, FaultKind>
     requires left { IsTrue (has_small_numbers (val_of left.now)) }
     requires right { IsTrue (has_small_numbers (val_of right.now)) }
@@ -186,6 +193,7 @@ fn product(left: &Value, right: &Value) -> Result<i128, FaultKind>
     }
 }
 
+// The product of two numbers of the profile, which is at most 2^106 in size.
 fn multiply(left: i64, right: i64) -> i128
     requires left { IsTrue (is_small left) }
     requires right { IsTrue (is_small right) }

@@ -27,6 +27,7 @@ pub(crate) fn same(left: &Value, right: &Value) -> bool
     }
 }
 
+// Whether two lists are of one length and their items equal.
 #[cycle(same)]
 fn all_same(left: &Values, right: &Values) -> bool
     ensures { result ≡ all_are_same (vals_from (vals_of left.now)) (vals_from (vals_of right.now)) }

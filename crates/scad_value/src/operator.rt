@@ -26,6 +26,7 @@ pub fn binary(alloc: Global, op: BinaryOp, left: &Value, right: &Value) -> Resul
     operate(alloc, op, left, right)
 }
 
+// The value of an operator of two sides. That it is bounded follows from its definition.
 fn operate(alloc: Global, op: BinaryOp, left: &Value, right: &Value) -> Result<Value, ValueStop>
     requires left { IsTrue (is_bounded (val_of left.now)) }
     requires right { IsTrue (is_bounded (val_of right.now)) }
@@ -57,6 +58,7 @@ pub fn unary(alloc: Global, op: UnaryOp, of: &Value) -> Result<Value, ValueStop>
     operate_on(alloc, op, of)
 }
 
+// The value of an operator before its operand. That it is bounded follows from its definition.
 fn operate_on(alloc: Global, op: UnaryOp, of: &Value) -> Result<Value, ValueStop>
     ensures { MeetsAnswer result (unary_of op (val_of of.now)) }
 {
@@ -78,6 +80,7 @@ pub fn index(alloc: Global, of: &Value, at: &Value) -> Result<Value, ValueStop>
     part(alloc, of, at)
 }
 
+// The item or the byte at a number. That it is bounded follows from its definition.
 fn part(alloc: Global, of: &Value, at: &Value) -> Result<Value, ValueStop>
     ensures { MeetsAnswer result (index_of (val_of of.now) (val_of at.now)) }
 {
@@ -88,6 +91,7 @@ fn part(alloc: Global, of: &Value, at: &Value) -> Result<Value, ValueStop>
     }
 }
 
+// A copy of an item, or undef where the list has none of this number.
 fn item(alloc: Global, values: &Values, n: i64) -> Result<Value, ValueStop>
     ensures { MeetsAnswer result (index_of (ListVal (vals_from (vals_of values.now))) (NumberVal n)) }
 {
@@ -97,6 +101,7 @@ fn item(alloc: Global, values: &Values, n: i64) -> Result<Value, ValueStop>
     Ok(item_from_start(alloc, values, n as usize)?)
 }
 
+// A copy of the item at a number from 0, or undef behind the last.
 fn item_from_start(alloc: Global, values: &Values, n: usize) -> Result<Value, NoMemory>
     ensures { IfOk result (λ v. val_of v ≡ item_at (vals_from (vals_of values.now)) n) }
 {
@@ -107,6 +112,7 @@ fn item_from_start(alloc: Global, values: &Values, n: usize) -> Result<Value, No
     items[n].copy(alloc)
 }
 
+// A byte as a text, or undef where the text has none of this number.
 fn byte(alloc: Global, bytes: &Bytes, n: i64) -> Result<Value, ValueStop>
     ensures { MeetsAnswer result (index_of (TextVal bytes.now) (NumberVal n)) }
 {
@@ -116,6 +122,7 @@ fn byte(alloc: Global, bytes: &Bytes, n: i64) -> Result<Value, ValueStop>
     Ok(byte_from_start(alloc, bytes.items(), n as usize)?)
 }
 
+// The byte at a number from 0 as a text, or undef behind the last.
 fn byte_from_start(alloc: Global, bytes: &[u8], n: usize) -> Result<Value, NoMemory>
     ensures { IfOk result (λ v. val_of v ≡ byte_at bytes.now n) }
 {
@@ -125,12 +132,14 @@ fn byte_from_start(alloc: Global, bytes: &[u8], n: usize) -> Result<Value, NoMem
     Ok(text(vec![in alloc; bytes[n]]?))
 }
 
+// `undef`, seen as the plain value.
 fn undef() -> Value
     ensures { val_of result ≡ UndefVal }
 {
     Value::Undef
 }
 
+// A text of these bytes, seen as the plain value.
 fn text(bytes: Vec<u8>) -> Value
     ensures { val_of result ≡ TextVal bytes.items }
 {
@@ -156,6 +165,7 @@ fn made_of(given: Result<Value, ValueStop>) -> Result<Value, ValueStop>
     Ok(made(given?)?)
 }
 
+// The order of two numbers; other values have none and are TypeMismatch.
 fn order(left: &Value, right: &Value) -> Result<Ordering, FaultKind>
     ensures { result ≡ order_of (val_of left.now) (val_of right.now) }
 {
@@ -165,6 +175,7 @@ fn order(left: &Value, right: &Value) -> Result<Ordering, FaultKind>
     }
 }
 
+// Two numbers, a number and each part of a list, or the dot product of two lists.
 fn product(alloc: Global, left: &Value, right: &Value) -> Result<Value, ValueStop>
     requires left { IsTrue (is_bounded (val_of left.now)) }
     requires right { IsTrue (is_bounded (val_of right.now)) }
@@ -179,6 +190,7 @@ fn product(alloc: Global, left: &Value, right: &Value) -> Result<Value, ValueSto
     }
 }
 
+// The dot product. TypeMismatch where the lists are empty or one is longer.
 fn dot_product(left: &Values, right: &Values) -> Result<Value, ValueStop>
     requires left { IsTrue (have_small_numbers (vals_from (vals_of left.now))) }
     requires right { IsTrue (have_small_numbers (vals_from (vals_of right.now))) }
@@ -194,6 +206,7 @@ fn dot_product(left: &Values, right: &Values) -> Result<Value, ValueStop>
     number(sized_dot(left, right))
 }
 
+// The dot product of two lists of one length, unless it is TooLarge.
 fn sized_dot(left: &Values, right: &Values) -> Result<i64, FaultKind>
     requires left { IsTrue (have_small_numbers (vals_from (vals_of left.now))) }
     requires right { IsTrue (have_small_numbers (vals_from (vals_of right.now))) }
@@ -204,12 +217,14 @@ fn sized_dot(left: &Values, right: &Values) -> Result<i64, FaultKind>
     sized(dot(left, right)?)
 }
 
+// The value of a number, or its fault.
 fn number(answer: Result<i64, FaultKind>) -> Result<Value, ValueStop>
     ensures { MeetsAnswer result (number_at answer) }
 {
     Ok(Value::Number(answer?))
 }
 
+// A number or each part of a list, divided by a number.
 fn quotient(alloc: Global, left: &Value, right: &Value) -> Result<Value, ValueStop>
     ensures { MeetsAnswer result (quotient_of (val_of left.now) (val_of right.now)) }
 {
@@ -219,6 +234,7 @@ fn quotient(alloc: Global, left: &Value, right: &Value) -> Result<Value, ValueSt
     }
 }
 
+// The remainder of two numbers; other values are TypeMismatch.
 fn remainder_of_two(left: &Value, right: &Value) -> Result<Value, ValueStop>
     ensures { MeetsAnswer result (remainder_of (val_of left.now) (val_of right.now)) }
 {

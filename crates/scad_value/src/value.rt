@@ -49,12 +49,14 @@ impl Values {
         &self.items
     }
 
+    // Whether there is an item, so that the list counts as true.
     fn is_filled(&self) -> bool
         ensures { result ≡ truth_of (ListVal (vals_from (vals_of self.now))) }
     {
         !self.items.is_empty()
     }
 
+    // Copies of the items in order.
     #[cycle(copy)]
     fn copy(&self, alloc: Global) -> Result<Values, NoMemory>
         ensures { IfOk result (λ vs. vals_of vs ≡ vals_of self.now) }
@@ -66,6 +68,7 @@ impl Values {
         Ok(Values { items })
     }
 
+    // The parts of all items together, up to 2^64 - 1.
     #[cycle(parts)]
     fn parts(&self) -> u64
         ensures { result ≡ min (parts_in (vals_from (vals_of self.now))) (2 ^ 64 - 1) }
@@ -77,6 +80,7 @@ impl Values {
         count
     }
 
+    // How deep the deepest item is, up to 2^64 - 1.
     #[cycle(nesting)]
     fn nesting(&self) -> u64
         ensures { result ≡ min (nesting_in (vals_from (vals_of self.now))) (2 ^ 64 - 1) }
@@ -88,6 +92,7 @@ impl Values {
         deepest
     }
 
+    // Whether all items have only numbers of the profile.
     #[cycle(small)]
     fn have_small_numbers(&self) -> bool
         ensures { result ≡ all_have_small_numbers (vals_from (vals_of self.now)) }
@@ -110,6 +115,7 @@ impl Value {
         self.has_small_numbers() && self.parts() < TOO_MANY_PARTS
     }
 
+    // Whether it has only numbers of the profile.
     #[cycle(small)]
     fn has_small_numbers(&self) -> bool
         ensures { result ≡ with_small_numbers (val_of self.now) }
@@ -178,6 +184,7 @@ pub fn truth(of: &Value) -> bool
     }
 }
 
+// Whether a number is one of the profile: at most 2^53 - 1 in size.
 fn small(n: i64) -> bool
     ensures { result ≡ is_small n }
 {

@@ -6,7 +6,7 @@ use Rattle.text_place.specs.declared.fault.Place.{Place}
 use Rattle.scad_lexer.specs.declared.token.Token.{Token}
 use Rattle.scad_lexer.specs.Tokens.{LexOutcome, Lexes, Gives, Faults}
 use Rattle.scad_ast.specs.Terms.{StatementTerm}
-use Rattle.scad_grammar.specs.Grammar.{Program}
+use Rattle.scad_grammar.specs.Grammar.{WholeProgram}
 use Rattle.scad_grammar.specs.declared.SyntaxFault.{SyntaxFault}
 use Rattle.scad_grammar.specs.FirstFault.{IsFirstFault}
 use Rattle.scad_parser.specs.Parsing.{kind_of, place_at, HasFault as HasSyntaxFault}
@@ -19,8 +19,8 @@ use Rattle.script_server.specs.Meaning.Sources.{Means, HasFault}
 -- what the layers below say of texts: bytes have one outcome, and tokens one program or one first fault
 pub record OneText : Type 0 where
   pub outcomes : (text : List ℕ) (o q : LexOutcome) → Lexes text o → Lexes text q → o ≡ q
-  pub programs : (d k : ℕ) (x y : List StatementTerm) (s : List Token) → Program d x s → Program k y s → x ≡ y
-  pub no_fault : (d : ℕ) (x : List StatementTerm) (s : List Token) (fault : SyntaxFault) (at : List Token) → Program d x s → IsFirstFault d s fault at → ⊥
+  pub programs : (d k : ℕ) (x y : List StatementTerm) (s : List Token) → WholeProgram d x s → WholeProgram k y s → x ≡ y
+  pub no_fault : (d : ℕ) (x : List StatementTerm) (s : List Token) (fault : SyntaxFault) (at : List Token) → WholeProgram d x s → IsFirstFault d s fault at → ⊥
   pub faults : (d : ℕ) (s : List Token) (fault other : SyntaxFault) (at at_other : List Token) → IsFirstFault d s fault at → IsFirstFault d s other at_other →
       (fault ≡ other) × (at ≡ at_other)
 
@@ -38,7 +38,7 @@ module _ (text : OneText) where
   same_fault : (f g : Fault) → f.kind ≡ g.kind → f.place ≡ g.place → f ≡ g
   same_fault f g e h = ap₂ (λ kind place. record { kind = kind; place = place }) e h
 
-  no_syntax_fault : (ts : List Token) (x : List StatementTerm) (f : Fault) → Program 65 x ts → HasSyntaxFault 65 ts f → ⊥
+  no_syntax_fault : (ts : List Token) (x : List StatementTerm) (f : Fault) → WholeProgram 65 x ts → HasSyntaxFault 65 ts f → ⊥
   no_syntax_fault ts x f h g = text.no_fault 65 x ts g.0 g.1 h g.2
 
   one_syntax_fault : (ts : List Token) (f g : Fault) → HasSyntaxFault 65 ts f → HasSyntaxFault 65 ts g → f ≡ g
@@ -48,13 +48,13 @@ module _ (text : OneText) where
 
   one_program : (source : List ℕ) (x y : List StatementTerm) → Writes source x → Writes source y → x ≡ y
   one_program source x y h g =
-      text.programs 65 65 x y h.0 h.2 (subst (λ (ts : List Token). Program 65 y ts) (one_list source g.0 h.0 g.1 h.1) g.2)
+      text.programs 65 65 x y h.0 h.2 (subst (λ (ts : List Token). WholeProgram 65 y ts) (one_list source g.0 h.0 g.1 h.1) g.2)
 
   no_program : (source : List ℕ) (fault : Fault) (x : List StatementTerm) → HasTextFault source fault → Writes source x → ⊥
   no_program source fault x h g =
       ⊎_elim
       (λ a. no_list source g.0 fault.kind fault.place g.1 a)
-      (λ a. no_syntax_fault a.0 x fault (subst (λ (ts : List Token). Program 65 x ts) (one_list source g.0 a.0 g.1 a.1) g.2) a.2)
+      (λ a. no_syntax_fault a.0 x fault (subst (λ (ts : List Token). WholeProgram 65 x ts) (one_list source g.0 a.0 g.1 a.1) g.2) a.2)
       h
 
   one_text_fault : (source : List ℕ) (f g : Fault) → HasTextFault source f → HasTextFault source g → f ≡ g

@@ -25,7 +25,7 @@ use Rattle.scad_scope.specs.Table.{chain_of}
 use Rattle.scad_blocks.specs.TextView.{function_of}
 use Rattle.scad_evaluation.specs.Meaning.{Outcome, Gives, Faults, value_at, with_calls, one_call_fewer, turn, each_argument, each_parameter, parameter_value, function_value, operand, each_value, each_suffix, each_link, called, answered, or_fault, or_zero, Setting, Slots, then_with}
 use Rattle.scad_answer.specs.Answers.{range_of}
-use Rattle.scad_answer.specs.View.{TellsAnswer}
+use Rattle.scad_answer.specs.View.{MeetsAnswerAt}
 use Rattle.scad_func.specs.Steps.{all_values, suffixed, linked, with_parameters}
 use Rattle.scad_evaluation.specs.declared.values.BoundedValues.{BoundedValues}
 use Rattle.scad_evaluation.specs.View.{Tells, IsNoMemory, IsOneMore, values_seen, specials_in, source_text, slots_in, slot_of, indexed_val, arguments_of}
@@ -219,7 +219,7 @@ range-returns t c =
     (goes bounded_val bounded_val last (λ here turns b. answered (range_of (bounded_val a) b) c.args.place turns) _ _ _ b c.range_value.result
     (subst (λ (r : Result BoundedValue Stop). EvaluatesTo bounded_val c.evaluate.new.evaluation c.evaluate-next.new.evaluation r last) w.1 c.evaluate-next.ensures)
     (answers _ c.range_value.result (range_of (bounded_val a) (bounded_val b)) c.args.place
-    (subst (λ (x : BoundedValue). TellsAnswer c.range_value.result (range_of (bounded_val x) (bounded_val b)) c.args.place) w.0 c.range_value.ensures)))
+    (subst (λ (x : BoundedValue). MeetsAnswerAt c.range_value.result (range_of (bounded_val x) (bounded_val b)) c.args.place) w.0 c.range_value.ensures)))
 
 pub each_value-each-preserved : goal.each_value-each-preserved
 each_value-each-preserved t c =

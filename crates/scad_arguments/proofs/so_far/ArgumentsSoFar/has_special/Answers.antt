@@ -2,7 +2,7 @@ use Rattle.std.proofs.Common.{◌∙◌, sym, ap}
 use Rattle.newest_names.specs.Names.{newest_first}
 use Rattle.scad_arguments.specs.declared.lookup.NameIndex.{NameIndex}
 use Rattle.scad_arguments.specs.ArgumentsView.{special_pairs}
-use Rattle.scad_arguments.specs.Lookup.{names_told, is_told}
+use Rattle.scad_arguments.specs.Lookup.{names_of_pairs, is_among}
 use Rattle.scad_arguments.proofs.Looking.{told_found}
 use Rattle.scad_arguments.proofs.so_far.ArgumentsSoFar.has_special.Goals as goal
 
@@ -11,6 +11,6 @@ returns-in-Some g c =
     let name = c.args.name.now in
     let self = c.args.self.now in
     c.has_special.ensures
-    ∙ ap (λ (i : NameIndex). is_told (names_told (newest_first i.specials)) name) c.deref.ensures
-    ∙ ap (λ ns. is_told ns name) (self.specials_indexed c.in-Some.index c.in-Some.is)
+    ∙ ap (λ (i : NameIndex). is_among (names_of_pairs (newest_first i.specials)) name) c.deref.ensures
+    ∙ ap (λ ns. is_among ns name) (self.specials_indexed c.in-Some.index c.in-Some.is)
     ∙ sym (told_found (special_pairs self.given.specials.items) name)

@@ -5,7 +5,7 @@ use Rattle.newest_names.specs.Names.{newest_first}
 use Rattle.scad_arguments.specs.declared.lookup.NameIndex.{NameIndex}
 use Rattle.scad_arguments.specs.Arguments.{Given}
 use Rattle.scad_arguments.specs.ArgumentsView.{given_of}
-use Rattle.scad_arguments.specs.Lookup.{names_told, taken_after}
+use Rattle.scad_arguments.specs.Lookup.{names_of_pairs, taken_after}
 use Rattle.scad_arguments.proofs.Looking.{names_taken, slots_kept}
 use Rattle.scad_arguments.proofs.so_far.ArgumentsSoFar.with_value.Goals.{in-Some+in_ok-add_special-in-Some, in-None}
 use Rattle.scad_arguments.proofs.so_far.ArgumentsSoFar.with_value.Goals as goal
@@ -36,11 +36,11 @@ pub invariant_of-result-clause-specials_indexed : goal.invariant_of-result-claus
 invariant_of-result-clause-specials_indexed g c = λ x e. elim c.match-index.branch [
   | in-Some+in_ok-add_special-in-Some w ↦
       let same = held_same _ _ x w.index-is e in
-      sym (ap (λ (b : Box NameIndex Global). names_told (newest_first b.value.specials)) same)
+      sym (ap (λ (b : Box NameIndex Global). names_of_pairs (newest_first b.value.specials)) same)
       ∙ w.in_ok-add_special-in-Some.ensures.added
-      ∙ ap (λ (i : NameIndex). taken_after (names_told (newest_first i.specials)) c.args.destination) w.deref_mut.ensures.value
+      ∙ ap (λ (i : NameIndex). taken_after (names_of_pairs (newest_first i.specials)) c.args.destination) w.deref_mut.ensures.value
       ∙ ap (λ ns. taken_after ns c.args.destination) (c.args.self.specials_indexed w.in-Some.held w.in-Some.is)
       ∙ sym (names_taken (given_of c.args.self.given) c.args.destination c.args.value)
-      ∙ sym (ap (λ (given : Given g.row.T.Denot). names_told given.specials) c.in_ok-given.ensures)
+      ∙ sym (ap (λ (given : Given g.row.T.Denot). names_of_pairs given.specials) c.in_ok-given.ensures)
   | in-None w ↦ absurd (none_some _ x w.index-is e)
 ]

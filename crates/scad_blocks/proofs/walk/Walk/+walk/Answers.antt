@@ -4,7 +4,7 @@ use Rattle.scad_ast.specs.declared.statement.Statements.{size-Statements, size_i
 use Rattle.scad_ast.specs.declared.statement.Statement.{Statement, size-Statement}
 use Rattle.scad_ast.specs.Terms.{statements_from, no_statements, and_statement, InstanceStatement}
 use Rattle.scad_ast.specs.StatementView.{statements_of, instance_of, body_of}
-use Rattle.scad_blocks.specs.Blocks.{beginnings_in, beginnings_of_body, beginnings_of_instance, Own, own_of_block, NumberedText}
+use Rattle.scad_blocks.specs.Blocks.{beginnings_in, beginnings_of_body, beginnings_of_instance, OwnDefinitions, own_of_block, NumberedText}
 use Rattle.scad_blocks.specs.Walk.{walked, numbered, after, with_text, own_with}
 use Rattle.scad_blocks.specs.TextView.{own_of}
 use Rattle.scad_blocks.proofs.Begun.{numbered_after, numbered_begun, room_here}
@@ -51,7 +51,7 @@ braces-returns t c =
     (c.in_ok-statements.ensures.walked ∙ ap (λ (w : NumberedText). after w (beginnings_in s)) c.in_ok-number.ensures.walked)
     c.in_ok-number.ensures.number
     (c.in_ok-statements.ensures.own
-    ∙ ap (λ (o : Own). own_with o (length (walked c.begin.new.self).functions) (length (walked c.begin.new.self).modules) s) c.new-so_far.ensures
+    ∙ ap (λ (o : OwnDefinitions). own_with o (length (walked c.begin.new.self).functions) (length (walked c.begin.new.self).modules) s) c.new-so_far.ensures
     ∙ ap (λ (w : NumberedText). own_of_block (length w.functions) (length w.modules) s) c.in_ok-number.ensures.walked) refl
 
 pub statements-statement-requires : goal.statements-statement-requires

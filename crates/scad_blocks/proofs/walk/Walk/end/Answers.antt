@@ -1,5 +1,5 @@
 use Rattle.std.proofs.Common.{◌≡◌, ◌<◌, rules, List, length, map, ap, arith}
-use Rattle.scad_blocks.specs.Blocks.{Entry}
+use Rattle.scad_blocks.specs.Blocks.{SourceBlock}
 use Rattle.scad_blocks.specs.TextView.{entry_of, function_of, module_of, block_of_module}
 use Rattle.scad_blocks.proofs.Held.{entry_set, mapped_length}
 use Rattle.scad_blocks.proofs.walk.Walk.end.Goals as goal
@@ -9,7 +9,7 @@ returns c =
     let es = c.args.self.now.entries.items in
     let here : c.args.number < length es = omega (arith, c.requires.begun, mapped_length entry_of es) in
     let behind : c.len-behind.result ≡ length es = search rules in
-    ap (λ (l : List Entry). record {
+    ap (λ (l : List SourceBlock). record {
       entries = l;
       functions = map function_of c.args.self.now.functions.items;
       modules = map module_of c.args.self.now.modules.items;

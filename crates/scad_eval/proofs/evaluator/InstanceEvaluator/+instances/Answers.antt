@@ -15,7 +15,7 @@ use Rattle.scad_value.specs.BoundedView.{bounded_val}
 use Rattle.scad_scope.specs.Names.{Row, oldest}
 use Rattle.scad_scope.specs.Table.{chain_of}
 use Rattle.scad_blocks.specs.TextView.{module_of}
-use Rattle.scad_blocks.specs.Blocks.{Module, statements_of_body}
+use Rattle.scad_blocks.specs.Blocks.{SourceModule, statements_of_body}
 use Rattle.scad_arguments.specs.declared.parameters.GivenArguments.{GivenArguments}
 use Rattle.scad_modules.specs.declared.effects.Effect.{Effect}
 use Rattle.scad_modules.specs.declared.table.BuiltinModule.{BuiltinModule}
@@ -686,7 +686,7 @@ module_made-returns-clause-stays t c =
     (scope_bound m b e.evaluation))
 
 -- the values of a module's parameters, and the module with them
-module _ (evaluator : Evaluator) (defined : Module) (home : Env) (given : Arguments) (there : Context) (from : Setting) (slots : Slots) (start : ℕ) {turns : ℕ}
+module _ (evaluator : Evaluator) (defined : SourceModule) (home : Env) (given : Arguments) (there : Context) (from : Setting) (slots : Slots) (start : ℕ) {turns : ℕ}
     (same : from ≡ setting evaluator.evaluations (inside_scope there home)) (slot : given.slots ≡ slots) (more : start ≡ turns) where
   parameters_from : each_parameter (setting evaluator.evaluations (inside_scope there home)) defined.params given.slots turns ≡ each_parameter from defined.params slots start
   parameters_from =

@@ -1,6 +1,6 @@
 use Rattle.std.proofs.Common.{ap, ◌∙◌, rules, FitsSigned, w64, to_z-of_z}
 use Rattle.primitives.specs.Prisms.{extrusion_of}
-use Rattle.scad_modules.specs.View.{flat_of as flat_call}
+use Rattle.scad_modules.specs.View.{flat_call_of}
 use Rattle.scad_meaning.specs.Verdicts.{extruded}
 use Rattle.scad_eval.proofs.Outcomes.{along, no_memory}
 use Rattle.scad_eval.proofs.Leaving.{shape_checked, height_stops}
@@ -10,7 +10,7 @@ pub returns-in-Ok-extrude-clause-made : goal.returns-in-Ok-extrude-clause-made
 returns-in-Ok-extrude-clause-made c = λ s. record {
   by = λ judge right.
       let m = c.args.self.now in
-      let call = flat_call c.args.shape.now in
+      let call = flat_call_of c.args.shape.now in
       let t = c.in-Ok.ensures judge right in
       let fits : FitsSigned w64 c.args.through.height = search rules in
       let shape = simp to_z-of_z at c.in-Ok-extrude.ensures.shape in
