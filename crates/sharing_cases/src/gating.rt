@@ -21,7 +21,7 @@ pub enum Rule {
     Later(u64),
     /// Those of one node of one client.
     Only { client: u32, node: u32 },
-    /// All, where the first one is held until so many were entered.
+    /// All, where each of the first so many is held until that many were entered.
     Meeting(u64),
 }
 
@@ -99,7 +99,7 @@ impl Gate for Gating {
                 node: at,
             } => client == own && node == at,
             Rule::Meeting(count) => {
-                if number == 1 {
+                if number <= count {
                     self.hold(rt, count);
                 }
                 true

@@ -6,8 +6,8 @@
 //!   is one client with one export and one builder, and a memo of 500,000 that has no shares.
 //! - `alike` names all trees alike.
 //! - `pass N` lets N builds through and refuses each later one, `refuse N` refuses the first N builds, which are held for some
-//!   turns, and `only CLIENT NODE` refuses all but those of one node of one client. `meet N` holds the first build until N were
-//!   entered, and writes whether they were.
+//!   turns, and `only CLIENT NODE` refuses all but those of one node of one client. `meet N` holds each of the first N builds
+//!   until N were entered, and writes whether they were.
 //! - `times N` runs all that so often, each time with the same answer.
 //!
 //! The answer has for each client its letter and the first words of each reply to an export, or with `counted` how many replies are

@@ -1,0 +1,22 @@
+use Rattle.memo_cases.proofs.callers.two_callers.Given as goal
+
+abbrev pub ghosts-run-H-Ledger : goal.ghosts-run-H-Ledger
+ghosts-run-H-Ledger g a = record { name = a.blanks.hits.name; parts = a.blanks.hits.parts }
+
+abbrev pub ghosts-run-H-MemoLedger : goal.ghosts-run-H-MemoLedger
+ghosts-run-H-MemoLedger g a = record { budget = a.core.budget; share = a.core.share; callers = a.blanks.callers }
+
+abbrev pub ghosts-run-M-Ledger : goal.ghosts-run-M-Ledger
+ghosts-run-M-Ledger g a = record { name = a.blanks.misses.name; parts = a.blanks.misses.parts }
+
+abbrev pub ghosts-run-K-Ledger : goal.ghosts-run-K-Ledger
+ghosts-run-K-Ledger g a = record { name = a.blanks.kept.name; parts = a.blanks.kept.parts }
+
+abbrev pub ghosts-run-E-Ledger : goal.ghosts-run-E-Ledger
+ghosts-run-E-Ledger g a = record { name = a.blanks.heavy.name; parts = a.blanks.heavy.parts }
+
+abbrev pub ghosts-run-Begins-Ledger : goal.ghosts-run-Begins-Ledger
+ghosts-run-Begins-Ledger g a = record { name = a.begun_and_ended.begun.name; parts = a.begun_and_ended.begun.parts }
+
+abbrev pub ghosts-run-Ends-Ledger : goal.ghosts-run-Ends-Ledger
+ghosts-run-Ends-Ledger g a = record { name = a.begun_and_ended.ended.name; parts = a.begun_and_ended.ended.parts }
