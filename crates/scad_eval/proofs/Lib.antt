@@ -10,4 +10,5 @@ mod Equations
 mod Binding
 mod ModuleScopes
 mod Programs
+mod Newest
 pub mod Work

@@ -21,24 +21,24 @@ use Rattle.scad_pieces.specs.Seen.{HasOutcome, instance_design_of}
 
 -- how many evaluations in one another are left
 abbrev pub evaluations_left : InstanceEvaluator → ℕ
-evaluations_left m = 512 - m.evaluation.depth
+evaluations_left evaluator = 512 - evaluator.evaluation.depth
 
 -- what evaluates instances at this depth, by a judge of shapes
 abbrev pub evaluator_at : InstanceEvaluator → Judge → Evaluator
-evaluator_at m judge = evaluator_with m.unit judge (evaluations_left m)
+evaluator_at evaluator judge = evaluator_with evaluator.unit judge (evaluations_left evaluator)
 
 -- a scope with what its numbers stand for
 abbrev pub env_at : InstanceEvaluator → ℕ → Env
-env_at m scope = seen m.evaluation.source.now (rows_of m.evaluation.scopes.now) scope
+env_at evaluator scope = seen evaluator.evaluation.source.now (rows_of evaluator.evaluation.scopes.now) scope
 
 -- the context of an instance of the scope in which is evaluated
 abbrev pub context_at : InstanceEvaluator → Position → Context
-context_at m s = record {
-  calls = 64 - m.evaluation.calls;
-  env = scope_here m.evaluation;
-  chain = chain_of m.evaluation.scopes.now;
-  inside = s.inside;
-  under_mark = s.under_mark;
+context_at evaluator position = record {
+  calls = 64 - evaluator.evaluation.calls;
+  env = scope_here evaluator.evaluation;
+  chain = chain_of evaluator.evaluation.scopes.now;
+  inside = position.inside;
+  under_mark = position.under_mark;
 }
 
 -- the height of an extrusion has nothing wrong with it
@@ -52,9 +52,9 @@ IsChecked unit None = Unit {0}
 IsChecked unit (Some through) = IsThrough unit through
 
 -- a position in a whole source, inside an extrusion with nothing wrong or inside none
-pub record IsPosition (m : InstanceEvaluator) (s : Position) : Type 0 where
-  pub whole : IsWhole (source_text m.evaluation.source.now)
-  pub inside : IsChecked m.unit s.inside
+pub record IsPosition (evaluator : InstanceEvaluator) (position : Position) : Type 0 where
+  pub whole : IsWhole (source_text evaluator.evaluation.source.now)
+  pub inside : IsChecked evaluator.unit position.inside
 
 -- all but the turns and the leaves is as before
 pub record Stays (old new : InstanceEvaluator) : Type 0 where
@@ -113,9 +113,9 @@ abbrev pub Equation : Type 0 → Type 0
 Equation B = Evaluator → Context → ℕ → ℕ → Outcome B
 
 -- what a step gave is what an equation says of where it stands, by whatever judge is right about shapes
-pub record Meets {A B : Type 0} (see : ℕ → A → B) (old new : InstanceEvaluator) (s : Position) (r : Result A Stop) (equation : Equation B) : Type 0 where
-  pub by : (judge : Judge) → IsRight judge → HasOutcome see r new.evaluation.turns new.leaves
-      (equation (evaluator_at old judge) (context_at old s) old.evaluation.turns old.leaves)
+pub record Meets {A B : Type 0} (see : ℕ → A → B) (old new : InstanceEvaluator) (position : Position) (result : Result A Stop) (equation : Equation B) : Type 0 where
+  pub by : (judge : Judge) → IsRight judge → HasOutcome see result new.evaluation.turns new.leaves
+      (equation (evaluator_at old judge) (context_at old position) old.evaluation.turns old.leaves)
 
 -- what a counted call says that is refused
 abbrev pub StopsBefore : Evaluation → Place → Stop → Type 0

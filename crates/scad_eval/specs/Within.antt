@@ -14,19 +14,19 @@ use Rattle.scad_eval.specs.Keeping.{IsPosition}
 
 -- a body without the number of its block
 abbrev pub body_seen : NumberedBody → BodyTerm
-body_seen b = body_of b.body.now
+body_seen body = body_of body.body.now
 
 -- the body stands in its block
 abbrev pub IsInBlock : NumberedText → NumberedBody → Type 0
-IsInBlock text b = IsBlockOf text b.block (body_seen b)
+IsInBlock text body = IsBlockOf text body.block (body_seen body)
 
 -- a position, and a body that is evaluated there and stands in its block
-pub record IsBodyAt (m : InstanceEvaluator) (s : Position) (b : NumberedBody) : Type 0 where
-  pub position : IsPosition m s
-  pub block : IsInBlock (source_text m.evaluation.source.now) b
+pub record IsBodyAt (evaluator : InstanceEvaluator) (stand : Position) (body : NumberedBody) : Type 0 where
+  pub position : IsPosition evaluator stand
+  pub block : IsInBlock (source_text evaluator.evaluation.source.now) body
 
 -- a call's body stands in its block, and the module's in its own, and the scope of the module is there
-pub record IsCallAt (m : InstanceEvaluator) (defined : Module) (home : ℕ) (body : NumberedBody) : Type 0 where
-  pub block : IsInBlock (source_text m.evaluation.source.now) body
-  pub its_block : IsBlockOf (source_text m.evaluation.source.now) defined.block (body_of defined.body.now)
-  pub there : home < scopes_there m.evaluation
+pub record IsCallAt (evaluator : InstanceEvaluator) (defined : Module) (home : ℕ) (body : NumberedBody) : Type 0 where
+  pub block : IsInBlock (source_text evaluator.evaluation.source.now) body
+  pub its_block : IsBlockOf (source_text evaluator.evaluation.source.now) defined.block (body_of defined.body.now)
+  pub there : home < scopes_there evaluator.evaluation

@@ -1,12 +1,11 @@
 //! The assignments of a block.
 
-ghost use Rattle.std.specs.Prelude.{◌≡◌, ◌+◌, OnOk};
+ghost use Rattle.std.specs.Prelude.{OnOk};
 ghost use Rattle.scad_blocks.specs.Blocks.{assignments_of};
 ghost use Rattle.scad_blocks.specs.TextView.{assigned_of};
 ghost use Rattle.scad_evaluation.specs.Meaning.{Gives, then_with};
 ghost use Rattle.scad_evaluation.specs.View.{source_text};
 ghost use Rattle.scad_evaluation.specs.Definitions.{statements_at, IsWhole};
-ghost use Rattle.scad_evaluation.specs.Evaluations.{scopes_there};
 ghost use Rattle.scad_meaning.specs.Meaning.{assigned_value, assigned, each_assigned};
 ghost use Rattle.scad_pieces.specs.declared.position.Position.{Position};
 ghost use Rattle.scad_eval.specs.Keeping.{context_at, Assigns, Meets};
@@ -20,7 +19,6 @@ impl InstanceEvaluator<'_, '_> {
     /// Gives the names of a block's assignments their values, from the first on.
     pub(crate) fn assign_all(&mut self, block: u32) -> Result<(), Stop>
         requires whole { IsWhole (source_text self.old.evaluation.source.now) }
-        requires newest { self.old.evaluation.scope + 1 ≡ scopes_there self.old.evaluation }
         ensures assigned { let statements = statements_at (source_text self.old.evaluation.source.now) block in
             (s : Position) → Meets (λ leaves x. context_at self.new s) self.old self.new s result (λ evaluator here turns leaves. each_assigned evaluator.evaluations here (assignments_of statements) turns) }
         ensures assigns { OnOk result (Assigns self.old self.new) }
@@ -34,7 +32,6 @@ impl InstanceEvaluator<'_, '_> {
 
     // Gives a name its value: its statement is one evaluation deeper, and its expression one more.
     fn assign(&mut self, assignment: &Assignment<'_>) -> Result<(), Stop>
-        requires { self.old.evaluation.scope + 1 ≡ scopes_there self.old.evaluation }
         ensures assigned { (s : Position) → Meets (λ leaves x. context_at self.new s) self.old self.new s result (λ evaluator here turns leaves.
             then_with (assigned_value evaluator.evaluations here (assigned_of assignment.now) turns) (λ turns v. Gives turns (assigned (assigned_of assignment.now) v here))) }
         ensures assigns { OnOk result (Assigns self.old self.new) }

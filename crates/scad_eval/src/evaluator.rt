@@ -1,14 +1,16 @@
-ghost use Rattle.std.specs.Prelude.{◌≤◌};
+ghost use Rattle.std.specs.Prelude.{◌≡◌, ◌+◌, ◌≤◌};
+ghost use Rattle.scad_evaluation.specs.Evaluations.{scopes_there};
 
 use plane_predicate::Unit;
 use scad_evaluation::Evaluation;
 
 /// The evaluation of instances under way: that of their expressions, the unit of lengths, and the leaves
-/// so far, of which the type keeps the limit.
+/// so far. The type keeps the limit of leaves, and that the scope in which is evaluated is the newest.
 #[derive(Drop)]
 pub struct InstanceEvaluator<'a, 's> {
     pub evaluation: Evaluation<'a, 's>,
     pub unit: Unit,
     pub leaves: u32,
     ghost few_leaves: { leaves ≤ 1024 },
+    ghost newest: { evaluation.scope + 1 ≡ scopes_there evaluation },
 }

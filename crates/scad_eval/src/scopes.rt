@@ -1,9 +1,8 @@
 //! Bodies, in scopes of their own.
 
-ghost use Rattle.std.specs.Prelude.{◌≡◌, ◌+◌, OnOk};
+ghost use Rattle.std.specs.Prelude.{OnOk};
 ghost use Rattle.scad_evaluation.specs.View.{source_text};
 ghost use Rattle.scad_evaluation.specs.Definitions.{statements_at};
-ghost use Rattle.scad_evaluation.specs.Evaluations.{scopes_there};
 ghost use Rattle.scad_meaning.specs.Meaning.{body_design, block_members};
 ghost use Rattle.scad_pieces.specs.Seen.{instance_design_of, member_designs_of};
 ghost use Rattle.scad_eval.specs.Keeping.{IsPosition, Stays, Binds, Meets};
@@ -48,7 +47,6 @@ impl InstanceEvaluator<'_, '_> {
         chosen: Option<&Chosen>,
     ) -> Result<MemberResults, Stop>
         requires position { IsPosition self.old position }
-        requires newest { self.old.evaluation.scope + 1 ≡ scopes_there self.old.evaluation }
         requires safe { IsSafeChosen chosen }
         ensures members { let statements = statements_at (source_text self.old.evaluation.source.now) block in
             Meets member_designs_of self.old self.new position result (λ evaluator. block_members evaluator (chosen_seen chosen.entry) statements) }

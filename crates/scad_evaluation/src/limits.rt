@@ -1,4 +1,4 @@
-ghost use Rattle.std.specs.Prelude.{◌≡◌, ◌+◌, ◌<◌, IfErr, OnOk};
+ghost use Rattle.std.specs.Prelude.{◌≡◌, ◌+◌, ◌<◌, IfErr, OnOk, OnErr};
 ghost use Rattle.text_place.specs.declared.fault.FaultKind.TheVariants.{TooDeep, TooManyTurns};
 ghost use Rattle.scad_arguments.specs.ArgumentsView.{IsFaultAt};
 ghost use Rattle.scad_evaluation.specs.Evaluations.{Keeps, CallBegins, EvaluationBegins};
@@ -33,6 +33,7 @@ impl Evaluation<'_, '_> {
     pub fn begin_call(&mut self, place: Place) -> Result<(), Stop>
         ensures begun { OnOk result (CallBegins self.old self.new) }
         ensures refused { IfErr result (λ stop. (self.old.calls ≡ 64) × IsFaultAt stop TooDeep place) }
+        ensures kept { OnErr result (Keeps self.old self.new) }
         ensures turns { self.new.turns ≡ self.old.turns }
     {
         if self.calls == CALLS {
@@ -55,6 +56,7 @@ impl Evaluation<'_, '_> {
     pub fn begin_evaluation(&mut self, place: Place) -> Result<(), Stop>
         ensures begun { OnOk result (EvaluationBegins self.old self.new) }
         ensures refused { IfErr result (λ stop. (self.old.depth ≡ 512) × IsFaultAt stop TooDeep place) }
+        ensures kept { OnErr result (Keeps self.old self.new) }
         ensures turns { self.new.turns ≡ self.old.turns }
     {
         if self.depth == EVALUATIONS {

@@ -1,6 +1,6 @@
 //! Children of calls.
 
-ghost use Rattle.std.specs.Prelude.{◌≡◌, pos, All, IfOk, OnOk, length, map, is_some, codes, not, ◌||◌, ◌&&◌};
+ghost use Rattle.std.specs.Prelude.{◌≡◌, pos, All, IfOk, length, map, is_some, codes, not, ◌||◌, ◌&&◌};
 ghost use Rattle.std.specs.Str.{bytes_eq};
 ghost use Rattle.scad_ast.specs.StatementView.{instance_of};
 ghost use Rattle.scad_value.specs.Values.{NumberVal};
@@ -77,13 +77,14 @@ pub fn count_children(
     requires { IsWhole (source_text evaluation.old.source.now) }
     ensures count { let statements = statements_at (source_text evaluation.old.source.now) block in
         IfOk result (λ n. bounded_val n ≡ NumberVal (pos (length (children_in (entered_scope statements no_call (scope_here evaluation.old)) statements)))) }
-    ensures kept { OnOk result (Keeps evaluation.old evaluation.new) }
+    ensures kept { Keeps evaluation.old evaluation.new }
     ensures turns { evaluation.new.turns ≡ evaluation.old.turns }
 {
     let outer = evaluation.scope;
     let before = evaluation.enter_body(outer, block)?;
-    let children = children(evaluation, block)?;
+    let children = children(evaluation, block);
     evaluation.leave(before);
+    let children = children?;
     if children.len() > CHILDREN {
         return Err(NoMemory);
     }

@@ -44,6 +44,7 @@ use Rattle.scad_eval.proofs.Membership.{child_is_member, as_member_outcome, memb
 use Rattle.scad_eval.proofs.Outcomes.{along, then_outcome, stop_outcome, only_no_memory, outcome_with, told_outcome, lengthened, lengthening_stops}
 use Rattle.scad_eval.proofs.Contexts.{stays_same, stays_alike, stays_then, stays_kept, same_context, meets_after, meets_at}
 use Rattle.scad_eval.proofs.Standing.{position_still, body_still, call_still, scope_entered, scope_bound, specials_begun, specials_there, call_begun, evaluation_begun, block_bound}
+use Rattle.scad_eval.proofs.Newest.{with_specials}
 use Rattle.scad_eval.proofs.Equations.{refused_outcome, joined_outcome, entered_meets, body_entered, block_meets, deeper_meets, call_meets, children_meets, specials_meets, specials_setting, built_in_refused, built_in_meets, marked_form, begun_front, lengthened_on, first_outcome, OnOk-at_ok}
 use Rattle.scad_eval.proofs.evaluator.InstanceEvaluator.+instances.Goals as goal
 
@@ -52,7 +53,7 @@ body-members_in_scope-requires t c =
     let m = c.args.self.now in
     let e = c.in_ok-before.ensures.entered in (
       omega (arith, work_same c.enter_body.new.self.depth m.evaluation.depth e.depth, c.decreases),
-      (position_still m _ refl e.source c.requires.stands.position, (sym e.there, tt)),
+      (position_still m _ refl e.source c.requires.stands.position, tt),
     )
 
 pub body-returns-in_err-members-clause-made : goal.body-returns-in_err-members-clause-made
@@ -161,7 +162,7 @@ children_made-members_in_scope-requires t c =
     let m = c.args.self.now in
     let e = c.in_ok-before-in-Some.ensures.entered in (
       omega (arith, work_same c.enter_body.new.self.depth m.evaluation.depth e.depth, c.decreases),
-      (position_still m _ refl e.source c.requires.position, (sym e.there, c.requires.safe)),
+      (position_still m _ refl e.source c.requires.position, c.requires.safe),
     )
 
 pub children_made-returns-in_err-members-in-Some-clause-made : goal.children_made-returns-in_err-members-in-Some-clause-made
@@ -266,8 +267,9 @@ pub built_in_made-effect_made-requires : goal.built_in_made-effect_made-requires
 built_in_made-effect_made-requires t c =
     let m = c.args.self.now in
     let ok = c.in_ok-slots.ensures.ok in
-    let begun : InstanceEvaluator = record { evaluation = c.begin_specials-begun.new.self; unit = m.unit; leaves = m.leaves; few_leaves = m.few_leaves } in
-    let begins : SpecialsBegin m.evaluation begun.evaluation c.in_ok-slots.length = IfOk-at_ok (λ (n : ℕ). SpecialsBegin m.evaluation begun.evaluation n) ok.1 c.begin_specials-begun.ensures.begun in (
+    let special = c.begin_specials-begun.new.self in
+    let begins : SpecialsBegin m.evaluation special c.in_ok-slots.length = IfOk-at_ok (λ (n : ℕ). SpecialsBegin m.evaluation special n) ok.1 c.begin_specials-begun.ensures.begun in
+    let begun = with_specials m special c.in_ok-slots.length begins in (
       omega (arith, work_same c.begin_specials-begun.new.self.depth m.evaluation.depth begins.depth, c.decreases),
       (body_still m _ refl begins.source c.requires.stands, c.in_ok-effect.ensures.safe),
     )
@@ -277,8 +279,9 @@ built_in_made-returns-in_err-effect-clause-made t c =
     let p = err_from_is_err_and c.from_residual-in_err-effect.result c.from_residual-in_err-effect.ensures.1 in
     let m = c.args.self.now in
     let ok = c.in_ok-slots.ensures.ok in
-    let begun : InstanceEvaluator = record { evaluation = c.begin_specials-begun.new.self; unit = m.unit; leaves = m.leaves; few_leaves = m.few_leaves } in
-    let begins : SpecialsBegin m.evaluation begun.evaluation c.in_ok-slots.length = IfOk-at_ok (λ (n : ℕ). SpecialsBegin m.evaluation begun.evaluation n) ok.1 c.begin_specials-begun.ensures.begun in
+    let special = c.begin_specials-begun.new.self in
+    let begins : SpecialsBegin m.evaluation special c.in_ok-slots.length = IfOk-at_ok (λ (n : ℕ). SpecialsBegin m.evaluation special n) ok.1 c.begin_specials-begun.ensures.begun in
+    let begun = with_specials m special c.in_ok-slots.length begins in
     let chain : chain_of begun.evaluation.scopes.now ≡ specials_in c.args.given.specials.items ++ chain_of m.evaluation.scopes.now = OnOk-at_ok ok.1 c.begin_specials-begun.ensures.chain in
     rw (p.1, p.2) (record {
       by = λ judge right.
@@ -292,8 +295,9 @@ built_in_made-returns-in_err-made-clause-made t c =
     let p = err_from_is_err_and c.from_residual-in_err-made.result c.from_residual-in_err-made.ensures.1 in
     let m = c.args.self.now in
     let ok = c.in_ok-slots.ensures.ok in
-    let begun : InstanceEvaluator = record { evaluation = c.begin_specials-begun.new.self; unit = m.unit; leaves = m.leaves; few_leaves = m.few_leaves } in
-    let begins : SpecialsBegin m.evaluation begun.evaluation c.in_ok-slots.length = IfOk-at_ok (λ (n : ℕ). SpecialsBegin m.evaluation begun.evaluation n) ok.1 c.begin_specials-begun.ensures.begun in
+    let special = c.begin_specials-begun.new.self in
+    let begins : SpecialsBegin m.evaluation special c.in_ok-slots.length = IfOk-at_ok (λ (n : ℕ). SpecialsBegin m.evaluation special n) ok.1 c.begin_specials-begun.ensures.begun in
+    let begun = with_specials m special c.in_ok-slots.length begins in
     let chain : chain_of begun.evaluation.scopes.now ≡ specials_in c.args.given.specials.items ++ chain_of m.evaluation.scopes.now = OnOk-at_ok ok.1 c.begin_specials-begun.ensures.chain in
     rw (p.1, p.2) (record {
       by = λ judge right.
@@ -308,8 +312,9 @@ pub built_in_made-returns-clause-made : goal.built_in_made-returns-clause-made
 built_in_made-returns-clause-made t c =
     let m = c.args.self.now in
     let ok = c.in_ok-slots.ensures.ok in
-    let begun : InstanceEvaluator = record { evaluation = c.begin_specials-begun.new.self; unit = m.unit; leaves = m.leaves; few_leaves = m.few_leaves } in
-    let begins : SpecialsBegin m.evaluation begun.evaluation c.in_ok-slots.length = IfOk-at_ok (λ (n : ℕ). SpecialsBegin m.evaluation begun.evaluation n) ok.1 c.begin_specials-begun.ensures.begun in
+    let special = c.begin_specials-begun.new.self in
+    let begins : SpecialsBegin m.evaluation special c.in_ok-slots.length = IfOk-at_ok (λ (n : ℕ). SpecialsBegin m.evaluation special n) ok.1 c.begin_specials-begun.ensures.begun in
+    let begun = with_specials m special c.in_ok-slots.length begins in
     let chain : chain_of begun.evaluation.scopes.now ≡ specials_in c.args.given.specials.items ++ chain_of m.evaluation.scopes.now = OnOk-at_ok ok.1 c.begin_specials-begun.ensures.chain in
     record {
       by = λ judge right.
@@ -325,8 +330,9 @@ pub built_in_made-returns-clause-stays : goal.built_in_made-returns-clause-stays
 built_in_made-returns-clause-stays t c =
     let m = c.args.self.now in
     let ok = c.in_ok-slots.ensures.ok in
-    let begun : InstanceEvaluator = record { evaluation = c.begin_specials-begun.new.self; unit = m.unit; leaves = m.leaves; few_leaves = m.few_leaves } in
-    let begins : SpecialsBegin m.evaluation begun.evaluation c.in_ok-slots.length = IfOk-at_ok (λ (n : ℕ). SpecialsBegin m.evaluation begun.evaluation n) ok.1 c.begin_specials-begun.ensures.begun in
+    let special = c.begin_specials-begun.new.self in
+    let begins : SpecialsBegin m.evaluation special c.in_ok-slots.length = IfOk-at_ok (λ (n : ℕ). SpecialsBegin m.evaluation special n) ok.1 c.begin_specials-begun.ensures.begun in
+    let begun = with_specials m special c.in_ok-slots.length begins in
     let k = c.in_ok-made.ensures.stays in
     stays_kept m _ k.unit (c.end_specials.ensures.back m.evaluation (specials_begun m c.in_ok-slots.length k begins))
 
@@ -334,8 +340,9 @@ pub built_in_made-end_specials-requires : goal.built_in_made-end_specials-requir
 built_in_made-end_specials-requires t c =
     let m = c.args.self.now in
     let ok = c.in_ok-slots.ensures.ok in
-    let begun : InstanceEvaluator = record { evaluation = c.begin_specials-begun.new.self; unit = m.unit; leaves = m.leaves; few_leaves = m.few_leaves } in
-    let begins : SpecialsBegin m.evaluation begun.evaluation c.in_ok-slots.length = IfOk-at_ok (λ (n : ℕ). SpecialsBegin m.evaluation begun.evaluation n) ok.1 c.begin_specials-begun.ensures.begun in
+    let special = c.begin_specials-begun.new.self in
+    let begins : SpecialsBegin m.evaluation special c.in_ok-slots.length = IfOk-at_ok (λ (n : ℕ). SpecialsBegin m.evaluation special n) ok.1 c.begin_specials-begun.ensures.begun in
+    let begun = with_specials m special c.in_ok-slots.length begins in
     let chain : chain_of begun.evaluation.scopes.now ≡ specials_in c.args.given.specials.items ++ chain_of m.evaluation.scopes.now = OnOk-at_ok ok.1 c.begin_specials-begun.ensures.chain in
     specials_there m c.in_ok-slots.length (specials_in c.args.given.specials.items) c.in_ok-made.ensures.stays begins chain
 
@@ -637,7 +644,7 @@ module_made-members_in_scope-requires t c =
     let m = c.args.self.now in
     let e = c.in_ok-before.ensures.entered in (
       omega (arith, work_same c.enter_module.new.self.evaluation.depth m.evaluation.depth e.evaluation.depth, c.decreases),
-      (position_still m _ e.unit e.evaluation.source c.requires.position, (sym e.evaluation.there, tt)),
+      (position_still m _ e.unit e.evaluation.source c.requires.position, tt),
     )
 
 pub module_made-returns-in_err-members-clause-made : goal.module_made-returns-in_err-members-clause-made
@@ -714,8 +721,9 @@ pub module_with_specials-module_made-requires : goal.module_with_specials-module
 module_with_specials-module_made-requires t c =
     let m = c.args.self.now in
     let ok = c.in_ok-slots.ensures.ok in
-    let begun : InstanceEvaluator = record { evaluation = c.begin_specials-begun.new.self; unit = m.unit; leaves = m.leaves; few_leaves = m.few_leaves } in
-    let begins : SpecialsBegin m.evaluation begun.evaluation c.in_ok-slots.length = IfOk-at_ok (λ (n : ℕ). SpecialsBegin m.evaluation begun.evaluation n) ok.1 c.begin_specials-begun.ensures.begun in
+    let special = c.begin_specials-begun.new.self in
+    let begins : SpecialsBegin m.evaluation special c.in_ok-slots.length = IfOk-at_ok (λ (n : ℕ). SpecialsBegin m.evaluation special n) ok.1 c.begin_specials-begun.ensures.begun in
+    let begun = with_specials m special c.in_ok-slots.length begins in
     let k = c.parameters_in.ensures.kept in (
       omega (arith, work_same c.parameters_in.new.evaluation.depth m.evaluation.depth (k.depth ∙ begins.depth), c.decreases),
       (
@@ -732,8 +740,9 @@ module_with_specials-returns-in_err-values-clause-made t c =
     let p = err_from_is_err_and c.from_residual-in_err-values.result c.from_residual-in_err-values.ensures.1 in
     let m = c.args.self.now in
     let ok = c.in_ok-slots.ensures.ok in
-    let begun : InstanceEvaluator = record { evaluation = c.begin_specials-begun.new.self; unit = m.unit; leaves = m.leaves; few_leaves = m.few_leaves } in
-    let begins : SpecialsBegin m.evaluation begun.evaluation c.in_ok-slots.length = IfOk-at_ok (λ (n : ℕ). SpecialsBegin m.evaluation begun.evaluation n) ok.1 c.begin_specials-begun.ensures.begun in
+    let special = c.begin_specials-begun.new.self in
+    let begins : SpecialsBegin m.evaluation special c.in_ok-slots.length = IfOk-at_ok (λ (n : ℕ). SpecialsBegin m.evaluation special n) ok.1 c.begin_specials-begun.ensures.begun in
+    let begun = with_specials m special c.in_ok-slots.length begins in
     let chain : chain_of begun.evaluation.scopes.now ≡ specials_in c.args.given.specials.items ++ chain_of m.evaluation.scopes.now = OnOk-at_ok ok.1 c.begin_specials-begun.ensures.chain in
     rw (p.1, p.2) (record {
       by = λ judge right.
@@ -752,8 +761,9 @@ module_with_specials-returns-in_err-made-clause-made t c =
     let p = err_from_is_err_and c.from_residual-in_err-made.result c.from_residual-in_err-made.ensures.1 in
     let m = c.args.self.now in
     let ok = c.in_ok-slots.ensures.ok in
-    let begun : InstanceEvaluator = record { evaluation = c.begin_specials-begun.new.self; unit = m.unit; leaves = m.leaves; few_leaves = m.few_leaves } in
-    let begins : SpecialsBegin m.evaluation begun.evaluation c.in_ok-slots.length = IfOk-at_ok (λ (n : ℕ). SpecialsBegin m.evaluation begun.evaluation n) ok.1 c.begin_specials-begun.ensures.begun in
+    let special = c.begin_specials-begun.new.self in
+    let begins : SpecialsBegin m.evaluation special c.in_ok-slots.length = IfOk-at_ok (λ (n : ℕ). SpecialsBegin m.evaluation special n) ok.1 c.begin_specials-begun.ensures.begun in
+    let begun = with_specials m special c.in_ok-slots.length begins in
     let chain : chain_of begun.evaluation.scopes.now ≡ specials_in c.args.given.specials.items ++ chain_of m.evaluation.scopes.now = OnOk-at_ok ok.1 c.begin_specials-begun.ensures.chain in
     rw (p.1, p.2) (record {
       by = λ judge right.
@@ -773,8 +783,9 @@ pub module_with_specials-returns-clause-made : goal.module_with_specials-returns
 module_with_specials-returns-clause-made t c =
     let m = c.args.self.now in
     let ok = c.in_ok-slots.ensures.ok in
-    let begun : InstanceEvaluator = record { evaluation = c.begin_specials-begun.new.self; unit = m.unit; leaves = m.leaves; few_leaves = m.few_leaves } in
-    let begins : SpecialsBegin m.evaluation begun.evaluation c.in_ok-slots.length = IfOk-at_ok (λ (n : ℕ). SpecialsBegin m.evaluation begun.evaluation n) ok.1 c.begin_specials-begun.ensures.begun in
+    let special = c.begin_specials-begun.new.self in
+    let begins : SpecialsBegin m.evaluation special c.in_ok-slots.length = IfOk-at_ok (λ (n : ℕ). SpecialsBegin m.evaluation special n) ok.1 c.begin_specials-begun.ensures.begun in
+    let begun = with_specials m special c.in_ok-slots.length begins in
     let chain : chain_of begun.evaluation.scopes.now ≡ specials_in c.args.given.specials.items ++ chain_of m.evaluation.scopes.now = OnOk-at_ok ok.1 c.begin_specials-begun.ensures.chain in
     record {
       by = λ judge right.
@@ -795,8 +806,9 @@ pub module_with_specials-returns-clause-stays : goal.module_with_specials-return
 module_with_specials-returns-clause-stays t c =
     let m = c.args.self.now in
     let ok = c.in_ok-slots.ensures.ok in
-    let begun : InstanceEvaluator = record { evaluation = c.begin_specials-begun.new.self; unit = m.unit; leaves = m.leaves; few_leaves = m.few_leaves } in
-    let begins : SpecialsBegin m.evaluation begun.evaluation c.in_ok-slots.length = IfOk-at_ok (λ (n : ℕ). SpecialsBegin m.evaluation begun.evaluation n) ok.1 c.begin_specials-begun.ensures.begun in
+    let special = c.begin_specials-begun.new.self in
+    let begins : SpecialsBegin m.evaluation special c.in_ok-slots.length = IfOk-at_ok (λ (n : ℕ). SpecialsBegin m.evaluation special n) ok.1 c.begin_specials-begun.ensures.begun in
+    let begun = with_specials m special c.in_ok-slots.length begins in
     let k = stays_then (stays_kept begun _ refl c.parameters_in.ensures.kept) c.in_ok-made.ensures.stays in
     stays_kept m _ k.unit (c.end_specials.ensures.back m.evaluation (specials_begun m c.in_ok-slots.length k begins))
 
@@ -804,8 +816,9 @@ pub module_with_specials-end_specials-requires : goal.module_with_specials-end_s
 module_with_specials-end_specials-requires t c =
     let m = c.args.self.now in
     let ok = c.in_ok-slots.ensures.ok in
-    let begun : InstanceEvaluator = record { evaluation = c.begin_specials-begun.new.self; unit = m.unit; leaves = m.leaves; few_leaves = m.few_leaves } in
-    let begins : SpecialsBegin m.evaluation begun.evaluation c.in_ok-slots.length = IfOk-at_ok (λ (n : ℕ). SpecialsBegin m.evaluation begun.evaluation n) ok.1 c.begin_specials-begun.ensures.begun in
+    let special = c.begin_specials-begun.new.self in
+    let begins : SpecialsBegin m.evaluation special c.in_ok-slots.length = IfOk-at_ok (λ (n : ℕ). SpecialsBegin m.evaluation special n) ok.1 c.begin_specials-begun.ensures.begun in
+    let begun = with_specials m special c.in_ok-slots.length begins in
     let chain : chain_of begun.evaluation.scopes.now ≡ specials_in c.args.given.specials.items ++ chain_of m.evaluation.scopes.now = OnOk-at_ok ok.1 c.begin_specials-begun.ensures.chain in
     let k = stays_then (stays_kept begun _ refl c.parameters_in.ensures.kept) c.in_ok-made.ensures.stays in
     specials_there m c.in_ok-slots.length (specials_in c.args.given.specials.items) k begins chain
