@@ -37,7 +37,7 @@ done
 crates=$(cd "$copy/crates" && ls -d */must-fail | sed 's|/.*||')
 (cd "$copy" && rt ci $crates) >"$copy/said" 2>&1
 # (a kit whose gate takes no names says how it is called: there they are tried one after another)
-grep -q '^[0-9]* passed, [0-9]* failed$' "$copy/said" || (cd "$copy" && rt must-fail $crates) >"$copy/said" 2>&1
+grep -q '^[0-9]* passed, [0-9]* failed' "$copy/said" || (cd "$copy" && rt must-fail $crates) >"$copy/said" 2>&1
 all=0
 refused=0
 for crate in $crates; do
