@@ -53,7 +53,7 @@ PHASES = {
         "bsp_boolean::", "leaf_solids::", "bsp_partition::", "bsp_tree::", "plane_table::", "plane_line::", "plane_polygon::",
     ),
     "facets": ("facet_cut::",),
-    "text": ("off_text::", "text_place::decimal::"),
+    "text": ("off_text::", "lowest_terms::", "text_place::decimal::"),
 }
 
 

@@ -11,7 +11,6 @@ pub mod Rounded
 pub mod Cornered
 pub mod Halves
 pub mod Printed
-pub mod Factors
 pub mod Lines
 pub mod Renamed
 pub mod Cut

@@ -1,5 +1,5 @@
 -- Polygons have one text.
-use Rattle.std.proofs.Common.{◌≡◌, ℕ, zero, suc, ◌*◌, ◌<◌, List, [], ◌∷◌, refl, sym, ap, ap₂, ◌∙◌, arith, ℤ, pos, negsuc, ◌*ℤ◌, ◌-ℤ◌, ◌<ℤ◌, unsigned_abs}
+use Rattle.std.proofs.Common.{◌≡◌, ℕ, zero, suc, ◌*◌, List, [], ◌∷◌, refl, sym, ap, ap₂, ◌∙◌, arith, ℤ, pos, negsuc, ◌*ℤ◌, ◌-ℤ◌, ◌<ℤ◌, unsigned_abs}
 use Rattle.std.proofs.lemmas.Int.{unsigned_abs-mul}
 use Prim.Native.Nat.{◌∣◌}
 use Rattle.plane_predicate.specs.declared.unit.Unit.{Unit as LengthUnit}
@@ -10,6 +10,7 @@ use Rattle.plane_predicate.proofs.Opposites.{same_point}
 use Rattle.plane_predicate.proofs.Signs.{zero_cancel}
 use Rattle.plane_predicate.proofs.Coprime.{same_numbers}
 use Rattle.plane_polygon.specs.Polygons.{Outline, AreReducedFrom}
+use Rattle.lowest_terms.proofs.Factors.{size_above}
 use Rattle.off_text.specs.Texts.{corners_in_units, AreCornersOf, IsTextOf, text_of}
 
 abbrev size_at : Coordinates → ℕ → ℕ
@@ -29,10 +30,6 @@ all_sizes p q r t u zero = sizes t.by q.x u.by r.x (sym t.x ∙ u.x)
 all_sizes p q r t u (suc zero) = sizes t.by q.y u.by r.y (sym t.y ∙ u.y)
 all_sizes p q r t u (suc (suc zero)) = sizes t.by q.z u.by r.z (sym t.z ∙ u.z)
 all_sizes p q r t u (suc (suc (suc i))) = sizes t.by q.w u.by r.w (sym t.w ∙ u.w)
-
-pub size_above : (x : ℤ) → pos 0 <ℤ x → 0 < unsigned_abs x
-size_above (pos n) h = omega (arith, sums)
-size_above (negsuc n) h = absurd (omega (arith, sums))
 
 same_above : (u v : ℤ) → pos 0 <ℤ u → pos 0 <ℤ v → unsigned_abs u ≡ unsigned_abs v → u ≡ v
 same_above (pos n) (pos k) h l e = ap pos e

@@ -3,7 +3,6 @@
 
 mod corners;
 mod laws;
-mod lowest;
 mod numbering;
 mod part;
 mod parts;

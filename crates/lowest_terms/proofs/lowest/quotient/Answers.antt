@@ -4,7 +4,7 @@ use Rattle.plane_predicate.proofs.Divisions.{quotient, quotient_negative, quotie
 use Rattle.plane_predicate.proofs.Opposites.{from_zero, size_of_negative}
 use Rattle.plane_predicate.proofs.Sizes.{fits_by_size}
 use mir.Syntax.{w128}
-use Rattle.off_text.proofs.lowest.quotient.Goals as goal
+use Rattle.lowest_terms.proofs.lowest.quotient.Goals as goal
 
 pub returns-then-x-lt0 : goal.returns-then-x-lt0
 returns-then-x-lt0 c =

@@ -1,6 +1,6 @@
 use Rattle.plane_predicate.proofs.Divisions.{factor_above}
-use Rattle.off_text.proofs.Factors.{factor_of}
-use Rattle.off_text.proofs.lowest.common_factor.Goals as goal
+use Rattle.lowest_terms.proofs.Factors.{factor_of}
+use Rattle.lowest_terms.proofs.lowest.common_factor.Goals as goal
 
 pub returns-clause-factor : goal.returns-clause-factor
 returns-clause-factor c = factor_of _ _ _ _ _ _ _ c.greatest_divisor-with_x.ensures c.greatest_divisor-with_y.ensures c.greatest_divisor.ensures

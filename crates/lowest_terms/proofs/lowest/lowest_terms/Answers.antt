@@ -1,7 +1,7 @@
 use Rattle.std.proofs.Common.{rules, ◌≡◌, pos, sym, ap, ◌∙◌, to_z, to_z-of_z, FitsSigned}
-use Rattle.off_text.proofs.Factors.{whole_is_reduced}
+use Rattle.lowest_terms.proofs.Factors.{whole_is_reduced}
 use mir.Syntax.{w128}
-use Rattle.off_text.proofs.lowest.lowest_terms.Goals as goal
+use Rattle.lowest_terms.proofs.lowest.lowest_terms.Goals as goal
 
 pub returns-then-point-eq1-clause-reduced : goal.returns-then-point-eq1-clause-reduced
 returns-then-point-eq1-clause-reduced c =

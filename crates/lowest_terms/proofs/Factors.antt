@@ -1,12 +1,17 @@
 -- The common factor of four numbers, and points without one.
-use Rattle.std.proofs.Common.{◌≡◌, ℕ, subst, arith, ℤ, pos, ◌*ℤ◌, unsigned_abs}
+use Rattle.std.proofs.Common.{◌≡◌, ℕ, ◌<◌, subst, arith, ℤ, pos, negsuc, ◌*ℤ◌, ◌<ℤ◌, unsigned_abs}
 use Rattle.std.proofs.Math.Nat.{eq-one_of_dvd-one}
 use Rattle.std.proofs.lemmas.Nat.Gcd.{dvd_trans}
 use Rattle.std.specs.Int.{IsGcd}
 use Rattle.plane_predicate.specs.Space.{Coordinates, IsCommonFactor, IsPoint, IsPointTimes, IsReduced}
 use Rattle.plane_predicate.proofs.Divisions.{quotients_of, reduced_is_point, reduced_is_same, same_factor}
-use Rattle.off_text.proofs.Unique.{size_above}
+use Rattle.plane_predicate.proofs.IntegerRing.{sums}
 use Prim.Native.Nat.{◌∣◌}
+
+-- a number above 0 is not 0 without its sign
+pub size_above : (x : ℤ) → pos 0 <ℤ x → 0 < unsigned_abs x
+size_above (pos n) h = omega (arith, sums)
+size_above (negsuc n) h = absurd (omega (arith, sums))
 
 -- one number after another, from the last one on
 pub factor_of : (x y z w a b g : ℕ) → IsGcd x w a → IsGcd y a b → IsGcd z b g → IsCommonFactor x y z w g
