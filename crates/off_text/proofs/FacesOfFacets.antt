@@ -26,7 +26,7 @@ use Rattle.closed_facets.proofs.Closing.{facets_closed}
 use Rattle.off_text.specs.Boundaries.{corner, Covers, OneExactlyWhere}
 use Rattle.off_text.specs.Prints.{IsFaceOf, AreFacesOf, Prints}
 use Rattle.off_text.specs.Bounding.{IsBoundaryFace, IsBoundary}
-use Rattle.off_text.proofs.Covered.{HasPlane, as_facets}
+use Rattle.off_text.proofs.Covered.{HasPlane, covering_of, as_facets}
 use Rattle.off_text.proofs.Boxed.{boxed as in_world_reduced}
 use Rattle.off_text.proofs.BesideFaces.{BesideLeaves, beside_leaves, face_plane_is_plane}
 
@@ -91,7 +91,7 @@ covered_where unit f bytes h solid text beside n p o =
     (as_facets unit text.vertices n (face_plane_is_plane f n h.leaves o.face_plane) p (facets_of t) text.faces
     (All-weaker (IsFacetOfFormula f) HasPlane (λ s k. face_plane_is_plane f s.plane h.leaves k.plane)
     (facets_of t) (formula_facets f solid))
-    text.drawn (walk_by t low && not (walk_by t high))
+    (covering_of unit text.vertices (facets_of t) text.faces text.drawn) (walk_by t low && not (walk_by t high))
     (facets_bound world_box t solid.world n q (on_one_plane f n q solid o) low high b.0 b.1))
 
 -- the corners of the faces are those of the facets

@@ -16,13 +16,17 @@ pub record IsCornerOf (unit : LengthUnit) (s : Outline) (p : Coordinates) : Type
   pub within : place < sides s
   pub times : IsPointTimes (in_units unit (corner_of s place)) p
 
+-- the printed face covers exactly the points strictly within the polygon, facing no other plane
+abbrev pub CoversPolygon : LengthUnit → List Coordinates → Outline → List ℕ → Type 0
+CoversPolygon unit vertices s face = (n : Coefficients) (p : Coordinates) → IsPlane s.plane → IsPlane n → Covers unit vertices n p face ↔ ((s.plane ≡ n) × IsStrictlyWithin s (in_steps unit p))
+
 -- the printed face is the polygon: its corners are the polygon's, in order from one of them on, it faces the polygon's plane,
 -- and it covers exactly the points strictly within the polygon, facing no other plane
 pub record IsFaceOf (unit : LengthUnit) (vertices : List Coordinates) (s : Outline) (face : List ℕ) : Type 0 where
   pub corners : (i : ℕ) → i < length face → IsCornerOf unit s (corner vertices face i)
   pub round : IsRoundOf unit (all_corners s) (corners_at vertices face)
   pub facing : Faces unit vertices s.plane face
-  pub covering : (n : Coefficients) (p : Coordinates) → IsPlane s.plane → IsPlane n → Covers unit vertices n p face ↔ ((s.plane ≡ n) × IsStrictlyWithin s (in_steps unit p))
+  pub covering : CoversPolygon unit vertices s face
 
 -- each printed face is the polygon at its place
 abbrev pub AreFacesOf : LengthUnit → List Coordinates → List Outline → List (List ℕ) → Type 0
@@ -30,6 +34,13 @@ AreFacesOf unit vertices [] [] = Unit {0}
 AreFacesOf unit vertices (s ∷ polygons) (face ∷ faces) = IsFaceOf unit vertices s face × AreFacesOf unit vertices polygons faces
 AreFacesOf unit vertices [] (face ∷ faces) = ⊥
 AreFacesOf unit vertices (s ∷ polygons) [] = ⊥
+
+-- each printed face covers the points of the polygon at its place
+abbrev pub CoverPolygons : LengthUnit → List Coordinates → List Outline → List (List ℕ) → Type 0
+CoverPolygons unit vertices [] [] = Unit {0}
+CoverPolygons unit vertices (s ∷ polygons) (face ∷ faces) = CoversPolygon unit vertices s face × CoverPolygons unit vertices polygons faces
+CoverPolygons unit vertices [] (face ∷ faces) = ⊥
+CoverPolygons unit vertices (s ∷ polygons) [] = ⊥
 
 -- the bytes are a 4OFF text whose faces are these polygons, one after another
 pub record Prints (unit : LengthUnit) (polygons : List Outline) (bytes : List ℕ) : Type 0 where

@@ -14,7 +14,7 @@ ghost use Rattle.facet_cut.specs.Facets.{facets_of};
 ghost use Rattle.facet_cut.specs.Sides.{walk_by, CoversFacing, HasOneWhere};
 ghost use Rattle.off_text.specs.Reading.{off_text};
 ghost use Rattle.off_text.specs.Boundaries.{Covers, OneExactlyWhere};
-ghost use Rattle.off_text.specs.Prints.{AreFacesOf, Prints};
+ghost use Rattle.off_text.specs.Prints.{CoverPolygons, Prints};
 ghost use Rattle.off_text.specs.Texts.{vertices_of, corner_count, AreCornersOf, IsTextOf};
 ghost use Rattle.off_text.specs.Bounding.{IsBoundary};
 
@@ -40,10 +40,10 @@ pub fn texts_print_polygons()
     ensures { (unit : LengthUnit) (polygons : List Outline) (bytes : List ℕ) → All IsPolygon polygons → IsTextOf unit polygons bytes → Prints unit polygons bytes }
 {}
 
-/// Printed faces cover a point as their facets do: where exactly one facet covers it facing a
-/// plane, exactly one face does, and where none does, none.
+/// Printed faces that cover the points of their facets cover a point as these do: where exactly one facet covers it
+/// facing a plane, exactly one face does, and where none does, none.
 pub fn faces_cover_as_facets()
-    ensures { (unit : LengthUnit) (vertices : List Coordinates) (polygons : List Outline) (faces : List (List ℕ)) → AreFacesOf unit vertices polygons faces →
+    ensures { (unit : LengthUnit) (vertices : List Coordinates) (polygons : List Outline) (faces : List (List ℕ)) → CoverPolygons unit vertices polygons faces →
         All (λ s. IsPlane s.plane) polygons → (n : Coefficients) → IsPlane n → (p : Coordinates) → (b : Bool) →
         HasOneWhere b (CoversFacing n (in_steps unit p)) polygons → OneExactlyWhere b (Covers unit vertices n p) faces }
 {}

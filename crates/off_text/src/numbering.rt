@@ -17,7 +17,7 @@ pub struct FaceNumbers {
     pub numbers: Vec<u32>,
 }
 
-// Appends a number. Vertices of which one has a number above 32 bits take 256 GiB, so there is no memory for them.
+// Appends a number. One above 32 bits counts as want of memory; none comes, since the corners of a text are counted before.
 fn push_number(numbers: &mut Vec<u32>, number: usize) -> Result<(), NoMemory>
     ensures { OnOk result (numbers.new.items ≡ numbers.old.items ++ number ∷ []) }
 {
