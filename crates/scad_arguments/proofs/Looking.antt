@@ -6,6 +6,7 @@ use Rattle.std.specs.Borrow.{Bor}
 use Rattle.std.specs.Option.{option_copied}
 use Rattle.newest_names.specs.Newest.{Pairs, find_in}
 use Rattle.scad_ast.specs.declared.statement.Param.{Param}
+use Rattle.scad_ast.specs.Names.{is_among}
 use Rattle.scad_ast.specs.StatementView.{param_of}
 use Rattle.scad_arguments.specs.Arguments.{first_named, later, name_of, names_of, Given, with_argument}
 use Rattle.newest_names.specs.Newest.{next}
@@ -13,7 +14,7 @@ use Rattle.scad_arguments.specs.ArgumentsView.{taker_seen}
 use Rattle.scad_arguments.specs.declared.parameters.Destination.{Destination}
 use Rattle.scad_arguments.specs.declared.parameters.Destination.TheVariants.{Parameter, Special}
 use Rattle.std.proofs.lemmas.List.{length-set}
-use Rattle.scad_arguments.specs.Lookup.{numbered_from, names_of_pairs, is_among, taken_after}
+use Rattle.scad_arguments.specs.Lookup.{numbered_from, names_of_pairs, taken_after}
 
 -- a name is found where it is one of the names
 pub told_found : {A : Type 0} (ps : Pairs A) (name : List ℕ) → is_some (find_in ps name) ≡ is_among (names_of_pairs ps) name

@@ -1,6 +1,5 @@
 -- The index by which the names of a call's arguments are found.
-use Rattle.std.specs.Prelude.{ℕ, ◌+◌, List, [], ◌∷◌, map, Bool, true, false, if◌then◌else◌}
-use Rattle.std.specs.Str.{bytes_eq}
+use Rattle.std.specs.Prelude.{ℕ, ◌+◌, List, [], ◌∷◌, map}
 use Rattle.newest_names.specs.Newest.{Pairs}
 use Rattle.scad_arguments.specs.declared.parameters.Destination.{Destination}
 use Rattle.scad_arguments.specs.declared.parameters.Destination.TheVariants.{Parameter, Special}
@@ -13,11 +12,6 @@ numbered_from i (n ∷ ns) = (n, i) ∷ numbered_from (i + 1) ns
 -- the names of pairs
 abbrev pub names_of_pairs : {A : Type 0} → Pairs A → List (List ℕ)
 names_of_pairs pairs = map (λ p. p.0) pairs
-
--- whether a name is one of these
-abbrev pub is_among : List (List ℕ) → List ℕ → Bool
-is_among [] name = false
-is_among (n ∷ ns) name = if bytes_eq n name then true else is_among ns name
 
 -- special names behind an argument that something takes
 abbrev pub taken_after : List (List ℕ) → Destination → List (List ℕ)

@@ -1,8 +1,9 @@
 ghost use Rattle.std.specs.Prelude.{◌≡◌, ◌<◌, ℕ, List, [], length, IfOk, IfSome, OnOk};
 ghost use Rattle.newest_names.specs.Names.{newest_first};
+ghost use Rattle.scad_ast.specs.Names.{is_among};
 ghost use Rattle.scad_arguments.specs.Arguments.{first_named as first_of};
 ghost use Rattle.scad_arguments.specs.ArgumentsView.{names_in};
-ghost use Rattle.scad_arguments.specs.Lookup.{is_among, names_of_pairs, numbered_from, taken_after};
+ghost use Rattle.scad_arguments.specs.Lookup.{names_of_pairs, numbered_from, taken_after};
 
 use crate::parameters::{Destination, Names, count_of, name_at};
 use newest_names::NameList;

@@ -6,6 +6,7 @@ use Rattle.scad_builtin.specs.declared.function.Builtin.{Builtin}
 use Rattle.scad_builtin.specs.declared.function.Builtin.TheVariants.{Abs, Sign, Floor, Ceil, Round, Min, Max, Len, Concat, Pow, IsUndef, IsNum, IsBool, IsList}
 use Rattle.scad_value.specs.Values.{Val, NumberVal, TruthVal, TextVal, ListVal, UndefVal, Vals, no_vals, and_val, vals_from, count_of, is_bounded}
 use Rattle.scad_value.specs.Operators.{Answer, sized, number, made}
+pub use Rattle.scad_ast.specs.Names.{is_among}
 
 -- names and what they stand for
 abbrev pub named_in : {A : Type 0} → List (List ℕ × A) → List ℕ → Option A
@@ -19,11 +20,6 @@ builtin_of name = named_in
     ∷ (codes "round", Round) ∷ (codes "min", Min) ∷ (codes "max", Max) ∷ (codes "len", Len)
     ∷ (codes "concat", Concat) ∷ (codes "pow", Pow) ∷ (codes "is_undef", IsUndef) ∷ (codes "is_num", IsNum)
     ∷ (codes "is_bool", IsBool) ∷ (codes "is_list", IsList) ∷ []) name
-
--- whether a name is one of these
-abbrev pub is_among : List (List ℕ) → List ℕ → Bool
-is_among [] name = false
-is_among (n ∷ ns) name = if bytes_eq n name then true else is_among ns name
 
 -- functions of OpenSCAD that the profile leaves out
 abbrev pub is_left_out : List ℕ → Bool

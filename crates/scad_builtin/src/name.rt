@@ -1,6 +1,6 @@
 ghost use Rattle.std.specs.Prelude.{◌≡◌, map};
 ghost use Rattle.std.specs.Str.{bytes_eq};
-ghost use Rattle.scad_builtin.specs.Builtins.{builtin_of, named_in as named, is_among as among, is_left_out as leaves_out};
+ghost use Rattle.scad_builtin.specs.Builtins.{builtin_of, named_in, is_among, is_left_out};
 
 use crate::function::Builtin;
 
@@ -38,7 +38,7 @@ pub fn builtin(name: &[u8]) -> Option<Builtin>
 
 // What a name stands for in a table.
 fn named_in(names: &[(&[u8], Builtin)], name: &[u8]) -> Option<Builtin>
-    ensures { result ≡ named (map (λ known. (known.0.now, known.1)) names.now) name.now }
+    ensures { result ≡ named_in (map (λ known. (known.0.now, known.1)) names.now) name.now }
 {
     for known in names {
         if same(known.0, name) {
@@ -78,14 +78,14 @@ const LEFT_OUT: [&[u8]; 24] = [
 
 /// Whether a name is a function of OpenSCAD that the profile leaves out.
 pub fn is_left_out(name: &[u8]) -> bool
-    ensures { result ≡ leaves_out name.now }
+    ensures { result ≡ is_left_out name.now }
 {
     is_among(&LEFT_OUT, name)
 }
 
-// Whether a name is one of these.
-fn is_among(names: &[&[u8]], name: &[u8]) -> bool
-    ensures { result ≡ among (map (λ known. known.now) names.now) name.now }
+/// Whether a name is one of these.
+pub fn is_among(names: &[&[u8]], name: &[u8]) -> bool
+    ensures { result ≡ is_among (map (λ known. known.now) names.now) name.now }
 {
     for known in names {
         if same(known, name) {

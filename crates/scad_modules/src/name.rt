@@ -1,9 +1,10 @@
 ghost use Rattle.std.specs.Prelude.{◌≡◌, map};
 ghost use Rattle.std.specs.Str.{bytes_eq};
-ghost use Rattle.scad_builtin.specs.Builtins.{named_in as named, is_among as among};
-ghost use Rattle.scad_modules.specs.Table.{module_named, is_left_out as leaves_out};
+ghost use Rattle.scad_builtin.specs.Builtins.{named_in};
+ghost use Rattle.scad_modules.specs.Table.{module_named, is_left_out};
 
 use crate::table::BuiltinModule;
+use scad_builtin::is_among;
 
 // Whether two names are the same.
 fn same(known: &[u8], name: &[u8]) -> bool
@@ -46,7 +47,7 @@ pub fn builtin_module(name: &[u8]) -> Option<BuiltinModule>
 
 // What a name stands for in a table.
 fn named_in(names: &[(&[u8], BuiltinModule)], name: &[u8]) -> Option<BuiltinModule>
-    ensures { result ≡ named (map (λ known. (known.0.now, known.1)) names.now) name.now }
+    ensures { result ≡ named_in (map (λ known. (known.0.now, known.1)) names.now) name.now }
 {
     for known in names {
         if same(known.0, name) {
@@ -71,19 +72,7 @@ const LEFT_OUT: [&[u8]; 9] = [
 
 /// Whether a name is a module of OpenSCAD that the profile leaves out.
 pub fn is_left_out(name: &[u8]) -> bool
-    ensures { result ≡ leaves_out name.now }
+    ensures { result ≡ is_left_out name.now }
 {
     is_among(&LEFT_OUT, name)
-}
-
-// Whether a name is one of these.
-fn is_among(names: &[&[u8]], name: &[u8]) -> bool
-    ensures { result ≡ among (map (λ known. known.now) names.now) name.now }
-{
-    for known in names {
-        if same(known, name) {
-            return true;
-        }
-    }
-    false
 }

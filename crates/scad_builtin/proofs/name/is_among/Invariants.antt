@@ -1,5 +1,5 @@
 use Rattle.std.proofs.Common.{◌≡◌, map, drop}
-use Rattle.scad_builtin.specs.Builtins.{is_among}
+use Rattle.scad_ast.specs.Names.{is_among}
 use Rattle.scad_builtin.proofs.name.is_among.Given as goal
 
 abbrev pub invariant-loop-known : goal.invariant-loop-known

@@ -2,7 +2,8 @@ use Rattle.std.proofs.Common.{◌∙◌, sym, ap}
 use Rattle.newest_names.specs.Names.{newest_first}
 use Rattle.scad_arguments.specs.declared.lookup.NameIndex.{NameIndex}
 use Rattle.scad_arguments.specs.ArgumentsView.{special_pairs}
-use Rattle.scad_arguments.specs.Lookup.{names_of_pairs, is_among}
+use Rattle.scad_ast.specs.Names.{is_among}
+use Rattle.scad_arguments.specs.Lookup.{names_of_pairs}
 use Rattle.scad_arguments.proofs.Looking.{told_found}
 use Rattle.scad_arguments.proofs.so_far.ArgumentsSoFar.has_special.Goals as goal
 

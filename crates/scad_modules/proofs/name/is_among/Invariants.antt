@@ -1,7 +1,0 @@
-use Rattle.std.proofs.Common.{◌≡◌, map, drop}
-use Rattle.scad_builtin.specs.Builtins.{is_among}
-use Rattle.scad_modules.proofs.name.is_among.Given as goal
-
-abbrev pub invariant-loop-known : goal.invariant-loop-known
-invariant-loop-known l = is_among (map (λ k. k.now) (drop l.known-index l.names)) l.name
-    ≡ is_among (map (λ k. k.now) l.names) l.name
