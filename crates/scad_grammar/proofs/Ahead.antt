@@ -1,6 +1,6 @@
 -- A choice by the next two tokens.
 use Rattle.std.proofs.Common.{◌≡◌, List, [], ◌∷◌, ◌++◌, Bool, true, false, cond, Ok, Err, ◌⊎◌, inl, inr, refl, sym, ap, ◌∙◌, subst, ◌&&◌}
-use Rattle.scad_grammar.specs.declared.SyntaxFault.{SyntaxFault as Kind}
+use Rattle.scad_grammar.specs.declared.SyntaxFault.{SyntaxFault}
 use Rattle.scad_grammar.specs.Reading.{Read, Reader, after, starts, ahead}
 use Rattle.scad_grammar.proofs.Readers.{SameHead, Told, IsReader, seen}
 
@@ -16,7 +16,7 @@ abbrev pub Ahead : {T A C : Type 0} → (T → T → A → C) → (T → Bool) �
 Ahead f a b L M c s = Two f a b L c s ⊎ M c s
 
 -- what follows what was read, or the tokens from a fault on
-abbrev pub rest_of : {T A : Type 0} → Read T Kind A → List T
+abbrev pub rest_of : {T A : Type 0} → Read T SyntaxFault A → List T
 rest_of (Ok p) = p.1
 rest_of (Err e) = e.1
 
@@ -24,7 +24,7 @@ pub both_true : (b c : Bool) → (b && c) ≡ true → (b ≡ true) × (c ≡ tr
 both_true true c e = (refl, e)
 both_true false c e = absurd (cc)
 
-module _ {T A C : Type 0} (f : T → T → A → C) (a b : T → Bool) (r : Reader T Kind A) (q : Reader T Kind C) (L W : A → List T → Type 0) (M V : C → List T → Type 0) (ma : A → T → Bool) (more : C → T → Bool)
+module _ {T A C : Type 0} (f : T → T → A → C) (a b : T → Bool) (r : Reader T SyntaxFault A) (q : Reader T SyntaxFault C) (L W : A → List T → Type 0) (M V : C → List T → Type 0) (ma : A → T → Bool) (more : C → T → Bool)
     (ir : IsReader r L W ma) (iq : IsReader q M V more) (down : (t u : T) (x : A) (rest : List T) → starts (more (f t u x)) rest ≡ false → starts (ma x) rest ≡ false)
     (moves : (t : T) → a t ≡ true → rest_of (q (t ∷ [])) ≡ [])
     (unlike : (c : C) (s rest : List T) → M c s → starts (more c) rest ≡ false → two a b (s ++ rest) ≡ false) where
@@ -37,7 +37,7 @@ module _ {T A C : Type 0} (f : T → T → A → C) (a b : T → Bool) (r : Read
   ahead_first : (t u : T) (ts : List T) → (a t && b u) ≡ true → ahead f a b r q (t ∷ u ∷ ts) ≡ after (r ts) (λ x us. Ok (f t u x, us))
   ahead_first t u ts e = ap (λ c. cond c (after (r ts) (λ x us. Ok (f t u x, us))) (q (t ∷ u ∷ ts))) e
 
-  told_first : (t u : T) (ts : List T) → (a t && b u) ≡ true → (x : Read T Kind A) → Told r L W ts x → Told (ahead f a b r q) (Ahead f a b L M) (Ahead f a b W V) (t ∷ u ∷ ts) (after x (λ x us. Ok (f t u x, us)))
+  told_first : (t u : T) (ts : List T) → (a t && b u) ≡ true → (x : Read T SyntaxFault A) → Told r L W ts x → Told (ahead f a b r q) (Ahead f a b L M) (Ahead f a b W V) (t ∷ u ∷ ts) (after x (λ x us. Ok (f t u x, us)))
   told_first t u ts e (Ok p) k =
       (t ∷ u ∷ k.0, ap (λ l. t ∷ u ∷ l) k.1, inl (t, u, p.0, k.0, (both_true (a t) (b u) e).0, (both_true (a t) (b u) e).1, k.2, refl, refl), λ rest h. ahead_first t u (k.0 ++ rest) e ∙ ap (λ x. after x (λ x us. Ok (f t u x, us))) (k.3 rest h))
   told_first t u ts e (Err p) k =
@@ -57,7 +57,7 @@ module _ {T A C : Type 0} (f : T → T → A → C) (a b : T → Bool) (r : Read
   two_same (t ∷ u ∷ s) at rest h e n = e
 
   -- a token that may begin such two is taken
-  taken_at : (s at : List T) (x : Read T Kind C) → rest_of x ≡ at → s ≡ [] → ((rest : List T) → SameHead at rest → rest_of (q (s ++ rest)) ≡ rest) → starts a at ≡ false
+  taken_at : (s at : List T) (x : Read T SyntaxFault C) → rest_of x ≡ at → s ≡ [] → ((rest : List T) → SameHead at rest → rest_of (q (s ++ rest)) ≡ rest) → starts a at ≡ false
   taken_at s [] x w z k = refl
   taken_at s (t ∷ at) x w z k = go (a t) refl
     where
@@ -67,7 +67,7 @@ module _ {T A C : Type 0} (f : T → T → A → C) (a b : T → Bool) (r : Read
           let list : t ∷ [] ≡ [] = sym (subst (λ s. rest_of (q (s ++ t ∷ [])) ≡ t ∷ []) z (k (t ∷ []) refl)) ∙ moves t e in
           absurd (cc)
 
-  told_second : (ts : List T) → two a b ts ≡ false → (x : Read T Kind C) → Told q M V ts x → Told (ahead f a b r q) (Ahead f a b L M) (Ahead f a b W V) ts x
+  told_second : (ts : List T) → two a b ts ≡ false → (x : Read T SyntaxFault C) → Told q M V ts x → Told (ahead f a b r q) (Ahead f a b L M) (Ahead f a b W V) ts x
   told_second ts e (Ok p) k =
       (k.0, k.1, inr k.2, λ rest h. ahead_second (k.0 ++ rest) (two_same k.0 p.1 rest h (ap (two a b) (sym k.1) ∙ e) (λ z. taken_at k.0 p.1 (Ok p) refl z (λ rest h. ap rest_of (k.3 rest h)))) ∙ k.3 rest h)
   told_second ts e (Err p) k =

@@ -1,26 +1,26 @@
 -- Two parts that are read one after the other only where they go together, as an `if` and its `else`.
 use Rattle.std.proofs.Common.{◌≡◌, List, [], ◌∷◌, ◌++◌, Bool, true, false, cond, Ok, Err, Option, Some, None, inl, inr, refl, sym, ap, ◌∙◌, subst, append_assoc}
-use Rattle.scad_grammar.specs.declared.SyntaxFault.{SyntaxFault as Kind}
+use Rattle.scad_grammar.specs.declared.SyntaxFault.{SyntaxFault}
 use Rattle.scad_grammar.specs.declared.SyntaxFault.TheVariants.{Expected, Nested, NotInProfile}
 use Rattle.scad_grammar.specs.Reading.{Read, Reader, after, starts, mapped, nothing, both, choice, maybe}
 use Rattle.scad_grammar.proofs.Readers.{SameHead, Begins, Told, IsReader, seen, same_behind, EitherOf, Mapped, Nothing, Opens, mapped_opens, same_reads, choice_reads, mapped_reads, nothing_reads}
 
 -- what was read says which tokens don't follow it
-abbrev pub Stops : {T A : Type 0} → Reader T Kind A → (A → T → Bool) → Type 0
+abbrev pub Stops : {T A : Type 0} → Reader T SyntaxFault A → (A → T → Bool) → Type 0
 Stops {T} {A} r last = (ts : List T) (x : A) (rest : List T) → r ts ≡ Ok (x, rest) → starts (last x) rest ≡ false
 
 -- one after the other, where they go together
 abbrev pub BothIf : {T A B C : Type 0} → (A → B → C) → (A → B → Type 0) → (A → List T → Type 0) → (B → List T → Type 0) → C → List T → Type 0
 BothIf {T} {A} {B} f Fit La Lb c s = (a : A) × (b : B) × (p : List T) × (q : List T) × La a p × Lb b q × Fit a b × (c ≡ f a b) × (s ≡ p ++ q)
 
-start_seen : {T : Type 0} (test : T → Bool) (u : List T) (k : Kind) (at : List T) → starts test (u ++ at) ≡ false → starts test (u ++ seen k at) ≡ false
+start_seen : {T : Type 0} (test : T → Bool) (u : List T) (k : SyntaxFault) (at : List T) → starts test (u ++ at) ≡ false → starts test (u ++ seen k at) ≡ false
 start_seen test (x ∷ u) k at e = e
 start_seen test [] Nested [] e = refl
 start_seen test [] Nested (t ∷ at) e = e
 start_seen test [] Expected at e = refl
 start_seen test [] NotInProfile at e = refl
 
-module _ {T A B C : Type 0} (f : A → B → C) (Fit : A → B → Type 0) (ra : Reader T Kind A) (rb : Reader T Kind B) (La Wa : A → List T → Type 0) (Lb Wb : B → List T → Type 0)
+module _ {T A B C : Type 0} (f : A → B → C) (Fit : A → B → Type 0) (ra : Reader T SyntaxFault A) (rb : Reader T SyntaxFault B) (La Wa : A → List T → Type 0) (Lb Wb : B → List T → Type 0)
     (ma la : A → T → Bool) (mb : B → T → Bool) (mc : C → T → Bool) (ia : IsReader ra La Wa ma) (sa : Stops ra la) (ib : IsReader rb Lb Wb mb)
     (some : (a : A) → (w : List T) × (y : B) × Wb y w × Fit a y)
     (follows : (a : A) (b : B) (q rest : List T) → Lb b q → Fit a b → starts (mc (f a b)) rest ≡ false → starts (ma a) (q ++ rest) ≡ false)
@@ -33,7 +33,7 @@ module _ {T A B C : Type 0} (f : A → B → C) (Fit : A → B → Type 0) (ra :
       (s.0, f a s.1, (a, s.1, p, s.0, wa, s.2, s.3, refl, append_assoc p [] s.0))
   begun a p (x ∷ v) wa e b = (b.0, f a b.1, (a, b.1, p, (x ∷ v) ++ b.0, wa, b.2, fits a b.1 ((x ∷ v) ++ b.0) [] b.2 e, refl, append_assoc p (x ∷ v) b.0))
 
-  second : (ts : List T) (a : A) (us : List T) → ra ts ≡ Ok (a, us) → Told ra La Wa ts (Ok (a, us)) → (q : Read T Kind B) → Told rb Lb Wb us q
+  second : (ts : List T) (a : A) (us : List T) → ra ts ≡ Ok (a, us) → Told ra La Wa ts (Ok (a, us)) → (q : Read T SyntaxFault B) → Told rb Lb Wb us q
       → Told (both f ra rb) (BothIf f Fit La Lb) (BothIf f Fit Wa Wb) ts (after q (λ b ts. Ok (f a b, ts)))
   second ts a us e t (Ok q) u =
       let stop : starts (la a) (u.0 ++ q.1) ≡ false = ap (starts (la a)) (sym u.1) ∙ sa ts a us e in (
@@ -57,7 +57,7 @@ module _ {T A B C : Type 0} (f : A → B → C) (Fit : A → B → Type 0) (ra :
             ∙ ap (λ r. after r (λ b ts. Ok (f a b, ts))) (u.3 rest h),
       )
 
-  first : (ts : List T) (r : Read T Kind A) → ra ts ≡ r → Told ra La Wa ts r → Told (both f ra rb) (BothIf f Fit La Lb) (BothIf f Fit Wa Wb) ts (after r (λ a ts. after (rb ts) (λ b ts. Ok (f a b, ts))))
+  first : (ts : List T) (r : Read T SyntaxFault A) → ra ts ≡ r → Told ra La Wa ts r → Told (both f ra rb) (BothIf f Fit La Lb) (BothIf f Fit Wa Wb) ts (after r (λ a ts. after (rb ts) (λ b ts. Ok (f a b, ts))))
   first ts (Ok p) e t = second ts p.0 p.1 e t (rb p.1) (ib.told p.1)
   first ts (Err x) e t =
       let s = some t.2.1 in (
@@ -83,15 +83,15 @@ module _ {T A B C : Type 0} (f : A → B → C) (Fit : A → B → Type 0) (ra :
   }
 
 -- what stops behind the second part of two
-module _ {T A B C : Type 0} (f : A → B → C) (ra : Reader T Kind A) (rb : Reader T Kind B) (lb : B → T → Bool) (lc : C → T → Bool) (sb : Stops rb lb)
+module _ {T A B C : Type 0} (f : A → B → C) (ra : Reader T SyntaxFault A) (rb : Reader T SyntaxFault B) (lb : B → T → Bool) (lc : C → T → Bool) (sb : Stops rb lb)
     (up : (a : A) (b : B) (rest : List T) → starts (lb b) rest ≡ false → starts (lc (f a b)) rest ≡ false) where
-  stops_second : (a : A) (us : List T) (q : Read T Kind B) → rb us ≡ q → (c : C) (rest : List T) → after q (λ b ts. Ok (f a b, ts)) ≡ Ok (c, rest) → starts (lc c) rest ≡ false
+  stops_second : (a : A) (us : List T) (q : Read T SyntaxFault B) → rb us ≡ q → (c : C) (rest : List T) → after q (λ b ts. Ok (f a b, ts)) ≡ Ok (c, rest) → starts (lc c) rest ≡ false
   stops_second a us (Ok q) e c rest g =
       let pair : ◌≡◌ {A = C × List T} (f a q.0, q.1) (c, rest) = cc in
       subst (λ (p : C × List T). starts (lc p.0) p.1 ≡ false) pair (up a q.0 q.1 (sb us q.0 q.1 e))
   stops_second a us (Err x) e c rest g = absurd (cc)
 
-  stops_first : (r : Read T Kind A) → (c : C) (rest : List T) → after r (λ a ts. after (rb ts) (λ b ts. Ok (f a b, ts))) ≡ Ok (c, rest) → starts (lc c) rest ≡ false
+  stops_first : (r : Read T SyntaxFault A) → (c : C) (rest : List T) → after r (λ a ts. after (rb ts) (λ b ts. Ok (f a b, ts))) ≡ Ok (c, rest) → starts (lc c) rest ≡ false
   stops_first (Ok p) c rest g = stops_second p.0 p.1 (rb p.1) refl c rest g
   stops_first (Err x) c rest g = absurd (cc)
 
@@ -99,9 +99,9 @@ module _ {T A B C : Type 0} (f : A → B → C) (ra : Reader T Kind A) (rb : Rea
   both_stops ts c rest g = stops_first (ra ts) c rest g
 
 -- what stops behind something that stands for another thing
-module _ {T A B : Type 0} (f : A → B) (r : Reader T Kind A) (l : A → T → Bool) (k : B → T → Bool) (s : Stops r l)
+module _ {T A B : Type 0} (f : A → B) (r : Reader T SyntaxFault A) (l : A → T → Bool) (k : B → T → Bool) (s : Stops r l)
     (up : (a : A) (rest : List T) → starts (l a) rest ≡ false → starts (k (f a)) rest ≡ false) where
-  mapped_at : (ts : List T) (q : Read T Kind A) → r ts ≡ q → (b : B) (rest : List T) → after q (λ a ts. Ok (f a, ts)) ≡ Ok (b, rest) → starts (k b) rest ≡ false
+  mapped_at : (ts : List T) (q : Read T SyntaxFault A) → r ts ≡ q → (b : B) (rest : List T) → after q (λ a ts. Ok (f a, ts)) ≡ Ok (b, rest) → starts (k b) rest ≡ false
   mapped_at ts (Ok p) e b rest g =
       let pair : ◌≡◌ {A = B × List T} (f p.0, p.1) (b, rest) = cc in
       subst (λ (p : B × List T). starts (k p.0) p.1 ≡ false) pair (up p.0 p.1 (s ts p.0 p.1 e))
@@ -110,7 +110,7 @@ module _ {T A B : Type 0} (f : A → B) (r : Reader T Kind A) (l : A → T → B
   pub mapped_stops : Stops (mapped f r) k
   mapped_stops ts b rest g = mapped_at ts (r ts) refl b rest g
 
-pub choice_stops : {T A : Type 0} (test : T → Bool) (ra rb : Reader T Kind A) (l : A → T → Bool) → Stops ra l → Stops rb l → Stops (choice test ra rb) l
+pub choice_stops : {T A : Type 0} (test : T → Bool) (ra rb : Reader T SyntaxFault A) (l : A → T → Bool) → Stops ra l → Stops rb l → Stops (choice test ra rb) l
 choice_stops {T} {A} test ra rb l sa sb ts x rest g = go (starts test ts) g
   where
     go : (b : Bool) → cond b (ra ts) (rb ts) ≡ Ok (x, rest) → starts (l x) rest ≡ false
@@ -131,7 +131,7 @@ pub maybe_ends : {T A : Type 0} (test : T → Bool) (more : A → T → Bool) (x
 maybe_ends test more None rest e h = e
 maybe_ends test more (Some x) rest e h = h x
 
-pub maybe_stops : {T A : Type 0} (test : T → Bool) (r : Reader T Kind A) (l : A → T → Bool) → Stops r l → Stops (maybe test r) (or_first test l)
+pub maybe_stops : {T A : Type 0} (test : T → Bool) (r : Reader T SyntaxFault A) (l : A → T → Bool) → Stops r l → Stops (maybe test r) (or_first test l)
 maybe_stops {T} {A} test r l sr ts x rest g = go (starts test ts) refl g
   where
     go : (b : Bool) → starts test ts ≡ b → cond b (mapped Some r ts) (nothing None ts) ≡ Ok (x, rest) → starts (or_first test l x) rest ≡ false
@@ -140,7 +140,7 @@ maybe_stops {T} {A} test r l sr ts x rest g = go (starts test ts) refl g
         let pair : ◌≡◌ {A = Option A × List T} (None, ts) (x, rest) = cc in
         subst (λ (p : Option A × List T). starts (or_first test l p.0) p.1 ≡ false) pair e
 
-module _ {T A : Type 0} (test : T → Bool) (r : Reader T Kind A) (L W : A → List T → Type 0) (more : A → T → Bool) (ir : IsReader r L W more) (opens : Opens L test) where
+module _ {T A : Type 0} (test : T → Bool) (r : Reader T SyntaxFault A) (L W : A → List T → Type 0) (more : A → T → Bool) (ir : IsReader r L W more) (opens : Opens L test) where
   to_maybe : (M : A → List T → Type 0) (x : Option A) (s : List T) → EitherOf (Mapped Some M) (Nothing None) x s → Maybe M x s
   to_maybe M x s (inl h) = subst (λ x. Maybe M x s) (sym h.2) h.1
   to_maybe M x s (inr h) = subst (λ x. Maybe M x s) (sym h.0) h.1

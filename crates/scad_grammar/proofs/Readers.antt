@@ -1,6 +1,6 @@
 -- Laws of readers: what they read is in their language, and they look no further than one token.
 use Rattle.std.proofs.Common.{◌≡◌, ℕ, zero, suc, ◌<◌, ◌≤◌, List, [], ◌∷◌, ◌++◌, length, Bool, true, false, cond, Ok, Err, Option, Some, None, ◌⊎◌, inl, inr, refl, sym, ap, ◌∙◌, subst, arith, append_assoc, length-append, append-nil}
-use Rattle.scad_grammar.specs.declared.SyntaxFault.{SyntaxFault as Kind}
+use Rattle.scad_grammar.specs.declared.SyntaxFault.{SyntaxFault}
 use Rattle.scad_grammar.specs.declared.SyntaxFault.TheVariants.{Expected, Nested, NotInProfile}
 use Rattle.scad_grammar.specs.Reading.{Read, Reader, after, starts, one_of, mapped, nothing, both, choice, with_front, in_front, many_times, many}
 
@@ -15,29 +15,29 @@ abbrev pub Begins : {T A : Type 0} → (A → List T → Type 0) → List T → 
 Begins {T} {A} L s = (w : List T) × (x : A) × L x (s ++ w)
 
 -- what of the rest a fault speaks of: a token that is too deep is one that a deeper thing has
-abbrev pub seen : {T : Type 0} → Kind → List T → List T
+abbrev pub seen : {T : Type 0} → SyntaxFault → List T → List T
 seen Nested [] = []
 seen Nested (t ∷ ts) = t ∷ []
 seen Expected ts = []
 seen NotInProfile ts = []
 
-abbrev pub IsPlain : Kind → Type 0
+abbrev pub IsPlain : SyntaxFault → Type 0
 IsPlain Nested = ⊥
 IsPlain Expected = Unit {0}
 IsPlain NotInProfile = Unit {0}
 
-pub plain_seen : {T : Type 0} (k : Kind) (ts : List T) → IsPlain k → seen k ts ≡ []
+pub plain_seen : {T : Type 0} (k : SyntaxFault) (ts : List T) → IsPlain k → seen k ts ≡ []
 plain_seen Nested ts h = elim h [ ]
 plain_seen Expected ts h = refl
 plain_seen NotInProfile ts h = refl
 
 -- What was read is in the language, or it begins something of it. With other tokens behind the next one the reading is the same.
-abbrev pub Told : {T A : Type 0} → Reader T Kind A → (A → List T → Type 0) → (A → List T → Type 0) → List T → Read T Kind A → Type 0
+abbrev pub Told : {T A : Type 0} → Reader T SyntaxFault A → (A → List T → Type 0) → (A → List T → Type 0) → List T → Read T SyntaxFault A → Type 0
 Told {T} r L W ts (Ok p) = (s : List T) × (ts ≡ s ++ p.1) × L p.0 s × ((rest : List T) → SameHead p.1 rest → r (s ++ rest) ≡ Ok (p.0, rest))
 Told {T} r L W ts (Err e) = (s : List T) × (ts ≡ s ++ e.1) × Begins W (s ++ seen e.0 e.1) × ((rest : List T) → SameHead e.1 rest → r (s ++ rest) ≡ Err (e.0, rest))
 
 -- W is the language without a limit on depth
-pub record IsReader {T A : Type 0} (r : Reader T Kind A) (L W : A → List T → Type 0) (more : A → T → Bool) : Type 0 where
+pub record IsReader {T A : Type 0} (r : Reader T SyntaxFault A) (L W : A → List T → Type 0) (more : A → T → Bool) : Type 0 where
   pub told : (ts : List T) → Told r L W ts (r ts)
   pub wide : (x : A) (s : List T) → L x s → W x s
   pub complete : (x : A) (s rest : List T) → L x s → starts (more x) rest ≡ false → r (s ++ rest) ≡ Ok (x, rest)
@@ -55,7 +55,7 @@ same_start test (t ∷ ts) (u ∷ us) h = ap test (sym h)
 abbrev pub One : {T : Type 0} → (T → Bool) → T → List T → Type 0
 One test t s = (test t ≡ true) × (s ≡ t ∷ [])
 
-one_told : {T : Type 0} (test : T → Bool) (fault : Option T → Kind) (plain : (o : Option T) → IsPlain (fault o)) (some : (t : T) × (test t ≡ true)) (t : T) (ts : List T) (b : Bool) → test t ≡ b → Told (one_of test fault) (One test) (One test) (t ∷ ts) (cond b (Ok (t, ts)) (Err (fault (Some t), t ∷ ts)))
+one_told : {T : Type 0} (test : T → Bool) (fault : Option T → SyntaxFault) (plain : (o : Option T) → IsPlain (fault o)) (some : (t : T) × (test t ≡ true)) (t : T) (ts : List T) (b : Bool) → test t ≡ b → Told (one_of test fault) (One test) (One test) (t ∷ ts) (cond b (Ok (t, ts)) (Err (fault (Some t), t ∷ ts)))
 one_told test fault plain some t ts true e = (t ∷ [], refl, (e, refl), λ rest h. rw e refl)
 one_told test fault plain some t ts false e = ([], refl, (some.0 ∷ [], some.0, (some.1, ap (λ l. l ++ some.0 ∷ []) (plain_seen (fault (Some t)) (t ∷ ts) (plain (Some t))))), at)
   where
@@ -63,7 +63,7 @@ one_told test fault plain some t ts false e = ([], refl, (some.0 ∷ [], some.0,
     at [] h = elim h [ ]
     at (u ∷ us) h = let n : test u ≡ false = ap test (sym h) ∙ e in rw n (ap (λ v. Err (fault (Some v), u ∷ us)) (sym h))
 
-pub one_reads : {T : Type 0} (test : T → Bool) (fault : Option T → Kind) (plain : (o : Option T) → IsPlain (fault o)) (some : (t : T) × (test t ≡ true)) → IsReader (one_of test fault) (One test) (One test) (λ x t. false)
+pub one_reads : {T : Type 0} (test : T → Bool) (fault : Option T → SyntaxFault) (plain : (o : Option T) → IsPlain (fault o)) (some : (t : T) × (test t ≡ true)) → IsReader (one_of test fault) (One test) (One test) (λ x t. false)
 one_reads {T} test fault plain some = record { told = told; wide = λ x s h. h; complete = λ x s rest h e. subst (λ (s : List T). one_of test fault (s ++ rest) ≡ Ok (x, rest)) (sym h.1) (rw h.0 refl) }
   where
     told : (ts : List T) → Told (one_of test fault) (One test) (One test) ts (one_of test fault ts)
@@ -78,11 +78,11 @@ one_reads {T} test fault plain some = record { told = told; wide = λ x s h. h; 
 abbrev pub Both : {T A B C : Type 0} → (A → B → C) → (A → List T → Type 0) → (B → List T → Type 0) → C → List T → Type 0
 Both {T} {A} {B} {C} f La Lb c s = (a : A) × (b : B) × (p : List T) × (q : List T) × La a p × Lb b q × (c ≡ f a b) × (s ≡ p ++ q)
 
-module _ {T A B C : Type 0} (f : A → B → C) (ra : Reader T Kind A) (rb : Reader T Kind B) (La Wa : A → List T → Type 0) (Lb Wb : B → List T → Type 0) (ma : A → T → Bool) (mb : B → T → Bool) (mc : C → T → Bool)
+module _ {T A B C : Type 0} (f : A → B → C) (ra : Reader T SyntaxFault A) (rb : Reader T SyntaxFault B) (La Wa : A → List T → Type 0) (Lb Wb : B → List T → Type 0) (ma : A → T → Bool) (mb : B → T → Bool) (mc : C → T → Bool)
     (ia : IsReader ra La Wa ma) (ib : IsReader rb Lb Wb mb) (some : (w : List T) × (y : B) × Wb y w)
     (follows : (x : A) (y : B) (s rest : List T) → Lb y s → starts (mc (f x y)) rest ≡ false → starts (ma x) (s ++ rest) ≡ false)
     (down : (x : A) (y : B) (rest : List T) → starts (mc (f x y)) rest ≡ false → starts (mb y) rest ≡ false) where
-  both_second : (ts : List T) (a : A) (ts' : List T) → Told ra La Wa ts (Ok (a, ts')) → (r : Read T Kind B) → rb ts' ≡ r → Told rb Lb Wb ts' r
+  both_second : (ts : List T) (a : A) (ts' : List T) → Told ra La Wa ts (Ok (a, ts')) → (r : Read T SyntaxFault B) → rb ts' ≡ r → Told rb Lb Wb ts' r
       → Told (both f ra rb) (Both f La Lb) (Both f Wa Wb) ts (after r (λ b ts. Ok (f a b, ts)))
   both_second ts a ts' t (Ok q) e u = (
     t.0 ++ u.0,
@@ -103,7 +103,7 @@ module _ {T A B C : Type 0} (f : A → B → C) (ra : Reader T Kind A) (rb : Rea
         ∙ ap (λ r. after r (λ b ts. Ok (f a b, ts))) (u.3 rest h),
   )
 
-  both_first : (ts : List T) (r : Read T Kind A) → Told ra La Wa ts r → Told (both f ra rb) (Both f La Lb) (Both f Wa Wb) ts (after r (λ a ts. after (rb ts) (λ b ts. Ok (f a b, ts))))
+  both_first : (ts : List T) (r : Read T SyntaxFault A) → Told ra La Wa ts r → Told (both f ra rb) (Both f La Lb) (Both f Wa Wb) ts (after r (λ a ts. after (rb ts) (λ b ts. Ok (f a b, ts))))
   both_first ts (Ok p) t = both_second ts p.0 p.1 t (rb p.1) refl (ib.told p.1)
   both_first ts (Err x) t = (
     t.0,
@@ -127,11 +127,11 @@ module _ {T A B C : Type 0} (f : A → B → C) (ra : Reader T Kind A) (rb : Rea
 abbrev pub EitherOf : {T A : Type 0} → (A → List T → Type 0) → (A → List T → Type 0) → A → List T → Type 0
 EitherOf La Lb x s = La x s ⊎ Lb x s
 
-module _ {T A : Type 0} (test : T → Bool) (ra rb : Reader T Kind A) (La Wa Lb Wb : A → List T → Type 0) (more : A → T → Bool)
+module _ {T A : Type 0} (test : T → Bool) (ra rb : Reader T SyntaxFault A) (La Wa Lb Wb : A → List T → Type 0) (more : A → T → Bool)
     (ia : IsReader ra La Wa more) (ib : IsReader rb Lb Wb more)
     (first : (x : A) (s rest : List T) → La x s → starts test (s ++ rest) ≡ true)
     (other : (x : A) (s rest : List T) → Lb x s → starts (more x) rest ≡ false → starts test (s ++ rest) ≡ false) where
-  choice_of : (ts : List T) (b : Bool) → starts test ts ≡ b → (r q : Read T Kind A) → Told ra La Wa ts r → Told rb Lb Wb ts q → Told (choice test ra rb) (EitherOf La Lb) (EitherOf Wa Wb) ts (cond b r q)
+  choice_of : (ts : List T) (b : Bool) → starts test ts ≡ b → (r q : Read T SyntaxFault A) → Told ra La Wa ts r → Told rb Lb Wb ts q → Told (choice test ra rb) (EitherOf La Lb) (EitherOf Wa Wb) ts (cond b r q)
   choice_of ts true e (Ok p) q t u = (
     t.0,
     t.1,
@@ -184,16 +184,16 @@ nothing_reads a more = record {
 }
 
 -- the same language in other words
-pub same_reads : {T A : Type 0} (r : Reader T Kind A) (L W M V : A → List T → Type 0) (more : A → T → Bool) → IsReader r L W more
+pub same_reads : {T A : Type 0} (r : Reader T SyntaxFault A) (L W M V : A → List T → Type 0) (more : A → T → Bool) → IsReader r L W more
     → ((x : A) (s : List T) → L x s → M x s) → ((x : A) (s : List T) → M x s → L x s) → ((x : A) (s : List T) → W x s → V x s) → IsReader r M V more
 same_reads {T} {A} r L W M V more ir to from wide = record { told = λ ts. told ts (r ts) (ir.told ts); wide = λ x s h. wide x s (ir.wide x s (from x s h)); complete = λ x s rest h e. ir.complete x s rest (from x s h) e }
   where
-    told : (ts : List T) (q : Read T Kind A) → Told r L W ts q → Told r M V ts q
+    told : (ts : List T) (q : Read T SyntaxFault A) → Told r L W ts q → Told r M V ts q
     told ts (Ok p) t = (t.0, t.1, to p.0 t.0 t.2, t.3)
     told ts (Err e) t = (t.0, t.1, (t.2.0, t.2.1, wide t.2.1 ((t.0 ++ seen e.0 e.1) ++ t.2.0) t.2.2), t.3)
 
 -- with more tokens that may go on
-pub more_reads : {T A : Type 0} (r : Reader T Kind A) (L W : A → List T → Type 0) (more much : A → T → Bool) → IsReader r L W more
+pub more_reads : {T A : Type 0} (r : Reader T SyntaxFault A) (L W : A → List T → Type 0) (more much : A → T → Bool) → IsReader r L W more
     → ((x : A) (rest : List T) → starts (much x) rest ≡ false → starts (more x) rest ≡ false) → IsReader r L W much
 more_reads r L W more much ir h = record { told = ir.told; wide = ir.wide; complete = λ x s rest l e. ir.complete x s rest l (h x rest e) }
 
@@ -201,7 +201,7 @@ abbrev pub Many : {T A : Type 0} → (A → List T → Type 0) → List A → Li
 Many L [] s = s ≡ []
 Many {T} L (x ∷ xs) s = (p : List T) × (q : List T) × L x p × Many L xs q × (s ≡ p ++ q)
 
-module _ {T A : Type 0} (test : T → Bool) (r : Reader T Kind A) (L W : A → List T → Type 0) (more : A → T → Bool) (wide : T → Bool) (ir : IsReader r L W more)
+module _ {T A : Type 0} (test : T → Bool) (r : Reader T SyntaxFault A) (L W : A → List T → Type 0) (more : A → T → Bool) (wide : T → Bool) (ir : IsReader r L W more)
     (first : (x : A) (s rest : List T) → L x s → starts test (s ++ rest) ≡ true)
     (apart : (x : A) (rest : List T) → starts test rest ≡ true → starts (more x) rest ≡ false)
     (no_more : (x : A) (rest : List T) → starts wide rest ≡ false → starts (more x) rest ≡ false)
@@ -210,14 +210,14 @@ module _ {T A : Type 0} (test : T → Bool) (r : Reader T Kind A) (L W : A → L
   some_read x [] h = absurd (let e = first x [] [] h in cc)
   some_read x (t ∷ s) h = omega arith
 
-  shrinks : (ts : List T) (q : Read T Kind A) → Told r L W ts q → (p : A × List T) → q ≡ Ok p → length p.1 < length ts
+  shrinks : (ts : List T) (q : Read T SyntaxFault A) → Told r L W ts q → (p : A × List T) → q ≡ Ok p → length p.1 < length ts
   shrinks ts (Ok q) t p e =
       let same : q.1 ≡ p.1 = ap (λ (p : A × List T). p.1) (let f : q ≡ p = cc in f) in
       omega (arith, ap length t.1, length-append t.0 q.1, some_read q.0 t.0 t.2, ap length same)
   shrinks ts (Err x) t p e = absurd (cc)
 
   enough_after : (n m : ℕ) → ((k : ℕ) (us : List T) → length us ≤ n → length us ≤ k → many_times n test r us ≡ many_times k test r us)
-      → (ts : List T) → length ts ≤ suc n → length ts ≤ suc m → (q : Read T Kind A) → r ts ≡ q → after q (λ x us. with_front x (many_times n test r us)) ≡ after q (λ x us. with_front x (many_times m test r us))
+      → (ts : List T) → length ts ≤ suc n → length ts ≤ suc m → (q : Read T SyntaxFault A) → r ts ≡ q → after q (λ x us. with_front x (many_times n test r us)) ≡ after q (λ x us. with_front x (many_times m test r us))
   enough_after n m same ts a b (Ok p) e =
       let less : length p.1 < length ts = shrinks ts (r ts) (ir.told ts) p e in
       ap (with_front p.0) (same m p.1 (omega arith) (omega arith))
@@ -232,7 +232,7 @@ module _ {T A : Type 0} (test : T → Bool) (r : Reader T Kind A) (L W : A → L
   enough (suc n) zero (t ∷ ts) a b = absurd (omega arith)
   enough (suc n) (suc m) ts a b = ap (λ q. cond (starts test ts) q (Ok ([], ts))) (enough_after n m (enough n) ts a b (r ts) refl)
 
-  step_after : (n : ℕ) (ts : List T) → length ts ≤ suc n → (q : Read T Kind A) → r ts ≡ q → after q (λ x us. with_front x (many_times n test r us)) ≡ after q (λ x us. with_front x (many test r us))
+  step_after : (n : ℕ) (ts : List T) → length ts ≤ suc n → (q : Read T SyntaxFault A) → r ts ≡ q → after q (λ x us. with_front x (many_times n test r us)) ≡ after q (λ x us. with_front x (many test r us))
   unfolding many
   step_after n ts a (Ok p) e =
       let less : length p.1 < length ts = shrinks ts (r ts) (ir.told ts) p e in
@@ -251,13 +251,13 @@ module _ {T A : Type 0} (test : T → Bool) (r : Reader T Kind A) (L W : A → L
   pub many_none : (ts : List T) → starts test ts ≡ false → many test r ts ≡ Ok ([], ts)
   many_none ts a = many_step ts ∙ ap (λ c. cond c (after (r ts) (λ x us. with_front x (many test r us))) (Ok ([], ts))) a
 
-  pub many_fault : (ts : List T) (e : Kind × List T) → starts test ts ≡ true → r ts ≡ Err e → many test r ts ≡ Err e
+  pub many_fault : (ts : List T) (e : SyntaxFault × List T) → starts test ts ≡ true → r ts ≡ Err e → many test r ts ≡ Err e
   many_fault ts e a b = many_step ts ∙ ap (λ c. cond c (after (r ts) (λ x us. with_front x (many test r us))) (Ok ([], ts))) a ∙ ap (λ q. after q (λ x us. with_front x (many test r us))) b
 
   start_of : (s a b : List T) → SameHead a b → starts test (s ++ a) ≡ true → starts test (s ++ b) ≡ true
   start_of s a b h e = same_start test (s ++ a) (s ++ b) (same_behind s a b h) ∙ e
 
-  told_rest : (ts : List T) (x : A) (us : List T) → starts test ts ≡ true → Told r L W ts (Ok (x, us)) → (q : Read T Kind (List A)) → Told (many test r) (Many L) (Many W) us q → Told (many test r) (Many L) (Many W) ts (with_front x q)
+  told_rest : (ts : List T) (x : A) (us : List T) → starts test ts ≡ true → Told r L W ts (Ok (x, us)) → (q : Read T SyntaxFault (List A)) → Told (many test r) (Many L) (Many W) us q → Told (many test r) (Many L) (Many W) ts (with_front x q)
   told_rest ts x us e t (Ok p) u = (
     t.0 ++ u.0,
     t.1 ∙ ap (λ l. t.0 ++ l) u.1 ∙ sym (append_assoc t.0 u.0 p.1),
@@ -280,7 +280,7 @@ module _ {T A : Type 0} (test : T → Bool) (r : Reader T Kind A) (L W : A → L
   )
 
   told_step : (n : ℕ) → ((us : List T) → length us ≤ n → Told (many test r) (Many L) (Many W) us (many test r us)) → (ts : List T) → length ts ≤ suc n → (b : Bool) → starts test ts ≡ b
-      → (q : Read T Kind A) → r ts ≡ q → Told r L W ts q → Told (many test r) (Many L) (Many W) ts (cond b (after q (λ x us. with_front x (many test r us))) (Ok ([], ts)))
+      → (q : Read T SyntaxFault A) → r ts ≡ q → Told r L W ts q → Told (many test r) (Many L) (Many W) ts (cond b (after q (λ x us. with_front x (many test r us))) (Ok ([], ts)))
   told_step n ih ts a true e (Ok p) f t =
       let less : length p.1 < length ts = shrinks ts (r ts) (ir.told ts) p f in
       told_rest ts p.0 p.1 e t (many test r p.1) (ih p.1 (omega arith))
@@ -320,14 +320,14 @@ module _ {T A : Type 0} (test : T → Bool) (r : Reader T Kind A) (L W : A → L
 abbrev pub Mapped : {T A B : Type 0} → (A → B) → (A → List T → Type 0) → B → List T → Type 0
 Mapped {T} {A} f L b s = (a : A) × L a s × (b ≡ f a)
 
-pub mapped_reads : {T A B : Type 0} (f : A → B) (r : Reader T Kind A) (L W : A → List T → Type 0) (more : A → T → Bool) (next : B → T → Bool) → IsReader r L W more → ((x : A) (rest : List T) → starts (next (f x)) rest ≡ false → starts (more x) rest ≡ false) → IsReader (mapped f r) (Mapped f L) (Mapped f W) next
+pub mapped_reads : {T A B : Type 0} (f : A → B) (r : Reader T SyntaxFault A) (L W : A → List T → Type 0) (more : A → T → Bool) (next : B → T → Bool) → IsReader r L W more → ((x : A) (rest : List T) → starts (next (f x)) rest ≡ false → starts (more x) rest ≡ false) → IsReader (mapped f r) (Mapped f L) (Mapped f W) next
 mapped_reads {T} {A} {B} f r L W more next ir down = record {
   told = λ ts. told ts (r ts) (ir.told ts);
   wide = λ b s h. (h.0, ir.wide h.0 s h.1, h.2);
   complete = λ b s rest h e. ap (λ q. after q (λ a ts. Ok (f a, ts))) (ir.complete h.0 s rest h.1 (down h.0 rest (ap (λ b. starts (next b) rest) (sym h.2) ∙ e))) ∙ ap (λ b. Ok (b, rest)) (sym h.2);
 }
   where
-    told : (ts : List T) (q : Read T Kind A) → Told r L W ts q → Told (mapped f r) (Mapped f L) (Mapped f W) ts (after q (λ a ts. Ok (f a, ts)))
+    told : (ts : List T) (q : Read T SyntaxFault A) → Told r L W ts q → Told (mapped f r) (Mapped f L) (Mapped f W) ts (after q (λ a ts. Ok (f a, ts)))
     told ts (Ok p) t = (t.0, t.1, (p.0, t.2, refl), λ rest h. ap (λ q. after q (λ a ts. Ok (f a, ts))) (t.3 rest h))
     told ts (Err e) t = (t.0, t.1, (t.2.0, f t.2.1, (t.2.1, t.2.2, refl)), λ rest h. ap (λ q. after q (λ a ts. Ok (f a, ts))) (t.3 rest h))
 
@@ -372,15 +372,15 @@ many_follows L test more wide o a w [] s rest h e = ap (λ l. starts more (l ++ 
 many_follows L test more wide o a w (x ∷ xs) s rest h e = ap (λ l. starts more (l ++ rest)) h.4 ∙ ap (starts more) (append_assoc h.0 h.1 rest) ∙ a (h.0 ++ (h.1 ++ rest)) (o x h.0 (h.1 ++ rest) h.2)
 
 -- a loop's step: what was read so far goes on
-pub in_front_more : {T A : Type 0} (xs : List A) (x : A) (q : Read T Kind (List A)) → in_front xs (with_front x q) ≡ in_front (xs ++ x ∷ []) q
+pub in_front_more : {T A : Type 0} (xs : List A) (x : A) (q : Read T SyntaxFault (List A)) → in_front xs (with_front x q) ≡ in_front (xs ++ x ∷ []) q
 in_front_more xs x (Ok p) = ap (λ l. Ok (l, p.1)) (sym (append_assoc xs (x ∷ []) p.0))
 in_front_more xs x (Err e) = refl
 
-pub loop_more : {T A : Type 0} (whole q next : Read T Kind (List A)) (xs : List A) (x : A) → whole ≡ in_front xs q → q ≡ with_front x next → whole ≡ in_front (xs ++ x ∷ []) next
+pub loop_more : {T A : Type 0} (whole q next : Read T SyntaxFault (List A)) (xs : List A) (x : A) → whole ≡ in_front xs q → q ≡ with_front x next → whole ≡ in_front (xs ++ x ∷ []) next
 loop_more whole q next xs x e f = e ∙ ap (in_front xs) f ∙ in_front_more xs x next
 
-pub loop_end : {T A : Type 0} (whole q : Read T Kind (List A)) (xs : List A) (ts : List T) → whole ≡ in_front xs q → q ≡ Ok ([], ts) → whole ≡ Ok (xs, ts)
+pub loop_end : {T A : Type 0} (whole q : Read T SyntaxFault (List A)) (xs : List A) (ts : List T) → whole ≡ in_front xs q → q ≡ Ok ([], ts) → whole ≡ Ok (xs, ts)
 loop_end whole q xs ts e f = e ∙ ap (in_front xs) f ∙ ap (λ l. Ok (l, ts)) (append-nil xs)
 
-pub loop_fault : {T A : Type 0} (whole q : Read T Kind (List A)) (xs : List A) (x : Kind × List T) → whole ≡ in_front xs q → q ≡ Err x → whole ≡ Err x
+pub loop_fault : {T A : Type 0} (whole q : Read T SyntaxFault (List A)) (xs : List A) (x : SyntaxFault × List T) → whole ≡ in_front xs q → q ≡ Err x → whole ≡ Err x
 loop_fault whole q xs x e f = e ∙ ap (in_front xs) f

@@ -1,6 +1,6 @@
 -- Items behind separators, and maybe a separator behind the last.
 use Rattle.std.proofs.Common.{◌≡◌, ℕ, zero, suc, ◌≤◌, List, [], ◌∷◌, ◌++◌, length, Bool, true, false, cond, Ok, Err, ◌⊎◌, inl, inr, refl, sym, ap, ◌∙◌, subst, arith, append_assoc, length-append, append-nil}
-use Rattle.scad_grammar.specs.declared.SyntaxFault.{SyntaxFault as Kind}
+use Rattle.scad_grammar.specs.declared.SyntaxFault.{SyntaxFault}
 use Rattle.scad_grammar.specs.Reading.{Read, Reader, after, starts, with_front, trailing_times, trailing}
 use Rattle.scad_grammar.proofs.Readers.{SameHead, Told, IsReader, One, Opens, seen, same_behind, same_start}
 
@@ -8,20 +8,20 @@ abbrev pub Trailing : {T A : Type 0} → (T → Bool) → (A → List T → Type
 Trailing {T} mark L [] s = (s ≡ []) ⊎ ((t : T) × One mark t s)
 Trailing {T} mark L (x ∷ xs) s = (t : T) × (p : List T) × (q : List T) × (mark t ≡ true) × L x p × Trailing mark L xs q × (s ≡ t ∷ (p ++ q))
 
-module _ {T A : Type 0} (mark go : T → Bool) (r : Reader T Kind A) (L W : A → List T → Type 0) (more : A → T → Bool) (wide : T → Bool) (ir : IsReader r L W more)
+module _ {T A : Type 0} (mark go : T → Bool) (r : Reader T SyntaxFault A) (L W : A → List T → Type 0) (more : A → T → Bool) (wide : T → Bool) (ir : IsReader r L W more)
     (first : Opens L go)
     (apart : (x : A) (rest : List T) → starts mark rest ≡ true → starts (more x) rest ≡ false)
     (no_more : (x : A) (rest : List T) → starts wide rest ≡ false → starts (more x) rest ≡ false)
     (no_mark : (rest : List T) → starts wide rest ≡ false → starts mark rest ≡ false)
     (no_go : (rest : List T) → starts wide rest ≡ false → starts go rest ≡ false) where
-  shrinks : (ts : List T) (q : Read T Kind A) → Told r L W ts q → (p : A × List T) → q ≡ Ok p → length p.1 ≤ length ts
+  shrinks : (ts : List T) (q : Read T SyntaxFault A) → Told r L W ts q → (p : A × List T) → q ≡ Ok p → length p.1 ≤ length ts
   shrinks ts (Ok q) t p e =
       let same : q.1 ≡ p.1 = ap (λ (p : A × List T). p.1) (let f : q ≡ p = cc in f) in
       omega (arith, ap length t.1, length-append t.0 q.1, ap length same)
   shrinks ts (Err x) t p e = absurd (cc)
 
   enough_after : (n m : ℕ) → ((k : ℕ) (us : List T) → length us ≤ n → length us ≤ k → trailing_times n mark go r us ≡ trailing_times k mark go r us)
-      → (ts : List T) → length ts ≤ n → length ts ≤ m → (q : Read T Kind A) → r ts ≡ q → after q (λ x us. with_front x (trailing_times n mark go r us)) ≡ after q (λ x us. with_front x (trailing_times m mark go r us))
+      → (ts : List T) → length ts ≤ n → length ts ≤ m → (q : Read T SyntaxFault A) → r ts ≡ q → after q (λ x us. with_front x (trailing_times n mark go r us)) ≡ after q (λ x us. with_front x (trailing_times m mark go r us))
   enough_after n m same ts a b (Ok p) e =
       let less : length p.1 ≤ length ts = shrinks ts (r ts) (ir.told ts) p e in
       ap (with_front p.0) (same m p.1 (omega arith) (omega arith))
@@ -37,7 +37,7 @@ module _ {T A : Type 0} (mark go : T → Bool) (r : Reader T Kind A) (L W : A �
   enough (suc n) (suc m) [] a b = refl
   enough (suc n) (suc m) (t ∷ ts) a b = ap (λ q. cond (mark t) (cond (starts go ts) q (Ok ([], ts))) (Ok ([], t ∷ ts))) (enough_after n m (enough n) ts (omega arith) (omega arith) (r ts) refl)
 
-  step_after : (n : ℕ) (ts : List T) → length ts ≤ n → (q : Read T Kind A) → r ts ≡ q → after q (λ x us. with_front x (trailing_times n mark go r us)) ≡ after q (λ x us. with_front x (trailing mark go r us))
+  step_after : (n : ℕ) (ts : List T) → length ts ≤ n → (q : Read T SyntaxFault A) → r ts ≡ q → after q (λ x us. with_front x (trailing_times n mark go r us)) ≡ after q (λ x us. with_front x (trailing mark go r us))
   unfolding trailing
   step_after n ts a (Ok p) e =
       let less : length p.1 ≤ length ts = shrinks ts (r ts) (ir.told ts) p e in
@@ -66,13 +66,13 @@ module _ {T A : Type 0} (mark go : T → Bool) (r : Reader T Kind A) (L W : A �
   pub trailing_more : (t : T) (ts : List T) (x : A) (us : List T) → mark t ≡ true → starts go ts ≡ true → r ts ≡ Ok (x, us) → trailing mark go r (t ∷ ts) ≡ with_front x (trailing mark go r us)
   trailing_more t ts x us e g h = taken t ts e g ∙ ap (λ q. after q (λ x us. with_front x (trailing mark go r us))) h
 
-  pub trailing_fault : (t : T) (ts : List T) (x : Kind × List T) → mark t ≡ true → starts go ts ≡ true → r ts ≡ Err x → trailing mark go r (t ∷ ts) ≡ Err x
+  pub trailing_fault : (t : T) (ts : List T) (x : SyntaxFault × List T) → mark t ≡ true → starts go ts ≡ true → r ts ≡ Err x → trailing mark go r (t ∷ ts) ≡ Err x
   trailing_fault t ts x e g h = taken t ts e g ∙ ap (λ q. after q (λ x us. with_front x (trailing mark go r us))) h
 
   start_of : (s a b : List T) → SameHead a b → starts go (s ++ a) ≡ true → starts go (s ++ b) ≡ true
   start_of s a b h e = same_start go (s ++ a) (s ++ b) (same_behind s a b h) ∙ e
 
-  told_rest : (t : T) (ts : List T) (x : A) (us : List T) → mark t ≡ true → starts go ts ≡ true → Told r L W ts (Ok (x, us)) → (q : Read T Kind (List A)) → Told (trailing mark go r) (Trailing mark L) (Trailing mark W) us q
+  told_rest : (t : T) (ts : List T) (x : A) (us : List T) → mark t ≡ true → starts go ts ≡ true → Told r L W ts (Ok (x, us)) → (q : Read T SyntaxFault (List A)) → Told (trailing mark go r) (Trailing mark L) (Trailing mark W) us q
       → Told (trailing mark go r) (Trailing mark L) (Trailing mark W) (t ∷ ts) (with_front x q)
   told_rest t ts x us m g k (Ok p) u = (
     t ∷ (k.0 ++ u.0),
@@ -96,7 +96,7 @@ module _ {T A : Type 0} (mark go : T → Bool) (r : Reader T Kind A) (L W : A �
   )
 
   told_item : (n : ℕ) → ((us : List T) → length us ≤ n → Told (trailing mark go r) (Trailing mark L) (Trailing mark W) us (trailing mark go r us)) → (t : T) (ts : List T) → length ts ≤ n → mark t ≡ true → starts go ts ≡ true
-      → (q : Read T Kind A) → r ts ≡ q → Told r L W ts q → Told (trailing mark go r) (Trailing mark L) (Trailing mark W) (t ∷ ts) (after q (λ x us. with_front x (trailing mark go r us)))
+      → (q : Read T SyntaxFault A) → r ts ≡ q → Told r L W ts q → Told (trailing mark go r) (Trailing mark L) (Trailing mark W) (t ∷ ts) (after q (λ x us. with_front x (trailing mark go r us)))
   told_item n ih t ts a m g (Ok p) f k =
       let less : length p.1 ≤ length ts = shrinks ts (r ts) (ir.told ts) p f in
       told_rest t ts p.0 p.1 m g k (trailing mark go r p.1) (ih p.1 (omega arith))
