@@ -20,7 +20,7 @@ names_of = map name_of
 -- the number of the first of these names
 abbrev pub first_named : List (List ℕ) → List ℕ → Option ℕ
 first_named [] name = None
-first_named (n ∷ ns) name = if bytes_eq n name then Some zero else next (first_named ns name)
+first_named (known ∷ others) name = if bytes_eq known name then Some zero else next (first_named others name)
 
 -- The parameter, by the parameters' names, that an argument takes after so many positional ones, and how many there are
 -- then. A special argument takes none.
@@ -60,7 +60,7 @@ pub data Taker : Type 0 where
 -- a parameter that was given nothing yet
 abbrev pub unless_filled : {A : Type 0} → List (Option A) → Option ℕ → Option Taker
 unless_filled slots None = None
-unless_filled slots (Some k) = if is_some (slice_index_or slots k None) then None else Some (to_parameter k)
+unless_filled slots (Some number) = if is_some (slice_index_or slots number None) then None else Some (to_parameter number)
 
 -- what takes an argument after so many positional ones, among parameters of these names: a surplus, an unknown and a
 -- twice given one have no taker
@@ -70,7 +70,7 @@ taker_of names positional given arg = unless_filled given.slots (taken_by names 
 
 -- with one argument more
 abbrev pub with_argument : {A : Type 0} → Given A → Taker → A → Given A
-with_argument given (to_parameter k) x = record { slots = slice_set given.slots k (Some x); specials = given.specials }
+with_argument given (to_parameter number) x = record { slots = slice_set given.slots number (Some x); specials = given.specials }
 with_argument given (to_special name) x = record { slots = given.slots; specials = (name, x) ∷ given.specials }
 
 -- goes on, or stops at an argument's place
@@ -102,5 +102,5 @@ MeetsMatching (Err NoMemory) out = Unit {0}
 
 -- a number after so many others
 abbrev pub later : ℕ → Option ℕ → Option ℕ
-later i (Some k) = Some (i + k)
-later i None = None
+later count (Some number) = Some (count + number)
+later count None = None

@@ -6,12 +6,12 @@ use Rattle.scad_arguments.specs.declared.parameters.Destination.TheVariants.{Par
 
 -- names with their numbers, from a number on
 abbrev pub numbered_from : ℕ → List (List ℕ) → Pairs ℕ
-numbered_from i [] = []
-numbered_from i (n ∷ ns) = (n, i) ∷ numbered_from (i + 1) ns
+numbered_from number [] = []
+numbered_from number (name ∷ names) = (name, number) ∷ numbered_from (number + 1) names
 
 -- the names of pairs
 abbrev pub names_of_pairs : {A : Type 0} → Pairs A → List (List ℕ)
-names_of_pairs pairs = map (λ p. p.0) pairs
+names_of_pairs pairs = map (λ pair. pair.0) pairs
 
 -- special names behind an argument that something takes
 abbrev pub taken_after : List (List ℕ) → Destination → List (List ℕ)

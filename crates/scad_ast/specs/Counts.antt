@@ -2,7 +2,8 @@
 use Rattle.std.specs.Prelude.{ℕ, suc, ◌+◌, List}
 use Rattle.scad_ast.specs.Terms.{StatementTerm, EmptyStatement, BlockStatement, AssignmentTerm, SpecialAssignmentTerm, ModuleTerm, FunctionTerm, InstanceStatement, StatementTerms, no_statements, and_statement, InstanceTerm, AnInstance, CoreTerm, IfTerm, IfElseTerm, ForTerm, IntersectionForTerm, ModuleCallTerm, BodyTerm, EmptyBody, BlockBody, InstanceBody, statements_from}
 
--- A body is a block, and so is the expression of a function; a bare block is none.
+-- How many begin in a statement, and in each part of one. A body is a block, and so is the expression of a function;
+-- a bare block is none.
 abbrev mutual
   pub begun_by : StatementTerm → ℕ
   begun_by (EmptyStatement at) = 0
@@ -15,7 +16,7 @@ abbrev mutual
 
   pub begun_in : StatementTerms → ℕ
   begun_in no_statements = 0
-  begun_in (and_statement s rest) = begun_by s + begun_in rest
+  begun_in (and_statement first rest) = begun_by first + begun_in rest
 
   pub begun_by_instance : InstanceTerm → ℕ
   begun_by_instance (AnInstance at marks core) = begun_by_core core

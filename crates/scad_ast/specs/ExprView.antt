@@ -19,7 +19,7 @@ use Rattle.scad_ast.specs.Terms.{Term, NumberTerm, TextTerm, TruthTerm, UndefTer
 abbrev pub Form : Type 0
 Form = Place → Term
 
--- one layer, with its parts seen already
+-- one layer of an expression, and of each of its parts, with what stands in it seen already
 abbrev pub expr_step : Expr-F ArgTerm Term SuffixTerm (List ArgTerm) Form Form Form (List Term) LinkTerm (List LinkTerm) Form Form Form (List SuffixTerm) → Term
 expr_step (Number at n) = NumberTerm at n
 expr_step (Text at bytes) = TextTerm at bytes
@@ -39,38 +39,38 @@ expr_step (ChainIn at chain) = chain.value at
 expr_step (ChoiceIn at choice) = choice.value at
 
 abbrev pub call_step : Call-F ArgTerm Term SuffixTerm (List ArgTerm) Form Form Form (List Term) LinkTerm (List LinkTerm) Form Form Form (List SuffixTerm) → Form
-call_step c at = CallTerm at c.name (args_from c.args)
+call_step call at = CallTerm at call.name (args_from call.args)
 
 abbrev pub range_step : Range-F ArgTerm Term SuffixTerm (List ArgTerm) Form Form Form (List Term) LinkTerm (List LinkTerm) Form Form Form (List SuffixTerm) → Form
-range_step r at = RangeTerm at r.from r.to
+range_step range at = RangeTerm at range.from range.to
 
 abbrev pub stepped_range_step : SteppedRange-F ArgTerm Term SuffixTerm (List ArgTerm) Form Form Form (List Term) LinkTerm (List LinkTerm) Form Form Form (List SuffixTerm) → Form
-stepped_range_step r at = SteppedRangeTerm at r.from r.step r.to
+stepped_range_step range at = SteppedRangeTerm at range.from range.step range.to
 
 abbrev pub postfix_step : Postfix-F ArgTerm Term SuffixTerm (List ArgTerm) Form Form Form (List Term) LinkTerm (List LinkTerm) Form Form Form (List SuffixTerm) → Form
-postfix_step p at = PostfixTerm at p.of (suffixes_from p.suffixes)
+postfix_step postfix at = PostfixTerm at postfix.of (suffixes_from postfix.suffixes)
 
 abbrev pub chain_step : Chain-F ArgTerm Term SuffixTerm (List ArgTerm) Form Form Form (List Term) LinkTerm (List LinkTerm) Form Form Form (List SuffixTerm) → Form
-chain_step c at = ChainTerm at c.first (links_from c.links)
+chain_step chain at = ChainTerm at chain.first (links_from chain.links)
 
 abbrev pub choice_step : Choice-F ArgTerm Term SuffixTerm (List ArgTerm) Form Form Form (List Term) LinkTerm (List LinkTerm) Form Form Form (List SuffixTerm) → Form
-choice_step c at = ChoiceTerm at c.test c.mark c.yes c.no
+choice_step choice at = ChoiceTerm at choice.test choice.mark choice.yes choice.no
 
 abbrev pub exprs_step : Exprs-F ArgTerm Term SuffixTerm (List ArgTerm) Form Form Form (List Term) LinkTerm (List LinkTerm) Form Form Form (List SuffixTerm) → List Term
-exprs_step es = es.items.items
+exprs_step exprs = exprs.items.items
 
 abbrev pub link_step : Link-F ArgTerm Term SuffixTerm (List ArgTerm) Form Form Form (List Term) LinkTerm (List LinkTerm) Form Form Form (List SuffixTerm) → LinkTerm
-link_step l = record { op = l.op; at = l.place; right = l.right }
+link_step link = record { op = link.op; at = link.place; right = link.right }
 
 abbrev pub links_step : Links-F ArgTerm Term SuffixTerm (List ArgTerm) Form Form Form (List Term) LinkTerm (List LinkTerm) Form Form Form (List SuffixTerm) → List LinkTerm
-links_step ls = ls.first ∷ ls.more.items
+links_step links = links.first ∷ links.more.items
 
 abbrev pub suffix_step : Suffix-F ArgTerm Term SuffixTerm (List ArgTerm) Form Form Form (List Term) LinkTerm (List LinkTerm) Form Form Form (List SuffixTerm) → SuffixTerm
 suffix_step (Index at index) = IndexTerm at index
 suffix_step (Member at name name_at) = MemberTerm at name name_at
 
 abbrev pub suffixes_step : Suffixes-F ArgTerm Term SuffixTerm (List ArgTerm) Form Form Form (List Term) LinkTerm (List LinkTerm) Form Form Form (List SuffixTerm) → List SuffixTerm
-suffixes_step ss = ss.first ∷ ss.more.items
+suffixes_step suffixes = suffixes.first ∷ suffixes.more.items
 
 abbrev pub arg_step : Arg-F ArgTerm Term SuffixTerm (List ArgTerm) Form Form Form (List Term) LinkTerm (List LinkTerm) Form Form Form (List SuffixTerm) → ArgTerm
 arg_step (Named at name value) = NamedTerm at name value
@@ -78,8 +78,9 @@ arg_step (SpecialArg at name value) = SpecialArgTerm at name value
 arg_step (Positional value) = PositionalTerm value
 
 abbrev pub args_step : Args-F ArgTerm Term SuffixTerm (List ArgTerm) Form Form Form (List Term) LinkTerm (List LinkTerm) Form Form Form (List SuffixTerm) → List ArgTerm
-args_step as_ = as_.items.items
+args_step args = args.items.items
 
+-- what an expression stands for, and each of its parts
 abbrev pub term_of : Expr → Term
 term_of = fold-Expr ArgTerm Term SuffixTerm (List ArgTerm) Form Form Form (List Term) LinkTerm (List LinkTerm) Form Form Form (List SuffixTerm) arg_step expr_step suffix_step args_step call_step chain_step choice_step exprs_step link_step links_step postfix_step range_step stepped_range_step suffixes_step
 

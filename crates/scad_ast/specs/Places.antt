@@ -3,8 +3,9 @@ use Rattle.std.specs.Prelude.{List, [], ◌∷◌, ◌++◌, flat_map, Contains}
 use Rattle.text_place.specs.declared.fault.Place.{Place}
 use Rattle.scad_ast.specs.Terms.{Term, NumberTerm, TextTerm, TruthTerm, UndefTerm, ChildCountTerm, SpecialTerm, NameTerm, CallTerm, ParenTerm, ListTerm, RangeTerm, SteppedRangeTerm, PostfixTerm, UnaryTerm, ChainTerm, ChoiceTerm, Terms, no_terms, and_term, ArgTerms, no_args, and_named, and_special, and_positional, SuffixTerms, no_suffixes, and_index, and_member, LinkTerms, no_links, and_link, ParamTerm, PlainTerm, DefaultTerm, BinderTerm, MarkTerm, StatementTerm, EmptyStatement, BlockStatement, AssignmentTerm, SpecialAssignmentTerm, ModuleTerm, FunctionTerm, InstanceStatement, StatementTerms, no_statements, and_statement, InstanceTerm, AnInstance, CoreTerm, IfTerm, IfElseTerm, ForTerm, IntersectionForTerm, ModuleCallTerm, BodyTerm, EmptyBody, BlockBody, InstanceBody, args_from, statements_from}
 
--- those of an expression: of its first token and of the first token of each expression in it, of named arguments and
--- members, and of operators, `?`, `.` and the `[` of indices; the brackets of calls' arguments stand nowhere in it
+-- those of an expression, and of what stands in one: of its first token and of the first token of each expression in it,
+-- of named arguments and members, and of operators, `?`, `.` and the `[` of indices; the brackets of calls' arguments
+-- stand nowhere in it
 abbrev mutual
   pub places_of_term : Term → List Place
   places_of_term (NumberTerm at n) = at ∷ []
@@ -50,13 +51,13 @@ places_of_param (PlainTerm at name) = at ∷ []
 places_of_param (DefaultTerm at name value) = at ∷ places_of_term value
 
 abbrev pub places_of_binder : BinderTerm → List Place
-places_of_binder b = b.at ∷ places_of_term b.values
+places_of_binder binder = binder.at ∷ places_of_term binder.values
 
 abbrev pub places_of_mark : MarkTerm → List Place
-places_of_mark m = m.at ∷ []
+places_of_mark mark = mark.at ∷ []
 
--- of statements: of each form's first token, of the name of a module and of a function, and of the parameters, loops'
--- variables, modifiers, expressions, statements and bodies in it
+-- of statements, and of their parts: of each form's first token, of the name of a module and of a function, and of the
+-- parameters, loops' variables, modifiers, expressions, statements and bodies in it
 abbrev mutual
   pub places_of_statement : StatementTerm → List Place
   places_of_statement (EmptyStatement at) = at ∷ []
@@ -89,6 +90,7 @@ abbrev mutual
   places_of_body (BlockBody at statements) = at ∷ places_of_statements statements
   places_of_body (InstanceBody instance) = places_of_instance instance
 
+-- those of a whole program
 abbrev pub places_of_program : List StatementTerm → List Place
 places_of_program program = places_of_statements (statements_from program)
 

@@ -4,5 +4,6 @@ use Rattle.scad_ast.specs.declared.program.Program.{Program}
 use Rattle.scad_ast.specs.Terms.{StatementTerm}
 use Rattle.scad_ast.specs.StatementView.{statements_of}
 
+-- its statements in order
 abbrev pub program_of : Program → List StatementTerm
-program_of p = statements_of p.statements
+program_of program = statements_of program.statements

@@ -17,30 +17,31 @@ use Rattle.scad_ast.specs.declared.statement.Body.TheFolds.{fold-Statement, fold
 use Rattle.scad_ast.specs.ExprView.{term_of, args_of}
 use Rattle.scad_ast.specs.Terms.{ParamTerm, PlainTerm, DefaultTerm, BinderTerm, MarkTerm, StatementTerm, EmptyStatement, BlockStatement, AssignmentTerm, SpecialAssignmentTerm, ModuleTerm, FunctionTerm, InstanceStatement, InstanceTerm, AnInstance, CoreTerm, IfTerm, IfElseTerm, ForTerm, IntersectionForTerm, ModuleCallTerm, BodyTerm, EmptyBody, BlockBody, InstanceBody, statements_from}
 
+-- what a parameter, a variable of a loop and a modifier stand for, and lists of them
 abbrev pub param_of : Param → ParamTerm
 param_of (Plain at name) = PlainTerm at name
 param_of (WithDefault at name value) = DefaultTerm at name (term_of value)
 
 abbrev pub params_of : Params → List ParamTerm
-params_of ps = map param_of ps.items.items
+params_of params = map param_of params.items.items
 
 abbrev pub binder_of : Binder → BinderTerm
-binder_of b = record { at = b.place; name = b.name; values = term_of b.values }
+binder_of binder = record { at = binder.place; name = binder.name; values = term_of binder.values }
 
 abbrev pub binders_of : Binders → List BinderTerm
-binders_of bs = map binder_of bs.items.items
+binders_of binders = map binder_of binders.items.items
 
 abbrev pub mark_of : PlacedModifier → MarkTerm
-mark_of m = record { at = m.place; modifier = m.modifier }
+mark_of placed = record { at = placed.place; modifier = placed.modifier }
 
 abbrev pub marks_of : PlacedModifiers → List MarkTerm
-marks_of ms = map mark_of ms.items.items
+marks_of marks = map mark_of marks.items.items
 
--- one layer, with its parts seen already
+-- one layer of a body, an instance or a statement, with what stands in it seen already
 abbrev pub body_step : Body-F BodyTerm CoreTerm StatementTerm InstanceTerm (List StatementTerm) → BodyTerm
 body_step (Semicolon at) = EmptyBody at
-body_step (Braces at ss) = BlockBody at (statements_from ss)
-body_step (Single i) = InstanceBody i.value
+body_step (Braces at statements) = BlockBody at (statements_from statements)
+body_step (Single instance) = InstanceBody instance.value
 
 abbrev pub core_step : Core-F BodyTerm CoreTerm StatementTerm InstanceTerm (List StatementTerm) → CoreTerm
 core_step (If at test body) = IfTerm at (term_of test) body.value
@@ -50,20 +51,21 @@ core_step (IntersectionFor at binders body) = IntersectionForTerm at (binders_of
 core_step (Call at name args body) = ModuleCallTerm at name (args_of args) body.value
 
 abbrev pub instance_step : Instance-F BodyTerm CoreTerm StatementTerm InstanceTerm (List StatementTerm) → InstanceTerm
-instance_step i = AnInstance i.place (marks_of i.marks) i.core
+instance_step instance = AnInstance instance.place (marks_of instance.marks) instance.core
 
 abbrev pub statement_step : Statement-F BodyTerm CoreTerm StatementTerm InstanceTerm (List StatementTerm) → StatementTerm
 statement_step (Empty at) = EmptyStatement at
-statement_step (Block at ss) = BlockStatement at (statements_from ss)
+statement_step (Block at statements) = BlockStatement at (statements_from statements)
 statement_step (Assignment at name value) = AssignmentTerm at name (term_of value)
 statement_step (SpecialAssignment at name value) = SpecialAssignmentTerm at name (term_of value)
 statement_step (Module at name name_at params body) = ModuleTerm at name name_at (params_of params) body
 statement_step (Function at name name_at params value) = FunctionTerm at name name_at (params_of params) (term_of value)
-statement_step (Instantiation i) = InstanceStatement i
+statement_step (Instantiation instance) = InstanceStatement instance
 
 abbrev pub statements_step : Statements-F BodyTerm CoreTerm StatementTerm InstanceTerm (List StatementTerm) → List StatementTerm
-statements_step ss = ss.items.items
+statements_step statements = statements.items.items
 
+-- what a body, an instance, a statement and a list of statements stand for
 abbrev pub body_of : Body → BodyTerm
 body_of = fold-Body BodyTerm CoreTerm StatementTerm InstanceTerm (List StatementTerm) body_step core_step statement_step instance_step statements_step
 

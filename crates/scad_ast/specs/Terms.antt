@@ -26,21 +26,25 @@ mutual
     ChainTerm : (at : Place) → (first : Term) → (rest : LinkTerms) → Term
     ChoiceTerm : (at : Place) → (test : Term) → (mark : Place) → (yes no : Term) → Term
 
+  -- expressions in order
   pub data Terms : Type 0 where
     no_terms : Terms
     and_term : (first : Term) → (rest : Terms) → Terms
 
+  -- arguments in order
   pub data ArgTerms : Type 0 where
     no_args : ArgTerms
     and_named : (at : Place) → (name : List ℕ) → (value : Term) → (rest : ArgTerms) → ArgTerms
     and_special : (at : Place) → (name : List ℕ) → (value : Term) → (rest : ArgTerms) → ArgTerms
     and_positional : (value : Term) → (rest : ArgTerms) → ArgTerms
 
+  -- indexes and members behind an expression, in order
   pub data SuffixTerms : Type 0 where
     no_suffixes : SuffixTerms
     and_index : (at : Place) → (index : Term) → (rest : SuffixTerms) → SuffixTerms
     and_member : (at : Place) → (name : List ℕ) → (name_at : Place) → (rest : SuffixTerms) → SuffixTerms
 
+  -- the operators of a chain in order, each with its right side
   pub data LinkTerms : Type 0 where
     no_links : LinkTerms
     and_link : (op : BinaryOp) → (at : Place) → (right : Term) → (rest : LinkTerms) → LinkTerms
@@ -51,28 +55,30 @@ pub record LinkTerm : Type 0 where
   pub at : Place
   pub right : Term
 
+-- an index or a member behind an expression
 pub data SuffixTerm : Type 0 where
   IndexTerm : (at : Place) → (index : Term) → SuffixTerm
   MemberTerm : (at : Place) → (name : List ℕ) → (name_at : Place) → SuffixTerm
 
+-- an argument with a name, with a special name, or with none
 pub data ArgTerm : Type 0 where
   NamedTerm : (at : Place) → (name : List ℕ) → (value : Term) → ArgTerm
   SpecialArgTerm : (at : Place) → (name : List ℕ) → (value : Term) → ArgTerm
   PositionalTerm : (value : Term) → ArgTerm
 
--- lists of these
+-- lists of expressions, of operators, of indexes and members, and of arguments, as an expression holds them
 abbrev pub terms_from : List Term → Terms
 terms_from [] = no_terms
-terms_from (t ∷ ts) = and_term t (terms_from ts)
+terms_from (term ∷ terms) = and_term term (terms_from terms)
 
 abbrev pub links_from : List LinkTerm → LinkTerms
 links_from [] = no_links
-links_from (l ∷ ls) = and_link l.op l.at l.right (links_from ls)
+links_from (link ∷ links) = and_link link.op link.at link.right (links_from links)
 
 abbrev pub suffixes_from : List SuffixTerm → SuffixTerms
 suffixes_from [] = no_suffixes
-suffixes_from (IndexTerm at index ∷ ss) = and_index at index (suffixes_from ss)
-suffixes_from (MemberTerm at name name_at ∷ ss) = and_member at name name_at (suffixes_from ss)
+suffixes_from (IndexTerm at index ∷ rest) = and_index at index (suffixes_from rest)
+suffixes_from (MemberTerm at name name_at ∷ rest) = and_member at name name_at (suffixes_from rest)
 
 abbrev pub args_from : List ArgTerm → ArgTerms
 args_from [] = no_args
@@ -99,16 +105,18 @@ place_of (UnaryTerm at op of) = at
 place_of (ChainTerm at first rest) = at
 place_of (ChoiceTerm at test mark one other) = at
 
--- a parameter, and a variable of a loop
+-- a parameter, without a default or with one
 pub data ParamTerm : Type 0 where
   PlainTerm : (at : Place) → (name : List ℕ) → ParamTerm
   DefaultTerm : (at : Place) → (name : List ℕ) → (value : Term) → ParamTerm
 
+-- a variable of a loop, and what it goes over
 pub record BinderTerm : Type 0 where
   pub at : Place
   pub name : List ℕ
   pub values : Term
 
+-- a modifier before an instance
 pub record MarkTerm : Type 0 where
   pub at : Place
   pub modifier : Modifier
@@ -124,13 +132,16 @@ mutual
     FunctionTerm : (at : Place) → (name : List ℕ) → (name_at : Place) → (params : List ParamTerm) → (value : Term) → StatementTerm
     InstanceStatement : (instance : InstanceTerm) → StatementTerm
 
+  -- statements in order
   pub data StatementTerms : Type 0 where
     no_statements : StatementTerms
     and_statement : (first : StatementTerm) → (rest : StatementTerms) → StatementTerms
 
+  -- an instance: its modifiers, and what stands behind them
   pub data InstanceTerm : Type 0 where
     AnInstance : (at : Place) → (marks : List MarkTerm) → (core : CoreTerm) → InstanceTerm
 
+  -- an instance without its modifiers: a choice, a loop or a call of a module
   pub data CoreTerm : Type 0 where
     IfTerm : (at : Place) → (test : Term) → (body : BodyTerm) → CoreTerm
     IfElseTerm : (at : Place) → (test : Term) → (body other : BodyTerm) → CoreTerm
@@ -138,27 +149,29 @@ mutual
     IntersectionForTerm : (at : Place) → (binders : List BinderTerm) → (body : BodyTerm) → CoreTerm
     ModuleCallTerm : (at : Place) → (name : List ℕ) → (args : List ArgTerm) → (body : BodyTerm) → CoreTerm
 
+  -- a body: none, statements in braces, or one instance
   pub data BodyTerm : Type 0 where
     EmptyBody : (at : Place) → BodyTerm
     BlockBody : (at : Place) → (statements : StatementTerms) → BodyTerm
     InstanceBody : (instance : InstanceTerm) → BodyTerm
 
+-- a list of statements, as a block holds it
 abbrev pub statements_from : List StatementTerm → StatementTerms
 statements_from [] = no_statements
-statements_from (s ∷ ss) = and_statement s (statements_from ss)
+statements_from (statement ∷ statements) = and_statement statement (statements_from statements)
 
--- the place of the first token
+-- the place of the first token of an instance, a statement, what stands behind modifiers, and a body
 abbrev pub place_of_instance : InstanceTerm → Place
 place_of_instance (AnInstance at marks core) = at
 
 abbrev pub place_of_statement : StatementTerm → Place
 place_of_statement (EmptyStatement at) = at
-place_of_statement (BlockStatement at ss) = at
+place_of_statement (BlockStatement at content) = at
 place_of_statement (AssignmentTerm at name value) = at
 place_of_statement (SpecialAssignmentTerm at name value) = at
 place_of_statement (ModuleTerm at name name_at params body) = at
 place_of_statement (FunctionTerm at name name_at params value) = at
-place_of_statement (InstanceStatement i) = place_of_instance i
+place_of_statement (InstanceStatement instance) = place_of_instance instance
 
 abbrev pub place_of_core : CoreTerm → Place
 place_of_core (IfTerm at test body) = at
@@ -169,5 +182,5 @@ place_of_core (ModuleCallTerm at name args body) = at
 
 abbrev pub place_of_body : BodyTerm → Place
 place_of_body (EmptyBody at) = at
-place_of_body (BlockBody at ss) = at
-place_of_body (InstanceBody i) = place_of_instance i
+place_of_body (BlockBody at content) = at
+place_of_body (InstanceBody instance) = place_of_instance instance

@@ -43,7 +43,7 @@ abbrev mutual
   -- those of statements one after another
   pub beginnings_in : StatementTerms → List Beginning
   beginnings_in no_statements = []
-  beginnings_in (and_statement s rest) = beginnings_of s ++ beginnings_in rest
+  beginnings_in (and_statement statement rest) = beginnings_of statement ++ beginnings_in rest
 
   -- those of an instance, whose modifiers begin nothing
   pub beginnings_of_instance : InstanceTerm → List Beginning
@@ -72,15 +72,15 @@ beginnings_of_program program = a_block (statements_from program) ∷ beginnings
 abbrev pub functions_among : List Beginning → List SourceFunction
 functions_among [] = []
 functions_among (a_block inner ∷ beginnings) = functions_among beginnings
-functions_among (a_function f ∷ beginnings) = f ∷ functions_among beginnings
-functions_among (a_module d ∷ beginnings) = functions_among beginnings
+functions_among (a_function function ∷ beginnings) = function ∷ functions_among beginnings
+functions_among (a_module defined ∷ beginnings) = functions_among beginnings
 
 -- the modules that begin in a text, in order
 abbrev pub modules_among : List Beginning → List SourceModule
 modules_among [] = []
 modules_among (a_block inner ∷ beginnings) = modules_among beginnings
-modules_among (a_function f ∷ beginnings) = modules_among beginnings
-modules_among (a_module d ∷ beginnings) = d ∷ modules_among beginnings
+modules_among (a_function function ∷ beginnings) = modules_among beginnings
+modules_among (a_module defined ∷ beginnings) = defined ∷ modules_among beginnings
 
 -- the functions of a program by number
 abbrev pub functions_of_program : List StatementTerm → List SourceFunction
@@ -102,23 +102,23 @@ count_modules beginnings = length (modules_among beginnings)
 abbrev pub count_blocks : List Beginning → ℕ
 count_blocks [] = 0
 count_blocks (a_block inner ∷ beginnings) = suc (count_blocks beginnings)
-count_blocks (a_function f ∷ beginnings) = count_blocks beginnings
-count_blocks (a_module d ∷ beginnings) = count_blocks beginnings
+count_blocks (a_function function ∷ beginnings) = count_blocks beginnings
+count_blocks (a_module defined ∷ beginnings) = count_blocks beginnings
 
 -- the numbers of the blocks of the modules' bodies, behind so many blocks: each body begins at its module
 abbrev pub bodies_from : ℕ → List Beginning → List ℕ
 bodies_from number [] = []
 bodies_from number (a_block inner ∷ beginnings) = bodies_from (number + 1) beginnings
-bodies_from number (a_function f ∷ beginnings) = bodies_from number beginnings
-bodies_from number (a_module d ∷ beginnings) = number ∷ bodies_from number beginnings
+bodies_from number (a_function function ∷ beginnings) = bodies_from number beginnings
+bodies_from number (a_module defined ∷ beginnings) = number ∷ bodies_from number beginnings
 
 -- the functions that stand in a block, with their numbers, behind so many others; a bare block's count as the
 -- block's own
 abbrev mutual
   pub own_functions : ℕ → StatementTerms → Pairs ℕ
   own_functions before no_statements = []
-  own_functions before (and_statement s rest) = own_function before s ++ own_functions
-      (before + count_functions (beginnings_of s)) rest
+  own_functions before (and_statement statement rest) = own_function before statement ++ own_functions
+      (before + count_functions (beginnings_of statement)) rest
 
   -- the function that a statement defines, or those of a bare block
   pub own_function : ℕ → StatementTerm → Pairs ℕ
@@ -134,8 +134,8 @@ abbrev mutual
 abbrev mutual
   pub own_modules : ℕ → StatementTerms → Pairs ℕ
   own_modules before no_statements = []
-  own_modules before (and_statement s rest) = own_module before s ++ own_modules (before + count_modules
-      (beginnings_of s)) rest
+  own_modules before (and_statement statement rest) = own_module before statement ++ own_modules (before + count_modules
+      (beginnings_of statement)) rest
 
   -- the module that a statement defines, or those of a bare block
   pub own_module : ℕ → StatementTerm → Pairs ℕ
@@ -156,29 +156,30 @@ pub record Assigned : Type 0 where
 
 -- whether two assignments are of one name: `$a` is another one than `a`
 abbrev pub same_name : Assigned → Assigned → Bool
-same_name a b = beq a.special b.special && bytes_eq a.name b.name
+same_name one other = beq one.special other.special && bytes_eq one.name other.name
 
 -- One assignment more: a name that is there keeps its place and gets this expression (OpenSCAD User Manual,
 -- "Variables": the last assignment counts, at the place of the first).
 abbrev pub with_assigned : List Assigned → Assigned → List Assigned
-with_assigned [] a = a ∷ []
-with_assigned (b ∷ bs) a = if same_name b a then record b { value = a.value } ∷ bs else b ∷ with_assigned bs a
+with_assigned [] assigned = assigned ∷ []
+with_assigned (known ∷ others) assigned =
+    if same_name known assigned then record known { value = assigned.value } ∷ others else known ∷ with_assigned others assigned
 
 -- the number of the assignment that has the same name
 abbrev pub place_in : List Assigned → Assigned → Option ℕ
-place_in [] a = None
-place_in (b ∷ bs) a = if same_name b a then Some zero else next (place_in bs a)
+place_in [] assigned = None
+place_in (known ∷ others) assigned = if same_name known assigned then Some zero else next (place_in others assigned)
 
 -- assignments one after another, behind those that are there
 abbrev pub all_assigned : List Assigned → List Assigned → List Assigned
 all_assigned before [] = before
-all_assigned before (a ∷ rest) = all_assigned (with_assigned before a) rest
+all_assigned before (assigned ∷ rest) = all_assigned (with_assigned before assigned) rest
 
 -- the assignments that stand in a block, in the order of the text; a bare block's count as the block's own
 abbrev mutual
   pub assigned_in : StatementTerms → List Assigned
   assigned_in no_statements = []
-  assigned_in (and_statement s rest) = assigned_by s ++ assigned_in rest
+  assigned_in (and_statement statement rest) = assigned_by statement ++ assigned_in rest
 
   -- the assignment that a statement is, or those of a bare block
   pub assigned_by : StatementTerm → List Assigned
@@ -235,8 +236,8 @@ abbrev pub entries_from : ℕ → ℕ → ℕ → List Beginning → List Source
 entries_from number functions modules [] = []
 entries_from number functions modules (a_block statements ∷ beginnings) =
     entry_at number functions modules statements ∷ entries_from (number + 1) functions modules beginnings
-entries_from number functions modules (a_function f ∷ beginnings) = entries_from number (functions + 1) modules beginnings
-entries_from number functions modules (a_module d ∷ beginnings) = entries_from number functions (modules + 1) beginnings
+entries_from number functions modules (a_function function ∷ beginnings) = entries_from number (functions + 1) modules beginnings
+entries_from number functions modules (a_module defined ∷ beginnings) = entries_from number functions (modules + 1) beginnings
 
 -- a program's blocks, functions and modules by number, and for each module the number of its body's block
 pub record NumberedText : Type 0 where
@@ -261,12 +262,12 @@ StandAt text number [] = Unit {0}
 StandAt text number (a_block statements ∷ beginnings) =
     (number < length text.entries) × ((slice_index_or text.entries number nothing_there).statements ≡ statements)
     × StandAt text (number + 1) beginnings
-StandAt text number (a_function f ∷ beginnings) = StandAt text number beginnings
-StandAt text number (a_module d ∷ beginnings) = StandAt text number beginnings
+StandAt text number (a_function function ∷ beginnings) = StandAt text number beginnings
+StandAt text number (a_module defined ∷ beginnings) = StandAt text number beginnings
 
 -- what stands in a block begins behind it, and a module's body at the number that the module has
 pub record StandsInOrder (text : NumberedText) : Type 0 where
   pub blocks : (n : ℕ) → n < length text.entries
       → StandAt text (n + 1) (beginnings_in (slice_index_or text.entries n nothing_there).statements)
-  pub bodies : (k : ℕ) (d : SourceModule) → k < length text.modules → d ≡ slice_index_or text.modules k d
-      → StandAt text (slice_index_or text.bodies k 0) (beginnings_of_body d.body)
+  pub bodies : (number : ℕ) (defined : SourceModule) → number < length text.modules → defined ≡ slice_index_or text.modules number defined
+      → StandAt text (slice_index_or text.bodies number 0) (beginnings_of_body defined.body)

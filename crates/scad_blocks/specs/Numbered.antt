@@ -7,13 +7,13 @@ use Rattle.scad_blocks.specs.Blocks.{SourceBlock, functions_of_program, modules_
 -- each number is below this one
 abbrev pub numbers_below : ℕ → Pairs ℕ → Bool
 numbers_below n [] = true
-numbers_below n (p ∷ ps) = nat_lt p.1 n && numbers_below n ps
+numbers_below n (pair ∷ pairs) = nat_lt pair.1 n && numbers_below n pairs
 
 -- the numbers of each block's own functions and modules are below these
 abbrev pub entries_below : ℕ → ℕ → List SourceBlock → Bool
 entries_below functions modules [] = true
-entries_below functions modules (e ∷ es) =
-    (numbers_below functions e.own.functions && numbers_below modules e.own.modules) && entries_below functions modules es
+entries_below functions modules (entry ∷ entries) =
+    (numbers_below functions entry.own.functions && numbers_below modules entry.own.modules) && entries_below functions modules entries
 
 -- how many functions a program has
 abbrev pub count_of_functions : List StatementTerm → ℕ

@@ -7,11 +7,11 @@ use Rattle.scad_blocks.specs.TextView.{text_in}
 
 -- the part of the program that was walked through, by numbers
 abbrev pub walked : Walk → NumberedText
-walked w = text_in w.entries.items w.functions.items w.modules.items
+walked walk = text_in walk.entries.items walk.functions.items walk.modules.items
 
 -- how many blocks, functions and modules have numbers
 abbrev pub numbered : NumberedText → ℕ
-numbered w = length w.entries + length w.functions + length w.modules
+numbered text = length text.entries + length text.functions + length text.modules
 
 -- a walk that has begun with nothing
 abbrev pub nothing_walked : NumberedText
@@ -19,16 +19,16 @@ nothing_walked = record { entries = []; functions = []; modules = []; bodies = [
 
 -- with one beginning more
 abbrev pub with_beginning : NumberedText → Beginning → NumberedText
-with_beginning w (a_block statements) = record w {
-  entries = w.entries ++ entry_at (length w.entries) (length w.functions) (length w.modules) statements ∷ [];
+with_beginning text (a_block statements) = record text {
+  entries = text.entries ++ entry_at (length text.entries) (length text.functions) (length text.modules) statements ∷ [];
 }
-with_beginning w (a_function f) = record w { functions = w.functions ++ f ∷ [] }
-with_beginning w (a_module d) = record w { modules = w.modules ++ d ∷ []; bodies = w.bodies ++ length w.entries ∷ [] }
+with_beginning text (a_function function) = record text { functions = text.functions ++ function ∷ [] }
+with_beginning text (a_module defined) = record text { modules = text.modules ++ defined ∷ []; bodies = text.bodies ++ length text.entries ∷ [] }
 
 -- with all beginnings of a text, one after another
 abbrev pub after : NumberedText → List Beginning → NumberedText
-after w [] = w
-after w (beginning ∷ beginnings) = after (with_beginning w beginning) beginnings
+after text [] = text
+after text (beginning ∷ beginnings) = after (with_beginning text beginning) beginnings
 
 -- what statements add to a block's own
 abbrev pub own_with : OwnDefinitions → ℕ → ℕ → StatementTerms → OwnDefinitions
@@ -48,12 +48,12 @@ own_by own functions modules statement = record {
 
 -- with one assignment more
 abbrev pub assigned_own : OwnDefinitions → Assigned → OwnDefinitions
-assigned_own own a = record own { assignments = with_assigned own.assignments a }
+assigned_own own assigned = record own { assignments = with_assigned own.assignments assigned }
 
 -- with the text of one block more, whose own is not known yet
 abbrev pub with_text : NumberedText → StatementTerms → NumberedText
-with_text w statements = record w {
-  entries = w.entries ++ record { statements = statements; own = no_own; behind = 0 } ∷ [];
+with_text text statements = record text {
+  entries = text.entries ++ record { statements = statements; own = no_own; behind = 0 } ∷ [];
 }
 
 -- a block with its own, and the number of the first block behind it
@@ -62,7 +62,7 @@ entry_ended entry own behind = record { statements = entry.statements; own = own
 
 -- a block ends: it gets its own, and all blocks so far stand in it or before it
 abbrev pub ended : NumberedText → ℕ → OwnDefinitions → NumberedText
-ended w number own = record w {
-  entries = slice_set w.entries number
-      (entry_ended (slice_index_or w.entries number nothing_there) own (length w.entries));
+ended text number own = record text {
+  entries = slice_set text.entries number
+      (entry_ended (slice_index_or text.entries number nothing_there) own (length text.entries));
 }

@@ -11,7 +11,7 @@ pub use Rattle.scad_ast.specs.Names.{is_among}
 -- names and what they stand for
 abbrev pub named_in : {A : Type 0} → List (List ℕ × A) → List ℕ → Option A
 named_in [] name = None
-named_in (p ∷ ps) name = if bytes_eq p.0 name then Some p.1 else named_in ps name
+named_in (known ∷ others) name = if bytes_eq known.0 name then Some known.1 else named_in others name
 
 -- the built-in function of a name
 abbrev pub builtin_of : List ℕ → Option Builtin
@@ -91,20 +91,20 @@ joined_items (and_val v vs) = items_as v ++ joined_items vs
 
 -- a power with an exponent from 0 on
 abbrev pub power : ℤ → ℕ → ℤ
-power b zero = pos 1
-power b (suc e) = b *ℤ power b e
+power base zero = pos 1
+power base (suc exponent) = base *ℤ power base exponent
 
 -- the power of two whole numbers, where it is whole: an exponent below 0 is for 1 and -1 alone
 abbrev pub power_row : ℤ → ℤ → Answer ℤ
-power_row b (pos e) = sized (power b e)
-power_row (pos zero) (negsuc e) = Err ZeroDivisor
-power_row (pos (suc zero)) (negsuc e) = Ok (pos 1)
-power_row (negsuc zero) (negsuc e) = Ok (power (negsuc zero) (suc e))
-power_row b (negsuc e) = Err NotWhole
+power_row base (pos exponent) = sized (power base exponent)
+power_row (pos zero) (negsuc exponent) = Err ZeroDivisor
+power_row (pos (suc zero)) (negsuc exponent) = Ok (pos 1)
+power_row (negsuc zero) (negsuc exponent) = Ok (power (negsuc zero) (suc exponent))
+power_row base (negsuc exponent) = Err NotWhole
 
 -- the power of two numbers
 abbrev pub power_of : Val → Val → Answer Val
-power_of (NumberVal b) (NumberVal e) = number (power_row b e)
+power_of (NumberVal base) (NumberVal exponent) = number (power_row base exponent)
 power_of v w = Err TypeMismatch
 
 -- whether a value is `undef`
@@ -119,7 +119,7 @@ is_num v = false
 
 -- whether a value is a truth
 abbrev pub is_bool : Val → Bool
-is_bool (TruthVal b) = true
+is_bool (TruthVal truth) = true
 is_bool v = false
 
 -- whether a value is a list

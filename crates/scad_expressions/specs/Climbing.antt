@@ -12,15 +12,15 @@ use Rattle.scad_tokens.specs.TokenClasses.{operators_at, levels_below}
 -- a primary, an operand with its operators before it, and an operator of a level with what stands behind it, over what
 -- is less deep than so much
 abbrev pub primary_in : ℕ → Reads Term
-primary_in d = primary_read (expr_read d) (arg_in d (expr_read d))
+primary_in depth = primary_read (expr_read depth) (arg_in depth (expr_read depth))
 
 abbrev pub unary_in : ℕ → Reads Term
-unary_in d = unary_read (expr_read d) (operand_read d) (primary_in d)
+unary_in depth = unary_read (expr_read depth) (operand_read depth) (primary_in depth)
 
 abbrev pub link_in : Level → ℕ → Reads LinkTerm
-link_in level d = both link (one (among (operators_at level))) (chain_read (levels_below level) (unary_in d))
+link_in level depth = both link (one (among (operators_at level))) (chain_read (levels_below level) (unary_in depth))
 
 -- an operand with the operators behind it of these levels, the loosest first
 abbrev pub climb_read : List (List ℕ) → Reads Term → Term → Reads Term
-climb_read [] u x ts = Ok (x, ts)
-climb_read (ops ∷ levels) u x ts = both chain_of (climb_read levels u x) (many (among ops) (both link (one (among ops)) (chain_read levels u))) ts
+climb_read [] operand x tokens = Ok (x, tokens)
+climb_read (ops ∷ levels) operand x tokens = both chain_of (climb_read levels operand x) (many (among ops) (both link (one (among ops)) (chain_read levels operand))) tokens

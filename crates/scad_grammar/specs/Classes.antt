@@ -9,6 +9,7 @@ use Rattle.scad_lexer.specs.declared.token.Reserved.TheVariants.{Module, Functio
 use Rattle.scad_lexer.specs.declared.token.Symbol.{Symbol}
 use Rattle.scad_lexer.specs.declared.token.Symbol.TheVariants.{OpenParenthesis, CloseParenthesis, OpenBracket, CloseBracket, OpenBrace, CloseBrace, Comma, Semicolon, Assign, Colon, Question, Dot, Plus, Minus, Times, Divide, Remainder, Less, Greater, LessEqual, GreaterEqual, Equal, NotEqual, And, Or, Not, Hash, Caret}
 
+-- the class of a numeral, and of each other token that is neither a reserved name nor a symbol
 abbrev pub numeral : ℕ
 numeral = 0
 
@@ -27,6 +28,7 @@ text = 4
 abbrev pub end : ℕ
 end = 5
 
+-- the classes of reserved names
 abbrev pub module_word : ℕ
 module_word = 10
 
@@ -66,6 +68,7 @@ let_word = 21
 abbrev pub each_word : ℕ
 each_word = 22
 
+-- the classes of symbols
 abbrev pub open_parenthesis_sign : ℕ
 open_parenthesis_sign = 30
 
@@ -150,6 +153,7 @@ hash_sign = 56
 abbrev pub caret_sign : ℕ
 caret_sign = 57
 
+-- the class of a reserved name
 abbrev pub reserved_class : Reserved → ℕ
 reserved_class Module = module_word
 reserved_class Function = function_word
@@ -165,6 +169,7 @@ reserved_class Include = include_word
 reserved_class Let = let_word
 reserved_class Each = each_word
 
+-- the class of a symbol
 abbrev pub symbol_class : Symbol → ℕ
 symbol_class OpenParenthesis = open_parenthesis_sign
 symbol_class CloseParenthesis = close_parenthesis_sign
@@ -201,26 +206,26 @@ class_of (Numeral n) = numeral
 class_of (Name bytes) = name
 class_of (Special bytes) = cond (bytes_eq bytes (codes "children")) child_count special
 class_of (Text bytes) = text
-class_of (ReservedToken r) = reserved_class r
-class_of (SymbolToken s) = symbol_class s
+class_of (ReservedToken reserved) = reserved_class reserved
+class_of (SymbolToken symbol) = symbol_class symbol
 class_of End = end
 
 -- the class is one of these
 abbrev pub listed : List ℕ → ℕ → Bool
-listed [] k = false
-listed (c ∷ cs) k = cond (nat_eq k c) true (listed cs k)
+listed [] wanted = false
+listed (known ∷ others) wanted = cond (nat_eq wanted known) true (listed others wanted)
 
 -- a token of one of these classes
 abbrev pub among : List ℕ → Token → Bool
-among cs t = listed cs (class_of t.kind)
+among classes token = listed classes (class_of token.kind)
 
 -- a token of this class
 abbrev pub is : ℕ → Token → Bool
-is c = among (c ∷ [])
+is wanted = among (wanted ∷ [])
 
 -- a token of none of these classes
 abbrev pub other_than : List ℕ → Token → Bool
-other_than cs t = not (among cs t)
+other_than classes token = not (among classes token)
 
 -- what an argument may be given by: a name, or a special name other than `$children`
 abbrev pub argument_names : List ℕ
@@ -229,11 +234,11 @@ argument_names = name ∷ special ∷ []
 -- the number of a numeral
 abbrev pub number_of : TokenKind → ℕ
 number_of (Numeral n) = n
-number_of k = 0
+number_of kind = 0
 
 -- the bytes of a name, a special name or a text
 abbrev pub bytes_of : TokenKind → List ℕ
 bytes_of (Name bytes) = bytes
 bytes_of (Special bytes) = bytes
 bytes_of (Text bytes) = bytes
-bytes_of k = []
+bytes_of kind = []

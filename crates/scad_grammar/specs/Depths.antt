@@ -15,46 +15,50 @@ pub record Depths {A : Type 0} (L : Language A) : Type 0 where
 
 -- all that stands in a pair of brackets, a body, an operand or such a part is one deeper
 unfoldable pub deeper : {A : Type 0} {L : Language A} → Depths L → Depths L
-deeper D = record { of = λ x s h. map suc (D.of x s h) }
+deeper D = record { of = λ x tokens h. map suc (D.of x tokens h) }
 
+-- The ways in which a language is made of others make nothing deeper, but for parentheses.
 unfoldable pub one_depth : (test : Token → Bool) → Depths (One test)
-one_depth test = record { of = λ t s h. 0 ∷ [] }
+one_depth test = record { of = λ token tokens h. 0 ∷ [] }
 
 unfoldable pub mapped_depths : {A B : Type 0} (f : A → B) {L : Language A} → Depths L → Depths (Mapped f L)
-mapped_depths f D = record { of = λ b s h. D.of h.0 s h.1 }
+mapped_depths f D = record { of = λ b tokens h. D.of h.0 tokens h.1 }
 
 unfoldable pub both_depths : {A B C : Type 0} (f : A → B → C) {La : Language A} {Lb : Language B} → Depths La → Depths Lb → Depths (Both f La Lb)
-both_depths f D E = record { of = λ c s h. D.of h.0 h.2 h.4 ++ E.of h.1 h.3 h.5 }
+both_depths f D E = record { of = λ c tokens h. D.of h.0 h.2 h.4 ++ E.of h.1 h.3 h.5 }
 
 unfoldable pub both_if_depths : {A B C : Type 0} (f : A → B → C) (Fit : A → B → Type 0) {La : Language A} {Lb : Language B} → Depths La → Depths Lb → Depths (BothIf f Fit La Lb)
-both_if_depths f Fit D E = record { of = λ c s h. D.of h.0 h.2 h.4 ++ E.of h.1 h.3 h.5 }
+both_if_depths f Fit D E = record { of = λ c tokens h. D.of h.0 h.2 h.4 ++ E.of h.1 h.3 h.5 }
 
-abbrev pub of_either : {A : Type 0} (La Lb : Language A) → Depths La → Depths Lb → (x : A) (s : List Token) → EitherOf La Lb x s → List ℕ
-of_either La Lb D E x s (inl h) = D.of x s h
-of_either La Lb D E x s (inr h) = E.of x s h
+-- those of whichever of two it is
+abbrev pub of_either : {A : Type 0} (La Lb : Language A) → Depths La → Depths Lb → (x : A) (tokens : List Token) → EitherOf La Lb x tokens → List ℕ
+of_either La Lb D E x tokens (inl h) = D.of x tokens h
+of_either La Lb D E x tokens (inr h) = E.of x tokens h
 
 unfoldable pub either_depths : {A : Type 0} {La Lb : Language A} → Depths La → Depths Lb → Depths (EitherOf La Lb)
 either_depths {A} {La} {Lb} D E = record { of = of_either La Lb D E }
 
 unfoldable pub nothing_depths : {A : Type 0} (a : A) → Depths (Nothing a)
-nothing_depths a = record { of = λ x s h. [] }
+nothing_depths a = record { of = λ x tokens h. [] }
 
-abbrev pub of_many : {A : Type 0} (L : Language A) → Depths L → (xs : List A) (s : List Token) → Many L xs s → List ℕ
-of_many L D [] s h = []
-of_many L D (x ∷ xs) s h = D.of x h.0 h.2 ++ of_many L D xs h.1 h.3
+-- those of each in turn
+abbrev pub of_many : {A : Type 0} (L : Language A) → Depths L → (xs : List A) (tokens : List Token) → Many L xs tokens → List ℕ
+of_many L D [] tokens h = []
+of_many L D (x ∷ xs) tokens h = D.of x h.0 h.2 ++ of_many L D xs h.1 h.3
 
 unfoldable pub many_depths : {A : Type 0} {L : Language A} → Depths L → Depths (Many L)
 many_depths {A} {L} D = record { of = of_many L D }
 
-abbrev pub of_maybe : {A : Type 0} (L : Language A) → Depths L → (x : Option A) (s : List Token) → Maybe L x s → List ℕ
-of_maybe L D None s h = []
-of_maybe L D (Some x) s h = D.of x s h
+-- those of it, if it is there
+abbrev pub of_maybe : {A : Type 0} (L : Language A) → Depths L → (x : Option A) (tokens : List Token) → Maybe L x tokens → List ℕ
+of_maybe L D None tokens h = []
+of_maybe L D (Some x) tokens h = D.of x tokens h
 
 unfoldable pub maybe_depths : {A : Type 0} {L : Language A} → Depths L → Depths (Maybe L)
 maybe_depths {A} {L} D = record { of = of_maybe L D }
 
 unfoldable pub never_depths : {A : Type 0} → Depths {A = A} Never
-never_depths = record { of = λ x s h. [] }
+never_depths = record { of = λ x tokens h. [] }
 
 abbrev pub behind_depths : {A : Type 0} (test : Token → Bool) {L : Language A} → Depths L → Depths (Behind test L)
 behind_depths test D = both_depths second_of (one_depth test) D
@@ -65,35 +69,36 @@ before_depths test D = both_depths first_of D (one_depth test)
 abbrev pub separated_depths : {A : Type 0} (mark : Token → Bool) {L : Language A} → Depths L → Depths (Separated mark L)
 separated_depths mark D = both_depths first_of (both_depths cons D (many_depths (behind_depths mark D))) (maybe_depths (one_depth mark))
 
+-- what stands in parentheses is one deeper
 abbrev pub parentheses_depths : {A : Type 0} {L : Language A} → Depths L → Depths (InParentheses L)
 parentheses_depths D = behind_depths (is open_parenthesis_sign) (before_depths (is close_parenthesis_sign) (deeper D))
 
 -- The productions, as the grammar has them. Each part that stands in one of the four is taken one deeper there.
 abbrev pub arg_depths : {E : Language Term} → Depths E → Depths (Arg E)
-arg_depths e = either_depths (both_depths _ (one_depth _) (behind_depths (is assign_sign) e)) (mapped_depths PositionalTerm e)
+arg_depths expression = either_depths (both_depths _ (one_depth _) (behind_depths (is assign_sign) expression)) (mapped_depths PositionalTerm expression)
 
 abbrev pub args_depths : {E : Language Term} → Depths E → Depths (Args E)
-args_depths e = either_depths (separated_depths (is comma_sign) (arg_depths e)) (nothing_depths [])
+args_depths expression = either_depths (separated_depths (is comma_sign) (arg_depths expression)) (nothing_depths [])
 
 abbrev pub param_depths : {E : Language Term} → Depths E → Depths (Param E)
-param_depths e = both_depths _ (one_depth (is name)) (maybe_depths (behind_depths (is assign_sign) e))
+param_depths expression = both_depths _ (one_depth (is name)) (maybe_depths (behind_depths (is assign_sign) expression))
 
 abbrev pub params_depths : {P : Language ParamTerm} → Depths P → Depths (Params P)
-params_depths p = either_depths (separated_depths (is comma_sign) p) (nothing_depths [])
+params_depths param = either_depths (separated_depths (is comma_sign) param) (nothing_depths [])
 
 abbrev pub binders_depths : {E : Language Term} → Depths E → Depths (Binders E)
-binders_depths e = separated_depths (is comma_sign) (both_depths _ (one_depth (is name)) (behind_depths (is assign_sign) e))
+binders_depths expression = separated_depths (is comma_sign) (both_depths _ (one_depth (is name)) (behind_depths (is assign_sign) expression))
 
 abbrev pub bracket_depths : {E : Language Term} → Depths E → Depths (Bracket E)
-bracket_depths e =
+bracket_depths expression =
     both_depths _ (one_depth (is open_bracket_sign))
     (before_depths (is close_bracket_sign)
-    (deeper (maybe_depths (both_depths pair_of e
-    (either_depths (behind_depths (is colon_sign) (both_depths _ e (maybe_depths (behind_depths (is colon_sign) e))))
-    (mapped_depths items (both_depths first_of (many_depths (behind_depths (is comma_sign) e)) (maybe_depths (one_depth (is comma_sign))))))))))
+    (deeper (maybe_depths (both_depths pair_of expression
+    (either_depths (behind_depths (is colon_sign) (both_depths _ expression (maybe_depths (behind_depths (is colon_sign) expression))))
+    (mapped_depths items (both_depths first_of (many_depths (behind_depths (is comma_sign) expression)) (maybe_depths (one_depth (is comma_sign))))))))))
 
 abbrev pub primary_depths : {E : Language Term} {As : Language (List ArgTerm)} → Depths E → Depths As → Depths (Primary E As)
-primary_depths e args =
+primary_depths expression args =
     either_depths (mapped_depths _ (one_depth _))
     (either_depths (mapped_depths _ (one_depth _))
     (either_depths (mapped_depths _ (one_depth _))
@@ -102,109 +107,120 @@ primary_depths e args =
     (either_depths (mapped_depths _ (one_depth _))
     (either_depths (mapped_depths _ (one_depth _))
     (either_depths (both_depths _ (one_depth (is name)) (maybe_depths (parentheses_depths args)))
-    (either_depths (both_depths _ (one_depth (is open_parenthesis_sign)) (before_depths (is close_parenthesis_sign) (deeper e)))
-    (bracket_depths e)))))))))
+    (either_depths (both_depths _ (one_depth (is open_parenthesis_sign)) (before_depths (is close_parenthesis_sign) (deeper expression)))
+    (bracket_depths expression)))))))))
 
 abbrev pub suffix_depths : {E : Language Term} → Depths E → Depths (Suffix E)
-suffix_depths e =
-    either_depths (both_depths _ (one_depth (is open_bracket_sign)) (before_depths (is close_bracket_sign) (deeper e)))
+suffix_depths expression =
+    either_depths (both_depths _ (one_depth (is open_bracket_sign)) (before_depths (is close_bracket_sign) (deeper expression)))
     (both_depths _ (one_depth (is dot_sign)) (one_depth (is name)))
 
 abbrev pub unary_depths : {E : Language Term} {As : Language (List ArgTerm)} {U : Language Term} → Depths E → Depths As → Depths U → Depths (Unary E As U)
-unary_depths e args u =
-    either_depths (both_depths _ (one_depth _) (deeper u)) (both_depths _ (primary_depths e args) (many_depths (suffix_depths e)))
+unary_depths expression args operand =
+    either_depths (both_depths _ (one_depth _) (deeper operand)) (both_depths _ (primary_depths expression args) (many_depths (suffix_depths expression)))
 
 abbrev pub chain_depths : (below : List (List ℕ)) {X : Language Term} → Depths X → Depths (Chain below X)
-chain_depths [] x = x
-chain_depths (ops ∷ below) x = both_depths chain_of (chain_depths below x) (many_depths (both_depths link (one_depth (among ops)) (chain_depths below x)))
+chain_depths [] operand = operand
+chain_depths (ops ∷ below) operand =
+    both_depths chain_of (chain_depths below operand) (many_depths (both_depths link (one_depth (among ops)) (chain_depths below operand)))
 
 abbrev pub choice_depths : {E : Language Term} {As : Language (List ArgTerm)} {U : Language Term} → Depths E → Depths As → Depths U → Depths (Choice E As U)
-choice_depths e args u =
-    both_depths _ (chain_depths levels (unary_depths e args u))
-    (maybe_depths (both_depths pair_of (one_depth (is question_sign)) (both_depths pair_of (deeper e) (behind_depths (is colon_sign) (deeper e)))))
+choice_depths expression args operand =
+    both_depths _ (chain_depths levels (unary_depths expression args operand))
+    (maybe_depths (both_depths pair_of (one_depth (is question_sign)) (both_depths pair_of (deeper expression) (behind_depths (is colon_sign) (deeper expression)))))
 
-abbrev pub args_in_depths : (k : ℕ) {E : Language Term} → Depths E → Depths (ArgsIn k E)
-args_in_depths zero e = nothing_depths []
-args_in_depths (suc k) e = args_depths e
+-- arguments, parameters and variables of a loop whose tokens are less deep than so much
+abbrev pub args_in_depths : (depth : ℕ) {E : Language Term} → Depths E → Depths (ArgsIn depth E)
+args_in_depths zero expression = nothing_depths []
+args_in_depths (suc depth) expression = args_depths expression
 
-abbrev pub params_in_depths : (k : ℕ) {E : Language Term} → Depths E → Depths (ParamsIn k E)
-params_in_depths zero e = nothing_depths []
-params_in_depths (suc k) e = params_depths (param_depths e)
+abbrev pub params_in_depths : (depth : ℕ) {E : Language Term} → Depths E → Depths (ParamsIn depth E)
+params_in_depths zero expression = nothing_depths []
+params_in_depths (suc depth) expression = params_depths (param_depths expression)
 
-abbrev pub binders_in_depths : (k : ℕ) {E : Language Term} → Depths E → Depths (BindersIn whole k E)
-binders_in_depths zero e = never_depths
-binders_in_depths (suc k) e = binders_depths e
+abbrev pub binders_in_depths : (depth : ℕ) {E : Language Term} → Depths E → Depths (BindersIn whole depth E)
+binders_in_depths zero expression = never_depths
+binders_in_depths (suc depth) expression = binders_depths expression
 
+-- an expression, and an operand, whose tokens are less deep than so much
 unfoldable mutual
   unfolding Expr Operand
 
-  pub expr_depths : (k : ℕ) → Depths (Expr whole k)
+  pub expr_depths : (depth : ℕ) → Depths (Expr whole depth)
   expr_depths zero = never_depths
-  expr_depths (suc k) = choice_depths (expr_depths k) (args_in_depths k (expr_depths k)) (operand_depths k)
+  expr_depths (suc depth) = choice_depths (expr_depths depth) (args_in_depths depth (expr_depths depth)) (operand_depths depth)
 
-  pub operand_depths : (k : ℕ) → Depths (Operand whole k)
+  pub operand_depths : (depth : ℕ) → Depths (Operand whole depth)
   operand_depths zero = never_depths
-  operand_depths (suc k) = unary_depths (expr_depths k) (args_in_depths k (expr_depths k)) (operand_depths k)
+  operand_depths (suc depth) = unary_depths (expr_depths depth) (args_in_depths depth (expr_depths depth)) (operand_depths depth)
 
 -- statements: a body is one deeper than what it belongs to
 abbrev pub core_depths : {E : Language Term} {As : Language (List ArgTerm)} {Ns : Language (List BinderTerm)} {B : Language BodyTerm} → Depths E → Depths As → Depths Ns → Depths B → Depths (Core E As Ns B)
-core_depths e args ns b =
+core_depths expression args binders body =
     either_depths
-    (both_if_depths if_of IsNearest (both_depths pair_of (one_depth (is if_word)) (both_depths pair_of (parentheses_depths e) (deeper b))) (maybe_depths (behind_depths (is else_word) (deeper b))))
-    (either_depths (both_depths _ (one_depth _) (both_depths pair_of (parentheses_depths ns) (deeper b)))
-    (both_depths _ (one_depth (is name)) (both_depths pair_of (parentheses_depths args) (deeper b))))
+    (both_if_depths if_of IsNearest (both_depths pair_of (one_depth (is if_word)) (both_depths pair_of (parentheses_depths expression) (deeper body)))
+    (maybe_depths (behind_depths (is else_word) (deeper body))))
+    (either_depths (both_depths _ (one_depth _) (both_depths pair_of (parentheses_depths binders) (deeper body)))
+    (both_depths _ (one_depth (is name)) (both_depths pair_of (parentheses_depths args) (deeper body))))
 
 abbrev pub instance_depths : {E : Language Term} {As : Language (List ArgTerm)} {Ns : Language (List BinderTerm)} {B : Language BodyTerm} → Depths E → Depths As → Depths Ns → Depths B → Depths (Instance E As Ns B)
-instance_depths e args ns b = both_depths _ (many_depths (mapped_depths _ (one_depth _))) (core_depths e args ns b)
+instance_depths expression args binders body = both_depths _ (many_depths (mapped_depths _ (one_depth _))) (core_depths expression args binders body)
 
 abbrev pub body_of_depths : {I : Language InstanceTerm} {Ss : Language (List StatementTerm)} → Depths I → Depths Ss → Depths (BodyOf I Ss)
-body_of_depths i ss =
+body_of_depths instance statements =
     either_depths (mapped_depths _ (one_depth (is semicolon_sign)))
-    (either_depths (both_depths _ (one_depth (is open_brace_sign)) (before_depths (is close_brace_sign) (deeper ss)))
-    (mapped_depths InstanceBody i))
+    (either_depths (both_depths _ (one_depth (is open_brace_sign)) (before_depths (is close_brace_sign) (deeper statements)))
+    (mapped_depths InstanceBody instance))
 
 abbrev pub statement_of_depths : {X : Language Term} {Ps : Language (List ParamTerm)} {I : Language InstanceTerm} {Ss : Language (List StatementTerm)} {B : Language BodyTerm} → Depths X → Depths Ps → Depths I → Depths Ss → Depths B → Depths (StatementOf X Ps I Ss B)
-statement_of_depths x ps i ss b =
+statement_of_depths expression params instance statements body =
     either_depths (mapped_depths _ (one_depth (is semicolon_sign)))
-    (either_depths (both_depths _ (one_depth (is open_brace_sign)) (before_depths (is close_brace_sign) (deeper ss)))
-    (either_depths (both_depths _ (one_depth _) (behind_depths (is assign_sign) (before_depths (is semicolon_sign) x)))
-    (either_depths (both_depths _ (one_depth (is name)) (behind_depths (is assign_sign) (before_depths (is semicolon_sign) x)))
-    (either_depths (both_depths _ (one_depth (is module_word)) (both_depths pair_of (one_depth (is name)) (both_depths pair_of (parentheses_depths ps) (deeper b))))
-    (either_depths (both_depths _ (one_depth (is function_word)) (both_depths pair_of (one_depth (is name)) (both_depths pair_of (parentheses_depths ps) (behind_depths (is assign_sign) (before_depths (is semicolon_sign) x)))))
-    (mapped_depths InstanceStatement i))))))
+    (either_depths (both_depths _ (one_depth (is open_brace_sign)) (before_depths (is close_brace_sign) (deeper statements)))
+    (either_depths (both_depths _ (one_depth _) (behind_depths (is assign_sign) (before_depths (is semicolon_sign) expression)))
+    (either_depths (both_depths _ (one_depth (is name)) (behind_depths (is assign_sign) (before_depths (is semicolon_sign) expression)))
+    (either_depths (both_depths _ (one_depth (is module_word)) (both_depths pair_of (one_depth (is name)) (both_depths pair_of (parentheses_depths params) (deeper body))))
+    (either_depths (both_depths _ (one_depth (is function_word)) (both_depths pair_of (one_depth (is name))
+    (both_depths pair_of (parentheses_depths params) (behind_depths (is assign_sign) (before_depths (is semicolon_sign) expression)))))
+    (mapped_depths InstanceStatement instance))))))
 
-abbrev pub statements_in_depths : (k : ℕ) {S : Language StatementTerm} → Depths S → Depths (StatementsIn k S)
-statements_in_depths zero s = nothing_depths []
-statements_in_depths (suc k) s = many_depths s
+-- statements, and an instance over a body, whose tokens are less deep than so much
+abbrev pub statements_in_depths : (depth : ℕ) {S : Language StatementTerm} → Depths S → Depths (StatementsIn depth S)
+statements_in_depths zero statement = nothing_depths []
+statements_in_depths (suc depth) statement = many_depths statement
 
-abbrev pub instance_in_depths : (k : ℕ) → Depths (Body whole k) → Depths (InstanceIn whole k (Body whole k))
-instance_in_depths k b = instance_depths (expr_depths k) (args_in_depths k (expr_depths k)) (binders_in_depths k (expr_depths k)) b
+abbrev pub instance_in_depths : (depth : ℕ) → Depths (Body whole depth) → Depths (InstanceIn whole depth (Body whole depth))
+instance_in_depths depth body =
+    instance_depths (expr_depths depth) (args_in_depths depth (expr_depths depth)) (binders_in_depths depth (expr_depths depth)) body
 
+-- a statement, and a body, whose tokens are less deep than so much
 unfoldable mutual
   unfolding Statement Body
 
-  pub statement_depths : (k : ℕ) → Depths (Statement whole k)
+  pub statement_depths : (depth : ℕ) → Depths (Statement whole depth)
   statement_depths zero = never_depths
-  statement_depths (suc k) = statement_of_depths (expr_depths (suc k)) (params_in_depths k (expr_depths k)) (instance_in_depths k (body_depths k)) (statements_in_depths k (statement_depths k)) (body_depths k)
+  statement_depths (suc depth) =
+      statement_of_depths (expr_depths (suc depth)) (params_in_depths depth (expr_depths depth))
+      (instance_in_depths depth (body_depths depth)) (statements_in_depths depth (statement_depths depth)) (body_depths depth)
 
-  pub body_depths : (k : ℕ) → Depths (Body whole k)
+  pub body_depths : (depth : ℕ) → Depths (Body whole depth)
   body_depths zero = never_depths
-  body_depths (suc k) = body_of_depths (instance_in_depths k (body_depths k)) (statements_in_depths k (statement_depths k))
+  body_depths (suc depth) = body_of_depths (instance_in_depths depth (body_depths depth)) (statements_in_depths depth (statement_depths depth))
 
-abbrev pub program_depths : (k : ℕ) → Depths (WholeProgram k)
-program_depths k = before_depths (is end) (many_depths (statement_depths k))
+-- a program whose tokens are less deep than so much
+abbrev pub program_depths : (depth : ℕ) → Depths (WholeProgram depth)
+program_depths depth = before_depths (is end) (many_depths (statement_depths depth))
 
 -- these are the depths of the tokens of a program, in their order
 abbrev pub HasDepths : List StatementTerm → List Token → List ℕ → Type 0
-HasDepths x s depths = (k : ℕ) × (h : WholeProgram k x s) × (depths ≡ (program_depths k).of x s h)
+HasDepths program tokens depths = (limit : ℕ) × (written : WholeProgram limit program tokens) × (depths ≡ (program_depths limit).of program tokens written)
 
 -- each is less than so much
 abbrev pub AllBelow : ℕ → List ℕ → Type 0
-AllBelow d [] = Unit {0}
-AllBelow d (n ∷ ns) = (n < d) × AllBelow d ns
+AllBelow limit [] = Unit {0}
+AllBelow limit (depth ∷ depths) = (depth < limit) × AllBelow limit depths
 
 -- Some program begins with these tokens in which each of them is less deep than so much.
 abbrev pub BeginsShallow : ℕ → List Token → Type 0
-BeginsShallow d s =
-    (x : List StatementTerm) × (w : List Token) × (depths : List ℕ) × HasDepths x (s ++ w) depths
-    × AllBelow d (take (length s) depths)
+BeginsShallow limit tokens =
+    (program : List StatementTerm) × (rest : List Token) × (depths : List ℕ) × HasDepths program (tokens ++ rest) depths
+    × AllBelow limit (take (length tokens) depths)

@@ -14,10 +14,12 @@ left_out = use_word ∷ include_word ∷ let_word ∷ each_word ∷ caret_sign �
 abbrev pub left_out_of_expressions : List ℕ
 left_out_of_expressions = for_word ∷ if_word ∷ function_word ∷ left_out
 
+-- the fault of a token, or of the end of all tokens, where those of these classes are left out
 abbrev pub fault_of : List ℕ → Option Token → SyntaxFault
 fault_of classes None = Expected
-fault_of classes (Some t) = cond (among classes t) NotInProfile Expected
+fault_of classes (Some token) = cond (among classes token) NotInProfile Expected
 
+-- reads tokens from their front
 abbrev pub Reads : Type 0 → Type 0
 Reads A = Reader Token SyntaxFault A
 

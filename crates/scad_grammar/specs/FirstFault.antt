@@ -10,31 +10,31 @@ use Rattle.scad_grammar.specs.Grammar.{WholeProgram, Outline}
 
 -- some program, however deep, begins with these tokens
 abbrev pub BeginsSome : List Token → Type 0
-BeginsSome s = (d : ℕ) × (x : List StatementTerm) × (w : List Token) × WholeProgram d x (s ++ w)
+BeginsSome tokens = (depth : ℕ) × (program : List StatementTerm) × (rest : List Token) × WholeProgram depth program (tokens ++ rest)
 
 -- Some program begins with these tokens in which each of them is less deep than so much: an outline does,
 -- and before its first gap an outline shows only what is less deep.
 abbrev pub BeginsWithin : ℕ → List Token → Type 0
-BeginsWithin d s = BeginsSome s × (x : List StatementTerm) × (w : List Token) × Outline d x (s ++ w)
+BeginsWithin depth tokens = BeginsSome tokens × (program : List StatementTerm) × (rest : List Token) × Outline depth program (tokens ++ rest)
 
 -- the place behind these tokens is that of an expression: a numeral could stand there
 abbrev pub BeforeExpression : List Token → Type 0
-BeforeExpression s = (n : Token) × (is numeral n ≡ true) × BeginsSome (s ++ n ∷ [])
+BeforeExpression tokens = (next : Token) × (is numeral next ≡ true) × BeginsSome (tokens ++ next ∷ [])
 
 -- behind these tokens, this one is of a form that the profile leaves out
 abbrev pub IsLeftOut : List Token → Token → Type 0
-IsLeftOut s t = (among left_out t ≡ true) ⊎ ((among left_out_of_expressions t ≡ true) × BeforeExpression s)
+IsLeftOut tokens token = (among left_out token ≡ true) ⊎ ((among left_out_of_expressions token ≡ true) × BeforeExpression tokens)
 
 -- Behind these tokens, this one is such a fault. Expected and NotInProfile: no program goes on with it, and it is
 -- of a form that isn't left out, or is. Nested: programs go on with it, but only such in which it is too deep.
 abbrev pub IsFault : ℕ → SyntaxFault → List Token → Token → Type 0
-IsFault d Expected s t = (BeginsSome (s ++ t ∷ []) → ⊥) × (IsLeftOut s t → ⊥)
-IsFault d NotInProfile s t = (BeginsSome (s ++ t ∷ []) → ⊥) × IsLeftOut s t
-IsFault d Nested s t = BeginsSome (s ++ t ∷ []) × (BeginsWithin d (s ++ t ∷ []) → ⊥)
+IsFault depth Expected tokens token = (BeginsSome (tokens ++ token ∷ []) → ⊥) × (IsLeftOut tokens token → ⊥)
+IsFault depth NotInProfile tokens token = (BeginsSome (tokens ++ token ∷ []) → ⊥) × IsLeftOut tokens token
+IsFault depth Nested tokens token = BeginsSome (tokens ++ token ∷ []) × (BeginsWithin depth (tokens ++ token ∷ []) → ⊥)
 
--- The first fault of `ts` is that of the first token of `at`: programs begin with all tokens before it, none of
+-- The first fault of the tokens is that of the first one of `at`: programs begin with all tokens before it, none of
 -- which is too deep in them.
 abbrev pub IsFirstFault : ℕ → List Token → SyntaxFault → List Token → Type 0
-IsFirstFault d ts fault at =
-    (s : List Token) × (t : Token) × (more : List Token) × (ts ≡ s ++ at) × (at ≡ t ∷ more) × BeginsWithin d s
-    × IsFault d fault s t
+IsFirstFault depth tokens fault at =
+    (front : List Token) × (token : Token) × (more : List Token) × (tokens ≡ front ++ at) × (at ≡ token ∷ more) × BeginsWithin depth front
+    × IsFault depth fault front token

@@ -16,51 +16,63 @@ use Rattle.scad_grammar.specs.Languages.{Language, One, Mapped, Both, BothIf, Ei
 abbrev pub InParentheses : {A : Type 0} → Language A → Language A
 InParentheses L = Behind (is open_parenthesis_sign) (Before L (is close_parenthesis_sign))
 
--- the operators of a level
+-- the operator of two sides that a sign of this class writes
 abbrev pub binary_at : ℕ → BinaryOp
-binary_at c =
-    cond (nat_eq c or_sign) Or (cond (nat_eq c and_sign) And (cond (nat_eq c equal_sign) Equal (cond (nat_eq c not_equal_sign) NotEqual
-    (cond (nat_eq c less_sign) Less (cond (nat_eq c less_equal_sign) LessEqual (cond (nat_eq c greater_sign) Greater (cond (nat_eq c greater_equal_sign) GreaterEqual
-    (cond (nat_eq c plus_sign) Add (cond (nat_eq c minus_sign) Subtract (cond (nat_eq c times_sign) Multiply (cond (nat_eq c divide_sign) Divide Remainder)))))))))))
+binary_at sign =
+    cond (nat_eq sign or_sign) Or (cond (nat_eq sign and_sign) And
+    (cond (nat_eq sign equal_sign) Equal (cond (nat_eq sign not_equal_sign) NotEqual
+    (cond (nat_eq sign less_sign) Less (cond (nat_eq sign less_equal_sign) LessEqual
+    (cond (nat_eq sign greater_sign) Greater (cond (nat_eq sign greater_equal_sign) GreaterEqual
+    (cond (nat_eq sign plus_sign) Add (cond (nat_eq sign minus_sign) Subtract
+    (cond (nat_eq sign times_sign) Multiply (cond (nat_eq sign divide_sign) Divide Remainder)))))))))))
 
+-- the operator before an operand that it writes
 abbrev pub unary_at : ℕ → UnaryOp
-unary_at c = cond (nat_eq c minus_sign) Negate (cond (nat_eq c plus_sign) Keep Not)
+unary_at sign = cond (nat_eq sign minus_sign) Negate (cond (nat_eq sign plus_sign) Keep Not)
 
+-- the modifier that it writes
 abbrev pub modifier_at : ℕ → Modifier
-modifier_at c = cond (nat_eq c times_sign) Disable (cond (nat_eq c remainder_sign) Background (cond (nat_eq c hash_sign) Highlight Root))
+modifier_at sign = cond (nat_eq sign times_sign) Disable (cond (nat_eq sign remainder_sign) Background (cond (nat_eq sign hash_sign) Highlight Root))
 
--- what the parts of a form make
+-- what the parts of a form make: here an operator with its right side
 abbrev pub link : Token → Term → LinkTerm
-link t e = record { op = binary_at (class_of t.kind); at = t.place; right = e }
+link token right = record { op = binary_at (class_of token.kind); at = token.place; right = right }
 
 -- a chain of one is what it has; operators of one level group to the left
 abbrev pub chain_of : Term → List LinkTerm → Term
 chain_of x [] = x
-chain_of x (l ∷ ls) = ChainTerm (place_of x) x (links_from (l ∷ ls))
+chain_of x (operator ∷ operators) = ChainTerm (place_of x) x (links_from (operator ∷ operators))
 
+-- a choice, where a `?` follows
 abbrev pub choice_of : Term → Option (Token × (Term × Term)) → Term
 choice_of x None = x
-choice_of x (Some p) = ChoiceTerm (place_of x) x p.0.place p.1.0 p.1.1
+choice_of x (Some parts) = ChoiceTerm (place_of x) x parts.0.place parts.1.0 parts.1.1
 
+-- an operator before its operand
 abbrev pub unary_of : Token → Term → Term
-unary_of t e = UnaryTerm t.place (unary_at (class_of t.kind)) e
+unary_of token operand = UnaryTerm token.place (unary_at (class_of token.kind)) operand
 
+-- an expression with what stands behind it, if something does
 abbrev pub postfix_of : Term → List SuffixTerm → Term
 postfix_of x [] = x
-postfix_of x (s ∷ ss) = PostfixTerm (place_of x) x (suffixes_from (s ∷ ss))
+postfix_of x (suffix ∷ suffixes) = PostfixTerm (place_of x) x (suffixes_from (suffix ∷ suffixes))
 
+-- an index, at the place of its `[`
 abbrev pub index_of : Token → Term → SuffixTerm
-index_of t e = IndexTerm t.place e
+index_of token index = IndexTerm token.place index
 
+-- a member, at the place of its `.`
 abbrev pub member_of : Token → Token → SuffixTerm
-member_of dot t = MemberTerm dot.place (bytes_of t.kind) t.place
+member_of dot named = MemberTerm dot.place (bytes_of named.kind) named.place
 
+-- a name, or a call where arguments follow
 abbrev pub named_of : Token → Option (List ArgTerm) → Term
-named_of t None = NameTerm t.place (bytes_of t.kind)
-named_of t (Some args) = CallTerm t.place (bytes_of t.kind) (args_from args)
+named_of token None = NameTerm token.place (bytes_of token.kind)
+named_of token (Some args) = CallTerm token.place (bytes_of token.kind) (args_from args)
 
+-- what stands in parentheses
 abbrev pub paren_of : Token → Term → Term
-paren_of t e = ParenTerm t.place e
+paren_of token inner = ParenTerm token.place inner
 
 -- what a bracket holds behind its first expression: more items, or the rest of a range
 pub data Rest : Type 0 where
@@ -68,23 +80,27 @@ pub data Rest : Type 0 where
   range : (to : Term) → Rest
   stepped : (step to : Term) → Rest
 
+-- a list or a range, by what stands behind its first expression
 abbrev pub filled_of : Token → Term → Rest → Term
-filled_of t first (items more) = ListTerm t.place (terms_from (first ∷ more))
-filled_of t first (range to) = RangeTerm t.place first to
-filled_of t first (stepped step to) = SteppedRangeTerm t.place first step to
+filled_of token first (items more) = ListTerm token.place (terms_from (first ∷ more))
+filled_of token first (range to) = RangeTerm token.place first to
+filled_of token first (stepped step to) = SteppedRangeTerm token.place first step to
 
+-- the same, or the empty list
 abbrev pub bracket_of : Token → Option (Term × Rest) → Term
-bracket_of t None = ListTerm t.place (terms_from [])
-bracket_of t (Some p) = filled_of t p.0 p.1
+bracket_of token None = ListTerm token.place (terms_from [])
+bracket_of token (Some parts) = filled_of token parts.0 parts.1
 
+-- the rest of a range: up to the next expression, or by it as a step up to one more
 abbrev pub range_of : Term → Option Term → Rest
-range_of e None = range e
-range_of e (Some to) = stepped e to
+range_of next None = range next
+range_of next (Some to) = stepped next to
 
 -- arguments, parameters and variables of loops
 
+-- an argument with a name or a special name
 abbrev pub given_of : Token → Term → ArgTerm
-given_of t e = cond (is special t) (SpecialArgTerm t.place (bytes_of t.kind) e) (NamedTerm t.place (bytes_of t.kind) e)
+given_of token value = cond (is special token) (SpecialArgTerm token.place (bytes_of token.kind) value) (NamedTerm token.place (bytes_of token.kind) value)
 
 -- SPECIAL is a special name other than `$children`.
 -- arg = NAME "=" expr | SPECIAL "=" expr | expr
@@ -95,9 +111,10 @@ Arg E = EitherOf (Both given_of (One (among argument_names)) (Behind (is assign_
 abbrev pub Args : Language Term → Language (List ArgTerm)
 Args E = EitherOf (Separated (is comma_sign) (Arg E)) (Nothing [])
 
+-- a parameter, with its default where one follows
 abbrev pub param_of : Token → Option Term → ParamTerm
-param_of t None = PlainTerm t.place (bytes_of t.kind)
-param_of t (Some e) = DefaultTerm t.place (bytes_of t.kind) e
+param_of token None = PlainTerm token.place (bytes_of token.kind)
+param_of token (Some default) = DefaultTerm token.place (bytes_of token.kind) default
 
 -- param = NAME [ "=" expr ]
 abbrev pub Param : Language Term → Language ParamTerm
@@ -107,8 +124,9 @@ Param E = Both param_of (One (is name)) (Maybe (Behind (is assign_sign) E))
 abbrev pub Params : Language ParamTerm → Language (List ParamTerm)
 Params P = EitherOf (Separated (is comma_sign) P) (Nothing [])
 
+-- a variable of a loop, with what it goes over
 abbrev pub binder_of : Token → Term → BinderTerm
-binder_of t e = record { at = t.place; name = bytes_of t.kind; values = e }
+binder_of token over = record { at = token.place; name = bytes_of token.kind; values = over }
 
 -- binder = NAME "=" expr
 abbrev pub Binder : Language Term → Language BinderTerm
@@ -133,23 +151,24 @@ Bracket E =
 -- primary = NUMERAL | TEXT | "true" | "false" | "undef" | "$children" | SPECIAL | NAME | NAME "(" args ")" | "(" expr ")" | lists and ranges
 abbrev pub Primary : Language Term → Language (List ArgTerm) → Language Term
 Primary E As =
-    EitherOf (Mapped (λ t. NumberTerm t.place (number_of t.kind)) (One (is numeral)))
-    (EitherOf (Mapped (λ t. TextTerm t.place (bytes_of t.kind)) (One (is text)))
-    (EitherOf (Mapped (λ t. TruthTerm t.place true) (One (is true_word)))
-    (EitherOf (Mapped (λ t. TruthTerm t.place false) (One (is false_word)))
-    (EitherOf (Mapped (λ t. UndefTerm t.place) (One (is undef_word)))
-    (EitherOf (Mapped (λ t. ChildCountTerm t.place) (One (is child_count)))
-    (EitherOf (Mapped (λ t. SpecialTerm t.place (bytes_of t.kind)) (One (is special)))
+    EitherOf (Mapped (λ token. NumberTerm token.place (number_of token.kind)) (One (is numeral)))
+    (EitherOf (Mapped (λ token. TextTerm token.place (bytes_of token.kind)) (One (is text)))
+    (EitherOf (Mapped (λ token. TruthTerm token.place true) (One (is true_word)))
+    (EitherOf (Mapped (λ token. TruthTerm token.place false) (One (is false_word)))
+    (EitherOf (Mapped (λ token. UndefTerm token.place) (One (is undef_word)))
+    (EitherOf (Mapped (λ token. ChildCountTerm token.place) (One (is child_count)))
+    (EitherOf (Mapped (λ token. SpecialTerm token.place (bytes_of token.kind)) (One (is special)))
     (EitherOf (Both named_of (One (is name)) (Maybe (InParentheses As)))
     (EitherOf (Both paren_of (One (is open_parenthesis_sign)) (Before E (is close_parenthesis_sign)))
     (Bracket E)))))))))
 
--- postfix = primary { "[" expr "]" | "." NAME }
+-- suffix = "[" expr "]" | "." NAME
 abbrev pub Suffix : Language Term → Language SuffixTerm
 Suffix E =
     EitherOf (Both index_of (One (is open_bracket_sign)) (Before E (is close_bracket_sign)))
     (Both member_of (One (is dot_sign)) (One (is name)))
 
+-- postfix = primary { suffix }
 abbrev pub Postfix : Language Term → Language (List ArgTerm) → Language Term
 Postfix E As = Both postfix_of (Primary E As) (Many (Suffix E))
 
@@ -188,37 +207,39 @@ TooDeep outline f = Mapped f (One (is caret_sign))
 -- arguments, parameters and variables of a loop whose tokens are less deep than so much; E is an expression as deep
 abbrev pub ArgsIn : ℕ → Language Term → Language (List ArgTerm)
 ArgsIn zero E = Nothing []
-ArgsIn (suc d) E = Args E
+ArgsIn (suc depth) E = Args E
 
 abbrev pub ParamsIn : ℕ → Language Term → Language (List ParamTerm)
 ParamsIn zero E = Nothing []
-ParamsIn (suc d) E = Params (Param E)
+ParamsIn (suc depth) E = Params (Param E)
 
 abbrev pub BindersIn : Detail → ℕ → Language Term → Language (List BinderTerm)
-BindersIn g zero E = TooDeep g (λ t. [])
-BindersIn g (suc d) E = Binders E
+BindersIn detail zero E = TooDeep detail (λ token. [])
+BindersIn detail (suc depth) E = Binders E
 
 -- an expression, and an operand, whose tokens are less deep than so much
 unfoldable mutual
   pub Expr : Detail → ℕ → Language Term
-  Expr g zero = TooDeep g (λ t. UndefTerm t.place)
-  Expr g (suc d) = Choice (Expr g d) (ArgsIn d (Expr g d)) (Operand g d)
+  Expr detail zero = TooDeep detail (λ token. UndefTerm token.place)
+  Expr detail (suc depth) = Choice (Expr detail depth) (ArgsIn depth (Expr detail depth)) (Operand detail depth)
 
   pub Operand : Detail → ℕ → Language Term
-  Operand g zero = TooDeep g (λ t. UndefTerm t.place)
-  Operand g (suc d) = Unary (Expr g d) (ArgsIn d (Expr g d)) (Operand g d)
+  Operand detail zero = TooDeep detail (λ token. UndefTerm token.place)
+  Operand detail (suc depth) = Unary (Expr detail depth) (ArgsIn depth (Expr detail depth)) (Operand detail depth)
 
 -- statements; E is an expression one deeper, and so are As arguments, Ps parameters, Ns variables of a loop,
 -- Ss statements and B a body
 
+-- a modifier with its place
 abbrev pub mark_of : Token → MarkTerm
-mark_of t = record { at = t.place; modifier = modifier_at (class_of t.kind) }
+mark_of token = record { at = token.place; modifier = modifier_at (class_of token.kind) }
 
+-- an instance, at the place of its first modifier, if it has some
 abbrev pub instance_of : List MarkTerm → CoreTerm → InstanceTerm
 instance_of [] core = AnInstance (place_of_core core) [] core
-instance_of (m ∷ ms) core = AnInstance m.at (m ∷ ms) core
+instance_of (mark ∷ marks) core = AnInstance mark.at (mark ∷ marks) core
 
--- an `else` behind this body would be its own
+-- an `else` behind this body would be its own, and so behind an instance and what stands behind its modifiers
 abbrev mutual
   pub ends_open : BodyTerm → Bool
   ends_open (EmptyBody at) = false
@@ -237,18 +258,21 @@ abbrev mutual
 
 -- an `else` belongs to the nearest `if`
 abbrev pub IsNearest : (Token × (Term × BodyTerm)) → Option BodyTerm → Type 0
-IsNearest p None = Unit {0}
-IsNearest p (Some other) = ends_open p.1.1 ≡ false
+IsNearest parts None = Unit {0}
+IsNearest parts (Some other) = ends_open parts.1.1 ≡ false
 
+-- a choice of a body, with an `else` where one follows
 abbrev pub if_of : (Token × (Term × BodyTerm)) → Option BodyTerm → CoreTerm
-if_of p None = IfTerm p.0.place p.1.0 p.1.1
-if_of p (Some other) = IfElseTerm p.0.place p.1.0 p.1.1 other
+if_of parts None = IfTerm parts.0.place parts.1.0 parts.1.1
+if_of parts (Some other) = IfElseTerm parts.0.place parts.1.0 parts.1.1 other
 
+-- a loop, by its word
 abbrev pub loop_of : Token → (List BinderTerm × BodyTerm) → CoreTerm
-loop_of t p = cond (is for_word t) (ForTerm t.place p.0 p.1) (IntersectionForTerm t.place p.0 p.1)
+loop_of token parts = cond (is for_word token) (ForTerm token.place parts.0 parts.1) (IntersectionForTerm token.place parts.0 parts.1)
 
+-- a call of a module
 abbrev pub call_of : Token → (List ArgTerm × BodyTerm) → CoreTerm
-call_of t p = ModuleCallTerm t.place (bytes_of t.kind) p.0 p.1
+call_of token parts = ModuleCallTerm token.place (bytes_of token.kind) parts.0 parts.1
 
 -- core = "if" "(" expr ")" body [ "else" body ] | ("for" | "intersection_for") "(" binders ")" body | NAME "(" args ")" body
 abbrev pub Core : Language Term → Language (List ArgTerm) → Language (List BinderTerm) → Language BodyTerm → Language CoreTerm
@@ -261,37 +285,43 @@ Core E As Ns B =
 abbrev pub Instance : Language Term → Language (List ArgTerm) → Language (List BinderTerm) → Language BodyTerm → Language InstanceTerm
 Instance E As Ns B = Both instance_of (Many (Mapped mark_of (One (among (times_sign ∷ remainder_sign ∷ hash_sign ∷ not_sign ∷ []))))) (Core E As Ns B)
 
+-- a body of statements in braces
 abbrev pub block_of : Token → List StatementTerm → BodyTerm
-block_of t ss = BlockBody t.place (statements_from ss)
+block_of token statements = BlockBody token.place (statements_from statements)
 
 -- body = ";" | "{" { statement } "}" | instance
 abbrev pub BodyOf : Language InstanceTerm → Language (List StatementTerm) → Language BodyTerm
 BodyOf I Ss =
-    EitherOf (Mapped (λ t. EmptyBody t.place) (One (is semicolon_sign)))
+    EitherOf (Mapped (λ token. EmptyBody token.place) (One (is semicolon_sign)))
     (EitherOf (Both block_of (One (is open_brace_sign)) (Before Ss (is close_brace_sign)))
     (Mapped InstanceBody I))
 
+-- a bare block
 abbrev pub bare_block_of : Token → List StatementTerm → StatementTerm
-bare_block_of t ss = BlockStatement t.place (statements_from ss)
+bare_block_of token statements = BlockStatement token.place (statements_from statements)
 
+-- an assignment to a name
 abbrev pub assignment_of : Token → Term → StatementTerm
-assignment_of t e = AssignmentTerm t.place (bytes_of t.kind) e
+assignment_of token value = AssignmentTerm token.place (bytes_of token.kind) value
 
+-- an assignment to a special name
 abbrev pub special_assignment_of : Token → Term → StatementTerm
-special_assignment_of t e = SpecialAssignmentTerm t.place (bytes_of t.kind) e
+special_assignment_of token value = SpecialAssignmentTerm token.place (bytes_of token.kind) value
 
+-- a definition of a module, at the place of its word
 abbrev pub module_of : Token → (Token × (List ParamTerm × BodyTerm)) → StatementTerm
-module_of t p = ModuleTerm t.place (bytes_of p.0.kind) p.0.place p.1.0 p.1.1
+module_of token parts = ModuleTerm token.place (bytes_of parts.0.kind) parts.0.place parts.1.0 parts.1.1
 
+-- a definition of a function, at the place of its word
 abbrev pub function_of : Token → (Token × (List ParamTerm × Term)) → StatementTerm
-function_of t p = FunctionTerm t.place (bytes_of p.0.kind) p.0.place p.1.0 p.1.1
+function_of token parts = FunctionTerm token.place (bytes_of parts.0.kind) parts.0.place parts.1.0 parts.1.1
 
 -- statement = ";" | "{" { statement } "}" | SPECIAL "=" expr ";" | NAME "=" expr ";" | "module" NAME "(" params ")" body
 --           | "function" NAME "(" params ")" "=" expr ";" | instance
 -- X is an expression as deep as the statement, and I an instance
 abbrev pub StatementOf : Language Term → Language (List ParamTerm) → Language InstanceTerm → Language (List StatementTerm) → Language BodyTerm → Language StatementTerm
 StatementOf X Ps I Ss B =
-    EitherOf (Mapped (λ t. EmptyStatement t.place) (One (is semicolon_sign)))
+    EitherOf (Mapped (λ token. EmptyStatement token.place) (One (is semicolon_sign)))
     (EitherOf (Both bare_block_of (One (is open_brace_sign)) (Before Ss (is close_brace_sign)))
     (EitherOf (Both special_assignment_of (One (is special)) (Behind (is assign_sign) (Before X (is semicolon_sign))))
     (EitherOf (Both assignment_of (One (is name)) (Behind (is assign_sign) (Before X (is semicolon_sign))))
@@ -302,25 +332,27 @@ StatementOf X Ps I Ss B =
 -- statements whose tokens are less deep than so much; S is a statement as deep
 abbrev pub StatementsIn : ℕ → Language StatementTerm → Language (List StatementTerm)
 StatementsIn zero S = Nothing []
-StatementsIn (suc d) S = Many S
+StatementsIn (suc depth) S = Many S
 
 -- an instance over a body one deeper
 abbrev pub InstanceIn : Detail → ℕ → Language BodyTerm → Language InstanceTerm
-InstanceIn g d B = Instance (Expr g d) (ArgsIn d (Expr g d)) (BindersIn g d (Expr g d)) B
+InstanceIn detail depth B = Instance (Expr detail depth) (ArgsIn depth (Expr detail depth)) (BindersIn detail depth (Expr detail depth)) B
 
 -- a statement, and a body, whose tokens are less deep than so much
 unfoldable mutual
   pub Statement : Detail → ℕ → Language StatementTerm
-  Statement g zero = Never
-  Statement g (suc d) = StatementOf (Expr g (suc d)) (ParamsIn d (Expr g d)) (InstanceIn g d (Body g d)) (StatementsIn d (Statement g d)) (Body g d)
+  Statement detail zero = Never
+  Statement detail (suc depth) =
+      StatementOf (Expr detail (suc depth)) (ParamsIn depth (Expr detail depth)) (InstanceIn detail depth (Body detail depth))
+      (StatementsIn depth (Statement detail depth)) (Body detail depth)
 
   pub Body : Detail → ℕ → Language BodyTerm
-  Body g zero = TooDeep g (λ t. EmptyBody t.place)
-  Body g (suc d) = BodyOf (InstanceIn g d (Body g d)) (StatementsIn d (Statement g d))
+  Body detail zero = TooDeep detail (λ token. EmptyBody token.place)
+  Body detail (suc depth) = BodyOf (InstanceIn detail depth (Body detail depth)) (StatementsIn depth (Statement detail depth))
 
 -- { statement }, and the end
 abbrev pub ProgramIn : Detail → ℕ → Language (List StatementTerm)
-ProgramIn g d = Before (Many (Statement g d)) (is end)
+ProgramIn detail depth = Before (Many (Statement detail depth)) (is end)
 
 -- a program whose tokens are less deep than so much
 abbrev pub WholeProgram : ℕ → Language (List StatementTerm)

@@ -2,48 +2,51 @@
 use Rattle.std.specs.Prelude.{◌≡◌, List, [], ◌∷◌, ◌++◌, Bool, true, Option, Some, None, ◌⊎◌}
 use Rattle.scad_lexer.specs.declared.token.Token.{Token}
 
+-- which lists of tokens write a value
 abbrev pub Language : Type 0 → Type 1
 Language A = A → List Token → Type 0
 
 -- one token of these
 abbrev pub One : (Token → Bool) → Language Token
-One test t s = (test t ≡ true) × (s ≡ t ∷ [])
+One test token tokens = (test token ≡ true) × (tokens ≡ token ∷ [])
 
 -- something that stands for another thing
 abbrev pub Mapped : {A B : Type 0} → (A → B) → Language A → Language B
-Mapped {A} f L b s = (a : A) × L a s × (b ≡ f a)
+Mapped {A} f L b tokens = (a : A) × L a tokens × (b ≡ f a)
 
 -- one after the other
 abbrev pub Both : {A B C : Type 0} → (A → B → C) → Language A → Language B → Language C
-Both {A} {B} f La Lb c s = (a : A) × (b : B) × (p : List Token) × (q : List Token) × La a p × Lb b q × (c ≡ f a b) × (s ≡ p ++ q)
+Both {A} {B} f La Lb c tokens =
+    (a : A) × (b : B) × (front : List Token) × (rest : List Token) × La a front × Lb b rest × (c ≡ f a b) × (tokens ≡ front ++ rest)
 
 -- one after the other, where they go together
 abbrev pub BothIf : {A B C : Type 0} → (A → B → C) → (A → B → Type 0) → Language A → Language B → Language C
-BothIf {A} {B} f Fit La Lb c s = (a : A) × (b : B) × (p : List Token) × (q : List Token) × La a p × Lb b q × Fit a b × (c ≡ f a b) × (s ≡ p ++ q)
+BothIf {A} {B} f Fit La Lb c tokens =
+    (a : A) × (b : B) × (front : List Token) × (rest : List Token) × La a front × Lb b rest × Fit a b × (c ≡ f a b) × (tokens ≡ front ++ rest)
 
 -- the one or the other
 abbrev pub EitherOf : {A : Type 0} → Language A → Language A → Language A
-EitherOf La Lb x s = La x s ⊎ Lb x s
+EitherOf La Lb x tokens = La x tokens ⊎ Lb x tokens
 
 -- no tokens
 abbrev pub Nothing : {A : Type 0} → A → Language A
-Nothing a x s = (x ≡ a) × (s ≡ [])
+Nothing a x tokens = (x ≡ a) × (tokens ≡ [])
 
 -- any number of them
 abbrev pub Many : {A : Type 0} → Language A → Language (List A)
-Many L [] s = s ≡ []
-Many {A} L (x ∷ xs) s = (p : List Token) × (q : List Token) × L x p × Many L xs q × (s ≡ p ++ q)
+Many L [] tokens = tokens ≡ []
+Many {A} L (x ∷ xs) tokens = (front : List Token) × (rest : List Token) × L x front × Many L xs rest × (tokens ≡ front ++ rest)
 
 -- it, or nothing
 abbrev pub Maybe : {A : Type 0} → Language A → Language (Option A)
-Maybe L None s = s ≡ []
-Maybe L (Some x) s = L x s
+Maybe L None tokens = tokens ≡ []
+Maybe L (Some x) tokens = L x tokens
 
 -- nothing at all is so
 abbrev pub Never : {A : Type 0} → Language A
-Never x s = ⊥
+Never x tokens = ⊥
 
--- the parts of two that are one after the other
+-- of two that are one after the other the first, the second, both, and the first in front of the others
 abbrev pub first_of : {A B : Type 0} → A → B → A
 first_of a b = a
 

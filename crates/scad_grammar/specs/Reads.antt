@@ -17,86 +17,98 @@ firsts_of_primary = numeral ∷ text ∷ true_word ∷ false_word ∷ undef_word
 abbrev pub firsts_of_expression : List ℕ
 firsts_of_expression = minus_sign ∷ plus_sign ∷ not_sign ∷ firsts_of_primary
 
+-- the first token, if there is one
 abbrev pub head_of : List Token → Option Token
 head_of [] = None
-head_of (t ∷ ts) = Some t
+head_of (token ∷ tokens) = Some token
 
 -- where nothing stands that is deeper: a fault, by whether what stands here may begin it
 abbrev pub nested : {A : Type 0} → List ℕ → List ℕ → Reads A
-nested begins classes ts = cond (starts (among begins) ts) (Err (Nested, ts)) (Err (fault_of classes (head_of ts), ts))
+nested begins classes tokens =
+    cond (starts (among begins) tokens) (Err (Nested, tokens)) (Err (fault_of classes (head_of tokens), tokens))
 
--- e reads an expression one deeper, a an argument one deeper, p a primary, u an operand one deeper
+-- The reader of each production, over those of an expression, an argument and an operand one deeper, and of a primary.
 abbrev pub suffix_read : Reads Term → Reads SuffixTerm
-suffix_read e =
-    choice (is open_bracket_sign) (both index_of (one (is open_bracket_sign)) (both first_of e (one (is close_bracket_sign))))
+suffix_read expression =
+    choice (is open_bracket_sign) (both index_of (one (is open_bracket_sign)) (both first_of expression (one (is close_bracket_sign))))
     (both member_of (one (is dot_sign)) (one (is name)))
 
 abbrev pub postfix_read : Reads Term → Reads Term → Reads Term
-postfix_read e p = both postfix_of p (many (among (open_bracket_sign ∷ dot_sign ∷ [])) (suffix_read e))
+postfix_read expression primary = both postfix_of primary (many (among (open_bracket_sign ∷ dot_sign ∷ [])) (suffix_read expression))
 
 abbrev pub unary_read : Reads Term → Reads Term → Reads Term → Reads Term
-unary_read e u p = choice (among (minus_sign ∷ plus_sign ∷ not_sign ∷ [])) (both unary_of (one (among (minus_sign ∷ plus_sign ∷ not_sign ∷ []))) u) (postfix_read e p)
+unary_read expression operand primary =
+    choice (among (minus_sign ∷ plus_sign ∷ not_sign ∷ []))
+    (both unary_of (one (among (minus_sign ∷ plus_sign ∷ not_sign ∷ []))) operand) (postfix_read expression primary)
 
 abbrev pub chain_read : List (List ℕ) → Reads Term → Reads Term
-chain_read [] u = u
-chain_read (ops ∷ levels) u = both chain_of (chain_read levels u) (many (among ops) (both link (one (among ops)) (chain_read levels u)))
+chain_read [] operand = operand
+chain_read (ops ∷ levels) operand =
+    both chain_of (chain_read levels operand) (many (among ops) (both link (one (among ops)) (chain_read levels operand)))
 
+-- an argument that has a name, by its name, its `=` and its value
 abbrev pub given : Token → Token → Term → ArgTerm
-given t u e = given_of t e
+given token assign value = given_of token value
 
 abbrev pub arg_read : Reads Term → Reads ArgTerm
-arg_read e = ahead given (among argument_names) (is assign_sign) e (mapped PositionalTerm e)
+arg_read expression = ahead given (among argument_names) (is assign_sign) expression (mapped PositionalTerm expression)
 
 abbrev pub args_read : Reads ArgTerm → Reads (List ArgTerm)
-args_read a = choice (other_than (close_parenthesis_sign ∷ [])) (both cons a (trailing (is comma_sign) (other_than (close_parenthesis_sign ∷ [])) a)) (nothing [])
+args_read argument =
+    choice (other_than (close_parenthesis_sign ∷ [])) (both cons argument (trailing (is comma_sign) (other_than (close_parenthesis_sign ∷ [])) argument)) (nothing [])
 
+-- what stands in parentheses
 abbrev pub in_parentheses : {A : Type 0} → Reads A → Reads A
-in_parentheses r = both second_of (one (is open_parenthesis_sign)) (both first_of r (one (is close_parenthesis_sign)))
+in_parentheses reader = both second_of (one (is open_parenthesis_sign)) (both first_of reader (one (is close_parenthesis_sign)))
 
+-- the rest of a range behind its first expression
 abbrev pub range_read : Reads Term → Reads Rest
-range_read e = both second_of (one (is colon_sign)) (both range_of e (maybe (is colon_sign) (both second_of (one (is colon_sign)) e)))
+range_read expression =
+    both second_of (one (is colon_sign)) (both range_of expression (maybe (is colon_sign) (both second_of (one (is colon_sign)) expression)))
 
+-- what stands behind the first expression in brackets
 abbrev pub rest_read : Reads Term → Reads Rest
-rest_read e = choice (is colon_sign) (range_read e) (mapped items (trailing (is comma_sign) (other_than (close_bracket_sign ∷ [])) e))
+rest_read expression =
+    choice (is colon_sign) (range_read expression) (mapped items (trailing (is comma_sign) (other_than (close_bracket_sign ∷ [])) expression))
 
 abbrev pub bracket_read : Reads Term → Reads Term
-bracket_read e =
+bracket_read expression =
     both bracket_of (first (is open_bracket_sign))
-    (both first_of (maybe (other_than (close_bracket_sign ∷ [])) (both pair_of e (rest_read e))) (one (is close_bracket_sign)))
+    (both first_of (maybe (other_than (close_bracket_sign ∷ [])) (both pair_of expression (rest_read expression))) (one (is close_bracket_sign)))
 
 abbrev pub name_read : Reads ArgTerm → Reads Term
-name_read a = both named_of (one (is name)) (maybe (is open_parenthesis_sign) (in_parentheses (args_read a)))
+name_read argument = both named_of (one (is name)) (maybe (is open_parenthesis_sign) (in_parentheses (args_read argument)))
 
 abbrev pub paren_read : Reads Term → Reads Term
-paren_read e = both paren_of (one (is open_parenthesis_sign)) (both first_of e (one (is close_parenthesis_sign)))
+paren_read expression = both paren_of (one (is open_parenthesis_sign)) (both first_of expression (one (is close_parenthesis_sign)))
 
 abbrev pub primary_read : Reads Term → Reads ArgTerm → Reads Term
-primary_read e a =
-    choice (is numeral) (mapped (λ t. NumberTerm t.place (number_of t.kind)) (one (is numeral)))
-    (choice (is text) (mapped (λ t. TextTerm t.place (bytes_of t.kind)) (one (is text)))
-    (choice (is true_word) (mapped (λ t. TruthTerm t.place true) (one (is true_word)))
-    (choice (is false_word) (mapped (λ t. TruthTerm t.place false) (one (is false_word)))
-    (choice (is undef_word) (mapped (λ t. UndefTerm t.place) (one (is undef_word)))
-    (choice (is child_count) (mapped (λ t. ChildCountTerm t.place) (one (is child_count)))
-    (choice (is special) (mapped (λ t. SpecialTerm t.place (bytes_of t.kind)) (one (is special)))
-    (choice (is name) (name_read a) (choice (is open_parenthesis_sign) (paren_read e) (bracket_read e)))))))))
+primary_read expression argument =
+    choice (is numeral) (mapped (λ token. NumberTerm token.place (number_of token.kind)) (one (is numeral)))
+    (choice (is text) (mapped (λ token. TextTerm token.place (bytes_of token.kind)) (one (is text)))
+    (choice (is true_word) (mapped (λ token. TruthTerm token.place true) (one (is true_word)))
+    (choice (is false_word) (mapped (λ token. TruthTerm token.place false) (one (is false_word)))
+    (choice (is undef_word) (mapped (λ token. UndefTerm token.place) (one (is undef_word)))
+    (choice (is child_count) (mapped (λ token. ChildCountTerm token.place) (one (is child_count)))
+    (choice (is special) (mapped (λ token. SpecialTerm token.place (bytes_of token.kind)) (one (is special)))
+    (choice (is name) (name_read argument) (choice (is open_parenthesis_sign) (paren_read expression) (bracket_read expression)))))))))
 
 abbrev pub choice_read : Reads Term → Reads Term → Reads Term → Reads Term
-choice_read e u p =
-    both choice_of (chain_read levels (unary_read e u p))
-    (maybe (is question_sign) (both pair_of (one (is question_sign)) (both pair_of e (both second_of (one (is colon_sign)) e))))
+choice_read expression operand primary =
+    both choice_of (chain_read levels (unary_read expression operand primary))
+    (maybe (is question_sign) (both pair_of (one (is question_sign)) (both pair_of expression (both second_of (one (is colon_sign)) expression))))
 
 -- an argument whose tokens are less deep than so much, by its expression
 abbrev pub arg_in : ℕ → Reads Term → Reads ArgTerm
-arg_in zero e = nested firsts_of_expression left_out_of_expressions
-arg_in (suc d) e = arg_read e
+arg_in zero expression = nested firsts_of_expression left_out_of_expressions
+arg_in (suc depth) expression = arg_read expression
 
 -- an expression, and an operand, whose tokens are less deep than so much
 unfoldable mutual
   pub expr_read : ℕ → Reads Term
   expr_read zero = nested firsts_of_expression left_out_of_expressions
-  expr_read (suc d) = choice_read (expr_read d) (operand_read d) (primary_read (expr_read d) (arg_in d (expr_read d)))
+  expr_read (suc depth) = choice_read (expr_read depth) (operand_read depth) (primary_read (expr_read depth) (arg_in depth (expr_read depth)))
 
   pub operand_read : ℕ → Reads Term
   operand_read zero = nested firsts_of_expression left_out_of_expressions
-  operand_read (suc d) = unary_read (expr_read d) (operand_read d) (primary_read (expr_read d) (arg_in d (expr_read d)))
+  operand_read (suc depth) = unary_read (expr_read depth) (operand_read depth) (primary_read (expr_read depth) (arg_in depth (expr_read depth)))

@@ -22,32 +22,33 @@ use Rattle.scad_lexer.specs.Words.{has, digit, run_of, every, IsLongest, HasNoWo
 
 -- the reserved name that these bytes are
 abbrev pub reserved_of : List ℕ → Option Reserved
-reserved_of w =
-    cond (bytes_eq w (codes "module")) (Some Module) (cond (bytes_eq w (codes "function")) (Some Function)
-    (cond (bytes_eq w (codes "if")) (Some If) (cond (bytes_eq w (codes "else")) (Some Else)
-    (cond (bytes_eq w (codes "for")) (Some For) (cond (bytes_eq w (codes "intersection_for")) (Some IntersectionFor)
-    (cond (bytes_eq w (codes "true")) (Some True) (cond (bytes_eq w (codes "false")) (Some False)
-    (cond (bytes_eq w (codes "undef")) (Some Undef) (cond (bytes_eq w (codes "use")) (Some Use)
-    (cond (bytes_eq w (codes "include")) (Some Include) (cond (bytes_eq w (codes "let")) (Some Let)
-    (cond (bytes_eq w (codes "each")) (Some Each) None))))))))))))
+reserved_of bytes =
+    cond (bytes_eq bytes (codes "module")) (Some Module) (cond (bytes_eq bytes (codes "function")) (Some Function)
+    (cond (bytes_eq bytes (codes "if")) (Some If) (cond (bytes_eq bytes (codes "else")) (Some Else)
+    (cond (bytes_eq bytes (codes "for")) (Some For) (cond (bytes_eq bytes (codes "intersection_for")) (Some IntersectionFor)
+    (cond (bytes_eq bytes (codes "true")) (Some True) (cond (bytes_eq bytes (codes "false")) (Some False)
+    (cond (bytes_eq bytes (codes "undef")) (Some Undef) (cond (bytes_eq bytes (codes "use")) (Some Use)
+    (cond (bytes_eq bytes (codes "include")) (Some Include) (cond (bytes_eq bytes (codes "let")) (Some Let)
+    (cond (bytes_eq bytes (codes "each")) (Some Each) None))))))))))))
 
+-- the reserved name that was found, or else a name of these bytes
 abbrev pub name_or : List ℕ → Option Reserved → TokenKind
-name_or w None = NameToken w
-name_or w (Some r) = ReservedToken r
+name_or bytes None = NameToken bytes
+name_or bytes (Some reserved) = ReservedToken reserved
 
 -- a name, or a reserved one
 abbrev pub name_of : List ℕ → TokenKind
-name_of w = name_or w (reserved_of w)
+name_of bytes = name_or bytes (reserved_of bytes)
 
--- the number that decimal digits write, behind those that wrote v
+-- the number that decimal digits write, behind those that wrote a value
 abbrev pub number_from : ℕ → List ℕ → ℕ
-number_from v [] = v
-number_from v (b ∷ w) = number_from (v * 10 + (b - 48)) w
+number_from value [] = value
+number_from value (byte ∷ bytes) = number_from (value * 10 + (byte - 48)) bytes
 
 -- behind the whole part of a numeral: nothing, or a point and zeros
 abbrev pub zero_fraction : List ℕ → Bool
 zero_fraction [] = true
-zero_fraction (b ∷ w) = nat_eq b 46 && every (λ c. nat_eq c 48) w
+zero_fraction (byte ∷ bytes) = nat_eq byte 46 && every (λ c. nat_eq c 48) bytes
 
 -- a number that is below 2^53
 abbrev pub bounded : ℕ → WordMeaning
@@ -55,111 +56,119 @@ bounded n = cond (nat_lt n (2 ^ 53)) (Token (NumeralToken n)) (Fault TooLarge 0)
 
 -- a numeral: its whole part, where nothing but zeros is behind its point, and no exponent
 abbrev pub numeral_of : List ℕ → WordMeaning
-numeral_of w = cond (zero_fraction (drop (run_of digit w) w)) (bounded (number_from 0 (take (run_of digit w) w))) (Fault NotWhole 0)
+numeral_of bytes = cond (zero_fraction (drop (run_of digit bytes) bytes)) (bounded (number_from 0 (take (run_of digit bytes) bytes))) (Fault NotWhole 0)
 
+-- the fault that a numeral has, or else that of the letter behind so many bytes
 abbrev pub or_letter : WordMeaning → ℕ → WordMeaning
-or_letter (Fault k n) at = Fault k n
+or_letter (Fault kind n) at = Fault kind n
 or_letter Blank at = Fault BadCharacter at
-or_letter (Token k) at = Fault BadCharacter at
+or_letter (Token kind) at = Fault BadCharacter at
 
 -- a numeral with a letter behind it: the numeral's fault, or that of the letter
 abbrev pub letter_behind : List ℕ → WordMeaning
-letter_behind w = or_letter (numeral_of (take (length w - 1) w)) (length w - 1)
+letter_behind bytes = or_letter (numeral_of (take (length bytes - 1) bytes)) (length bytes - 1)
 
 -- the byte that an escape stands for: `\"`, `\\`, `\n`, `\t`, `\r`
 abbrev pub escape_of : ℕ → Option ℕ
-escape_of c =
-    cond (nat_eq c 34) (Some 34) (cond (nat_eq c 92) (Some 92) (cond (nat_eq c 110) (Some 10) (cond (nat_eq c 116) (Some 9) (cond (nat_eq c 114) (Some 13) None))))
+escape_of byte =
+    cond (nat_eq byte 34) (Some 34) (cond (nat_eq byte 92) (Some 92) (cond (nat_eq byte 110) (Some 10) (cond (nat_eq byte 116) (Some 9) (cond (nat_eq byte 114) (Some 13) None))))
 
 -- the same of the byte that begins a text
 abbrev pub escape_at : List ℕ → Option ℕ
 escape_at [] = None
-escape_at (c ∷ w) = escape_of c
+escape_at (byte ∷ bytes) = escape_of byte
 
 -- with a byte in front that was written in so many bytes
 abbrev pub with_byte : ℕ → ℕ → Result (List ℕ) ℕ → Result (List ℕ) ℕ
-with_byte b n (Ok bs) = Ok (b ∷ bs)
-with_byte b n (Err at) = Err (n + at)
+with_byte byte n (Ok bytes) = Ok (byte ∷ bytes)
+with_byte byte n (Err at) = Err (n + at)
 
+-- with an escape in front; one that stands for no byte is a fault at its backslash
 abbrev pub with_escape : Option ℕ → Result (List ℕ) ℕ → Result (List ℕ) ℕ
-with_escape None r = Err 0
-with_escape (Some b) r = with_byte b 2 r
+with_escape None rest = Err 0
+with_escape (Some byte) rest = with_byte byte 2 rest
 
 -- the bytes that a text's inside writes, or how many bytes stand before its first fault
 unfoldable mutual
   pub decoded : List ℕ → Result (List ℕ) ℕ
   decoded [] = Ok []
-  decoded (b ∷ w) = cond (nat_eq b 92) (decoded_escape w) (cond (has Printable b) (with_byte b 1 (decoded w)) (Err 0))
+  decoded (byte ∷ bytes) = cond (nat_eq byte 92) (decoded_escape bytes) (cond (has Printable byte) (with_byte byte 1 (decoded bytes)) (Err 0))
 
+  -- the same behind a backslash
   pub decoded_escape : List ℕ → Result (List ℕ) ℕ
   decoded_escape [] = Err 0
-  decoded_escape (c ∷ w) = with_escape (escape_of c) (decoded w)
+  decoded_escape (byte ∷ bytes) = with_escape (escape_of byte) (decoded bytes)
 
 -- a text without its quotes
 abbrev pub inside : List ℕ → List ℕ
-inside w = take (length w - 1 - 1) (drop 1 w)
+inside bytes = take (length bytes - 1 - 1) (drop 1 bytes)
 
+-- the token of a text's bytes, or a fault behind its quote and so many bytes
 abbrev pub text_from : Result (List ℕ) ℕ → WordMeaning
-text_from (Ok bs) = Token (TextToken bs)
+text_from (Ok bytes) = Token (TextToken bytes)
 text_from (Err at) = Fault BadCharacter (1 + at)
 
+-- what a text with both its quotes stands for
 abbrev pub text_of : List ℕ → WordMeaning
-text_of w = text_from (decoded (inside w))
+text_of bytes = text_from (decoded (inside bytes))
 
 -- what a word stands for
 abbrev pub meaning_of : Word → List ℕ → WordMeaning
-meaning_of BlankWord w = Blank
-meaning_of OpenComment w = Fault OpenCommentFault 0
-meaning_of Name w = Token (name_of w)
-meaning_of Special w = Token (SpecialToken (drop 1 w))
-meaning_of Numeral w = numeral_of w
-meaning_of NumeralAndLetter w = letter_behind w
-meaning_of Text w = text_of w
-meaning_of OpenText w = Fault OpenTextFault 0
-meaning_of (Symbol s) w = Token (SymbolToken s)
+meaning_of BlankWord bytes = Blank
+meaning_of OpenComment bytes = Fault OpenCommentFault 0
+meaning_of Name bytes = Token (name_of bytes)
+meaning_of Special bytes = Token (SpecialToken (drop 1 bytes))
+meaning_of Numeral bytes = numeral_of bytes
+meaning_of NumeralAndLetter bytes = letter_behind bytes
+meaning_of Text bytes = text_of bytes
+meaning_of OpenText bytes = Fault OpenTextFault 0
+meaning_of (Symbol symbol) bytes = Token (SymbolToken symbol)
 
 -- the place behind these bytes: a newline begins a line
 abbrev pub moved : Place → List ℕ → Place
-moved p [] = p
-moved p (b ∷ w) = moved (cond (nat_eq b 10) (record { line = suc p.line; column = 1 }) (record { line = p.line; column = suc p.column })) w
+moved place [] = place
+moved place (byte ∷ bytes) =
+    moved (cond (nat_eq byte 10) (record { line = suc place.line; column = 1 }) (record { line = place.line; column = suc place.column })) bytes
 
 -- what a source gives: its tokens, or its first fault
 pub data LexOutcome : Type 0 where
   Gives : (tokens : List TokenIn) → LexOutcome
   Faults : (kind : FaultKind) → (at : Place) → LexOutcome
 
+-- with these tokens in front
 abbrev pub in_front : List TokenIn → LexOutcome → LexOutcome
-in_front ts (Gives us) = Gives (ts ++ us)
-in_front ts (Faults k p) = Faults k p
+in_front tokens (Gives more) = Gives (tokens ++ more)
+in_front tokens (Faults kind place) = Faults kind place
 
 -- the token that a word makes at a place, if it makes one
 abbrev pub tokens_at : Place → WordMeaning → List TokenIn
-tokens_at p (Token k) = record { kind = k; place = p } ∷ []
-tokens_at p Blank = []
-tokens_at p (Fault k n) = []
+tokens_at at (Token kind) = record { kind = kind; place = at } ∷ []
+tokens_at at Blank = []
+tokens_at at (Fault kind n) = []
 
+-- that a word has no fault
 abbrev pub IsSound : WordMeaning → Type 0
-IsSound (Fault k n) = ⊥
+IsSound (Fault kind n) = ⊥
 IsSound Blank = Unit {0}
-IsSound (Token k) = Unit {0}
+IsSound (Token kind) = Unit {0}
 
 -- the end of the source
 abbrev pub IsEnd : Place → List ℕ → LexOutcome → Type 0
-IsEnd p text o = (text ≡ []) × (o ≡ Gives (record { kind = End; place = p } ∷ []))
+IsEnd at text outcome = (text ≡ []) × (outcome ≡ Gives (record { kind = End; place = at } ∷ []))
 
 -- a byte at which no word begins
 abbrev pub IsStray : Place → List ℕ → LexOutcome → Type 0
-IsStray p text o = (text ≢ []) × HasNoWord text × (o ≡ Faults BadCharacter p)
+IsStray at text outcome = (text ≢ []) × HasNoWord text × (outcome ≡ Faults BadCharacter at)
 
 -- a word with a fault
-pub record IsFaulty (p : Place) (text : List ℕ) (o : LexOutcome) : Type 0 where
+pub record IsFaulty (at : Place) (text : List ℕ) (given : LexOutcome) : Type 0 where
   pub length : ℕ
   pub word : Word
   pub kind : FaultKind
   pub before : ℕ
   pub longest : IsLongest text length word
   pub means : meaning_of word (take length text) ≡ Fault kind before
-  pub outcome : o ≡ Faults kind (moved p (take before text))
+  pub outcome : given ≡ Faults kind (moved at (take before text))
 
 -- a word of a source, by its length
 pub record Piece : Type 0 where
@@ -168,55 +177,57 @@ pub record Piece : Type 0 where
 
 -- the text from a place on is these words, each the longest there, and then its end or its first fault
 abbrev pub Reads : List Piece → Place → List ℕ → LexOutcome → Type 0
-Reads [] p text o = IsEnd p text o ⊎ (IsStray p text o ⊎ IsFaulty p text o)
-Reads (x ∷ xs) p text o =
-    IsLongest text x.bytes x.word × IsSound (meaning_of x.word (take x.bytes text))
-    × ((rest : LexOutcome) × Reads xs (moved p (take x.bytes text)) (drop x.bytes text) rest × (o ≡ in_front (tokens_at p (meaning_of x.word (take x.bytes text))) rest))
+Reads [] at text outcome = IsEnd at text outcome ⊎ (IsStray at text outcome ⊎ IsFaulty at text outcome)
+Reads (piece ∷ pieces) at text outcome =
+    IsLongest text piece.bytes piece.word × IsSound (meaning_of piece.word (take piece.bytes text))
+    × ((rest : LexOutcome) × Reads pieces (moved at (take piece.bytes text)) (drop piece.bytes text) rest
+    × (outcome ≡ in_front (tokens_at at (meaning_of piece.word (take piece.bytes text))) rest))
 
 -- what a text gives from a place on
 abbrev pub LexesFrom : Place → List ℕ → LexOutcome → Type 0
-LexesFrom p text o = (pieces : List Piece) × Reads pieces p text o
+LexesFrom at text outcome = (pieces : List Piece) × Reads pieces at text outcome
 
 -- what a whole source gives: blanks, comments and tokens, each as long as possible
 abbrev pub Lexes : List ℕ → LexOutcome → Type 0
-Lexes text o = LexesFrom (record { line = 1; column = 1 }) text o
+Lexes text outcome = LexesFrom (record { line = 1; column = 1 }) text outcome
 
 -- the stop is what the text gives from the place on, unless memory ran out
 abbrev pub IsFaultFrom : Place → List ℕ → Stop → Type 0
-IsFaultFrom p text (StopFault f) = LexesFrom p text (Faults f.kind f.place)
-IsFaultFrom p text NoMemory = Unit {0}
+IsFaultFrom at text (StopFault fault) = LexesFrom at text (Faults fault.kind fault.place)
+IsFaultFrom at text NoMemory = Unit {0}
 
+-- the stop is what the whole source gives, unless memory ran out
 abbrev pub IsFault : List ℕ → Stop → Type 0
 IsFault text stop = IsFaultFrom (record { line = 1; column = 1 }) text stop
 
--- a place is that of a byte of the text, whose first byte stands at the place p
+-- a place is that of a byte of the text, whose first byte stands at the start
 abbrev pub IsPlaceOfByteFrom : Place → List ℕ → Place → Type 0
-IsPlaceOfByteFrom p text at = (front : List ℕ) × (b : ℕ) × (rest : List ℕ) × (text ≡ front ++ b ∷ rest) × (at ≡ moved p front)
+IsPlaceOfByteFrom start text at = (front : List ℕ) × (byte : ℕ) × (rest : List ℕ) × (text ≡ front ++ byte ∷ rest) × (at ≡ moved start front)
 
 -- a fault stands at a byte of the source; want of memory has no place
 abbrev pub StandsAtByte : List ℕ → Stop → Type 0
-StandsAtByte text (StopFault f) = IsPlaceOfByteFrom (record { line = 1; column = 1 }) text f.place
+StandsAtByte text (StopFault fault) = IsPlaceOfByteFrom (record { line = 1; column = 1 }) text fault.place
 StandsAtByte text NoMemory = Unit {0}
 
 -- the answer is this outcome, unless memory ran out
 abbrev pub Agrees : Result (Vec TokenIn) Stop → LexOutcome → Type 0
-Agrees (Ok ts) o = o ≡ Gives ts.items
-Agrees (Err (StopFault f)) o = o ≡ Faults f.kind f.place
-Agrees (Err NoMemory) o = Unit {0}
+Agrees (Ok tokens) outcome = outcome ≡ Gives tokens.items
+Agrees (Err (StopFault fault)) outcome = outcome ≡ Faults fault.kind fault.place
+Agrees (Err NoMemory) outcome = Unit {0}
 
--- the longest word of a text has no fault, and the token that it makes, if it makes one, is appended with the place p to those before
-pub record AppendsNext (before after : List TokenIn) (p : Place) (text : List ℕ) (bytes : ℕ) : Type 0 where
+-- the longest word of a text has no fault, and the token that it makes at its place, if it makes one, is appended to those before
+pub record AppendsNext (before after : List TokenIn) (at : Place) (text : List ℕ) (bytes : ℕ) : Type 0 where
   pub word : Word
   pub longest : IsLongest text bytes word
   pub sound : IsSound (meaning_of word (take bytes text))
-  pub appended : after ≡ before ++ tokens_at p (meaning_of word (take bytes text))
+  pub appended : after ≡ before ++ tokens_at at (meaning_of word (take bytes text))
   pub some : 1 ≤ bytes
 
 -- a fault stands within the word
 abbrev pub IsWithin : ℕ → WordMeaning → Type 0
-IsWithin n (Fault k at) = at ≤ n
+IsWithin n (Fault kind before) = before ≤ n
 IsWithin n Blank = Unit {0}
-IsWithin n (Token k) = Unit {0}
+IsWithin n (Token kind) = Unit {0}
 
 -- the end of a source
 abbrev pub is_end : TokenKind → Bool
@@ -224,12 +235,12 @@ is_end (NumeralToken n) = false
 is_end (NameToken bytes) = false
 is_end (SpecialToken bytes) = false
 is_end (TextToken bytes) = false
-is_end (ReservedToken r) = false
-is_end (SymbolToken s) = false
+is_end (ReservedToken reserved) = false
+is_end (SymbolToken symbol) = false
 is_end End = true
 
 -- the last token is an end, and no other is
 abbrev pub ends_once : List TokenIn → Bool
 ends_once [] = false
-ends_once (t ∷ []) = is_end t.kind
-ends_once (t ∷ u ∷ ts) = not (is_end t.kind) && ends_once (u ∷ ts)
+ends_once (token ∷ []) = is_end token.kind
+ends_once (token ∷ next ∷ tokens) = not (is_end token.kind) && ends_once (next ∷ tokens)

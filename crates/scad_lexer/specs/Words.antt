@@ -9,167 +9,176 @@ use Rattle.scad_lexer.specs.declared.word.Word.TheVariants.{Blank, OpenComment, 
 
 -- space, tab, carriage return, newline
 abbrev pub blank : ℕ → Bool
-blank b = nat_eq b 32 || nat_eq b 9 || nat_eq b 13 || nat_eq b 10
+blank byte = nat_eq byte 32 || nat_eq byte 9 || nat_eq byte 13 || nat_eq byte 10
 
 -- a letter or `_`
 abbrev pub letter : ℕ → Bool
-letter b = (nat_le 65 b && nat_le b 90) || (nat_le 97 b && nat_le b 122) || nat_eq b 95
+letter byte = (nat_le 65 byte && nat_le byte 90) || (nat_le 97 byte && nat_le byte 122) || nat_eq byte 95
 
+-- `0` to `9`
 abbrev pub digit : ℕ → Bool
-digit b = nat_le 48 b && nat_le b 57
+digit byte = nat_le 48 byte && nat_le byte 57
 
+-- what a name may go on with
 abbrev pub name_byte : ℕ → Bool
-name_byte b = letter b || digit b
+name_byte byte = letter byte || digit byte
 
 -- a byte of the class
 abbrev pub has : ByteClass → ℕ → Bool
-has BlankClass b = blank b
-has Letter b = letter b
-has Digit b = digit b
-has NameByte b = name_byte b
-has InLine b = not (nat_eq b 10)
-has Exponent b = nat_eq b 101 || nat_eq b 69
-has Sign b = nat_eq b 43 || nat_eq b 45
-has Printable b = nat_le 32 b && nat_le b 126
-has (Byte only) b = nat_eq b only
+has BlankClass byte = blank byte
+has Letter byte = letter byte
+has Digit byte = digit byte
+has NameByte byte = name_byte byte
+has InLine byte = not (nat_eq byte 10)
+has Exponent byte = nat_eq byte 101 || nat_eq byte 69
+has Sign byte = nat_eq byte 43 || nat_eq byte 45
+has Printable byte = nat_le 32 byte && nat_le byte 126
+has (Byte only) byte = nat_eq byte only
 
 -- the first byte is so
 abbrev pub begins_with : (ℕ → Bool) → List ℕ → Bool
-begins_with p [] = false
-begins_with p (b ∷ bs) = p b
+begins_with test [] = false
+begins_with test (byte ∷ bytes) = test byte
 
 -- how many at the front are so
 abbrev pub run_of : (ℕ → Bool) → List ℕ → ℕ
-run_of p [] = 0
-run_of p (b ∷ bs) = cond (p b) (suc (run_of p bs)) 0
+run_of test [] = 0
+run_of test (byte ∷ bytes) = cond (test byte) (suc (run_of test bytes)) 0
 
 -- all are so
 abbrev pub every : (ℕ → Bool) → List ℕ → Bool
-every p [] = true
-every p (b ∷ bs) = cond (p b) (every p bs) false
+every test [] = true
+every test (byte ∷ bytes) = cond (test byte) (every test bytes) false
 
 -- this word, where the test holds
 abbrev pub when : Bool → Word → Option Word
-when b w = cond b (Some w) None
+when holds word = cond holds (Some word) None
 
 -- this word, where nothing more follows
 abbrev pub alone : Word → List ℕ → Option Word
-alone w [] = Some w
-alone w (b ∷ bs) = None
+alone word [] = Some word
+alone word (byte ∷ bytes) = None
 
 -- The words below are read as follows: what a word is, by the bytes of it that are left.
 
--- a numeral: digits, then maybe a point and digits, then maybe an exponent
+-- a numeral: digits, then maybe a point and digits, then maybe an exponent; here behind a digit of its exponent
 unfoldable pub in_exponent : List ℕ → Option Word
 in_exponent [] = Some Numeral
-in_exponent (b ∷ w) = cond (digit b) (in_exponent w) (cond (letter b) (alone NumeralAndLetter w) None)
+in_exponent (byte ∷ bytes) = cond (digit byte) (in_exponent bytes) (cond (letter byte) (alone NumeralAndLetter bytes) None)
 
+-- after the sign of an exponent
 abbrev pub after_sign : List ℕ → Option Word
 after_sign [] = None
-after_sign (b ∷ w) = cond (digit b) (in_exponent w) None
+after_sign (byte ∷ bytes) = cond (digit byte) (in_exponent bytes) None
 
 -- after `e` or `E`, which is a letter after the numeral where no digits follow
 abbrev pub exponent : List ℕ → Option Word
 exponent [] = Some NumeralAndLetter
-exponent (b ∷ w) = cond (digit b) (in_exponent w) (cond (has Sign b) (after_sign w) None)
+exponent (byte ∷ bytes) = cond (digit byte) (in_exponent bytes) (cond (has Sign byte) (after_sign bytes) None)
 
 -- after the last digit of the whole part or the fraction
 abbrev pub number_end : List ℕ → Option Word
 number_end [] = Some Numeral
-number_end (b ∷ w) = cond (has Exponent b) (exponent w) (cond (letter b) (alone NumeralAndLetter w) None)
+number_end (byte ∷ bytes) = cond (has Exponent byte) (exponent bytes) (cond (letter byte) (alone NumeralAndLetter bytes) None)
 
+-- after the point of a numeral, or a digit of its fraction
 unfoldable pub in_fraction : List ℕ → Option Word
 in_fraction [] = Some Numeral
-in_fraction (b ∷ w) = cond (digit b) (in_fraction w) (number_end (b ∷ w))
+in_fraction (byte ∷ bytes) = cond (digit byte) (in_fraction bytes) (number_end (byte ∷ bytes))
 
+-- after a digit of the whole part
 unfoldable pub in_whole : List ℕ → Option Word
 in_whole [] = Some Numeral
-in_whole (b ∷ w) = cond (digit b) (in_whole w) (cond (nat_eq b 46) (in_fraction w) (number_end (b ∷ w)))
+in_whole (byte ∷ bytes) = cond (digit byte) (in_whole bytes) (cond (nat_eq byte 46) (in_fraction bytes) (number_end (byte ∷ bytes)))
 
 -- after a point: a symbol, or a numeral with at least one digit
 abbrev pub after_point : List ℕ → Option Word
 after_point [] = Some (SymbolWord Dot)
-after_point (b ∷ w) = cond (digit b) (in_fraction w) None
+after_point (byte ∷ bytes) = cond (digit byte) (in_fraction bytes) None
 
 -- after the opening quote of a text: a backslash takes the next byte with it, and a newline ends nothing
 unfoldable mutual
   pub in_text : List ℕ → Option Word
   in_text [] = Some OpenText
-  in_text (b ∷ w) = cond (nat_eq b 34) (alone Text w) (cond (nat_eq b 92) (in_escape w) (cond (nat_eq b 10) None (in_text w)))
+  in_text (byte ∷ bytes) = cond (nat_eq byte 34) (alone Text bytes) (cond (nat_eq byte 92) (in_escape bytes) (cond (nat_eq byte 10) None (in_text bytes)))
 
+  -- after a backslash
   pub in_escape : List ℕ → Option Word
   in_escape [] = Some OpenText
-  in_escape (b ∷ w) = cond (nat_eq b 10) None (in_text w)
+  in_escape (byte ∷ bytes) = cond (nat_eq byte 10) None (in_text bytes)
 
 -- after `/*`: up to the first `*/`
 unfoldable mutual
   pub in_comment : List ℕ → Option Word
   in_comment [] = Some OpenComment
-  in_comment (b ∷ w) = cond (nat_eq b 42) (after_star w) (in_comment w)
+  in_comment (byte ∷ bytes) = cond (nat_eq byte 42) (after_star bytes) (in_comment bytes)
 
+  -- after a `*` in it
   pub after_star : List ℕ → Option Word
   after_star [] = Some OpenComment
-  after_star (b ∷ w) = cond (nat_eq b 47) (alone Blank w) (cond (nat_eq b 42) (after_star w) (in_comment w))
+  after_star (byte ∷ bytes) = cond (nat_eq byte 47) (alone Blank bytes) (cond (nat_eq byte 42) (after_star bytes) (in_comment bytes))
 
 -- after `/`: a symbol, or one of the two comments
 abbrev pub after_slash : List ℕ → Option Word
 after_slash [] = Some (SymbolWord Divide)
-after_slash (b ∷ w) = cond (nat_eq b 47) (when (every (has InLine) w) Blank) (cond (nat_eq b 42) (in_comment w) None)
+after_slash (byte ∷ bytes) = cond (nat_eq byte 47) (when (every (has InLine) bytes) Blank) (cond (nat_eq byte 42) (in_comment bytes) None)
 
 -- after `$`
 abbrev pub after_dollar : List ℕ → Option Word
 after_dollar [] = None
-after_dollar (b ∷ w) = cond (letter b) (when (every name_byte w) Special) None
+after_dollar (byte ∷ bytes) = cond (letter byte) (when (every name_byte bytes) Special) None
 
 -- the symbol of one byte
 abbrev pub single : ℕ → Option Symbol
-single b =
-    cond (nat_eq b 40) (Some OpenParenthesis) (cond (nat_eq b 41) (Some CloseParenthesis)
-    (cond (nat_eq b 91) (Some OpenBracket) (cond (nat_eq b 93) (Some CloseBracket)
-    (cond (nat_eq b 123) (Some OpenBrace) (cond (nat_eq b 125) (Some CloseBrace)
-    (cond (nat_eq b 44) (Some Comma) (cond (nat_eq b 59) (Some Semicolon)
-    (cond (nat_eq b 61) (Some Assign) (cond (nat_eq b 58) (Some Colon) (cond (nat_eq b 63) (Some Question)
-    (cond (nat_eq b 43) (Some Plus) (cond (nat_eq b 45) (Some Minus)
-    (cond (nat_eq b 42) (Some Times) (cond (nat_eq b 37) (Some Remainder)
-    (cond (nat_eq b 60) (Some Less) (cond (nat_eq b 62) (Some Greater)
-    (cond (nat_eq b 33) (Some Not) (cond (nat_eq b 35) (Some Hash) (cond (nat_eq b 94) (Some Caret) None)))))))))))))))))))
+single byte =
+    cond (nat_eq byte 40) (Some OpenParenthesis) (cond (nat_eq byte 41) (Some CloseParenthesis)
+    (cond (nat_eq byte 91) (Some OpenBracket) (cond (nat_eq byte 93) (Some CloseBracket)
+    (cond (nat_eq byte 123) (Some OpenBrace) (cond (nat_eq byte 125) (Some CloseBrace)
+    (cond (nat_eq byte 44) (Some Comma) (cond (nat_eq byte 59) (Some Semicolon)
+    (cond (nat_eq byte 61) (Some Assign) (cond (nat_eq byte 58) (Some Colon) (cond (nat_eq byte 63) (Some Question)
+    (cond (nat_eq byte 43) (Some Plus) (cond (nat_eq byte 45) (Some Minus)
+    (cond (nat_eq byte 42) (Some Times) (cond (nat_eq byte 37) (Some Remainder)
+    (cond (nat_eq byte 60) (Some Less) (cond (nat_eq byte 62) (Some Greater)
+    (cond (nat_eq byte 33) (Some Not) (cond (nat_eq byte 35) (Some Hash) (cond (nat_eq byte 94) (Some Caret) None)))))))))))))))))))
 
 -- the symbol of two bytes
 abbrev pub double : ℕ → ℕ → Option Symbol
-double b c =
-    cond (nat_eq b 60 && nat_eq c 61) (Some LessEqual) (cond (nat_eq b 62 && nat_eq c 61) (Some GreaterEqual)
-    (cond (nat_eq b 61 && nat_eq c 61) (Some Equal) (cond (nat_eq b 33 && nat_eq c 61) (Some NotEqual)
-    (cond (nat_eq b 38 && nat_eq c 38) (Some And) (cond (nat_eq b 124 && nat_eq c 124) (Some Or) None)))))
+double byte next =
+    cond (nat_eq byte 60 && nat_eq next 61) (Some LessEqual) (cond (nat_eq byte 62 && nat_eq next 61) (Some GreaterEqual)
+    (cond (nat_eq byte 61 && nat_eq next 61) (Some Equal) (cond (nat_eq byte 33 && nat_eq next 61) (Some NotEqual)
+    (cond (nat_eq byte 38 && nat_eq next 38) (Some And) (cond (nat_eq byte 124 && nat_eq next 124) (Some Or) None)))))
 
 -- the symbol of two bytes, the second of which begins the text
 abbrev pub double_of : ℕ → List ℕ → Option Symbol
-double_of b [] = None
-double_of b (c ∷ w) = double b c
+double_of byte [] = None
+double_of byte (next ∷ bytes) = double byte next
 
+-- the word that a symbol makes, if there is one
 abbrev pub symbol_word : Option Symbol → Option Word
 symbol_word None = None
-symbol_word (Some s) = Some (SymbolWord s)
+symbol_word (Some symbol) = Some (SymbolWord symbol)
 
+-- the symbol that one byte is, or two, the first of which is given apart
 abbrev pub symbol_of : ℕ → List ℕ → Option Word
-symbol_of b [] = symbol_word (single b)
-symbol_of b (c ∷ []) = symbol_word (double b c)
-symbol_of b (c ∷ d ∷ w) = None
+symbol_of byte [] = symbol_word (single byte)
+symbol_of byte (next ∷ []) = symbol_word (double byte next)
+symbol_of byte (next ∷ third ∷ bytes) = None
 
 -- what a word is that begins with this byte
 unfoldable pub word_from : ℕ → List ℕ → Option Word
-word_from b w =
-    cond (blank b) (alone Blank w)
-    (cond (letter b) (when (every name_byte w) Name)
-    (cond (digit b) (in_whole w)
-    (cond (nat_eq b 36) (after_dollar w)
-    (cond (nat_eq b 34) (in_text w)
-    (cond (nat_eq b 46) (after_point w)
-    (cond (nat_eq b 47) (after_slash w) (symbol_of b w)))))))
+word_from byte bytes =
+    cond (blank byte) (alone Blank bytes)
+    (cond (letter byte) (when (every name_byte bytes) Name)
+    (cond (digit byte) (in_whole bytes)
+    (cond (nat_eq byte 36) (after_dollar bytes)
+    (cond (nat_eq byte 34) (in_text bytes)
+    (cond (nat_eq byte 46) (after_point bytes)
+    (cond (nat_eq byte 47) (after_slash bytes) (symbol_of byte bytes)))))))
 
 -- what these bytes are, if they are one word
 abbrev pub word_of : List ℕ → Option Word
 word_of [] = None
-word_of (b ∷ w) = word_from b w
+word_of (byte ∷ bytes) = word_from byte bytes
 
 -- the first n bytes are this word, and no more bytes are any
 pub record IsLongest (text : List ℕ) (n : ℕ) (word : Word) : Type 0 where
@@ -184,18 +193,19 @@ HasNoWord text = (m : ℕ) (other : Word) → m ≤ length text → word_of (tak
 -- a word, if any was read, and how many bytes it has
 abbrev pub with_bytes : ℕ → Option Word → Option (Word × ℕ)
 with_bytes n None = None
-with_bytes n (Some w) = Some (w, n)
+with_bytes n (Some word) = Some (word, n)
 
 -- the same word with so many bytes before it
 abbrev pub more_bytes : ℕ → Option (Word × ℕ) → Option (Word × ℕ)
 more_bytes n None = None
-more_bytes n (Some p) = Some (p.0, n + p.1)
+more_bytes n (Some found) = Some (found.0, n + found.1)
 
+-- the word that was found behind a byte, with that byte, or else the other one
 abbrev pub one_longer : Option (Word × ℕ) → Option (Word × ℕ) → Option (Word × ℕ)
 one_longer None other = other
-one_longer (Some p) other = Some (p.0, suc p.1)
+one_longer (Some found) other = Some (found.0, suc found.1)
 
--- the longest front of the text that is a word by f
+-- the longest front of the text that is a word by this reading of its bytes
 unfoldable pub longest : (List ℕ → Option Word) → List ℕ → Option (Word × ℕ)
-longest f [] = with_bytes 0 (f [])
-longest f (b ∷ bs) = one_longer (longest (λ w. f (b ∷ w)) bs) (with_bytes 0 (f []))
+longest reading [] = with_bytes 0 (reading [])
+longest reading (byte ∷ bytes) = one_longer (longest (λ front. reading (byte ∷ front)) bytes) (with_bytes 0 (reading []))

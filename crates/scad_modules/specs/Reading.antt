@@ -11,7 +11,7 @@ Slots = List (Option Val)
 
 -- the value that a call gives for a parameter, by its number from 0
 abbrev pub slot : Slots → ℕ → Option Val
-slot slots k = slice_index_or slots k None
+slot slots number = slice_index_or slots number None
 
 -- a number, where a value is one
 abbrev pub number_in : Val → Option ℤ

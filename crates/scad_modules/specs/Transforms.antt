@@ -14,7 +14,7 @@ use Rattle.scad_modules.specs.Reading.{Slots, slot, vector_in, coordinates_in, p
 
 -- a number of a vector or a row, by its place from 0
 abbrev pub part : List ℤ → ℕ → ℤ
-part numbers k = get_or numbers k (pos 0)
+part numbers place = get_or numbers place (pos 0)
 
 -- whether a number is 0
 abbrev pub is_zero : ℤ → Bool
@@ -150,7 +150,7 @@ rows_in v = three_rows_from (points_in 4 v)
 
 -- a row by its place from 0
 abbrev pub row_at : List (List ℤ) → ℕ → List ℤ
-row_at rows k = get_or rows k []
+row_at rows place = get_or rows place []
 
 -- something is so of one of three rows
 abbrev pub some_row : (List ℤ → Bool) → List (List ℤ) → Bool

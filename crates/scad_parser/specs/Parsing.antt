@@ -27,51 +27,51 @@ kind_of NotInProfile = NotInProfileKind
 -- the place of the first token
 abbrev pub place_at : List Token → Place
 place_at [] = record { line = 1; column = 1 }
-place_at (t ∷ ts) = t.place
+place_at (token ∷ tokens) = token.place
 
 -- the first fault of these tokens, no token of which may be as deep as the number, with the place of its token
 abbrev pub HasFault : ℕ → List Token → FaultIn → Type 0
-HasFault d tokens f = (fault : SyntaxFault) × (at : List Token) × IsFirstFault d tokens fault at × (f.kind ≡ kind_of fault) × (f.place ≡ place_at at)
+HasFault depth tokens found = (fault : SyntaxFault) × (at : List Token) × IsFirstFault depth tokens fault at × (found.kind ≡ kind_of fault) × (found.place ≡ place_at at)
 
 -- the stop is that fault, unless memory ran out
 abbrev pub IsStopOf : ℕ → List Token → Stop → Type 0
-IsStopOf d tokens (Fault f) = HasFault d tokens f
-IsStopOf d tokens NoMemory = Unit {0}
+IsStopOf depth tokens (Fault fault) = HasFault depth tokens fault
+IsStopOf depth tokens NoMemory = Unit {0}
 
 -- a fault stands at one of the tokens, which may be the end; want of memory has no place
 abbrev pub StandsAtToken : List Token → Stop → Type 0
-StandsAtToken tokens (Fault f) = (t : Token) × Contains tokens t × (f.place ≡ t.place)
+StandsAtToken tokens (Fault fault) = (token : Token) × Contains tokens token × (fault.place ≡ token.place)
 StandsAtToken tokens NoMemory = Unit {0}
 
 -- the answer is this program, unless memory ran out
 abbrev pub AnswersProgram : Result Program Stop → List StatementTerm → Type 0
-AnswersProgram (Ok p) x = program_of p ≡ x
-AnswersProgram (Err (Fault f)) x = ⊥
-AnswersProgram (Err NoMemory) x = Unit {0}
+AnswersProgram (Ok program) wanted = program_of program ≡ wanted
+AnswersProgram (Err (Fault fault)) wanted = ⊥
+AnswersProgram (Err NoMemory) wanted = Unit {0}
 
 -- the answer is this fault at the first of these tokens, unless memory ran out
 abbrev pub AnswersFault : Result Program Stop → SyntaxFault → List Token → Type 0
-AnswersFault (Ok p) fault at = ⊥
-AnswersFault (Err (Fault f)) fault at = (f.kind ≡ kind_of fault) × (f.place ≡ place_at at)
+AnswersFault (Ok program) fault at = ⊥
+AnswersFault (Err (Fault found)) fault at = (found.kind ≡ kind_of fault) × (found.place ≡ place_at at)
 AnswersFault (Err NoMemory) fault at = Unit {0}
 
 -- the last token is an end
 abbrev pub ends : List Token → Bool
 ends [] = false
-ends (t ∷ []) = is_end t.kind
-ends (t ∷ u ∷ ts) = ends (u ∷ ts)
+ends (token ∷ []) = is_end token.kind
+ends (token ∷ next ∷ tokens) = ends (next ∷ tokens)
 
 -- nothing stands behind what was read
 abbrev pub nothing_behind : {A : Type 0} → A → Reads A
 nothing_behind x [] = Ok (x, [])
-nothing_behind x (t ∷ ts) = Err (fault_of left_out (Some t), t ∷ ts)
+nothing_behind x (token ∷ tokens) = Err (fault_of left_out (Some token), token ∷ tokens)
 
 -- a program and its end, and nothing behind it
 abbrev pub whole_read : ℕ → Reads (List StatementTerm)
-whole_read d ts = after (program_read d ts) nothing_behind
+whole_read depth tokens = after (program_read depth tokens) nothing_behind
 
 -- the answer is what a reader of the grammar reads, unless memory ran out
 abbrev pub IsRead : Result Program Stop → Read Token SyntaxFault (List StatementTerm) → Type 0
-IsRead (Ok p) read = (rest : List Token) × (read ≡ Ok (program_of p, rest))
-IsRead (Err (Fault f)) read = (fault : SyntaxFault) × (at : List Token) × (read ≡ Err (fault, at)) × (f.kind ≡ kind_of fault) × (f.place ≡ place_at at)
+IsRead (Ok program) read = (rest : List Token) × (read ≡ Ok (program_of program, rest))
+IsRead (Err (Fault found)) read = (fault : SyntaxFault) × (at : List Token) × (read ≡ Err (fault, at)) × (found.kind ≡ kind_of fault) × (found.place ≡ place_at at)
 IsRead (Err NoMemory) read = Unit {0}

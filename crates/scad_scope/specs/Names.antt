@@ -32,7 +32,7 @@ call_behind scope count (Some call) = if nat_lt call.1 count then numbered_call 
 -- a row behind these scopes, inside one of them or inside none
 abbrev pub env_behind : List NumberedEnv → Row → NumberedEnv
 env_behind before row =
-    NumberedWithin (length before) row (call_behind (λ k. slice_index_or before k NumberedOutermost) (length before) row.call)
+    NumberedWithin (length before) row (call_behind (λ number. slice_index_or before number NumberedOutermost) (length before) row.call)
     (slice_index_or before row.outer NumberedOutermost)
 
 -- each scope of a table
@@ -42,7 +42,7 @@ envs_from before (row ∷ rows) = envs_from (before ++ env_behind before row ∷
 
 -- the scope of a number
 unfoldable pub env_of : List Row → ℕ → NumberedEnv
-env_of rows k = slice_index_or (envs_from [] rows) k NumberedOutermost
+env_of rows number = slice_index_or (envs_from [] rows) number NumberedOutermost
 
 -- a call, or where there is none the one outside it
 abbrev pub or_outer_call : NumberedCall → NumberedCall → NumberedCall
@@ -99,9 +99,9 @@ with_variable name value row = record row { variables = (name, value) ∷ row.va
 
 -- a table with one more variable in a scope
 abbrev pub bound_in : List Row → ℕ → List ℕ → Val → List Row
-bound_in [] k name value = []
+bound_in [] number name value = []
 bound_in (row ∷ rows) zero name value = with_variable name value row ∷ rows
-bound_in (row ∷ rows) (suc k) name value = row ∷ bound_in rows k name value
+bound_in (row ∷ rows) (suc number) name value = row ∷ bound_in rows number name value
 
 -- a scope with one more variable, inside the same scopes
 abbrev pub with_pair : List ℕ → Val → NumberedEnv → NumberedEnv

@@ -44,5 +44,5 @@ numbered_call_of scope (Some call) = numbered_call call.children (scope call.cal
 
 -- each scope that was there, and the chain, is as before
 pub record KeepsScopes (before after : Scopes) : Type 0 where
-  pub scopes : (k : ℕ) → k < length (rows_of before) → env_of (rows_of after) k ≡ env_of (rows_of before) k
+  pub scopes : (number : ℕ) → number < length (rows_of before) → env_of (rows_of after) number ≡ env_of (rows_of before) number
   pub chain : chain_of after ≡ chain_of before

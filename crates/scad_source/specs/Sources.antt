@@ -29,12 +29,12 @@ RefusesText source stop.NoMemory = Unit {0}
 -- what came of tokens: something that may be made of the program that they write, or, where the last one is an end, why they are
 -- refused
 abbrev pub IsMadeOfTokens : {T : Type 0} → (Program → Result T Stop → Type 0) → List Token → Result T Stop → Type 0
-IsMadeOfTokens makes tokens r =
-    ((program : Program) × WholeProgram 65 (program_of program) tokens × makes program r)
-    ⊎ ((why : Stop) × (ends tokens ≡ true → IsStopOf 65 tokens why) × (r ≡ Err why))
+IsMadeOfTokens makes tokens result =
+    ((program : Program) × WholeProgram 65 (program_of program) tokens × makes program result)
+    ⊎ ((why : Stop) × (ends tokens ≡ true → IsStopOf 65 tokens why) × (result ≡ Err why))
 
 -- what came of a source: something that may be made of the program that it writes, or why it is refused
 abbrev pub IsMadeOf : {T : Type 0} → (Program → Result T Stop → Type 0) → List ℕ → Result T Stop → Type 0
-IsMadeOf makes source r =
-    ((program : Program) × Writes source (program_of program) × makes program r)
-    ⊎ ((why : Stop) × RefusesText source why × (r ≡ Err why))
+IsMadeOf makes source result =
+    ((program : Program) × Writes source (program_of program) × makes program result)
+    ⊎ ((why : Stop) × RefusesText source why × (result ≡ Err why))

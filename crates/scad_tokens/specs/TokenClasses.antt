@@ -10,20 +10,24 @@ use Rattle.scad_tokens.specs.declared.class.Level.TheVariants.{Or, And, Equal, O
 use Rattle.scad_tokens.specs.declared.class.TokenClass.{TokenClass}
 use Rattle.scad_tokens.specs.declared.class.TokenClass.TheVariants.{Name, Special, ArgumentName, End, Word, Sign, Literal, Atom, Continuation, Operator, BinaryOperator, UnaryOperator, Suffix, Modifier, LoopWord, Expression, Statement, Body, LeftOut, LeftOutOfExpressions}
 
--- all operators of two sides
+-- the classes of all levels, one behind the other
 abbrev pub joined : List (List ℕ) → List ℕ
 joined [] = []
 joined (ops ∷ levels) = ops ++ joined levels
 
+-- all operators of two sides
 abbrev pub binary_signs : List ℕ
 binary_signs = joined levels
 
+-- the operators before an operand
 abbrev pub unary_signs : List ℕ
 unary_signs = minus_sign ∷ plus_sign ∷ not_sign ∷ []
 
+-- what begins an index or a member
 abbrev pub suffix_signs : List ℕ
 suffix_signs = open_bracket_sign ∷ dot_sign ∷ []
 
+-- an operand of one token that is no name
 abbrev pub literals : List ℕ
 literals = numeral ∷ text ∷ true_word ∷ false_word ∷ undef_word ∷ child_count ∷ special ∷ []
 

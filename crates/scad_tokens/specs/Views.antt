@@ -27,20 +27,20 @@ IsStop NoMemory wanted tokens = ⊥
 
 -- what was read, and the tokens behind it
 abbrev pub plain : {A : Type 0} → A × Bor (List Token) → A × List Token
-plain p = (p.0, p.1.now)
+plain read = (read.0, read.1.now)
 
 -- what was read, where such a token stands behind it
 abbrev pub closed_by : {A : Type 0} → (Token → Bool) → Read Token SyntaxFault A → Read Token SyntaxFault A
-closed_by test read = after read (λ x ts. after (one test ts) (λ close us. Ok (x, us)))
+closed_by test read = after read (λ value tokens. after (one test tokens) (λ close rest. Ok (value, rest)))
 
 -- the same of what a function of the parser gave
 abbrev pub IsClosed : {A : Type 0} → (Token → Bool) → Result (A × Bor (List Token)) Stopped → Result (A × Bor (List Token)) Stopped → Type 0
-IsClosed test (Ok p) given = Gives plain given (closed_by test (Ok (plain p)))
+IsClosed test (Ok read) given = Gives plain given (closed_by test (Ok (plain read)))
 IsClosed test (Err stopped) given = given ≡ Err stopped
 
 -- what was read, in a box, unless memory ran out
 abbrev pub IsBoxed : {A : Type 0} → Result (A × Bor (List Token)) Stopped → Result (Box A × Bor (List Token)) Stopped → Type 0
-IsBoxed read (Ok p) = read ≡ Ok (p.0.value, p.1)
+IsBoxed read (Ok inner) = read ≡ Ok (inner.0.value, inner.1)
 IsBoxed read (Err (Fault fault at)) = read ≡ Err (Fault fault at)
 IsBoxed read (Err NoMemory) = Unit {0}
 
@@ -55,31 +55,31 @@ nested_fault begins classes tokens = cond (starts (among begins) tokens) Nested 
 -- a comma, and behind it a token of these
 abbrev pub item_stands : (Token → Bool) → List Token → Bool
 item_stands go [] = false
-item_stands go (t ∷ ts) = is comma_sign t && starts go ts
+item_stands go (token ∷ tokens) = is comma_sign token && starts go tokens
 
 -- the tokens behind a comma, where one stands
 abbrev pub past_comma : List Token → List Token
 past_comma [] = []
-past_comma (t ∷ ts) = cond (is comma_sign t) ts (t ∷ ts)
+past_comma (token ∷ tokens) = cond (is comma_sign token) tokens (token ∷ tokens)
 
 -- a token of these classes and what stands behind the `=` that follows it, where both stand
 abbrev pub value_assigned : List ℕ → List Token → Option (Token × List Token)
 value_assigned classes [] = None
-value_assigned classes (t ∷ []) = None
-value_assigned classes (t ∷ u ∷ ts) = cond (among classes t && is assign_sign u) (Some (t, ts)) None
+value_assigned classes (token ∷ []) = None
+value_assigned classes (token ∷ next ∷ tokens) = cond (among classes token && is assign_sign next) (Some (token, tokens)) None
 
 -- an atom, and behind it a token that does not go on with it
 abbrev pub has_lone_atom : List Token → Bool
 has_lone_atom [] = false
-has_lone_atom (t ∷ ts) = among atoms t && starts (other_than continuations) ts
+has_lone_atom (token ∷ tokens) = among atoms token && starts (other_than continuations) tokens
 
 -- what an atom writes
 abbrev pub atom_of : Token → Term
-atom_of t =
-    cond (is numeral t) (NumberTerm t.place (number_of t.kind))
-    (cond (is text t) (TextTerm t.place (bytes_of t.kind))
-    (cond (is true_word t) (TruthTerm t.place true)
-    (cond (is false_word t) (TruthTerm t.place false)
-    (cond (is undef_word t) (UndefTerm t.place)
-    (cond (is child_count t) (ChildCountTerm t.place)
-    (cond (is special t) (SpecialTerm t.place (bytes_of t.kind)) (NameTerm t.place (bytes_of t.kind))))))))
+atom_of token =
+    cond (is numeral token) (NumberTerm token.place (number_of token.kind))
+    (cond (is text token) (TextTerm token.place (bytes_of token.kind))
+    (cond (is true_word token) (TruthTerm token.place true)
+    (cond (is false_word token) (TruthTerm token.place false)
+    (cond (is undef_word token) (UndefTerm token.place)
+    (cond (is child_count token) (ChildCountTerm token.place)
+    (cond (is special token) (SpecialTerm token.place (bytes_of token.kind)) (NameTerm token.place (bytes_of token.kind))))))))

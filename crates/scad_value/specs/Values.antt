@@ -98,7 +98,8 @@ abbrev mutual
   are_same (TruthVal a) (TruthVal b) = same_truth a b
   are_same (TextVal a) (TextVal b) = bytes_eq a b
   are_same (ListVal as_) (ListVal bs) = all_same as_ bs
-  are_same (RangeVal a b c) (RangeVal d e f) = int_eq a d && (int_eq b e && int_eq c f)
+  are_same (RangeVal from step to) (RangeVal other_from other_step other_to) =
+      int_eq from other_from && (int_eq step other_step && int_eq to other_to)
   are_same UndefVal UndefVal = true
   are_same v w = false
 
