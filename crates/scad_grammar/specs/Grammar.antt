@@ -354,6 +354,10 @@ unfoldable mutual
 abbrev pub ProgramIn : Detail → ℕ → Language (List StatementTerm)
 ProgramIn detail depth = Before (Many (Statement detail depth)) (is end)
 
+-- the least depth that no token of a program may have
+abbrev pub too_deep : ℕ
+too_deep = 65
+
 -- a program whose tokens are less deep than so much
 abbrev pub WholeProgram : ℕ → Language (List StatementTerm)
 WholeProgram = ProgramIn whole

@@ -50,9 +50,13 @@ abbrev pub zero_fraction : List ℕ → Bool
 zero_fraction [] = true
 zero_fraction (byte ∷ bytes) = nat_eq byte 46 && every (λ c. nat_eq c 48) bytes
 
--- a number that is below 2^53
+-- the least number that is too large for a numeral
+abbrev pub too_large : ℕ
+too_large = 2 ^ 53
+
+-- a number, unless it is too large
 abbrev pub bounded : ℕ → WordMeaning
-bounded n = cond (nat_lt n (2 ^ 53)) (Token (NumeralToken n)) (Fault TooLarge 0)
+bounded n = cond (nat_lt n too_large) (Token (NumeralToken n)) (Fault TooLarge 0)
 
 -- a numeral: its whole part, where nothing but zeros is behind its point, and no exponent
 abbrev pub numeral_of : List ℕ → WordMeaning

@@ -156,10 +156,13 @@ row_at rows place = get_or rows place []
 abbrev pub some_row : (List ℤ → Bool) → List (List ℤ) → Bool
 some_row test rows = test (row_at rows 0) || (test (row_at rows 1) || test (row_at rows 2))
 
--- whether an entry of the linear part is past 65535 in size; a row's linear part is its first three numbers, and its move
--- the fourth
+-- the largest size of an entry of the linear part; a row's linear part is its first three numbers, and its move the fourth
+abbrev pub most_linear : ℕ
+most_linear = 65535
+
+-- whether an entry of the linear part is larger
 abbrev pub is_past_matrix : ℤ → Bool
-is_past_matrix n = nat_lt 65535 (unsigned_abs n)
+is_past_matrix n = nat_lt most_linear (unsigned_abs n)
 
 -- a matrix that leaves z as it is: its third row and its third column are those of the identity
 abbrev pub keeps_plane : List (List ℤ) → Bool

@@ -20,7 +20,7 @@ use std::alloc::Global;
 use text_place::FaultKind;
 
 // The largest size of an entry of the linear part.
-const LINEAR: u64 = 65_535;
+const MOST_LINEAR: u64 = 65_535;
 
 /// The effect of `multmatrix`, or its first fault: BadArgument, TypeMismatch, TooLarge of a linear
 /// entry, Singular, WrongDimension or TooLarge of a move.
@@ -102,7 +102,7 @@ fn is_steep_row(row: [i64; 4]) -> bool
 fn is_steep_entry(entry: i64) -> bool
     ensures { result ≡ is_past_matrix entry }
 {
-    entry.unsigned_abs() > LINEAR
+    entry.unsigned_abs() > MOST_LINEAR
 }
 
 // Whether the linear part is singular, which no move changes.

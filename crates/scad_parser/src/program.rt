@@ -6,7 +6,7 @@ ghost use Rattle.scad_ast.specs.Counts.{begun_by_program};
 ghost use Rattle.scad_ast.specs.ProgramView.{program_of};
 ghost use Rattle.scad_ast.specs.StatementView.{statements_of};
 ghost use Rattle.scad_grammar.specs.declared.SyntaxFault.{SyntaxFault};
-ghost use Rattle.scad_grammar.specs.Grammar.{WholeProgram};
+ghost use Rattle.scad_grammar.specs.Grammar.{too_deep, WholeProgram};
 ghost use Rattle.scad_grammar.specs.FirstFault.{IsFirstFault};
 ghost use Rattle.scad_parser.specs.Parsing.{ends, whole_read, IsStopOf, StandsAtToken, AnswersProgram, AnswersFault, IsRead, kind_of as kind_at, place_at};
 ghost use Rattle.scad_tokens.specs.Views.{Gives};
@@ -19,23 +19,23 @@ use scad_tokens::{Parsed, Stopped, TokenClass, not_expected, take};
 use std::alloc::Global;
 use text_place::{FaultKind, Place, Stop};
 
-// One more than the most that a token may be deep.
-const DEPTH: u32 = 65;
+// The least depth that no token may have.
+const TOO_DEEP: u32 = 65;
 
 /// The program that fewer than 2^32 tokens write, none of which is more than 64 deep, or their first
 /// fault: `Expected`, `Nested` or `NotInProfile`.
 pub fn parse(alloc: Global, tokens: &[Token]) -> Result<Program, Stop>
     requires { length tokens.now < 2 ^ 32 }
     // What is given is a program that the tokens write.
-    ensures found { IfOk result (λ p. WholeProgram 65 (program_of p) tokens.now) }
+    ensures found { IfOk result (λ p. WholeProgram too_deep (program_of p) tokens.now) }
     // The program that the tokens write is given, unless memory runs out.
-    ensures program { (x : List StatementTerm) → WholeProgram 65 x tokens.now → AnswersProgram result x }
+    ensures program { (x : List StatementTerm) → WholeProgram too_deep x tokens.now → AnswersProgram result x }
     // A fault of tokens that end with an end is their first one, at its token's place.
-    ensures fault { ends tokens.now ≡ true → IfErr result (λ stop. IsStopOf 65 tokens.now stop) }
+    ensures fault { ends tokens.now ≡ true → IfErr result (λ stop. IsStopOf too_deep tokens.now stop) }
     // The place of such a fault is that of one of the tokens, which may be the end.
     ensures place { ends tokens.now ≡ true → IfErr result (λ stop. StandsAtToken tokens.now stop) }
     // The tokens' first fault is given, unless memory runs out.
-    ensures only { (fault : SyntaxFault) (at : List Token) → IsFirstFault 65 tokens.now fault at → AnswersFault result fault at }
+    ensures only { (fault : SyntaxFault) (at : List Token) → IsFirstFault too_deep tokens.now fault at → AnswersFault result fault at }
     // A program has no more blocks, functions and modules than tokens.
     ensures few { IfOk result (λ p. begun_by_program (program_of p) ≤ length tokens.now) }
 {
@@ -50,7 +50,7 @@ pub fn an_only_end_is_last()
 #[tactic(auto, using(crate::proofs::Parsed::few_read))]
 fn read_program(alloc: Global, tokens: &[Token]) -> Result<Program, Stop>
     requires { length tokens.now < 2 ^ 32 }
-    ensures { IsRead result (whole_read 65 tokens.now) }
+    ensures { IsRead result (whole_read too_deep tokens.now) }
 {
     match program(alloc, tokens) {
         Ok((statements, _)) => Ok(Program { statements }),
@@ -61,9 +61,9 @@ fn read_program(alloc: Global, tokens: &[Token]) -> Result<Program, Stop>
 
 // A program's statements and its end, behind which nothing stands.
 fn program<'a>(alloc: Global, tokens: &'a [Token]) -> Parsed<'a, Statements>
-    ensures { Gives (λ p. (statements_of p.0, p.1.now)) result (whole_read 65 tokens.now) }
+    ensures { Gives (λ p. (statements_of p.0, p.1.now)) result (whole_read too_deep tokens.now) }
 {
-    let (statements, rest) = statements(alloc, tokens, DEPTH)?;
+    let (statements, rest) = statements(alloc, tokens, TOO_DEEP)?;
     let (_, rest) = take(TokenClass::End, rest)?;
     match rest {
         [] => Ok((statements, rest)),

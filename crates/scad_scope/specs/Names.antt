@@ -81,9 +81,13 @@ module_in NumberedOutermost name = None
 module_in (NumberedWithin number row call outer) name =
     or_else (standing_in (NumberedWithin number row call outer) (find_in row.modules name)) (module_in outer name)
 
+-- the number that stands for no scope outside
+abbrev pub nothing_outside : ℕ
+nothing_outside = 2 ^ 32 - 1
+
 -- the outermost scope of a table
 abbrev pub first_row : Row
-first_row = record { variables = []; functions = []; modules = []; outer = 2 ^ 32 - 1; call = None }
+first_row = record { variables = []; functions = []; modules = []; outer = nothing_outside; call = None }
 
 -- a scope without variables and definitions, inside another one
 abbrev pub empty_row : ℕ → Row

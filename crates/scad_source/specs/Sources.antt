@@ -8,18 +8,18 @@ use Rattle.scad_lexer.specs.Tokens.{Lexes, Gives, Faults}
 use Rattle.scad_ast.specs.declared.program.Program.{Program}
 use Rattle.scad_ast.specs.ProgramView.{program_of}
 use Rattle.scad_ast.specs.Terms.{StatementTerm}
-use Rattle.scad_grammar.specs.Grammar.{WholeProgram}
+use Rattle.scad_grammar.specs.Grammar.{too_deep, WholeProgram}
 use Rattle.scad_parser.specs.Parsing.{ends, IsStopOf, HasFault as HasSyntaxFault}
 
 -- the source's tokens are the program's, at most 64 deep
 abbrev pub Writes : List ℕ → List StatementTerm → Type 0
-Writes source program = (tokens : List Token) × Lexes source (Gives tokens) × WholeProgram 65 program tokens
+Writes source program = (tokens : List Token) × Lexes source (Gives tokens) × WholeProgram too_deep program tokens
 
 -- the first fault of a source that writes no program: of its bytes, or else of its tokens
 abbrev pub HasTextFault : List ℕ → Fault → Type 0
 HasTextFault source fault =
     Lexes source (Faults fault.kind fault.place)
-    ⊎ ((tokens : List Token) × Lexes source (Gives tokens) × HasSyntaxFault 65 tokens fault)
+    ⊎ ((tokens : List Token) × Lexes source (Gives tokens) × HasSyntaxFault too_deep tokens fault)
 
 -- the source is refused with that fault, unless memory ran out
 abbrev pub RefusesText : List ℕ → Stop → Type 0
@@ -30,8 +30,8 @@ RefusesText source stop.NoMemory = Unit {0}
 -- refused
 abbrev pub IsMadeOfTokens : {T : Type 0} → (Program → Result T Stop → Type 0) → List Token → Result T Stop → Type 0
 IsMadeOfTokens makes tokens result =
-    ((program : Program) × WholeProgram 65 (program_of program) tokens × makes program result)
-    ⊎ ((why : Stop) × (ends tokens ≡ true → IsStopOf 65 tokens why) × (result ≡ Err why))
+    ((program : Program) × WholeProgram too_deep (program_of program) tokens × makes program result)
+    ⊎ ((why : Stop) × (ends tokens ≡ true → IsStopOf too_deep tokens why) × (result ≡ Err why))
 
 -- what came of a source: something that may be made of the program that it writes, or why it is refused
 abbrev pub IsMadeOf : {T : Type 0} → (Program → Result T Stop → Type 0) → List ℕ → Result T Stop → Type 0

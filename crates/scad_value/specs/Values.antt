@@ -50,13 +50,25 @@ abbrev mutual
   nesting_in no_vals = 0
   nesting_in (and_val v vs) = max (nesting_of v) (nesting_in vs)
 
--- a list that no operator, call or bracket may make: more than 4,096 parts, or more than 64 deep
-abbrev pub is_long : Val → Bool
-is_long v = nat_lt 4096 (parts_of v) || nat_lt 64 (nesting_of v)
+-- the most parts of a value that an operator, a call or a bracket makes
+abbrev pub most_parts : ℕ
+most_parts = 4096
 
--- a number of the profile: at most 2^53 - 1 in size
+-- how deep its lists are in one another at most
+abbrev pub most_nesting : ℕ
+most_nesting = 64
+
+-- a list that none of them may make: of more parts, or deeper
+abbrev pub is_long : Val → Bool
+is_long v = nat_lt most_parts (parts_of v) || nat_lt most_nesting (nesting_of v)
+
+-- the least size of a number that is too large
+abbrev pub too_large : ℕ
+too_large = 2 ^ 53
+
+-- a number of the profile: one that isn't too large
 abbrev pub is_small : ℤ → Bool
-is_small n = nat_lt (unsigned_abs n) (2 ^ 53)
+is_small n = nat_lt (unsigned_abs n) too_large
 
 -- each number in it is one of the profile
 abbrev mutual
@@ -71,9 +83,13 @@ abbrev mutual
   have_small_numbers no_vals = true
   have_small_numbers (and_val v vs) = has_small_numbers v && have_small_numbers vs
 
--- numbers of the profile and fewer than 2^20 parts
+-- the least number of parts that is too many for what an operator is given
+abbrev pub too_many_parts : ℕ
+too_many_parts = 2 ^ 20
+
+-- numbers of the profile, and not too many parts
 abbrev pub is_bounded : Val → Bool
-is_bounded v = has_small_numbers v && nat_lt (parts_of v) (2 ^ 20)
+is_bounded v = has_small_numbers v && nat_lt (parts_of v) too_many_parts
 
 -- what counts as true: all but false, 0, the empty text, the empty list and undef
 abbrev pub truth_of : Val → Bool

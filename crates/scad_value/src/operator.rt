@@ -7,7 +7,7 @@ use crate::arithmetic::{
     PairRow, PartRow, by_parts, dot, each_part, product_of_two, remainder, sized,
 };
 use crate::compare::same;
-use crate::limits::{NESTING, PARTS};
+use crate::limits::{MOST_NESTING, MOST_PARTS};
 use crate::stop::ValueStop;
 use crate::value::{Value, Values, truth};
 use scad_ast::{BinaryOp, UnaryOp};
@@ -152,7 +152,7 @@ pub fn made(value: Value) -> Result<Value, FaultKind>
     ensures value { Answers result (made_at (Ok (val_of value))) }
     ensures bounded { IsTrue (has_small_numbers (val_of value)) → IfOk result (λ v. IsTrue (is_bounded (val_of v))) }
 {
-    if value.parts() > PARTS || value.nesting() > NESTING {
+    if value.parts() > MOST_PARTS || value.nesting() > MOST_NESTING {
         return Err(FaultKind::LongList);
     }
     Ok(value)
