@@ -1,9 +1,9 @@
 ghost use Rattle.std.specs.Prelude.{◌≡◌, ◌≤ℤ◌, IfSome, pos};
-ghost use Rattle.scad_answer.specs.Answers.{member_of as member_at};
+ghost use Rattle.scad_answer.specs.Answers.{member_of};
 
 /// What a member's name counts as.
 pub fn member_of(name: &[u8]) -> Option<i64>
-    ensures value { result ≡ member_at name.now }
+    ensures value { result ≡ member_of name.now }
     ensures small { IfSome result (λ n. pos 0 ≤ℤ n) }
 {
     match name {

@@ -3,7 +3,7 @@ ghost use Rattle.scad_value.specs.Values.{Val, truth_of};
 ghost use Rattle.scad_value.specs.Operators.{Answer, binary_of, unary_of};
 ghost use Rattle.scad_value.specs.View.{MeetsAnswer, GivesBounded};
 ghost use Rattle.scad_value.specs.BoundedView.{bounded_val};
-ghost use Rattle.scad_answer.specs.Answers.{wants_right as wants_right_at};
+ghost use Rattle.scad_answer.specs.Answers.{wants_right};
 ghost use Rattle.scad_answer.specs.View.{MeetsAnswerAt};
 
 // A value is lent where something can still fail: what is held there would be dropped on each way out, and each way
@@ -80,7 +80,7 @@ fn unary_of_lent(
 
 /// Whether an operator with this left side wants its right side.
 pub fn wants_right(op: BinaryOp, left: &BoundedValue) -> bool
-    ensures { result ≡ wants_right_at op (bounded_val left.now) }
+    ensures { result ≡ wants_right op (bounded_val left.now) }
 {
     match op {
         BinaryOp::Or => !truth(&left.value),

@@ -1,7 +1,7 @@
 ghost use Rattle.std.specs.Prelude.{◌≡◌, ◌<◌, ℕ, List, [], length, IfOk, IfSome, OnOk};
 ghost use Rattle.newest_names.specs.Names.{newest_first};
 ghost use Rattle.scad_ast.specs.Names.{is_among};
-ghost use Rattle.scad_arguments.specs.Arguments.{first_named as first_of};
+ghost use Rattle.scad_arguments.specs.Arguments.{first_named};
 ghost use Rattle.scad_arguments.specs.ArgumentsView.{names_in};
 ghost use Rattle.scad_arguments.specs.Lookup.{names_of_pairs, numbered_from, taken_after};
 
@@ -24,7 +24,7 @@ pub(crate) struct NameIndex {
 impl NameIndex {
     /// The first parameter of a name.
     pub(crate) fn first_named(&self, name: &[u8]) -> Option<usize>
-        ensures value { (names : List (List ℕ)) → newest_first self.now.parameters ≡ numbered_from 0 names → result ≡ first_of names name.now }
+        ensures value { (names : List (List ℕ)) → newest_first self.now.parameters ≡ numbered_from 0 names → result ≡ first_named names name.now }
         ensures within { (names : List (List ℕ)) → newest_first self.now.parameters ≡ numbered_from 0 names → IfSome result (λ k. k < length names) }
     {
         self.parameters.find(name).copied()

@@ -2,7 +2,7 @@ ghost use Rattle.std.specs.Prelude.{◌≡◌, ℕ, ◌+◌, ◌^◌, ◌<◌, �
 ghost use Rattle.scad_ast.specs.ExprView.{arg_of};
 ghost use Rattle.scad_ast.specs.StatementView.{param_of};
 ghost use Rattle.newest_names.specs.Newest.{find_in};
-ghost use Rattle.scad_arguments.specs.Arguments.{name_of as name_at, names_of, first_named as first_of, argument_place as place_at, positional_after as positional_at, matching_of, nothing_given as nothing_at, unless_filled, MeetsMatching};
+ghost use Rattle.scad_arguments.specs.Arguments.{name_of, names_of, first_named, argument_place, positional_after, matching_of, nothing_given, unless_filled, MeetsMatching};
 ghost use Rattle.scad_arguments.specs.ArgumentsView.{names_seen, names_in, special_pairs, given_of, takers_seen, IsTakerThere, IsGiven};
 
 use crate::so_far::ArgumentsSoFar;
@@ -113,7 +113,7 @@ pub(crate) fn nothing_given<'a, T: Drop>(
     alloc: Global,
     params: usize,
 ) -> Result<GivenArguments<'a, T>, NoMemory>
-    ensures { IfOk result (λ given. given_of given ≡ nothing_at params) }
+    ensures { IfOk result (λ given. given_of given ≡ nothing_given params) }
 {
     let slots = no_slots(alloc, params)?;
     Ok(GivenArguments {
@@ -165,7 +165,7 @@ pub(crate) fn free_parameter<'a, T>(
 
 /// The first parameter of a name.
 pub(crate) fn first_named(names: Names<'_>, name: &[u8]) -> Option<usize>
-    ensures value { result ≡ first_of (names_in names.entry) name.now }
+    ensures value { result ≡ first_named (names_in names.entry) name.now }
     ensures within { IfSome result (λ k. k < length (names_in names.entry)) }
 {
     match names {
@@ -176,7 +176,7 @@ pub(crate) fn first_named(names: Names<'_>, name: &[u8]) -> Option<usize>
 
 // The first parameter of a name, of a definition of the source.
 fn first_param(params: &[Param], name: &[u8]) -> Option<usize>
-    ensures value { result ≡ first_of (names_of (map param_of params.now)) name.now }
+    ensures value { result ≡ first_named (names_of (map param_of params.now)) name.now }
     ensures within { IfSome result (λ k. k < length params.now) }
 {
     for (i, param) in params.iter().enumerate() {
@@ -189,7 +189,7 @@ fn first_param(params: &[Param], name: &[u8]) -> Option<usize>
 
 // The first of these names that is a name.
 fn first_listed(names: &[&[u8]], name: &[u8]) -> Option<usize>
-    ensures value { result ≡ first_of (names_seen names.now) name.now }
+    ensures value { result ≡ first_named (names_seen names.now) name.now }
     ensures within { IfSome result (λ k. k < length names.now) }
 {
     for (i, known) in names.iter().enumerate() {
@@ -225,7 +225,7 @@ pub(crate) fn with_argument<'a, T: Drop>(
 /// How many positional arguments there are with this one.
 pub fn positional_after(positional: usize, arg: &Arg) -> usize
     requires { positional + 1 < 2 ^ 64 }
-    ensures value { result ≡ positional_at positional (arg_of arg.now) }
+    ensures value { result ≡ positional_after positional (arg_of arg.now) }
     ensures within { result ≤ positional + 1 }
 {
     match arg {
@@ -248,7 +248,7 @@ pub(crate) fn name_at<'a>(names: Names<'a>, number: usize) -> &'a [u8]
 
 /// The name of a parameter.
 pub fn name_of(param: &Param) -> &[u8]
-    ensures { result.now ≡ name_at (param_of param.now) }
+    ensures { result.now ≡ name_of (param_of param.now) }
 {
     match param {
         Param::Plain(_, name) => name.items(),
@@ -258,7 +258,7 @@ pub fn name_of(param: &Param) -> &[u8]
 
 /// The place of an argument's first token.
 pub(crate) fn argument_place(arg: &Arg) -> Place
-    ensures { result ≡ place_at (arg_of arg.now) }
+    ensures { result ≡ argument_place (arg_of arg.now) }
 {
     match arg {
         Arg::Named(place, _, _) => *place,

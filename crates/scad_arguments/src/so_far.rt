@@ -32,13 +32,13 @@ impl<'n, 'a, T: Drop> ArgumentsSoFar<'n, 'a, T> {
     ghost use Rattle.text_place.specs.declared.fault.FaultKind.TheVariants.{BadArgument};
     ghost use Rattle.scad_ast.specs.ExprView.{arg_of};
     ghost use Rattle.newest_names.specs.Newest.{find_in};
-    ghost use Rattle.scad_arguments.specs.Arguments.{first_named as first_of, taken_by as taken_at, argument_place as place_at, nothing_given as nothing_at, taker_of, to_special};
+    ghost use Rattle.scad_arguments.specs.Arguments.{first_named, taken_by, argument_place, nothing_given, taker_of, to_special};
     ghost use Rattle.scad_arguments.specs.ArgumentsView.{given_of, taker_seen, takers_seen, IsTakerThere, IsGiven, IsFaultAt};
     ghost use Rattle.scad_arguments.specs.SoFarView.{only_given};
 
     /// Nothing yet, of the arguments of a call that are to be matched to parameters of these names.
     pub fn of(alloc: Global, names: Names<'n>, args: &[Arg]) -> Result<Self, NoMemory>
-        ensures given { IfOk result (λ so_far. given_of so_far.given ≡ nothing_at (length (names_in names.entry))) }
+        ensures given { IfOk result (λ so_far. given_of so_far.given ≡ nothing_given (length (names_in names.entry))) }
         ensures names { IfOk result (λ so_far. so_far.names ≡ names.entry) }
     {
         let given = nothing_given(alloc, count_of(names))?;
@@ -59,7 +59,7 @@ impl<'n, 'a, T: Drop> ArgumentsSoFar<'n, 'a, T> {
         ensures free { IfOk result (λ t. taker_of (names_in self.now.names) positional (given_of self.now.given) (arg_of arg.now) ≡ Some (taker_seen t)) }
         ensures within { IfOk result (IsTakerThere (length self.now.given.slots.items)) }
         ensures none { IfErr result (λ stop. (taker_of (names_in self.now.names) positional (given_of self.now.given) (arg_of arg.now) ≡ None)
-            × IsFaultAt stop BadArgument (place_at (arg_of arg.now))) }
+            × IsFaultAt stop BadArgument (argument_place (arg_of arg.now))) }
     {
         match self.free_destination(positional, arg) {
             Some(destination) => Ok(destination),
@@ -105,7 +105,7 @@ impl<'n, 'a, T: Drop> ArgumentsSoFar<'n, 'a, T> {
 
     // The parameter that an argument takes after so many positional ones. A special argument takes none.
     fn taken_by(&self, positional: usize, arg: &Arg) -> Option<usize>
-        ensures value { result ≡ taken_at (names_in self.now.names) positional (arg_of arg.now) }
+        ensures value { result ≡ taken_by (names_in self.now.names) positional (arg_of arg.now) }
         ensures within { IfSome result (λ k. k < length (names_in self.now.names)) }
     {
         match arg {
@@ -123,7 +123,7 @@ impl<'n, 'a, T: Drop> ArgumentsSoFar<'n, 'a, T> {
 
     // The first parameter of a name.
     fn first_named(&self, name: &[u8]) -> Option<usize>
-        ensures value { result ≡ first_of (names_in self.now.names) name.now }
+        ensures value { result ≡ first_named (names_in self.now.names) name.now }
         ensures within { IfSome result (λ k. k < length (names_in self.now.names)) }
     {
         match &self.index {

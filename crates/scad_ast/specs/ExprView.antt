@@ -11,7 +11,7 @@ use Rattle.scad_ast.specs.declared.expression.Suffix.{Suffix}
 use Rattle.scad_ast.specs.declared.expression.Suffixes.{Suffixes}
 use Rattle.scad_ast.specs.declared.expression.Arg.{Arg}
 use Rattle.scad_ast.specs.declared.expression.Args.{Args}
-use Rattle.scad_ast.specs.declared.expression.Arg.TheOpen.{Expr-F, Number, Text, Truth, Undef, ChildCount, Expr::Special as SpecialIn, Name, Call as CallIn, Paren, List as ListIn, Range as RangeIn, SteppedRange as SteppedRangeIn, Postfix as PostfixIn, Unary, Chain as ChainIn, Choice as ChoiceIn, Exprs-F, Call-F, Range-F, SteppedRange-F, Postfix-F, Chain-F, Choice-F, Link-F, Links-F, Suffix-F, Index, Member, Suffixes-F, Arg-F, Named, Arg::Special as SpecialArg, Positional, Args-F}
+use Rattle.scad_ast.specs.declared.expression.Arg.TheOpen.{Expr-F, Number, Text, Truth, Undef, ChildCount, Expr::Special as SpecialIn, Name, Call, Paren, List as ListIn, Range, SteppedRange, Postfix as PostfixIn, Unary, Chain as ChainIn, Choice, Exprs-F, Call-F, Range-F, SteppedRange-F, Postfix-F, Chain-F, Choice-F, Link-F, Links-F, Suffix-F, Index, Member, Suffixes-F, Arg-F, Named, Arg::Special as SpecialArg, Positional, Args-F}
 use Rattle.scad_ast.specs.declared.expression.Arg.TheFolds.{fold-Expr, fold-Exprs, fold-Postfix, fold-Chain, fold-Link, fold-Links, fold-Suffix, fold-Suffixes, fold-Arg, fold-Args}
 use Rattle.scad_ast.specs.Terms.{Term, NumberTerm, TextTerm, TruthTerm, UndefTerm, ChildCountTerm, SpecialTerm, NameTerm, CallTerm, ParenTerm, ListTerm, RangeTerm, SteppedRangeTerm, PostfixTerm, UnaryTerm, ChainTerm, ChoiceTerm, LinkTerm, SuffixTerm, IndexTerm, MemberTerm, ArgTerm, NamedTerm, SpecialArgTerm, PositionalTerm, terms_from, links_from, suffixes_from, args_from}
 
@@ -28,15 +28,15 @@ expr_step (Undef at) = UndefTerm at
 expr_step (ChildCount at) = ChildCountTerm at
 expr_step (SpecialIn at name) = SpecialTerm at name
 expr_step (Name at name) = NameTerm at name
-expr_step (CallIn at call) = call.value at
+expr_step (Call at call) = call.value at
 expr_step (Paren at inner) = ParenTerm at inner.value
 expr_step (ListIn at items) = ListTerm at (terms_from items.value)
-expr_step (RangeIn at range) = range.value at
-expr_step (SteppedRangeIn at range) = range.value at
+expr_step (Range at range) = range.value at
+expr_step (SteppedRange at range) = range.value at
 expr_step (PostfixIn at postfix) = postfix.value at
 expr_step (Unary at op of) = UnaryTerm at op of.value
 expr_step (ChainIn at chain) = chain.value at
-expr_step (ChoiceIn at choice) = choice.value at
+expr_step (Choice at choice) = choice.value at
 
 abbrev pub call_step : Call-F ArgTerm Term SuffixTerm (List ArgTerm) Form Form Form (List Term) LinkTerm (List LinkTerm) Form Form Form (List SuffixTerm) → Form
 call_step call at = CallTerm at call.name (args_from call.args)

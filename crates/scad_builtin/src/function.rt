@@ -1,7 +1,7 @@
 ghost use Rattle.std.specs.Prelude.{◌≡◌, IsTrue};
 ghost use Rattle.scad_value.specs.Values.{vals_from};
 ghost use Rattle.scad_value.specs.View.{val_of, vals_of, MeetsAnswer, GivesBounded};
-ghost use Rattle.scad_builtin.specs.Builtins.{takes as takes_so_many, applied, of_one as of_one_value, are_bounded};
+ghost use Rattle.scad_builtin.specs.Builtins.{takes, applied, of_one, are_bounded};
 ghost use Rattle.scad_builtin.specs.Rows.{row_of};
 
 use crate::arguments::only;
@@ -34,7 +34,7 @@ pub enum Builtin {
 impl Builtin {
     /// Whether the function takes so many arguments.
     pub fn takes(self, count: usize) -> bool
-        ensures { result ≡ takes_so_many self count }
+        ensures { result ≡ takes self count }
     {
         match self {
             Builtin::Min | Builtin::Max => count > 0,
@@ -70,7 +70,7 @@ impl Builtin {
 
     // The value of a function of one value, or TypeMismatch where there is another number.
     fn of_only(self, values: &Values) -> Result<Value, ValueStop>
-        ensures { MeetsAnswer result (of_one_value (row_of self) (vals_from (vals_of values.now))) }
+        ensures { MeetsAnswer result (of_one (row_of self) (vals_from (vals_of values.now))) }
     {
         match only(values.items()) {
             Some(value) => self.of_one(value),

@@ -1,6 +1,6 @@
 ghost use Rattle.std.specs.Prelude.{◌≡◌, ◌++◌, Ok, IfOk, IfErr, OnOk, false};
 ghost use Rattle.scad_value.specs.Values.{vals_from, count_of, ListVal};
-ghost use Rattle.scad_value.specs.Operators.{made as made_at};
+ghost use Rattle.scad_value.specs.Operators.{made};
 ghost use Rattle.scad_value.specs.View.{val_of, vals_of, vals_in, MeetsAnswer};
 ghost use Rattle.scad_builtin.specs.Builtins.{length_of, items_as, joined_items, is_list};
 
@@ -29,7 +29,7 @@ fn item_count(values: &Values) -> u64
 
 /// The list of the items of each list, and of another value as one item. They are moved.
 pub(crate) fn concat(alloc: Global, values: Values) -> Result<Value, ValueStop>
-    ensures { MeetsAnswer result (made_at (Ok (ListVal (vals_from (joined_items (vals_from (vals_of values))))))) }
+    ensures { MeetsAnswer result (made (Ok (ListVal (vals_from (joined_items (vals_from (vals_of values))))))) }
 {
     Ok(made(list(joined(alloc, values.into_items())?))?)
 }

@@ -1,8 +1,8 @@
 ghost use Rattle.std.specs.Prelude.{◌≡◌, ◌≤◌, ◌<ℤ◌, pos, negsuc, unsigned_abs};
 ghost use Rattle.scad_value.specs.Values.{vals_from};
-ghost use Rattle.scad_value.specs.Operators.{sized as sized_at};
+ghost use Rattle.scad_value.specs.Operators.{sized};
 ghost use Rattle.scad_value.specs.View.{val_of, vals_of, MeetsAnswer};
-ghost use Rattle.scad_builtin.specs.Builtins.{of_number as of_number_at, of_two, power as power_at, power_of as power_of_values, power_row as power_row_at};
+ghost use Rattle.scad_builtin.specs.Builtins.{of_number, of_two, power, power_of, power_row};
 ghost use Rattle.scad_builtin.specs.Rows.{number_row};
 
 use crate::arguments::both;
@@ -34,14 +34,14 @@ impl NumberRow {
 
 /// A count as a number, unless it is too large.
 pub(crate) fn count(n: u64) -> Result<i64, FaultKind>
-    ensures { result ≡ sized_at (pos n) }
+    ensures { result ≡ sized (pos n) }
 {
     sized(n as i128)
 }
 
 /// What is done with a number.
 pub(crate) fn of_number(row: NumberRow, value: &Value) -> Result<Value, ValueStop>
-    ensures { MeetsAnswer result (of_number_at (number_row row) (val_of value.now)) }
+    ensures { MeetsAnswer result (of_number (number_row row) (val_of value.now)) }
 {
     match value {
         Value::Number(n) => Ok(Value::Number(row.of(*n)?)),
@@ -51,7 +51,7 @@ pub(crate) fn of_number(row: NumberRow, value: &Value) -> Result<Value, ValueSto
 
 /// The power of two numbers.
 pub(crate) fn power(values: &Values) -> Result<Value, ValueStop>
-    ensures { MeetsAnswer result (of_two power_of_values (vals_from (vals_of values.now))) }
+    ensures { MeetsAnswer result (of_two power_of (vals_from (vals_of values.now))) }
 {
     match both(values.items()) {
         Some((base, exponent)) => power_of(base, exponent),
@@ -61,7 +61,7 @@ pub(crate) fn power(values: &Values) -> Result<Value, ValueStop>
 
 // The power of two values, which are numbers, or TypeMismatch.
 fn power_of(base: &Value, exponent: &Value) -> Result<Value, ValueStop>
-    ensures { MeetsAnswer result (power_of_values (val_of base.now) (val_of exponent.now)) }
+    ensures { MeetsAnswer result (power_of (val_of base.now) (val_of exponent.now)) }
 {
     match (base, exponent) {
         (Value::Number(b), Value::Number(e)) => Ok(Value::Number(power_row(*b, *e)?)),
@@ -71,7 +71,7 @@ fn power_of(base: &Value, exponent: &Value) -> Result<Value, ValueStop>
 
 // The power of two whole numbers, or its fault.
 fn power_row(base: i64, exponent: i64) -> Result<i64, FaultKind>
-    ensures { result ≡ power_row_at base exponent }
+    ensures { result ≡ power_row base exponent }
 {
     if exponent < 0 {
         inverse_power(base, exponent)
@@ -83,7 +83,7 @@ fn power_row(base: i64, exponent: i64) -> Result<i64, FaultKind>
 // A power with an exponent below 0, which is whole for 1 and -1 alone.
 fn inverse_power(base: i64, exponent: i64) -> Result<i64, FaultKind>
     requires { exponent <ℤ pos 0 }
-    ensures { result ≡ power_row_at base exponent }
+    ensures { result ≡ power_row base exponent }
 {
     match base {
         0 => Err(FaultKind::ZeroDivisor),
@@ -96,7 +96,7 @@ fn inverse_power(base: i64, exponent: i64) -> Result<i64, FaultKind>
 // A power with an exponent from 0 on. Those of 0, 1 and -1 are told by their exponents alone, so
 // that no large exponent takes long.
 fn whole_power(base: i64, exponent: u64) -> Result<i64, FaultKind>
-    ensures { result ≡ sized_at (power_at base exponent) }
+    ensures { result ≡ sized (power base exponent) }
 {
     match base {
         0 => Ok(i64::from(exponent == 0)),
@@ -108,7 +108,7 @@ fn whole_power(base: i64, exponent: u64) -> Result<i64, FaultKind>
 
 // A power of -1.
 fn alternating(exponent: u64) -> i64
-    ensures { result ≡ power_at (negsuc 0) exponent }
+    ensures { result ≡ power (negsuc 0) exponent }
 {
     if exponent % 2 == 0 { 1 } else { -1 }
 }
@@ -117,7 +117,7 @@ fn alternating(exponent: u64) -> i64
 // 54 of them.
 fn repeated(factor: i64, count: u64) -> Result<i64, FaultKind>
     requires { 2 ≤ unsigned_abs factor }
-    ensures { result ≡ sized_at (power_at factor count) }
+    ensures { result ≡ sized (power factor count) }
 {
     let mut product: i64 = 1;
     for _ in 0..count {

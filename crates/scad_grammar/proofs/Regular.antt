@@ -2,7 +2,7 @@
 use Rattle.std.proofs.Common.{codes, not, ◌≡◌, ℕ, zero, suc, List, [], ◌∷◌, length, Bool, true, false, cond, Ok, Err, Option, Some, ◌⊎◌, inl, inr, refl, sym, ◌∙◌, ◌&&◌}
 use Rattle.scad_lexer.specs.declared.token.Token.{Token}
 use Rattle.scad_lexer.specs.declared.token.TokenKind.{TokenKind}
-use Rattle.scad_lexer.specs.declared.token.TokenKind.TheVariants.{Numeral, Name, Special, Text, Reserved as ReservedToken, Symbol as SymbolToken, End}
+use Rattle.scad_lexer.specs.declared.token.TokenKind.TheVariants.{Numeral, Name, Special, Text, Reserved, Symbol, End}
 use Rattle.scad_lexer.specs.declared.token.Reserved.TheVariants.{Module, Function, If, Else, For, IntersectionFor, True, False, Undef, Use, Include, Let, Each}
 use Rattle.scad_lexer.specs.declared.token.Symbol.TheVariants.{OpenParenthesis, CloseParenthesis, OpenBracket, CloseBracket, OpenBrace, CloseBrace, Comma, Semicolon, Assign, Colon, Question, Dot, Plus, Minus, Times, Divide, Remainder, Less, Greater, LessEqual, GreaterEqual, Equal, NotEqual, And, Or, Not, Hash, Caret}
 use Rattle.scad_lexer.specs.Tokens.{is_end, ends_once}
@@ -35,47 +35,47 @@ end_class (Special bytes) = go (bytes_eq bytes (codes "children"))
     go true = refl
     go false = refl
 end_class (Text bytes) = refl
-end_class (ReservedToken Module) = refl
-end_class (ReservedToken Function) = refl
-end_class (ReservedToken If) = refl
-end_class (ReservedToken Else) = refl
-end_class (ReservedToken For) = refl
-end_class (ReservedToken IntersectionFor) = refl
-end_class (ReservedToken True) = refl
-end_class (ReservedToken False) = refl
-end_class (ReservedToken Undef) = refl
-end_class (ReservedToken Use) = refl
-end_class (ReservedToken Include) = refl
-end_class (ReservedToken Let) = refl
-end_class (ReservedToken Each) = refl
-end_class (SymbolToken OpenParenthesis) = refl
-end_class (SymbolToken CloseParenthesis) = refl
-end_class (SymbolToken OpenBracket) = refl
-end_class (SymbolToken CloseBracket) = refl
-end_class (SymbolToken OpenBrace) = refl
-end_class (SymbolToken CloseBrace) = refl
-end_class (SymbolToken Comma) = refl
-end_class (SymbolToken Semicolon) = refl
-end_class (SymbolToken Assign) = refl
-end_class (SymbolToken Colon) = refl
-end_class (SymbolToken Question) = refl
-end_class (SymbolToken Dot) = refl
-end_class (SymbolToken Plus) = refl
-end_class (SymbolToken Minus) = refl
-end_class (SymbolToken Times) = refl
-end_class (SymbolToken Divide) = refl
-end_class (SymbolToken Remainder) = refl
-end_class (SymbolToken Less) = refl
-end_class (SymbolToken Greater) = refl
-end_class (SymbolToken LessEqual) = refl
-end_class (SymbolToken GreaterEqual) = refl
-end_class (SymbolToken Equal) = refl
-end_class (SymbolToken NotEqual) = refl
-end_class (SymbolToken And) = refl
-end_class (SymbolToken Or) = refl
-end_class (SymbolToken Not) = refl
-end_class (SymbolToken Hash) = refl
-end_class (SymbolToken Caret) = refl
+end_class (Reserved Module) = refl
+end_class (Reserved Function) = refl
+end_class (Reserved If) = refl
+end_class (Reserved Else) = refl
+end_class (Reserved For) = refl
+end_class (Reserved IntersectionFor) = refl
+end_class (Reserved True) = refl
+end_class (Reserved False) = refl
+end_class (Reserved Undef) = refl
+end_class (Reserved Use) = refl
+end_class (Reserved Include) = refl
+end_class (Reserved Let) = refl
+end_class (Reserved Each) = refl
+end_class (Symbol OpenParenthesis) = refl
+end_class (Symbol CloseParenthesis) = refl
+end_class (Symbol OpenBracket) = refl
+end_class (Symbol CloseBracket) = refl
+end_class (Symbol OpenBrace) = refl
+end_class (Symbol CloseBrace) = refl
+end_class (Symbol Comma) = refl
+end_class (Symbol Semicolon) = refl
+end_class (Symbol Assign) = refl
+end_class (Symbol Colon) = refl
+end_class (Symbol Question) = refl
+end_class (Symbol Dot) = refl
+end_class (Symbol Plus) = refl
+end_class (Symbol Minus) = refl
+end_class (Symbol Times) = refl
+end_class (Symbol Divide) = refl
+end_class (Symbol Remainder) = refl
+end_class (Symbol Less) = refl
+end_class (Symbol Greater) = refl
+end_class (Symbol LessEqual) = refl
+end_class (Symbol GreaterEqual) = refl
+end_class (Symbol Equal) = refl
+end_class (Symbol NotEqual) = refl
+end_class (Symbol And) = refl
+end_class (Symbol Or) = refl
+end_class (Symbol Not) = refl
+end_class (Symbol Hash) = refl
+end_class (Symbol Caret) = refl
 end_class End = refl
 
 both_are : (b c : Bool) → (not b && c) ≡ true → (b ≡ false) × (c ≡ true)

@@ -6,7 +6,7 @@ ghost use Rattle.int_transform.specs.Maps.{affine_of, determinant_of};
 ghost use Rattle.scad_value.specs.Values.{vals_from};
 ghost use Rattle.scad_value.specs.View.{val_of, vals_in};
 ghost use Rattle.scad_modules.specs.Reading.{each_in, vector_in};
-ghost use Rattle.scad_modules.specs.Transforms.{part, row_at, is_zero, some_part, some_row, is_last_row as is_the_last_row, three_rows_from, rows_in, is_past_matrix, keeps_plane as keeps_the_plane, leaves_plane_by, moves_past, row_on_grid as row_on_the_grid, rows_on_grid, multmatrix_call};
+ghost use Rattle.scad_modules.specs.Transforms.{part, row_at, is_zero, some_part, some_row, is_last_row, three_rows_from, rows_in, is_past_matrix, keeps_plane, leaves_plane_by, moves_past, row_on_grid, rows_on_grid, multmatrix_call};
 ghost use Rattle.scad_modules.specs.View.{slots_of, MeetsEffect, GivesSafe};
 
 use crate::effects::Effect;
@@ -79,7 +79,7 @@ fn rows_of(values: &[Value]) -> Option<[[i64; 4]; 3]>
 
 // Whether a row is 0 0 0 1.
 fn is_last_row(row: [i64; 4]) -> bool
-    ensures { result ≡ is_the_last_row row }
+    ensures { result ≡ is_last_row row }
 {
     row[0] == 0 && row[1] == 0 && row[2] == 0 && row[3] == 1
 }
@@ -130,7 +130,7 @@ fn leaves_plane(inside: bool, rows: [[i64; 4]; 3]) -> bool
 
 // Whether the third row and the third column are those of the identity.
 fn keeps_plane(rows: [[i64; 4]; 3]) -> bool
-    ensures { result ≡ keeps_the_plane rows }
+    ensures { result ≡ keeps_plane rows }
 {
     let [x, y, z] = rows;
     x[2] == 0 && y[2] == 0 && z[0] == 0 && z[1] == 0 && z[2] == 1 && z[3] == 0
@@ -150,7 +150,7 @@ fn on_grid(unit: Unit, rows: [[i64; 4]; 3]) -> Result<[[i64; 4]; 3], FaultKind>
 
 // A row with its move in grid steps, or TooLarge where that is past 2^53 - 1 in size.
 fn row_on_grid(unit: Unit, row: [i64; 4]) -> Result<[i64; 4], FaultKind>
-    ensures value { MatchResult result (λ moved. (moved ≡ row_on_the_grid unit row) × (moves_past unit row ≡ false))
+    ensures value { MatchResult result (λ moved. (moved ≡ row_on_grid unit row) × (moves_past unit row ≡ false))
         (λ kind. (kind ≡ TooLarge) × (moves_past unit row ≡ true)) }
     ensures safe { IfOk result (λ moved. unsigned_abs (part moved 3) ≤ 9007199254740991) }
 {

@@ -3,7 +3,7 @@
 ghost use Rattle.std.specs.Prelude.{◌≡◌};
 ghost use Rattle.scad_value.specs.Values.{vals_from};
 ghost use Rattle.scad_value.specs.View.{val_of, vals_in};
-ghost use Rattle.scad_modules.specs.Reading.{number_in, truth_in, corner_number as corner_number_of, each_in, of_length, vector_in, filled_from, coordinates_in, sides_in};
+ghost use Rattle.scad_modules.specs.Reading.{number_in, truth_in, corner_number, each_in, of_length, vector_in, filled_from, coordinates_in, sides_in};
 ghost use Rattle.scad_modules.specs.Transforms.{angles_in, factors_in};
 
 use scad_value::Value;
@@ -33,7 +33,7 @@ pub(crate) fn truth_value(value: &Value) -> Option<bool>
 
 /// The number of a corner, where one that no point can have stands for all that name none.
 pub(crate) fn corner_number(n: i64) -> u32
-    ensures { result ≡ corner_number_of n }
+    ensures { result ≡ corner_number n }
 {
     if n < 0 || n >= NO_CORNER as i64 {
         return NO_CORNER;

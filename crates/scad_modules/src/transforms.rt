@@ -6,7 +6,7 @@ ghost use Rattle.plane_predicate.specs.Space.{point_at};
 ghost use Rattle.int_transform.specs.Maps.{HasSafeCoordinates};
 ghost use Rattle.scad_modules.specs.Bounds.{are_bounded};
 ghost use Rattle.scad_modules.specs.Effects.{a_move};
-ghost use Rattle.scad_modules.specs.Transforms.{is_zero, is_past, in_steps as in_grid_steps, on_grid as on_the_grid, some_part, leaves_plane as leaves_the_plane, tilts_plane as tilts_the_plane, translate_call, is_skew as is_skew_angle, quarters_of, turned, turns_of, rotate_call, is_alone as is_alone_among, axis_of as axis_along, mirror_call, factors_for as factors_inside, scale_call};
+ghost use Rattle.scad_modules.specs.Transforms.{is_zero, is_past, in_steps, on_grid, some_part, leaves_plane, tilts_plane, translate_call, is_skew, quarters_of, turned, turns_of, rotate_call, is_alone, axis_of, mirror_call, factors_for, scale_call};
 ghost use Rattle.scad_modules.specs.View.{slots_of, MeetsEffect, GivesSafe};
 
 use crate::effects::Effect;
@@ -109,8 +109,8 @@ pub(crate) fn moved(alloc: Global, step: Step) -> Result<Effect, ValueStop>
 
 /// A length in grid steps, or TooLarge where these are past 2^53 - 1 in size.
 pub(crate) fn in_steps(unit: Unit, length: i64) -> Result<i64, FaultKind>
-    ensures value { MatchResult result (λ steps. (steps ≡ in_grid_steps unit length) × (is_past (in_grid_steps unit length) ≡ false))
-        (λ kind. (kind ≡ TooLarge) × (is_past (in_grid_steps unit length) ≡ true)) }
+    ensures value { MatchResult result (λ steps. (steps ≡ in_steps unit length) × (is_past (in_steps unit length) ≡ false))
+        (λ kind. (kind ≡ TooLarge) × (is_past (in_steps unit length) ≡ true)) }
     ensures safe { IfOk result (λ steps. unsigned_abs steps ≤ 9007199254740991) }
 {
     product_of_two(unit.per(), length)
@@ -118,8 +118,8 @@ pub(crate) fn in_steps(unit: Unit, length: i64) -> Result<i64, FaultKind>
 
 // A vector in grid steps, or TooLarge where a number of it is past 2^53 - 1 in size.
 fn on_grid(unit: Unit, by: [i64; 3]) -> Result<[i64; 3], FaultKind>
-    ensures value { MatchResult result (λ vector. (vector ≡ on_the_grid unit by) × (some_part is_past (on_the_grid unit by) ≡ false))
-        (λ kind. (kind ≡ TooLarge) × (some_part is_past (on_the_grid unit by) ≡ true)) }
+    ensures value { MatchResult result (λ vector. (vector ≡ on_grid unit by) × (some_part is_past (on_grid unit by) ≡ false))
+        (λ kind. (kind ≡ TooLarge) × (some_part is_past (on_grid unit by) ≡ true)) }
     ensures safe { IfOk result (λ vector. HasSafeCoordinates (point_at vector)) }
 {
     let x = in_steps(unit, by[0])?;
@@ -130,28 +130,28 @@ fn on_grid(unit: Unit, by: [i64; 3]) -> Result<[i64; 3], FaultKind>
 
 // Whether a vector leaves the plane inside an extrusion.
 fn leaves_plane(inside: bool, by: [i64; 3]) -> bool
-    ensures { result ≡ leaves_the_plane inside by }
+    ensures { result ≡ leaves_plane inside by }
 {
     inside && by[2] != 0
 }
 
 // Whether angles turn about x or y inside an extrusion.
 fn tilts_plane(inside: bool, angles: [i64; 3]) -> bool
-    ensures { result ≡ tilts_the_plane inside angles }
+    ensures { result ≡ tilts_plane inside angles }
 {
     inside && !(angles[0] == 0 && angles[1] == 0)
 }
 
 // Whether an angle is no number of quarter turns.
 fn is_skew(angle: i64) -> bool
-    ensures { result ≡ is_skew_angle angle }
+    ensures { result ≡ is_skew angle }
 {
     angle.unsigned_abs() % 90 != 0
 }
 
 // Whether one of three angles is no number of quarter turns.
 fn are_skew(angles: [i64; 3]) -> bool
-    ensures { result ≡ some_part is_skew_angle angles }
+    ensures { result ≡ some_part is_skew angles }
 {
     is_skew(angles[0]) || is_skew(angles[1]) || is_skew(angles[2])
 }
@@ -188,7 +188,7 @@ fn turn(axis: u8, angle: i64) -> Step
 
 // The one axis along which a vector goes.
 fn axis_of(by: [i64; 3]) -> Option<u8>
-    ensures value { result ≡ axis_along by }
+    ensures value { result ≡ axis_of by }
     ensures axis { IfSome result (λ axis. axis < 3) }
 {
     let [x, y, z] = by;
@@ -205,7 +205,7 @@ fn axis_of(by: [i64; 3]) -> Option<u8>
 
 // Whether a number isn't 0 while two others are.
 fn is_alone(n: i64, m: i64, k: i64) -> bool
-    ensures { result ≡ is_alone_among n m k }
+    ensures { result ≡ is_alone n m k }
 {
     n != 0 && m == 0 && k == 0
 }
@@ -226,7 +226,7 @@ fn has_zero(by: [i64; 3]) -> bool
 
 // The factors of a scaling, which inside an extrusion has no effect along z.
 fn factors_for(inside: bool, by: [i64; 3]) -> [i64; 3]
-    ensures { result ≡ factors_inside inside by }
+    ensures { result ≡ factors_for inside by }
 {
     if inside { [by[0], by[1], 1] } else { by }
 }

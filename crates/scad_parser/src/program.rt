@@ -8,7 +8,7 @@ ghost use Rattle.scad_ast.specs.StatementView.{statements_of};
 ghost use Rattle.scad_grammar.specs.declared.SyntaxFault.{SyntaxFault};
 ghost use Rattle.scad_grammar.specs.Grammar.{too_deep, WholeProgram};
 ghost use Rattle.scad_grammar.specs.FirstFault.{IsFirstFault};
-ghost use Rattle.scad_parser.specs.Parsing.{ends, whole_read, IsStopOf, StandsAtToken, AnswersProgram, AnswersFault, IsRead, kind_of as kind_at, place_at};
+ghost use Rattle.scad_parser.specs.Parsing.{ends, whole_read, IsStopOf, StandsAtToken, AnswersProgram, AnswersFault, IsRead, kind_of, place_at};
 ghost use Rattle.scad_tokens.specs.Views.{Gives};
 
 use crate::statement::statements;
@@ -83,7 +83,7 @@ fn place_of(tokens: &[Token]) -> Place
 
 // The fault's word.
 fn kind_of(fault: SyntaxFault) -> FaultKind
-    ensures { result ≡ kind_at fault }
+    ensures { result ≡ kind_of fault }
 {
     match fault {
         SyntaxFault::Expected => FaultKind::Expected,

@@ -4,7 +4,7 @@ ghost use Rattle.scad_ast.specs.StatementView.{statement_of, statements_of, inst
 ghost use Rattle.scad_grammar.specs.Classes.{among, is, name, comma_sign, else_word};
 ghost use Rattle.scad_grammar.specs.Languages.{second_of};
 ghost use Rattle.scad_grammar.specs.Faults.{one};
-ghost use Rattle.scad_grammar.specs.Grammar.{mark_of as mark_at, instance_of as instance_at, assignment_of};
+ghost use Rattle.scad_grammar.specs.Grammar.{mark_of as mark_of_token, instance_of as instance_of_marks, assignment_of};
 ghost use Rattle.scad_grammar.specs.Reading.{both, many, mapped, trailing, in_front};
 ghost use Rattle.scad_grammar.specs.Reads.{expr_read, arg_in, in_parentheses};
 ghost use Rattle.scad_grammar.specs.StatementReads.{firsts_of_statement, param_in, params_read, binder_in, binders_read, if_read, loop_read, call_read, core_read, marks_read, instance_in, braces_read, body_read, body_over as body_from, module_read, function_read, ended_read, special_read, definition_read, statement_over as statement_from, statement_read};
@@ -250,7 +250,7 @@ fn instance<'a>(alloc: Global, tokens: &'a [Token], depth: u32) -> Parsed<'a, In
 
 // An instance, by its marks and its core.
 fn instance_from(marks: PlacedModifiers, core: Core) -> Instance
-    ensures { instance_of result ≡ instance_at (marks_of marks) (core_of core) }
+    ensures { instance_of result ≡ instance_of_marks (marks_of marks) (core_of core) }
 {
     let place = match marks.items.first() {
         Some(mark) => mark.place,
@@ -274,7 +274,7 @@ fn marks<'a>(alloc: Global, tokens: &'a [Token]) -> Parsed<'a, PlacedModifiers>
 
 // A modifier.
 fn mark(token: &Token) -> PlacedModifier
-    ensures { mark_of result ≡ mark_at token.now }
+    ensures { mark_of result ≡ mark_of_token token.now }
 {
     PlacedModifier {
         place: token.place,

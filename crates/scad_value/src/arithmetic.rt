@@ -1,6 +1,6 @@
 ghost use Rattle.std.specs.Prelude.{◌≡◌, ◌<◌, ◌≤◌, ◌^◌, ◌*ℤ◌, length, IsTrue, IfOk, unsigned_abs};
 ghost use Rattle.scad_value.specs.Values.{count_of, parts_in, vals_from, is_small, has_small_numbers, have_small_numbers};
-ghost use Rattle.scad_value.specs.Operators.{sized as sized_at, by_parts as by_parts_at, pairs_by_parts, if_equal, each_part as each_part_at, each_of_parts, dot_of, product_at, product_row, remainder_row, quotient_row};
+ghost use Rattle.scad_value.specs.Operators.{sized, by_parts, pairs_by_parts, if_equal, each_part, each_of_parts, dot_of, product_at, product_row, remainder_row, quotient_row};
 ghost use Rattle.scad_value.specs.View.{val_of, vals_of, MeetsAnswer, MeetsAnswers};
 ghost use Rattle.scad_value.specs.Rows.{pair_row, part_row};
 
@@ -28,7 +28,7 @@ pub(crate) enum PartRow {
 
 /// The number, unless it is TooLarge: past 2^53 - 1 in size.
 pub fn sized(n: i128) -> Result<i64, FaultKind>
-    ensures { result ≡ sized_at n }
+    ensures { result ≡ sized n }
 {
     if n.unsigned_abs() < u128::from(TOO_LARGE) {
         Ok(n as i64)
@@ -97,7 +97,7 @@ pub(crate) fn by_parts(
     left: &Value,
     right: &Value,
 ) -> Result<Value, ValueStop>
-    ensures { MeetsAnswer result (by_parts_at (pair_row row) (val_of left.now) (val_of right.now)) }
+    ensures { MeetsAnswer result (by_parts (pair_row row) (val_of left.now) (val_of right.now)) }
 {
     match (left, right) {
         (Value::Number(a), Value::Number(b)) => Ok(Value::Number(pair(row, *a, *b)?)),
@@ -144,7 +144,7 @@ fn each_pair(
 /// A number, or each part of a list.
 #[cycle(parts)]
 pub(crate) fn each_part(alloc: Global, row: PartRow, of: &Value) -> Result<Value, ValueStop>
-    ensures { MeetsAnswer result (each_part_at (part_row row) (val_of of.now)) }
+    ensures { MeetsAnswer result (each_part (part_row row) (val_of of.now)) }
 {
     match of {
         Value::Number(n) => Ok(Value::Number(part(row, *n)?)),

@@ -1,5 +1,5 @@
 ghost use Rattle.std.specs.Prelude.{◌≡◌};
-ghost use Rattle.scad_value.specs.Values.{are_same, all_same as all_are_same, vals_from};
+ghost use Rattle.scad_value.specs.Values.{are_same, all_same, vals_from};
 ghost use Rattle.scad_value.specs.View.{val_of, vals_of};
 
 use crate::value::{Value, Values};
@@ -30,7 +30,7 @@ pub(crate) fn same(left: &Value, right: &Value) -> bool
 // Whether two lists are of one length and their items equal.
 #[cycle(same)]
 fn all_same(left: &Values, right: &Values) -> bool
-    ensures { result ≡ all_are_same (vals_from (vals_of left.now)) (vals_from (vals_of right.now)) }
+    ensures { result ≡ all_same (vals_from (vals_of left.now)) (vals_from (vals_of right.now)) }
 {
     if left.items.len() != right.items.len() {
         return false;

@@ -1,6 +1,6 @@
 ghost use Rattle.std.specs.Prelude.{◌≡◌, ◌<◌, ◌^◌, IsTrue, IfOk, Ok, length};
 ghost use Rattle.scad_value.specs.Values.{Val, is_bounded, vals_from, has_small_numbers, have_small_numbers, parts_in, NumberVal, TextVal, ListVal, UndefVal};
-ghost use Rattle.scad_value.specs.Operators.{Answer, binary_of, unary_of, index_of, made as made_at, product_of, quotient_of, remainder_of, dot_row, dot_of, and_then, sized as sized_at, number as number_at, order_of, item_at, byte_at};
+ghost use Rattle.scad_value.specs.Operators.{Answer, binary_of, unary_of, index_of, made, product_of, quotient_of, remainder_of, dot_row, dot_of, and_then, sized, number, order_of, item_at, byte_at};
 ghost use Rattle.scad_value.specs.View.{val_of, vals_of, Answers, MeetsAnswer, GivesBounded};
 
 use crate::arithmetic::{
@@ -149,7 +149,7 @@ fn text(bytes: Vec<u8>) -> Value
 /// A value that an operator, a function or a bracket makes, unless it is LongList: it has more than
 /// 4,096 parts, or lists that are more than 64 deep in one another.
 pub fn made(value: Value) -> Result<Value, FaultKind>
-    ensures value { Answers result (made_at (Ok (val_of value))) }
+    ensures value { Answers result (made (Ok (val_of value))) }
     ensures bounded { IsTrue (has_small_numbers (val_of value)) → IfOk result (λ v. IsTrue (is_bounded (val_of v))) }
 {
     if value.parts() > MOST_PARTS || value.nesting() > MOST_NESTING {
@@ -160,7 +160,7 @@ pub fn made(value: Value) -> Result<Value, FaultKind>
 
 // The value that was given, unless it is LongList, or why none was.
 fn made_of(given: Result<Value, ValueStop>) -> Result<Value, ValueStop>
-    ensures { (answer : Answer Val) → MeetsAnswer given answer → MeetsAnswer result (made_at answer) }
+    ensures { (answer : Answer Val) → MeetsAnswer given answer → MeetsAnswer result (made answer) }
 {
     Ok(made(given?)?)
 }
@@ -212,14 +212,14 @@ fn sized_dot(left: &Values, right: &Values) -> Result<i64, FaultKind>
     requires right { IsTrue (have_small_numbers (vals_from (vals_of right.now))) }
     requires few { parts_in (vals_from (vals_of left.now)) < 2 ^ 20 }
     requires equal { length left.now.items.items ≡ length right.now.items.items }
-    ensures { result ≡ and_then (dot_of (vals_from (vals_of left.now)) (vals_from (vals_of right.now))) sized_at }
+    ensures { result ≡ and_then (dot_of (vals_from (vals_of left.now)) (vals_from (vals_of right.now))) sized }
 {
     sized(dot(left, right)?)
 }
 
 // The value of a number, or its fault.
 fn number(answer: Result<i64, FaultKind>) -> Result<Value, ValueStop>
-    ensures { MeetsAnswer result (number_at answer) }
+    ensures { MeetsAnswer result (number answer) }
 {
     Ok(Value::Number(answer?))
 }

@@ -1,5 +1,5 @@
 ghost use Rattle.std.specs.Prelude.{◌≡◌, ◌-◌, ◌^◌, min, IfOk};
-ghost use Rattle.scad_value.specs.Values.{parts_of, parts_in, nesting_of, nesting_in, truth_of, vals_from, ListVal, is_small, is_bounded as bounded, has_small_numbers as with_small_numbers, have_small_numbers as all_have_small_numbers};
+ghost use Rattle.scad_value.specs.Values.{parts_of, parts_in, nesting_of, nesting_in, truth_of, vals_from, ListVal, is_small, is_bounded, has_small_numbers, have_small_numbers};
 ghost use Rattle.scad_value.specs.View.{val_of, vals_of, vals_in};
 
 use crate::limits::{TOO_LARGE, TOO_MANY_PARTS};
@@ -95,7 +95,7 @@ impl Values {
     // Whether all items have only numbers of the profile.
     #[cycle(small)]
     fn have_small_numbers(&self) -> bool
-        ensures { result ≡ all_have_small_numbers (vals_from (vals_of self.now)) }
+        ensures { result ≡ have_small_numbers (vals_from (vals_of self.now)) }
     {
         for value in &self.items {
             if !value.has_small_numbers() {
@@ -110,7 +110,7 @@ impl Value {
     /// Whether its numbers are at most 2^53 - 1 in size and it has fewer than 2^20 parts, as the
     /// operators want it.
     pub fn is_bounded(&self) -> bool
-        ensures { result ≡ bounded (val_of self.now) }
+        ensures { result ≡ is_bounded (val_of self.now) }
     {
         self.has_small_numbers() && self.parts() < TOO_MANY_PARTS
     }
@@ -118,7 +118,7 @@ impl Value {
     // Whether it has only numbers of the profile.
     #[cycle(small)]
     fn has_small_numbers(&self) -> bool
-        ensures { result ≡ with_small_numbers (val_of self.now) }
+        ensures { result ≡ has_small_numbers (val_of self.now) }
     {
         match self {
             Value::Number(n) => small(*n),
