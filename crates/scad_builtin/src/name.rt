@@ -36,8 +36,8 @@ pub fn builtin(name: &[u8]) -> Option<Builtin>
     named_in(&BUILTINS, name)
 }
 
-// What a name stands for in a table.
-fn named_in(names: &[(&[u8], Builtin)], name: &[u8]) -> Option<Builtin>
+/// What a name stands for in a table.
+pub fn named_in<T: Copy>(names: &[(&[u8], T)], name: &[u8]) -> Option<T>
     ensures { result ≡ named_in (map (λ known. (known.0.now, known.1)) names.now) name.now }
 {
     for known in names {

@@ -1,17 +1,8 @@
-ghost use Rattle.std.specs.Prelude.{◌≡◌, map};
-ghost use Rattle.std.specs.Str.{bytes_eq};
-ghost use Rattle.scad_builtin.specs.Builtins.{named_in};
+ghost use Rattle.std.specs.Prelude.{◌≡◌};
 ghost use Rattle.scad_modules.specs.Table.{module_named, is_left_out};
 
 use crate::table::BuiltinModule;
-use scad_builtin::is_among;
-
-// Whether two names are the same.
-fn same(known: &[u8], name: &[u8]) -> bool
-    ensures { result ≡ bytes_eq known.now name.now }
-{
-    known == name
-}
+use scad_builtin::{is_among, named_in};
 
 // The names of the built-in modules.
 const MODULES: [(&[u8], BuiltinModule); 21] = [
@@ -43,18 +34,6 @@ pub fn builtin_module(name: &[u8]) -> Option<BuiltinModule>
     ensures { result ≡ module_named name.now }
 {
     named_in(&MODULES, name)
-}
-
-// What a name stands for in a table.
-fn named_in(names: &[(&[u8], BuiltinModule)], name: &[u8]) -> Option<BuiltinModule>
-    ensures { result ≡ named_in (map (λ known. (known.0.now, known.1)) names.now) name.now }
-{
-    for known in names {
-        if same(known.0, name) {
-            return Some(known.1);
-        }
-    }
-    None
 }
 
 // The modules of OpenSCAD that the profile leaves out.
