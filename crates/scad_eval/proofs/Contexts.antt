@@ -16,7 +16,7 @@ use Rattle.scad_eval.specs.declared.evaluator.InstanceEvaluator.{InstanceEvaluat
 use Rattle.scad_meaning.specs.Verdicts.{Judge, IsRight}
 use Rattle.scad_meaning.specs.Meaning.{Context, evaluator_with}
 use Rattle.scad_pieces.specs.Seen.{HasOutcome}
-use Rattle.scad_eval.specs.Keeping.{evaluations_left, evaluator_at, context_at, IsChecked, Stays, Enters, Assigns, Equation, Meets}
+use Rattle.scad_eval.specs.Keeping.{evaluations_left, evaluator_at, context_at, IsChecked, Stays, Enters, Assigns, Equation, MeetsEquation}
 use Rattle.scad_eval.proofs.Outcomes.{along}
 
 -- where an instance stands, by what it depends on
@@ -93,14 +93,14 @@ moved equation judge u v l m here there turns leaves a b c =
 -- from a stand that an equation changes
 pub meets_at : {A B : Type 0} {see : ℕ → A → B} {mid new : InstanceEvaluator} {s : Position} {r : Result A Stop} {equation : Equation B}
     (u : LengthUnit) (evaluations : ℕ) (here : Context) → mid.unit ≡ u → evaluations_left mid ≡ evaluations → context_at mid s ≡ here
-    → Meets see mid new s r equation → (judge : Judge) → IsRight judge
+    → MeetsEquation see mid new s r equation → (judge : Judge) → IsRight judge
     → HasOutcome see r new.evaluation.turns new.leaves (equation (evaluator_with u judge evaluations) here mid.evaluation.turns mid.leaves)
 meets_at {mid = mid} {s = s} {equation = equation} u evaluations here a b c h judge right =
     along (sym (moved equation judge u mid.unit evaluations (evaluations_left mid) here (context_at mid s) mid.evaluation.turns mid.leaves a b c)) (h.by judge right)
 
 -- from the same stand
 pub meets_after : {A B : Type 0} {see : ℕ → A → B} {old mid new : InstanceEvaluator} {s : Position} {r : Result A Stop} {equation : Equation B}
-    → Stays old mid → Meets see mid new s r equation → (judge : Judge) → IsRight judge
+    → Stays old mid → MeetsEquation see mid new s r equation → (judge : Judge) → IsRight judge
     → HasOutcome see r new.evaluation.turns new.leaves
     (equation (evaluator_at old judge) (context_at old s) mid.evaluation.turns mid.leaves)
 meets_after {old = old} {mid = mid} {s = s} k h judge right =

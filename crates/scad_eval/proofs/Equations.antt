@@ -14,7 +14,7 @@ use Rattle.scad_scope.specs.Table.{rows_of, chain_of}
 use Rattle.scad_blocks.specs.Blocks.{assignments_of}
 use Rattle.scad_evaluation.specs.Meaning.{Outcome, Gives, Faults, Arguments, Slots, Env, Opened, call_in, entered_scope, then_with, evaluated}
 use Rattle.scad_arguments.specs.ArgumentsView.{IsFaultAt}
-use Rattle.scad_evaluation.specs.View.{Tells, seen, source_text}
+use Rattle.scad_evaluation.specs.View.{MeetsOutcome, seen, source_text}
 use Rattle.scad_evaluation.specs.Definitions.{IsWhole, statements_at, block_scope}
 use Rattle.scad_evaluation.specs.Evaluations.{CallBegins, EvaluationBegins, SpecialsBegin, scope_here}
 use Rattle.scad_evaluation.specs.Evaluations as there
@@ -31,8 +31,8 @@ use Rattle.scad_meaning.specs.Verdicts.{Judge, IsRight}
 use Rattle.scad_meaning.specs.Bodies.{is_marked}
 use Rattle.scad_meaning.specs.Meaning.{Context, InstanceDesign, MemberDesigns, Evaluator, inside_scope, with_chain, with_calls_left, inside_mark, setting, evaluator_with, design_within, instance_design, core_design, core_of, joined_members, each_assigned, each_member, children_design, effect_design, answered_with, no_members, and_members, apart, block_members, built_in_given, chosen_children, instances_chosen}
 use Rattle.scad_pieces.specs.Seen.{HasOutcome, instance_design_of, member_designs_of, one_member_of, IsLengthened, in_front}
-use Rattle.scad_pieces.specs.Calls.{TellsEffectAt}
-use Rattle.scad_eval.specs.Keeping.{evaluations_left, evaluator_at, context_at, Stays, Enters, Assigns, Equation, Meets}
+use Rattle.scad_pieces.specs.Calls.{MeetsEffectAt}
+use Rattle.scad_eval.specs.Keeping.{evaluations_left, evaluator_at, context_at, Stays, Enters, Assigns, Equation, MeetsEquation}
 use Rattle.scad_eval.proofs.Outcomes.{along, then_outcome, front_of_none, no_memory}
 use Rattle.scad_eval.proofs.Contexts.{meets_at, same_context, entered_context}
 use Rattle.scad_eval.proofs.Beginning.{deeper_context, deeper_evaluations, call_context, call_evaluations, specials_context, specials_evaluations}
@@ -56,7 +56,7 @@ joined_outcome op members made turns leaves out h joined =
 -- in a scope that was entered
 pub entered_meets : {A B : Type 0} {see : ℕ → A → B} {r : Result A Stop} (equation : Source → Equation B) (old mid new : InstanceEvaluator) (s : Position)
     (before : ℕ) (env : Env) → Enters old mid before → scope_here mid.evaluation ≡ env → mid.evaluation.turns ≡ old.evaluation.turns
-    → Meets see mid new s r (equation mid.evaluation.source.now) → (judge : Judge) → IsRight judge
+    → MeetsEquation see mid new s r (equation mid.evaluation.source.now) → (judge : Judge) → IsRight judge
     → HasOutcome see r new.evaluation.turns new.leaves
     (equation old.evaluation.source.now (evaluator_at old judge) (inside_scope (context_at old s) env)
     old.evaluation.turns old.leaves)
@@ -76,7 +76,7 @@ pub body_entered : {r : Result MemberResults Stop} (old mid new : InstanceEvalua
     → Enters old mid before
     → scope_here mid.evaluation ≡ block_scope (source_text old.evaluation.source.now) block call outer
     → mid.evaluation.turns ≡ old.evaluation.turns
-    → Meets member_designs_of mid new s r (λ evaluator. block_members evaluator chosen (statements_at (source_text mid.evaluation.source.now) block))
+    → MeetsEquation member_designs_of mid new s r (λ evaluator. block_members evaluator chosen (statements_at (source_text mid.evaluation.source.now) block))
     → (judge : Judge) → IsRight judge
     → HasOutcome member_designs_of r new.evaluation.turns new.leaves
     (block_members (evaluator_at old judge) chosen statements
@@ -93,7 +93,7 @@ body_entered old mid new s before block call outer chosen statements whole is e 
 -- one evaluation deeper
 pub deeper_meets : {r : Result InstanceResult Stop} (old mid new : InstanceEvaluator) (s : Position) (i : InstanceTerm) → mid.unit ≡ old.unit → mid.leaves ≡ old.leaves
     → mid.evaluation.turns ≡ old.evaluation.turns → EvaluationBegins old.evaluation mid.evaluation
-    → Meets instance_design_of mid new s r (λ evaluator here. instance_design evaluator here i) → (judge : Judge) → IsRight judge
+    → MeetsEquation instance_design_of mid new s r (λ evaluator here. instance_design evaluator here i) → (judge : Judge) → IsRight judge
     → HasOutcome instance_design_of r new.evaluation.turns new.leaves
     (design_within old.unit judge (evaluations_left old) (context_at old s) i old.evaluation.turns old.leaves)
 deeper_meets old mid new s i unit leaves turns b h judge right =
@@ -108,7 +108,7 @@ deeper_meets old mid new s i unit leaves turns b h judge right =
 -- one call deeper; the turns are those that a call counts
 pub call_meets : {A B : Type 0} {see : ℕ → A → B} {r : Result A Stop} (equation : Source → List Row → Equation B) (old mid new : InstanceEvaluator) (s : Position)
     → mid.unit ≡ old.unit → mid.leaves ≡ old.leaves → CallBegins old.evaluation mid.evaluation
-    → Meets see mid new s r (equation mid.evaluation.source.now (rows_of mid.evaluation.scopes.now)) → (judge : Judge) → IsRight judge
+    → MeetsEquation see mid new s r (equation mid.evaluation.source.now (rows_of mid.evaluation.scopes.now)) → (judge : Judge) → IsRight judge
     → HasOutcome see r new.evaluation.turns new.leaves
     (equation old.evaluation.source.now (rows_of old.evaluation.scopes.now) (evaluator_at old judge)
     (with_calls_left (context_at old s) (64 - (old.evaluation.calls + 1))) mid.evaluation.turns old.leaves)
@@ -127,7 +127,7 @@ pub specials_meets : {A B : Type 0} {see : ℕ → A → B} {r : Result A Stop} 
     → begun.unit ≡ old.unit → begun.leaves ≡ old.leaves → SpecialsBegin old.evaluation begun.evaluation count
     → chain_of begun.evaluation.scopes.now ≡ specials ++ chain_of old.evaluation.scopes.now
     → Stays begun mid → mid.leaves ≡ begun.leaves
-    → Meets see mid new s r (equation mid.evaluation.source.now (rows_of mid.evaluation.scopes.now)) → (judge : Judge) → IsRight judge
+    → MeetsEquation see mid new s r (equation mid.evaluation.source.now (rows_of mid.evaluation.scopes.now)) → (judge : Judge) → IsRight judge
     → HasOutcome see r new.evaluation.turns new.leaves
     (equation old.evaluation.source.now (rows_of old.evaluation.scopes.now) (evaluator_at old judge)
     (with_chain (context_at old s) (specials ++ chain_of old.evaluation.scopes.now)) mid.evaluation.turns old.leaves)
@@ -146,7 +146,7 @@ specials_meets equation old begun mid new s count specials unit leaves b chain k
 -- the chosen children of the enclosing call, one call deeper
 pub children_meets : {r : Result InstanceResult Stop} (old mid new : InstanceEvaluator) (s : Position) (at : Place) (chosen : ChosenCall)
     → mid.unit ≡ old.unit → mid.leaves ≡ old.leaves → mid.evaluation.turns ≡ old.evaluation.turns → CallBegins old.evaluation mid.evaluation
-    → Meets instance_design_of mid new s r (λ evaluator here. children_design evaluator here (call_in here.env) chosen) → (judge : Judge) → IsRight judge
+    → MeetsEquation instance_design_of mid new s r (λ evaluator here. children_design evaluator here (call_in here.env) chosen) → (judge : Judge) → IsRight judge
     → HasOutcome instance_design_of r new.evaluation.turns new.leaves
     (chosen_children (evaluator_at old judge) at chosen (context_at old s) old.evaluation.turns old.leaves)
 children_meets old mid new s at chosen unit leaves turns b h judge right =
@@ -160,7 +160,7 @@ children_meets old mid new s at chosen unit leaves turns b h judge right =
 
 -- a built-in module, by what its call does
 effect_refused : {B : Type 0} (stop : Stop) (at : Place) (answer : Answer EffectCall) (go : EffectCall → Outcome B) (m l : ℕ) {A : Type 0} {see : ℕ → A → B}
-    → TellsEffectAt (Err stop) at answer → HasOutcome see (Err stop) m l (answered_with answer at go)
+    → MeetsEffectAt (Err stop) at answer → HasOutcome see (Err stop) m l (answered_with answer at go)
 effect_refused (Fault fault) at answer go m l h =
     record { is = ap (λ (a : Answer EffectCall). answered_with a at go) h.0 ∙ ap (λ (p : Place). Faults fault.kind p) (sym h.1) }
 effect_refused NoMemory at answer go m l h = record { is = tt }
@@ -180,7 +180,7 @@ module _ (old begun : InstanceEvaluator) (s : Position) (at : Place) (m : Builti
       ap (λ (c : Pairs Val). answered_with (answer_of c given.slots) at (with_effect judge old.evaluation.turns)) (sym chain)
       ∙ ap (λ (filled : Slots). answered_with (answer_of (chain_of begun.evaluation.scopes.now) filled) at (with_effect judge old.evaluation.turns)) same
 
-  pub built_in_refused : (stop : Stop) (n l : ℕ) → TellsEffectAt (Err stop) at (answer_of (chain_of begun.evaluation.scopes.now) slots) → (judge : Judge)
+  pub built_in_refused : (stop : Stop) (n l : ℕ) → MeetsEffectAt (Err stop) at (answer_of (chain_of begun.evaluation.scopes.now) slots) → (judge : Judge)
       → HasOutcome instance_design_of (Err stop) n l (built_in_given (evaluator_at old judge) at m given body (context_at old s) old.evaluation.turns old.leaves)
   built_in_refused stop n l h judge =
       along (answered judge) (effect_refused stop at (answer_of (chain_of begun.evaluation.scopes.now) slots) (with_effect judge old.evaluation.turns) n l h)
@@ -188,7 +188,7 @@ module _ (old begun : InstanceEvaluator) (s : Position) (at : Place) (m : Builti
   pub built_in_meets : {r : Result InstanceResult Stop} (mid new : InstanceEvaluator) (count : ℕ) (effect : EffectCall)
       → begun.unit ≡ old.unit → begun.leaves ≡ old.leaves → mid.evaluation.turns ≡ old.evaluation.turns → SpecialsBegin old.evaluation begun.evaluation count
       → Stays begun mid → mid.leaves ≡ begun.leaves → answer_of (chain_of begun.evaluation.scopes.now) slots ≡ Ok effect
-      → Meets instance_design_of mid new s r (λ evaluator here. effect_design evaluator here at effect body) → (judge : Judge) → IsRight judge
+      → MeetsEquation instance_design_of mid new s r (λ evaluator here. effect_design evaluator here at effect body) → (judge : Judge) → IsRight judge
       → HasOutcome instance_design_of r new.evaluation.turns new.leaves
       (built_in_given (evaluator_at old judge) at m given body (context_at old s) old.evaluation.turns old.leaves)
   built_in_meets mid new count effect unit leaves turns b k same_leaves is h judge right =
@@ -203,7 +203,7 @@ pub block_meets : {A : Type 0} {x : A} {r : Result MemberResults Stop} (old mid 
     → HasOutcome (λ leaves x. context_at mid s) (Ok x) mid.evaluation.turns mid.leaves
     (each_assigned (evaluations_left old) (context_at old s) (assignments_of (statements_at (source_text old.evaluation.source.now) block)) old.evaluation.turns)
     → is ≡ instances_chosen (scope_here mid.evaluation) chosen (statements_at (source_text mid.evaluation.source.now) block)
-    → Meets member_designs_of mid new s r (λ evaluator here. each_member evaluator here is) → (judge : Judge) → IsRight judge
+    → MeetsEquation member_designs_of mid new s r (λ evaluator here. each_member evaluator here is) → (judge : Judge) → IsRight judge
     → HasOutcome member_designs_of r new.evaluation.turns new.leaves
     (block_members (evaluator_at old judge) chosen (statements_at (source_text old.evaluation.source.now) block) (context_at old s) old.evaluation.turns old.leaves)
 block_meets old mid new s block chosen is a told same h judge right =
@@ -264,6 +264,6 @@ first_outcome b before start (Err fault) (Ok after) m l out none long h = absurd
 first_outcome b before start (Err fault) (Err stop) m l out none long h =
     subst (λ (s : Stop). HasOutcome member_designs_of (Err s) m l out) (sym long) (record { is = tells fault h.is })
   where
-    tells : (f : Stop) → Tells (one_member_of b l) (Err f) m out → Tells (member_designs_of l) (Err f) m out
+    tells : (f : Stop) → MeetsOutcome (one_member_of b l) (Err f) m out → MeetsOutcome (member_designs_of l) (Err f) m out
     tells (Fault f) t = t
     tells NoMemory t = tt

@@ -10,7 +10,7 @@ use Rattle.scad_pieces.specs.declared.numbered.NumberedInstance.{NumberedInstanc
 use Rattle.scad_meaning.specs.Bodies.{says_only, is_child}
 use Rattle.scad_meaning.specs.Meaning.{InstanceDesign, MemberDesigns, as_member, and_members, core_of}
 use Rattle.scad_pieces.specs.Positions.{term_of_numbered}
-use Rattle.scad_evaluation.specs.View.{Tells}
+use Rattle.scad_evaluation.specs.View.{MeetsOutcome}
 use Rattle.scad_pieces.specs.Seen.{HasOutcome, instance_design_of, one_member_of, in_front}
 
 flipped : (b : Bool) → (if b then false else true) ≡ not b
@@ -22,8 +22,8 @@ pub child_is_member : (env : Env) (i : InstanceTerm) → (if says_only env (core
 child_is_member env (AnInstance at marks core) = flipped (says_only env core)
 
 -- an instance's design, as a member
-as_member_agrees : (b : Bool) (r : Result InstanceResult Stop) (m l : ℕ) (out : Outcome InstanceDesign) → Tells (instance_design_of l) r m out
-    → Tells (one_member_of b l) r m (then_with out (λ turns x. Gives turns (as_member b x)))
+as_member_agrees : (b : Bool) (r : Result InstanceResult Stop) (m l : ℕ) (out : Outcome InstanceDesign) → MeetsOutcome (instance_design_of l) r m out
+    → MeetsOutcome (one_member_of b l) r m (then_with out (λ turns x. Gives turns (as_member b x)))
 as_member_agrees b (Ok made) m l out h = ap (λ o. then_with o (λ turns x. Gives turns (as_member b x))) h
 as_member_agrees b (Err (Fault fault)) m l out h = ap (λ o. then_with o (λ turns x. Gives turns (as_member b x))) h
 as_member_agrees b (Err NoMemory) m l out h = tt

@@ -4,7 +4,7 @@ use Rattle.text_place.specs.declared.fault.Stop.{Stop}
 use Rattle.text_place.specs.declared.fault.Stop.TheVariants.{Fault, NoMemory}
 use Rattle.scad_design.specs.Designs.{Design}
 use Rattle.scad_evaluation.specs.Meaning.{Outcome, Gives, Faults, then_with}
-use Rattle.scad_evaluation.specs.View.{Tells, IsNoMemory}
+use Rattle.scad_evaluation.specs.View.{MeetsOutcome, IsNoMemory}
 use Rattle.scad_pieces.specs.declared.position.MemberResults.{MemberResults}
 use Rattle.scad_meaning.specs.Meaning.{MemberDesigns, no_members, and_members, first_marked}
 use Rattle.scad_pieces.specs.Seen.{HasOutcome, member_designs_of, IsLengthened, in_front}
@@ -22,7 +22,7 @@ then_outcome {see = see} {x = x} {m = m} {l = l} go h g = along (ap (λ o. then_
 
 -- a step that stops, and what would be behind it
 stops : {A B C D : Type 0} (see : ℕ → A → B) (after : ℕ → C → D) (stop : Stop) (m l n k : ℕ) (out : Outcome B)
-    (go : ℕ → B → Outcome D) → Tells (see l) (Err stop) m out → Tells (after k) (Err stop) n (then_with out go)
+    (go : ℕ → B → Outcome D) → MeetsOutcome (see l) (Err stop) m out → MeetsOutcome (after k) (Err stop) n (then_with out go)
 stops see after (Fault fault) m l n k out go h = ap (λ o. then_with o go) h
 stops see after NoMemory m l n k out go h = tt
 
@@ -41,7 +41,7 @@ only_no_memory (Fault fault) h = absurd h
 only_no_memory NoMemory h = record { is = tt }
 
 -- what an evaluation tells, whatever leaves there are
-pub told_outcome : {A B : Type 0} (see : A → B) (r : Result A Stop) (turns leaves : ℕ) (out : Outcome B) → Tells see r turns out
+pub told_outcome : {A B : Type 0} (see : A → B) (r : Result A Stop) (turns leaves : ℕ) (out : Outcome B) → MeetsOutcome see r turns out
     → HasOutcome (λ leaves. see) r turns leaves out
 told_outcome see r turns leaves out h = record { is = h }
 
@@ -82,7 +82,7 @@ module _ {A : Type 0} (see : ℕ → A → MemberDesigns) (counts : (leaves : �
       ∙ ap (λ ms. in_front ms (go turns leaves)) (sym (l first leaves))
   lengthened (Err stop) after turns leaves l t = absurd l
 
-  stopped : (f : Stop) (m l n k : ℕ) → Tells (see l) (Err f) m step → Tells (member_designs_of k) (Err f) n start
+  stopped : (f : Stop) (m l n k : ℕ) → MeetsOutcome (see l) (Err f) m step → MeetsOutcome (member_designs_of k) (Err f) n start
   stopped (Fault fault) m l n k t =
       s ∙ ap (in_front (member_designs_of first before)) (h ∙ ap (λ o. then_with o (λ turns ms. in_front ms (go turns ms.leaves))) t)
   stopped NoMemory m l n k t = tt

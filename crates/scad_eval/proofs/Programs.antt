@@ -29,10 +29,10 @@ use Rattle.scad_eval.specs.declared.evaluator.InstanceEvaluator.{InstanceEvaluat
 use Rattle.scad_meaning.specs.Verdicts.{Judge, IsRight}
 use Rattle.scad_meaning.specs.Meaning.{Context, evaluator_with, each_in_scope, program_context, or_all, design_of, block_members}
 use Rattle.scad_pieces.specs.Seen.{HasOutcome, member_designs_of}
-use Rattle.scad_eval.specs.Keeping.{context_at, Meets}
+use Rattle.scad_eval.specs.Keeping.{context_at, MeetsEquation}
 use Rattle.scad_meaning.specs.Sources.{a_tree, a_fault, IsMeaning, IsMeaningOfDesign, IsMeaningStop, HoldsFault}
 use Rattle.scad_meaning.proofs.ProgramPlaces.{stop_held}
-use Rattle.scad_eval.specs.Programs.{TellsDesign}
+use Rattle.scad_eval.specs.Programs.{MeetsDesign}
 use Rattle.scad_eval.proofs.Evaluating.{tree_meant, placing_stops}
 use Rattle.scad_eval.proofs.Outcomes.{along, stop_outcome}
 
@@ -67,7 +67,7 @@ program_begins {old = old} {new = new} e program whole text rows chain none is =
 
 -- the members of the block
 pub program_members : {old new : InstanceEvaluator} {s : Position} {r : Result MemberResults Stop} (statements : StatementTerms)
-    → Meets member_designs_of old new s r (λ evaluator. block_members evaluator None statements)
+    → MeetsEquation member_designs_of old new s r (λ evaluator. block_members evaluator None statements)
     → (program : List StatementTerm) → context_at old s ≡ program_context first_chain (statements_from program)
     → statements ≡ statements_from program → old.evaluation.depth ≡ 0 → old.evaluation.turns ≡ 0 → old.leaves ≡ 0
     → (judge : Judge) → IsRight judge → HasOutcome member_designs_of r new.evaluation.turns new.leaves
@@ -103,7 +103,7 @@ module _ (unit : LengthUnit) (judge : Judge) (chain : Pairs Val) (statements : S
   design_stops stop m l n t = stop_outcome (λ turns ms. Gives turns (or_all ms.marked ms.designs)) t
 
 -- the tree of a design
-module _ (unit : LengthUnit) (program : List StatementTerm) (design : DesignIn) (told : TellsDesign unit program (Ok design)) where
+module _ (unit : LengthUnit) (program : List StatementTerm) (design : DesignIn) (told : MeetsDesign unit program (Ok design)) where
   pub placed_tree : (r : Result CsgTree Stop) → IfOk r (λ tree. IsPlacedAs (plain_of design) (formula_of tree))
       → IfOk r (λ tree. IsMeaning unit program (a_tree (formula_of tree)))
   placed_tree (Ok tree) h = tree_meant unit program design (formula_of tree) told h
@@ -120,7 +120,7 @@ module _ (unit : LengthUnit) (program : List StatementTerm) (design : DesignIn) 
   proper_tree proper (Err stop) h = tt
 
 -- the fault of a program stands at one of its places
-pub design_stop_held : (unit : LengthUnit) (program : List StatementTerm) (stop : Stop) → TellsDesign unit program (Err stop) → HoldsFault program stop
+pub design_stop_held : (unit : LengthUnit) (program : List StatementTerm) (stop : Stop) → MeetsDesign unit program (Err stop) → HoldsFault program stop
 design_stop_held unit program (Fault fault) told = stop_held unit program (Fault fault) (λ judge right.
     subst (λ (out : Outcome Design). IsMeaningOfDesign out (a_fault fault.kind fault.place)) (sym (told judge right).1.is) refl)
 design_stop_held unit program NoMemory told = tt

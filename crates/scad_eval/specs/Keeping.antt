@@ -113,7 +113,8 @@ abbrev pub Equation : Type 0 → Type 0
 Equation B = Evaluator → Context → ℕ → ℕ → Outcome B
 
 -- what a step gave is what an equation says of where it stands, by whatever judge is right about shapes
-pub record Meets {A B : Type 0} (see : ℕ → A → B) (old new : InstanceEvaluator) (position : Position) (result : Result A Stop) (equation : Equation B) : Type 0 where
+pub record MeetsEquation {A B : Type 0} (see : ℕ → A → B) (old new : InstanceEvaluator) (position : Position)
+    (result : Result A Stop) (equation : Equation B) : Type 0 where
   pub by : (judge : Judge) → IsRight judge → HasOutcome see result new.evaluation.turns new.leaves
       (equation (evaluator_at old judge) (context_at old position) old.evaluation.turns old.leaves)
 

@@ -13,8 +13,8 @@ use Rattle.scad_meaning.specs.Meaning.{design_of}
 use Rattle.scad_pieces.specs.Seen.{HasOutcome}
 
 -- the design of a program, or its fault, unless memory ran out
-abbrev pub TellsDesign : LengthUnit → List StatementTerm → Result DesignIn Stop → Type 0
-TellsDesign unit program r = (judge : Judge) → IsRight judge →
+abbrev pub MeetsDesign : LengthUnit → List StatementTerm → Result DesignIn Stop → Type 0
+MeetsDesign unit program r = (judge : Judge) → IsRight judge →
     (turns : ℕ) × HasOutcome (λ leaves. plain_of) r turns 0 (design_of unit judge first_chain (statements_from program))
 
 -- the table of scopes that evaluation begins with

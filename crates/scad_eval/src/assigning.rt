@@ -8,7 +8,7 @@ ghost use Rattle.scad_evaluation.specs.View.{source_text};
 ghost use Rattle.scad_evaluation.specs.Definitions.{statements_at, IsWhole};
 ghost use Rattle.scad_meaning.specs.Meaning.{assigned_value, assigned, each_assigned};
 ghost use Rattle.scad_pieces.specs.declared.position.Position.{Position};
-ghost use Rattle.scad_eval.specs.Keeping.{context_at, Assigns, Meets};
+ghost use Rattle.scad_eval.specs.Keeping.{context_at, Assigns, MeetsEquation};
 
 use crate::evaluator::InstanceEvaluator;
 use scad_func::evaluate;
@@ -20,7 +20,8 @@ impl InstanceEvaluator<'_, '_> {
     pub(crate) fn assign_all(&mut self, block: u32) -> Result<(), Stop>
         requires whole { IsWhole (source_text self.old.evaluation.source.now) }
         ensures assigned { let statements = statements_at (source_text self.old.evaluation.source.now) block in
-            (s : Position) → Meets (λ leaves x. context_at self.new s) self.old self.new s result (λ evaluator here turns leaves. each_assigned evaluator.evaluations here (assignments_of statements) turns) }
+            (s : Position) → MeetsEquation (λ leaves x. context_at self.new s) self.old self.new s result
+            (λ evaluator here turns leaves. each_assigned evaluator.evaluations here (assignments_of statements) turns) }
         ensures assigns { OnOk result (Assigns self.old self.new) }
     {
         let assignments = self.evaluation.assignments(block);
@@ -32,7 +33,8 @@ impl InstanceEvaluator<'_, '_> {
 
     // Gives a name its value: its statement is one evaluation deeper, and its expression one more.
     fn assign(&mut self, assignment: &Assignment<'_>) -> Result<(), Stop>
-        ensures assigned { (s : Position) → Meets (λ leaves x. context_at self.new s) self.old self.new s result (λ evaluator here turns leaves.
+        ensures assigned { (s : Position) → MeetsEquation (λ leaves x. context_at self.new s) self.old self.new s result
+            (λ evaluator here turns leaves.
             then_with (assigned_value evaluator.evaluations here (assigned_of assignment.now) turns) (λ turns v. Gives turns (assigned (assigned_of assignment.now) v here))) }
         ensures assigns { OnOk result (Assigns self.old self.new) }
     {

@@ -13,7 +13,7 @@ ghost use Rattle.scad_modules.specs.View.{call_of};
 ghost use Rattle.scad_design.specs.Designs.{moved_by};
 ghost use Rattle.scad_meaning.specs.Meaning.{built_in_design, effect_design, body_design, moved_design, built_in_given};
 ghost use Rattle.scad_pieces.specs.Seen.{instance_design_of};
-ghost use Rattle.scad_eval.specs.Keeping.{Stays, Meets};
+ghost use Rattle.scad_eval.specs.Keeping.{Stays, MeetsEquation};
 ghost use Rattle.scad_eval.specs.Within.{body_seen, IsBodyAt};
 
 use crate::evaluator::InstanceEvaluator;
@@ -43,7 +43,7 @@ impl InstanceEvaluator<'_, '_> {
         body: NumberedBody<'_>,
     ) -> Result<InstanceResult, Stop>
         requires stands { IsBodyAt self.old position body }
-        ensures made { Meets instance_design_of self.old self.new position result (λ evaluator here.
+        ensures made { MeetsEquation instance_design_of self.old self.new position result (λ evaluator here.
             built_in_design evaluator here place name.now (args_of args.now) (body_seen body.entry) (module_named name.now)) }
         ensures stays { OnOk result (Stays self.old self.new) }
     {
@@ -67,7 +67,7 @@ impl InstanceEvaluator<'_, '_> {
         body: NumberedBody<'_>,
     ) -> Result<InstanceResult, Stop>
         requires stands { IsBodyAt self.old position body }
-        ensures made { Meets instance_design_of self.old self.new position result (λ evaluator.
+        ensures made { MeetsEquation instance_design_of self.old self.new position result (λ evaluator.
             built_in_given evaluator place built_in (arguments_of given.entry) (body_seen body.entry)) }
         ensures stays { OnOk result (Stays self.old self.new) }
     {
@@ -98,7 +98,7 @@ impl InstanceEvaluator<'_, '_> {
     ) -> Result<InstanceResult, Stop>
         requires stands { IsBodyAt self.old position body }
         requires safe { IsSafeCall (call_of effect) }
-        ensures made { Meets instance_design_of self.old self.new position result (λ evaluator here.
+        ensures made { MeetsEquation instance_design_of self.old self.new position result (λ evaluator here.
             effect_design evaluator here place (call_of effect) (body_seen body.entry)) }
         ensures stays { OnOk result (Stays self.old self.new) }
     {
@@ -128,7 +128,7 @@ impl InstanceEvaluator<'_, '_> {
         body: NumberedBody<'_>,
     ) -> Result<InstanceResult, Stop>
         requires stands { IsBodyAt self.old position body }
-        ensures made { Meets instance_design_of self.old self.new position result (λ evaluator here turns leaves.
+        ensures made { MeetsEquation instance_design_of self.old self.new position result (λ evaluator here turns leaves.
             then_with (body_design evaluator Union here (body_seen body.entry) turns leaves) (λ turns m. Gives turns (moved_design (moved_by steps.now) m))) }
         ensures stays { OnOk result (Stays self.old self.new) }
     {
@@ -150,7 +150,8 @@ impl InstanceEvaluator<'_, '_> {
     ) -> Result<InstanceResult, Stop>
         requires stands { IsBodyAt self.old position body }
         requires safe { IsSafe through.height }
-        ensures made { Meets instance_design_of self.old self.new position result (λ evaluator here. effect_design evaluator here place (an_extrusion through.center through.height) (body_seen body.entry)) }
+        ensures made { MeetsEquation instance_design_of self.old self.new position result
+            (λ evaluator here. effect_design evaluator here place (an_extrusion through.center through.height) (body_seen body.entry)) }
         ensures stays { OnOk result (Stays self.old self.new) }
     {
         match size_fault(&[through.height], through.center, self.unit) {

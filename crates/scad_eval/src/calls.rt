@@ -8,7 +8,7 @@ ghost use Rattle.scad_evaluation.specs.Meaning.{module_in};
 ghost use Rattle.scad_evaluation.specs.View.{arguments_of, values_seen};
 ghost use Rattle.scad_meaning.specs.Meaning.{call_design, module_design, module_filled, module_given};
 ghost use Rattle.scad_pieces.specs.Seen.{instance_design_of};
-ghost use Rattle.scad_eval.specs.Keeping.{env_at, IsPosition, Stays, Meets};
+ghost use Rattle.scad_eval.specs.Keeping.{env_at, IsPosition, Stays, MeetsEquation};
 ghost use Rattle.scad_eval.specs.Within.{body_seen, IsBodyAt, IsCallAt};
 
 use crate::evaluator::InstanceEvaluator;
@@ -33,7 +33,7 @@ impl InstanceEvaluator<'_, '_> {
         body: NumberedBody<'_>,
     ) -> Result<InstanceResult, Stop>
         requires stands { IsBodyAt self.old position body }
-        ensures made { Meets instance_design_of self.old self.new position result (λ evaluator here.
+        ensures made { MeetsEquation instance_design_of self.old self.new position result (λ evaluator here.
             call_design evaluator here place name.now (args_of args.now) (body_seen body.entry) (module_in here.env name.now)) }
         ensures stays { OnOk result (Stays self.old self.new) }
     {
@@ -61,7 +61,7 @@ impl InstanceEvaluator<'_, '_> {
         requires position { IsPosition self.old position }
         requires called { IsCallAt self.old defined home body }
         requires given { length given.slots.items ≡ length (params_of defined.params.now) }
-        ensures made { Meets instance_design_of self.old self.new position result (λ evaluator here.
+        ensures made { MeetsEquation instance_design_of self.old self.new position result (λ evaluator here.
             module_design evaluator here place (module_of defined.entry, env_at self.old home) (arguments_of given.entry) (body_seen body.entry)) }
         ensures stays { OnOk result (Stays self.old self.new) }
     {
@@ -85,7 +85,7 @@ impl InstanceEvaluator<'_, '_> {
         requires position { IsPosition self.old position }
         requires called { IsCallAt self.old defined home body }
         requires given { length given.slots.items ≡ length (params_of defined.params.now) }
-        ensures made { Meets instance_design_of self.old self.new position result (λ evaluator.
+        ensures made { MeetsEquation instance_design_of self.old self.new position result (λ evaluator.
             module_given evaluator (module_of defined.entry, env_at self.old home) (arguments_of given.entry) (body_seen body.entry)) }
         ensures stays { OnOk result (Stays self.old self.new) }
     {
@@ -112,7 +112,8 @@ impl InstanceEvaluator<'_, '_> {
         requires position { IsPosition self.old position }
         requires called { IsCallAt self.old defined home body }
         requires values { length values.items.items ≡ length defined.params.now.items.items }
-        ensures made { Meets instance_design_of self.old self.new position result (λ evaluator. module_filled evaluator (module_of defined.entry, env_at self.old home) (values_seen values) (body_seen body.entry)) }
+        ensures made { MeetsEquation instance_design_of self.old self.new position result
+            (λ evaluator. module_filled evaluator (module_of defined.entry, env_at self.old home) (values_seen values) (body_seen body.entry)) }
         ensures stays { OnOk result (Stays self.old self.new) }
     {
         let before = self.enter_module(defined, home, values, body)?;

@@ -9,7 +9,7 @@ ghost use Rattle.scad_evaluation.specs.View.{source_text};
 ghost use Rattle.scad_meaning.specs.Meaning.{setting, body_design, no_design, each_member, core_of, core_design, instance_design};
 ghost use Rattle.scad_pieces.specs.Positions.{term_of_numbered, HasBlocks};
 ghost use Rattle.scad_pieces.specs.Seen.{instance_design_of, member_designs_of};
-ghost use Rattle.scad_eval.specs.Keeping.{IsPosition, Stays, Meets};
+ghost use Rattle.scad_eval.specs.Keeping.{IsPosition, Stays, MeetsEquation};
 ghost use Rattle.scad_eval.specs.Within.{body_seen, IsInBlock, IsBodyAt};
 
 use crate::evaluator::InstanceEvaluator;
@@ -33,7 +33,8 @@ impl InstanceEvaluator<'_, '_> {
     ) -> Result<InstanceResult, Stop>
         requires position { IsPosition self.old position }
         requires blocks { HasBlocks (source_text self.old.evaluation.source.now) instance }
-        ensures made { Meets instance_design_of self.old self.new position result (λ evaluator here. evaluator.deeper here (term_of_numbered instance.entry)) }
+        ensures made { MeetsEquation instance_design_of self.old self.new position result
+            (λ evaluator here. evaluator.deeper here (term_of_numbered instance.entry)) }
         ensures stays { OnOk result (Stays self.old self.new) }
     {
         self.evaluation.begin_evaluation(instance.instance.place())?;
@@ -52,7 +53,8 @@ impl InstanceEvaluator<'_, '_> {
     ) -> Result<InstanceResult, Stop>
         requires position { IsPosition self.old position }
         requires blocks { HasBlocks (source_text self.old.evaluation.source.now) instance }
-        ensures made { Meets instance_design_of self.old self.new position result (λ evaluator here. instance_design evaluator here (term_of_numbered instance.entry)) }
+        ensures made { MeetsEquation instance_design_of self.old self.new position result
+            (λ evaluator here. instance_design evaluator here (term_of_numbered instance.entry)) }
         ensures stays { OnOk result (Stays self.old self.new) }
     {
         if !is_marked(instance.instance) {
@@ -77,7 +79,8 @@ impl InstanceEvaluator<'_, '_> {
     ) -> Result<InstanceResult, Stop>
         requires position { IsPosition self.old position }
         requires blocks { HasBlocks (source_text self.old.evaluation.source.now) instance }
-        ensures made { Meets instance_design_of self.old self.new position result (λ evaluator here. core_design evaluator here (core_of (term_of_numbered instance.entry))) }
+        ensures made { MeetsEquation instance_design_of self.old self.new position result
+            (λ evaluator here. core_design evaluator here (core_of (term_of_numbered instance.entry))) }
         ensures stays { OnOk result (Stays self.old self.new) }
     {
         let NumberedInstance {
@@ -125,7 +128,8 @@ impl InstanceEvaluator<'_, '_> {
         body: NumberedBody<'_>,
     ) -> Result<InstanceResult, Stop>
         requires stands { IsBodyAt self.old position body }
-        ensures made { Meets instance_design_of self.old self.new position result (λ evaluator here turns leaves. then_with (value_at (setting evaluator.evaluations here) true (term_of test.now) turns) (λ turns v.
+        ensures made { MeetsEquation instance_design_of self.old self.new position result
+            (λ evaluator here turns leaves. then_with (value_at (setting evaluator.evaluations here) true (term_of test.now) turns) (λ turns v.
             if truth_of v then body_design evaluator Union here (body_seen body.entry) turns leaves else Gives turns (no_design leaves))) }
         ensures stays { OnOk result (Stays self.old self.new) }
     {
@@ -147,7 +151,8 @@ impl InstanceEvaluator<'_, '_> {
     ) -> Result<InstanceResult, Stop>
         requires stands { IsBodyAt self.old position body }
         requires other { IsInBlock (source_text self.old.evaluation.source.now) other }
-        ensures made { Meets instance_design_of self.old self.new position result (λ evaluator here turns leaves. then_with (value_at (setting evaluator.evaluations here) true (term_of test.now) turns) (λ turns v.
+        ensures made { MeetsEquation instance_design_of self.old self.new position result
+            (λ evaluator here turns leaves. then_with (value_at (setting evaluator.evaluations here) true (term_of test.now) turns) (λ turns v.
             body_design evaluator Union here (if truth_of v then body_seen body.entry else body_seen other.entry) turns leaves)) }
         ensures stays { OnOk result (Stays self.old self.new) }
     {
@@ -167,7 +172,8 @@ impl InstanceEvaluator<'_, '_> {
     ) -> Result<MemberResults, Stop>
         requires position { IsPosition self.old position }
         requires blocks { All (HasBlocks (source_text self.old.evaluation.source.now)) instances.now }
-        ensures members { Meets member_designs_of self.old self.new position result (λ evaluator here. each_member evaluator here (map term_of_numbered instances.now)) }
+        ensures members { MeetsEquation member_designs_of self.old self.new position result
+            (λ evaluator here. each_member evaluator here (map term_of_numbered instances.now)) }
         ensures stays { OnOk result (Stays self.old self.new) }
     {
         let mut members = no_members(self.evaluation.alloc);

@@ -7,7 +7,7 @@ ghost use Rattle.scad_pieces.specs.declared.position.Position.{Position};
 ghost use Rattle.scad_meaning.specs.Verdicts.{solid_of, extruded};
 ghost use Rattle.scad_meaning.specs.Meaning.{checked, leaf_design, flat_design, hull_design};
 ghost use Rattle.scad_pieces.specs.Seen.{instance_design_of, IsStopAt};
-ghost use Rattle.scad_eval.specs.Keeping.{IsThrough, IsPosition, Stays, Meets};
+ghost use Rattle.scad_eval.specs.Keeping.{IsThrough, IsPosition, Stays, MeetsEquation};
 
 use crate::evaluator::InstanceEvaluator;
 use primitives::extrude;
@@ -25,7 +25,7 @@ impl InstanceEvaluator<'_, '_> {
     /// A solid, as one leaf more.
     pub(crate) fn solid(&mut self, place: Place, shape: &SolidShape) -> Result<InstanceResult, Stop>
         requires { IsSafeSolid (solid_call_of shape.now) }
-        ensures made { (s : Position) → Meets instance_design_of self.old self.new s result (λ evaluator here turns leaves.
+        ensures made { (s : Position) → MeetsEquation instance_design_of self.old self.new s result (λ evaluator here turns leaves.
             checked (evaluator.judge.solid evaluator.unit (solid_call_of shape.now)) place (leaf_design place (solid_of evaluator.unit (solid_call_of shape.now)) turns leaves)) }
         ensures stays { Stays self.old self.new }
     {
@@ -44,7 +44,8 @@ impl InstanceEvaluator<'_, '_> {
     ) -> Result<InstanceResult, Stop>
         requires position { IsPosition self.old position }
         requires safe { IsSafeFlat (flat_call_of shape.now) }
-        ensures made { Meets instance_design_of self.old self.new position result (λ evaluator here. flat_design evaluator here.inside place (flat_call_of shape.now)) }
+        ensures made { MeetsEquation instance_design_of self.old self.new position result
+            (λ evaluator here. flat_design evaluator here.inside place (flat_call_of shape.now)) }
         ensures stays { Stays self.old self.new }
     {
         match position.inside {
@@ -62,7 +63,7 @@ impl InstanceEvaluator<'_, '_> {
     ) -> Result<InstanceResult, Stop>
         requires through { IsThrough self.old.unit through }
         requires safe { IsSafeFlat (flat_call_of shape.now) }
-        ensures made { (s : Position) → Meets instance_design_of self.old self.new s result (λ evaluator here turns leaves.
+        ensures made { (s : Position) → MeetsEquation instance_design_of self.old self.new s result (λ evaluator here turns leaves.
             checked (evaluator.judge.flat evaluator.unit (flat_call_of shape.now)) place (leaf_design place (extruded evaluator.unit through (flat_call_of shape.now)) turns leaves)) }
         ensures stays { Stays self.old self.new }
     {
@@ -83,7 +84,7 @@ impl InstanceEvaluator<'_, '_> {
         place: Place,
         made: InstanceResult,
     ) -> Result<InstanceResult, Stop>
-        ensures made { (s : Position) → Meets instance_design_of self.old self.new s result (λ evaluator here turns leaves.
+        ensures made { (s : Position) → MeetsEquation instance_design_of self.old self.new s result (λ evaluator here turns leaves.
             hull_design (evaluator.judge.hull (plain_of made.design)) place (instance_design_of leaves made) turns) }
         ensures stays { Stays self.old self.new }
     {
@@ -105,7 +106,8 @@ impl InstanceEvaluator<'_, '_> {
 
     // One leaf more. TooManyParts where it is the 1,025th.
     fn leaf(&mut self, place: Place, shape: Shape) -> Result<InstanceResult, Stop>
-        ensures made { (s : Position) → Meets instance_design_of self.old self.new s result (λ evaluator here turns leaves. leaf_design place shape turns leaves) }
+        ensures made { (s : Position) → MeetsEquation instance_design_of self.old self.new s result
+            (λ evaluator here turns leaves. leaf_design place shape turns leaves) }
         ensures stays { Stays self.old self.new }
     {
         if self.leaves == LEAVES {

@@ -7,7 +7,7 @@ ghost use Rattle.scad_value.specs.BoundedView.{bounded_val};
 ghost use Rattle.scad_meaning.specs.Meaning.{loop_design, each_turn, each_step, in_loop};
 ghost use Rattle.scad_pieces.specs.Items.{remaining_in};
 ghost use Rattle.scad_pieces.specs.Seen.{instance_design_of, member_designs_of};
-ghost use Rattle.scad_eval.specs.Keeping.{Stays, Meets};
+ghost use Rattle.scad_eval.specs.Keeping.{Stays, MeetsEquation};
 ghost use Rattle.scad_eval.specs.Steps.{one_step};
 ghost use Rattle.scad_eval.specs.Within.{body_seen, IsBodyAt};
 
@@ -38,7 +38,8 @@ impl InstanceEvaluator<'_, '_> {
         body: NumberedBody<'_>,
     ) -> Result<InstanceResult, Stop>
         requires stands { IsBodyAt self.old position body }
-        ensures made { Meets instance_design_of self.old self.new position result (λ evaluator here. loop_design evaluator op here place (binders_of binders.now) (body_seen body.entry)) }
+        ensures made { MeetsEquation instance_design_of self.old self.new position result
+            (λ evaluator here. loop_design evaluator op here place (binders_of binders.now) (body_seen body.entry)) }
         ensures stays { OnOk result (Stays self.old self.new) }
     {
         // A source has far fewer; the bound is for the proof that evaluation ends.
@@ -59,7 +60,8 @@ impl InstanceEvaluator<'_, '_> {
         body: NumberedBody<'_>,
     ) -> Result<MemberResults, Stop>
         requires stands { IsBodyAt self.old position body }
-        ensures members { Meets member_designs_of self.old self.new position result (λ evaluator. each_turn evaluator place (map binder_of binders.now) (body_seen body.entry)) }
+        ensures members { MeetsEquation member_designs_of self.old self.new position result
+            (λ evaluator. each_turn evaluator place (map binder_of binders.now) (body_seen body.entry)) }
         ensures stays { OnOk result (Stays self.old self.new) }
     {
         match binders.split_first() {
@@ -85,7 +87,8 @@ impl InstanceEvaluator<'_, '_> {
         body: NumberedBody<'_>,
     ) -> Result<MemberResults, Stop>
         requires stands { IsBodyAt self.old position body }
-        ensures members { Meets member_designs_of self.old self.new position result (λ evaluator. each_turn evaluator place [] (body_seen body.entry)) }
+        ensures members { MeetsEquation member_designs_of self.old self.new position result
+            (λ evaluator. each_turn evaluator place [] (body_seen body.entry)) }
         ensures stays { OnOk result (Stays self.old self.new) }
     {
         self.evaluation.turn(place)?;
@@ -105,7 +108,7 @@ impl InstanceEvaluator<'_, '_> {
         items: Items,
     ) -> Result<MemberResults, Stop>
         requires stands { IsBodyAt self.old position body }
-        ensures members { Meets member_designs_of self.old self.new position result (λ evaluator here.
+        ensures members { MeetsEquation member_designs_of self.old self.new position result (λ evaluator here.
             each_step place (λ item. each_turn evaluator place (map binder_of rest.now) (body_seen body.entry) (in_loop here name.now item)) (remaining_in items.remaining)) }
         ensures stays { OnOk result (Stays self.old self.new) }
     {
@@ -130,7 +133,8 @@ impl InstanceEvaluator<'_, '_> {
         value: BoundedValue,
     ) -> Result<MemberResults, Stop>
         requires stands { IsBodyAt self.old position body }
-        ensures members { Meets member_designs_of self.old self.new position result (λ evaluator. one_step evaluator place name.now (map binder_of rest.now) (body_seen body.entry) (bounded_val value)) }
+        ensures members { MeetsEquation member_designs_of self.old self.new position result
+            (λ evaluator. one_step evaluator place name.now (map binder_of rest.now) (body_seen body.entry) (bounded_val value)) }
         ensures stays { OnOk result (Stays self.old self.new) }
     {
         let members = self.turns_with(position, place, name, rest, body, value)?;
@@ -153,7 +157,8 @@ impl InstanceEvaluator<'_, '_> {
         value: BoundedValue,
     ) -> Result<MemberResults, Stop>
         requires stands { IsBodyAt self.old position body }
-        ensures members { Meets member_designs_of self.old self.new position result (λ evaluator here. each_turn evaluator place (map binder_of rest.now) (body_seen body.entry) (in_loop here name.now (bounded_val value))) }
+        ensures members { MeetsEquation member_designs_of self.old self.new position result
+            (λ evaluator here. each_turn evaluator place (map binder_of rest.now) (body_seen body.entry) (in_loop here name.now (bounded_val value))) }
         ensures stays { OnOk result (Stays self.old self.new) }
     {
         let before = self.evaluation.enter_empty()?;

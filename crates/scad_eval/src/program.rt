@@ -10,7 +10,7 @@ ghost use Rattle.scad_evaluation.specs.Definitions.{IsWhole};
 ghost use Rattle.scad_design.specs.View.{plain_of};
 ghost use Rattle.scad_meaning.specs.Meaning.{or_all};
 ghost use Rattle.scad_meaning.specs.Sources.{IsMeaning, a_tree, IsMeaningStop, HoldsFault};
-ghost use Rattle.scad_eval.specs.Programs.{TellsDesign, IsFirstTable};
+ghost use Rattle.scad_eval.specs.Programs.{MeetsDesign, IsFirstTable};
 
 use crate::evaluator::InstanceEvaluator;
 use csg_tree::{CsgTree, Op};
@@ -47,7 +47,7 @@ fn design_of(
 ) -> Result<Design, Stop>
     requires table { IsFirstTable scopes.old }
     requires whole { IsWhole (source_text source.now) }
-    ensures { (program : List StatementTerm) → IsTextOf source.now program → TellsDesign unit program result }
+    ensures { (program : List StatementTerm) → IsTextOf source.now program → MeetsDesign unit program result }
 {
     let mut evaluator = InstanceEvaluator {
         evaluation: Evaluation {

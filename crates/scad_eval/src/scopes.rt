@@ -5,7 +5,7 @@ ghost use Rattle.scad_evaluation.specs.View.{source_text};
 ghost use Rattle.scad_evaluation.specs.Definitions.{statements_at};
 ghost use Rattle.scad_meaning.specs.Meaning.{body_design, block_members};
 ghost use Rattle.scad_pieces.specs.Seen.{instance_design_of, member_designs_of};
-ghost use Rattle.scad_eval.specs.Keeping.{IsPosition, Stays, Binds, Meets};
+ghost use Rattle.scad_eval.specs.Keeping.{IsPosition, Stays, Binds, MeetsEquation};
 ghost use Rattle.scad_pieces.specs.Calls.{chosen_seen, IsSafeChosen};
 ghost use Rattle.scad_eval.specs.Within.{body_seen, IsBodyAt};
 
@@ -27,7 +27,8 @@ impl InstanceEvaluator<'_, '_> {
         body: NumberedBody<'_>,
     ) -> Result<InstanceResult, Stop>
         requires stands { IsBodyAt self.old position body }
-        ensures made { Meets instance_design_of self.old self.new position result (λ evaluator here. body_design evaluator op here (body_seen body.entry)) }
+        ensures made { MeetsEquation instance_design_of self.old self.new position result
+            (λ evaluator here. body_design evaluator op here (body_seen body.entry)) }
         ensures stays { OnOk result (Stays self.old self.new) }
     {
         let outer = self.evaluation.scope;
@@ -49,7 +50,8 @@ impl InstanceEvaluator<'_, '_> {
         requires position { IsPosition self.old position }
         requires safe { IsSafeChosen chosen }
         ensures members { let statements = statements_at (source_text self.old.evaluation.source.now) block in
-            Meets member_designs_of self.old self.new position result (λ evaluator. block_members evaluator (chosen_seen chosen.entry) statements) }
+            MeetsEquation member_designs_of self.old self.new position result
+            (λ evaluator. block_members evaluator (chosen_seen chosen.entry) statements) }
         ensures binds { OnOk result (Binds self.old self.new) }
     {
         let length = self.evaluation.chain_length()?;

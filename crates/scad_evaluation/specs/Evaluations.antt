@@ -4,7 +4,7 @@ use Rattle.scad_scope.specs.Names.{NumberedEnv, env_of, oldest}
 use Rattle.scad_scope.specs.Table.{rows_of, chain_of}
 use Rattle.text_place.specs.declared.fault.Stop.{Stop}
 use Rattle.scad_evaluation.specs.Meaning.{Outcome, Env, Setting, evaluated}
-use Rattle.scad_evaluation.specs.View.{Tells, seen, deepest}
+use Rattle.scad_evaluation.specs.View.{MeetsOutcome, seen, deepest}
 use Rattle.scad_evaluation.specs.declared.source.Source.{Source}
 use Rattle.scad_evaluation.specs.declared.evaluation.Evaluation.{Evaluation}
 
@@ -56,7 +56,7 @@ pub record Keeps (old new : Evaluation) : Type 0 where
 -- before, after a stop too.
 pub record EvaluatesTo {A B : Type 0} (see : A → B) (old new : Evaluation) (result : Result A Stop)
     (meaning : Setting → ℕ → Outcome B) : Type 0 where
-  pub value : Tells see result new.turns (meaning (setting_here old) old.turns)
+  pub value : MeetsOutcome see result new.turns (meaning (setting_here old) old.turns)
   pub kept : Keeps old new
 
 -- all but the scopes, the chain and the turns is as before

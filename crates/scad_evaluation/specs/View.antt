@@ -30,10 +30,10 @@ use Rattle.scad_ast.specs.declared.statement.Param.TheVariants.{Plain, WithDefau
 use Rattle.std.specs.Prelude.{max}
 
 -- the outcome is what was given, as it is seen, or the fault, unless memory ran out
-abbrev pub Tells : {A B : Type 0} → (A → B) → Result A Stop → ℕ → Outcome B → Type 0
-Tells see (Ok x) turns out = out ≡ Gives turns (see x)
-Tells see (Err (Fault fault)) turns out = out ≡ Faults fault.kind fault.place
-Tells see (Err NoMemory) turns out = Unit {0}
+abbrev pub MeetsOutcome : {A B : Type 0} → (A → B) → Result A Stop → ℕ → Outcome B → Type 0
+MeetsOutcome see (Ok x) turns out = out ≡ Gives turns (see x)
+MeetsOutcome see (Err (Fault fault)) turns out = out ≡ Faults fault.kind fault.place
+MeetsOutcome see (Err NoMemory) turns out = Unit {0}
 
 -- that memory ran out
 abbrev pub IsNoMemory : Stop → Type 0

@@ -9,7 +9,7 @@ ghost use Rattle.scad_answer.specs.View.{MeetsAnswerAt};
 ghost use Rattle.text_place.specs.declared.fault.FaultKind.TheVariants.{UnknownName, NotInProfile};
 ghost use Rattle.scad_arguments.specs.ArgumentsView.{IsFaultAt};
 ghost use Rattle.scad_evaluation.specs.Meaning.{or_zero, or_fault, answered, Gives};
-ghost use Rattle.scad_evaluation.specs.View.{Tells, indexed_val, IsThere};
+ghost use Rattle.scad_evaluation.specs.View.{MeetsOutcome, indexed_val, IsThere};
 ghost use Rattle.scad_evaluation.specs.Evaluations.{env_here};
 
 // A value is lent where something can still fail, as in the operators of `scad_answer`.
@@ -41,7 +41,7 @@ impl Evaluation<'_, '_> {
         name: &CompactBytes,
         at: Place,
     ) -> Result<BoundedValue, Stop>
-        ensures { (turns : ℕ) → Tells bounded_val result turns (or_fault (variable_in (env_here self.now) name.now) UnknownName at
+        ensures { (turns : ℕ) → MeetsOutcome bounded_val result turns (or_fault (variable_in (env_here self.now) name.now) UnknownName at
             (λ w. answered (binary_of part.now.op (bounded_val left) w) part.now.place turns)) }
     {
         self.binary_with_lent(&left, part, name, at)
@@ -54,7 +54,7 @@ impl Evaluation<'_, '_> {
         name: &CompactBytes,
         at: Place,
     ) -> Result<BoundedValue, Stop>
-        ensures { (turns : ℕ) → Tells bounded_val result turns (or_fault (variable_in (env_here self.now) name.now) UnknownName at
+        ensures { (turns : ℕ) → MeetsOutcome bounded_val result turns (or_fault (variable_in (env_here self.now) name.now) UnknownName at
             (λ w. answered (binary_of part.now.op (bounded_val left.now) w) part.now.place turns)) }
     {
         match self.variable(name.items(), at) {
@@ -66,7 +66,8 @@ impl Evaluation<'_, '_> {
     /// A copy of a variable's value. UnknownName at its place where there is none.
     #[inline(never)]
     pub fn variable_of(&self, name: &[u8], place: Place) -> Result<BoundedValue, Stop>
-        ensures { (turns : ℕ) → Tells bounded_val result turns (or_fault (variable_in (env_here self.now) name.now) UnknownName place (Gives turns)) }
+        ensures { (turns : ℕ) → MeetsOutcome bounded_val result turns
+            (or_fault (variable_in (env_here self.now) name.now) UnknownName place (Gives turns)) }
     {
         match self.variable(name, place) {
             Ok(value) => Ok(BoundedValue {
@@ -79,7 +80,8 @@ impl Evaluation<'_, '_> {
     /// A copy of a special name's value. UnknownName at its place where there is none.
     #[inline(never)]
     pub fn special_of(&self, name: &[u8], place: Place) -> Result<BoundedValue, Stop>
-        ensures { (turns : ℕ) → Tells bounded_val result turns (or_fault (find_in (chain_of self.now.scopes.now) name.now) UnknownName place (Gives turns)) }
+        ensures { (turns : ℕ) → MeetsOutcome bounded_val result turns
+            (or_fault (find_in (chain_of self.now.scopes.now) name.now) UnknownName place (Gives turns)) }
     {
         match self.scopes.special(name, place) {
             Ok(value) => Ok(BoundedValue {
@@ -92,7 +94,7 @@ impl Evaluation<'_, '_> {
     /// The number of children, which is 0 where there are none.
     #[inline(never)]
     pub fn child_count(&self, place: Place) -> Result<BoundedValue, Stop>
-        ensures { (turns : ℕ) → Tells bounded_val result turns (Gives turns (or_zero (variable_in (env_here self.now) (codes "$children")))) }
+        ensures { (turns : ℕ) → MeetsOutcome bounded_val result turns (Gives turns (or_zero (variable_in (env_here self.now) (codes "$children")))) }
     {
         match self.variable(b"$children", place) {
             Ok(value) => Ok(BoundedValue {
@@ -159,7 +161,7 @@ impl Evaluation<'_, '_> {
         place: Place,
     ) -> Result<BoundedValue, Stop>
         requires there { IsThere (env_here self.now) of }
-        ensures { (turns : ℕ) → Tells bounded_val result turns (or_fault (member_at name.now) NotInProfile name_place
+        ensures { (turns : ℕ) → MeetsOutcome bounded_val result turns (or_fault (member_at name.now) NotInProfile name_place
             (λ n. answered (index_of (indexed_val (env_here self.now) of.entry) (NumberVal n)) place turns)) }
     {
         match member_of(name.items()) {

@@ -17,7 +17,7 @@ use Rattle.text_place.specs.declared.fault.FaultKind.TheVariants.{BadArgument}
 use Rattle.scad_arguments.specs.ArgumentsView.{IsFaultAt}
 use Rattle.scad_func.specs.Steps.{argument_of}
 use Rattle.scad_evaluation.specs.declared.values.BoundedValues.{BoundedValues}
-use Rattle.scad_evaluation.specs.View.{Tells, IsNoMemory, IsOneMore, values_seen, arguments_of}
+use Rattle.scad_evaluation.specs.View.{MeetsOutcome, IsNoMemory, IsOneMore, values_seen, arguments_of}
 use Rattle.scad_answer.specs.View.{IsAlone}
 use Rattle.scad_func.proofs.GivenSeen.{IsHeld}
 use Rattle.scad_arguments.specs.declared.parameters.GivenArguments.{GivenArguments}
@@ -25,7 +25,7 @@ use Rattle.scad_func.proofs.Calls.{in_front}
 use Rattle.scad_evaluation.specs.declared.evaluation.Evaluation.{Evaluation}
 use Rattle.scad_evaluation.specs.Evaluations.{Keeps, EvaluatesTo, setting_here}
 use Rattle.scad_func.proofs.Kept.{moved}
-use Rattle.scad_func.proofs.Outcomes.{tells_along, front_more, and_arg}
+use Rattle.scad_func.proofs.Outcomes.{meets_along, front_more, and_arg}
 use Rattle.scad_func.proofs.Steps.{argument_more, argument_fault}
 
 abbrev pub and_then : Outcome Val → (ℕ → Outcome Vals) → Outcome Vals
@@ -34,7 +34,7 @@ and_then step go = then_with step (λ turns v. then_with (go turns) (λ turns vs
 module _ (start : Outcome Vals) (before : BoundedValues) (now : Outcome Vals) (step : Outcome Val)
     (go : ℕ → Outcome Vals) (s : start ≡ in_front (vals_in before.items.items) now) (h : now ≡ and_then step go) where
   longer_told : (r : Result BoundedValue Stop) (longer : BoundedValues) (then : ℕ) → IsOneMore before r (Ok longer)
-      → Tells bounded_val r then step → start ≡ in_front (vals_in longer.items.items) (go then)
+      → MeetsOutcome bounded_val r then step → start ≡ in_front (vals_in longer.items.items) (go then)
   longer_told (Ok v) longer then l t =
       s ∙ ap (in_front (vals_in before.items.items)) h
       ∙ ap (λ o. in_front (vals_in before.items.items) (and_then o go)) t
@@ -42,24 +42,24 @@ module _ (start : Outcome Vals) (before : BoundedValues) (now : Outcome Vals) (s
       ∙ ap (λ vs. in_front vs (go then)) (sym (ap vals_in l ∙ map-append val_of before.items.items (v.value ∷ [])))
   longer_told (Err stop) longer then l t = absurd l
 
-  fault_told : (f : Stop) (m n : ℕ) → Tells bounded_val (Err f) m step → Tells values_seen (Err f) n start
+  fault_told : (f : Stop) (m n : ℕ) → MeetsOutcome bounded_val (Err f) m step → MeetsOutcome values_seen (Err f) n start
   fault_told (Fault fault) m n t =
       s ∙ ap (in_front (vals_in before.items.items)) h ∙ ap (λ o. in_front (vals_in before.items.items) (and_then o go)) t
   fault_told NoMemory m n t = tt
 
   longer_fault : (r : Result BoundedValue Stop) (stop : Stop) (m n : ℕ) → IsOneMore before r (Err stop)
-      → Tells bounded_val r m step → Tells values_seen (Err stop) n start
-  longer_fault (Ok v) stop m n l t = subst (λ (x : Stop). Tells values_seen (Err x) n start) (sym l) tt
+      → MeetsOutcome bounded_val r m step → MeetsOutcome values_seen (Err stop) n start
+  longer_fault (Ok v) stop m n l t = subst (λ (x : Stop). MeetsOutcome values_seen (Err x) n start) (sym l) tt
   longer_fault (Err f) stop m n l t =
-      subst (λ (x : Stop). Tells values_seen (Err x) n start) (sym l) (fault_told f m n t)
+      subst (λ (x : Stop). MeetsOutcome values_seen (Err x) n start) (sym l) (fault_told f m n t)
 
 -- one item more behind values so far, or its stop: the item gives what `step` says, and those behind it go on by `go`
 module _ (first now : Evaluation) (kept : Keeps first now) (before : BoundedValues) (start out : Outcome Vals)
     (step : Setting → ℕ → Outcome Val) (go : ℕ → Outcome Vals) (s : start ≡ in_front (vals_in before.items.items) out)
     (h : out ≡ and_then (step (setting_here first) now.turns) go) where
   told_here : (new : Evaluation) (r : Result BoundedValue Stop) → EvaluatesTo bounded_val now new r step
-      → Tells bounded_val r new.turns (step (setting_here first) now.turns)
-  told_here new r e = tells_along r new.turns _ _ (moved (λ here. step here now.turns) kept) e.value
+      → MeetsOutcome bounded_val r new.turns (step (setting_here first) now.turns)
+  told_here new r e = meets_along r new.turns _ _ (moved (λ here. step here now.turns) kept) e.value
 
   pub item_told : (new : Evaluation) (r : Result BoundedValue Stop) (longer : BoundedValues) → IsOneMore before r (Ok longer)
       → EvaluatesTo bounded_val now new r step → start ≡ in_front (vals_in longer.items.items) (go new.turns)
@@ -67,21 +67,21 @@ module _ (first now : Evaluation) (kept : Keeps first now) (before : BoundedValu
       longer_told start before out (step (setting_here first) now.turns) go s h r longer new.turns l (told_here new r e)
 
   pub item_stops : (new : Evaluation) (r : Result BoundedValue Stop) (stop : Stop) (n : ℕ) → IsOneMore before r (Err stop)
-      → EvaluatesTo bounded_val now new r step → Tells values_seen (Err stop) n start
+      → EvaluatesTo bounded_val now new r step → MeetsOutcome values_seen (Err stop) n start
   item_stops new r stop n l e =
       longer_fault start before out (step (setting_here first) now.turns) go s h r stop new.turns n l (told_here new r e)
 
 -- a value alone is told as its type tells it, and it is bounded
-pub alone_tells : (r : Result BoundedValue Stop) (alone : Result Value Stop) (turns : ℕ) (out : Outcome Val)
-    → IsAlone r alone → Tells bounded_val r turns out → Tells val_of alone turns out
-alone_tells (Ok bounded) (Ok v) turns out e h = h ∙ ap (λ (x : Value). Gives turns (val_of x)) (sym e)
-alone_tells (Ok bounded) (Err stop) turns out e h = absurd e
-alone_tells (Err fault) (Ok v) turns out e h = absurd e
-alone_tells (Err fault) (Err stop) turns out e h = stopped fault stop e h
+pub alone_meets : (r : Result BoundedValue Stop) (alone : Result Value Stop) (turns : ℕ) (out : Outcome Val)
+    → IsAlone r alone → MeetsOutcome bounded_val r turns out → MeetsOutcome val_of alone turns out
+alone_meets (Ok bounded) (Ok v) turns out e h = h ∙ ap (λ (x : Value). Gives turns (val_of x)) (sym e)
+alone_meets (Ok bounded) (Err stop) turns out e h = absurd e
+alone_meets (Err fault) (Ok v) turns out e h = absurd e
+alone_meets (Err fault) (Err stop) turns out e h = stopped fault stop e h
   where
-    stopped : (fault stop : Stop) → stop ≡ fault → Tells bounded_val (Err fault) turns out → Tells val_of (Err stop) turns out
-    stopped (Fault fault) stop e h = subst (λ (x : Stop). Tells val_of (Err x) turns out) (sym e) h
-    stopped NoMemory stop e h = subst (λ (x : Stop). Tells val_of (Err x) turns out) (sym e) tt
+    stopped : (fault stop : Stop) → stop ≡ fault → MeetsOutcome bounded_val (Err fault) turns out → MeetsOutcome val_of (Err stop) turns out
+    stopped (Fault fault) stop e h = subst (λ (x : Stop). MeetsOutcome val_of (Err x) turns out) (sym e) h
+    stopped NoMemory stop e h = subst (λ (x : Stop). MeetsOutcome val_of (Err x) turns out) (sym e) tt
 
 pub alone_bounded : (r : Result BoundedValue Stop) (alone : Result Value Stop) → IsAlone r alone
     → IfOk alone (λ v. IsTrue (is_bounded (val_of v)))
@@ -104,7 +104,7 @@ pub on_err_at : {A E : Type 0} (P : Type 0) (r : Result A E) (e : E) → r ≡ E
 on_err_at P r e is h = subst (λ y. OnErr y P) is h
 
 -- of want of memory nothing is told
-pub none_told : {A B : Type 0} (see : A → B) (stop : Stop) (n : ℕ) (out : Outcome B) → IsNoMemory stop → Tells see (Err stop) n out
+pub none_told : {A B : Type 0} (see : A → B) (stop : Stop) (n : ℕ) (out : Outcome B) → IsNoMemory stop → MeetsOutcome see (Err stop) n out
 none_told see (Fault fault) n out h = absurd h
 none_told see NoMemory n out h = tt
 
@@ -119,7 +119,7 @@ pub argument_held : (here : Setting) (names : List (List ℕ)) (positional : ℕ
     → start ≡ each_argument here names positional args before turns
     → (a : ArgTerm) (rest : ArgTerms) (taker : Taker) (then p : ℕ) (r : Result BoundedValue Stop) (after : GivenArguments BoundedValue)
     → args ≡ and_arg a rest → taker_of names positional before a ≡ Some taker
-    → Tells bounded_val r then (value_at here true (argument_of a) turns) → IsHeld before taker r (Ok after)
+    → MeetsOutcome bounded_val r then (value_at here true (argument_of a) turns) → IsHeld before taker r (Ok after)
     → p ≡ positional_after positional a → start ≡ each_argument here names p rest (arguments_of after) then
 argument_held here names positional start args before turns b a rest taker then p (Ok v) after e f t g q =
     argument_more here names positional start args before turns b a rest taker then (bounded_val v) p
@@ -131,17 +131,17 @@ pub argument_stops : (here : Setting) (names : List (List ℕ)) (positional : �
     → start ≡ each_argument here names positional args before turns
     → (a : ArgTerm) (rest : ArgTerms) (taker : Taker) (m n : ℕ) (r : Result BoundedValue Stop) (stop : Stop)
     → args ≡ and_arg a rest → taker_of names positional before a ≡ Some taker
-    → Tells bounded_val r m (value_at here true (argument_of a) turns) → IsHeld before taker r (Err stop)
-    → Tells arguments_of (Err stop) n start
+    → MeetsOutcome bounded_val r m (value_at here true (argument_of a) turns) → IsHeld before taker r (Err stop)
+    → MeetsOutcome arguments_of (Err stop) n start
 argument_stops here names positional start args before turns b a rest taker m n (Ok v) stop e f t g =
-    subst (λ (x : Stop). Tells arguments_of (Err x) n start) (sym g) tt
+    subst (λ (x : Stop). MeetsOutcome arguments_of (Err x) n start) (sym g) tt
 argument_stops here names positional start args before turns b a rest taker m n (Err fault) stop e f t g =
-    subst (λ (x : Stop). Tells arguments_of (Err x) n start) (sym g)
+    subst (λ (x : Stop). MeetsOutcome arguments_of (Err x) n start) (sym g)
     (argument_fault here names positional start args before turns b a rest taker m n fault e f t)
 
 -- an argument that nothing takes
 pub argument_refused : (stop : Stop) (n : ℕ) (at : Place) (out : Outcome Arguments) → out ≡ Faults BadArgument at
-    → IsFaultAt stop BadArgument at → Tells arguments_of (Err stop) n out
+    → IsFaultAt stop BadArgument at → MeetsOutcome arguments_of (Err stop) n out
 argument_refused (Fault fault) n at out e h = e ∙ ap (λ k. Faults k at) (sym h.0) ∙ ap (Faults fault.kind) (sym h.1)
 argument_refused NoMemory n at out e h = absurd h
 

@@ -14,10 +14,10 @@ use Rattle.scad_blocks.specs.Blocks.{SourceFunction}
 use Rattle.scad_evaluation.specs.Meaning.{Outcome, Env, Setting, in_scope, with_specials, answered, evaluated, each_argument, function_called, called, function_in, then_with}
 use Rattle.scad_evaluation.specs.declared.source.Source.{Source}
 use Rattle.scad_evaluation.specs.declared.evaluation.Evaluation.{Evaluation}
-use Rattle.scad_evaluation.specs.View.{Tells, deepest, seen}
+use Rattle.scad_evaluation.specs.View.{MeetsOutcome, deepest, seen}
 use Rattle.scad_answer.specs.View.{MeetsAnswerAt}
 use Rattle.scad_evaluation.specs.Evaluations.{Keeps, EvaluatesTo, SpecialsBegin, ScopeEnters, setting, setting_here, scope_here, work_left}
-use Rattle.scad_func.proofs.Outcomes.{fault_goes, value_goes, tells_answer}
+use Rattle.scad_func.proofs.Outcomes.{fault_goes, value_goes, meets_answer}
 
 -- where an expression stands, by what it depends on
 setting_by : Source → List Row → ℕ → ℕ → ℕ → Pairs Val → Setting
@@ -151,11 +151,11 @@ module _ {A B C D : Type 0} (see : A → B) (all : C → D) (first : Setting →
   goes old mid new x r e f = record {
     value = value_goes see all (first (setting_here old) old.turns) (go (setting_here old)) r
         new.turns mid.turns (see x) e.value
-        (subst (λ here. Tells all r new.turns (go here mid.turns (see x))) e.kept.here f.value);
+        (subst (λ here. MeetsOutcome all r new.turns (go here mid.turns (see x))) e.kept.here f.value);
     kept = keeps_trans e.kept f.kept;
   }
 
 -- an operator's answer behind a step
 pub answers : (e : Evaluation) (r : Result BoundedValue Stop) (answer : Answer Val) (at : Place) → MeetsAnswerAt r answer at
     → EvaluatesTo bounded_val e e r (λ here turns. answered answer at turns)
-answers e r answer at h = record { value = tells_answer r e.turns answer at h; kept = keeps_same e }
+answers e r answer at h = record { value = meets_answer r e.turns answer at h; kept = keeps_same e }

@@ -8,7 +8,7 @@ ghost use Rattle.scad_builtin.specs.Builtins.{applied, builtin_of, is_left_out a
 ghost use Rattle.scad_evaluation.specs.Meaning.{Setting, then_with, answered, each_value, built_in};
 ghost use Rattle.scad_func.specs.Steps.{have_no_names as no_names, is_named, all_values, argument_of};
 ghost use Rattle.scad_value.specs.BoundedView.{bounded_val};
-ghost use Rattle.scad_evaluation.specs.View.{Tells};
+ghost use Rattle.scad_evaluation.specs.View.{MeetsOutcome};
 
 use scad_ast::{Arg, Args, Expr};
 use scad_builtin::{Builtin, builtin, is_left_out};
@@ -50,7 +50,8 @@ pub(crate) fn argument_value(arg: &Arg) -> &Expr
 pub(crate) fn built_in_for(name: &[u8], place: Place, args: &Args) -> Result<Builtin, Stop>
     ensures called { IfOk result (λ f. (here : Setting) (turns : ℕ) → built_in here place name.now (args_from (args_of args.now)) turns (builtin_of name.now)
         ≡ then_with (each_value here (all_values (args_from (args_of args.now))) turns) (λ turns vs. answered (applied f vs) place turns)) }
-    ensures refused { IfErr result (λ stop. (here : Setting) (turns n : ℕ) → Tells bounded_val (Err stop) n (built_in here place name.now (args_from (args_of args.now)) turns (builtin_of name.now))) }
+    ensures refused { IfErr result (λ stop. (here : Setting) (turns n : ℕ) →
+        MeetsOutcome bounded_val (Err stop) n (built_in here place name.now (args_from (args_of args.now)) turns (builtin_of name.now))) }
 {
     let Some(function) = builtin(name) else {
         return Err(unknown(name).at(place));

@@ -11,7 +11,7 @@ ghost use Rattle.scad_evaluation.specs.Meaning.{Outcome, Gives, one_call_fewer, 
 ghost use Rattle.scad_answer.specs.Answers.{range_of, stepped_range_of};
 ghost use Rattle.scad_func.specs.Steps.{all_values, suffixed, linked, with_parameters};
 ghost use Rattle.scad_blocks.specs.TextView.{function_of};
-ghost use Rattle.scad_evaluation.specs.View.{Tells, values_seen, indexed_val, IsThere, slot_of, slots_in, arguments_of, function_size, deepest};
+ghost use Rattle.scad_evaluation.specs.View.{MeetsOutcome, values_seen, indexed_val, IsThere, slot_of, slots_in, arguments_of, function_size, deepest};
 ghost use Rattle.scad_evaluation.specs.Evaluations.{Keeps, EvaluatesTo, env_here};
 
 use crate::answer::{applied_to, listed, text_of};
@@ -528,7 +528,7 @@ fn counted(
     value: BoundedValue,
     place: Place,
 ) -> Result<BoundedValue, Stop>
-    ensures value { Tells bounded_val result evaluation.new.turns (counted_at place (Gives evaluation.old.turns (bounded_val value))) }
+    ensures value { MeetsOutcome bounded_val result evaluation.new.turns (counted_at place (Gives evaluation.old.turns (bounded_val value))) }
     ensures kept { Keeps evaluation.old evaluation.new }
 {
     if let Value::List(_) = &value.value {
@@ -545,7 +545,7 @@ fn counted(
 fn may_call(evaluation: &Evaluation<'_, '_>, place: Place) -> Result<(), Stop>
     ensures within { OnOk result ((evaluation.now.calls < 64) × (evaluation.now.turns < 100000)) }
     ensures refused { IfErr result (λ stop. (go : ℕ → ℕ → Outcome Val) (n : ℕ) →
-        Tells bounded_val (Err stop) n (one_call_fewer (64 - evaluation.now.calls) place (λ calls. turn place evaluation.now.turns (go calls)))) }
+        MeetsOutcome bounded_val (Err stop) n (one_call_fewer (64 - evaluation.now.calls) place (λ calls. turn place evaluation.now.turns (go calls)))) }
 {
     if evaluation.calls == CALLS {
         return Err(FaultKind::TooDeep.at(place));

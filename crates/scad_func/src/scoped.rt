@@ -3,7 +3,7 @@
 ghost use Rattle.std.specs.Prelude.{◌≡◌, ◌<◌, IfOk, length};
 ghost use Rattle.scad_ast.specs.StatementView.{params_of};
 ghost use Rattle.scad_evaluation.specs.Meaning.{each_parameter as parameters_at};
-ghost use Rattle.scad_evaluation.specs.View.{Tells, values_seen, slots_in};
+ghost use Rattle.scad_evaluation.specs.View.{MeetsOutcome, values_seen, slots_in};
 ghost use Rattle.scad_evaluation.specs.Evaluations.{Keeps, scopes_there, setting};
 
 use crate::evaluator::parameters;
@@ -21,7 +21,8 @@ pub fn parameters_in(
 ) -> Result<BoundedValues, Stop>
     requires scope { scope < scopes_there evaluation.old }
     requires count { length slots.items ≡ length params.now.items.items }
-    ensures values { Tells values_seen result evaluation.new.turns (parameters_at (setting evaluation.old scope) (params_of params.now) (slots_in slots.items) evaluation.old.turns) }
+    ensures values { MeetsOutcome values_seen result evaluation.new.turns
+        (parameters_at (setting evaluation.old scope) (params_of params.now) (slots_in slots.items) evaluation.old.turns) }
     ensures count { IfOk result (λ values. length values.items.items ≡ length params.now.items.items) }
     ensures kept { Keeps evaluation.old evaluation.new }
 {

@@ -19,7 +19,7 @@ use Rattle.scad_arguments.specs.ArgumentsView.{given_of, taker_seen, IsFaultAt, 
 use Rattle.scad_arguments.specs.declared.parameters.Destination.{Destination}
 use Rattle.scad_arguments.specs.declared.parameters.GivenArguments.{GivenArguments}
 use Rattle.scad_evaluation.specs.Meaning.{Outcome, Gives, then_with, or_fault, Setting, value_at, Arguments}
-use Rattle.scad_evaluation.specs.View.{Tells, arguments_of}
+use Rattle.scad_evaluation.specs.View.{MeetsOutcome, arguments_of}
 use Rattle.scad_func.proofs.GivenSeen.{IsHeld, taker_given, held_seen}
 use Rattle.scad_func.proofs.Holding.{argument_refused}
 use Rattle.scad_pieces.specs.Calls.{said_once}
@@ -39,21 +39,22 @@ module _ (here : Setting) (at : Place) (name : List ℕ) (value : Term) (given :
   by_taker taker e = ap (λ o. or_fault o BadArgument at (λ taker. with_value taker (value_at here true value turns))) e
 
   special_stops : (taker : Taker) → taker_of [] 0 given (SpecialArgTerm at name value) ≡ Some taker → (stop : Stop) (then : ℕ)
-      → Tells bounded_val (Err stop) then (value_at here true value turns) → Tells arguments_of (Err stop) then (said_once here (SpecialArgTerm at name value) given turns)
+      → MeetsOutcome bounded_val (Err stop) then (value_at here true value turns)
+      → MeetsOutcome arguments_of (Err stop) then (said_once here (SpecialArgTerm at name value) given turns)
   special_stops taker e (Fault fault) then t = by_taker (Some taker) e ∙ ap (with_value taker) t
   special_stops taker e NoMemory then t = tt
 
   special_said : (taker : Taker) → taker_of [] 0 given (SpecialArgTerm at name value) ≡ Some taker → (then : ℕ)
-      (r : Result BoundedValue Stop) (after : Result (GivenArguments BoundedValue) Stop) → Tells bounded_val r then (value_at here true value turns)
+      (r : Result BoundedValue Stop) (after : Result (GivenArguments BoundedValue) Stop) → MeetsOutcome bounded_val r then (value_at here true value turns)
       → IsHeld given taker r after
-      → Tells arguments_of after then (said_once here (SpecialArgTerm at name value) given turns)
+      → MeetsOutcome arguments_of after then (said_once here (SpecialArgTerm at name value) given turns)
   special_said taker e then (Ok v) (Ok after) t held =
       by_taker (Some taker) e ∙ ap (with_value taker) t ∙ ap (λ (x : Arguments). Gives then x) (sym held)
   special_said taker e then (Ok v) (Err stop) t held =
-      subst (λ (x : Stop). Tells arguments_of (Err x) then (said_once here (SpecialArgTerm at name value) given turns)) (sym held) tt
+      subst (λ (x : Stop). MeetsOutcome arguments_of (Err x) then (said_once here (SpecialArgTerm at name value) given turns)) (sym held) tt
   special_said taker e then (Err fault) (Ok after) t held = absurd held
   special_said taker e then (Err fault) (Err stop) t held =
-      subst (λ (x : Stop). Tells arguments_of (Err x) then (said_once here (SpecialArgTerm at name value) given turns)) (sym held)
+      subst (λ (x : Stop). MeetsOutcome arguments_of (Err x) then (said_once here (SpecialArgTerm at name value) given turns)) (sym held)
       (special_stops taker e fault then t)
 
 -- a special argument of `echo`, of a name that something takes, and of one that was given before
@@ -63,16 +64,16 @@ module _ (here : Setting) (a : ArgTerm) (at : Place) (name : List ℕ) (value : 
   taker_same taker e = ap (taker_of names 0 (arguments_of g)) (sym is) ∙ taker_given names 0 g a ∙ e
 
   pub taken : (d : Destination) (then : ℕ) (r : Result BoundedValue Stop) (after : Result (GivenArguments BoundedValue) Stop)
-      → taker_of names 0 (given_of g) a ≡ Some (taker_seen d) → Tells bounded_val r then (value_at here true value turns) → IsGiven g d r after
-      → Tells arguments_of after then (said_once here a (arguments_of g) turns)
+      → taker_of names 0 (given_of g) a ≡ Some (taker_seen d) → MeetsOutcome bounded_val r then (value_at here true value turns) → IsGiven g d r after
+      → MeetsOutcome arguments_of after then (said_once here a (arguments_of g) turns)
   taken d then r after e t given =
-      subst (λ x. Tells arguments_of after then (said_once here x (arguments_of g) turns)) (sym is)
+      subst (λ x. MeetsOutcome arguments_of after then (said_once here x (arguments_of g) turns)) (sym is)
       (special_said here at name value (arguments_of g) turns (taker_seen d) (taker_same (Some (taker_seen d)) e) then r after t
       (held_seen g d r after given))
 
   pub refused : (stop : Stop) (then : ℕ) → taker_of names 0 (given_of g) a ≡ None → IsFaultAt stop BadArgument (argument_place a)
-      → Tells arguments_of (Err stop) then (said_once here a (arguments_of g) turns)
+      → MeetsOutcome arguments_of (Err stop) then (said_once here a (arguments_of g) turns)
   refused stop then e fault =
-      subst (λ x. Tells arguments_of (Err stop) then (said_once here x (arguments_of g) turns)) (sym is)
+      subst (λ x. MeetsOutcome arguments_of (Err stop) then (said_once here x (arguments_of g) turns)) (sym is)
       (argument_refused stop then at (said_once here (SpecialArgTerm at name value) (arguments_of g) turns)
       (by_taker here at name value (arguments_of g) turns None (taker_same None e)) (subst (λ x. IsFaultAt stop BadArgument (argument_place x)) is fault))

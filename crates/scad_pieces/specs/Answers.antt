@@ -7,16 +7,16 @@ use Rattle.shape_planes.specs.Shapes.{Mesh}
 use Rattle.scad_meaning.specs.Verdicts.{Verdict}
 
 -- the shape, where nothing is wrong with it, or the check that it fails, unless memory ran out
-abbrev pub TellsShape : Result Mesh ShapeStop → Verdict → Mesh → Type 0
-TellsShape (Ok shape) verdict mesh = (verdict ≡ None) × (shape ≡ mesh)
-TellsShape (Err (Kind kind)) verdict mesh = verdict ≡ Some kind
-TellsShape (Err NoMemory) verdict mesh = Unit {0}
+abbrev pub MeetsShape : Result Mesh ShapeStop → Verdict → Mesh → Type 0
+MeetsShape (Ok shape) verdict mesh = (verdict ≡ None) × (shape ≡ mesh)
+MeetsShape (Err (Kind kind)) verdict mesh = verdict ≡ Some kind
+MeetsShape (Err NoMemory) verdict mesh = Unit {0}
 
 -- the outline, where nothing is wrong with it, or the check that it fails, unless memory ran out
-abbrev pub TellsFlat : Result (List (List ℤ)) ShapeStop → Verdict → List (List ℤ) → Type 0
-TellsFlat (Ok flat) verdict outline = (verdict ≡ None) × (flat ≡ outline)
-TellsFlat (Err (Kind kind)) verdict outline = verdict ≡ Some kind
-TellsFlat (Err NoMemory) verdict outline = Unit {0}
+abbrev pub MeetsFlat : Result (List (List ℤ)) ShapeStop → Verdict → List (List ℤ) → Type 0
+MeetsFlat (Ok flat) verdict outline = (verdict ≡ None) × (flat ≡ outline)
+MeetsFlat (Err (Kind kind)) verdict outline = verdict ≡ Some kind
+MeetsFlat (Err NoMemory) verdict outline = Unit {0}
 
 -- TooLarge comes where a part doesn't keep within 2^53 - 1; and memory may run out
 abbrev pub IsPastRange : Type 0 → ShapeStop → Type 0

@@ -25,10 +25,10 @@ IsSafeChosen None = Unit {0}
 IsSafeChosen (Some c) = IsSafeChoice (chosen_of c.now)
 
 -- the effect of a call, or its fault at a place, unless memory ran out
-abbrev pub TellsEffectAt : Result Effect Stop → Place → Answer EffectCall → Type 0
-TellsEffectAt (Ok effect) at answer = answer ≡ Ok (call_of effect)
-TellsEffectAt (Err (Fault fault)) at answer = (answer ≡ Err fault.kind) × (fault.place ≡ at)
-TellsEffectAt (Err NoMemory) at answer = Unit {0}
+abbrev pub MeetsEffectAt : Result Effect Stop → Place → Answer EffectCall → Type 0
+MeetsEffectAt (Ok effect) at answer = answer ≡ Ok (call_of effect)
+MeetsEffectAt (Err (Fault fault)) at answer = (answer ≡ Err fault.kind) × (fault.place ≡ at)
+MeetsEffectAt (Err NoMemory) at answer = Unit {0}
 
 -- the arguments of `echo` with one more, which gives something where it is a special one
 abbrev pub said_once : Setting → ArgTerm → Arguments → ℕ → Outcome Arguments

@@ -9,7 +9,7 @@ use Rattle.shape_planes.specs.declared.stop.ShapeStop.{ShapeStop}
 use Rattle.shape_planes.specs.declared.stop.ShapeStop.TheVariants as shapes
 use Rattle.scad_design.specs.View.{plain_of}
 use Rattle.scad_evaluation.specs.Meaning.{Outcome, Gives, Faults, then_with}
-use Rattle.scad_evaluation.specs.View.{Tells}
+use Rattle.scad_evaluation.specs.View.{MeetsOutcome}
 use Rattle.scad_pieces.specs.declared.position.InstanceResult.{InstanceResult}
 use Rattle.scad_pieces.specs.declared.position.MemberResults.{MemberResults}
 use Rattle.scad_meaning.specs.Bodies.{is_bare}
@@ -29,7 +29,7 @@ one_member_of is_member leaves m = as_member is_member (instance_design_of leave
 
 -- what was given, with the turns and the leaves so far, or the fault, unless memory ran out
 pub record HasOutcome {A B : Type 0} (see : ℕ → A → B) (r : Result A Stop) (turns leaves : ℕ) (out : Outcome B) : Type 0 where
-  pub is : Tells (see leaves) r turns out
+  pub is : MeetsOutcome (see leaves) r turns out
 
 -- members with those that are given next, unless memory ran out or nothing was given
 abbrev pub IsLengthened : {A : Type 0} → (ℕ → A → MemberDesigns) → MemberResults → Result A Stop → Result MemberResults Stop → Type 0
@@ -49,6 +49,6 @@ IsStopAt (shapes.Kind kind) at stop = stop ≡ Fault (record { kind = kind; plac
 IsStopAt shapes.NoMemory at stop = stop ≡ NoMemory
 
 -- a call that only says something gives nothing, or is refused where it has a body
-abbrev pub TellsSilence : Result InstanceResult Stop → Place → BodyTerm → Type 0
-TellsSilence r at body = (turns leaves : ℕ) → HasOutcome instance_design_of r turns leaves
+abbrev pub MeetsSilence : Result InstanceResult Stop → Place → BodyTerm → Type 0
+MeetsSilence r at body = (turns leaves : ℕ) → HasOutcome instance_design_of r turns leaves
     (if is_bare body then Gives turns (no_design leaves) else Faults NotInProfile at)

@@ -17,8 +17,8 @@ ghost use Rattle.scad_modules.specs.Calls.{effect_of as effect_at};
 ghost use Rattle.scad_modules.specs.Table.{is_left_out as leaves_out};
 ghost use Rattle.scad_modules.specs.View.{call_of, slots_of};
 ghost use Rattle.scad_meaning.specs.Meaning.{arguments_for as arguments_at, each_said};
-ghost use Rattle.scad_pieces.specs.Seen.{TellsSilence};
-ghost use Rattle.scad_pieces.specs.Calls.{TellsEffectAt, said_once};
+ghost use Rattle.scad_pieces.specs.Seen.{MeetsSilence};
+ghost use Rattle.scad_pieces.specs.Calls.{MeetsEffectAt, said_once};
 
 use crate::bodies::is_bare;
 use crate::joins::nothing_made;
@@ -42,7 +42,7 @@ pub fn effect_of(
     built_in: BuiltinModule,
     slots: Vec<Option<BoundedValue>>,
 ) -> Result<Effect, Stop>
-    ensures effect { TellsEffectAt result place (effect_at unit (is_some position.inside)
+    ensures effect { MeetsEffectAt result place (effect_at unit (is_some position.inside)
         (find_in (chain_of evaluation.now.scopes.now) (codes "fn")) built_in (slots_in slots.items)) }
     ensures safe { IfOk result (λ effect. IsSafeCall (call_of effect)) }
 {
@@ -148,7 +148,7 @@ pub fn unknown(name: &[u8]) -> FaultKind
 
 /// A call that only says something has no body.
 pub fn silent(place: Place, body: &Body) -> Result<InstanceResult, Stop>
-    ensures { TellsSilence result place (body_of body.now) }
+    ensures { MeetsSilence result place (body_of body.now) }
 {
     if is_bare(body) {
         return Ok(nothing_made());

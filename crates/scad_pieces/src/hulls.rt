@@ -7,7 +7,7 @@ ghost use Rattle.scad_design.specs.Placing.{StaysSafe};
 ghost use Rattle.scad_design.specs.View.{plain_of};
 ghost use Rattle.scad_meaning.specs.Hulls.{is_nothing as is_nothing_at, is_union as is_union_at, points_of, hull_mesh, StaySafe};
 ghost use Rattle.scad_meaning.specs.Verdicts.{Judge, IsRight};
-ghost use Rattle.scad_pieces.specs.Answers.{TellsShape, IsPastRange};
+ghost use Rattle.scad_pieces.specs.Answers.{MeetsShape, IsPastRange};
 
 use csg_tree::Op;
 use int_transform::apply;
@@ -33,7 +33,7 @@ pub fn is_nothing(design: &Design) -> bool
 /// and else what is wrong with the points of all parts, moved by their steps.
 pub fn design_hull(alloc: Global, design: &Design) -> Result<Shape, ShapeStop>
     ensures { (judge : Judge) → IsRight judge →
-        TellsShape result (judge.hull (plain_of design.now)) (hull_mesh (plain_of design.now)) }
+        MeetsShape result (judge.hull (plain_of design.now)) (hull_mesh (plain_of design.now)) }
 {
     if !is_union(design) {
         return Err(ShapeStop::Kind(FaultKind::NotInProfile));

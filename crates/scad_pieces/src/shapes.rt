@@ -3,7 +3,7 @@
 ghost use Rattle.scad_modules.specs.Bounds.{IsSafeSolid, IsSafeFlat};
 ghost use Rattle.scad_modules.specs.View.{solid_call_of, flat_call_of};
 ghost use Rattle.scad_meaning.specs.Verdicts.{Judge, IsRight, solid_of, outline_of};
-ghost use Rattle.scad_pieces.specs.Answers.{TellsShape, TellsFlat};
+ghost use Rattle.scad_pieces.specs.Answers.{MeetsShape, MeetsFlat};
 
 use plane_predicate::Unit;
 use polyhedra::polyhedron_shape;
@@ -17,7 +17,7 @@ use std::alloc::Global;
 pub fn solid_shape(alloc: Global, unit: Unit, shape: &SolidShape) -> Result<Shape, ShapeStop>
     requires { IsSafeSolid (solid_call_of shape.now) }
     ensures { (judge : Judge) → IsRight judge →
-        TellsShape result (judge.solid unit (solid_call_of shape.now)) (solid_of unit (solid_call_of shape.now)) }
+        MeetsShape result (judge.solid unit (solid_call_of shape.now)) (solid_of unit (solid_call_of shape.now)) }
 {
     match shape {
         SolidShape::Cube { size, center } => cube_shape(alloc, *size, *center, unit),
@@ -35,7 +35,7 @@ pub fn solid_shape(alloc: Global, unit: Unit, shape: &SolidShape) -> Result<Shap
 pub fn flat_shape(alloc: Global, unit: Unit, shape: &FlatShape) -> Result<Flat, ShapeStop>
     requires { IsSafeFlat (flat_call_of shape.now) }
     ensures { (judge : Judge) → IsRight judge →
-        TellsFlat result (judge.flat unit (flat_call_of shape.now)) (outline_of unit (flat_call_of shape.now)) }
+        MeetsFlat result (judge.flat unit (flat_call_of shape.now)) (outline_of unit (flat_call_of shape.now)) }
 {
     match shape {
         FlatShape::Square { size, center } => square_flat(alloc, *size, *center, unit),

@@ -28,14 +28,14 @@ use Rattle.scad_answer.specs.Answers.{range_of}
 use Rattle.scad_answer.specs.View.{MeetsAnswerAt}
 use Rattle.scad_func.specs.Steps.{all_values, suffixed, linked, with_parameters}
 use Rattle.scad_evaluation.specs.declared.values.BoundedValues.{BoundedValues}
-use Rattle.scad_evaluation.specs.View.{Tells, IsNoMemory, IsOneMore, values_seen, specials_in, source_text, slots_in, slot_of, indexed_val, arguments_of}
+use Rattle.scad_evaluation.specs.View.{MeetsOutcome, IsNoMemory, IsOneMore, values_seen, specials_in, source_text, slots_in, slot_of, indexed_val, arguments_of}
 use Rattle.scad_arguments.specs.declared.parameters.GivenArguments.{GivenArguments}
 use Rattle.scad_arguments.specs.declared.parameters.Names.{Names}
 use Rattle.scad_arguments.specs.declared.so_far.ArgumentsSoFar.{ArgumentsSoFar}
 use Rattle.scad_arguments.specs.declared.parameters.Destination.{Destination}
 use Rattle.scad_evaluation.specs.Evaluations.{EvaluatesTo, SpecialsBegin, env_here, setting_here, work_left}
 use Rattle.scad_evaluation.specs.declared.source.Source.{Source}
-use Rattle.scad_func.proofs.Outcomes.{tells_along, fault_goes, evaluated_deeper, evaluated_too_deep, value_counted, fault_counted, values_end, terms_here, terms_end, args_here, args_end, values_here, suffixes_here, suffix_step, links_here, step_more, step_fault, name_then, fault_at, link_wants}
+use Rattle.scad_func.proofs.Outcomes.{meets_along, fault_goes, evaluated_deeper, evaluated_too_deep, value_counted, fault_counted, values_end, terms_here, terms_end, args_here, args_end, values_here, suffixes_here, suffix_step, links_here, step_more, step_fault, name_then, fault_at, link_wants}
 use Rattle.scad_evaluation.proofs.Environments.{variable_same}
 use Rattle.scad_func.proofs.Steps.{deep_enough, param_deep, params_here, params_end, slots_here, filled_end, argument_none}
 use Rattle.scad_func.proofs.Forms.{name_form, special_form, count_form, postfix_form, chain_form, choice_form, link_form, member_form, args_form}
@@ -76,7 +76,7 @@ pub deeper-returns : goal.deeper-returns
 deeper-returns t c =
     let k = c.operand-value.ensures.kept in
     record {
-      value = tells_along c.operand-value.result _ _ _ (evaluated_deeper _ _ _ _ _ _ (omega arith))
+      value = meets_along c.operand-value.result _ _ _ (evaluated_deeper _ _ _ _ _ _ (omega arith))
           c.operand-value.ensures.value;
       kept = keeps_from _ _ k.source k.lent k.stands k.rows k.chain k.calls (omega (arith, k.depth));
     }
@@ -85,7 +85,7 @@ pub operand-returns-in-ChildCount : goal.operand-returns-in-ChildCount
 operand-returns-in-ChildCount t c =
     let e = c.args.evaluation.now in
     record {
-      value = tells_along c.child_count.result e.turns _ _
+      value = meets_along c.child_count.result e.turns _ _
           (ap (λ x. operand (setting_here e) x e.turns)
           (ap term_of c.in-ChildCount.is ∙ count_form c.in-ChildCount.place)
           ∙ ap (λ o. Gives e.turns (or_zero o))
@@ -98,7 +98,7 @@ pub operand-returns-in-Name : goal.operand-returns-in-Name
 operand-returns-in-Name t c =
     let e = c.args.evaluation.now in
     record {
-      value = tells_along c.variable_of.result e.turns _ _
+      value = meets_along c.variable_of.result e.turns _ _
           (ap (λ x. operand (setting_here e) x e.turns)
           (ap term_of c.in-Name.is ∙ name_form c.in-Name.place c.in-Name.name)
           ∙ ap (λ o. or_fault o UnknownName c.in-Name.place (λ x. Gives e.turns x))
@@ -113,7 +113,7 @@ pub operand-returns-in-Special : goal.operand-returns-in-Special
 operand-returns-in-Special t c =
     let e = c.args.evaluation.now in
     record {
-      value = tells_along c.special_of.result e.turns _ _
+      value = meets_along c.special_of.result e.turns _ _
           (ap (λ x. operand (setting_here e) x e.turns)
           (ap term_of c.in-Special.is ∙ special_form c.in-Special.place c.in-Special.name)
           ∙ ap (λ n. or_fault (find_in (chain_of e.scopes.now) n) UnknownName c.in-Special.place (λ x. Gives e.turns x))
@@ -125,7 +125,7 @@ operand-returns-in-Special t c =
 pub operand-returns-in-Postfix : goal.operand-returns-in-Postfix
 operand-returns-in-Postfix t c =
     record {
-      value = tells_along c.postfix.result c.postfix.new.evaluation.turns _ _
+      value = meets_along c.postfix.result c.postfix.new.evaluation.turns _ _
           (ap (λ e. operand (setting_here c.args.evaluation.now) e c.args.evaluation.now.turns)
           (postfix_form c.args.expr.now c.in-Postfix.field-0 c.in-Postfix.parts c.deref-in-Postfix.result.now c.deref-in-Postfix-2.result.now
           c.in-Postfix.is c.deref-in-Postfix.ensures c.deref-in-Postfix-2.ensures)) c.postfix.ensures.value;
@@ -135,7 +135,7 @@ operand-returns-in-Postfix t c =
 pub operand-returns-in-Chain : goal.operand-returns-in-Chain
 operand-returns-in-Chain t c =
     record {
-      value = tells_along c.chain.result c.chain.new.evaluation.turns _ _
+      value = meets_along c.chain.result c.chain.new.evaluation.turns _ _
           (ap (λ e. operand (setting_here c.args.evaluation.now) e c.args.evaluation.now.turns)
           (chain_form c.args.expr.now c.in-Chain.field-0 c.in-Chain.parts c.deref-in-Chain.result.now c.deref-in-Chain-2.result.now
           c.in-Chain.is c.deref-in-Chain.ensures c.deref-in-Chain-2.ensures)) c.chain.ensures.value;
@@ -145,7 +145,7 @@ operand-returns-in-Chain t c =
 pub operand-returns-in-Choice : goal.operand-returns-in-Choice
 operand-returns-in-Choice t c =
     record {
-      value = tells_along c.choice.result c.choice.new.evaluation.turns _ _
+      value = meets_along c.choice.result c.choice.new.evaluation.turns _ _
           (ap (λ e. operand (setting_here c.args.evaluation.now) e c.args.evaluation.now.turns)
           (choice_form c.args.expr.now c.in-Choice.field-0 c.in-Choice.parts c.deref-in-Choice.result.now c.deref-in-Choice-2.result.now c.deref-in-Choice-3.result.now
           c.in-Choice.is c.deref-in-Choice.ensures c.deref-in-Choice-2.ensures c.deref-in-Choice-3.ensures)) c.choice.ensures.value;
@@ -355,7 +355,7 @@ postfix-returns-in-Name t c =
     (λ n. numbered_variable_in (env_here e) n) (sym c.items.ensures)
     ∙ c.in_ok-variable.ensures.found in
     record {
-      value = tells_along c.suffixes.result c.suffixes.new.evaluation.turns _ _
+      value = meets_along c.suffixes.result c.suffixes.new.evaluation.turns _ _
           (name_then here (term_of c.args.of.now) c.in-Name.place c.in-Name.name e.turns _
           (λ turns v. each_suffix here v (suffixes_from (suffixes_of c.args.rest.now)) turns)
           (ap term_of c.in-Name.is ∙ name_form c.in-Name.place c.in-Name.name) found) c.suffixes.ensures.value;
@@ -382,7 +382,7 @@ suffixes-returns-in_err-so_far-2 t c =
     record {
       value = rw (p.1, p.2) (step_fault _ (λ turns y. each_suffix here y rest turns) _ step inv.told apart
           c.in_err-so_far-2.field-0.0 c.suffix-in-each.new.evaluation.turns c.suffix-in-each.new.evaluation.turns
-          (tells_along (Err c.in_err-so_far-2.field-0.0) c.suffix-in-each.new.evaluation.turns _ _
+          (meets_along (Err c.in_err-so_far-2.field-0.0) c.suffix-in-each.new.evaluation.turns _ _
           (moved (λ s. suffixed s v (suffix_of x) c.each.evaluation.turns) inv.kept)
           c.in_err-so_far-2.ensures.value));
       kept = keeps_trans inv.kept c.in_err-so_far-2.ensures.kept;
@@ -430,7 +430,7 @@ links-returns-in_err-so_far-2 t c =
       value = rw (p.1, p.2) (step_fault _ (λ turns y. each_link here y rest turns) _ step inv.told
           (ap (λ ls. each_link here v ls c.each.evaluation.turns) next)
           c.in_err-so_far-2.field-0.0 c.link-in-each.new.evaluation.turns c.link-in-each.new.evaluation.turns
-          (tells_along (Err c.in_err-so_far-2.field-0.0) c.link-in-each.new.evaluation.turns _ _
+          (meets_along (Err c.in_err-so_far-2.field-0.0) c.link-in-each.new.evaluation.turns _ _
           (moved (λ s. linked s v (link_of x) c.each.evaluation.turns) inv.kept)
           c.in_err-so_far-2.ensures.value));
       kept = keeps_trans inv.kept c.in_err-so_far-2.ensures.kept;
@@ -463,7 +463,7 @@ link-returns-in-Name t c =
     let here = setting_here e in
     let part = c.args.part.now in
     record {
-      value = tells_along c.binary_with_variable.result e.turns _ _
+      value = meets_along c.binary_with_variable.result e.turns _ _
           (ap (λ l. linked here (bounded_val c.args.left) l e.turns) (link_form part)
           ∙ link_wants here (bounded_val c.args.left) (record { op = part.op; at = part.place; right = term_of part.right })
           e.turns (sym c.if-not-wants_right.ensures)
@@ -480,11 +480,11 @@ call-returns-in_err-given-in-Some t c =
     let p = err_from_is_err_and c.from_residual.result c.from_residual.ensures.1 in
     let e = c.args.evaluation.now in
     let args = args_from (args_of c.args.args.now) in
-    let told = subst (λ (l : List Param). Tells arguments_of (Err c.in_err-given-in-Some.field-0.0) c.arguments.new.evaluation.turns
+    let told = subst (λ (l : List Param). MeetsOutcome arguments_of (Err c.in_err-given-in-Some.field-0.0) c.arguments.new.evaluation.turns
     (each_argument (setting_here e) (names_of (map param_of l)) 0 args (nothing_given (length (names_of (map param_of l)))) e.turns))
     c.deref.ensures.value c.in_err-given-in-Some.ensures.given.value in
     record {
-      value = rw (p.1, p.2) (tells_along (Err c.in_err-given-in-Some.field-0.0) c.arguments.new.evaluation.turns _ _
+      value = rw (p.1, p.2) (meets_along (Err c.in_err-given-in-Some.field-0.0) c.arguments.new.evaluation.turns _ _
           (call_found e c.in-Some.home (function_of c.in-Some.function) c.args.place c.args.name.now
           (args_from (args_of c.args.args.now)) e.turns c.in-Some.ensures.found)
           (fault_goes arguments_of bounded_val _ _ c.in_err-given-in-Some.field-0.0 c.arguments.new.evaluation.turns
@@ -510,7 +510,7 @@ call-returns-in_err-function-in-None t c =
     let e = c.args.evaluation.now in
     let here = setting_here e in
     record {
-      value = rw (p.1, p.2) (tells_along (Err c.in_err-function-in-None.field-0.0) e.turns _ _
+      value = rw (p.1, p.2) (meets_along (Err c.in_err-function-in-None.field-0.0) e.turns _ _
           (ap (λ o. called here c.args.place c.args.name.now (args_from (args_of c.args.args.now)) e.turns o)
           c.in-None.ensures.found)
           (c.in_err-function-in-None.ensures.refused here e.turns e.turns));
@@ -556,7 +556,7 @@ arguments-each-preserved t c =
     ∙ taker_given (names_in c.each.so_far.names) c.each.positional before a
     ∙ if_ok_at (λ (d : Destination). taker_of (names_in c.each.so_far.names) c.each.positional (given_of before) a ≡ Some (taker_seen d))
     c.destination_for-free.result d w.1 c.destination_for-free.ensures.free in
-    let step = tells_along c.evaluate-next.result _ _ _ (ap (λ e. value_at here true e c.each.evaluation.turns)
+    let step = meets_along c.evaluate-next.result _ _ _ (ap (λ e. value_at here true e c.each.evaluation.turns)
     (sym c.argument_value.ensures.value) ∙ moved (λ s. value_at s true (term_of c.argument_value.result.now) c.each.evaluation.turns)
     inv.kept) g.value in
     let given = held_seen before d c.evaluate-next.result (Ok after.given)
@@ -634,7 +634,7 @@ arguments-returns-in_err-so_far-2-clause-given t c =
     ∙ taker_given (names_in c.each.so_far.names) c.each.positional before a
     ∙ if_ok_at (λ (d : Destination). taker_of (names_in c.each.so_far.names) c.each.positional (given_of before) a ≡ Some (taker_seen d))
     c.destination_for-free.result d w.1 c.destination_for-free.ensures.free in
-    let step = tells_along c.evaluate-next.result _ _ _ (ap (λ e. value_at here true e c.each.evaluation.turns)
+    let step = meets_along c.evaluate-next.result _ _ _ (ap (λ e. value_at here true e c.each.evaluation.turns)
     (sym c.argument_value.ensures.value) ∙ moved (λ s. value_at s true (term_of c.argument_value.result.now) c.each.evaluation.turns)
     inv.kept) g.value in
     let stop = c.in_err-so_far-2.field-0.0 in
@@ -715,7 +715,7 @@ function_call-returns-in_err-given t c =
     let e = c.args.evaluation.now in
     let here = setting_here e in
     record {
-      value = rw (p.1, p.2) (if_err_at (λ (stop : Stop). (go : ℕ → ℕ → Outcome Val) (n : ℕ) → Tells bounded_val (Err stop) n
+      value = rw (p.1, p.2) (if_err_at (λ (stop : Stop). (go : ℕ → ℕ → Outcome Val) (n : ℕ) → MeetsOutcome bounded_val (Err stop) n
           (one_call_fewer (64 - e.calls) c.args.place (λ calls. turn c.args.place e.turns (go calls))))
           c.may_call.result c.in_err-given.field-0.0 c.in_err-given.ensures.err c.may_call.ensures.refused
           (λ calls turns. function_value (with_calls here calls) (function_of c.args.function) (arguments_of c.args.given) turns)
@@ -736,7 +736,7 @@ suffix-returns-in-Member t c =
     let e = c.args.evaluation.now in
     let v = indexed_val (env_here e) c.args.of in
     record {
-      value = tells_along c.member_item.result e.turns _ _
+      value = meets_along c.member_item.result e.turns _ _
           (ap (λ (x : Suffix). suffixed (setting_here e) v (suffix_of x) e.turns) c.in-Member.is
           ∙ ap (λ x. suffixed (setting_here e) v x e.turns) (member_form c.in-Member.place c.in-Member.name c.in-Member.name_place))
           (c.member_item.ensures e.turns);
@@ -789,7 +789,7 @@ function_value-returns t c =
     let g = c.with_defaults-value.ensures in
     let told : Setting → Slots → ℕ → Outcome Val = λ here slots turns. then_with (each_parameter here f.params slots turns) (λ turns vs. with_parameters here f vs turns) in
     record {
-      value = rw (c.end_specials.ensures.turns) (tells_along c.with_defaults-value.result _ _ _
+      value = rw (c.end_specials.ensures.turns) (meets_along c.with_defaults-value.result _ _ _
           (ap (λ s. told s given.slots e.turns) (sym (specials_setting e begun before given.specials begins chain))
           ∙ ap (λ (v : Vec (Option BoundedValue) Global). told (setting_here begun) (slots_in v.items) e.turns) (sym w.0)
           ∙ ap (told (setting_here begun) (slots_in c.in_ok-slots.slots.items)) (sym c.begin_specials-begun.ensures.turns)) g.value);
