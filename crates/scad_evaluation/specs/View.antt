@@ -20,7 +20,7 @@ use Rattle.scad_evaluation.specs.declared.source.Source.{Source}
 use Rattle.scad_arguments.specs.declared.parameters.SpecialArgument.{SpecialArgument}
 use Rattle.scad_arguments.specs.declared.parameters.GivenArguments.{GivenArguments}
 use Rattle.scad_evaluation.specs.declared.names.Indexed.{Indexed}
-use Rattle.scad_evaluation.specs.declared.names.Indexed.TheVariants.{Variable, Made}
+use Rattle.scad_evaluation.specs.declared.names.Indexed.TheVariants.{Variable, Value}
 use Rattle.scad_scope.specs.Numbered.{functions_below}
 use Rattle.scad_blocks.specs.declared.text.Function.{Function}
 use Rattle.scad_blocks.specs.declared.text.Module.{Module}
@@ -127,17 +127,17 @@ abbrev pub deepest : List Function → ℕ
 deepest [] = 0
 deepest (f ∷ fs) = max (function_size f) (deepest fs)
 
--- what is indexed: the value of a variable, or a value that was made
+-- a value, or undef where there is none
 abbrev pub or_undef : Option Val → Val
 or_undef (Some v) = v
 or_undef None = UndefVal
 
--- the value of what is indexed
+-- the value of what is indexed: that of a variable, or one that an expression gave
 abbrev pub indexed_val : NumberedEnv → Indexed → Val
 indexed_val env (Variable name) = or_undef (variable_in env name.now)
-indexed_val env (Made v) = bounded_val v
+indexed_val env (Value v) = bounded_val v
 
 -- what is indexed has a value
 abbrev pub IsThere : NumberedEnv → Indexed → Type 0
 IsThere env (Variable name) = IsTrue (is_some (variable_in env name.now))
-IsThere env (Made v) = Unit {0}
+IsThere env (Value v) = Unit {0}

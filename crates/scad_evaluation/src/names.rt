@@ -21,13 +21,13 @@ use scad_ast::Link;
 use scad_value::{BoundedValue, Value, binary, index};
 use text_place::{Fault, FaultKind, Place, Stop};
 
-/// What is indexed: a variable, which is lent where it stands, or a value that was made.
+/// What is indexed: a variable, which is lent where it stands, or a value that an expression gave.
 #[derive(Drop)]
 pub enum Indexed<'a> {
     /// The name of a variable.
     Variable(&'a [u8]),
     /// A value.
-    Made(BoundedValue),
+    Value(BoundedValue),
 }
 
 impl Evaluation<'_, '_> {
@@ -147,7 +147,7 @@ impl Evaluation<'_, '_> {
                 Ok(value) => placed(index(self.alloc, value, &at.value), place),
                 Err(fault) => Err(Stop::Fault(fault)),
             },
-            Indexed::Made(made) => placed(index(self.alloc, &made.value, &at.value), place),
+            Indexed::Value(given) => placed(index(self.alloc, &given.value, &at.value), place),
         }
     }
 

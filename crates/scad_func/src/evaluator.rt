@@ -201,7 +201,7 @@ fn postfix(
         return suffixes(evaluation, variable, rest);
     }
     let value = operand(evaluation, of)?;
-    suffixes(evaluation, Indexed::Made(value), rest)
+    suffixes(evaluation, Indexed::Value(value), rest)
 }
 
 // The indexes and members behind what is indexed.
@@ -218,7 +218,7 @@ fn suffixes(
 {
     let mut so_far = suffix(evaluation, of, &rest.first)?;
     'each: for part in &rest.more {
-        so_far = suffix(evaluation, Indexed::Made(so_far), part)?;
+        so_far = suffix(evaluation, Indexed::Value(so_far), part)?;
     }
     Ok(so_far)
 }
