@@ -2,8 +2,8 @@
 #![tactic(auto)]
 
 mod bind;
+mod definitions;
 mod evaluation;
-mod functions;
 mod limits;
 mod meter;
 mod names;
@@ -13,7 +13,6 @@ mod specials;
 mod values;
 
 pub use evaluation::Evaluation;
-pub use functions::find_module;
 pub use limits::{CALLS, EVALUATIONS, TURNS};
 pub use meter::Meter;
 pub use names::Indexed;

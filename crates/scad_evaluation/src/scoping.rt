@@ -1,38 +1,26 @@
 ghost use Rattle.std.specs.Prelude.{◌≡◌, ◌<◌, ◌≤◌, ◌+◌, [], ◌∷◌, ◌++◌, length, map, IfOk, IfErr, IfSome, OnOk, OnErr};
-ghost use Rattle.scad_ast.specs.StatementView.{params_of, body_of};
+ghost use Rattle.scad_ast.specs.StatementView.{params_of};
 ghost use Rattle.scad_value.specs.BoundedView.{bounded_val};
 ghost use Rattle.scad_scope.specs.Names.{oldest};
 ghost use Rattle.scad_arguments.specs.Arguments.{names_of};
 ghost use Rattle.scad_scope.specs.Table.{rows_of, chain_of};
 ghost use Rattle.scad_blocks.specs.Blocks.{assignments_of};
 ghost use Rattle.scad_blocks.specs.TextView.{assigned_of};
-ghost use Rattle.scad_evaluation.specs.Meaning.{Within, call_in, module_in, no_call, opened, with_variable, with_values};
-ghost use Rattle.scad_evaluation.specs.View.{IsCallFound, IsModuleFound, IsNoMemory, specials_in, values_seen, seen, source_text};
-ghost use Rattle.scad_evaluation.specs.Definitions.{statements_at, block_scope, IsBlockOf, IsWhole};
+ghost use Rattle.scad_evaluation.specs.Meaning.{Within, call_in, no_call, opened, with_variable, with_values};
+ghost use Rattle.scad_evaluation.specs.View.{IsCallFound, IsNoMemory, specials_in, values_seen, seen, source_text};
+ghost use Rattle.scad_evaluation.specs.Definitions.{statements_at, block_scope, IsWhole};
 ghost use Rattle.scad_evaluation.specs.Evaluations.{Keeps, SameSetting, ScopeEnters, SpecialsBegin, BindsIn, scopes_there, scope_here};
 
 use crate::bind::{bind_all, bind_one};
 use crate::evaluation::Evaluation;
-use crate::functions::find_module;
 use crate::specials::bind_specials;
 use crate::values::BoundedValues;
 use scad_ast::Params;
-use scad_scope::{Assignment, Module, ModuleCall, SpecialArgument};
+use scad_scope::{Assignment, ModuleCall, SpecialArgument};
 use scad_value::BoundedValue;
 use text_place::{NoMemory, Stop};
 
 impl<'a> Evaluation<'a, '_> {
-    /// The module that a name stands for, the newest of its name from the scope outward, with its body's block,
-    /// and the number of the scope in which it stands. None where no scope outward has one.
-    pub fn module(&self, name: &[u8]) -> Option<(Module<'a>, u32)>
-        ensures found { IsModuleFound self.now.source.now (rows_of self.now.scopes.now) (module_in (scope_here self.now) name.now) result }
-        ensures there { IfSome result (λ found. found.1 < scopes_there self.now) }
-        ensures body { IsWhole (source_text self.now.source.now) →
-            IfSome result (λ found. IsBlockOf (source_text self.now.source.now) found.0.block (body_of found.0.body.now)) }
-    {
-        find_module(self.source, self.scopes, self.scope, name)
-    }
-
     /// The assignments of a block, each name once, in the order of the text: a name that is assigned more than
     /// once has the place of its first assignment and the expression of its last. A block that isn't there has
     /// none.

@@ -1,7 +1,38 @@
-use Rattle.std.proofs.lemmas.Option.{IfSome_then}
+use Rattle.std.proofs.Common.{◌<◌, length, sym, arith}
+use Rattle.std.proofs.lemmas.List.{length-map}
+use Rattle.scad_scope.specs.Names.{env_of}
+use Rattle.scad_scope.specs.Table.{rows_of}
+use Rattle.scad_blocks.specs.TextView.{module_of}
+use Rattle.scad_evaluation.specs.View.{source_text}
 use Rattle.scad_evaluation.proofs.Bodies.{module_block}
+use Rattle.scad_evaluation.proofs.Environments.{modules_of, found_within, found_seen, none_seen}
 use Rattle.scad_evaluation.proofs.evaluation.Evaluation.module.Goals as goal
 
-pub returns-clause-body : goal.returns-clause-body
-returns-clause-body c = λ whole. IfSome_then c.find_module.result c.find_module.ensures.among
-    (λ found h. module_block c.args.self.now.source.now.blocks found.0 whole h)
+pub module-requires-in-Ok : goal.module-requires-in-Ok
+module-requires-in-Ok c =
+    let e = c.args.self.now in
+    found_within (source_text e.source.now) (modules_of (source_text e.source.now)) (rows_of e.scopes.now) c.args.self.now.scope c.args.name.now
+    e.modules (env_of (rows_of e.scopes.now) c.in-Ok.found.scope) c.in-Ok.found.definition c.in-Ok.ensures.same
+
+pub returns-in-Ok-clause-found : goal.returns-in-Ok-clause-found
+returns-in-Ok-clause-found c =
+    let e = c.args.self.now in
+    found_seen (source_text e.source.now) (modules_of (source_text e.source.now)) (rows_of e.scopes.now) c.args.self.now.scope c.args.name.now
+    e.modules (env_of (rows_of e.scopes.now) c.in-Ok.found.scope) c.in-Ok.found.definition
+    (module_of c.module-in-Ok.result) c.in-Ok.ensures.same c.module-in-Ok.ensures.same
+
+pub returns-in-Ok-clause-body : goal.returns-in-Ok-clause-body
+returns-in-Ok-clause-body c =
+    let e = c.args.self.now in
+    let ms = e.source.now.blocks.modules.items in
+    let d = c.in-Ok.found.definition in
+    let below = found_within (source_text e.source.now) (modules_of (source_text e.source.now)) (rows_of e.scopes.now) c.args.self.now.scope c.args.name.now
+    e.modules (env_of (rows_of e.scopes.now) c.in-Ok.found.scope) d c.in-Ok.ensures.same in
+    let there : d < length ms = omega (arith, below, length-map ms module_of) in
+    λ whole. module_block e.source.now.blocks c.module-in-Ok.result whole (d, there, sym c.module-in-Ok.ensures.item)
+
+pub returns-in-Err-clause-found : goal.returns-in-Err-clause-found
+returns-in-Err-clause-found c =
+    let e = c.args.self.now in
+    none_seen (source_text e.source.now) (modules_of (source_text e.source.now)) (rows_of e.scopes.now) c.args.self.now.scope c.args.name.now
+    e.modules c.in-Err.ensures.none
