@@ -7,34 +7,28 @@ use Rattle.scad_ast.specs.Terms.{Term, ArgTerm, NamedTerm, SpecialArgTerm, Posit
 use Rattle.scad_value.specs.Values.{Val}
 use Rattle.scad_scope.specs.Names.{Pairs, find_in}
 use Rattle.scad_arguments.specs.Arguments.{Given, Taker, nothing_given, to_parameter, to_special, unless_filled, taken_by, taker_of, with_argument, or_place, argument_place, matched, only_slots}
+use Rattle.scad_arguments.specs.Lookup.{names_of_pairs, is_among}
 use Rattle.scad_evaluation.specs.Meaning.{Outcome, Gives, Faults, then_with, or_fault, Setting, value_at, Arguments, each_argument}
 use Rattle.scad_evaluation.specs.View.{IsFilledAs}
 
-abbrev pub names_given : {A : Type 0} → Pairs A → List (List ℕ)
-names_given = map (λ p. p.0)
-
 abbrev pub Alike : {A B : Type 0} → Given A → Given B → Type 0
-Alike g h = (map is_some g.slots ≡ map is_some h.slots) × (names_given g.specials ≡ names_given h.specials)
+Alike g h = (map is_some g.slots ≡ map is_some h.slots) × (names_of_pairs g.specials ≡ names_of_pairs h.specials)
 
 filled_at : {A : Type 0} (xs : List (Option A)) (k : ℕ) → is_some (get_or xs k None) ≡ get_or (map is_some xs) k false
 filled_at [] k = refl
 filled_at (x ∷ xs) zero = refl
 filled_at (x ∷ xs) (suc k) = filled_at xs k
 
-abbrev is_among : List (List ℕ) → List ℕ → Bool
-is_among [] name = false
-is_among (n ∷ ns) name = cond (bytes_eq n name) true (is_among ns name)
-
-found_among : {A : Type 0} (ps : Pairs A) (name : List ℕ) → is_some (find_in ps name) ≡ is_among (names_given ps) name
+found_among : {A : Type 0} (ps : Pairs A) (name : List ℕ) → is_some (find_in ps name) ≡ is_among (names_of_pairs ps) name
 found_among [] name = refl
 found_among (p ∷ ps) name = by_name (bytes_eq p.0 name) (found_among ps name)
   where
-    by_name : (b : Bool) → is_some (find_in ps name) ≡ is_among (names_given ps) name
-        → is_some (cond b (Some p.1) (find_in ps name)) ≡ cond b true (is_among (names_given ps) name)
+    by_name : (b : Bool) → is_some (find_in ps name) ≡ is_among (names_of_pairs ps) name
+        → is_some (cond b (Some p.1) (find_in ps name)) ≡ cond b true (is_among (names_of_pairs ps) name)
     by_name true rest = refl
     by_name false rest = rest
 
-pub found_alike : {A B : Type 0} (ps : Pairs A) (qs : Pairs B) → names_given ps ≡ names_given qs → (name : List ℕ)
+pub found_alike : {A B : Type 0} (ps : Pairs A) (qs : Pairs B) → names_of_pairs ps ≡ names_of_pairs qs → (name : List ℕ)
     → is_some (find_in ps name) ≡ is_some (find_in qs name)
 found_alike ps qs same name = found_among ps name ∙ ap (λ ns. is_among ns name) same ∙ sym (found_among qs name)
 

@@ -10,11 +10,12 @@ use Rattle.scad_value.specs.BoundedView.{bounded_val}
 use Rattle.scad_scope.specs.Names.{Pairs, find_in}
 use Rattle.scad_arguments.specs.Arguments.{Given, Taker, to_parameter, to_special, nothing_given, taker_of, with_argument}
 use Rattle.scad_arguments.specs.ArgumentsView.{special_pair, special_pairs, given_of, taker_seen, IsGiven}
+use Rattle.scad_arguments.specs.Lookup.{names_of_pairs}
 use Rattle.scad_arguments.specs.declared.parameters.SpecialArgument.{SpecialArgument}
 use Rattle.scad_arguments.specs.declared.parameters.GivenArguments.{GivenArguments}
 use Rattle.scad_arguments.specs.declared.parameters.Destination.{Destination}
 use Rattle.scad_evaluation.specs.Meaning.{Arguments}
-use Rattle.scad_func.proofs.FilledAlike.{names_given, Alike, found_alike, taker_alike}
+use Rattle.scad_func.proofs.FilledAlike.{Alike, found_alike, taker_alike}
 use Rattle.scad_evaluation.specs.View.{special_of, specials_in, slot_of, slots_in, arguments_of}
 
 abbrev value_pair : List ℕ × BoundedValue → List ℕ × Val
@@ -39,12 +40,12 @@ filled_seen [] = refl
 filled_seen (None ∷ xs) = ap (λ l. false ∷ l) (filled_seen xs)
 filled_seen (Some v ∷ xs) = ap (λ l. true ∷ l) (filled_seen xs)
 
-names_seen : (ps : Pairs BoundedValue) → names_given (map value_pair ps) ≡ names_given ps
+names_seen : (ps : Pairs BoundedValue) → names_of_pairs (map value_pair ps) ≡ names_of_pairs ps
 names_seen [] = refl
 names_seen (p ∷ ps) = ap (λ l. p.0 ∷ l) (names_seen ps)
 
 seen_alike : (g : GivenArguments BoundedValue) → Alike (arguments_of g) (given_of g)
-seen_alike g = (filled_seen g.slots.items, ap names_given (specials_seen g.specials.items) ∙ names_seen (special_pairs g.specials.items))
+seen_alike g = (filled_seen g.slots.items, ap names_of_pairs (specials_seen g.specials.items) ∙ names_seen (special_pairs g.specials.items))
 
 -- the taker of an argument
 pub taker_given : (names : List (List ℕ)) (positional : ℕ) (g : GivenArguments BoundedValue) (a : ArgTerm)
@@ -54,7 +55,7 @@ taker_given names positional g a = taker_alike (arguments_of g) (given_of g) (se
 -- whether a special name was given
 pub special_given : (xs : List (SpecialArgument BoundedValue)) (name : List ℕ) → is_some (find_in (specials_in xs) name) ≡ is_some (find_in (special_pairs xs) name)
 special_given xs name = found_alike (specials_in xs) (special_pairs xs)
-    (ap names_given (specials_seen xs) ∙ names_seen (special_pairs xs)) name
+    (ap names_of_pairs (specials_seen xs) ∙ names_seen (special_pairs xs)) name
 
 none_seen : (n : ℕ) → slots_in (replicate n None) ≡ replicate n None
 none_seen zero = refl
