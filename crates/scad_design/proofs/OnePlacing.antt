@@ -18,7 +18,7 @@ use Rattle.shape_planes.proofs.OnePlane.{not_zero_below}
 use Rattle.csg_tree.specs.declared.op.Op.{Op}
 use Rattle.csg_tree.specs.Formulas.{Formula, leaf}
 use Rattle.scad_design.specs.Designs.{Design, empty, a_part, joined, Part}
-use Rattle.scad_design.specs.Placing.{Placed, placed, unplaced, and_new, joined_placed, AreItsPlanes, IsPlaced, Places, PlacesPart, PlacesRight}
+use Rattle.scad_design.specs.Placing.{Placed, placed, unplaced, and_new, joined_placed, AreItsPlanes, IsPlaced, Places, PlacesPart, PlacesRight, most_planes}
 use Rattle.scad_design.proofs.PartFaults.{Cause, large, far as far_off, many, cause_of}
 
 -- ---- the plane of a face
@@ -81,7 +81,8 @@ same_placed s t k l e f = ap₂ placed e f
 same_unplaced : (j k : FaultKind) (a b : Place) → j ≡ k → a ≡ b → unplaced j a ≡ unplaced k b
 same_unplaced j k a b e f = ap₂ unplaced e f
 
-not_many : (part : Part) (known ms ns : List Coefficients) → AreItsPlanes part ms → AreItsPlanes part ns → length (and_new known ms) ≤ 1024 → 1024 < length (and_new known ns) → ⊥
+not_many : (part : Part) (known ms ns : List Coefficients) → AreItsPlanes part ms → AreItsPlanes part ns
+    → length (and_new known ms) ≤ most_planes → most_planes < length (and_new known ns) → ⊥
 not_many part known ms ns hm hn few more = omega (arith, few, more, ap (λ (ps : List Coefficients). length (and_new known ps)) (its_planes part ms ns hm hn))
 
 not_placed : (part : Part) (known planes : List Coefficients) (kind : FaultKind) → IsPlaced part known planes → Cause part known kind → ⊥

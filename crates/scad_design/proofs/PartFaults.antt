@@ -10,7 +10,7 @@ use Rattle.scad_design.specs.Designs.{Part}
 use Rattle.text_place.specs.declared.fault.Stop.{Stop}
 use Rattle.text_place.specs.declared.fault.Stop.TheVariants.{Fault, NoMemory}
 use Rattle.scad_design.specs.Designs.{a_part}
-use Rattle.scad_design.specs.Placing.{and_new, AreItsPlanes, EndsInReach, IsPlacingFault, StaysSafe}
+use Rattle.scad_design.specs.Placing.{and_new, AreItsPlanes, EndsInReach, IsPlacingFault, StaysSafe, most_planes}
 use Rattle.scad_design.specs.Trees.{IsRangeStop, IsStopOf}
 
 -- one that isn't so, where all are
@@ -69,7 +69,8 @@ range_stop part known NoMemory h = tt
 pub data Cause (part : Part) (known : List Coefficients) (kind : FaultKind) : Type 0 where
   large : (kind ≡ TooLarge) → (StaysSafe part → ⊥) → Cause part known kind
   far : (kind ≡ OutOfRange) → StaysSafe part → (EndsInReach part → ⊥) → Cause part known kind
-  many : (kind ≡ TooManyPlanes) → StaysSafe part → EndsInReach part → (planes : List Coefficients) → AreItsPlanes part planes → (1024 < length (and_new known planes)) → Cause part known kind
+  many : (kind ≡ TooManyPlanes) → StaysSafe part → EndsInReach part → (planes : List Coefficients) → AreItsPlanes part planes
+      → (most_planes < length (and_new known planes)) → Cause part known kind
 
 pub cause_of : (part : Part) (known : List Coefficients) (kind : FaultKind) → IsPlacingFault part known kind → Cause part known kind
 cause_of part known BadCharacter h = absurd h

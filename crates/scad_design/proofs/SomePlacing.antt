@@ -12,7 +12,7 @@ use Rattle.shape_planes.proofs.Transforms.{faces_after}
 use Rattle.csg_tree.specs.declared.op.Op.{Op}
 use Rattle.csg_tree.specs.Formulas.{nothing, leaf}
 use Rattle.scad_design.specs.Designs.{Design, empty, a_part, joined, Part}
-use Rattle.scad_design.specs.Placing.{Placed, placed, unplaced, and_new, joined_placed, AreItsPlanes, EndsInReach, Places, PlacesPart, PlacesRight, StaysSafe}
+use Rattle.scad_design.specs.Placing.{Placed, placed, unplaced, and_new, joined_placed, AreItsPlanes, EndsInReach, Places, PlacesPart, PlacesRight, StaysSafe, most_planes}
 use Rattle.scad_design.specs.Trees.{AreRegular, IsSound}
 use Rattle.scad_design.proofs.Deciding.{Decided, decided_by, decided_both, decided_at_most, decided_less_ℤ, decided_all, decided_all_below, at_most_or_more}
 use Rattle.scad_design.proofs.FacePlanes.{images_are_in_reach, some_face_planes}
@@ -61,14 +61,14 @@ decided_near : (part : Part) → Decided (EndsInReach part)
 decided_near part = decided_all (λ p. IsInReach (image (map_of part.steps) (point_at p))) (λ p. decided_reach (image (map_of part.steps) (point_at p))) part.mesh.points
 
 -- ---- a part
-more_than : (n : ℕ) → (n ≤ 1024 → ⊥) → 1024 < n
-more_than n h = ⊎_elim (λ k. absurd (h k)) (λ k. k) (at_most_or_more n 1024)
+more_than : (n : ℕ) → (n ≤ most_planes → ⊥) → most_planes < n
+more_than n h = ⊎_elim (λ k. absurd (h k)) (λ k. k) (at_most_or_more n most_planes)
 
 with_planes : (part : Part) (known planes : List Coefficients) → StaysSafe part → EndsInReach part → AreItsPlanes part planes → (out : Placed) × PlacesPart part known out
 with_planes part known planes safe reach are =
     ⊎_elim (λ few. (placed (leaf planes) (and_new known planes), (planes, record { safe = safe; reach = reach; planes_are = are; few = few }, refl, refl)))
     (λ more. (unplaced TooManyPlanes part.at, ((safe, reach, (planes, are, more_than (length (and_new known planes)) more)), refl)))
-    (decided_at_most (length (and_new known planes)) 1024)
+    (decided_at_most (length (and_new known planes)) most_planes)
 
 some_part : (part : Part) (known : List Coefficients) → IsShape part.mesh → AreRegular part.steps → (out : Placed) × PlacesPart part known out
 some_part part known shape regular =

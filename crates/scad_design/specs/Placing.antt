@@ -1,5 +1,5 @@
 -- Placing: the leaves of a design from left to right, as planes in world position.
-use Rattle.std.specs.Prelude.{◌≡◌, ◌<◌, ◌≤◌, List, [], ◌∷◌, ◌++◌, length, All, Bool, true, false, ◌||◌}
+use Rattle.std.specs.Prelude.{◌≡◌, ℕ, ◌<◌, ◌≤◌, List, [], ◌∷◌, ◌++◌, length, All, Bool, true, false, ◌||◌}
 use Rattle.std.specs.List.{list_any}
 use Rattle.text_place.specs.declared.fault.Place.{Place}
 use Rattle.text_place.specs.declared.fault.FaultKind.{FaultKind}
@@ -45,12 +45,16 @@ pub data Placed : Type 0 where
   placed : (tree : Formula) → (known : List Coefficients) → Placed
   unplaced : (kind : FaultKind) → (at : Place) → Placed
 
+-- the most distinct planes of a tree, up to orientation
+abbrev pub most_planes : ℕ
+most_planes = 1024
+
 -- a leaf, behind the distinct planes of those before it
 pub record IsPlaced (part : Part) (known : List Coefficients) (planes : List Coefficients) : Type 0 where
   pub safe : StaysSafe part
   pub reach : EndsInReach part
   pub planes_are : AreItsPlanes part planes
-  pub few : length (and_new known planes) ≤ 1024
+  pub few : length (and_new known planes) ≤ most_planes
 
 -- the first fault of a leaf: a coordinate is past 2^53 - 1 after a step; else one is past 4,095 at the end; else the leaf
 -- brings the 1,025th distinct plane
@@ -59,7 +63,7 @@ IsPlacingFault part known TooLarge = StaysSafe part → ⊥
 IsPlacingFault part known OutOfRange = StaysSafe part × (EndsInReach part → ⊥)
 IsPlacingFault part known TooManyPlanes =
     StaysSafe part × EndsInReach part
-    × ((planes : List Coefficients) × AreItsPlanes part planes × (1024 < length (and_new known planes)))
+    × ((planes : List Coefficients) × AreItsPlanes part planes × (most_planes < length (and_new known planes)))
 IsPlacingFault part known kind = ⊥
 
 -- a leaf by itself

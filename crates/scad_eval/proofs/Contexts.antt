@@ -5,6 +5,7 @@ use Rattle.plane_predicate.specs.declared.unit.Unit.{Unit as LengthUnit}
 use Rattle.scad_value.specs.Values.{Val}
 use Rattle.scad_scope.specs.Names.{Pairs, Row}
 use Rattle.scad_scope.specs.Table.{rows_of, chain_of}
+use Rattle.scad_evaluation.specs.Limits.{most_calls, most_evaluations}
 use Rattle.scad_evaluation.specs.Meaning.{Env}
 use Rattle.scad_evaluation.specs.View.{seen}
 use Rattle.scad_evaluation.specs.Evaluations.{Keeps, scope_here}
@@ -22,7 +23,7 @@ use Rattle.scad_eval.proofs.Outcomes.{along}
 -- where an instance stands, by what it depends on
 abbrev pub context_by : ℕ → Source → List Row → ℕ → Pairs Val → Position → Context
 context_by calls source rows scope chain s = record {
-  calls = 64 - calls;
+  calls = most_calls - calls;
   env = seen source rows scope;
   chain = chain;
   inside = s.inside;
@@ -43,7 +44,7 @@ pub same_context : (old new : InstanceEvaluator) (s : Position) → Stays old ne
 same_context old new s k = context_from old new s k.calls k.source k.rows k.stands k.chain
 
 pub same_evaluations : (old new : InstanceEvaluator) → Stays old new → evaluations_left new ≡ evaluations_left old
-same_evaluations old new k = ap (λ n. 512 - n) k.depth
+same_evaluations old new k = ap (λ n. most_evaluations - n) k.depth
 
 pub stays_same : (m : InstanceEvaluator) → Stays m m
 stays_same m = record { unit = refl; source = refl; lent = refl; stands = refl; rows = refl; chain = refl; calls = refl; depth = refl }
@@ -109,11 +110,11 @@ meets_after {old = old} {mid = mid} {s = s} k h judge right =
 -- a stand in a scope that was entered
 pub entered_context : (old new : InstanceEvaluator) (s : Position) (before : ℕ) (env : Env) → Enters old new before
     → scope_here new.evaluation ≡ env
-    → context_at new s ≡ record { calls = 64 - old.evaluation.calls; env = env; chain = chain_of old.evaluation.scopes.now; inside = s.inside; under_mark = s.under_mark }
+    → context_at new s ≡ record { calls = most_calls - old.evaluation.calls; env = env; chain = chain_of old.evaluation.scopes.now; inside = s.inside; under_mark = s.under_mark }
 entered_context old new s before env e is =
-    ap (λ n. record { calls = 64 - n; env = scope_here new.evaluation; chain = chain_of new.evaluation.scopes.now; inside = s.inside; under_mark = s.under_mark }) e.evaluation.calls
-    ∙ ap (λ (x : Env). record { calls = 64 - old.evaluation.calls; env = x; chain = chain_of new.evaluation.scopes.now; inside = s.inside; under_mark = s.under_mark }) is
-    ∙ ap (λ (c : Pairs Val). record { calls = 64 - old.evaluation.calls; env = env; chain = c; inside = s.inside; under_mark = s.under_mark }) e.evaluation.chain
+    ap (λ n. record { calls = most_calls - n; env = scope_here new.evaluation; chain = chain_of new.evaluation.scopes.now; inside = s.inside; under_mark = s.under_mark }) e.evaluation.calls
+    ∙ ap (λ (x : Env). record { calls = most_calls - old.evaluation.calls; env = x; chain = chain_of new.evaluation.scopes.now; inside = s.inside; under_mark = s.under_mark }) is
+    ∙ ap (λ (c : Pairs Val). record { calls = most_calls - old.evaluation.calls; env = env; chain = c; inside = s.inside; under_mark = s.under_mark }) e.evaluation.chain
 
 -- assignments, one behind another
 pub assigns_then : {a b c : InstanceEvaluator} → Assigns a b → Assigns b c → Assigns a c

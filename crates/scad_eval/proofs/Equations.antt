@@ -12,6 +12,7 @@ use Rattle.scad_value.specs.Values.{Val}
 use Rattle.scad_scope.specs.Names.{Pairs, Row, find_in}
 use Rattle.scad_scope.specs.Table.{rows_of, chain_of}
 use Rattle.scad_blocks.specs.Blocks.{assignments_of}
+use Rattle.scad_evaluation.specs.Limits.{most_calls, most_evaluations}
 use Rattle.scad_evaluation.specs.Meaning.{Outcome, Gives, Faults, Arguments, Slots, Env, Opened, call_in, entered_scope, then_with, evaluated}
 use Rattle.scad_arguments.specs.ArgumentsView.{IsFaultAt}
 use Rattle.scad_evaluation.specs.View.{MeetsOutcome, seen, source_text}
@@ -67,7 +68,7 @@ entered_meets equation old mid new s before env e is turns h judge right =
     along (ap (λ (x : Source). equation x evaluator here old.evaluation.turns old.leaves) (sym e.evaluation.source)
     ∙ ap (λ n. equation mid.evaluation.source.now evaluator here n old.leaves) (sym turns)
     ∙ ap (λ n. equation mid.evaluation.source.now evaluator here mid.evaluation.turns n) (sym e.leaves))
-    (meets_at old.unit l here e.unit (ap (λ n. 512 - n) e.evaluation.depth) (entered_context old mid s before env e is) h judge right)
+    (meets_at old.unit l here e.unit (ap (λ n. most_evaluations - n) e.evaluation.depth) (entered_context old mid s before env e is) h judge right)
 
 -- a block in a scope that was entered
 pub body_entered : {r : Result MemberResults Stop} (old mid new : InstanceEvaluator) (s : Position) (before block : ℕ) (call : Opened) (outer : Env)
@@ -98,7 +99,7 @@ pub deeper_meets : {r : Result InstanceResult Stop} (old mid new : InstanceEvalu
     (design_within old.unit judge (evaluations_left old) (context_at old s) i old.evaluation.turns old.leaves)
 deeper_meets old mid new s i unit leaves turns b h judge right =
     let d = old.evaluation.depth in
-    let l = 512 - (d + 1) in
+    let l = most_evaluations - (d + 1) in
     let evaluator = evaluator_with old.unit judge l in
     along (design_deeper old.unit judge d (context_at old s) i old.evaluation.turns old.leaves b.within
     ∙ ap (λ n. instance_design evaluator (context_at old s) i n old.leaves) (sym turns)
@@ -111,11 +112,11 @@ pub call_meets : {A B : Type 0} {see : ℕ → A → B} {r : Result A Stop} (equ
     → MeetsEquation see mid new s r (equation mid.evaluation.source.now (rows_of mid.evaluation.scopes.now)) → (judge : Judge) → IsRight judge
     → HasOutcome see r new.evaluation.turns new.leaves
     (equation old.evaluation.source.now (rows_of old.evaluation.scopes.now) (evaluator_at old judge)
-    (with_calls_left (context_at old s) (64 - (old.evaluation.calls + 1))) mid.evaluation.turns old.leaves)
+    (with_calls_left (context_at old s) (most_calls - (old.evaluation.calls + 1))) mid.evaluation.turns old.leaves)
 call_meets equation old mid new s unit leaves b h judge right =
     let l = evaluations_left old in
     let evaluator = evaluator_at old judge in
-    let here = with_calls_left (context_at old s) (64 - (old.evaluation.calls + 1)) in
+    let here = with_calls_left (context_at old s) (most_calls - (old.evaluation.calls + 1)) in
     along (ap (λ (x : Source). equation x (rows_of old.evaluation.scopes.now) evaluator here mid.evaluation.turns old.leaves) (sym b.source)
     ∙ ap (λ (rows : List Row). equation mid.evaluation.source.now rows evaluator here mid.evaluation.turns old.leaves) (sym b.rows)
     ∙ ap (λ n. equation mid.evaluation.source.now (rows_of mid.evaluation.scopes.now) evaluator here mid.evaluation.turns n) (sym leaves))
@@ -140,7 +141,7 @@ specials_meets equation old begun mid new s count specials unit leaves b chain k
     ∙ ap (λ (rows : List Row). equation mid.evaluation.source.now rows evaluator here mid.evaluation.turns old.leaves) (sym (k.rows ∙ b.rows))
     ∙ ap (λ n. equation mid.evaluation.source.now (rows_of mid.evaluation.scopes.now) evaluator here mid.evaluation.turns n)
     (sym (same ∙ leaves)))
-    (meets_at old.unit l here (k.unit ∙ unit) (ap (λ n. 512 - n) k.depth ∙ specials_evaluations old begun count b)
+    (meets_at old.unit l here (k.unit ∙ unit) (ap (λ n. most_evaluations - n) k.depth ∙ specials_evaluations old begun count b)
     (same_context begun mid s k ∙ specials_context old begun s count specials b chain) h judge right)
 
 -- the chosen children of the enclosing call, one call deeper
@@ -154,7 +155,7 @@ children_meets old mid new s at chosen unit leaves turns b h judge right =
     let here = context_at old s in
     let go : ℕ → ℕ → Outcome InstanceDesign = λ calls turns. children_design evaluator (with_calls_left here calls) (call_in here.env) chosen turns old.leaves in
     along (call_counted old.evaluation.calls at (λ calls. go calls old.evaluation.turns) b.within
-    ∙ ap (go (64 - (old.evaluation.calls + 1))) (sym turns))
+    ∙ ap (go (most_calls - (old.evaluation.calls + 1))) (sym turns))
     (call_meets (λ (x : Source) (rows : List Row) evaluator here. children_design evaluator here (call_in here.env) chosen)
     old mid new s unit leaves b h judge right)
 
@@ -213,7 +214,7 @@ block_meets old mid new s block chosen is a told same h judge right =
     (along (ap (λ n. each_member evaluator there (instances_chosen there.env chosen (statements_at (source_text old.evaluation.source.now) block)) mid.evaluation.turns n) (sym a.leaves)
     ∙ ap (λ (x : Source). each_member evaluator there (instances_chosen there.env chosen (statements_at (source_text x) block)) mid.evaluation.turns mid.leaves) (sym a.source)
     ∙ ap (λ (xs : List InstanceTerm). each_member evaluator there xs mid.evaluation.turns mid.leaves) (sym same))
-    (meets_at old.unit (evaluations_left old) there a.unit (ap (λ n. 512 - n) a.depth) refl h judge right))
+    (meets_at old.unit (evaluations_left old) there a.unit (ap (λ n. most_evaluations - n) a.depth) refl h judge right))
 
 -- where an expression stands with special arguments on the chain
 pub specials_setting : (old begun : InstanceEvaluator) (s : Position) (scope count : ℕ) (specials : Pairs Val) → SpecialsBegin old.evaluation begun.evaluation count
@@ -222,11 +223,11 @@ pub specials_setting : (old begun : InstanceEvaluator) (s : Position) (scope cou
     ≡ setting (evaluations_left old) (inside_scope (with_chain (context_at old s) (specials ++ chain_of old.evaluation.scopes.now))
     (seen old.evaluation.source.now (rows_of old.evaluation.scopes.now) scope))
 specials_setting old begun s scope count specials b chain =
-    ap (λ n. record { deeper = evaluated (512 - n); calls = 64 - begun.evaluation.calls; env = seen begun.evaluation.source.now (rows_of begun.evaluation.scopes.now) scope; chain = chain_of begun.evaluation.scopes.now }) b.depth
-    ∙ ap (λ n. record { deeper = evaluated (512 - old.evaluation.depth); calls = 64 - n; env = seen begun.evaluation.source.now (rows_of begun.evaluation.scopes.now) scope; chain = chain_of begun.evaluation.scopes.now }) b.calls
-    ∙ ap (λ (x : Source). record { deeper = evaluated (512 - old.evaluation.depth); calls = 64 - old.evaluation.calls; env = seen x (rows_of begun.evaluation.scopes.now) scope; chain = chain_of begun.evaluation.scopes.now }) b.source
-    ∙ ap (λ (rows : List Row). record { deeper = evaluated (512 - old.evaluation.depth); calls = 64 - old.evaluation.calls; env = seen old.evaluation.source.now rows scope; chain = chain_of begun.evaluation.scopes.now }) b.rows
-    ∙ ap (λ (c : Pairs Val). record { deeper = evaluated (512 - old.evaluation.depth); calls = 64 - old.evaluation.calls; env = seen old.evaluation.source.now (rows_of old.evaluation.scopes.now) scope; chain = c }) chain
+    ap (λ n. record { deeper = evaluated (most_evaluations - n); calls = most_calls - begun.evaluation.calls; env = seen begun.evaluation.source.now (rows_of begun.evaluation.scopes.now) scope; chain = chain_of begun.evaluation.scopes.now }) b.depth
+    ∙ ap (λ n. record { deeper = evaluated (most_evaluations - old.evaluation.depth); calls = most_calls - n; env = seen begun.evaluation.source.now (rows_of begun.evaluation.scopes.now) scope; chain = chain_of begun.evaluation.scopes.now }) b.calls
+    ∙ ap (λ (x : Source). record { deeper = evaluated (most_evaluations - old.evaluation.depth); calls = most_calls - old.evaluation.calls; env = seen x (rows_of begun.evaluation.scopes.now) scope; chain = chain_of begun.evaluation.scopes.now }) b.source
+    ∙ ap (λ (rows : List Row). record { deeper = evaluated (most_evaluations - old.evaluation.depth); calls = most_calls - old.evaluation.calls; env = seen old.evaluation.source.now rows scope; chain = chain_of begun.evaluation.scopes.now }) b.rows
+    ∙ ap (λ (c : Pairs Val). record { deeper = evaluated (most_evaluations - old.evaluation.depth); calls = most_calls - old.evaluation.calls; env = seen old.evaluation.source.now (rows_of old.evaluation.scopes.now) scope; chain = c }) chain
 
 -- an instance whose mark counts
 pub marked_form : (evaluator : Evaluator) (here : Context) (i : InstanceTerm) (turns leaves : ℕ)

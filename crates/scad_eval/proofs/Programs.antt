@@ -13,6 +13,7 @@ use Rattle.scad_value.specs.Values.{Val}
 use Rattle.scad_scope.specs.Names.{Pairs, Row, env_of, first_row, first_chain}
 use Rattle.scad_scope.specs.Table.{rows_of, chain_of}
 use Rattle.scad_blocks.specs.Blocks.{NumberedText, numbered_text}
+use Rattle.scad_evaluation.specs.Limits.{most_calls, most_evaluations}
 use Rattle.scad_evaluation.specs.Meaning.{Outcome, Gives, then_with, Env, Within, Outermost, no_call, entered_scope}
 use Rattle.scad_evaluation.specs.View.{seen, source_text}
 use Rattle.scad_evaluation.specs.Definitions.{statements_at, block_scope, IsWhole}
@@ -52,7 +53,7 @@ program_scope source rows program env whole text first is =
     ∙ ap (λ (outer : Env). entered_scope (statements_from program) no_call outer) (first_env source rows first)
 
 abbrev pub context_of : ℕ → Env → Pairs Val → Context
-context_of calls env chain = record { calls = 64 - calls; env = env; chain = chain; inside = None; under_mark = false }
+context_of calls env chain = record { calls = most_calls - calls; env = env; chain = chain; inside = None; under_mark = false }
 
 pub program_begins : {old new : Evaluation} {before : ℕ} → ScopeEnters old new before → (program : List StatementTerm)
     → IsWhole (source_text old.source.now) → source_text old.source.now ≡ numbered_text program → rows_of old.scopes.now ≡ first_row ∷ []
@@ -71,14 +72,14 @@ pub program_members : {old new : InstanceEvaluator} {s : Position} {r : Result M
     → (program : List StatementTerm) → context_at old s ≡ program_context first_chain (statements_from program)
     → statements ≡ statements_from program → old.evaluation.depth ≡ 0 → old.evaluation.turns ≡ 0 → old.leaves ≡ 0
     → (judge : Judge) → IsRight judge → HasOutcome member_designs_of r new.evaluation.turns new.leaves
-    (each_in_scope (evaluator_with old.unit judge 512) (program_context first_chain (statements_from program)) (statements_from program) 0 0)
+    (each_in_scope (evaluator_with old.unit judge most_evaluations) (program_context first_chain (statements_from program)) (statements_from program) 0 0)
 program_members {old = old} {s = s} statements h program here same depth turns leaves judge right =
     along (sym (
-    ap (λ d. block_members (evaluator_with old.unit judge (512 - d)) None statements (context_at old s) old.evaluation.turns old.leaves) depth
-    ∙ ap (λ x. block_members (evaluator_with old.unit judge 512) None statements x old.evaluation.turns old.leaves) here
-    ∙ ap (λ st. block_members (evaluator_with old.unit judge 512) None st (program_context first_chain (statements_from program)) old.evaluation.turns old.leaves) same
-    ∙ ap (λ n. block_members (evaluator_with old.unit judge 512) None (statements_from program) (program_context first_chain (statements_from program)) n old.leaves) turns
-    ∙ ap (λ n. block_members (evaluator_with old.unit judge 512) None (statements_from program) (program_context first_chain (statements_from program)) 0 n) leaves))
+    ap (λ d. block_members (evaluator_with old.unit judge (most_evaluations - d)) None statements (context_at old s) old.evaluation.turns old.leaves) depth
+    ∙ ap (λ x. block_members (evaluator_with old.unit judge most_evaluations) None statements x old.evaluation.turns old.leaves) here
+    ∙ ap (λ st. block_members (evaluator_with old.unit judge most_evaluations) None st (program_context first_chain (statements_from program)) old.evaluation.turns old.leaves) same
+    ∙ ap (λ n. block_members (evaluator_with old.unit judge most_evaluations) None (statements_from program) (program_context first_chain (statements_from program)) n old.leaves) turns
+    ∙ ap (λ n. block_members (evaluator_with old.unit judge most_evaluations) None (statements_from program) (program_context first_chain (statements_from program)) 0 n) leaves))
     (h.by judge right)
 
 pub program_statements : (old new : Source) (program : List StatementTerm) → new ≡ old → source_text old ≡ numbered_text program
@@ -88,7 +89,7 @@ program_statements old new program same e = ap (λ (x : Source). statements_at (
 -- the design
 module _ (unit : LengthUnit) (judge : Judge) (chain : Pairs Val) (statements : StatementTerms) where
   pub design_outcome : (ms : MemberResults) (design : DesignIn) (m l : ℕ)
-      → HasOutcome member_designs_of (Ok ms) m l (each_in_scope (evaluator_with unit judge 512) (program_context chain statements) statements 0 0)
+      → HasOutcome member_designs_of (Ok ms) m l (each_in_scope (evaluator_with unit judge most_evaluations) (program_context chain statements) statements 0 0)
       → plain_of design ≡ or_all (option_map plain_of ms.marked) (map plain_of ms.designs.items)
       → HasOutcome (λ leaves. plain_of) (Ok design) m 0 (design_of unit judge chain statements)
   unfolding design_of
@@ -97,7 +98,7 @@ module _ (unit : LengthUnit) (judge : Judge) (chain : Pairs Val) (statements : S
   }
 
   pub design_stops : (stop : Stop) (m l n : ℕ)
-      → HasOutcome member_designs_of (Err stop) m l (each_in_scope (evaluator_with unit judge 512) (program_context chain statements) statements 0 0)
+      → HasOutcome member_designs_of (Err stop) m l (each_in_scope (evaluator_with unit judge most_evaluations) (program_context chain statements) statements 0 0)
       → HasOutcome (λ leaves. plain_of) (Err stop) n 0 (design_of unit judge chain statements)
   unfolding design_of
   design_stops stop m l n t = stop_outcome (λ turns ms. Gives turns (or_all ms.marked ms.designs)) t

@@ -1,10 +1,11 @@
 -- The evaluations that are left count for more than any step at one depth.
 use Rattle.std.proofs.Common.{◌≡◌, ℕ, ◌+◌, ◌-◌, ◌*◌, ◌<◌, ◌≤◌, ap, arith}
+use Rattle.scad_evaluation.specs.Limits.{most_evaluations}
 
 unfoldable pub work : ℕ → ℕ
-work depth = (512 - depth) * 1125899906842624
+work depth = (most_evaluations - depth) * 1125899906842624
 
-pub work_falls : (depth : ℕ) → depth < 512 → work (depth + 1) + 1125899906842624 ≤ work depth
+pub work_falls : (depth : ℕ) → depth < most_evaluations → work (depth + 1) + 1125899906842624 ≤ work depth
 unfolding work
 work_falls depth h = omega arith
 

@@ -7,6 +7,7 @@ use Rattle.primitives.specs.Sizes.{AreSizes, IsSafe}
 use Rattle.scad_value.specs.Values.{Val}
 use Rattle.scad_scope.specs.Names.{Pairs}
 use Rattle.scad_scope.specs.Table.{rows_of, chain_of}
+use Rattle.scad_evaluation.specs.Limits.{most_calls, most_evaluations, most_turns}
 use Rattle.scad_evaluation.specs.Meaning.{Outcome, Env, one_call_fewer, turn}
 use Rattle.scad_evaluation.specs.View.{seen, source_text}
 use Rattle.scad_evaluation.specs.Definitions.{IsWhole}
@@ -21,7 +22,7 @@ use Rattle.scad_pieces.specs.Seen.{HasOutcome, instance_design_of}
 
 -- how many evaluations in one another are left
 abbrev pub evaluations_left : InstanceEvaluator → ℕ
-evaluations_left evaluator = 512 - evaluator.evaluation.depth
+evaluations_left evaluator = most_evaluations - evaluator.evaluation.depth
 
 -- what evaluates instances at this depth, by a judge of shapes
 abbrev pub evaluator_at : InstanceEvaluator → Judge → Evaluator
@@ -34,7 +35,7 @@ env_at evaluator scope = seen evaluator.evaluation.source.now (rows_of evaluator
 -- the context of an instance of the scope in which is evaluated
 abbrev pub context_at : InstanceEvaluator → Position → Context
 context_at evaluator position = record {
-  calls = 64 - evaluator.evaluation.calls;
+  calls = most_calls - evaluator.evaluation.calls;
   env = scope_here evaluator.evaluation;
   chain = chain_of evaluator.evaluation.scopes.now;
   inside = position.inside;
@@ -72,7 +73,7 @@ pub record CountsCall (old new : InstanceEvaluator) : Type 0 where
   pub unit : new.unit ≡ old.unit
   pub leaves : new.leaves ≡ old.leaves
   pub begun : CallBegins old.evaluation new.evaluation
-  pub few : old.evaluation.turns < 100000
+  pub few : old.evaluation.turns < most_turns
   pub turns : new.evaluation.turns ≡ old.evaluation.turns + 1
 
 -- one scope more, which is the newest and the one in which is evaluated, where it was another one: all else but the turns
@@ -121,4 +122,4 @@ pub record MeetsEquation {A B : Type 0} (see : ℕ → A → B) (old new : Insta
 -- what a counted call says that is refused
 abbrev pub StopsBefore : Evaluation → Place → Stop → Type 0
 StopsBefore e at stop = (go : ℕ → ℕ → Outcome InstanceDesign) (n l : ℕ) → HasOutcome instance_design_of (Err stop) n l
-    (one_call_fewer (64 - e.calls) at (λ calls. turn at e.turns (go calls)))
+    (one_call_fewer (most_calls - e.calls) at (λ calls. turn at e.turns (go calls)))

@@ -8,6 +8,7 @@ use Rattle.scad_ast.specs.Terms.{Term, NumberTerm, TruthTerm, SpecialTerm, NameT
 use Rattle.scad_value.specs.Values.{Val, NumberVal, TruthVal, ListVal, UndefVal, vals_from}
 use Rattle.scad_scope.specs.Names.{Pairs}
 use Rattle.scad_blocks.specs.Blocks.{SourceFunction}
+use Rattle.scad_evaluation.specs.Limits.{most_calls}
 use Rattle.scad_evaluation.specs.Meaning.{Outcome, Gives, Faults, Env, Outermost, Within, no_call, opened, functions_standing_in, call_in, evaluated}
 
 abbrev at : ℕ → Place
@@ -21,7 +22,7 @@ abbrev first_chain : Pairs Val
 first_chain = (codes "fn", NumberVal (pos 0)) ∷ (codes "fa", NumberVal (pos 12)) ∷ (codes "fs", NumberVal (pos 2)) ∷ []
 
 abbrev meaning : Env → Term → Outcome Val
-meaning env e = evaluated 8 true 64 env first_chain e 0
+meaning env e = evaluated 8 true most_calls env first_chain e 0
 
 -- 1/0
 abbrev nought : ℕ → Term
@@ -136,7 +137,7 @@ specials = Within [] (
     ∷ []) [] no_call Outermost
 
 -- r(2, $x = 5): each call shadows the one around it, which is there again behind it
-shadows : evaluated 12 true 64 specials first_chain (call (codes "r") 1 (and_positional (num 3 2) (and_special (at 6) (codes "x") (num 9 5) no_args))) 0
+shadows : evaluated 12 true most_calls specials first_chain (call (codes "r") 1 (and_positional (num 3 2) (and_special (at 6) (codes "x") (num 9 5) no_args))) 0
     ≡ Gives 38 (ListVal (vals_from (NumberVal (pos 5) ∷ NumberVal (pos 6) ∷ NumberVal (pos 6) ∷ NumberVal (pos 5) ∷ [])))
 unfolding evaluated
 shadows = refl

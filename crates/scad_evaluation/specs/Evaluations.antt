@@ -3,6 +3,7 @@ use Rattle.std.specs.Prelude.{◌≡◌, ℕ, ◌+◌, ◌-◌, ◌*◌, ◌<◌
 use Rattle.scad_scope.specs.Names.{NumberedEnv, env_of, oldest}
 use Rattle.scad_scope.specs.Table.{rows_of, chain_of}
 use Rattle.text_place.specs.declared.fault.Stop.{Stop}
+use Rattle.scad_evaluation.specs.Limits.{most_calls, most_evaluations}
 use Rattle.scad_evaluation.specs.Meaning.{Outcome, Env, Setting, evaluated}
 use Rattle.scad_evaluation.specs.View.{MeetsOutcome, seen, deepest}
 use Rattle.scad_evaluation.specs.declared.source.Source.{Source}
@@ -15,8 +16,8 @@ scopes_there e = length (rows_of e.scopes.now)
 -- where an expression of a scope stands
 abbrev pub setting : Evaluation → ℕ → Setting
 setting e scope = record {
-  deeper = evaluated (512 - e.depth);
-  calls = 64 - e.calls;
+  deeper = evaluated (most_evaluations - e.depth);
+  calls = most_calls - e.calls;
   env = seen e.source.now (rows_of e.scopes.now) scope;
   chain = chain_of e.scopes.now;
 }
@@ -35,7 +36,7 @@ setting_here e = setting e e.scope
 
 -- the calls that are left, times more than any function is deep
 unfoldable pub work_left : Source → ℕ → ℕ
-work_left source calls = (64 - calls) * (4 * deepest source.blocks.functions.items + 8)
+work_left source calls = (most_calls - calls) * (4 * deepest source.blocks.functions.items + 8)
 
 -- what stays, after a fault too: all but the turns
 pub record Keeps (old new : Evaluation) : Type 0 where
@@ -76,7 +77,7 @@ pub record CallBegins (old new : Evaluation) : Type 0 where
   pub chain : chain_of new.scopes.now ≡ chain_of old.scopes.now
   pub calls : new.calls ≡ old.calls + 1
   pub depth : new.depth ≡ old.depth
-  pub within : old.calls < 64
+  pub within : old.calls < most_calls
 
 -- one evaluation deeper: all else but the turns is as before
 pub record EvaluationBegins (old new : Evaluation) : Type 0 where
@@ -87,7 +88,7 @@ pub record EvaluationBegins (old new : Evaluation) : Type 0 where
   pub chain : chain_of new.scopes.now ≡ chain_of old.scopes.now
   pub calls : new.calls ≡ old.calls
   pub depth : new.depth ≡ old.depth + 1
-  pub within : old.depth < 512
+  pub within : old.depth < most_evaluations
 
 -- one scope more, which is the newest and the one in which is evaluated, where it was another one: all else but the turns
 -- is as before

@@ -11,6 +11,7 @@ use Rattle.scad_scope.specs.Names.{Pairs, Row, oldest}
 use Rattle.scad_scope.specs.Table.{rows_of, chain_of}
 use Rattle.scad_arguments.specs.Arguments.{names_of, nothing_given}
 use Rattle.scad_blocks.specs.Blocks.{SourceFunction}
+use Rattle.scad_evaluation.specs.Limits.{most_calls, most_evaluations}
 use Rattle.scad_evaluation.specs.Meaning.{Outcome, Env, Setting, in_scope, with_specials, answered, evaluated, each_argument, function_called, called, function_in, then_with}
 use Rattle.scad_evaluation.specs.declared.source.Source.{Source}
 use Rattle.scad_evaluation.specs.declared.evaluation.Evaluation.{Evaluation}
@@ -22,8 +23,8 @@ use Rattle.scad_func.proofs.Outcomes.{fault_goes, value_goes, meets_answer}
 -- where an expression stands, by what it depends on
 setting_by : Source → List Row → ℕ → ℕ → ℕ → Pairs Val → Setting
 setting_by source rows scope depth calls chain = record {
-  deeper = evaluated (512 - depth);
-  calls = 64 - calls;
+  deeper = evaluated (most_evaluations - depth);
+  calls = most_calls - calls;
   env = seen source rows scope;
   chain = chain;
 }
@@ -106,7 +107,7 @@ specials_setting old new count specials b e =
     ∙ ap (setting_by old.source.now (rows_of old.scopes.now) old.scope old.depth old.calls) e
 
 setting_with : ℕ → ℕ → Env → Pairs Val → Setting
-setting_with depth calls env chain = record { deeper = evaluated (512 - depth); calls = 64 - calls; env = env; chain = chain }
+setting_with depth calls env chain = record { deeper = evaluated (most_evaluations - depth); calls = most_calls - calls; env = env; chain = chain }
 
 pub scope_setting : (old new : Evaluation) (before : ℕ) (env : Env) → ScopeEnters old new before → scope_here new ≡ env
     → setting_here new ≡ in_scope (setting_here old) env
@@ -118,11 +119,11 @@ scope_setting old new before env e h =
     ∙ ap (setting_with old.depth old.calls env) e.chain
 
 -- one call deeper
-pub work_falls : (source : Source) (calls : ℕ) → calls < 64
+pub work_falls : (source : Source) (calls : ℕ) → calls < most_calls
     → work_left source (calls + 1) + (4 * deepest source.blocks.functions.items + 8) ≤ work_left source calls
 unfolding work_left
 work_falls source calls h =
-    let k : 64 - calls ≡ (64 - (calls + 1)) + 1 = omega arith in
+    let k : most_calls - calls ≡ (most_calls - (calls + 1)) + 1 = omega arith in
     rw k (omega arith)
 
 -- a call of the function that a name stands for

@@ -12,6 +12,7 @@ use Rattle.scad_arguments.specs.Arguments.{names_of, nothing_given, taker_of, wi
 use Rattle.scad_blocks.specs.Blocks.{SourceFunction}
 use Rattle.scad_builtin.specs.declared.function.Builtin.{Builtin}
 use Rattle.scad_builtin.specs.Builtins.{builtin_of, takes, applied}
+use Rattle.scad_evaluation.specs.Limits.{most_turns}
 use Rattle.scad_evaluation.specs.Meaning.{Outcome, Gives, Faults, then_with, answered, Env, Within, no_call, variable_in, function_in, counted, Evaluates, Setting, value_at, with_calls, in_scope, with_specials, each_value, with_front, only_values, count_of_terms, Slots, Arguments, each_argument, parameter_value, each_parameter, paired, function_value, function_called, built_in, called, operand, each_suffix, each_link, settled, evaluated}
 use Rattle.scad_answer.specs.Answers.{range_of, stepped_range_of, member_of, wants_right}
 use Rattle.scad_meaning.proofs.HeldPlaces.{every_joined, if_keeps, Whatever, Held, first_held, rest_held, FunctionHeld, ScopeHeld, function_found, Keeps, skip_keeps, option_keeps, some_keeps, turn_keeps, call_keeps, answered_keeps}
@@ -40,7 +41,7 @@ module _ (P : Place → Type 0) where
   counted_keeps at (Gives turns (TruthVal truth)) p h = tt
   counted_keeps at (Gives turns (TextVal bytes)) p h = tt
   counted_keeps at (Gives turns (ListVal items)) p h =
-      if_keeps (Keeps P Whatever) (nat_lt 100000 (turns + parts_of (ListVal items))) (Faults TooManyTurns at)
+      if_keeps (Keeps P Whatever) (nat_lt most_turns (turns + parts_of (ListVal items))) (Faults TooManyTurns at)
       (Gives (turns + parts_of (ListVal items)) (ListVal items)) p tt
   counted_keeps at (Gives turns (RangeVal from step to)) p h = tt
   counted_keeps at (Gives turns UndefVal) p h = tt

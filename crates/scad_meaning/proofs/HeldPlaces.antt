@@ -13,6 +13,7 @@ use Rattle.scad_value.specs.Values.{Val}
 use Rattle.scad_value.specs.Operators.{Answer}
 use Rattle.scad_scope.specs.Names.{Pairs, find_in, or_else}
 use Rattle.scad_blocks.specs.Blocks.{SourceFunction, SourceModule, Assigned, same_name, with_assigned, all_assigned, assigned_in, assigned_by, assignments_of, statements_of_body}
+use Rattle.scad_evaluation.specs.Limits.{most_turns}
 use Rattle.scad_evaluation.specs.Meaning.{Outcome, Gives, Faults, then_with, or_fault, answered, Env, Outermost, Within, Opened, no_call, opened, standing_in, function_in, module_in, or_outer, call_in, functions_standing_in, function_standing, modules_standing_in, module_standing, entered_scope, with_variable, turn, one_call_fewer}
 use Rattle.scad_meaning.specs.Bodies.{instances_in, instances_of, is_on, evaluated_in}
 
@@ -235,7 +236,7 @@ module _ (P : Place → Type 0) where
 
   pub turn_keeps : {A : Type 0} (Q : A → Type 0) (at : Place) (turns : ℕ) (go : ℕ → Outcome A)
       → P at → ((n : ℕ) → Keeps Q (go n)) → Keeps Q (turn at turns go)
-  turn_keeps Q at turns go p g = if_keeps (Keeps Q) (nat_lt turns 100000) (go (turns + 1)) (Faults TooManyTurns at) (g (turns + 1)) p
+  turn_keeps Q at turns go p g = if_keeps (Keeps Q) (nat_lt turns most_turns) (go (turns + 1)) (Faults TooManyTurns at) (g (turns + 1)) p
 
   pub call_keeps : {A : Type 0} (Q : A → Type 0) (calls : ℕ) (at : Place) (go : ℕ → Outcome A)
       → P at → ((n : ℕ) → Keeps Q (go n)) → Keeps Q (one_call_fewer calls at go)

@@ -18,6 +18,7 @@ use Rattle.scad_value.specs.Operators.{Answer}
 use Rattle.scad_scope.specs.Names.{Pairs, find_in}
 use Rattle.scad_arguments.specs.Arguments.{names_of, nothing_given, taker_of, with_argument}
 use Rattle.scad_blocks.specs.Blocks.{SourceModule, Assigned, assignments_of, statements_of_body}
+use Rattle.scad_evaluation.specs.Limits.{most_evaluations}
 use Rattle.scad_evaluation.specs.Meaning.{Outcome, Gives, Faults, then_with, Env, Outermost, Within, Opened, no_call, opened, module_in, call_in, entered_scope, with_variable, Setting, value_at, Arguments, each_argument, each_parameter}
 use Rattle.scad_modules.specs.declared.table.BuiltinModule.{BuiltinModule}
 use Rattle.scad_modules.specs.declared.table.BuiltinModule.TheVariants.{Echo}
@@ -34,7 +35,7 @@ use Rattle.scad_meaning.specs.Hulls.{is_nothing, points_of, hull_mesh}
 use Rattle.scad_meaning.specs.Verdicts.{Judge, Verdict, IsRight, IsSolidVerdict, IsFlatVerdict, IsHeightVerdict, IsHullVerdict, solid_of, extruded}
 use Rattle.scad_meaning.specs.Bodies.{evaluated_in, is_child, children_in, is_marked, says_only, is_bare}
 use Rattle.scad_meaning.specs.Loops.{items_of}
-use Rattle.scad_meaning.specs.Meaning.{Context, inside_scope, with_chain, with_calls_left, inside_mark, inside_extrusion, setting, InstanceDesign, MemberDesigns, first_marked, no_design, no_members, as_member, and_members, joined_members, EvaluatesInstance, Evaluator, assigned_value, assigned, each_assigned, core_of, each_member, each_in_scope, each_in_body, body_design, after_step, each_step, in_loop, each_turn, loop_design, leaf_design, checked, hulled, hull_design, answered_with, module_scope, module_design, each_said, arguments_for, children_design, flat_design, effect_design, built_in_design, call_design, core_design, marked_design, instance_design, design_within, evaluator_with, program_context, or_all, design_of, counted_step, instances_chosen, block_members, module_given}
+use Rattle.scad_meaning.specs.Meaning.{Context, inside_scope, with_chain, with_calls_left, inside_mark, inside_extrusion, setting, InstanceDesign, MemberDesigns, first_marked, no_design, no_members, as_member, and_members, joined_members, EvaluatesInstance, Evaluator, assigned_value, assigned, each_assigned, core_of, each_member, each_in_scope, each_in_body, body_design, after_step, each_step, in_loop, each_turn, loop_design, leaf_design, checked, hulled, hull_design, answered_with, module_scope, module_design, each_said, arguments_for, children_design, flat_design, effect_design, built_in_design, call_design, core_design, marked_design, instance_design, design_within, evaluator_with, program_context, or_all, design_of, counted_step, instances_chosen, block_members, module_given, most_leaves}
 use Rattle.scad_meaning.proofs.Choosing.{all_chosen}
 use Rattle.scad_meaning.proofs.HeldPlaces.{if_keeps, Whatever, Held, first_held, rest_held, ModuleHeld, ScopeHeld, CallHeld, module_found, call_found, variable_held, functions_held, modules_held, entered_held, body_held, AssignedHeld, assignments_held, InstanceHeld, evaluated_held, Keeps, then_keeps, skip_keeps, some_keeps, turn_keeps, call_keeps}
 use Rattle.scad_meaning.proofs.SoundShapes.{HasFlatSides, IsSoundCall, effect_sound, solid_is_shape, extruded_is_shape}
@@ -119,7 +120,7 @@ module _ (P : Place → Type 0) where
 
   leaf_keeps : (at : Place) (mesh : Mesh) (turns leaves : ℕ) → P at → IsShape mesh → Keeps P DesignsHeld (leaf_design at mesh turns leaves)
   leaf_keeps at mesh turns leaves p shape =
-      if_keeps (Keeps P DesignsHeld) (nat_lt leaves 1024)
+      if_keeps (Keeps P DesignsHeld) (nat_lt leaves most_leaves)
       (Gives turns (record { leaves = leaves + 1; design = a_part (record { mesh = mesh; steps = []; at = at }); marked = None }))
       (Faults TooManyParts at) ((p, (shape, All-nil IsRegular)), tt) p
 
@@ -412,7 +413,7 @@ module _ (P : Place → Type 0) where
           → Keeps P DesignHeld (design_of unit judge chain statements)
       unfolding design_of
       design_keeps chain statements h =
-          then_keeps P MembersHeld DesignHeld (each_in_scope (evaluator_with unit judge 512) (program_context chain statements) statements 0 0) _
-          (scope_keeps 512 (design_within unit judge 512) (within_keeps 512) (program_context chain statements) statements 0 0
+          then_keeps P MembersHeld DesignHeld (each_in_scope (evaluator_with unit judge most_evaluations) (program_context chain statements) statements 0 0) _
+          (scope_keeps most_evaluations (design_within unit judge most_evaluations) (within_keeps most_evaluations) (program_context chain statements) statements 0 0
           (entered_held P statements no_call (Within [] [] [] no_call Outermost) h tt (tt, tt, tt, tt), tt) h)
           (λ turns ms k. or_all_held ms.marked ms.designs k.1 k.0)

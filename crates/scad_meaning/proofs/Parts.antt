@@ -19,6 +19,7 @@ use Rattle.scad_value.specs.Operators.{Answer}
 use Rattle.scad_scope.specs.Names.{Pairs, find_in}
 use Rattle.scad_arguments.specs.Arguments.{names_of, nothing_given}
 use Rattle.scad_blocks.specs.Blocks.{SourceModule, assignments_of, statements_of_body}
+use Rattle.scad_evaluation.specs.Limits.{most_evaluations, most_turns}
 use Rattle.scad_evaluation.specs.Meaning.{Outcome, Gives, Faults, then_with, or_fault, Env, Opened, no_call, opened, module_in, call_in, entered_scope, turn, one_call_fewer, value_at, Arguments, each_argument, each_parameter}
 use Rattle.scad_modules.specs.declared.table.BuiltinModule.{BuiltinModule}
 use Rattle.scad_modules.specs.Table.{module_named}
@@ -31,7 +32,7 @@ use Rattle.scad_meaning.specs.Hulls.{is_nothing, hull_mesh}
 use Rattle.scad_meaning.specs.Verdicts.{Judge, Verdict, solid_of, extruded}
 use Rattle.scad_meaning.specs.Bodies.{is_marked, says_only, is_bare}
 use Rattle.scad_meaning.specs.Loops.{items_of}
-use Rattle.scad_meaning.specs.Meaning.{Context, inside_scope, with_chain, with_calls_left, inside_mark, inside_extrusion, setting, InstanceDesign, MemberDesigns, first_marked, no_design, no_members, as_member, and_members, joined_members, moved_design, EvaluatesInstance, Evaluator, each_assigned, core_of, each_member, each_in_scope, each_in_body, body_design, after_step, each_step, in_loop, each_turn, loop_design, leaf_design, checked, hulled, hull_design, answered_with, module_scope, module_design, arguments_for, children_design, flat_design, effect_design, built_in_design, call_design, core_design, marked_design, instance_design, design_within, evaluator_with, program_context, or_all, design_of, counted_step, instances_chosen, block_members, module_given}
+use Rattle.scad_meaning.specs.Meaning.{Context, inside_scope, with_chain, with_calls_left, inside_mark, inside_extrusion, setting, InstanceDesign, MemberDesigns, first_marked, no_design, no_members, as_member, and_members, joined_members, moved_design, EvaluatesInstance, Evaluator, each_assigned, core_of, each_member, each_in_scope, each_in_body, body_design, after_step, each_step, in_loop, each_turn, loop_design, leaf_design, checked, hulled, hull_design, answered_with, module_scope, module_design, arguments_for, children_design, flat_design, effect_design, built_in_design, call_design, core_design, marked_design, instance_design, design_within, evaluator_with, program_context, or_all, design_of, counted_step, instances_chosen, block_members, module_given, most_leaves}
 
 -- what holds of that which an outcome gives
 abbrev Has : {A : Type 0} → (A → Type 0) → Outcome A → Type 0
@@ -59,7 +60,7 @@ option_has Q (Some x) kind at go g = g x
 
 turn_has : {A : Type 0} (Q : A → Type 0) (at : Place) (turns : ℕ) (go : ℕ → Outcome A)
     → ((n : ℕ) → Has Q (go n)) → Has Q (turn at turns go)
-turn_has Q at turns go g = if_has Q (nat_lt turns 100000) (go (turns + 1)) (Faults TooManyTurns at) (g (turns + 1)) tt
+turn_has Q at turns go g = if_has Q (nat_lt turns most_turns) (go (turns + 1)) (Faults TooManyTurns at) (g (turns + 1)) tt
 
 call_has : {A : Type 0} (Q : A → Type 0) (calls : ℕ) (at : Place) (go : ℕ → Outcome A)
     → ((n : ℕ) → Has Q (go n)) → Has Q (one_call_fewer calls at go)
@@ -87,14 +88,14 @@ IsFew before after (Some d) = (before + parts_in d ≤ after) × IsTrim d
 
 record IsSmall (before : ℕ) (m : InstanceDesign) : Type 0 where
   pub grows : before ≤ m.leaves
-  pub most : before ≤ 1024 → m.leaves ≤ 1024
+  pub most : before ≤ most_leaves → m.leaves ≤ most_leaves
   pub parts : before + parts_in m.design ≤ m.leaves
   pub trim : IsTrim m.design
   pub marked : IsFew before m.leaves m.marked
 
 record AreSmall (before : ℕ) (ms : MemberDesigns) : Type 0 where
   pub grows : before ≤ ms.leaves
-  pub most : before ≤ 1024 → ms.leaves ≤ 1024
+  pub most : before ≤ most_leaves → ms.leaves ≤ most_leaves
   pub parts : before + sum_by parts_in ms.designs ≤ ms.leaves
   pub trim : All IsTrim ms.designs
   pub marked : IsFew before ms.leaves ms.marked
@@ -141,9 +142,9 @@ nothing_small : (leaves : ℕ) → IsSmall leaves (no_design leaves)
 nothing_small leaves = record { grows = omega arith; most = λ few. few; parts = omega arith; trim = tt; marked = tt }
 
 leaf_small : (at : Place) (mesh : Mesh) (turns leaves : ℕ) → Has (IsSmall leaves) (leaf_design at mesh turns leaves)
-leaf_small at mesh turns leaves = by_test (nat_lt leaves 1024) (λ e. grind (arith, nat_tests))
+leaf_small at mesh turns leaves = by_test (nat_lt leaves most_leaves) (λ e. grind (arith, nat_tests))
   where
-    by_test : (b : Bool) → (b ≡ true → leaves < 1024) → Has (IsSmall leaves) (if b
+    by_test : (b : Bool) → (b ≡ true → leaves < most_leaves) → Has (IsSmall leaves) (if b
         then Gives turns (record { leaves = leaves + 1; design = a_part (record { mesh = mesh; steps = []; at = at }); marked = None })
         else Faults TooManyParts at)
     by_test true h = let few = h refl in record { grows = omega arith; most = λ before. omega arith; parts = omega arith; trim = tt; marked = tt }
@@ -347,7 +348,7 @@ module _ (grouped_trim : (op : Op) (designs : List Design) → All IsTrim design
 
   -- the design of a program
   all_small : (marked : Option Design) (designs : List Design) (leaves : ℕ) → IsFew 0 leaves marked → 0 + sum_by parts_in designs ≤ leaves
-      → All IsTrim designs → leaves ≤ 1024 → pieces_in (or_all marked designs) < 2 ^ 32
+      → All IsTrim designs → leaves ≤ most_leaves → pieces_in (or_all marked designs) < 2 ^ 32
   all_small None designs leaves f h trim few =
       let a : parts_in (balanced Union designs) ≤ sum_by parts_in designs = grouped_parts Union designs in
       let b : pieces_in (balanced Union designs) ≤ 1 + 2 * parts_in (balanced Union designs) = pieces (grouped Union designs) (grouped_trim Union designs trim) in
@@ -360,6 +361,6 @@ module _ (grouped_trim : (op : Op) (designs : List Design) → All IsTrim design
   unfolding design_of
   design_small chain statements turns design e =
       subst (Has (λ d. pieces_in d < 2 ^ 32)) e
-      (then_has (AreSmall 0) (λ d. pieces_in d < 2 ^ 32) (each_in_scope (evaluator_with unit judge 512) (program_context chain statements) statements 0 0) _
-      (scope_small 512 (design_within unit judge 512) (within_small 512) (program_context chain statements) statements 0 0)
+      (then_has (AreSmall 0) (λ d. pieces_in d < 2 ^ 32) (each_in_scope (evaluator_with unit judge most_evaluations) (program_context chain statements) statements 0 0) _
+      (scope_small most_evaluations (design_within unit judge most_evaluations) (within_small most_evaluations) (program_context chain statements) statements 0 0)
       (λ turns ms h. all_small ms.marked ms.designs ms.leaves h.marked h.parts h.trim (h.most (omega arith))))

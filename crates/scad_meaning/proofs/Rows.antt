@@ -12,6 +12,7 @@ use Rattle.scad_ast.specs.declared.operator.UnaryOp.TheVariants.{Negate}
 use Rattle.scad_ast.specs.declared.operator.Modifier.TheVariants.{Disable, Highlight, Root}
 use Rattle.scad_ast.specs.Terms.{NumberTerm, TextTerm, TruthTerm, ChildCountTerm, SpecialTerm, NameTerm, CallTerm, ListTerm, RangeTerm, SteppedRangeTerm, UnaryTerm, ChainTerm, no_terms, and_term, no_args, and_positional, no_links, and_link, PlainTerm, DefaultTerm, NamedTerm, SpecialArgTerm, PositionalTerm, BlockStatement, AssignmentTerm, SpecialAssignmentTerm, ModuleTerm, FunctionTerm, InstanceStatement, StatementTerms, no_statements, and_statement, AnInstance, IfTerm, IfElseTerm, ForTerm, IntersectionForTerm, ModuleCallTerm, EmptyBody, BlockBody, InstanceBody}
 use Rattle.scad_scope.specs.Names.{first_chain}
+use Rattle.scad_evaluation.specs.Limits.{most_evaluations}
 use Rattle.scad_evaluation.specs.Meaning.{Outcome, Gives, Faults, evaluated}
 use Rattle.scad_design.specs.Designs.{Design, empty, a_part, joined}
 use Rattle.scad_meaning.specs.Verdicts.{Judge}
@@ -49,7 +50,7 @@ is_given (Gives turns x) = true
 is_given (Faults kind at) = false
 
 abbrev pub begun : ℕ → ℕ → StatementTerms → Outcome MemberDesigns
-begun turns leaves p = each_in_scope (evaluator_with Whole lenient 512) (program_context first_chain p) p turns leaves
+begun turns leaves p = each_in_scope (evaluator_with Whole lenient most_evaluations) (program_context first_chain p) p turns leaves
 
 abbrev pub seen_in : Outcome Design → Seen
 seen_in (Gives turns design) = seen design

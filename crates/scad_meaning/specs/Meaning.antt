@@ -13,6 +13,7 @@ use Rattle.scad_value.specs.Operators.{Answer}
 use Rattle.scad_scope.specs.Names.{Pairs, find_in}
 use Rattle.scad_arguments.specs.Arguments.{names_of, nothing_given, taker_of, with_argument}
 use Rattle.scad_blocks.specs.Blocks.{SourceModule, Assigned, assignments_of, statements_of_body}
+use Rattle.scad_evaluation.specs.Limits.{most_calls, most_evaluations}
 use Rattle.scad_evaluation.specs.Meaning.{Outcome, Gives, Faults, then_with, or_fault, Env, Outermost, Within, Opened, no_call, opened, module_in, call_in, functions_standing_in, modules_standing_in, entered_scope, with_variable, turn, Setting, value_at, one_call_fewer, Arguments, each_argument, each_parameter, paired, evaluated}
 use Rattle.scad_modules.specs.declared.table.BuiltinModule.{BuiltinModule}
 use Rattle.scad_modules.specs.declared.table.BuiltinModule.TheVariants.{Echo}
@@ -206,10 +207,14 @@ abbrev pub loop_design : Evaluator → Op → Context → Place → List BinderT
 loop_design evaluator op here at binders body turns leaves =
     then_with (each_turn evaluator at binders body here turns leaves) (λ turns ms. Gives turns (joined_members op ms))
 
+-- the most leaves of one design
+abbrev pub most_leaves : ℕ
+most_leaves = 1024
+
 -- one leaf more
 abbrev pub leaf_design : Place → Mesh → ℕ → ℕ → Outcome InstanceDesign
 leaf_design at mesh turns leaves =
-    if nat_lt leaves 1024
+    if nat_lt leaves most_leaves
     then Gives turns (record { leaves = leaves + 1; design = a_part (record { mesh = mesh; steps = []; at = at }); marked = None })
     else Faults TooManyParts at
 
@@ -299,7 +304,7 @@ chosen_children evaluator at chosen here turns leaves =
 -- a program's scope stands inside one that is empty; its chain begins with what it is given
 abbrev pub program_context : Pairs Val → StatementTerms → Context
 program_context chain statements = record {
-  calls = 64;
+  calls = most_calls;
   env = entered_scope statements no_call (Within [] [] [] no_call Outermost);
   chain = chain;
   inside = None;
@@ -401,8 +406,8 @@ abbrev pub evaluator_with : LengthUnit → Judge → ℕ → Evaluator
 evaluator_with unit judge evaluations =
     record { unit = unit; judge = judge; evaluations = evaluations; deeper = design_within unit judge evaluations }
 
--- the design of a program, where 512 evaluations in one another are left
+-- the design of a program, where all evaluations in one another are left
 unfoldable pub design_of : LengthUnit → Judge → Pairs Val → StatementTerms → Outcome Design
 design_of unit judge chain statements =
-    then_with (each_in_scope (evaluator_with unit judge 512) (program_context chain statements) statements 0 0) (λ turns ms.
+    then_with (each_in_scope (evaluator_with unit judge most_evaluations) (program_context chain statements) statements 0 0) (λ turns ms.
     Gives turns (or_all ms.marked ms.designs))

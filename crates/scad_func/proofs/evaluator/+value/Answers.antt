@@ -23,6 +23,7 @@ use Rattle.scad_arguments.specs.ArgumentsView.{given_of, names_in, taker_seen, I
 use Rattle.scad_scope.specs.Names.{find_in, variable_in as numbered_variable_in}
 use Rattle.scad_scope.specs.Table.{chain_of}
 use Rattle.scad_blocks.specs.TextView.{function_of}
+use Rattle.scad_evaluation.specs.Limits.{most_calls, most_evaluations}
 use Rattle.scad_evaluation.specs.Meaning.{Outcome, Gives, Faults, value_at, with_calls, one_call_fewer, turn, each_argument, each_parameter, parameter_value, function_value, operand, each_value, each_suffix, each_link, called, answered, or_fault, or_zero, Setting, Slots, then_with}
 use Rattle.scad_answer.specs.Answers.{range_of}
 use Rattle.scad_answer.specs.View.{MeetsAnswerAt}
@@ -49,7 +50,7 @@ evaluate-returns-in_err-value t c =
     let p = err_from_is_err_and c.from_residual.result c.from_residual.ensures.1 in
     let here = setting_here c.args.evaluation.now in
     record {
-      value = rw (p.1, p.2) (fault_counted c.in_err-value.field-0.0 (512 - c.args.evaluation.now.depth) _
+      value = rw (p.1, p.2) (fault_counted c.in_err-value.field-0.0 (most_evaluations - c.args.evaluation.now.depth) _
           c.deeper.new.evaluation.turns c.args.evaluation.now.turns here.calls here.env here.chain (term_of c.args.expr.now)
           c.in_err-value.ensures.value);
       kept = c.in_err-value.ensures.kept;
@@ -59,7 +60,7 @@ pub evaluate-returns : goal.evaluate-returns
 evaluate-returns t c =
     let here = setting_here c.args.evaluation.now in
     record {
-      value = value_counted c.counted.result (512 - c.args.evaluation.now.depth) c.counted.new.evaluation.turns
+      value = value_counted c.counted.result (most_evaluations - c.args.evaluation.now.depth) c.counted.new.evaluation.turns
           c.args.evaluation.now.turns c.deeper.new.evaluation.turns here.calls here.env here.chain (term_of c.args.expr.now)
           (bounded_val c.in_ok-value.value) c.place.result c.place.ensures c.in_ok-value.ensures.value
           c.counted.ensures.value;
@@ -716,7 +717,7 @@ function_call-returns-in_err-given t c =
     let here = setting_here e in
     record {
       value = rw (p.1, p.2) (if_err_at (λ (stop : Stop). (go : ℕ → ℕ → Outcome Val) (n : ℕ) → MeetsOutcome bounded_val (Err stop) n
-          (one_call_fewer (64 - e.calls) c.args.place (λ calls. turn c.args.place e.turns (go calls))))
+          (one_call_fewer (most_calls - e.calls) c.args.place (λ calls. turn c.args.place e.turns (go calls))))
           c.may_call.result c.in_err-given.field-0.0 c.in_err-given.ensures.err c.may_call.ensures.refused
           (λ calls turns. function_value (with_calls here calls) (function_of c.args.function) (arguments_of c.args.given) turns)
           e.turns);

@@ -21,6 +21,7 @@ use Rattle.scad_modules.specs.declared.effects.Effect.{Effect}
 use Rattle.scad_modules.specs.declared.table.BuiltinModule.{BuiltinModule}
 use Rattle.scad_modules.specs.View.{chosen_of, call_of}
 use Rattle.scad_design.specs.Designs.{moved_by}
+use Rattle.scad_evaluation.specs.Limits.{most_calls, most_turns}
 use Rattle.scad_evaluation.specs.Meaning.{Outcome, Gives, Faults, Opened, Within, no_call, with_variable, then_with, or_fault, one_call_fewer, turn, each_parameter, Arguments, Slots, Setting, Env}
 use Rattle.scad_evaluation.specs.View.{seen, source_text, arguments_of, slots_in, specials_in, values_seen, IsNoMemory}
 use Rattle.scad_evaluation.specs.Definitions.{statements_at}
@@ -584,12 +585,13 @@ module_called-module_with_specials-requires t c =
     )
 
 -- a module called from where its call was counted
-module_counted : (m : InstanceEvaluator) (calls turns : ℕ) (place : Place) (go : ℕ → ℕ → Outcome InstanceDesign) → m.evaluation.calls < 64 → m.evaluation.turns < 100000
-    → calls ≡ 64 - (m.evaluation.calls + 1) → turns ≡ m.evaluation.turns + 1
-    → one_call_fewer (64 - m.evaluation.calls) place (λ calls. turn place m.evaluation.turns (go calls)) ≡ go calls turns
+module_counted : (m : InstanceEvaluator) (calls turns : ℕ) (place : Place) (go : ℕ → ℕ → Outcome InstanceDesign)
+    → m.evaluation.calls < most_calls → m.evaluation.turns < most_turns
+    → calls ≡ most_calls - (m.evaluation.calls + 1) → turns ≡ m.evaluation.turns + 1
+    → one_call_fewer (most_calls - m.evaluation.calls) place (λ calls. turn place m.evaluation.turns (go calls)) ≡ go calls turns
 module_counted m calls turns place go few some is more =
     call_counted m.evaluation.calls place (λ calls. turn place m.evaluation.turns (go calls)) few
-    ∙ turn_counted place m.evaluation.turns (go (64 - (m.evaluation.calls + 1))) some
+    ∙ turn_counted place m.evaluation.turns (go (most_calls - (m.evaluation.calls + 1))) some
     ∙ ap (λ n. go n (m.evaluation.turns + 1)) (sym is) ∙ ap (λ n. go calls n) (sym more)
 
 pub module_called-returns-in_err-made-clause-made : goal.module_called-returns-in_err-made-clause-made
@@ -601,12 +603,12 @@ module_called-returns-in_err-made-clause-made t c =
     let counted : CountsCall m mid = OnOk-at_ok ok.1 c.begin_counted_call-begun.ensures.counted in
     rw (p.1, p.2) (record {
       by = λ judge right.
-          along (module_counted m (64 - (m.evaluation.calls + 1)) mid.evaluation.turns c.args.place
+          along (module_counted m (most_calls - (m.evaluation.calls + 1)) mid.evaluation.turns c.args.place
           (λ calls turns. module_given (evaluator_at m judge) (module_of c.args.defined, env_at m c.args.home)
           (arguments_of c.args.given) (body_seen c.args.body) (with_calls_left (context_at m c.args.position) calls) turns m.leaves)
           counted.begun.within counted.few refl counted.turns
           ∙ ap (λ (given : GivenArguments BoundedValue). module_given (evaluator_at m judge) (module_of c.args.defined, env_at m c.args.home)
-          (arguments_of given) (body_seen c.args.body) (with_calls_left (context_at m c.args.position) (64 - (m.evaluation.calls + 1))) mid.evaluation.turns m.leaves) (sym ok.0))
+          (arguments_of given) (body_seen c.args.body) (with_calls_left (context_at m c.args.position) (most_calls - (m.evaluation.calls + 1))) mid.evaluation.turns m.leaves) (sym ok.0))
           (call_meets (λ (x : Source) (rows : List Row) evaluator. module_given evaluator (module_of c.args.defined, seen x rows c.args.home) (arguments_of c.in_ok-given.given) (body_seen c.args.body))
           m mid c.module_with_specials.new.self c.args.position counted.unit counted.leaves counted.begun c.in_err-made.ensures.made judge right);
     })
@@ -620,12 +622,12 @@ module_called-returns-clause-made t c =
     record {
       by = λ judge right.
           outcome_with c.end_call.ensures.turns
-          (along (module_counted m (64 - (m.evaluation.calls + 1)) mid.evaluation.turns c.args.place
+          (along (module_counted m (most_calls - (m.evaluation.calls + 1)) mid.evaluation.turns c.args.place
           (λ calls turns. module_given (evaluator_at m judge) (module_of c.args.defined, env_at m c.args.home)
           (arguments_of c.args.given) (body_seen c.args.body) (with_calls_left (context_at m c.args.position) calls) turns m.leaves)
           counted.begun.within counted.few refl counted.turns
           ∙ ap (λ (given : GivenArguments BoundedValue). module_given (evaluator_at m judge) (module_of c.args.defined, env_at m c.args.home)
-          (arguments_of given) (body_seen c.args.body) (with_calls_left (context_at m c.args.position) (64 - (m.evaluation.calls + 1))) mid.evaluation.turns m.leaves) (sym ok.0))
+          (arguments_of given) (body_seen c.args.body) (with_calls_left (context_at m c.args.position) (most_calls - (m.evaluation.calls + 1))) mid.evaluation.turns m.leaves) (sym ok.0))
           (call_meets (λ (x : Source) (rows : List Row) evaluator. module_given evaluator (module_of c.args.defined, seen x rows c.args.home) (arguments_of c.in_ok-given.given) (body_seen c.args.body))
           m mid c.module_with_specials.new.self c.args.position counted.unit counted.leaves counted.begun c.in_ok-made.ensures.made judge right));
     }

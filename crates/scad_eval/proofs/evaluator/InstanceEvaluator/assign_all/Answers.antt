@@ -8,6 +8,7 @@ use Rattle.scad_eval.proofs.Outcomes.{along}
 use Rattle.scad_meaning.proofs.Judges.{some_judge}
 use Rattle.scad_eval.proofs.Contexts.{assigns_then}
 use Rattle.scad_eval.proofs.evaluator.InstanceEvaluator.assign_all.Goals as goal
+use Rattle.scad_evaluation.specs.Limits.{most_evaluations}
 
 pub each-preserved : goal.each-preserved
 each-preserved c =
@@ -23,7 +24,7 @@ each-preserved c =
       assigns = assigns_then inv.assigns g.assigns;
       told = λ s. assigned_next (each_assigned (evaluations_left old) (context_at old s) (map assigned_of xs) old.evaluation.turns)
           (evaluations_left old) (evaluations_left here) (context_at here s) xs i c.assignment-item.result here.evaluation.turns
-          (inv.told s) (ap (λ n. 512 - n) inv.assigns.depth) h c.assignment-item.is
+          (inv.told s) (ap (λ n. most_evaluations - n) inv.assigns.depth) h c.assignment-item.is
           c.assign.new.self.evaluation.turns c.assign.new.self.leaves ((g.assigned s).by judge.0 judge.1);
     }
 
@@ -42,6 +43,6 @@ returns-in_err-assign-clause-assigned c = λ s.
           (sym (c.assignments-assignments.ensures c.requires.whole)))
           (assigned_stops (each_assigned (evaluations_left old) (context_at old s) (map assigned_of xs) old.evaluation.turns)
           (evaluations_left old) (evaluations_left here) (context_at here s) xs i c.assignment-item.result here.evaluation.turns
-          (inv.told s) (ap (λ n. 512 - n) inv.assigns.depth) h c.assignment-item.is _ _ _ _
+          (inv.told s) (ap (λ n. most_evaluations - n) inv.assigns.depth) h c.assignment-item.is _ _ _ _
           ((c.in_err-assign.ensures.assigned s).by judge right));
     })
