@@ -1,5 +1,6 @@
 ghost use Rattle.std.specs.Prelude.{◌≡◌, ◌+◌, ◌≤◌};
 ghost use Rattle.scad_evaluation.specs.Evaluations.{scopes_there};
+ghost use Rattle.scad_meaning.specs.Meaning.{most_leaves};
 
 use plane_predicate::Unit;
 use scad_evaluation::Evaluation;
@@ -11,6 +12,6 @@ pub struct InstanceEvaluator<'a, 's> {
     pub evaluation: Evaluation<'a, 's>,
     pub unit: Unit,
     pub leaves: u32,
-    ghost few_leaves: { leaves ≤ 1024 },
+    ghost few_leaves: { leaves ≤ most_leaves },
     ghost newest: { evaluation.scope + 1 ≡ scopes_there evaluation },
 }

@@ -1,6 +1,7 @@
 ghost use Rattle.std.specs.Prelude.{◌<◌, ◌≤◌, length, IsTrue};
 ghost use Rattle.scad_scope.specs.Numbered.{modules_below};
 ghost use Rattle.scad_scope.specs.Table.{rows_of};
+ghost use Rattle.scad_evaluation.specs.Limits.{most_calls, most_evaluations, most_turns};
 ghost use Rattle.scad_evaluation.specs.View.{IsNumbered, source_text};
 
 use crate::source::Source;
@@ -26,7 +27,7 @@ pub struct Evaluation<'a, 's> {
     ghost numbered: { IsNumbered source.now (rows_of scopes.now) },
     ghost modules: { IsTrue (modules_below (length (source_text source.now).modules) (rows_of scopes.now)) },
     ghost there: { scope < length (rows_of scopes.now) },
-    ghost few_calls: { calls ≤ 64 },
-    ghost shallow: { depth ≤ 512 },
-    ghost few_turns: { turns ≤ 100000 },
+    ghost few_calls: { calls ≤ most_calls },
+    ghost shallow: { depth ≤ most_evaluations },
+    ghost few_turns: { turns ≤ most_turns },
 }

@@ -1,6 +1,7 @@
 ghost use Rattle.std.specs.Prelude.{◌≡◌, ◌+◌, ◌<◌, IfErr, OnOk, OnErr};
 ghost use Rattle.text_place.specs.declared.fault.FaultKind.TheVariants.{TooDeep, TooManyTurns};
 ghost use Rattle.scad_arguments.specs.ArgumentsView.{IsFaultAt};
+ghost use Rattle.scad_evaluation.specs.Limits.{most_calls, most_evaluations, most_turns};
 ghost use Rattle.scad_evaluation.specs.Evaluations.{Keeps, CallBegins, EvaluationBegins};
 
 use crate::evaluation::Evaluation;
@@ -18,8 +19,8 @@ pub const TURNS: u64 = 100_000;
 impl Evaluation<'_, '_> {
     /// One turn more. TooManyTurns at its place where it is the 100,001st.
     pub fn turn(&mut self, place: Place) -> Result<(), Stop>
-        ensures counted { OnOk result ((self.old.turns < 100000) × (self.new.turns ≡ self.old.turns + 1)) }
-        ensures refused { IfErr result (λ stop. (self.old.turns ≡ 100000) × IsFaultAt stop TooManyTurns place) }
+        ensures counted { OnOk result ((self.old.turns < most_turns) × (self.new.turns ≡ self.old.turns + 1)) }
+        ensures refused { IfErr result (λ stop. (self.old.turns ≡ most_turns) × IsFaultAt stop TooManyTurns place) }
         ensures kept { Keeps self.old self.new }
     {
         if self.turns == TURNS {
@@ -32,7 +33,7 @@ impl Evaluation<'_, '_> {
     /// One call deeper. TooDeep at its place where it is the 65th in one another.
     pub fn begin_call(&mut self, place: Place) -> Result<(), Stop>
         ensures begun { OnOk result (CallBegins self.old self.new) }
-        ensures refused { IfErr result (λ stop. (self.old.calls ≡ 64) × IsFaultAt stop TooDeep place) }
+        ensures refused { IfErr result (λ stop. (self.old.calls ≡ most_calls) × IsFaultAt stop TooDeep place) }
         ensures kept { OnErr result (Keeps self.old self.new) }
         ensures turns { self.new.turns ≡ self.old.turns }
     {
@@ -55,7 +56,7 @@ impl Evaluation<'_, '_> {
     /// One evaluation deeper. TooDeep at its place where it is the 513th in one another.
     pub fn begin_evaluation(&mut self, place: Place) -> Result<(), Stop>
         ensures begun { OnOk result (EvaluationBegins self.old self.new) }
-        ensures refused { IfErr result (λ stop. (self.old.depth ≡ 512) × IsFaultAt stop TooDeep place) }
+        ensures refused { IfErr result (λ stop. (self.old.depth ≡ most_evaluations) × IsFaultAt stop TooDeep place) }
         ensures kept { OnErr result (Keeps self.old self.new) }
         ensures turns { self.new.turns ≡ self.old.turns }
     {

@@ -7,6 +7,7 @@ ghost use Rattle.scad_value.specs.Operators.{made, unary_of};
 ghost use Rattle.scad_value.specs.BoundedView.{bounded_val};
 ghost use Rattle.scad_arguments.specs.Arguments.{nothing_given};
 ghost use Rattle.scad_arguments.specs.ArgumentsView.{names_in};
+ghost use Rattle.scad_evaluation.specs.Limits.{most_calls, most_turns};
 ghost use Rattle.scad_evaluation.specs.Meaning.{Outcome, Gives, one_call_fewer, turn, then_with, answered, value_at, operand as operand_at, each_value as values_at, each_argument as arguments_at, each_parameter as parameters_at, parameter_value, function_value as function_value_at, function_called, each_suffix, each_link, called, function_in, counted as counted_at};
 ghost use Rattle.scad_answer.specs.Answers.{range_of, stepped_range_of};
 ghost use Rattle.scad_func.specs.Steps.{all_values, suffixed, linked, with_parameters};
@@ -543,9 +544,10 @@ fn counted(
 
 // Whether one call more, one call deeper, is within the limits. TooDeep goes before TooManyTurns.
 fn may_call(evaluation: &Evaluation<'_, '_>, place: Place) -> Result<(), Stop>
-    ensures within { OnOk result ((evaluation.now.calls < 64) × (evaluation.now.turns < 100000)) }
+    ensures within { OnOk result ((evaluation.now.calls < most_calls) × (evaluation.now.turns < most_turns)) }
     ensures refused { IfErr result (λ stop. (go : ℕ → ℕ → Outcome Val) (n : ℕ) →
-        MeetsOutcome bounded_val (Err stop) n (one_call_fewer (64 - evaluation.now.calls) place (λ calls. turn place evaluation.now.turns (go calls)))) }
+        MeetsOutcome bounded_val (Err stop) n
+        (one_call_fewer (most_calls - evaluation.now.calls) place (λ calls. turn place evaluation.now.turns (go calls)))) }
 {
     if evaluation.calls == CALLS {
         return Err(FaultKind::TooDeep.at(place));

@@ -7,6 +7,7 @@ ghost use Rattle.scad_blocks.specs.Blocks.{functions_of_program, modules_of_prog
 ghost use Rattle.scad_scope.specs.Table.{rows_of, chain_of};
 ghost use Rattle.scad_value.specs.Values.{is_bounded};
 ghost use Rattle.scad_value.specs.View.{val_of};
+ghost use Rattle.scad_evaluation.specs.Limits.{most_calls, most_evaluations};
 ghost use Rattle.scad_evaluation.specs.Meaning.{evaluated};
 ghost use Rattle.scad_evaluation.specs.Definitions.{env_in};
 ghost use Rattle.scad_evaluation.specs.View.{MeetsOutcome, IsNumbered, seen, source_text};
@@ -37,7 +38,7 @@ pub fn value_in(
     requires scope { scope < length (rows_of scopes.old) }
     requires numbered { IsNumbered source.now (rows_of scopes.old) }
     requires modules { IsTrue (modules_below (length (source_text source.now).modules) (rows_of scopes.old)) }
-    ensures value { MeetsOutcome val_of result meter.new.turns (evaluated (512 - meter.old.depth) true (64 - meter.old.calls)
+    ensures value { MeetsOutcome val_of result meter.new.turns (evaluated (most_evaluations - meter.old.depth) true (most_calls - meter.old.calls)
         (seen source.now (rows_of scopes.old) scope) (chain_of scopes.old) (term_of expr.now) meter.old.turns)
         × IfOk result (λ v. IsTrue (is_bounded (val_of v))) }
     ensures scopes { rows_of scopes.new ≡ rows_of scopes.old }
@@ -72,7 +73,7 @@ pub fn value_of(
     requires scope { scope < length (rows_of scopes.old) }
     requires numbered { IsTrue (functions_below (length (functions_of_program (program_of program.now))) (rows_of scopes.old)) }
     requires modules { IsTrue (modules_below (length (modules_of_program (program_of program.now))) (rows_of scopes.old)) }
-    ensures value { MeetsOutcome val_of result meter.new.turns (evaluated (512 - meter.old.depth) true (64 - meter.old.calls)
+    ensures value { MeetsOutcome val_of result meter.new.turns (evaluated (most_evaluations - meter.old.depth) true (most_calls - meter.old.calls)
         (env_in (numbered_text (program_of program.now)) (env_of (rows_of scopes.old) scope)) (chain_of scopes.old) (term_of expr.now) meter.old.turns)
         × IfOk result (λ v. IsTrue (is_bounded (val_of v))) }
     ensures scopes { rows_of scopes.new ≡ rows_of scopes.old }
