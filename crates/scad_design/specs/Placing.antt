@@ -15,23 +15,25 @@ use Rattle.scad_design.specs.Designs.{Design, empty, a_part, joined, Part}
 
 -- two planes of the same points
 abbrev pub same_points : Coefficients → Coefficients → Bool
-same_points m n = is_same m n || is_same m (opposite_of n)
+same_points one other = is_same one other || is_same one (opposite_of other)
 
+-- known planes, and behind them one that is not known
 abbrev pub if_new : Bool → List Coefficients → Coefficients → List Coefficients
-if_new true known m = known
-if_new false known m = known ++ m ∷ []
+if_new true known plane = known
+if_new false known plane = known ++ plane ∷ []
 
 -- known planes, and behind them those of a leaf that are new, up to orientation
 abbrev pub and_new : List Coefficients → List Coefficients → List Coefficients
 and_new known [] = known
-and_new known (m ∷ planes) = and_new (if_new (list_any (same_points m) known) known m) planes
+and_new known (plane ∷ planes) = and_new (if_new (list_any (same_points plane) known) known plane) planes
 
--- a part whose points all keep within 2^53 - 1 after each step, and within 4,095 at the end
+-- a part whose points all keep within 2^53 - 1 after each step
 abbrev pub StaysSafe : Part → Type 0
-StaysSafe part = All (λ p. StaysInRange part.steps (point_at p)) part.mesh.points
+StaysSafe part = All (λ point. StaysInRange part.steps (point_at point)) part.mesh.points
 
+-- a part whose points are all within 4,095 at the end
 abbrev pub EndsInReach : Part → Type 0
-EndsInReach part = All (λ p. IsInReach (image (map_of part.steps) (point_at p))) part.mesh.points
+EndsInReach part = All (λ point. IsInReach (image (map_of part.steps) (point_at point))) part.mesh.points
 
 -- the planes of a part in world position: those of its moved faces, of equal ones the first. Each face has one, with the
 -- body behind it
@@ -77,6 +79,7 @@ abbrev pub joined_placed : Op → Formula → Placed → Placed
 joined_placed op left (placed right known) = placed (join_of op left right) known
 joined_placed op left (unplaced kind at) = unplaced kind at
 
+-- the right side of a join, behind what placing the left one gave
 abbrev pub PlacesRight : (List Coefficients → Placed → Type 0) → Op → Placed → Placed → Type 0
 PlacesRight right op (unplaced kind at) out = out ≡ unplaced kind at
 PlacesRight right op (placed tree known) out = (next : Placed) × right known next × (out ≡ joined_placed op tree next)

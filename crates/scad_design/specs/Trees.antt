@@ -49,7 +49,7 @@ IsTrim (joined op left right) = IsPresent left × IsPresent right × IsTrim left
 
 -- steps that are not singular
 abbrev pub AreRegular : List Affine → Type 0
-AreRegular steps = All (λ s. determinant_of s ≡ pos 0 → ⊥) steps
+AreRegular steps = All (λ step. determinant_of step ≡ pos 0 → ⊥) steps
 
 -- a design of shapes, moved by steps that are not singular
 abbrev pub IsSound : Design → Type 0

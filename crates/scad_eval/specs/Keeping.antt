@@ -109,7 +109,7 @@ pub record Assigns (old new : InstanceEvaluator) : Type 0 where
   pub calls : new.evaluation.calls ≡ old.evaluation.calls
   pub depth : new.evaluation.depth ≡ old.evaluation.depth
 
--- what a step gives is what an equation says of where it stands, by whatever is right about shapes
+-- what the meaning gives by an evaluator, where an instance stands, and by the turns and the leaves so far
 abbrev pub Equation : Type 0 → Type 0
 Equation B = Evaluator → Context → ℕ → ℕ → Outcome B
 
@@ -121,5 +121,5 @@ pub record MeetsEquation {A B : Type 0} (see : ℕ → A → B) (old new : Insta
 
 -- what a counted call says that is refused
 abbrev pub StopsBefore : Evaluation → Place → Stop → Type 0
-StopsBefore e at stop = (go : ℕ → ℕ → Outcome InstanceDesign) (n l : ℕ) → HasOutcome instance_design_of (Err stop) n l
-    (one_call_fewer (most_calls - e.calls) at (λ calls. turn at e.turns (go calls)))
+StopsBefore evaluation at stop = (go : ℕ → ℕ → Outcome InstanceDesign) (turns leaves : ℕ) → HasOutcome instance_design_of (Err stop) turns leaves
+    (one_call_fewer (most_calls - evaluation.calls) at (λ calls. turn at evaluation.turns (go calls)))

@@ -14,8 +14,8 @@ use Rattle.scad_pieces.specs.Seen.{HasOutcome}
 
 -- the design of a program, or its fault, unless memory ran out
 abbrev pub MeetsDesign : LengthUnit → List StatementTerm → Result DesignIn Stop → Type 0
-MeetsDesign unit program r = (judge : Judge) → IsRight judge →
-    (turns : ℕ) × HasOutcome (λ leaves. plain_of) r turns 0 (design_of unit judge first_chain (statements_from program))
+MeetsDesign unit program result = (judge : Judge) → IsRight judge →
+    (turns : ℕ) × HasOutcome (λ leaves. plain_of) result turns 0 (design_of unit judge first_chain (statements_from program))
 
 -- the table of scopes that evaluation begins with
 pub record IsFirstTable (scopes : Scopes) : Type 0 where

@@ -19,7 +19,7 @@ named name None pairs = pairs
 -- names with the definitions of their numbers, of which those that stand for nothing are left out
 abbrev pub resolved : {A : Type 0} → List A → Pairs ℕ → Pairs A
 resolved all [] = []
-resolved all (p ∷ ps) = named p.0 (numbered all p.1) (resolved all ps)
+resolved all (pair ∷ pairs) = named pair.0 (numbered all pair.1) (resolved all pairs)
 
 -- the statements of a block, by its number
 abbrev pub statements_at : NumberedText → ℕ → StatementTerms

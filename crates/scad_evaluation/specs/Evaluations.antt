@@ -11,28 +11,28 @@ use Rattle.scad_evaluation.specs.declared.evaluation.Evaluation.{Evaluation}
 
 -- how many scopes there are
 abbrev pub scopes_there : Evaluation → ℕ
-scopes_there e = length (rows_of e.scopes.now)
+scopes_there evaluation = length (rows_of evaluation.scopes.now)
 
 -- where an expression of a scope stands
 abbrev pub setting : Evaluation → ℕ → Setting
-setting e scope = record {
-  deeper = evaluated (most_evaluations - e.depth);
-  calls = most_calls - e.calls;
-  env = seen e.source.now (rows_of e.scopes.now) scope;
-  chain = chain_of e.scopes.now;
+setting evaluation scope = record {
+  deeper = evaluated (most_evaluations - evaluation.depth);
+  calls = most_calls - evaluation.calls;
+  env = seen evaluation.source.now (rows_of evaluation.scopes.now) scope;
+  chain = chain_of evaluation.scopes.now;
 }
 
 -- the scope in which is evaluated, with all that it stands in
 abbrev pub env_here : Evaluation → NumberedEnv
-env_here e = env_of (rows_of e.scopes.now) e.scope
+env_here evaluation = env_of (rows_of evaluation.scopes.now) evaluation.scope
 
 -- the same scope, with what its numbers stand for
 abbrev pub scope_here : Evaluation → Env
-scope_here e = seen e.source.now (rows_of e.scopes.now) e.scope
+scope_here evaluation = seen evaluation.source.now (rows_of evaluation.scopes.now) evaluation.scope
 
 -- where an expression of the scope in which is evaluated stands
 abbrev pub setting_here : Evaluation → Setting
-setting_here e = setting e e.scope
+setting_here evaluation = setting evaluation evaluation.scope
 
 -- the calls that are left, times more than any function is deep
 unfoldable pub work_left : Source → ℕ → ℕ

@@ -53,7 +53,7 @@ IsOneMore values (Err fault) (Err stop) = stop ≡ fault
 
 -- the values of slots, of which some are filled
 abbrev pub slot_of : Option BoundedValue → Option Val
-slot_of (Some v) = Some (bounded_val v)
+slot_of (Some value) = Some (bounded_val value)
 slot_of None = None
 
 -- the values of all slots
@@ -116,28 +116,28 @@ param_size (WithDefault at name value) = size-Expr value
 -- the greatest depth of the defaults of parameters
 abbrev pub params_size : List Param → ℕ
 params_size [] = 0
-params_size (p ∷ ps) = max (param_size p) (params_size ps)
+params_size (param ∷ params) = max (param_size param) (params_size params)
 
 -- the greatest depth of a function's value and of its defaults
 abbrev pub function_size : Function → ℕ
-function_size f = max (size-Expr f.value.now) (params_size f.params.now.items.items)
+function_size function = max (size-Expr function.value.now) (params_size function.params.now.items.items)
 
 -- the greatest depth of all functions
 abbrev pub deepest : List Function → ℕ
 deepest [] = 0
-deepest (f ∷ fs) = max (function_size f) (deepest fs)
+deepest (function ∷ functions) = max (function_size function) (deepest functions)
 
 -- a value, or undef where there is none
 abbrev pub or_undef : Option Val → Val
-or_undef (Some v) = v
+or_undef (Some value) = value
 or_undef None = UndefVal
 
 -- the value of what is indexed: that of a variable, or one that an expression gave
 abbrev pub indexed_val : NumberedEnv → Indexed → Val
 indexed_val env (Variable name) = or_undef (variable_in env name.now)
-indexed_val env (Value v) = bounded_val v
+indexed_val env (Value value) = bounded_val value
 
 -- what is indexed has a value
 abbrev pub IsThere : NumberedEnv → Indexed → Type 0
 IsThere env (Variable name) = IsTrue (is_some (variable_in env name.now))
-IsThere env (Value v) = Unit {0}
+IsThere env (Value value) = Unit {0}

@@ -36,20 +36,20 @@ have_no_names (and_positional value rest) = have_no_names rest
 
 -- an index or a member of a value
 abbrev pub suffixed : Setting → Val → SuffixTerm → ℕ → Outcome Val
-suffixed here v (IndexTerm at index) turns =
-    then_with (value_at here true index turns) (λ turns w. answered (index_of v w) at turns)
-suffixed here v (MemberTerm at name name_at) turns =
-    or_fault (member_of name) NotInProfile name_at (λ n. answered (index_of v (NumberVal n)) at turns)
+suffixed here value (IndexTerm at index) turns =
+    then_with (value_at here true index turns) (λ turns number. answered (index_of value number) at turns)
+suffixed here value (MemberTerm at name name_at) turns =
+    or_fault (member_of name) NotInProfile name_at (λ number. answered (index_of value (NumberVal number)) at turns)
 
 -- an operator and its right side
 abbrev pub linked : Setting → Val → LinkTerm → ℕ → Outcome Val
-linked here v link turns =
-    if wants_right link.op v
+linked here value link turns =
+    if wants_right link.op value
     then then_with (operand here link.right turns)
-    (λ turns w. answered (binary_of link.op v w) link.at turns)
-    else Gives turns (TruthVal (truth_of v))
+    (λ turns other. answered (binary_of link.op value other) link.at turns)
+    else Gives turns (TruthVal (truth_of value))
 
 -- the value of a function whose parameters have values, in a scope of its own
 abbrev pub with_parameters : Setting → SourceFunction → Vals → ℕ → Outcome Val
-with_parameters home f vs turns =
-    value_at (in_scope home (Within (paired (names_of f.params) vs []) [] [] no_call home.env)) true f.value turns
+with_parameters home function values turns =
+    value_at (in_scope home (Within (paired (names_of function.params) values []) [] [] no_call home.env)) true function.value turns

@@ -10,38 +10,38 @@ use Rattle.scad_evaluation.specs.Meaning.{Env, module_in}
 
 -- whether an assignment's name is among those of others
 abbrev pub is_named_in : List Assigned → Assigned → Bool
-is_named_in others a = list_any (same_name a) others
+is_named_in others assignment = list_any (same_name assignment) others
 
--- the first and the last assignment of a name
+-- the first of these assignments that has the name of another one
 abbrev pub first_of : Assigned → List Assigned → Option Assigned
-first_of a [] = None
-first_of a (b ∷ bs) = if same_name a b then Some b else first_of a bs
+first_of named [] = None
+first_of named (assignment ∷ rest) = if same_name named assignment then Some assignment else first_of named rest
 
 -- the later of two assignments, where there is one
 abbrev pub or_later : Option Assigned → Option Assigned → Option Assigned
 or_later earlier None = earlier
-or_later earlier (Some b) = Some b
+or_later earlier (Some later) = Some later
 
--- the last assignment of a name
+-- the last of these assignments that has the name of another one
 abbrev pub last_of : Assigned → List Assigned → Option Assigned
-last_of a [] = None
-last_of a (b ∷ bs) = or_later (if same_name a b then Some b else None) (last_of a bs)
+last_of named [] = None
+last_of named (assignment ∷ rest) = or_later (if same_name named assignment then Some assignment else None) (last_of named rest)
 
 -- an assignment that stands for all of its name: it has the value of the last one, at the place of the first one
-pub record StandsForAll (assignments : List Assigned) (a : Assigned) : Type 0 where
-  pub last : option_map (λ b. b.value) (last_of a assignments) ≡ Some a.value
-  pub first : option_map (λ b. b.at) (first_of a assignments) ≡ Some a.at
+pub record StandsForAll (assignments : List Assigned) (assignment : Assigned) : Type 0 where
+  pub last : option_map (λ found. found.value) (last_of assignment assignments) ≡ Some assignment.value
+  pub first : option_map (λ found. found.at) (first_of assignment assignments) ≡ Some assignment.at
 
 -- assignments to different names
 abbrev pub HaveOwnNames : List Assigned → Type 0
 HaveOwnNames [] = ⊤
-HaveOwnNames (a ∷ as_) = (is_named_in as_ a ≡ false) × HaveOwnNames as_
+HaveOwnNames (assignment ∷ rest) = (is_named_in rest assignment ≡ false) × HaveOwnNames rest
 
 -- the instances of a body in order
 abbrev mutual
   pub instances_in : StatementTerms → List InstanceTerm
   instances_in no_statements = []
-  instances_in (and_statement s rest) = instances_of s ++ instances_in rest
+  instances_in (and_statement statement rest) = instances_of statement ++ instances_in rest
 
   pub instances_of : StatementTerm → List InstanceTerm
   instances_of (EmptyStatement at) = []
@@ -52,7 +52,7 @@ abbrev mutual
   instances_of (FunctionTerm at name name_at params value) = []
   instances_of (InstanceStatement instance) = instance ∷ []
 
--- modifiers
+-- whether a modifier switches an instance off, as `*` and `%` do
 abbrev pub switches_off : Modifier → Bool
 switches_off Disable = true
 switches_off Background = true
@@ -68,11 +68,11 @@ is_root Root = true
 
 -- an instance that is evaluated: one marked `*` or `%` counts as not written
 abbrev pub is_on : InstanceTerm → Bool
-is_on (AnInstance at marks core) = not (list_any (λ m. switches_off m.modifier) marks)
+is_on (AnInstance at marks core) = not (list_any (λ mark. switches_off mark.modifier) marks)
 
 -- an instance marked `!`
 abbrev pub is_marked : InstanceTerm → Bool
-is_marked (AnInstance at marks core) = list_any (λ m. is_root m.modifier) marks
+is_marked (AnInstance at marks core) = list_any (λ mark. is_root mark.modifier) marks
 
 -- the instances of a body that are evaluated
 abbrev pub evaluated_in : StatementTerms → List InstanceTerm
@@ -101,5 +101,5 @@ has_no_items (x ∷ xs) = false
 abbrev pub is_bare : BodyTerm → Bool
 is_bare (EmptyBody at) = true
 is_bare (BlockBody at no_statements) = true
-is_bare (BlockBody at (and_statement s rest)) = false
+is_bare (BlockBody at (and_statement statement rest)) = false
 is_bare (InstanceBody instance) = false

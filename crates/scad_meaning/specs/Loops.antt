@@ -21,13 +21,13 @@ numbers_of_range from step upto = numbers_by (count_of_range from step upto) fro
 -- numbers as values
 abbrev pub number_vals : List ℤ → Vals
 number_vals [] = no_vals
-number_vals (n ∷ ns) = and_val (NumberVal n) (number_vals ns)
+number_vals (number ∷ numbers) = and_val (NumberVal number) (number_vals numbers)
 
 -- the items of a list, or the numbers of a range
 abbrev pub items_of : Val → Option Vals
 items_of (ListVal items) = Some items
 items_of (RangeVal from step upto) = Some (number_vals (numbers_of_range from step upto))
-items_of v = None
+items_of value = None
 
 -- the item of a number, where there is one
 abbrev pub nth_item : {A : Type 0} → List A → ℕ → List A
@@ -43,7 +43,7 @@ item_numbered xs (negsuc n) = []
 -- the items of numbers, in the order of the numbers
 abbrev pub items_numbered : {A : Type 0} → List A → List ℤ → List A
 items_numbered xs [] = []
-items_numbered xs (n ∷ ns) = item_numbered xs n ++ items_numbered xs ns
+items_numbered xs (number ∷ numbers) = item_numbered xs number ++ items_numbered xs numbers
 
 -- the chosen ones of some children, in the order in which they are chosen; a number that none has chooses nothing
 abbrev pub chosen_among : {A : Type 0} → List A → ChosenCall → List A

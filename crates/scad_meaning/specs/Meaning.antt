@@ -87,7 +87,7 @@ no_members leaves = record { leaves = leaves; designs = []; marked = None }
 
 -- one member, or none where the instance is no member
 abbrev pub as_member : Bool → InstanceDesign → MemberDesigns
-as_member is_member m = record { leaves = m.leaves; designs = if is_member then m.design ∷ [] else []; marked = m.marked }
+as_member is_member result = record { leaves = result.leaves; designs = if is_member then result.design ∷ [] else []; marked = result.marked }
 
 -- members before others
 abbrev pub and_members : MemberDesigns → MemberDesigns → MemberDesigns
@@ -99,11 +99,11 @@ and_members first later = record {
 
 -- members joined by an operation
 abbrev pub joined_members : Op → MemberDesigns → InstanceDesign
-joined_members op ms = record { leaves = ms.leaves; design = grouped op ms.designs; marked = ms.marked }
+joined_members op members = record { leaves = members.leaves; design = grouped op members.designs; marked = members.marked }
 
 -- what an instance gives, with its design moved
 abbrev pub moved_design : (Design → Design) → InstanceDesign → InstanceDesign
-moved_design move m = record { leaves = m.leaves; design = move m.design; marked = m.marked }
+moved_design move result = record { leaves = result.leaves; design = move result.design; marked = result.marked }
 
 -- how an instance is evaluated: by where it stands, the instance, and the turns and the leaves so far
 abbrev pub EvaluatesInstance : Type 0
@@ -119,19 +119,21 @@ pub record Evaluator : Type 0 where
 
 -- the value of an assignment: its statement is one evaluation deeper, and its expression one more
 abbrev pub assigned_value : ℕ → Context → Assigned → ℕ → Outcome Val
-assigned_value zero here a turns = Faults TooDeep a.at
-assigned_value (suc evaluations) here a turns = value_at (setting evaluations here) true a.value turns
+assigned_value zero here assignment turns = Faults TooDeep assignment.at
+assigned_value (suc evaluations) here assignment turns = value_at (setting evaluations here) true assignment.value turns
 
 -- the context with one more assignment: a special name goes on the chain, a variable into the scope
 abbrev pub assigned : Assigned → Val → Context → Context
-assigned a v here =
-    if a.special then with_chain here ((a.name, v) ∷ here.chain) else inside_scope here (with_variable a.name v here.env)
+assigned assignment value here =
+    if assignment.special then with_chain here ((assignment.name, value) ∷ here.chain)
+    else inside_scope here (with_variable assignment.name value here.env)
 
 -- the scope with its assignments, from the first on
 abbrev pub each_assigned : ℕ → Context → List Assigned → ℕ → Outcome Context
 each_assigned evaluations here [] turns = Gives turns here
-each_assigned evaluations here (a ∷ as_) turns =
-    then_with (assigned_value evaluations here a turns) (λ turns v. each_assigned evaluations (assigned a v here) as_ turns)
+each_assigned evaluations here (assignment ∷ rest) turns =
+    then_with (assigned_value evaluations here assignment turns) (λ turns value.
+    each_assigned evaluations (assigned assignment value here) rest turns)
 
 -- instances in order; those that only say something are no members
 abbrev pub core_of : InstanceTerm → CoreTerm
@@ -140,10 +142,10 @@ core_of (AnInstance at marks core) = core
 -- what instances give as members, from the first on
 abbrev pub each_member : Evaluator → Context → List InstanceTerm → ℕ → ℕ → Outcome MemberDesigns
 each_member evaluator here [] turns leaves = Gives turns (no_members leaves)
-each_member evaluator here (i ∷ is) turns leaves =
-    then_with (evaluator.deeper here i turns leaves) (λ turns m.
-    then_with (each_member evaluator here is turns m.leaves) (λ turns ms.
-    Gives turns (and_members (as_member (if says_only here.env (core_of i) then false else true) m) ms)))
+each_member evaluator here (instance ∷ instances) turns leaves =
+    then_with (evaluator.deeper here instance turns leaves) (λ turns result.
+    then_with (each_member evaluator here instances turns result.leaves) (λ turns members.
+    Gives turns (and_members (as_member (if says_only here.env (core_of instance) then false else true) result) members)))
 
 -- the instances of a block that are evaluated, or the chosen ones of its children
 abbrev pub instances_chosen : Env → Option ChosenCall → StatementTerms → List InstanceTerm
@@ -168,23 +170,23 @@ each_in_body evaluator here body turns leaves =
 -- a body's members in a new scope, joined by an operation
 abbrev pub body_design : Evaluator → Op → Context → BodyTerm → ℕ → ℕ → Outcome InstanceDesign
 body_design evaluator op here body turns leaves =
-    then_with (each_in_body evaluator here body turns leaves) (λ turns ms. Gives turns (joined_members op ms))
+    then_with (each_in_body evaluator here body turns leaves) (λ turns members. Gives turns (joined_members op members))
 
 -- A step of a loop after which nothing followed counts one turn when it ends
 abbrev pub after_step : Place → List Design → ℕ → (ℕ → Outcome MemberDesigns) → Outcome MemberDesigns
 after_step at [] turns go = turn at turns go
-after_step at (d ∷ ds) turns go = go turns
+after_step at (design ∷ designs) turns go = go turns
 
 -- a step of a loop with the turn that it counts when it ends
 abbrev pub counted_step : Place → Outcome MemberDesigns → Outcome MemberDesigns
-counted_step at step = then_with step (λ turns ms. after_step at ms.designs turns (λ turns. Gives turns ms))
+counted_step at step = then_with step (λ turns members. after_step at members.designs turns (λ turns. Gives turns members))
 
 -- for each item of a list the members that its step gives
 abbrev pub each_step : Place → (Val → ℕ → ℕ → Outcome MemberDesigns) → Vals → ℕ → ℕ → Outcome MemberDesigns
 each_step at step no_vals turns leaves = Gives turns (no_members leaves)
-each_step at step (and_val v vs) turns leaves =
-    then_with (counted_step at (step v turns leaves)) (λ turns ms.
-    then_with (each_step at step vs turns ms.leaves) (λ turns more. Gives turns (and_members ms more)))
+each_step at step (and_val item items) turns leaves =
+    then_with (counted_step at (step item turns leaves)) (λ turns members.
+    then_with (each_step at step items turns members.leaves) (λ turns more. Gives turns (and_members members more)))
 
 -- a variable of a loop, in a scope of its own
 abbrev pub in_loop : Context → List ℕ → Val → Context
@@ -195,17 +197,17 @@ in_loop here name value = inside_scope here (Within ((name, value) ∷ []) [] []
 abbrev pub each_turn : Evaluator → Place → List BinderTerm → BodyTerm → Context → ℕ → ℕ → Outcome MemberDesigns
 each_turn evaluator at [] body here turns leaves =
     turn at turns (λ turns.
-    then_with (body_design evaluator Union here body turns leaves) (λ turns m.
-    Gives turns (as_member true m)))
-each_turn evaluator at (b ∷ bs) body here turns leaves =
-    then_with (value_at (setting evaluator.evaluations here) true b.values turns) (λ turns v.
-    or_fault (items_of v) TypeMismatch at (λ items.
-    each_step at (λ item. each_turn evaluator at bs body (in_loop here b.name item)) items turns leaves))
+    then_with (body_design evaluator Union here body turns leaves) (λ turns result.
+    Gives turns (as_member true result)))
+each_turn evaluator at (binder ∷ binders) body here turns leaves =
+    then_with (value_at (setting evaluator.evaluations here) true binder.values turns) (λ turns value.
+    or_fault (items_of value) TypeMismatch at (λ items.
+    each_step at (λ item. each_turn evaluator at binders body (in_loop here binder.name item)) items turns leaves))
 
 -- the turns of a loop, joined by an operation
 abbrev pub loop_design : Evaluator → Op → Context → Place → List BinderTerm → BodyTerm → ℕ → ℕ → Outcome InstanceDesign
 loop_design evaluator op here at binders body turns leaves =
-    then_with (each_turn evaluator at binders body here turns leaves) (λ turns ms. Gives turns (joined_members op ms))
+    then_with (each_turn evaluator at binders body here turns leaves) (λ turns members. Gives turns (joined_members op members))
 
 -- the most leaves of one design
 abbrev pub most_leaves : ℕ
@@ -226,14 +228,14 @@ checked (Some kind) at next = Faults kind at
 -- the hull of what children give, as one leaf more behind theirs, in place of their design; where that is nothing, there is no
 -- hull
 abbrev pub hulled : InstanceDesign → InstanceDesign → InstanceDesign
-hulled m leaf = record { leaves = leaf.leaves; design = leaf.design; marked = m.marked }
+hulled result leaf = record { leaves = leaf.leaves; design = leaf.design; marked = result.marked }
 
 -- the hull of what children give, which counts as one leaf more
 abbrev pub hull_design : Verdict → Place → InstanceDesign → ℕ → Outcome InstanceDesign
-hull_design verdict at m turns =
-    if is_nothing m.design then Gives turns m
+hull_design verdict at result turns =
+    if is_nothing result.design then Gives turns result
     else checked verdict at
-    (then_with (leaf_design at (hull_mesh m.design) turns m.leaves) (λ turns leaf. Gives turns (hulled m leaf)))
+    (then_with (leaf_design at (hull_mesh result.design) turns result.leaves) (λ turns leaf. Gives turns (hulled result leaf)))
 
 -- what follows from an answer, or its fault at a place
 abbrev pub answered_with : {A B : Type 0} → Answer A → Place → (A → Outcome B) → Outcome B
@@ -247,23 +249,24 @@ children_count caller children =
 
 -- the scope of a module's body
 abbrev pub module_scope : Env → SourceModule → Vals → StatementTerms → Env → Env
-module_scope home m vs children caller =
-    Within (children_count caller children ∷ paired (names_of m.params) vs [])
-    (functions_standing_in (statements_of_body m.body)) (modules_standing_in (statements_of_body m.body))
+module_scope home defined values children caller =
+    Within (children_count caller children ∷ paired (names_of defined.params) values [])
+    (functions_standing_in (statements_of_body defined.body)) (modules_standing_in (statements_of_body defined.body))
     (opened children caller) home
 
 -- its body, with the values of its parameters, and with its arguments, once its call is counted
 abbrev pub module_filled : Evaluator → SourceModule × Env → Vals → BodyTerm → Context → ℕ → ℕ → Outcome InstanceDesign
-module_filled evaluator found vs body here turns leaves =
-    then_with (each_in_scope evaluator (inside_scope here (module_scope found.1 found.0 vs (statements_of_body body) here.env)) (statements_of_body found.0.body) turns leaves) (λ turns ms.
-    Gives turns (joined_members Union ms))
+module_filled evaluator found values body here turns leaves =
+    then_with (each_in_scope evaluator (inside_scope here (module_scope found.1 found.0 values (statements_of_body body) here.env))
+    (statements_of_body found.0.body) turns leaves) (λ turns members.
+    Gives turns (joined_members Union members))
 
 -- a module with its arguments: its special arguments stand on the chain, and its defaults are evaluated in the scope of its definition
 abbrev pub module_given : Evaluator → SourceModule × Env → Arguments → BodyTerm → Context → ℕ → ℕ → Outcome InstanceDesign
 module_given evaluator found given body here turns leaves =
     let there = with_chain here (given.specials ++ here.chain) in
-    then_with (each_parameter (setting evaluator.evaluations (inside_scope there found.1)) found.0.params given.slots turns) (λ turns vs.
-    module_filled evaluator found vs body there turns leaves)
+    then_with (each_parameter (setting evaluator.evaluations (inside_scope there found.1)) found.0.params given.slots turns) (λ turns values.
+    module_filled evaluator found values body there turns leaves)
 
 -- a module of the source, one call deeper: its defaults in the scope of its definition, then its body
 abbrev pub module_design : Evaluator → Context → Place → SourceModule × Env → Arguments → BodyTerm → ℕ → ℕ → Outcome InstanceDesign
@@ -275,26 +278,26 @@ module_design evaluator here at found given body turns leaves =
 -- The arguments of `echo`, in order: a name may come twice, a special name may not
 abbrev pub each_said : Setting → ArgTerms → Arguments → ℕ → Outcome Arguments
 each_said here no_args given turns = Gives turns given
-each_said here (and_named at name value rest) given turns =
-    then_with (value_at here true value turns) (λ turns v. each_said here rest given turns)
-each_said here (and_special at name value rest) given turns =
-    or_fault (taker_of [] 0 given (SpecialArgTerm at name value)) BadArgument at (λ taker.
-    then_with (value_at here true value turns) (λ turns v. each_said here rest (with_argument given taker v) turns))
-each_said here (and_positional value rest) given turns =
-    then_with (value_at here true value turns) (λ turns v. each_said here rest given turns)
+each_said here (and_named at name expression rest) given turns =
+    then_with (value_at here true expression turns) (λ turns value. each_said here rest given turns)
+each_said here (and_special at name expression rest) given turns =
+    or_fault (taker_of [] 0 given (SpecialArgTerm at name expression)) BadArgument at (λ taker.
+    then_with (value_at here true expression turns) (λ turns value. each_said here rest (with_argument given taker value) turns))
+each_said here (and_positional expression rest) given turns =
+    then_with (value_at here true expression turns) (λ turns value. each_said here rest given turns)
 
 -- the arguments of a built-in module
 abbrev pub arguments_for : BuiltinModule → Setting → ArgTerms → ℕ → Outcome Arguments
 arguments_for Echo here args turns = each_said here args (nothing_given 0) turns
-arguments_for m here args turns =
-    each_argument here (parameters_of m) 0 args (nothing_given (length (parameters_of m))) turns
+arguments_for builtin here args turns =
+    each_argument here (parameters_of builtin) 0 args (nothing_given (length (parameters_of builtin))) turns
 
 -- The chosen children of the enclosing call, in a new scope inside its caller's, with the assignments of their body
 abbrev pub children_design : Evaluator → Context → Opened → ChosenCall → ℕ → ℕ → Outcome InstanceDesign
 children_design evaluator here no_call chosen turns leaves = Gives turns (no_design leaves)
 children_design evaluator here (opened children caller) chosen turns leaves =
-    then_with (block_members evaluator (Some chosen) children (inside_scope here (entered_scope children no_call caller)) turns leaves) (λ turns ms.
-    Gives turns (joined_members Union ms))
+    then_with (block_members evaluator (Some chosen) children (inside_scope here (entered_scope children no_call caller)) turns leaves) (λ turns members.
+    Gives turns (joined_members Union members))
 
 -- one call deeper
 abbrev pub chosen_children : Evaluator → Place → ChosenCall → Context → ℕ → ℕ → Outcome InstanceDesign
@@ -328,10 +331,10 @@ effect_design evaluator here at (a_solid call) body turns leaves =
     checked (evaluator.judge.solid evaluator.unit call) at (leaf_design at (solid_of evaluator.unit call) turns leaves)
 effect_design evaluator here at (a_flat call) body turns leaves = flat_design evaluator here.inside at call turns leaves
 effect_design evaluator here at (a_move steps) body turns leaves =
-    then_with (body_design evaluator Union here body turns leaves) (λ turns m. Gives turns (moved_design (moved_by steps) m))
+    then_with (body_design evaluator Union here body turns leaves) (λ turns result. Gives turns (moved_design (moved_by steps) result))
 effect_design evaluator here at (a_join op) body turns leaves = body_design evaluator op here body turns leaves
 effect_design evaluator here at a_hull body turns leaves =
-    then_with (body_design evaluator Union here body turns leaves) (λ turns m. hull_design (evaluator.judge.hull m.design) at m turns)
+    then_with (body_design evaluator Union here body turns leaves) (λ turns result. hull_design (evaluator.judge.hull result.design) at result turns)
 effect_design evaluator here at (an_extrusion center height) body turns leaves =
     checked (evaluator.judge.height evaluator.unit center height) at
     (body_design evaluator Union (inside_extrusion here (record { center = center; height = height })) body turns leaves)
@@ -341,18 +344,18 @@ effect_design evaluator here at (some_children chosen) body turns leaves = chose
 
 -- a built-in module with its arguments
 abbrev pub built_in_given : Evaluator → Place → BuiltinModule → Arguments → BodyTerm → Context → ℕ → ℕ → Outcome InstanceDesign
-built_in_given evaluator at m given body here turns leaves =
+built_in_given evaluator at builtin given body here turns leaves =
     let there = with_chain here (given.specials ++ here.chain) in
-    answered_with (effect_of evaluator.unit (is_some here.inside) (find_in there.chain (codes "fn")) m given.slots) at (λ effect.
+    answered_with (effect_of evaluator.unit (is_some here.inside) (find_in there.chain (codes "fn")) builtin given.slots) at (λ effect.
     effect_design evaluator there at effect body turns leaves)
 
 -- a call of a built-in module
 abbrev pub built_in_design : Evaluator → Context → Place → List ℕ → List ArgTerm → BodyTerm → Option BuiltinModule → ℕ → ℕ → Outcome InstanceDesign
 built_in_design evaluator here at name args body None turns leaves =
     Faults (if is_left_out name then NotInProfile else UnknownModule) at
-built_in_design evaluator here at name args body (Some m) turns leaves =
-    then_with (arguments_for m (setting evaluator.evaluations here) (args_from args) turns) (λ turns given.
-    built_in_given evaluator at m given body here turns leaves)
+built_in_design evaluator here at name args body (Some builtin) turns leaves =
+    then_with (arguments_for builtin (setting evaluator.evaluations here) (args_from args) turns) (λ turns given.
+    built_in_given evaluator at builtin given body here turns leaves)
 
 -- a call of a module: the source's go before built-in ones
 abbrev pub call_design : Evaluator → Context → Place → List ℕ → List ArgTerm → BodyTerm → Option (SourceModule × Env) → ℕ → ℕ → Outcome InstanceDesign
@@ -365,11 +368,11 @@ call_design evaluator here at name args body None turns leaves =
 -- what an instance without its modifiers gives
 abbrev pub core_design : Evaluator → Context → CoreTerm → ℕ → ℕ → Outcome InstanceDesign
 core_design evaluator here (IfTerm at test body) turns leaves =
-    then_with (value_at (setting evaluator.evaluations here) true test turns) (λ turns v.
-    if truth_of v then body_design evaluator Union here body turns leaves else Gives turns (no_design leaves))
+    then_with (value_at (setting evaluator.evaluations here) true test turns) (λ turns value.
+    if truth_of value then body_design evaluator Union here body turns leaves else Gives turns (no_design leaves))
 core_design evaluator here (IfElseTerm at test body other) turns leaves =
-    then_with (value_at (setting evaluator.evaluations here) true test turns) (λ turns v.
-    body_design evaluator Union here (if truth_of v then body else other) turns leaves)
+    then_with (value_at (setting evaluator.evaluations here) true test turns) (λ turns value.
+    body_design evaluator Union here (if truth_of value then body else other) turns leaves)
 core_design evaluator here (ForTerm at binders body) turns leaves =
     loop_design evaluator Union here at binders body turns leaves
 core_design evaluator here (IntersectionForTerm at binders body) turns leaves =
@@ -379,27 +382,28 @@ core_design evaluator here (ModuleCallTerm at name args body) turns leaves =
 
 -- what an instance gives that is marked `!`
 abbrev pub apart : InstanceDesign → InstanceDesign
-apart m = record { leaves = m.leaves; design = empty; marked = Some m.design }
+apart result = record { leaves = result.leaves; design = empty; marked = Some result.design }
 
 -- an instance inside a mark, or one that is not marked
 abbrev pub marked_design : Evaluator → Context → CoreTerm → ℕ → ℕ → Outcome InstanceDesign
 marked_design evaluator here core turns leaves =
     if here.under_mark then core_design evaluator here core turns leaves
-    else then_with (core_design evaluator (inside_mark here) core turns leaves) (λ turns m. Gives turns (apart m))
+    else then_with (core_design evaluator (inside_mark here) core turns leaves) (λ turns result. Gives turns (apart result))
 
 -- an instance: the outermost mark `!` counts, and then what it gives is no part of the design around it
 abbrev pub instance_design : Evaluator → EvaluatesInstance
-instance_design evaluator here i turns leaves =
-    if is_marked i
-    then (if is_some here.inside then Faults WrongDimension (place_of_core (core_of i))
-    else marked_design evaluator here (core_of i) turns leaves)
-    else core_design evaluator here (core_of i) turns leaves
+instance_design evaluator here instance turns leaves =
+    if is_marked instance
+    then (if is_some here.inside then Faults WrongDimension (place_of_core (core_of instance))
+    else marked_design evaluator here (core_of instance) turns leaves)
+    else core_design evaluator here (core_of instance) turns leaves
 
 -- with so many evaluations in one another left
 unfoldable pub design_within : LengthUnit → Judge → ℕ → EvaluatesInstance
-design_within unit judge zero here i turns leaves = Faults TooDeep (place_of_instance i)
-design_within unit judge (suc evaluations) here i turns leaves =
-    instance_design (record { unit = unit; judge = judge; evaluations = evaluations; deeper = design_within unit judge evaluations }) here i turns leaves
+design_within unit judge zero here instance turns leaves = Faults TooDeep (place_of_instance instance)
+design_within unit judge (suc evaluations) here instance turns leaves =
+    instance_design (record { unit = unit; judge = judge; evaluations = evaluations; deeper = design_within unit judge evaluations })
+    here instance turns leaves
 
 -- the evaluator with so many evaluations in one another left
 abbrev pub evaluator_with : LengthUnit → Judge → ℕ → Evaluator
@@ -409,5 +413,5 @@ evaluator_with unit judge evaluations =
 -- the design of a program, where all evaluations in one another are left
 unfoldable pub design_of : LengthUnit → Judge → Pairs Val → StatementTerms → Outcome Design
 design_of unit judge chain statements =
-    then_with (each_in_scope (evaluator_with unit judge most_evaluations) (program_context chain statements) statements 0 0) (λ turns ms.
-    Gives turns (or_all ms.marked ms.designs))
+    then_with (each_in_scope (evaluator_with unit judge most_evaluations) (program_context chain statements) statements 0 0) (λ turns members.
+    Gives turns (or_all members.marked members.designs))

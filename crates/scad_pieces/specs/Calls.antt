@@ -17,12 +17,12 @@ use Rattle.scad_modules.specs.View.{chosen_of, call_of}
 
 -- which children are chosen, where some are
 abbrev pub chosen_seen : Option (Bor Chosen) → Option ChosenCall
-chosen_seen = option_map (λ c. chosen_of c.now)
+chosen_seen = option_map (λ chosen. chosen_of chosen.now)
 
 -- the numbers by which children are chosen are at most 2^53 - 1 in size
 abbrev pub IsSafeChosen : Option (Bor Chosen) → Type 0
 IsSafeChosen None = Unit {0}
-IsSafeChosen (Some c) = IsSafeChoice (chosen_of c.now)
+IsSafeChosen (Some chosen) = IsSafeChoice (chosen_of chosen.now)
 
 -- the effect of a call, or its fault at a place, unless memory ran out
 abbrev pub MeetsEffectAt : Result Effect Stop → Place → Answer EffectCall → Type 0
@@ -32,8 +32,8 @@ MeetsEffectAt (Err NoMemory) at answer = Unit {0}
 
 -- the arguments of `echo` with one more, which gives something where it is a special one
 abbrev pub said_once : Setting → ArgTerm → Arguments → ℕ → Outcome Arguments
-said_once here (NamedTerm at name value) given turns = then_with (value_at here true value turns) (λ turns v. Gives turns given)
-said_once here (SpecialArgTerm at name value) given turns =
-    or_fault (taker_of [] 0 given (SpecialArgTerm at name value)) BadArgument at (λ taker.
-    then_with (value_at here true value turns) (λ turns v. Gives turns (with_argument given taker v)))
-said_once here (PositionalTerm value) given turns = then_with (value_at here true value turns) (λ turns v. Gives turns given)
+said_once here (NamedTerm at name expression) given turns = then_with (value_at here true expression turns) (λ turns value. Gives turns given)
+said_once here (SpecialArgTerm at name expression) given turns =
+    or_fault (taker_of [] 0 given (SpecialArgTerm at name expression)) BadArgument at (λ taker.
+    then_with (value_at here true expression turns) (λ turns value. Gives turns (with_argument given taker value)))
+said_once here (PositionalTerm expression) given turns = then_with (value_at here true expression turns) (λ turns value. Gives turns given)

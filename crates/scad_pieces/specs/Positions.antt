@@ -9,7 +9,7 @@ use Rattle.scad_pieces.specs.declared.numbered.NumberedInstance.{NumberedInstanc
 
 -- an instance without the numbers of its blocks
 abbrev pub term_of_numbered : NumberedInstance → InstanceTerm
-term_of_numbered i = instance_of i.instance.now
+term_of_numbered numbered = instance_of numbered.instance.now
 
 -- the bodies of a core stand in these blocks; the second one counts behind an `else` alone
 abbrev pub CoreHasBlocks : NumberedText → CoreTerm → ℕ → ℕ → Type 0
@@ -21,7 +21,7 @@ CoreHasBlocks text (ModuleCallTerm at name args body) block other = IsBlockOf te
 
 -- the bodies of an instance stand in its blocks
 abbrev pub HasBlocks : NumberedText → NumberedInstance → Type 0
-HasBlocks text i = CoreHasBlocks text (core_of (term_of_numbered i)) i.block i.other
+HasBlocks text numbered = CoreHasBlocks text (core_of (term_of_numbered numbered)) numbered.block numbered.other
 
 -- whether a core is a choice with an `else`
 abbrev pub has_else : CoreTerm → Bool

@@ -17,19 +17,23 @@ use Rattle.scad_meaning.specs.Meaning.{InstanceDesign, MemberDesigns, as_member,
 
 -- what an instance gave, with the leaves so far
 abbrev pub instance_design_of : ℕ → InstanceResult → InstanceDesign
-instance_design_of leaves m = record { leaves = leaves; design = plain_of m.design; marked = option_map plain_of m.marked }
+instance_design_of leaves result = record { leaves = leaves; design = plain_of result.design; marked = option_map plain_of result.marked }
 
 -- what members gave, with the leaves so far
 abbrev pub member_designs_of : ℕ → MemberResults → MemberDesigns
-member_designs_of leaves ms = record { leaves = leaves; designs = map plain_of ms.designs.items; marked = option_map plain_of ms.marked }
+member_designs_of leaves members = record {
+  leaves = leaves;
+  designs = map plain_of members.designs.items;
+  marked = option_map plain_of members.marked;
+}
 
 -- one member, or none where the instance is no member
 abbrev pub one_member_of : Bool → ℕ → InstanceResult → MemberDesigns
-one_member_of is_member leaves m = as_member is_member (instance_design_of leaves m)
+one_member_of is_member leaves result = as_member is_member (instance_design_of leaves result)
 
 -- what was given, with the turns and the leaves so far, or the fault, unless memory ran out
-pub record HasOutcome {A B : Type 0} (see : ℕ → A → B) (r : Result A Stop) (turns leaves : ℕ) (out : Outcome B) : Type 0 where
-  pub is : MeetsOutcome (see leaves) r turns out
+pub record HasOutcome {A B : Type 0} (see : ℕ → A → B) (result : Result A Stop) (turns leaves : ℕ) (out : Outcome B) : Type 0 where
+  pub is : MeetsOutcome (see leaves) result turns out
 
 -- members with those that are given next, unless memory ran out or nothing was given
 abbrev pub IsLengthened : {A : Type 0} → (ℕ → A → MemberDesigns) → MemberResults → Result A Stop → Result MemberResults Stop → Type 0
@@ -41,7 +45,7 @@ IsLengthened see before (Err fault) (Err stop) = stop ≡ fault
 
 -- what members give behind others
 abbrev pub in_front : MemberDesigns → Outcome MemberDesigns → Outcome MemberDesigns
-in_front before out = then_with out (λ turns ms. Gives turns (and_members before ms))
+in_front before out = then_with out (λ turns members. Gives turns (and_members before members))
 
 -- a stop of a shape, at a place
 abbrev pub IsStopAt : ShapeStop → Place → Stop → Type 0
@@ -50,5 +54,5 @@ IsStopAt shapes.NoMemory at stop = stop ≡ NoMemory
 
 -- a call that only says something gives nothing, or is refused where it has a body
 abbrev pub MeetsSilence : Result InstanceResult Stop → Place → BodyTerm → Type 0
-MeetsSilence r at body = (turns leaves : ℕ) → HasOutcome instance_design_of r turns leaves
+MeetsSilence result at body = (turns leaves : ℕ) → HasOutcome instance_design_of result turns leaves
     (if is_bare body then Gives turns (no_design leaves) else Faults NotInProfile at)
