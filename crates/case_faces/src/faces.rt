@@ -3,8 +3,8 @@
 ghost use Rattle.plane_predicate.specs.Space.{ComesInReach};
 
 use crate::numbers::planes_of;
-use crate::put::{put_list, put_planes};
-use case_lines::{CaseStop, put, put_number};
+use case_lines::{CaseStop, put, put_number, put_numbers};
+use case_planes::put_planes;
 use plane_predicate::Plane;
 use plane_table::{Edges, Face, Joined, OwnFace, half_face, join};
 use std::alloc::Global;
@@ -31,7 +31,7 @@ pub fn put_numbers_of(alloc: Global, out: &mut Vec<u8>, face: &Face) -> Result<(
     put(out, b" plane ")?;
     put_number(alloc, out, i128::from(face.plane))?;
     put(out, b" edges ")?;
-    put_list(alloc, out, face.edges.numbers())
+    put_numbers(alloc, out, face.edges.numbers())
 }
 
 // A list of edges with these numbers.
@@ -47,7 +47,7 @@ fn edges_of(alloc: Global, numbers: &[i64]) -> Result<Edges, CaseStop> {
 fn put_counted(alloc: Global, out: &mut Vec<u8>, edges: &Edges) -> Result<(), NoMemory> {
     put_number(alloc, out, edges.len() as i128)?;
     put(out, b" edges ")?;
-    put_list(alloc, out, edges.numbers())?;
+    put_numbers(alloc, out, edges.numbers())?;
     put(out, b" copy ")
 }
 
@@ -56,16 +56,16 @@ pub fn put_edges(alloc: Global, out: &mut Vec<u8>, numbers: &[i64]) -> Result<()
     let edges = edges_of(alloc, numbers)?;
     put_counted(alloc, out, &edges)?;
     let copied = edges.copy(alloc)?;
-    Ok(put_list(alloc, out, copied.numbers())?)
+    Ok(put_numbers(alloc, out, copied.numbers())?)
 }
 
 // A list in which two lists were joined, and the numbers that each of them has there.
 fn put_join(alloc: Global, out: &mut Vec<u8>, joined: &Joined) -> Result<(), NoMemory> {
     put_planes(alloc, out, &joined.planes)?;
     put(out, b" left ")?;
-    put_list(alloc, out, &joined.left)?;
+    put_numbers(alloc, out, &joined.left)?;
     put(out, b" right ")?;
-    put_list(alloc, out, &joined.right)
+    put_numbers(alloc, out, &joined.right)
 }
 
 /// The list in which two lists of planes are joined, and the numbers that each of them has there.

@@ -10,6 +10,6 @@ mod tables;
 
 pub use faces::put_face;
 pub use numbers::point;
-pub use put::{put_class, put_corners, put_plane};
+pub use put::{put_class, put_corners};
 pub use questions::put_about;
 pub use tables::{Tabling, put_tabled, tabling_of};

@@ -1,8 +1,8 @@
 //! Questions about planes that are given by their numbers.
 
-use crate::put::{put_plane, put_point, put_side};
+use crate::put::{put_point, put_side};
 use case_lines::{CaseStop, put, put_numbers};
-use case_planes::through;
+use case_planes::{put_plane, through};
 use plane_predicate::{Plane, Point, Side, meet, opposite, plane_of, point_side, reduce, side};
 use std::alloc::Global;
 use text_place::NoMemory;

@@ -8,8 +8,9 @@ ghost use Rattle.plane_table.specs.Cuts.{IsCrossing};
 ghost use Rattle.plane_table.specs.Joins.{AreNumbersOf};
 
 use crate::faces::put_numbers_of;
-use crate::put::{put_class, put_corners, put_list, put_planes};
-use case_lines::{CaseStop, found, put};
+use crate::put::{put_class, put_corners};
+use case_lines::{CaseStop, found, put, put_numbers};
+use case_planes::put_planes;
 use plane_polygon::Class;
 use plane_predicate::Plane;
 use plane_table::{
@@ -175,7 +176,7 @@ fn put_lying(
 fn put_kept(alloc: Global, out: &mut Vec<u8>, kept: &Numbered) -> Result<(), NoMemory> {
     put_planes(alloc, out, &kept.planes)?;
     put(out, b" numbers ")?;
-    put_list(alloc, out, &kept.numbers)
+    put_numbers(alloc, out, &kept.numbers)
 }
 
 // The planes of the table without those that the face does not name, and the numbers that they have in that list.

@@ -11,6 +11,18 @@ pub struct Phrase {
     pub numbers: Vec<i64>,
 }
 
+impl Phrase {
+    /// A number, or 0 where there is none, or a negative one.
+    pub fn number(&self, at: usize) -> u64 {
+        u64::try_from(self.numbers.get(at).copied().unwrap_or(0)).unwrap_or(0)
+    }
+
+    /// The same, or the greatest one of 32 bits where it is above that.
+    pub fn small_number(&self, at: usize) -> u32 {
+        u32::try_from(self.number(at)).unwrap_or(u32::MAX)
+    }
+}
+
 // A number with one digit more, where it is one.
 fn grown(number: i64, digit: u8) -> Option<i64> {
     if digit.is_ascii_digit() {
@@ -57,6 +69,15 @@ fn phrase_of(alloc: Global, text: &[u8]) -> Result<Phrase, NoMemory> {
         word: word.to_vec(alloc)?,
         numbers: numbers_of(alloc, rest)?,
     })
+}
+
+/// The parts of a case, a stroke `|` between two of them.
+pub fn parts_of(alloc: Global, text: &[u8]) -> Result<Vec<&[u8]>, NoMemory> {
+    let mut parts = Vec::new(alloc);
+    for part in text.split(|byte| *byte == b'|') {
+        parts.push(part)?;
+    }
+    Ok(parts)
 }
 
 /// The phrases of a text, a comma and a space between two of them.

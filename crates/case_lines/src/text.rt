@@ -17,15 +17,64 @@ pub fn put_number(alloc: Global, out: &mut Vec<u8>, number: i128) -> Result<(), 
     }
 }
 
-/// Numbers, a space between two of them.
-pub fn put_numbers(alloc: Global, out: &mut Vec<u8>, numbers: &[i128]) -> Result<(), NoMemory> {
-    for (i, number) in numbers.iter().enumerate() {
-        if i > 0 {
-            put(out, b" ")?;
-        }
-        put_number(alloc, out, *number)?;
+/// Items, a text between two of them.
+pub fn put_separated<T, F: Fn(&mut Vec<u8>, &T) -> Result<(), NoMemory>>(
+    out: &mut Vec<u8>,
+    items: &[T],
+    between: &[u8],
+    put_item: F,
+) -> Result<(), NoMemory>
+    requires { F.IsAlwaysCallable put_item }
+{
+    let Some((first, rest)) = items.split_first() else {
+        return Ok(());
+    };
+    put_item(out, first)?;
+    for item in rest {
+        put(out, between)?;
+        put_item(out, item)?;
     }
     Ok(())
+}
+
+/// Numbers, a space between two of them.
+pub fn put_numbers<N: Copy + Into<i128>>(
+    alloc: Global,
+    out: &mut Vec<u8>,
+    numbers: &[N],
+) -> Result<(), NoMemory> {
+    put_separated(
+        out,
+        numbers,
+        b" ",
+        |out: &mut Vec<u8>, number: &N| -> Result<(), NoMemory> {
+            put_number(alloc, out, (*number).into())
+        },
+    )
+}
+
+/// Numbers in parentheses.
+pub fn put_tuple<N: Copy + Into<i128>>(
+    alloc: Global,
+    out: &mut Vec<u8>,
+    numbers: &[N],
+) -> Result<(), NoMemory> {
+    put(out, b"(")?;
+    put_numbers(alloc, out, numbers)?;
+    put(out, b")")
+}
+
+/// The counts of a tally, and what all entries weigh.
+pub fn put_tally(
+    alloc: Global,
+    out: &mut Vec<u8>,
+    counts: &[u64],
+    weight: u64,
+) -> Result<(), NoMemory> {
+    put(out, b"tally ")?;
+    put_numbers(alloc, out, counts)?;
+    put(out, b" weight ")?;
+    put_number(alloc, out, i128::from(weight))
 }
 
 /// What stands before the first space, and what stands behind it.

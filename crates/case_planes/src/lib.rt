@@ -1,4 +1,5 @@
-//! What programs that answer cases of solids have in common: planes that phrases put, in reach of the world box, and texts.
+//! What programs that answer cases of planes and solids have in common: planes that phrases put, in reach of the world box,
+//! planes in words, and texts.
 #![tactic(auto)]
 
 mod laying;
@@ -6,5 +7,5 @@ mod told;
 mod walls;
 
 pub use laying::{Laying, lay, laying_of};
-pub use told::{put_stroked, unit_of};
+pub use told::{put_plane, put_planes, put_stroked, unit_of};
 pub use walls::{Walls, box_walls, high, low, slab_walls, through};

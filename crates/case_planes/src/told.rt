@@ -1,8 +1,21 @@
-//! Texts and their units.
+//! Planes in words, and texts and their units.
 
-use case_lines::CaseStop;
-use plane_predicate::Unit;
+use case_lines::{CaseStop, put_numbers, put_tuple};
+use plane_predicate::{Plane, Unit};
+use std::alloc::Global;
 use text_place::NoMemory;
+
+pub fn put_plane(alloc: Global, out: &mut Vec<u8>, plane: &Plane) -> Result<(), NoMemory> {
+    put_numbers(alloc, out, &[plane.a, plane.b, plane.c, plane.d])
+}
+
+/// Planes, each in parentheses.
+pub fn put_planes(alloc: Global, out: &mut Vec<u8>, planes: &[Plane]) -> Result<(), NoMemory> {
+    for plane in planes {
+        put_tuple(alloc, out, &[plane.a, plane.b, plane.c, plane.d])?;
+    }
+    Ok(())
+}
 
 /// The first bytes of a text in one line: a stroke stands for each newline.
 pub fn put_stroked(out: &mut Vec<u8>, text: &[u8], most: usize) -> Result<(), NoMemory> {

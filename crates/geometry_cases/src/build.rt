@@ -62,7 +62,7 @@ impl<'a, R: Threads + Sync> Bench<'a, R> {
         }
     }
 
-    /// Does what a phrase says, and writes what it asks.
+    /// Does what a phrase says, and writes what it asks. No trait's method: one doesn't know that workers may share `R`.
     pub fn follow(
         &mut self,
         alloc: Global,

@@ -4,7 +4,7 @@ ghost use Rattle.std.specs.Prelude.{◌≤◌, ◌^◌, length};
 
 use crate::program::put_of_program;
 use crate::text::put_stop;
-use case_lines::{cut, put, put_numbers, unfolded};
+use case_lines::{cut, put, put_number, put_separated, put_tuple, unfolded};
 use scad_ast::{Core, Program, Statement};
 use scad_lexer::lex;
 use scad_source::with_parsed;
@@ -17,7 +17,7 @@ fn column(place: Place) -> i128 {
 
 // The column of a statement, and of a choice those of its instance, its core and its two bodies, in parentheses.
 fn put_columns(alloc: Global, out: &mut Vec<u8>, statement: &Statement) -> Result<(), NoMemory> {
-    put_numbers(alloc, out, &[column(statement.place())])?;
+    put_number(alloc, out, column(statement.place()))?;
     let Statement::Instantiation(instance) = statement else {
         return Ok(());
     };
@@ -30,19 +30,16 @@ fn put_columns(alloc: Global, out: &mut Vec<u8>, statement: &Statement) -> Resul
         column(body.place()),
         column(other.place()),
     ];
-    put(out, b"(")?;
-    put_numbers(alloc, out, &columns)?;
-    put(out, b")")
+    put_tuple(alloc, out, &columns)
 }
 
 fn put_all(alloc: Global, out: &mut Vec<u8>, program: &Program) -> Result<(), NoMemory> {
-    for (i, statement) in program.statements.items.iter().enumerate() {
-        if i > 0 {
-            put(out, b" ")?;
-        }
-        put_columns(alloc, out, statement)?;
-    }
-    Ok(())
+    put_separated(
+        out,
+        &program.statements.items,
+        b" ",
+        |out, statement| put_columns(alloc, out, statement),
+    )
 }
 
 /// The columns of a source's statements, or its first fault.

@@ -3,7 +3,7 @@
 ghost use Rattle.std.specs.Prelude.{◌≤◌, ◌^◌, length};
 
 use crate::text::{put_place, put_stop};
-use case_lines::put;
+use case_lines::{put, put_separated};
 use scad_lexer::{Token, TokenKind, lex};
 use std::alloc::Global;
 use text_place::NoMemory;
@@ -24,13 +24,12 @@ fn put_token(alloc: Global, out: &mut Vec<u8>, token: &Token) -> Result<(), NoMe
 }
 
 fn put_all(alloc: Global, out: &mut Vec<u8>, tokens: &[Token]) -> Result<(), NoMemory> {
-    for (i, token) in tokens.iter().enumerate() {
-        if i > 0 {
-            put(out, b", ")?;
-        }
-        put_token(alloc, out, token)?;
-    }
-    Ok(())
+    put_separated(
+        out,
+        tokens,
+        b", ",
+        |out, token| put_token(alloc, out, token),
+    )
 }
 
 /// The tokens of a source, or its first fault.

@@ -4,13 +4,14 @@
 ghost use Rattle.std.specs.Prelude.{◌≤◌, ◌^◌, length};
 
 use crate::text::put_stop;
-use case_lines::put;
+use case_lines::{put, put_number};
+use case_planes::put_planes;
 use csg_tree::{CsgTree, Op};
 use plane_predicate::{Plane, Unit};
 use scad_eval::evaluate;
 use scad_source::with_program;
 use std::alloc::Global;
-use text_place::{NoMemory, push_decimal};
+use text_place::NoMemory;
 
 // Where the first of some planes with a normal stands.
 fn bound(planes: &[Plane], normal: (i64, i64, i64)) -> Option<i64> {
@@ -22,15 +23,11 @@ fn bound(planes: &[Plane], normal: (i64, i64, i64)) -> Option<i64> {
     None
 }
 
-fn put_number(alloc: Global, out: &mut Vec<u8>, number: i64) -> Result<(), NoMemory> {
-    push_decimal(alloc, out, i128::from(number))
-}
-
 // The two sides across an axis.
 fn put_sides(alloc: Global, out: &mut Vec<u8>, sides: (i64, i64)) -> Result<(), NoMemory> {
-    push_decimal(alloc, out, -i128::from(sides.0))?;
+    put_number(alloc, out, -i128::from(sides.0))?;
     put(out, b"..")?;
-    put_number(alloc, out, sides.1)
+    put_number(alloc, out, i128::from(sides.1))
 }
 
 fn sides(planes: &[Plane], low: (i64, i64, i64), high: (i64, i64, i64)) -> Option<(i64, i64)> {
@@ -57,18 +54,6 @@ fn box_sides(planes: &[Plane]) -> Option<BoxSides> {
     })
 }
 
-fn put_plane(alloc: Global, out: &mut Vec<u8>, plane: &Plane) -> Result<(), NoMemory> {
-    put(out, b"(")?;
-    put_number(alloc, out, plane.a)?;
-    put(out, b" ")?;
-    put_number(alloc, out, plane.b)?;
-    put(out, b" ")?;
-    put_number(alloc, out, plane.c)?;
-    put(out, b" ")?;
-    put_number(alloc, out, plane.d)?;
-    put(out, b")")
-}
-
 fn put_leaf(alloc: Global, out: &mut Vec<u8>, planes: &[Plane]) -> Result<(), NoMemory> {
     put(out, b"[")?;
     match box_sides(planes) {
@@ -79,11 +64,7 @@ fn put_leaf(alloc: Global, out: &mut Vec<u8>, planes: &[Plane]) -> Result<(), No
             put(out, b" ")?;
             put_sides(alloc, out, sides.z)?;
         }
-        None => {
-            for plane in planes {
-                put_plane(alloc, out, plane)?;
-            }
-        }
+        None => put_planes(alloc, out, planes)?,
     }
     put(out, b"]")
 }

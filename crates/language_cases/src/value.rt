@@ -3,35 +3,31 @@
 ghost use Rattle.std.specs.Prelude.{◌≤◌, ◌^◌, length};
 
 use crate::program::put_of_program;
-use case_lines::put;
+use case_lines::{put, put_number};
 use scad_ast::{Expr, Program, Statement};
 use scad_evaluation::{Meter, Source};
 use scad_func::value_in;
 use scad_scope::Scopes;
 use scad_value::{Value, Values};
 use std::alloc::Global;
-use text_place::{Fault, NoMemory, Stop, push_decimal, word};
-
-fn put_number(alloc: Global, out: &mut Vec<u8>, number: i64) -> Result<(), NoMemory> {
-    push_decimal(alloc, out, i128::from(number))
-}
+use text_place::{Fault, NoMemory, Stop, word};
 
 // A value, whose lists are shown to a depth.
 #[cycle(values)]
 fn put_value(alloc: Global, out: &mut Vec<u8>, value: &Value, depth: u32) -> Result<(), NoMemory> {
     match value {
-        Value::Number(n) => put_number(alloc, out, *n),
+        Value::Number(n) => put_number(alloc, out, i128::from(*n)),
         Value::Truth(true) => put(out, b"true"),
         Value::Truth(false) => put(out, b"false"),
         Value::Text(bytes) => put(out, bytes.items()),
         Value::List(_) if depth == 0 => put(out, b".."),
         Value::List(values) => put_values(alloc, out, values, depth - 1),
         Value::Range { from, by, upto } => {
-            put_number(alloc, out, *from)?;
+            put_number(alloc, out, i128::from(*from))?;
             put(out, b":")?;
-            put_number(alloc, out, *by)?;
+            put_number(alloc, out, i128::from(*by))?;
             put(out, b":")?;
-            put_number(alloc, out, *upto)
+            put_number(alloc, out, i128::from(*upto))
         }
         Value::Undef => put(out, b"undef"),
     }
@@ -54,7 +50,7 @@ fn put_values(
 
 // A fault with its column, counted from the one behind `x = `.
 fn put_fault(alloc: Global, out: &mut Vec<u8>, fault: Fault) -> Result<(), NoMemory> {
-    put_number(alloc, out, i64::from(fault.place.column) - 4)?;
+    put_number(alloc, out, i128::from(fault.place.column) - 4)?;
     put(out, b" ")?;
     put(out, word(fault.kind).as_bytes())
 }

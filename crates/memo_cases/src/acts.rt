@@ -1,8 +1,7 @@
 //! What callers do, and what they are answered.
 
 use crate::calls::put_fill;
-use crate::limits::{number_at, small_at};
-use case_lines::{CaseStop, Phrase, found, phrases_of, put, put_number};
+use case_lines::{CaseStop, Phrase, found, phrases_of, put, put_number, put_separated};
 use memo_core::Fill;
 use std::alloc::Global;
 use text_place::NoMemory;
@@ -57,18 +56,18 @@ const WORDS: [(&[u8], Word); 5] = [
 // Adds the acts that a phrase says.
 fn push_acts(acts: &mut Vec<Act>, phrase: &Phrase) -> Result<(), CaseStop> {
     let word = found(&WORDS, &phrase.word).ok_or(CaseStop::Unread)?;
-    let (key, second) = (small_at(phrase, 0), number_at(phrase, 1));
+    let (key, second) = (phrase.small_number(0), phrase.number(1));
     match word {
         Word::Finish => acts.push(Act::Claim {
             key,
             weight: Some(second),
-            meeting: number_at(phrase, 2),
+            meeting: phrase.number(2),
         })?,
         Word::FinishEach => {
-            for key in key..=small_at(phrase, 1) {
+            for key in key..=phrase.small_number(1) {
                 acts.push(Act::Claim {
                     key,
-                    weight: Some(number_at(phrase, 2)),
+                    weight: Some(phrase.number(2)),
                     meeting: 0,
                 })?;
             }
@@ -78,7 +77,7 @@ fn push_acts(acts: &mut Vec<Act>, phrase: &Phrase) -> Result<(), CaseStop> {
             weight: None,
             meeting: second,
         })?,
-        Word::Meet => acts.push(Act::Meet(number_at(phrase, 0)))?,
+        Word::Meet => acts.push(Act::Meet(phrase.number(0)))?,
         Word::Holders => acts.push(Act::Holders)?,
     }
     Ok(())
@@ -115,11 +114,10 @@ fn put_answer(alloc: Global, out: &mut Vec<u8>, answer: Answer) -> Result<(), No
 
 /// Writes answers, a comma and a space between two of them.
 pub fn put_answers(alloc: Global, out: &mut Vec<u8>, answers: &[Answer]) -> Result<(), NoMemory> {
-    for (place, answer) in answers.iter().enumerate() {
-        if place > 0 {
-            put(out, b", ")?;
-        }
-        put_answer(alloc, out, *answer)?;
-    }
-    Ok(())
+    put_separated(
+        out,
+        answers,
+        b", ",
+        |out, answer| put_answer(alloc, out, *answer),
+    )
 }

@@ -4,11 +4,11 @@ ghost use Rattle.std.specs.Prelude.{◌≡◌, ◌*◌, ◌<◌, ◌≤◌, []};
 ghost use Rattle.subtree_memo.specs.Shares.{IsOf};
 
 use crate::acts::{Act, Answer, acts_of};
-use crate::limits::{Limits, small_at};
+use crate::limits::Limits;
 use crate::meeting::Meeting;
 use crate::pieces::{LastDigits, Piece, Pieces};
 use crate::told::{Ended, put_ended};
-use case_lines::{CaseStop, Phrase, found, put};
+use case_lines::{CaseStop, Phrase, found, put_runs};
 use flight_memo::{Claim, Claimed, Flight, FlightBlanks, FlightBooks, FlightLedgers, FlightShare};
 use memo_core::MemoCore;
 use std::alloc::Global;
@@ -289,7 +289,7 @@ fn setting_of(phrases: &[Phrase]) -> Result<Setting, CaseStop> {
     };
     for phrase in phrases {
         match found(&WORDS, &phrase.word).ok_or(CaseStop::Unread)? {
-            Word::Times => setting.times = small_at(phrase, 0),
+            Word::Times => setting.times = phrase.small_number(0),
             Word::Told => setting.is_told = true,
             Word::Log => setting.has_log = true,
         }
@@ -305,9 +305,9 @@ fn put_run<R: Threads + Wait + Sync>(
     limits: Limits,
     setting: Setting,
     acts: (&[Act], &[Act]),
-) -> Result<(), NoMemory> {
+) -> Result<(), CaseStop> {
     let ended = two_callers(rt, alloc, limits, acts)?;
-    put_ended(alloc, out, &ended, setting.is_told, setting.has_log)
+    Ok(put_ended(alloc, out, &ended, setting.is_told, setting.has_log)?)
 }
 
 /// What is told of each run of two callers: one answer, where it is the same each time.
@@ -323,18 +323,12 @@ pub fn put_callers<R: Threads + Wait + Sync>(
     let firsts = acts_of(alloc, lists.first())?;
     let seconds = acts_of(alloc, lists.get(1))?;
     let acts = (firsts.as_slice(), seconds.as_slice());
-    let mut told = Vec::new(alloc);
-    put_run(rt, alloc, &mut told, limits, setting, acts)?;
-    for _ in 1..setting.times {
-        let mut again = Vec::new(alloc);
-        put_run(rt, alloc, &mut again, limits, setting, acts)?;
-        if again != told {
-            put(out, b"first ")?;
-            put(out, &told)?;
-            put(out, b", and then ")?;
-            put(out, &again)?;
-            return Ok(());
-        }
-    }
-    Ok(put(out, &told)?)
+    put_runs(
+        alloc,
+        out,
+        setting.times,
+        |told: &mut Vec<u8>| -> Result<(), CaseStop> {
+            put_run(rt, alloc, told, limits, setting, acts)
+        },
+    )
 }

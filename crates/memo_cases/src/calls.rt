@@ -1,9 +1,9 @@
 //! Calls on one memo.
 
 use crate::journals::put_items;
-use crate::limits::{Limits, number_at, small_at};
+use crate::limits::Limits;
 use crate::pieces::{LastDigits, Piece, Pieces};
-use case_lines::{CaseStop, Phrase, found, put, put_next, put_number, put_numbers};
+use case_lines::{CaseStop, Interpreter, Phrase, follow_all, found, put, put_number, put_numbers};
 use memo_core::{Dropped, Fill, MemoCore, Probe};
 use memo_shares::owned;
 use std::alloc::Global;
@@ -121,8 +121,8 @@ fn put_call(
     core: &mut MemoCore<Pieces, LastDigits>,
     phrase: &Phrase,
 ) -> Result<(), NoMemory> {
-    let (first, second) = (small_at(phrase, 0), small_at(phrase, 1));
-    let third = number_at(phrase, 2);
+    let (first, second) = (phrase.small_number(0), phrase.small_number(1));
+    let third = phrase.number(2);
     match found(&WORDS, &phrase.word) {
         Some(Word::Ask) => put_found(alloc, out, &ask(alloc, core, first, second)?),
         Some(Word::Offer) => put_fill(out, offer(alloc, core, first, second, third)?),
@@ -139,20 +139,21 @@ fn put_call(
     }
 }
 
-// The answers of calls on a memo that is lent.
-fn put_each(
-    alloc: Global,
-    out: &mut Vec<u8>,
-    core: &mut MemoCore<Pieces, LastDigits>,
-    calls: &[Phrase],
-) -> Result<(), CaseStop> {
-    let from = out.len();
-    for call in calls {
-        let mut told = Vec::new(alloc);
-        put_call(alloc, &mut told, core, call)?;
-        put_next(out, from, &told)?;
+// A memo that is called.
+#[derive(Drop)]
+struct Called {
+    core: MemoCore<Pieces, LastDigits>,
+}
+
+impl Interpreter for Called {
+    fn follow(
+        &mut self,
+        alloc: Global,
+        out: &mut Vec<u8>,
+        phrase: &Phrase,
+    ) -> Result<(), CaseStop> {
+        Ok(put_call(alloc, out, &mut self.core, phrase)?)
     }
-    Ok(())
 }
 
 /// The answers of calls on a new memo.
@@ -162,6 +163,7 @@ pub fn put_calls(
     limits: Limits,
     calls: &[Phrase],
 ) -> Result<(), CaseStop> {
-    let mut core = MemoCore::new(alloc, Pieces, LastDigits, limits.budget, limits.share)?;
-    put_each(alloc, out, &mut core, calls)
+    let core = MemoCore::new(alloc, Pieces, LastDigits, limits.budget, limits.share)?;
+    let mut called = Called { core };
+    follow_all(alloc, out, &mut called, calls)
 }

@@ -4,7 +4,7 @@ ghost use Rattle.std.specs.Prelude.{◌≡◌, ◌*◌, length, true, nat_lt, if
 ghost use Rattle.std.specs.Arc.{arc_value};
 
 use crate::journals::put_items;
-use crate::limits::{Limits, small_at};
+use crate::limits::Limits;
 use crate::pieces::{LastDigits, Piece, Pieces};
 use case_lines::{CaseStop, Phrase, found, put, put_number};
 use share_core::{Act, Event, Stepped, Work, World, run};
@@ -94,9 +94,9 @@ const WORDS: [(&[u8], Word); 5] = [
 // The step that a phrase says.
 fn event_of(phrase: &Phrase) -> Result<Event, CaseStop> {
     let word = found(&WORDS, &phrase.word).ok_or(CaseStop::Unread)?;
-    let node = small_at(phrase, 1);
+    let node = phrase.small_number(1);
     Ok(Event {
-        client: small_at(phrase, 0),
+        client: phrase.small_number(0),
         act: match word {
             Word::Command => Act::Command,
             Word::Probe => Act::Probe(node),

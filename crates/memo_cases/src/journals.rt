@@ -1,8 +1,8 @@
 //! Journals, as they are written and read.
 
-use crate::limits::{Limits, number_at, small_at};
+use crate::limits::Limits;
 use crate::pieces::{LastDigits, Pieces};
-use case_lines::{CaseStop, Phrase, found, put, put_number, put_numbers};
+use case_lines::{CaseStop, Phrase, found, put, put_number, put_numbers, put_separated};
 use memo_core::{Did, JournalItem};
 use memo_shares::{JournalVerdict, check_journal};
 use std::alloc::Global;
@@ -49,9 +49,9 @@ fn did_of(word: Word, weight: u64, evicted: u32) -> Did {
 fn item_of(alloc: Global, phrase: &Phrase) -> Result<JournalItem<u32>, CaseStop> {
     let word = found(&WORDS, &phrase.word).ok_or(CaseStop::Unread)?;
     Ok(JournalItem {
-        caller: small_at(phrase, 0),
-        key: Arc::new(alloc, small_at(phrase, 1))?,
-        did: did_of(word, number_at(phrase, 2), small_at(phrase, 3)),
+        caller: phrase.small_number(0),
+        key: Arc::new(alloc, phrase.small_number(1))?,
+        did: did_of(word, phrase.number(2), phrase.small_number(3)),
     })
 }
 
@@ -132,11 +132,5 @@ pub fn put_items(
     out: &mut Vec<u8>,
     items: &[JournalItem<u32>],
 ) -> Result<(), NoMemory> {
-    for (place, item) in items.iter().enumerate() {
-        if place > 0 {
-            put(out, b", ")?;
-        }
-        put_item(alloc, out, item)?;
-    }
-    Ok(())
+    put_separated(out, items, b", ", |out, item| put_item(alloc, out, item))
 }

@@ -44,7 +44,7 @@ use crate::calls::put_calls;
 use crate::clients::put_clients;
 use crate::journals::put_verdict;
 use crate::limits::limits_of;
-use case_lines::{CaseStop, answer_cases, found, phrases_of, unfolded};
+use case_lines::{CaseStop, answer_cases, found, parts_of, phrases_of, unfolded};
 use std::alloc::Global;
 use std::process::ExitCode;
 use std::sync::Wait;
@@ -74,10 +74,7 @@ fn put_answer<R: Threads + Wait + Sync>(
     case: &[u8],
 ) -> Result<(), CaseStop> {
     let text = unfolded(alloc, case)?;
-    let mut parts = Vec::new(alloc);
-    for part in text.split(|byte| *byte == b'|') {
-        parts.push(part)?;
-    }
+    let parts = parts_of(alloc, &text)?;
     let [asked, lists @ ..] = parts.as_slice() else {
         return Err(CaseStop::Unread);
     };

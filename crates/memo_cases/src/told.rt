@@ -2,7 +2,7 @@
 
 use crate::acts::{Answer, put_answers};
 use crate::pieces::Pieces;
-use case_lines::{put, put_number, put_numbers};
+use case_lines::{put, put_number, put_numbers, put_separated, put_tally};
 use flight_memo::{Claims, LogItem};
 use std::alloc::Global;
 use subtree_memo::Tally;
@@ -40,32 +40,24 @@ fn put_event(alloc: Global, out: &mut Vec<u8>, event: &LogItem<u32>) -> Result<(
 
 // How claims began and ended, a comma and a space between two of these.
 fn put_log(alloc: Global, out: &mut Vec<u8>, log: &[LogItem<u32>]) -> Result<(), NoMemory> {
-    for (place, event) in log.iter().enumerate() {
-        if place > 0 {
-            put(out, b", ")?;
-        }
-        put_event(alloc, out, event)?;
-    }
+    put_separated(out, log, b", ", |out, event| put_event(alloc, out, event))?;
     put(out, b"; ")
 }
 
 // The tally, what the entries weigh, and how long the journal is.
 fn put_counts(alloc: Global, out: &mut Vec<u8>, ended: &Ended) -> Result<(), NoMemory> {
     let tally = &ended.tally;
-    let numbers = [
-        i128::from(tally.probes),
-        i128::from(tally.hits),
-        i128::from(tally.misses),
-        i128::from(tally.offered),
-        i128::from(tally.kept),
-        i128::from(tally.heavy),
-        i128::from(tally.dropped),
-        i128::from(tally.evicted),
+    let counts = [
+        tally.probes,
+        tally.hits,
+        tally.misses,
+        tally.offered,
+        tally.kept,
+        tally.heavy,
+        tally.dropped,
+        tally.evicted,
     ];
-    put(out, b"tally ")?;
-    put_numbers(alloc, out, &numbers)?;
-    put(out, b" weight ")?;
-    put_number(alloc, out, i128::from(ended.weight))?;
+    put_tally(alloc, out, &counts, ended.weight)?;
     put(out, b" items ")?;
     put_number(alloc, out, ended.items as i128)
 }

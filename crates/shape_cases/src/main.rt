@@ -18,21 +18,16 @@ mod steps;
 mod table;
 
 use crate::table::Table;
-use case_lines::{CaseStop, answer_cases, phrases_of, put_next, unfolded};
+use case_lines::{CaseStop, answer_cases, follow_all, phrases_of, unfolded};
 use std::alloc::Global;
 use std::process::ExitCode;
 
 // The answer of phrases about shapes.
 fn put_answer(alloc: Global, out: &mut Vec<u8>, case: &[u8]) -> Result<(), CaseStop> {
     let text = unfolded(alloc, case)?;
+    let phrases = phrases_of(alloc, &text)?;
     let mut table = Table::new(alloc);
-    let from = out.len();
-    for phrase in &phrases_of(alloc, &text)? {
-        let mut told = Vec::new(alloc);
-        table.follow(alloc, &mut told, phrase)?;
-        put_next(out, from, &told)?;
-    }
-    Ok(())
+    follow_all(alloc, out, &mut table, &phrases)
 }
 
 fn main(rt: HostRuntime) -> ExitCode {

@@ -3,9 +3,10 @@
 use crate::making::{
     Given, Way, face_of, flat_kind_of, made, make_flat, make_shape, points_of, shape_kind_of,
 };
-use crate::put::{put_corners, put_counts, put_faces, put_planes, put_points};
+use crate::put::{put_corners, put_counts, put_faces, put_points};
 use crate::steps::{add_step, kind_of, put_images};
-use case_lines::{CaseStop, Phrase, found, put};
+use case_lines::{CaseStop, Interpreter, Phrase, found, put};
+use case_planes::put_planes;
 use int_transform::Step;
 use plane_predicate::Unit;
 use shape_planes::{Shape, place};
@@ -126,9 +127,10 @@ impl Table {
         }
         Ok(())
     }
+}
 
-    /// Does what a phrase says, and writes what it asks.
-    pub fn follow(
+impl Interpreter for Table {
+    fn follow(
         &mut self,
         alloc: Global,
         out: &mut Vec<u8>,

@@ -22,9 +22,9 @@ mod running;
 mod setting;
 mod told;
 
-use crate::running::put_runs;
+use crate::running::put_clients;
 use crate::setting::setting_of;
-use case_lines::{CaseStop, answer_cases, unfolded};
+use case_lines::{CaseStop, answer_cases, parts_of, unfolded};
 use std::alloc::Global;
 use std::process::ExitCode;
 use std::sync::Wait;
@@ -38,14 +38,11 @@ fn put_answer<R: Threads + Wait + Sync>(
     case: &[u8],
 ) -> Result<(), CaseStop> {
     let text = unfolded(alloc, case)?;
-    let mut parts = Vec::new(alloc);
-    for part in text.split(|byte| *byte == b'|') {
-        parts.push(part)?;
-    }
+    let parts = parts_of(alloc, &text)?;
     let [phrases, sources @ ..] = parts.as_slice() else {
         return Err(CaseStop::Unread);
     };
-    put_runs(rt, alloc, out, setting_of(alloc, phrases)?, sources)
+    put_clients(rt, alloc, out, setting_of(alloc, phrases)?, sources)
 }
 
 fn main(rt: HostRuntime) -> ExitCode {

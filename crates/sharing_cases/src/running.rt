@@ -6,7 +6,7 @@ ghost use Rattle.script_reader.specs.Limits.{AreWithin};
 use crate::gating::{Gating, Rule};
 use crate::setting::Setting;
 use crate::told::{Ended, put_ended};
-use case_lines::{CaseStop, put};
+use case_lines::{CaseStop, put, put_runs};
 use csg_tree::TreeKey;
 use memo_core::{NAME_BYTES, Name, Namer};
 use parallel_eval::ShaNamer;
@@ -129,8 +129,8 @@ fn put_run<R: Threads + Wait + Sync>(
     put_ended(alloc, out, setting, &ended, plain)
 }
 
-/// What is told of each run: one answer, where it is the same each time.
-pub fn put_runs<R: Threads + Wait + Sync>(
+/// What is told of each run of clients: one answer, where it is the same each time.
+pub fn put_clients<R: Threads + Wait + Sync>(
     rt: &R,
     alloc: Global,
     out: &mut Vec<u8>,
@@ -139,18 +139,12 @@ pub fn put_runs<R: Threads + Wait + Sync>(
 ) -> Result<(), CaseStop> {
     let alone = setting.plain();
     let plain = run(rt, alloc, alone, &Gating::new(alone.rule), sources)?;
-    let mut told = Vec::new(alloc);
-    put_run(rt, alloc, &mut told, setting, sources, &plain)?;
-    for _ in 1..setting.times {
-        let mut again = Vec::new(alloc);
-        put_run(rt, alloc, &mut again, setting, sources, &plain)?;
-        if again != told {
-            put(out, b"first ")?;
-            put(out, &told)?;
-            put(out, b", and then ")?;
-            put(out, &again)?;
-            return Ok(());
-        }
-    }
-    Ok(put(out, &told)?)
+    put_runs(
+        alloc,
+        out,
+        setting.times,
+        |told: &mut Vec<u8>| -> Result<(), CaseStop> {
+            put_run(rt, alloc, told, setting, sources, &plain)
+        },
+    )
 }

@@ -1,7 +1,7 @@
 //! What the phrases of a case set.
 
 use crate::gating::Rule;
-use case_lines::{CaseStop, found, phrases_of};
+use case_lines::{CaseStop, Phrase, found, phrases_of};
 use std::alloc::Global;
 
 /// How clients are run, and what is told of them.
@@ -70,10 +70,6 @@ const WORDS: [(&[u8], Word); 14] = [
     (b"tally", Word::Tally),
 ];
 
-fn small(number: u64) -> u32 {
-    u32::try_from(number).unwrap_or(u32::MAX)
-}
-
 impl Setting {
     /// The same clients with the same exports, by one builder each, and no memo.
     pub fn plain(self) -> Setting {
@@ -85,40 +81,40 @@ impl Setting {
         }
     }
 
-    // The same, where a word sets two numbers.
-    fn with(self, word: Word, first: u64, second: u64) -> Setting {
+    // The same, where a word sets the numbers of a phrase.
+    fn with(self, word: Word, phrase: &Phrase) -> Setting {
         match word {
             Word::Clients => Setting {
-                clients: first.min(16) as u8,
+                clients: phrase.number(0).min(16) as u8,
                 ..self
             },
             Word::Exports => Setting {
-                exports: small(first),
+                exports: phrase.small_number(0),
                 ..self
             },
             Word::Workers => Setting {
-                workers: first.clamp(1, 64),
+                workers: phrase.number(0).clamp(1, 64),
                 ..self
             },
             Word::Memo => Setting {
-                memo: first,
+                memo: phrase.number(0),
                 ..self
             },
             Word::Share => Setting {
-                share: first,
+                share: phrase.number(0),
                 ..self
             },
             Word::Times => Setting {
-                times: small(first),
+                times: phrase.small_number(0),
                 ..self
             },
-            Word::Pass => self.by(Rule::First(first)),
-            Word::Refuse => self.by(Rule::Later(first)),
+            Word::Pass => self.by(Rule::First(phrase.number(0))),
+            Word::Refuse => self.by(Rule::Later(phrase.number(0))),
             Word::Only => self.by(Rule::Only {
-                client: small(first),
-                node: small(second),
+                client: phrase.small_number(0),
+                node: phrase.small_number(1),
             }),
-            Word::Meet => self.by(Rule::Meeting(first)),
+            Word::Meet => self.by(Rule::Meeting(phrase.number(0))),
             Word::Alike => Setting {
                 are_alike: true,
                 ..self
@@ -143,18 +139,12 @@ impl Setting {
     }
 }
 
-// A number of a phrase, or 0 where it has none.
-fn number_at(numbers: &[i64], at: usize) -> u64 {
-    u64::try_from(numbers.get(at).copied().unwrap_or(0)).unwrap_or(0)
-}
-
 /// What phrases set.
 pub fn setting_of(alloc: Global, text: &[u8]) -> Result<Setting, CaseStop> {
     let mut setting = PLAIN;
     for phrase in &phrases_of(alloc, text)? {
         let word = found(&WORDS, &phrase.word).ok_or(CaseStop::Unread)?;
-        let numbers = phrase.numbers.as_slice();
-        setting = setting.with(word, number_at(numbers, 0), number_at(numbers, 1));
+        setting = setting.with(word, phrase);
     }
     Ok(setting)
 }

@@ -1,7 +1,7 @@
 //! What is told of a run.
 
 use crate::setting::Setting;
-use case_lines::{CaseStop, put, put_number, put_numbers};
+use case_lines::{CaseStop, put, put_number, put_tally};
 use reply_text::{Replies, Reply, push_reply, push_words};
 use std::alloc::Global;
 use subtree_memo::Tally;
@@ -138,21 +138,20 @@ fn all_are_as(alloc: Global, replies: &[Replies], plain: &[Replies]) -> Result<b
     Ok(replies.len() == plain.len())
 }
 
-fn put_tally(alloc: Global, out: &mut Vec<u8>, tally: &Tally, weight: u64) -> Result<(), NoMemory> {
-    let numbers = [
-        i128::from(tally.probes),
-        i128::from(tally.hits),
-        i128::from(tally.misses),
-        i128::from(tally.offered),
-        i128::from(tally.kept),
-        i128::from(tally.heavy),
-        i128::from(tally.dropped),
-        i128::from(tally.evicted),
+// All counts of the memo, and what the entries weigh.
+fn put_all_counts(alloc: Global, out: &mut Vec<u8>, ended: &Ended) -> Result<(), NoMemory> {
+    let tally = &ended.tally;
+    let counts = [
+        tally.probes,
+        tally.hits,
+        tally.misses,
+        tally.offered,
+        tally.kept,
+        tally.heavy,
+        tally.dropped,
+        tally.evicted,
     ];
-    put(out, b"tally ")?;
-    put_numbers(alloc, out, &numbers)?;
-    put(out, b" weight ")?;
-    put_number(alloc, out, i128::from(weight))
+    put_tally(alloc, out, &counts, ended.weight)
 }
 
 // How often the memo was probed, and whether all that was missed was offered.
@@ -195,7 +194,7 @@ pub fn put_ended(
         },
     )?;
     if setting.has_tally {
-        put_tally(alloc, out, &ended.tally, ended.weight)?;
+        put_all_counts(alloc, out, ended)?;
     } else {
         put_probes(alloc, out, &ended.tally)?;
     }

@@ -119,7 +119,7 @@ impl<'a, R: Threads + Sync> Trees<'a, R> {
         }
     }
 
-    /// Does what a phrase says, and writes what it asks.
+    /// Does what a phrase says, and writes what it asks. No trait's method: one doesn't know that workers may share `R`.
     pub fn follow(
         &mut self,
         alloc: Global,
