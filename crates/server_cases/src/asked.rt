@@ -2,7 +2,9 @@
 
 use crate::outside::{Asked, CALM, Outside, Served, serve_in};
 use crate::serving::{Told, put_end, put_status};
+use crate::words::words_of;
 use case_lines::{CaseStop, cut, found, put};
+use script_reader::split_at_byte;
 use script_server::Status;
 use std::alloc::Global;
 use std::sync::Wait;
@@ -51,30 +53,15 @@ fn number(text: &[u8]) -> Result<(u32, &[u8]), CaseStop> {
     }
 }
 
-// Words, a space between two of them.
-fn words_of(alloc: Global, text: &[u8]) -> Result<Vec<String>, CaseStop> {
-    let mut words = Vec::new(alloc);
-    for word in text.split(|byte| *byte == b' ') {
-        if !word.is_empty() {
-            let word = str::from_utf8(word).ok().ok_or(CaseStop::Unread)?;
-            words.push(String::from_str(alloc, word)?)?;
-        }
-    }
-    Ok(words)
-}
-
 // The words and the script of a case, a slash and a space between them.
 fn asked_of(alloc: Global, text: &[u8]) -> Result<Asked, CaseStop> {
-    let at = text
-        .iter()
-        .position(|byte| *byte == b'/')
-        .ok_or(CaseStop::Unread)?;
-    let script = match &text[at + 1..] {
+    let (words, script) = split_at_byte(text, b'/').ok_or(CaseStop::Unread)?;
+    let script = match script {
         [b' ', rest @ ..] => rest,
-        rest => rest,
+        _ => script,
     };
     Ok(Asked {
-        words: words_of(alloc, &text[..at])?,
+        words: words_of(alloc, words)?,
         script: script.to_vec(alloc)?,
     })
 }

@@ -9,18 +9,25 @@
 //!   before; `writes PIECE WORDS / SCRIPT` lets each write fail, and tells in place of the output whether it is a beginning of
 //!   the one where nothing fails.
 //! - `commands SCRIPT` asks for the clients of a script with their commands, or its fault.
-//! - `option NAME,VALUE` asks whether a run takes an option, with its value in its own word, and behind `=`.
+//! - `option NAME=VALUE` asks whether a run takes an option, with its value in its own word, and behind `=`.
+//! - `options OPTIONS` asks what a run with the first option chooses, with the first two, and so on, and with all and each of
+//!   them once more: the numbers of workers, memo and share, and what has no value, once where it is the same in whichever
+//!   way the options are written.
+//! - `demonstration N` asks for the script of a demonstration with N parts.
 #![tactic(auto)]
 
 mod asked;
 mod commands;
+mod demonstration;
 mod options;
 mod outside;
 mod serving;
+mod words;
 
 use crate::asked::put_served;
 use crate::commands::put_commands;
-use crate::options::put_option;
+use crate::demonstration::put_demonstration;
+use crate::options::{put_option, put_options};
 use case_lines::{CaseStop, answer_cases, cut, unfolded};
 use std::alloc::Global;
 use std::process::ExitCode;
@@ -50,6 +57,10 @@ fn put_answer<R: Threads + Wait + Sync>(
         put_commands(alloc, out, rest)
     } else if asked == b"option".as_slice() {
         put_option(alloc, out, rest)
+    } else if asked == b"options".as_slice() {
+        put_options(alloc, out, rest)
+    } else if asked == b"demonstration".as_slice() {
+        put_demonstration(alloc, out, rest)
     } else {
         put_served(rt, alloc, out, &text)
     }
