@@ -5,9 +5,9 @@ ghost use Rattle.std.specs.Prelude.{◌≤◌, ◌^◌, length};
 use crate::program::put_of_program;
 use case_lines::{put, put_number};
 use scad_ast::{Expr, Program, Statement};
-use scad_evaluation::{Meter, Source};
-use scad_func::value_in;
-use scad_scope::Scopes;
+use scad_evaluation::Meter;
+use scad_func::value_of;
+use scad_scope::{Blocks, Scopes};
 use scad_value::{Value, Values};
 use std::alloc::Global;
 use text_place::{Fault, NoMemory, Stop, word};
@@ -82,16 +82,16 @@ fn value_after(alloc: Global, program: &Program, expr: &Expr, turns: u64) -> Res
     if turns > 100_000 {
         return Ok(Value::Undef);
     }
-    let source = Source::of(alloc, program)?;
+    let blocks = Blocks::of(alloc, program)?;
     let mut scopes = Scopes::new(alloc)?;
-    let scope = scopes.enter(alloc, 0, &source.blocks, 0)?;
+    let scope = scopes.enter(alloc, 0, &blocks, 0)?;
     scopes.bind(alloc, scope, b"later", Value::Number(7))?;
     let mut meter = Meter {
         calls: 0,
         depth: 0,
         turns,
     };
-    value_in(alloc, &mut scopes, &source, scope, expr, &mut meter)
+    value_of(alloc, &mut scopes, program, scope, expr, &mut meter)
 }
 
 fn put_first(

@@ -1,4 +1,4 @@
-//! Tests of the language's public calls that no source shows: scopes, blocks and arguments by number, `value_of`, and values that are
+//! Tests of the language's public calls that no source shows: scopes, definitions, blocks and arguments by number, and values that are
 //! too long. What sources show stands in `language_cases`.
 #![tactic(auto)]
 
@@ -6,8 +6,6 @@
 mod arguments;
 #[cfg(test)]
 mod blocks;
-#[cfg(test)]
-mod expressions;
 #[cfg(test)]
 mod reading;
 #[cfg(test)]
