@@ -66,8 +66,32 @@ fn asked_of(alloc: Global, text: &[u8]) -> Result<Asked, CaseStop> {
     })
 }
 
-// How calls end where each read fails in turn, up to the first that is done: each end that differs from the
-// one before.
+// How calls end where the first read or write fails, the second one, and so on, up to the first call that is done: each end
+// that differs from the one before.
+fn put_ends<F: Fn(&mut Vec<u8>, u64) -> Result<Status, CaseStop>>(
+    alloc: Global,
+    out: &mut Vec<u8>,
+    put_failing: F,
+) -> Result<(), CaseStop>
+    requires { F.IsAlwaysCallable put_failing }
+{
+    let mut last = Vec::new(alloc);
+    for number in 1..1000 {
+        let mut end = Vec::new(alloc);
+        let status = put_failing(&mut end, number)?;
+        if end != last {
+            put(out, &end)?;
+            put(out, b"; ")?;
+            last = end;
+        }
+        if status == Status::Done {
+            return Ok(());
+        }
+    }
+    Err(CaseStop::Unread)
+}
+
+// The same of calls in each of which a read fails.
 fn put_reads<R: Threads + Wait + Sync>(
     rt: &R,
     alloc: Global,
@@ -75,30 +99,20 @@ fn put_reads<R: Threads + Wait + Sync>(
     asked: &Asked,
     piece: u32,
 ) -> Result<(), CaseStop> {
-    let mut last = Vec::new(alloc);
-    for read in 1..1000 {
-        let served = serve_in(
-            rt,
-            alloc,
-            asked,
-            Outside {
+    put_ends(
+        alloc,
+        out,
+        |end: &mut Vec<u8>, read: u64| -> Result<Status, CaseStop> {
+            let outside = Outside {
                 read,
                 piece,
                 ..CALM
-            },
-        )?;
-        let mut end = Vec::new(alloc);
-        put_end(alloc, &mut end, &served, Told::All)?;
-        if end != last {
-            put(out, &end)?;
-            put(out, b"; ")?;
-            last = end;
-        }
-        if served.status == Status::Done {
-            return Ok(());
-        }
-    }
-    Err(CaseStop::Unread)
+            };
+            let served = serve_in(rt, alloc, asked, outside)?;
+            put_end(alloc, end, &served, Told::All)?;
+            Ok(served.status)
+        },
+    )
 }
 
 // How a call ended, and whether its output is a beginning of another one.
@@ -114,8 +128,7 @@ fn put_beginning(out: &mut Vec<u8>, served: &Served, whole: &[u8]) -> Result<(),
     Ok(())
 }
 
-// How calls end where each write fails in turn, up to the first that is done: each end that differs from the
-// one before.
+// The same of calls in each of which a write fails, with what was written beside what is written where none does.
 fn put_writes<R: Threads + Wait + Sync>(
     rt: &R,
     alloc: Global,
@@ -124,30 +137,20 @@ fn put_writes<R: Threads + Wait + Sync>(
     piece: u32,
 ) -> Result<(), CaseStop> {
     let whole = serve_in(rt, alloc, asked, CALM)?;
-    let mut last = Vec::new(alloc);
-    for write in 1..1000 {
-        let served = serve_in(
-            rt,
-            alloc,
-            asked,
-            Outside {
+    put_ends(
+        alloc,
+        out,
+        |end: &mut Vec<u8>, write: u64| -> Result<Status, CaseStop> {
+            let outside = Outside {
                 write,
                 piece,
                 ..CALM
-            },
-        )?;
-        let mut end = Vec::new(alloc);
-        put_beginning(&mut end, &served, &whole.output)?;
-        if end != last {
-            put(out, &end)?;
-            put(out, b"; ")?;
-            last = end;
-        }
-        if served.status == Status::Done {
-            return Ok(());
-        }
-    }
-    Err(CaseStop::Unread)
+            };
+            let served = serve_in(rt, alloc, asked, outside)?;
+            put_beginning(end, &served, &whole.output)?;
+            Ok(served.status)
+        },
+    )
 }
 
 // The outside of a question, by its numbers.
