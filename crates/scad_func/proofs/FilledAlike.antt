@@ -7,7 +7,8 @@ use Rattle.scad_ast.specs.Terms.{Term, ArgTerm, NamedTerm, SpecialArgTerm, Posit
 use Rattle.scad_value.specs.Values.{Val}
 use Rattle.scad_scope.specs.Names.{Pairs, find_in}
 use Rattle.scad_arguments.specs.Arguments.{Given, Taker, nothing_given, to_parameter, to_special, unless_filled, taken_by, taker_of, with_argument, or_place, argument_place, matched, only_slots}
-use Rattle.scad_arguments.specs.Lookup.{names_of_pairs, is_among}
+use Rattle.scad_ast.specs.Names.{is_among}
+use Rattle.scad_arguments.specs.Lookup.{names_of_pairs}
 use Rattle.scad_evaluation.specs.Meaning.{Outcome, Gives, Faults, then_with, or_fault, Setting, value_at, Arguments, each_argument}
 use Rattle.scad_evaluation.specs.View.{IsFilledAs}
 

@@ -33,11 +33,11 @@ use Rattle.polyhedra.specs.Polyhedra.{mesh_of, IsPolyhedron}
 use Rattle.polyhedra.proofs.Solids.{shape_of}
 use Rattle.scad_value.specs.Values.{Val, NumberVal, truth_of}
 use Rattle.scad_value.specs.Operators.{Answer}
+use Rattle.scad_slots.specs.Reading.{Slots, slot, number_in, truth_in, numbers_in, of_length, sides_in, coordinates_in, angles_in, factors_in, points_in, faces_in, or_default, required, refused_where, of_type}
 use Rattle.scad_modules.specs.declared.table.BuiltinModule.{BuiltinModule}
 use Rattle.scad_modules.specs.declared.table.BuiltinModule.TheVariants.{Cube, Polyhedron, Cylinder, Square, Polygon, Circle, LinearExtrude, Translate, Rotate, Mirror, Scale, Multmatrix, Union, Difference, Intersection, Hull, Color, Render, Echo, Assert, Children}
 use Rattle.scad_modules.specs.Effects.{SolidCall, cube_call, polyhedron_call, cylinder_call, FlatCall, square_call, polygon_call, circle_call, EffectCall, a_solid, a_flat, a_move, a_join, a_hull, an_extrusion, silence, some_children, ChosenCall, all_children}
-use Rattle.scad_modules.specs.Reading.{Slots, slot, number_in, truth_in, numbers_in, of_length, sides_in, coordinates_in, points_in, faces_in, or_default, required, refused_where, of_type}
-use Rattle.scad_modules.specs.Transforms.{part, is_zero, is_past, on_grid, some_part, leaves_plane, angles_in, is_skew, quarters_of, tilts_plane, turns_of, axis_of, along, factors_in, factors_for, rows_in, some_row, is_past_matrix, leaves_plane_by, rows_on_grid, moves_past}
+use Rattle.scad_modules.specs.Transforms.{part, is_zero, is_past, on_grid, some_part, leaves_plane, is_skew, quarters_of, tilts_plane, turns_of, axis_of, along, factors_for, rows_in, some_row, is_past_matrix, leaves_plane_by, rows_on_grid, moves_past}
 use Rattle.scad_modules.specs.Calls.{chosen_in, effect_of}
 use Rattle.scad_modules.specs.Shapes.{fragments_in, with_four, cylinder_effect}
 use Rattle.scad_design.specs.Trees.{AreRegular}

@@ -8,12 +8,12 @@ use Rattle.plane_predicate.specs.Space.{point_at}
 use Rattle.int_transform.specs.Maps.{HasSafeCoordinates}
 use Rattle.primitives.specs.Sizes.{IsSafe}
 use Rattle.scad_value.specs.Values.{Val, NumberVal, ListVal, RangeVal, Vals, no_vals, and_val, is_small, has_small_numbers, have_small_numbers}
+use Rattle.scad_slots.specs.Reading.{Slots, slot, number_in, with_first, each_in, of_length, sides_in, filled_from, factors_in, or_default}
+use Rattle.scad_slots.specs.View.{Reads}
 use Rattle.scad_modules.specs.Bounds.{are_bounded, IsSafeChoice}
 use Rattle.scad_modules.specs.Effects.{ChosenCall, all_children, numbered}
-use Rattle.scad_modules.specs.Reading.{Slots, slot, number_in, with_first, each_in, of_length, sides_in, filled_from, or_default}
-use Rattle.scad_modules.specs.Transforms.{part, factors_in, factors_for}
+use Rattle.scad_modules.specs.Transforms.{part, factors_for}
 use Rattle.scad_modules.specs.Calls.{chosen_in}
-use Rattle.scad_modules.specs.View.{Reads}
 
 -- what was read has a property
 abbrev pub OnRead : {A : Type 0} → (A → Type 0) → Option A → Type 0

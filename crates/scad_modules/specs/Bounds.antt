@@ -2,8 +2,8 @@
 use Rattle.std.specs.Prelude.{Bool, true, ◌&&◌, [], ◌∷◌, Option, Some, None, All}
 use Rattle.primitives.specs.Sizes.{IsSafe}
 use Rattle.scad_value.specs.Values.{Val, is_bounded}
+use Rattle.scad_slots.specs.Reading.{Slots}
 use Rattle.scad_modules.specs.Effects.{SolidCall, cube_call, polyhedron_call, cylinder_call, FlatCall, square_call, polygon_call, circle_call, ChosenCall, all_children, numbered, ranged, EffectCall, a_solid, a_flat, a_move, a_join, a_hull, an_extrusion, silence, some_children}
-use Rattle.scad_modules.specs.Reading.{Slots}
 
 -- a value that is given is bounded
 abbrev pub is_slot_bounded : Option Val → Bool

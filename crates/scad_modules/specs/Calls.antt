@@ -5,10 +5,10 @@ use Rattle.csg_tree.specs.declared.op.Op.TheVariants as ops
 use Rattle.plane_predicate.specs.declared.unit.Unit.{Unit as LengthUnit}
 use Rattle.scad_value.specs.Values.{Val, NumberVal, RangeVal, truth_of}
 use Rattle.scad_value.specs.Operators.{Answer}
+use Rattle.scad_slots.specs.Reading.{Slots, slot, numbers_in, or_default, required, of_type, refused_where}
 use Rattle.scad_modules.specs.declared.table.BuiltinModule.{BuiltinModule}
 use Rattle.scad_modules.specs.declared.table.BuiltinModule.TheVariants.{Cube, Polyhedron, Cylinder, Square, Polygon, Circle, LinearExtrude, Translate, Rotate, Mirror, Scale, Multmatrix, Union, Difference, Intersection, Hull, Color, Render, Echo, Assert, Children}
 use Rattle.scad_modules.specs.Effects.{EffectCall, a_join, a_hull, silence, some_children, ChosenCall, all_children, numbered, ranged}
-use Rattle.scad_modules.specs.Reading.{Slots, slot, numbers_in, or_default, required, of_type, refused_where}
 use Rattle.scad_modules.specs.Transforms.{translate_call, rotate_call, mirror_call, scale_call, multmatrix_call}
 use Rattle.scad_modules.specs.Shapes.{cube_effect, polyhedron_effect, square_effect, polygon_effect, circle_effect, cylinder_effect, extrude_effect}
 

@@ -1,7 +1,6 @@
 pub mod Bounds
 pub mod Calls
 pub mod Effects
-pub mod Reading
 pub mod Shapes
 pub mod Table
 pub mod Transforms

@@ -5,8 +5,8 @@ use Rattle.std.specs.Ordering.{int_eq}
 use Rattle.text_place.specs.declared.fault.FaultKind.TheVariants.{BadArgument, NotInProfile, WrongDimension}
 use Rattle.scad_value.specs.Values.{Val}
 use Rattle.scad_value.specs.Operators.{Answer}
+use Rattle.scad_slots.specs.Reading.{Slots, slot, number_in, truth_in, sides_in, points_in, faces_in, or_default, required, left_out, of_type, refused_where}
 use Rattle.scad_modules.specs.Effects.{EffectCall, a_solid, a_flat, an_extrusion, cube_call, polyhedron_call, cylinder_call, square_call, polygon_call, circle_call}
-use Rattle.scad_modules.specs.Reading.{Slots, slot, number_in, truth_in, sides_in, points_in, faces_in, or_default, required, left_out, of_type, refused_where}
 
 -- cube(size = [1, 1, 1], center = false)
 abbrev pub cube_effect : Bool → Slots → Answer EffectCall

@@ -7,10 +7,10 @@ use Rattle.plane_predicate.specs.Units.{steps_of}
 use Rattle.plane_predicate.specs.Space.{point_at}
 use Rattle.int_transform.specs.declared.affine.Affine.{Affine}
 use Rattle.int_transform.specs.Maps.{moving, scaling, mirroring, quarter_turn, repeated, affine_of, determinant_of}
-use Rattle.scad_value.specs.Values.{Val, NumberVal, is_small}
+use Rattle.scad_value.specs.Values.{Val, is_small}
 use Rattle.scad_value.specs.Operators.{Answer}
+use Rattle.scad_slots.specs.Reading.{Slots, slot, coordinates_in, angles_in, factors_in, points_in, required, left_out, of_type, refused_where}
 use Rattle.scad_modules.specs.Effects.{EffectCall, a_move}
-use Rattle.scad_modules.specs.Reading.{Slots, slot, vector_in, coordinates_in, points_in, required, left_out, of_type, refused_where}
 
 -- a number of a vector or a row, by its place from 0
 abbrev pub part : List ℤ → ℕ → ℤ
@@ -48,11 +48,6 @@ translate_call unit inside slots =
     refused_where (leaves_plane inside by) WrongDimension
     (refused_where (some_part is_past (on_grid unit by)) TooLarge
     (Ok (a_move (moving (point_at (on_grid unit by)) ∷ []))))))
-
--- one angle about z, or three about x, y and z
-abbrev pub angles_in : Val → Option (List ℤ)
-angles_in (NumberVal angle) = Some (pos 0 ∷ pos 0 ∷ angle ∷ [])
-angles_in v = vector_in 3 v
 
 -- an angle that is no number of quarter turns
 abbrev pub is_skew : ℤ → Bool
@@ -110,11 +105,6 @@ mirror_call inside slots =
     along (axis_of by) (λ axis.
     refused_where (inside && nat_eq axis 2) WrongDimension
     (Ok (a_move (mirroring axis ∷ []))))))
-
--- one factor for all axes, or 2 or 3 of them
-abbrev pub factors_in : Val → Option (List ℤ)
-factors_in (NumberVal factor) = Some (factor ∷ factor ∷ factor ∷ [])
-factors_in v = coordinates_in (pos 1) v
 
 -- inside an extrusion a scaling has no effect along z
 abbrev pub factors_for : Bool → List ℤ → List ℤ

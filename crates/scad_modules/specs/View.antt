@@ -1,8 +1,6 @@
--- The plain effect that an effect in memory stands for, and what the code's readers answer.
-use Rattle.std.specs.Prelude.{◌≡◌, List, map, Option, Some, None, option_map, Result, Ok, Err}
+-- The plain effect that an effect in memory stands for.
+use Rattle.std.specs.Prelude.{◌≡◌, Option, option_map, Result, Ok, Err}
 use Rattle.std.specs.Borrow.{Bor}
-use Rattle.text_place.specs.declared.fault.FaultKind.{FaultKind}
-use Rattle.text_place.specs.declared.fault.FaultKind.TheVariants.{TypeMismatch}
 use Rattle.scad_value.specs.declared.value.Value.{Value}
 use Rattle.scad_value.specs.declared.stop.ValueStop.{ValueStop}
 use Rattle.scad_value.specs.declared.stop.ValueStop.TheVariants.{Kind, NoMemory}
@@ -18,12 +16,7 @@ use Rattle.scad_modules.specs.declared.effects.Chosen.TheVariants.{All, Numbered
 use Rattle.scad_modules.specs.declared.effects.Effect.{Effect}
 use Rattle.scad_modules.specs.declared.effects.Effect.TheVariants.{Solid, Flat, Move, Join, Hull, Extrusion, Nothing, Children}
 use Rattle.scad_modules.specs.Effects.{SolidCall, cube_call, polyhedron_call, cylinder_call, FlatCall, square_call, polygon_call, circle_call, ChosenCall, all_children, numbered, ranged, EffectCall, a_solid, a_flat, a_move, a_join, a_hull, an_extrusion, silence, some_children}
-use Rattle.scad_modules.specs.Reading.{Slots}
 use Rattle.scad_modules.specs.Bounds.{IsSafeCall}
-
--- the values that a call gives
-abbrev pub slots_of : List (Option Value) → Slots
-slots_of = map (option_map val_of)
 
 -- the value of `$fn`
 abbrev pub fragments_of : Option (Bor Value) → Option Val
@@ -68,14 +61,3 @@ MeetsEffect (Err NoMemory) answer = Unit {0}
 abbrev pub GivesSafe : Result Effect ValueStop → Type 0
 GivesSafe (Ok effect) = IsSafeCall (call_of effect)
 GivesSafe (Err stop) = Unit {0}
-
--- what was read, or TypeMismatch where there is none
-abbrev pub Reads : {A : Type 0} → Result A FaultKind → Option A → Type 0
-Reads (Ok x) read = read ≡ Some x
-Reads (Err kind) read = (read ≡ None) × (kind ≡ TypeMismatch)
-
--- the same for what is seen in some way, unless memory ran out
-abbrev pub ReadsAs : {A B : Type 0} → (A → B) → Result A ValueStop → Option B → Type 0
-ReadsAs seen (Ok x) read = read ≡ Some (seen x)
-ReadsAs seen (Err (Kind kind)) read = (read ≡ None) × (kind ≡ TypeMismatch)
-ReadsAs seen (Err NoMemory) read = Unit {0}

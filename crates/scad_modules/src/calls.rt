@@ -2,21 +2,21 @@
 
 ghost use Rattle.std.specs.Prelude.{◌≡◌, IsTrue};
 ghost use Rattle.scad_value.specs.View.{val_of};
+ghost use Rattle.scad_slots.specs.Reading.{slot, or_default};
+ghost use Rattle.scad_slots.specs.View.{slots_of, ReadsAs};
 ghost use Rattle.scad_modules.specs.Bounds.{are_bounded};
 ghost use Rattle.scad_modules.specs.Calls.{chosen_in, assert_effect, children_effect, effect_of, hull_effect};
 ghost use Rattle.scad_modules.specs.Effects.{all_children};
-ghost use Rattle.scad_modules.specs.Reading.{slot, or_default};
-ghost use Rattle.scad_modules.specs.View.{fragments_of, slots_of, chosen_of, ReadsAs, MeetsEffect, GivesSafe};
+ghost use Rattle.scad_modules.specs.View.{fragments_of, chosen_of, MeetsEffect, GivesSafe};
 
 use crate::effects::{Chosen, Effect};
-use crate::lists::numbers;
 use crate::matrix::multmatrix;
 use crate::shapes::{circle, cube, cylinder, linear_extrude, polygon, polyhedron, square};
-use crate::slots::{given, required};
 use crate::table::BuiltinModule;
 use crate::transforms::{mirror, rotate, scale, translate};
 use csg_tree::Op;
 use plane_predicate::Unit;
+use scad_slots::{given, numbers, required};
 use scad_value::{Value, ValueStop, truth};
 use std::alloc::Global;
 use text_place::FaultKind;

@@ -3,12 +3,9 @@
 
 mod calls;
 mod effects;
-mod lists;
 mod matrix;
 mod name;
-mod numbers;
 mod shapes;
-mod slots;
 mod table;
 mod transforms;
 

@@ -5,16 +5,16 @@ ghost use Rattle.text_place.specs.declared.fault.FaultKind.TheVariants.{TooLarge
 ghost use Rattle.int_transform.specs.Maps.{affine_of, determinant_of};
 ghost use Rattle.scad_value.specs.Values.{vals_from};
 ghost use Rattle.scad_value.specs.View.{val_of, vals_in};
-ghost use Rattle.scad_modules.specs.Reading.{each_in, vector_in};
+ghost use Rattle.scad_slots.specs.Reading.{each_in, vector_in};
+ghost use Rattle.scad_slots.specs.View.{slots_of};
 ghost use Rattle.scad_modules.specs.Transforms.{part, row_at, is_zero, some_part, some_row, is_last_row, three_rows_from, rows_in, is_past_matrix, keeps_plane, leaves_plane_by, moves_past, row_on_grid, rows_on_grid, multmatrix_call};
-ghost use Rattle.scad_modules.specs.View.{slots_of, MeetsEffect, GivesSafe};
+ghost use Rattle.scad_modules.specs.View.{MeetsEffect, GivesSafe};
 
 use crate::effects::Effect;
-use crate::numbers::quadruple;
-use crate::slots::required;
 use crate::transforms::{in_steps, moved};
 use int_transform::Step;
 use plane_predicate::Unit;
+use scad_slots::{quadruple, required};
 use scad_value::{Value, ValueStop};
 use std::alloc::Global;
 use text_place::FaultKind;

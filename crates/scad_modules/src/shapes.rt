@@ -3,15 +3,17 @@
 ghost use Rattle.std.specs.Prelude.{◌≡◌, ◌&&◌, ◌||◌, [], ◌∷◌, pos, not, is_some, All, IfOk, IsTrue};
 ghost use Rattle.std.specs.Ordering.{int_eq};
 ghost use Rattle.primitives.specs.Sizes.{IsSafe};
+ghost use Rattle.scad_slots.specs.Reading.{slot, number_in, or_default, sides_in};
+ghost use Rattle.scad_slots.specs.View.{slots_of, Reads};
 ghost use Rattle.scad_modules.specs.Bounds.{are_bounded};
-ghost use Rattle.scad_modules.specs.Reading.{slot, or_default, sides_in};
 ghost use Rattle.scad_modules.specs.Shapes.{fragments_in, cube_effect, polyhedron_effect, square_effect, polygon_effect, circle_effect, cylinder_effect, extrude_effect};
-ghost use Rattle.scad_modules.specs.View.{fragments_of, slots_of, Reads, MeetsEffect, GivesSafe};
+ghost use Rattle.scad_modules.specs.View.{fragments_of, MeetsEffect, GivesSafe};
 
 use crate::effects::{Effect, FlatShape, SolidShape};
-use crate::lists::{faces, flat_points, points};
-use crate::numbers::{number, three_sides, two_sides};
-use crate::slots::{given, is_centered, is_given, number_or, required};
+use scad_slots::{
+    faces, flat_points, found_number, given, is_centered, is_given, number, points, required,
+    three_sides, two_sides,
+};
 use scad_value::{Value, ValueStop};
 use std::alloc::Global;
 use text_place::FaultKind;
@@ -268,6 +270,16 @@ fn found_square_size(slots: &[Option<Value>]) -> Result<[i64; 2], FaultKind>
         Some(value) => two_sides(value).ok_or(FaultKind::TypeMismatch),
         None => Ok([1, 1]),
     }
+}
+
+// The number that a parameter has, or its default, or TypeMismatch.
+fn number_or(slots: &[Option<Value>], parameter: usize, default: i64) -> Result<i64, FaultKind>
+    requires slots { IsTrue (are_bounded (slots_of slots.now)) }
+    requires default { IsSafe default }
+    ensures value { Reads result (or_default default number_in (slot (slots_of slots.now) parameter)) }
+    ensures safe { IfOk result IsSafe }
+{
+    found_number(slots, parameter, default)
 }
 
 // Whether a cylinder has a radius for both its ends and one for an end.

@@ -4,16 +4,16 @@ ghost use Rattle.std.specs.Prelude.{◌≡◌, ◌<◌, ◌≤◌, ◌&&◌, tru
 ghost use Rattle.text_place.specs.declared.fault.FaultKind.TheVariants.{TooLarge};
 ghost use Rattle.plane_predicate.specs.Space.{point_at};
 ghost use Rattle.int_transform.specs.Maps.{HasSafeCoordinates};
+ghost use Rattle.scad_slots.specs.View.{slots_of};
 ghost use Rattle.scad_modules.specs.Bounds.{are_bounded};
 ghost use Rattle.scad_modules.specs.Effects.{a_move};
 ghost use Rattle.scad_modules.specs.Transforms.{is_zero, is_past, in_steps, on_grid, some_part, leaves_plane, tilts_plane, translate_call, is_skew, quarters_of, turned, turns_of, rotate_call, is_alone, axis_of, mirror_call, factors_for, scale_call};
-ghost use Rattle.scad_modules.specs.View.{slots_of, MeetsEffect, GivesSafe};
+ghost use Rattle.scad_modules.specs.View.{MeetsEffect, GivesSafe};
 
 use crate::effects::Effect;
-use crate::numbers::{angles, coordinates, factors};
-use crate::slots::{is_given, required};
 use int_transform::Step;
 use plane_predicate::Unit;
+use scad_slots::{angles, coordinates, factors, is_given, required};
 use scad_value::{Value, ValueStop, product_of_two};
 use std::alloc::Global;
 use text_place::FaultKind;

@@ -8,8 +8,8 @@ use Rattle.scad_value.specs.declared.bounded_value.BoundedValue.{BoundedValue}
 use Rattle.scad_value.specs.Values.{Val}
 use Rattle.scad_value.specs.View.{val_of}
 use Rattle.scad_evaluation.specs.View.{slot_of, slots_in}
+use Rattle.scad_slots.specs.View.{slots_of}
 use Rattle.scad_modules.specs.Bounds.{is_slot_bounded, are_bounded}
-use Rattle.scad_modules.specs.View.{slots_of}
 
 -- their type keeps them bounded
 slot_bounded : (o : Option BoundedValue) → IsTrue (is_slot_bounded (slot_of o))

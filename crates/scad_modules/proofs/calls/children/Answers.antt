@@ -1,4 +1,5 @@
-use Rattle.scad_modules.specs.View.{chosen_of, slots_of}
+use Rattle.scad_slots.specs.View.{slots_of}
+use Rattle.scad_modules.specs.View.{chosen_of}
 use Rattle.scad_modules.proofs.Safe.{choice_safe}
 use Rattle.scad_modules.proofs.calls.children.Goals as goal
 

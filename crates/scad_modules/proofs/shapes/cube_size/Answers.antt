@@ -1,4 +1,4 @@
-use Rattle.scad_modules.specs.View.{slots_of}
+use Rattle.scad_slots.specs.View.{slots_of}
 use Rattle.scad_modules.proofs.Safe.{AreSafe, reads_safe, three_safe}
 use Rattle.scad_modules.proofs.shapes.cube_size.Goals as goal
 

@@ -1,8 +1,7 @@
 use Rattle.std.proofs.Common.{rules, ◌≡◌, Some}
 use Rattle.scad_value.specs.View.{val_of}
-use Rattle.scad_modules.specs.Reading.{slot}
-use Rattle.scad_modules.specs.Transforms.{factors_in}
-use Rattle.scad_modules.specs.View.{slots_of}
+use Rattle.scad_slots.specs.Reading.{slot, factors_in}
+use Rattle.scad_slots.specs.View.{slots_of}
 use Rattle.scad_modules.proofs.Safe.{scale_safe}
 use Rattle.scad_modules.proofs.transforms.scale.Goals as goal
 

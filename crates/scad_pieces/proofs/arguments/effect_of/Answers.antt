@@ -1,8 +1,8 @@
 use Rattle.std.proofs.Common.{List, Option, sym, subst, ◌∙◌, ap}
 use Rattle.std.specs.Prelude.{IsTrue}
 use Rattle.scad_value.specs.Values.{Val}
+use Rattle.scad_slots.specs.View.{slots_of}
 use Rattle.scad_modules.specs.Bounds.{are_bounded}
-use Rattle.scad_modules.specs.View.{slots_of}
 use Rattle.scad_pieces.proofs.Slots.{slots_bounded}
 use Rattle.scad_pieces.proofs.arguments.effect_of.Goals as goal
 

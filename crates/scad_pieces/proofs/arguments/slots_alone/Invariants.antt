@@ -1,6 +1,6 @@
 use Rattle.std.proofs.Common.{◌≡◌, ◌++◌, length}
 use Rattle.scad_evaluation.specs.View.{slots_in}
-use Rattle.scad_modules.specs.View.{slots_of}
+use Rattle.scad_slots.specs.View.{slots_of}
 use Rattle.scad_pieces.proofs.arguments.slots_alone.Given as goal
 
 abbrev pub invariant-each : goal.invariant-each

@@ -1,0 +1,24 @@
+-- The values of a call's slots in memory, and what the code's readers answer.
+use Rattle.std.specs.Prelude.{◌≡◌, List, map, Option, Some, None, option_map, Result, Ok, Err}
+use Rattle.text_place.specs.declared.fault.FaultKind.{FaultKind}
+use Rattle.text_place.specs.declared.fault.FaultKind.TheVariants.{TypeMismatch}
+use Rattle.scad_value.specs.declared.value.Value.{Value}
+use Rattle.scad_value.specs.declared.stop.ValueStop.{ValueStop}
+use Rattle.scad_value.specs.declared.stop.ValueStop.TheVariants.{Kind, NoMemory}
+use Rattle.scad_value.specs.View.{val_of}
+use Rattle.scad_slots.specs.Reading.{Slots}
+
+-- the values that a call gives
+abbrev pub slots_of : List (Option Value) → Slots
+slots_of = map (option_map val_of)
+
+-- what was read, or TypeMismatch where there is none
+abbrev pub Reads : {A : Type 0} → Result A FaultKind → Option A → Type 0
+Reads (Ok x) read = read ≡ Some x
+Reads (Err kind) read = (read ≡ None) × (kind ≡ TypeMismatch)
+
+-- the same for what is seen in some way, unless memory ran out
+abbrev pub ReadsAs : {A B : Type 0} → (A → B) → Result A ValueStop → Option B → Type 0
+ReadsAs seen (Ok x) read = read ≡ Some (seen x)
+ReadsAs seen (Err (Kind kind)) read = (read ≡ None) × (kind ≡ TypeMismatch)
+ReadsAs seen (Err NoMemory) read = Unit {0}
