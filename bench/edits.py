@@ -26,6 +26,8 @@ FRAME = (
     "tree_export::",
     "pair_work::",
     "parallel_eval::",
+    "join_solids::",
+    "known_store::",
     "scad_source::",
 )
 

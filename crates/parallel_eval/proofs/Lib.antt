@@ -1,7 +1,6 @@
 mod Books
 mod Dealt
 mod Divided
-mod Knowing
 mod Laned
 mod Running
 mod Steps

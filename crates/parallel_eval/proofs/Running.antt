@@ -1,5 +1,5 @@
 -- Nodes of a run, one by one.
-use Rattle.std.proofs.Common.{◌≡◌, ℕ, zero, suc, ◌+◌, ◌-◌, ◌≤◌, ◌<◌, List, [], ◌∷◌, ◌++◌, length, map, take, get_or, All, Bor, refl, ap, subst, ◌∙◌, arith}
+use Rattle.std.proofs.Common.{◌≡◌, ℕ, zero, suc, ◌+◌, ◌-◌, ◌≤◌, ◌<◌, List, [], ◌∷◌, ◌++◌, length, map, take, get_or, All, Bor, ap, subst, ◌∙◌, arith}
 use Rattle.std.proofs.lemmas.List.Elements.{All-weaker}
 use Rattle.std.specs.Arc.{arc_value}
 use Rattle.std.specs.declared.sync.Arc.{Arc}
@@ -15,7 +15,8 @@ use Rattle.bsp_tree.specs.Shapes.{SolidParts}
 use Rattle.bsp_tree.specs.Trees.{outside}
 use Rattle.bsp_tree.specs.Shapes.{tree_of}
 use Rattle.bsp_boolean.specs.Solids.{solid_of}
-use Rattle.parallel_eval.specs.Runs.{shared_solids, IsBelow, IsRunNode, AreRunNodes, IsRunWork}
+use Rattle.known_store.proofs.Shared.{get_or-read}
+use Rattle.parallel_eval.specs.Runs.{IsBelow, IsRunNode, AreRunNodes, IsRunWork}
 
 pub run_more : (trees : List Formula) (start before number : ℕ) (nodes : List CsgNode) (node : CsgNode) → AreRunNodes trees start before nodes →
     number ≡ before + length nodes + 1 → IsRunNode trees start number node → AreRunNodes trees start before (nodes ++ node ∷ [])
@@ -49,11 +50,6 @@ join_of_run trees start number node op left right run is =
     (told.0, below.0, told.2, below.1, told.4)
 
 module _ {Z : Type 0} where
-  pub get_or-read : (solids : List (Arc SolidParts Z)) (k : ℕ) (d : Arc SolidParts Z) → k < length solids → tree_of (arc_value (get_or solids k d)) ≡ get_or (shared_solids solids) k outside
-  get_or-read [] k d h = absurd (omega arith)
-  get_or-read (s ∷ solids) zero d h = refl
-  get_or-read (s ∷ solids) (suc k) d h = get_or-read solids k d (omega arith)
-
   -- the solid of a number that is there
   pub solid_at : (trees : List Formula) (start : ℕ) (solids : List (Arc SolidParts Z)) (nodes : List CsgNode) (m : ℕ) (d : Arc SolidParts Z) → IsRunWork trees start solids nodes →
       ((n m : ℕ) → 1 ≤ m → m ≤ n → get_or (map solid_of (take n trees)) (m - 1) outside ≡ solid_of (tree_numbered trees m)) →

@@ -1,4 +1,2 @@
--- Solids of trees by a memo that threads share.
-pub mod Joins
+-- The solids of a store by many builders at once.
 pub mod Runs
-pub mod Known

@@ -10,26 +10,34 @@ use Rattle.csg_tree.specs.ProperTrees.{IsProper}
 use Rattle.csg_tree.specs.Numberings.{tree_numbered}
 use Rattle.csg_tree.specs.Nodes.{IsNodeOf}
 use Rattle.bsp_tree.specs.Shapes.{SolidParts}
-use Rattle.bsp_tree.specs.Trees.{Tree}
 use Rattle.bsp_tree.specs.Shapes.{tree_of}
 use Rattle.bsp_boolean.specs.Solids.{solid_of}
 use Rattle.bsp_boolean.specs.TreeSolids.{most_of_one, solid_size, total_size, joins, AreWithin}
 use Rattle.subtree_memo.specs.Shares.{View, fresh, joined}
 use Rattle.subtree_memo.specs.declared.ledgers.MemoLedger.{Ghosts}
+use Rattle.known_store.specs.Known.{shared_solids}
+use Rattle.join_solids.specs.Joins.{AreAsked}
 use Rattle.parallel_eval.specs.declared.growth.Growth.{Growth}
 use Rattle.parallel_eval.specs.declared.growth.NodeOutcome.{NodeOutcome}
 use Rattle.parallel_eval.specs.declared.growth.NodeOutcome.TheVariants.{Made, TooBig}
 use Rattle.parallel_eval.specs.declared.lane.Lane.{Lane}
-use Rattle.parallel_eval.specs.Joins.{AreAsked}
 
 -- how many of the first n trees are joins
 abbrev pub joins_to : List Formula → ℕ → ℕ
 joins_to trees n = joins (take n trees)
 
--- the solids that are shared
-module _ {Z : Type 0} where
-  abbrev pub shared_solids : List (Arc SolidParts Z) → List Tree
-  shared_solids solids = map (λ s. tree_of (arc_value s)) solids
+-- each builder's count is at most so many
+abbrev pub AreAtMost : {D : Type 0} → (D → ℕ) → ℕ → List D → Type 0
+AreAtMost count most bs = All (λ b. count b ≤ most) bs
+
+-- Builders and a share, behind so many joins: there are 1 to 64 builders and a part of the share for each and
+-- one more, and what was counted so far leaves room for the other joins of a store.
+pub record AreReady {D : Type 0} (count : D → ℕ) (done : ℕ) (share : View) (builders : List D) : Type 0 where
+  pub some : 1 ≤ length builders
+  pub many : length builders ≤ 64
+  pub parts : length builders < share.parts
+  pub counts : AreAtMost count (2 ^ 46 + done) builders
+  pub dropped : share.dropped ≤ 2 ^ 46 + done
 
 -- the first n nodes have their solids, which are within the limits
 pub record IsGrown (trees : List Formula) (n : ℕ) (growth : Growth) : Type 0 where

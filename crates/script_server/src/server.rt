@@ -13,8 +13,8 @@ ghost use Rattle.script_server.specs.Books.{IsRunOf};
 ghost use Rattle.script_server.specs.Serving.{StatusTells, WritesOutput, AskForRun, AskForNoInput, IsScriptOf, IsNoScript};
 
 use crate::running::{Ran, run_script, weights};
+use join_solids::ShaNamer;
 use outside_io::{Sink, Source};
-use parallel_eval::ShaNamer;
 use plane_predicate::Unit;
 use run_words::{Settings, read_words};
 use script_reader::{ClientScript, Script, bytes_are_one_script};

@@ -1,6 +1,6 @@
 //! A gate that holds builds or refuses them by a rule.
 
-use parallel_eval::Gate;
+use join_solids::Gate;
 use std::sync::{Mutex, Wait};
 use std::thread;
 use text_place::NoMemory;

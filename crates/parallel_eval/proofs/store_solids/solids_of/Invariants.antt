@@ -1,6 +1,6 @@
 use Rattle.std.proofs.Common.{◌-◌, length, sum_by}
-use Rattle.parallel_eval.specs.Joins.{AreReady, AreAsked}
-use Rattle.parallel_eval.specs.Runs.{joins_to, IsGrowing}
+use Rattle.join_solids.specs.Joins.{AreAsked}
+use Rattle.parallel_eval.specs.Runs.{joins_to, AreReady, IsGrowing}
 use Rattle.parallel_eval.proofs.store_solids.solids_of.Given as goal
 
 -- the first nodes have their solids, and their joins were answered

@@ -1,0 +1,10 @@
+use Rattle.std.proofs.Common.{◌≡◌, length}
+use Rattle.std.specs.Arc.{arc_value}
+use Rattle.known_store.specs.Known.{AreKnown}
+use Rattle.known_store.proofs.store.KnownStore.over.Given as goal
+
+abbrev pub invariant-loop-before : goal.invariant-loop-before
+invariant-loop-before l = record {
+  count : length l.leaves.items ≡ l.before;
+  known : AreKnown (arc_value l.store) l.leaves.items;
+}

@@ -1,0 +1,2 @@
+-- What is known of the trees of a store.
+pub mod Known
