@@ -6,3 +6,10 @@ pub mod Again
 pub mod Chains
 pub mod Standing
 pub mod Bodies
+pub mod Calls
+pub mod Outcomes
+pub mod Steps
+pub mod SmallNumbers
+pub mod Forms
+mod FilledAlike
+pub mod GivenSeen

@@ -3,3 +3,4 @@ pub mod Meaning
 pub mod Definitions
 pub mod View
 pub mod Evaluations
+pub mod Steps

@@ -77,7 +77,7 @@ abbrev pub IsFilledAs : Result (List (Option ℕ)) Place → Slots → Type 0
 IsFilledAs (Ok numbers) slots = map is_some numbers ≡ map is_some slots
 IsFilledAs (Err at) slots = ⊥
 
--- what a source holds by number, and whether it is the text of a program
+-- what a source holds by number
 abbrev pub source_text : Source → NumberedText
 source_text source = text_held source.blocks
 
@@ -108,7 +108,7 @@ abbrev pub IsCallFound : NumberedText → List Row → Opened → Option ModuleC
 IsCallFound text rows wanted None = wanted ≡ no_call
 IsCallFound text rows wanted (Some call) = wanted ≡ opened (statements_at text call.children) (env_in text (env_of rows call.caller))
 
--- the greatest depth of a function's value and of its defaults
+-- the depth of a parameter's default
 abbrev pub param_size : Param → ℕ
 param_size (Plain at name) = 0
 param_size (WithDefault at name value) = size-Expr value

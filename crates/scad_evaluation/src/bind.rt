@@ -18,8 +18,8 @@ use std::alloc::Global;
 use std::mem;
 use text_place::NoMemory;
 
-// Gives parameters their values in the newest scope, from the first on. `NoMemory` leaves some of them; the scopes
-// before are always as they were.
+/// Gives parameters their values in the newest scope, from the first on. `NoMemory` leaves some of them; the scopes
+/// before are always as they were.
 pub(crate) fn bind_all(
     alloc: Global,
     scopes: &mut Scopes,
@@ -44,8 +44,8 @@ pub(crate) fn bind_all(
     Ok(())
 }
 
-// Gives a name a value in the newest scope. The scopes before are always as they were, and at
-// `NoMemory` all are.
+/// Gives a name a value in the newest scope. The scopes before are always as they were, and at
+/// `NoMemory` all are.
 #[tactic(auto, using(crate::proofs::Growth::front_kept, crate::proofs::Growth::bound_length))]
 pub(crate) fn bind_one(
     alloc: Global,

@@ -8,7 +8,7 @@ use scad_value::BoundedValue;
 use std::alloc::Global;
 use text_place::Stop;
 
-// Gives special names their values, from the first on. `NoMemory` leaves some of them with the older ones as they were.
+/// Gives special names their values, from the first on. `NoMemory` leaves some of them with the older ones as they were.
 pub(crate) fn bind_specials(
     alloc: Global,
     scopes: &mut Scopes,

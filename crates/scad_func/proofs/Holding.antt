@@ -15,18 +15,18 @@ use Rattle.scad_evaluation.specs.Meaning.{Outcome, Gives, Faults, Setting, value
 use Rattle.text_place.specs.declared.fault.Place.{Place}
 use Rattle.text_place.specs.declared.fault.FaultKind.TheVariants.{BadArgument}
 use Rattle.scad_arguments.specs.ArgumentsView.{IsFaultAt}
-use Rattle.scad_func.specs.Steps.{argument_of}
+use Rattle.scad_evaluation.specs.Steps.{argument_of}
 use Rattle.scad_evaluation.specs.declared.values.BoundedValues.{BoundedValues}
 use Rattle.scad_evaluation.specs.View.{MeetsOutcome, IsNoMemory, IsOneMore, values_seen, arguments_of}
 use Rattle.scad_answer.specs.View.{IsAlone}
-use Rattle.scad_func.proofs.GivenSeen.{IsHeld}
+use Rattle.scad_evaluation.proofs.GivenSeen.{IsHeld}
 use Rattle.scad_arguments.specs.declared.parameters.GivenArguments.{GivenArguments}
-use Rattle.scad_func.proofs.Calls.{in_front}
+use Rattle.scad_evaluation.proofs.Calls.{in_front}
 use Rattle.scad_evaluation.specs.declared.evaluation.Evaluation.{Evaluation}
 use Rattle.scad_evaluation.specs.Evaluations.{Keeps, EvaluatesTo, setting_here}
 use Rattle.scad_func.proofs.Kept.{moved}
-use Rattle.scad_func.proofs.Outcomes.{meets_along, front_more, and_arg}
-use Rattle.scad_func.proofs.Steps.{argument_more, argument_fault}
+use Rattle.scad_evaluation.proofs.Outcomes.{meets_along, front_more, and_arg}
+use Rattle.scad_evaluation.proofs.Steps.{argument_more, argument_fault}
 
 abbrev pub and_then : Outcome Val → (ℕ → Outcome Vals) → Outcome Vals
 and_then step go = then_with step (λ turns v. then_with (go turns) (λ turns vs. Gives turns (and_val v vs)))

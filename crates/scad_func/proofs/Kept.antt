@@ -18,7 +18,7 @@ use Rattle.scad_evaluation.specs.declared.evaluation.Evaluation.{Evaluation}
 use Rattle.scad_evaluation.specs.View.{MeetsOutcome, deepest, seen}
 use Rattle.scad_answer.specs.View.{MeetsAnswerAt}
 use Rattle.scad_evaluation.specs.Evaluations.{Keeps, EvaluatesTo, SpecialsBegin, ScopeEnters, setting, setting_here, scope_here, work_left}
-use Rattle.scad_func.proofs.Outcomes.{fault_goes, value_goes, meets_answer}
+use Rattle.scad_evaluation.proofs.Outcomes.{fault_goes, value_goes, meets_answer}
 
 -- where an expression stands, by what it depends on
 setting_by : Source → List Row → ℕ → ℕ → ℕ → Pairs Val → Setting

@@ -10,18 +10,19 @@ ghost use Rattle.scad_arguments.specs.ArgumentsView.{names_in};
 ghost use Rattle.scad_evaluation.specs.Limits.{most_calls, most_turns};
 ghost use Rattle.scad_evaluation.specs.Meaning.{Outcome, Gives, one_call_fewer, turn, then_with, answered, value_at, operand as operand_at, each_value as values_at, each_argument as arguments_at, each_parameter as parameters_at, parameter_value, function_value as function_value_at, function_called, each_suffix, each_link, called, function_in, counted as counted_at};
 ghost use Rattle.scad_answer.specs.Answers.{range_of, stepped_range_of};
-ghost use Rattle.scad_func.specs.Steps.{all_values, suffixed, linked, with_parameters};
+ghost use Rattle.scad_evaluation.specs.Steps.{all_values, suffixed, linked, with_parameters};
 ghost use Rattle.scad_blocks.specs.TextView.{function_of};
 ghost use Rattle.scad_evaluation.specs.View.{MeetsOutcome, values_seen, indexed_val, IsThere, slot_of, slots_in, arguments_of, function_size, deepest};
 ghost use Rattle.scad_evaluation.specs.Evaluations.{Keeps, EvaluatesTo, env_here};
 
-use crate::answer::{applied_to, listed, text_of};
-use crate::argument::{argument_value, built_in_for};
 use scad_answer::{
     binary_value, is_true, range_value, stepped_range_value, unary_value, wants_right, with,
 };
 use scad_ast::{Args, Expr, Exprs, Link, Links, Param, Params, Suffix, Suffixes, UnaryOp};
-use scad_evaluation::{BoundedValues, CALLS, EVALUATIONS, Evaluation, Indexed, TURNS};
+use scad_evaluation::{
+    BoundedValues, CALLS, EVALUATIONS, Evaluation, Indexed, TURNS, applied_to, argument_value,
+    built_in_for, listed, text_of,
+};
 use scad_scope::{ArgumentsSoFar, Function, GivenArguments, Names, positional_after};
 use scad_value::{BoundedValue, Value};
 use std::mem;
@@ -29,9 +30,8 @@ use text_place::{FaultKind, Place, Stop};
 
 /// The value of an expression in the scope in which is evaluated, whose parts are counted where it is a list.
 ///
-/// At 512 evaluations in one another, each through all forms, it takes less than 4 MiB of the stack: 2.9 MiB were
-/// measured, and the frames on the longest way added up to 3.7 MiB, before `BoundedValue` stood in them. No contract
-/// speaks of the stack.
+/// At 512 evaluations in one another, each through many forms, it takes less than 4 MiB of the stack: 2.0 MiB were
+/// measured. No contract speaks of the stack.
 #[cycle(value)]
 #[tactic(auto, using(crate::proofs::Kept::keeps_trans))]
 pub fn evaluate(evaluation: &mut Evaluation<'_, '_>, expr: &Expr) -> Result<BoundedValue, Stop>
@@ -461,7 +461,7 @@ fn in_new_scope(
     value
 }
 
-// The values of parameters, from the first on.
+/// The values of parameters, from the first on.
 #[cycle(value)]
 #[inline(never)]
 #[tactic(auto, using(crate::proofs::Kept::keeps_trans))]

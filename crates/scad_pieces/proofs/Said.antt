@@ -20,7 +20,7 @@ use Rattle.scad_arguments.specs.declared.parameters.Destination.{Destination}
 use Rattle.scad_arguments.specs.declared.parameters.GivenArguments.{GivenArguments}
 use Rattle.scad_evaluation.specs.Meaning.{Outcome, Gives, then_with, or_fault, Setting, value_at, Arguments}
 use Rattle.scad_evaluation.specs.View.{MeetsOutcome, arguments_of}
-use Rattle.scad_func.proofs.GivenSeen.{IsHeld, taker_given, held_seen}
+use Rattle.scad_evaluation.proofs.GivenSeen.{IsHeld, taker_given, held_seen}
 use Rattle.scad_func.proofs.Holding.{argument_refused}
 use Rattle.scad_pieces.specs.Calls.{said_once}
 

@@ -27,7 +27,7 @@ use Rattle.scad_evaluation.specs.Limits.{most_calls, most_evaluations}
 use Rattle.scad_evaluation.specs.Meaning.{Outcome, Gives, Faults, value_at, with_calls, one_call_fewer, turn, each_argument, each_parameter, parameter_value, function_value, operand, each_value, each_suffix, each_link, called, answered, or_fault, or_zero, Setting, Slots, then_with}
 use Rattle.scad_answer.specs.Answers.{range_of}
 use Rattle.scad_answer.specs.View.{MeetsAnswerAt}
-use Rattle.scad_func.specs.Steps.{all_values, suffixed, linked, with_parameters}
+use Rattle.scad_evaluation.specs.Steps.{all_values, suffixed, linked, with_parameters}
 use Rattle.scad_evaluation.specs.declared.values.BoundedValues.{BoundedValues}
 use Rattle.scad_evaluation.specs.View.{MeetsOutcome, IsNoMemory, IsOneMore, values_seen, specials_in, source_text, slots_in, slot_of, indexed_val, arguments_of}
 use Rattle.scad_arguments.specs.declared.parameters.GivenArguments.{GivenArguments}
@@ -36,12 +36,12 @@ use Rattle.scad_arguments.specs.declared.so_far.ArgumentsSoFar.{ArgumentsSoFar}
 use Rattle.scad_arguments.specs.declared.parameters.Destination.{Destination}
 use Rattle.scad_evaluation.specs.Evaluations.{EvaluatesTo, SpecialsBegin, env_here, setting_here, work_left}
 use Rattle.scad_evaluation.specs.declared.source.Source.{Source}
-use Rattle.scad_func.proofs.Outcomes.{meets_along, fault_goes, evaluated_deeper, evaluated_too_deep, value_counted, fault_counted, values_end, terms_here, terms_end, args_here, args_end, values_here, suffixes_here, suffix_step, links_here, step_more, step_fault, name_then, fault_at, link_wants}
+use Rattle.scad_evaluation.proofs.Outcomes.{meets_along, fault_goes, evaluated_deeper, evaluated_too_deep, value_counted, fault_counted, values_end, terms_here, terms_end, args_here, args_end, values_here, suffixes_here, suffix_step, links_here, step_more, step_fault, name_then, fault_at, link_wants}
 use Rattle.scad_evaluation.proofs.Environments.{variable_same}
-use Rattle.scad_func.proofs.Steps.{deep_enough, param_deep, params_here, params_end, slots_here, filled_end, argument_none}
-use Rattle.scad_func.proofs.Forms.{name_form, special_form, count_form, postfix_form, chain_form, choice_form, link_form, member_form, args_form}
+use Rattle.scad_evaluation.proofs.Steps.{deep_enough, param_deep, params_here, params_end, slots_here, filled_end, argument_none}
+use Rattle.scad_evaluation.proofs.Forms.{name_form, special_form, count_form, postfix_form, chain_form, choice_form, link_form, member_form, args_form}
 use Rattle.scad_func.proofs.Kept.{stops, goes, answers, keeps_from, keeps_same, keeps_trans, call_found, moved, work_falls, specials_kept, specials_setting}
-use Rattle.scad_func.proofs.GivenSeen.{taker_given, nothing_seen, held_seen}
+use Rattle.scad_evaluation.proofs.GivenSeen.{taker_given, nothing_seen, held_seen}
 use Rattle.scad_func.proofs.Holding.{argument_refused, argument_stops, item_told, item_stops, longer_length, argument_held, if_err_at, if_ok_at, on_ok_at, on_err_at, none_told}
 use Rattle.scad_func.proofs.evaluator.+value.Goals as goal
 

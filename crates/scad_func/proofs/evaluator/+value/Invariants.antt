@@ -15,10 +15,10 @@ use Rattle.scad_value.specs.BoundedView.{bounded_val}
 use Rattle.scad_arguments.specs.Arguments.{nothing_given}
 use Rattle.scad_arguments.specs.ArgumentsView.{names_in}
 use Rattle.scad_evaluation.specs.Meaning.{each_value, each_argument, each_parameter, each_suffix, each_link}
-use Rattle.scad_func.specs.Steps.{all_values}
+use Rattle.scad_evaluation.specs.Steps.{all_values}
 use Rattle.scad_evaluation.specs.View.{indexed_val, slots_in, arguments_of, function_size, param_size, params_size}
 use Rattle.scad_evaluation.specs.Evaluations.{Keeps, work_left, env_here, setting_here}
-use Rattle.scad_func.proofs.Calls.{in_front}
+use Rattle.scad_evaluation.proofs.Calls.{in_front}
 use Rattle.scad_func.proofs.evaluator.+value.Given as goal
 
 abbrev pub decreases-evaluate : goal.decreases-evaluate

@@ -4,10 +4,10 @@ use Rattle.scad_ast.specs.Terms.{args_from}
 use Rattle.scad_ast.specs.ExprView.{args_of, arg_of}
 use Rattle.scad_builtin.specs.Builtins.{takes}
 use Rattle.scad_evaluation.specs.Meaning.{built_in}
-use Rattle.scad_func.proofs.Steps.{as_many, built_in_named, built_in_taken}
-use Rattle.scad_func.proofs.Forms.{args_form}
-use Rattle.scad_func.proofs.argument.built_in_for.Goals.{then-not-have_no_names-via-then-not-have_no_names, then-not-have_no_names-via-else-not-have_no_names+then-not-takes}
-use Rattle.scad_func.proofs.argument.built_in_for.Goals as goal
+use Rattle.scad_evaluation.proofs.Steps.{as_many, built_in_named, built_in_taken}
+use Rattle.scad_evaluation.proofs.Forms.{args_form}
+use Rattle.scad_evaluation.proofs.argument.built_in_for.Goals.{then-not-have_no_names-via-then-not-have_no_names, then-not-have_no_names-via-else-not-have_no_names+then-not-takes}
+use Rattle.scad_evaluation.proofs.argument.built_in_for.Goals as goal
 
 pub returns-clause-called : goal.returns-clause-called
 returns-clause-called c = λ here turns.

@@ -1,7 +1,7 @@
 use Rattle.std.proofs.Common.{length}
 use Rattle.scad_arguments.specs.Arguments.{nothing_given}
-use Rattle.scad_func.proofs.FilledAlike.{all_matched, none_alike}
-use Rattle.scad_func.proofs.laws.arguments_are_evaluated_as_matched.Goals as goal
+use Rattle.scad_evaluation.proofs.FilledAlike.{all_matched, none_alike}
+use Rattle.scad_evaluation.proofs.laws.arguments_are_evaluated_as_matched.Goals as goal
 
 pub returns : goal.returns
 returns c = λ here names args turns after given h.

@@ -6,7 +6,7 @@ ghost use Rattle.scad_ast.specs.declared.expression.Arg.{size-Arg};
 ghost use Rattle.scad_ast.specs.Terms.{args_from};
 ghost use Rattle.scad_builtin.specs.Builtins.{applied, builtin_of, is_left_out as left_out};
 ghost use Rattle.scad_evaluation.specs.Meaning.{Setting, then_with, answered, each_value, built_in};
-ghost use Rattle.scad_func.specs.Steps.{have_no_names as no_names, is_named, all_values, argument_of};
+ghost use Rattle.scad_evaluation.specs.Steps.{have_no_names as no_names, is_named, all_values, argument_of};
 ghost use Rattle.scad_value.specs.BoundedView.{bounded_val};
 ghost use Rattle.scad_evaluation.specs.View.{MeetsOutcome};
 
@@ -35,8 +35,8 @@ fn has_name(arg: &Arg) -> bool
     }
 }
 
-// The value of an argument, as an expression.
-pub(crate) fn argument_value(arg: &Arg) -> &Expr
+/// The value of an argument, as an expression.
+pub fn argument_value(arg: &Arg) -> &Expr
     ensures value { term_of result.now ≡ argument_of (arg_of arg.now) }
     ensures smaller { size-Expr result.now < size-Arg arg.now }
 {
@@ -46,8 +46,8 @@ pub(crate) fn argument_value(arg: &Arg) -> &Expr
     }
 }
 
-// The built-in function of a call, whose faults stand at its name.
-pub(crate) fn built_in_for(name: &[u8], place: Place, args: &Args) -> Result<Builtin, Stop>
+/// The built-in function of a call, whose faults stand at its name.
+pub fn built_in_for(name: &[u8], place: Place, args: &Args) -> Result<Builtin, Stop>
     ensures called { IfOk result (λ f. (here : Setting) (turns : ℕ) → built_in here place name.now (args_from (args_of args.now)) turns (builtin_of name.now)
         ≡ then_with (each_value here (all_values (args_from (args_of args.now))) turns) (λ turns vs. answered (applied f vs) place turns)) }
     ensures refused { IfErr result (λ stop. (here : Setting) (turns n : ℕ) →

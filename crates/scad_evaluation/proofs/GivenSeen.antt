@@ -15,7 +15,7 @@ use Rattle.scad_arguments.specs.declared.parameters.SpecialArgument.{SpecialArgu
 use Rattle.scad_arguments.specs.declared.parameters.GivenArguments.{GivenArguments}
 use Rattle.scad_arguments.specs.declared.parameters.Destination.{Destination}
 use Rattle.scad_evaluation.specs.Meaning.{Arguments}
-use Rattle.scad_func.proofs.FilledAlike.{Alike, found_alike, taker_alike}
+use Rattle.scad_evaluation.proofs.FilledAlike.{Alike, found_alike, taker_alike}
 use Rattle.scad_evaluation.specs.View.{special_of, specials_in, slot_of, slots_in, arguments_of}
 
 abbrev value_pair : List ℕ × BoundedValue → List ℕ × Val
