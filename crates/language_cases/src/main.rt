@@ -13,10 +13,6 @@
 #![tactic(auto)]
 
 mod case;
-mod places;
-mod program;
-mod text;
-mod tokens;
 mod tree;
 mod value;
 

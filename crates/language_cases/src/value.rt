@@ -2,8 +2,8 @@
 
 ghost use Rattle.std.specs.Prelude.{◌≤◌, ◌^◌, length};
 
-use crate::program::put_of_program;
 use case_lines::{put, put_number};
+use case_syntax::put_of_program;
 use scad_ast::{Expr, Program, Statement};
 use scad_evaluation::Meter;
 use scad_func::value_of;
