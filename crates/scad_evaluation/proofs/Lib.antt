@@ -12,4 +12,5 @@ pub mod Steps
 pub mod SmallNumbers
 pub mod Forms
 mod FilledAlike
+mod Valued
 pub mod GivenSeen

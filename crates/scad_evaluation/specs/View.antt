@@ -1,12 +1,13 @@
 -- What the evaluator's answers tell, and the words of its conditions.
-use Rattle.std.specs.Prelude.{◌≡◌, ℕ, List, [], ◌∷◌, ◌++◌, length, map, reverse, IsTrue, is_some, Option, Some, None, Result, Ok, Err}
+use Rattle.std.specs.Prelude.{◌≡◌, ℕ, zero, suc, List, [], ◌∷◌, ◌++◌, length, map, option_map, reverse, IsTrue, is_some, Option, Some, None, Result, Ok, Err}
 use Rattle.text_place.specs.declared.fault.Stop.{Stop}
 use Rattle.text_place.specs.declared.fault.Stop.TheVariants.{Fault, NoMemory}
 use Rattle.text_place.specs.declared.fault.Place.{Place}
+use Rattle.text_place.specs.declared.fault.FaultKind.TheVariants.{BadArgument}
 use Rattle.scad_value.specs.declared.bounded_value.BoundedValue.{BoundedValue}
 use Rattle.scad_value.specs.BoundedView.{bounded_val}
 use Rattle.scad_evaluation.specs.declared.values.BoundedValues.{BoundedValues}
-use Rattle.scad_value.specs.Values.{Val, UndefVal, Vals, vals_from}
+use Rattle.scad_value.specs.Values.{Val, UndefVal, Vals, no_vals, and_val, vals_from}
 use Rattle.scad_value.specs.View.{vals_in}
 use Rattle.scad_scope.specs.Names.{Pairs, Row, NumberedEnv, env_of, variable_in}
 use Rattle.scad_ast.specs.Terms.{StatementTerm}
@@ -17,6 +18,7 @@ use Rattle.scad_blocks.specs.TextView.{function_of, module_of}
 use Rattle.scad_evaluation.specs.Meaning.{Outcome, Gives, Faults, Env, Opened, no_call, opened, Slots, Arguments}
 use Rattle.scad_evaluation.specs.Definitions.{env_in, statements_at}
 use Rattle.scad_evaluation.specs.declared.source.Source.{Source}
+use Rattle.scad_arguments.specs.Arguments.{Given}
 use Rattle.scad_arguments.specs.declared.parameters.SpecialArgument.{SpecialArgument}
 use Rattle.scad_arguments.specs.declared.parameters.GivenArguments.{GivenArguments}
 use Rattle.scad_evaluation.specs.declared.names.Indexed.{Indexed}
@@ -72,10 +74,24 @@ specials_in specials = reverse (map special_of specials)
 abbrev pub arguments_of : GivenArguments BoundedValue → Arguments
 arguments_of given = record { slots = slots_in given.slots.items; specials = specials_in given.specials.items }
 
--- each argument was put to its parameter, and the same parameters were given values
-abbrev pub IsFilledAs : Result (List (Option ℕ)) Place → Slots → Type 0
-IsFilledAs (Ok numbers) slots = map is_some numbers ≡ map is_some slots
-IsFilledAs (Err at) slots = ⊥
+-- the value at a number, counted from 0, or undef behind the last
+abbrev pub value_numbered : Vals → ℕ → Val
+value_numbered no_vals number = UndefVal
+value_numbered (and_val value values) zero = value
+value_numbered (and_val value values) (suc number) = value_numbered values number
+
+-- a name with the value at its number
+abbrev pub pair_numbered : Vals → List ℕ × ℕ → List ℕ × Val
+pair_numbered values pair = (pair.0, value_numbered values pair.1)
+
+-- what a call's arguments give by their values, where it is told by their numbers
+abbrev pub valued : Vals → Given ℕ → Arguments
+valued values given = record { slots = map (option_map (value_numbered values)) given.slots; specials = map (pair_numbered values) given.specials }
+
+-- matched arguments with these values, or the fault of the first that nothing takes
+abbrev pub matched_with : Vals → ℕ → Result (Given ℕ) Place → Outcome Arguments
+matched_with values turns (Ok given) = Gives turns (valued values given)
+matched_with values turns (Err at) = Faults BadArgument at
 
 -- what a source holds by number
 abbrev pub source_text : Source → NumberedText

@@ -1,10 +1,12 @@
 ghost use Rattle.std.specs.Prelude.{◌≡◌, ℕ, List, length};
 ghost use Rattle.scad_ast.specs.Terms.{StatementTerm, ArgTerm, args_from};
-ghost use Rattle.scad_arguments.specs.Arguments.{matching_of, nothing_given};
+ghost use Rattle.scad_value.specs.Values.{Vals};
+ghost use Rattle.scad_arguments.specs.Arguments.{matched, nothing_given};
 ghost use Rattle.scad_blocks.specs.Blocks.{numbered_text};
-ghost use Rattle.scad_evaluation.specs.Meaning.{Env, Opened, Setting, Gives, Arguments, entered_scope, each_argument};
+ghost use Rattle.scad_evaluation.specs.Meaning.{Env, Opened, Setting, Gives, Arguments, entered_scope, each_value, each_argument};
 ghost use Rattle.scad_evaluation.specs.Definitions.{statements_at, block_scope};
-ghost use Rattle.scad_evaluation.specs.View.{IsFilledAs};
+ghost use Rattle.scad_evaluation.specs.Steps.{all_values};
+ghost use Rattle.scad_evaluation.specs.View.{matched_with};
 
 /// The law that the scope of a block of a program, by the numbers of its definitions, is that of the
 /// statements that stand in the block.
@@ -14,10 +16,14 @@ pub fn enter_what_stands()
         ≡ entered_scope (statements_at (numbered_text program) number) call outer }
 {}
 
-/// The law that arguments are evaluated as `arguments` of `scad_scope` matches them: where those of a call
-/// give values, each of them has its parameter, and the parameters with an argument are those with a value.
+/// The law that arguments are evaluated as `arguments` of `scad_scope` matches them: where those of a call give values, each of
+/// them gave one; and where each gives one, what takes an argument has its value, or the first that nothing takes is the fault.
 pub fn arguments_are_evaluated_as_matched()
-    ensures { (here : Setting) (names : List (List ℕ)) (args : List ArgTerm) (turns after : ℕ) (given : Arguments) →
+    ensures values { (here : Setting) (names : List (List ℕ)) (args : List ArgTerm) (turns after : ℕ) (given : Arguments) →
         each_argument here names 0 (args_from args) (nothing_given (length names)) turns ≡ Gives after given →
-        IsFilledAs (matching_of names args) given.slots }
+        (values : Vals) × (each_value here (all_values (args_from args)) turns ≡ Gives after values) }
+    ensures matched { (here : Setting) (names : List (List ℕ)) (args : List ArgTerm) (turns after : ℕ) (values : Vals) →
+        each_value here (all_values (args_from args)) turns ≡ Gives after values →
+        each_argument here names 0 (args_from args) (nothing_given (length names)) turns
+        ≡ matched_with values after (matched names 0 0 args (nothing_given (length names))) }
 {}

@@ -1,8 +1,17 @@
-use Rattle.std.proofs.Common.{length}
+use Rattle.std.proofs.Common.{◌≡◌, ◌+◌, length, sym, ap, ◌∙◌, arith}
+use Rattle.scad_ast.specs.Terms.{args_from}
 use Rattle.scad_arguments.specs.Arguments.{nothing_given}
-use Rattle.scad_evaluation.proofs.FilledAlike.{all_matched, none_alike}
+use Rattle.scad_evaluation.specs.Meaning.{Arguments, each_argument}
+use Rattle.scad_evaluation.specs.View.{value_numbered}
+use Rattle.scad_evaluation.proofs.Valued.{nothing_valued, all_matched, all_gave}
 use Rattle.scad_evaluation.proofs.laws.arguments_are_evaluated_as_matched.Goals as goal
 
-pub returns : goal.returns
-returns c = λ here names args turns after given h.
-    all_matched here names args 0 0 turns after (nothing_given (length names)) given (nothing_given (length names)) (none_alike _ _ (length names)) h
+pub returns-clause-values : goal.returns-clause-values
+returns-clause-values c = λ here names args turns after given h.
+    all_gave here names args 0 turns after (nothing_given (length names)) given h
+
+pub returns-clause-matched : goal.returns-clause-matched
+returns-clause-matched c = λ here names args turns after values h.
+    ap (λ (given : Arguments). each_argument here names 0 (args_from args) given turns) (sym (nothing_valued values (length names)))
+    ∙ all_matched here names values args 0 0 turns after values (nothing_given (length names))
+    (λ k. let at_once : 0 + k ≡ k = omega arith in ap (value_numbered values) at_once) h
