@@ -11,4 +11,4 @@ pub use building::{Builder, PlainBuilder};
 pub use laws::{merges_are_operations, one_tree_more, solids_are_their_trees};
 pub use leaf_solids::{BuildStop, leaf_solid};
 pub use merging::{merge, merge_within};
-pub use tree_solids::{TreeStop, tree_solid};
+pub use tree_solids::{MOST_OF_ALL, MOST_OF_ONE, TreeStop, tree_solid};

@@ -17,11 +17,11 @@ use leaf_solids::{BuildStop, leaf_solid};
 use std::alloc::Global;
 use text_place::NoMemory;
 
-// The most that the size of one node's solid may be.
-const MOST_OF_ONE: u64 = 50_000;
+/// The most that the size of one node's solid may be.
+pub const MOST_OF_ONE: u64 = 50_000;
 
-// The most that the sizes of all nodes' solids may be together.
-const MOST_OF_ALL: u64 = 500_000;
+/// The most that the sizes of all nodes' solids may be together.
+pub const MOST_OF_ALL: u64 = 500_000;
 
 /// Why a tree has no solid.
 #[derive(Clone, Copy, Debug)]

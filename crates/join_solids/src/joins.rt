@@ -11,7 +11,7 @@ ghost use Rattle.join_solids.specs.Joins.{IsJoinOf, Gives, AreBuilt, HasRoom, Ar
 
 use crate::gate::Gate;
 use crate::solid_fit::SolidFit;
-use bsp_boolean::{BuildStop, Builder};
+use bsp_boolean::{BuildStop, Builder, MOST_OF_ONE};
 use bsp_tree::Solid;
 use csg_tree::{Op, TreeKey};
 use flight_memo::{Claimed, Flight, FlightBooks, FlightShare};
@@ -19,9 +19,6 @@ use memo_core::Namer;
 use std::alloc::Global;
 use std::sync::{Arc, Wait};
 use text_place::NoMemory;
-
-/// The most that the size of one node's solid may be.
-pub const MOST_OF_ONE: u64 = 50_000;
 
 /// What the builders of a tree's solids have in common: the memo whose joins they claim, and the gate that each
 /// build enters.

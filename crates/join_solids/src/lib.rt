@@ -8,6 +8,6 @@ mod solid_fit;
 mod tree_namer;
 
 pub use gate::{Gate, OpenGate};
-pub use joins::{Builds, JoinNode, MOST_OF_ONE};
+pub use joins::{Builds, JoinNode};
 pub use solid_fit::SolidFit;
 pub use tree_namer::ShaNamer;

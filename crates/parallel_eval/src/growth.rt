@@ -6,14 +6,11 @@ ghost use Rattle.bsp_boolean.specs.TreeSolids.{IsTreeStop};
 ghost use Rattle.parallel_eval.specs.Runs.{IsGrown, IsNodeOutcome, IsMade, AreNodeOutcomes, IsComplete, AreLanes, AreComplete};
 
 use crate::lane::Lane;
-use bsp_boolean::{TreeStop, one_tree_more};
+use bsp_boolean::{MOST_OF_ALL, TreeStop, one_tree_more};
 use bsp_tree::Solid;
 use csg_tree::CsgStore;
 use flight_memo::FlightBooks;
 use std::sync::Arc;
-
-// The most that the sizes of all nodes' solids may be together.
-const MOST_OF_ALL: u64 = 500_000;
 
 /// What came of one node: its solid, or that it is above the limit of one.
 #[derive(Drop)]

@@ -13,11 +13,11 @@ ghost use Rattle.parallel_eval.specs.Runs.{joins_to, IsRunWork, IsRunNode, IsNod
 
 use crate::growth::NodeOutcome;
 use crate::lane::Lane;
-use bsp_boolean::{BuildStop, Builder, leaf_solid, one_tree_more};
+use bsp_boolean::{BuildStop, Builder, MOST_OF_ONE, leaf_solid, one_tree_more};
 use bsp_tree::Solid;
 use csg_tree::{CsgNode, TreeKey};
 use flight_memo::{FlightBooks, FlightShare};
-use join_solids::{Builds, Gate, JoinNode, MOST_OF_ONE, SolidFit};
+use join_solids::{Builds, Gate, JoinNode, SolidFit};
 use known_store::KnownStore;
 use memo_core::Namer;
 use pair_work::PairWork;
