@@ -14,7 +14,8 @@ use primitives::extrude;
 use scad_design::{Design, Part};
 use scad_meaning::Extrusion;
 use scad_modules::{FlatShape, SolidShape};
-use scad_pieces::{InstanceResult, Position, design_hull, flat_shape, is_nothing, solid_shape};
+use scad_pieces::{InstanceResult, Position};
+use scad_shapes::{design_hull, flat_shape, is_nothing, solid_shape};
 use shape_planes::{Shape, ShapeStop};
 use text_place::{FaultKind, Place, Stop};
 

@@ -1,7 +1,6 @@
 mod BoundedItems
 mod Crossing
 mod KeptChildren
-mod ShapeAnswers
 pub mod NumberedItems
 mod Numbering
 mod RangeNumbers

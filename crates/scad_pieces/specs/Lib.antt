@@ -1,4 +1,3 @@
-pub mod Answers
 pub mod BoundedItems
 pub mod Calls
 pub mod Choosing

@@ -1,6 +1,6 @@
 use Rattle.std.proofs.Common.{rules, w64, to_z-of_z, FitsSigned}
-use Rattle.scad_pieces.proofs.ShapeAnswers.{square_answer, polygon_answer, circle_answer}
-use Rattle.scad_pieces.proofs.shapes.flat_shape.Goals as goal
+use Rattle.scad_shapes.proofs.ShapeAnswers.{square_answer, polygon_answer, circle_answer}
+use Rattle.scad_shapes.proofs.shapes.flat_shape.Goals as goal
 
 pub returns-in-Square : goal.returns-in-Square
 returns-in-Square c = rw c.in-Square.is (square_answer c.args.unit c.in-Square.center c.in-Square.size c.square_flat.result c.square_flat.ensures.flat c.square_flat.ensures.sizes c.square_flat.ensures.stops)

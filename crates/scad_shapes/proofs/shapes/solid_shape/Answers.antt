@@ -1,6 +1,6 @@
 use Rattle.std.proofs.Common.{rules, w64, to_z-of_z, FitsSigned}
-use Rattle.scad_pieces.proofs.ShapeAnswers.{cube_answer, polyhedron_answer, cylinder_answer}
-use Rattle.scad_pieces.proofs.shapes.solid_shape.Goals as goal
+use Rattle.scad_shapes.proofs.ShapeAnswers.{cube_answer, polyhedron_answer, cylinder_answer}
+use Rattle.scad_shapes.proofs.shapes.solid_shape.Goals as goal
 
 pub returns-in-Cube : goal.returns-in-Cube
 returns-in-Cube c = rw c.in-Cube.is (cube_answer c.args.unit c.in-Cube.center c.in-Cube.size c.cube_shape.result c.cube_shape.ensures.shape c.cube_shape.ensures.sizes c.cube_shape.ensures.stops)

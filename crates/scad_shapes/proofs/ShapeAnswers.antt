@@ -12,7 +12,7 @@ use Rattle.round_four.specs.Cylinders.{cylinder_of, AreCylinderSizes, IsCylinder
 use Rattle.polyhedra.specs.Polyhedra.{mesh_of, IsPolyhedron, IsFirstFault}
 use Rattle.scad_modules.specs.Effects.{SolidCall, cube_call, polyhedron_call, cylinder_call, FlatCall, square_call, polygon_call, circle_call}
 use Rattle.scad_meaning.specs.Verdicts.{Verdict, Judge, IsRight, IsSolidVerdict, IsFlatVerdict}
-use Rattle.scad_pieces.specs.Answers.{MeetsShape, MeetsFlat}
+use Rattle.scad_shapes.specs.Answers.{MeetsShape, MeetsFlat}
 use Rattle.scad_meaning.proofs.Verdicts.{one_solid_verdict, one_flat_verdict}
 
 -- what a right judge says of a solid, by any right verdict

@@ -3,7 +3,7 @@
 ghost use Rattle.scad_modules.specs.Bounds.{IsSafeSolid, IsSafeFlat};
 ghost use Rattle.scad_modules.specs.View.{solid_call_of, flat_call_of};
 ghost use Rattle.scad_meaning.specs.Verdicts.{Judge, IsRight, solid_of, outline_of};
-ghost use Rattle.scad_pieces.specs.Answers.{MeetsShape, MeetsFlat};
+ghost use Rattle.scad_shapes.specs.Answers.{MeetsShape, MeetsFlat};
 
 use plane_predicate::Unit;
 use polyhedra::polyhedron_shape;

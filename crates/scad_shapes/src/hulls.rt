@@ -7,7 +7,7 @@ ghost use Rattle.scad_design.specs.Placing.{StaysSafe};
 ghost use Rattle.scad_design.specs.View.{plain_of};
 ghost use Rattle.scad_meaning.specs.Hulls.{is_nothing as is_nothing_at, is_union as is_union_at, points_of, hull_mesh, StaySafe};
 ghost use Rattle.scad_meaning.specs.Verdicts.{Judge, IsRight};
-ghost use Rattle.scad_pieces.specs.Answers.{MeetsShape, IsPastRange};
+ghost use Rattle.scad_shapes.specs.Answers.{MeetsShape, IsPastRange};
 
 use csg_tree::Op;
 use int_transform::apply;
