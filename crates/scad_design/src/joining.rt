@@ -4,7 +4,7 @@ ghost use Rattle.std.specs.Prelude.{◌≡◌, ◌≤◌, ◌<◌, IfOk, OnOk, m
 ghost use Rattle.std.specs.Vec.Iter.{into_iter_items};
 ghost use Rattle.csg_tree.specs.declared.op.Op.{Op};
 ghost use Rattle.csg_tree.specs.declared.op.Op.TheVariants.{Difference};
-ghost use Rattle.scad_design.specs.Designs.{join as join_of, balanced as balanced_of, grouped as grouped_of};
+ghost use Rattle.scad_design.specs.Designs.{join, balanced, grouped};
 ghost use Rattle.scad_design.specs.View.{plain_of};
 
 use crate::design::Design;
@@ -17,7 +17,7 @@ use text_place::NoMemory;
 /// intersection nothing, nothing minus anything is nothing, and a design minus nothing is the design.
 /// At `NoMemory` both designs are dropped.
 pub fn join(alloc: Global, op: Op, left: Design, right: Design) -> Result<Design, NoMemory>
-    ensures { IfOk result (λ design. plain_of design ≡ join_of op (plain_of left) (plain_of right)) }
+    ensures { IfOk result (λ design. plain_of design ≡ join op (plain_of left) (plain_of right)) }
 {
     match (op, left, right) {
         (Op::Union, Design::Empty, other) | (Op::Union, other, Design::Empty) => Ok(other),
@@ -35,7 +35,7 @@ pub fn join(alloc: Global, op: Op, left: Design, right: Design) -> Result<Design
 /// Designs joined by halves: none gives the empty one, one gives itself, and more give the join of the
 /// first half of them, rounded down, and the rest. At `NoMemory` all designs are dropped.
 pub fn balanced(alloc: Global, op: Op, list: Vec<Design>) -> Result<Design, NoMemory>
-    ensures { IfOk result (λ design. plain_of design ≡ balanced_of op (map plain_of list.items)) }
+    ensures { IfOk result (λ design. plain_of design ≡ balanced op (map plain_of list.items)) }
 {
     let count = list.len();
     let mut designs = list.into_iter();
@@ -45,7 +45,7 @@ pub fn balanced(alloc: Global, op: Op, list: Vec<Design>) -> Result<Design, NoMe
 /// Children joined by an operation: by halves, or in a difference the first without the others, which
 /// are joined by halves. At `NoMemory` all designs are dropped.
 pub fn grouped(alloc: Global, op: Op, list: Vec<Design>) -> Result<Design, NoMemory>
-    ensures { IfOk result (λ design. plain_of design ≡ grouped_of op (map plain_of list.items)) }
+    ensures { IfOk result (λ design. plain_of design ≡ grouped op (map plain_of list.items)) }
 {
     match op {
         Op::Union => balanced(alloc, Op::Union, list),
@@ -56,7 +56,7 @@ pub fn grouped(alloc: Global, op: Op, list: Vec<Design>) -> Result<Design, NoMem
 
 // The first design without the union of the others.
 fn without_others(alloc: Global, list: Vec<Design>) -> Result<Design, NoMemory>
-    ensures { IfOk result (λ design. plain_of design ≡ grouped_of Difference (map plain_of list.items)) }
+    ensures { IfOk result (λ design. plain_of design ≡ grouped Difference (map plain_of list.items)) }
 {
     let count = list.len();
     let mut designs = list.into_iter();
@@ -78,7 +78,7 @@ fn join_next(
 ) -> Result<Design, NoMemory>
     requires { count ≤ length (into_iter_items designs.old) }
     ensures rest { OnOk result (into_iter_items designs.new ≡ drop count (into_iter_items designs.old)) }
-    ensures joined { IfOk result (λ design. plain_of design ≡ balanced_of op (map plain_of (take count (into_iter_items designs.old)))) }
+    ensures joined { IfOk result (λ design. plain_of design ≡ balanced op (map plain_of (take count (into_iter_items designs.old)))) }
 {
     if count < 2 {
         return Ok(next_or_empty(designs, count));
@@ -94,7 +94,7 @@ fn next_or_empty(designs: &mut IntoIter<Design>, count: usize) -> Design
     requires one { count < 2 }
     requires within { count ≤ length (into_iter_items designs.old) }
     ensures rest { into_iter_items designs.new ≡ drop count (into_iter_items designs.old) }
-    ensures next { (by : Op) → plain_of result ≡ balanced_of by (map plain_of (take count (into_iter_items designs.old))) }
+    ensures next { (by : Op) → plain_of result ≡ balanced by (map plain_of (take count (into_iter_items designs.old))) }
 {
     if count == 0 {
         return Design::Empty;

@@ -4,9 +4,9 @@ ghost use Rattle.scad_ast.specs.ExprView.{term_of, arg_of, args_of};
 ghost use Rattle.scad_ast.specs.declared.expression.Expr.{size-Expr};
 ghost use Rattle.scad_ast.specs.declared.expression.Arg.{size-Arg};
 ghost use Rattle.scad_ast.specs.Terms.{args_from};
-ghost use Rattle.scad_builtin.specs.Builtins.{applied, builtin_of, is_left_out as left_out};
+ghost use Rattle.scad_builtin.specs.Builtins.{applied, builtin_of, is_left_out};
 ghost use Rattle.scad_evaluation.specs.Meaning.{Setting, then_with, answered, each_value, built_in};
-ghost use Rattle.scad_evaluation.specs.Steps.{have_no_names as no_names, is_named, all_values, argument_of};
+ghost use Rattle.scad_evaluation.specs.Steps.{have_no_names, is_named, all_values, argument_of};
 ghost use Rattle.scad_value.specs.BoundedView.{bounded_val};
 ghost use Rattle.scad_evaluation.specs.View.{MeetsOutcome};
 
@@ -16,7 +16,7 @@ use text_place::{FaultKind, Place, Stop};
 
 // Whether no argument has a name.
 fn have_no_names(args: &Args) -> bool
-    ensures { result ≡ no_names (args_from (args_of args.now)) }
+    ensures { result ≡ have_no_names (args_from (args_of args.now)) }
 {
     for arg in &args.items {
         if has_name(arg) {
@@ -64,7 +64,7 @@ pub fn built_in_for(name: &[u8], place: Place, args: &Args) -> Result<Builtin, S
 
 // The kind of fault of a name that no function has.
 fn unknown(name: &[u8]) -> FaultKind
-    ensures { result ≡ if left_out name.now then NotInProfile else UnknownFunction }
+    ensures { result ≡ if is_left_out name.now then NotInProfile else UnknownFunction }
 {
     if is_left_out(name) {
         return FaultKind::NotInProfile;

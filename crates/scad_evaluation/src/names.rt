@@ -4,7 +4,7 @@ ghost use Rattle.scad_value.specs.Operators.{binary_of, index_of};
 ghost use Rattle.scad_value.specs.BoundedView.{bounded_val};
 ghost use Rattle.scad_scope.specs.Names.{variable_in, find_in};
 ghost use Rattle.scad_scope.specs.Table.{chain_of, IsMissing, IsVariable};
-ghost use Rattle.scad_answer.specs.Answers.{member_of as member_at};
+ghost use Rattle.scad_answer.specs.Answers.{member_of};
 ghost use Rattle.scad_answer.specs.View.{MeetsAnswerAt};
 ghost use Rattle.text_place.specs.declared.fault.FaultKind.TheVariants.{UnknownName, NotInProfile};
 ghost use Rattle.scad_arguments.specs.ArgumentsView.{IsFaultAt};
@@ -161,7 +161,7 @@ impl Evaluation<'_, '_> {
         place: Place,
     ) -> Result<BoundedValue, Stop>
         requires there { IsThere (env_here self.now) of }
-        ensures { (turns : ℕ) → MeetsOutcome bounded_val result turns (or_fault (member_at name.now) NotInProfile name_place
+        ensures { (turns : ℕ) → MeetsOutcome bounded_val result turns (or_fault (member_of name.now) NotInProfile name_place
             (λ n. answered (index_of (indexed_val (env_here self.now) of.entry) (NumberVal n)) place turns)) }
     {
         match member_of(name.items()) {

@@ -8,7 +8,7 @@ ghost use Rattle.scad_value.specs.BoundedView.{bounded_val};
 ghost use Rattle.scad_arguments.specs.Arguments.{nothing_given};
 ghost use Rattle.scad_arguments.specs.ArgumentsView.{names_in};
 ghost use Rattle.scad_evaluation.specs.Limits.{most_calls, most_turns};
-ghost use Rattle.scad_evaluation.specs.Meaning.{Outcome, Gives, one_call_fewer, turn, then_with, answered, value_at, operand as operand_at, each_value as values_at, each_argument as arguments_at, each_parameter as parameters_at, parameter_value, function_value as function_value_at, function_called, each_suffix, each_link, called, function_in, counted as counted_at};
+ghost use Rattle.scad_evaluation.specs.Meaning.{Outcome, Gives, one_call_fewer, turn, then_with, answered, value_at, operand, each_value, each_argument, each_parameter, parameter_value, function_value, function_called, each_suffix, each_link, called, function_in, counted};
 ghost use Rattle.scad_answer.specs.Answers.{range_of, stepped_range_of};
 ghost use Rattle.scad_evaluation.specs.Steps.{all_values, suffixed, linked, with_parameters};
 ghost use Rattle.scad_blocks.specs.TextView.{function_of};
@@ -59,7 +59,7 @@ fn deeper(evaluation: &mut Evaluation<'_, '_>, expr: &Expr) -> Result<BoundedVal
 // stack holds the locals of the forms that are met alone.
 #[cycle(value)]
 fn operand(evaluation: &mut Evaluation<'_, '_>, expr: &Expr) -> Result<BoundedValue, Stop>
-    ensures { EvaluatesTo bounded_val evaluation.old evaluation.new result (λ here. operand_at here (term_of expr.now)) }
+    ensures { EvaluatesTo bounded_val evaluation.old evaluation.new result (λ here. operand here (term_of expr.now)) }
 {
     match expr {
         Expr::Number(_, n) => Ok(BoundedValue {
@@ -99,7 +99,7 @@ fn list(
     place: Place,
 ) -> Result<BoundedValue, Stop>
     ensures { EvaluatesTo bounded_val evaluation.old evaluation.new result (λ here turns.
-        then_with (values_at here (terms_from (terms_of items.now)) turns) (λ turns vs.
+        then_with (each_value here (terms_from (terms_of items.now)) turns) (λ turns vs.
         answered (made (Ok (ListVal vs))) place turns)) }
 {
     let values = each_value(evaluation, items)?;
@@ -129,7 +129,7 @@ fn unary(
 #[inline(never)]
 #[tactic(auto, using(crate::proofs::Kept::keeps_trans))]
 fn each_value(evaluation: &mut Evaluation<'_, '_>, exprs: &Exprs) -> Result<BoundedValues, Stop>
-    ensures { EvaluatesTo values_seen evaluation.old evaluation.new result (λ here. values_at here (terms_from (terms_of exprs.now))) }
+    ensures { EvaluatesTo values_seen evaluation.old evaluation.new result (λ here. each_value here (terms_from (terms_of exprs.now))) }
 {
     let mut values = BoundedValues::new(evaluation.alloc);
     'each: for expr in &exprs.items {
@@ -195,7 +195,7 @@ fn postfix(
     rest: &Suffixes,
 ) -> Result<BoundedValue, Stop>
     ensures { EvaluatesTo bounded_val evaluation.old evaluation.new result (λ here turns.
-        then_with (operand_at here (term_of of.now) turns) (λ turns v. each_suffix here v (suffixes_from (suffixes_of rest.now)) turns)) }
+        then_with (operand here (term_of of.now) turns) (λ turns v. each_suffix here v (suffixes_from (suffixes_of rest.now)) turns)) }
 {
     if let Expr::Name(place, name) = of {
         let variable = evaluation.variable_there(name.items(), *place)?;
@@ -257,7 +257,7 @@ fn chain(
     rest: &Links,
 ) -> Result<BoundedValue, Stop>
     ensures { EvaluatesTo bounded_val evaluation.old evaluation.new result (λ here turns.
-        then_with (operand_at here (term_of first.now) turns) (λ turns v. each_link here v (links_from (links_of rest.now)) turns)) }
+        then_with (operand here (term_of first.now) turns) (λ turns v. each_link here v (links_from (links_of rest.now)) turns)) }
 {
     let left = operand(evaluation, first)?;
     links(evaluation, left, rest)
@@ -313,7 +313,7 @@ fn choice(
     no: &Expr,
 ) -> Result<BoundedValue, Stop>
     ensures { EvaluatesTo bounded_val evaluation.old evaluation.new result (λ here turns.
-        then_with (operand_at here (term_of test.now) turns) (λ turns v. value_at here true (if truth_of v then term_of yes.now else term_of no.now) turns)) }
+        then_with (operand here (term_of test.now) turns) (λ turns v. value_at here true (if truth_of v then term_of yes.now else term_of no.now) turns)) }
 {
     let value = operand(evaluation, test)?;
     if is_true(value) {
@@ -364,7 +364,7 @@ pub fn arguments<'b>(
     args: &'b Args,
 ) -> Result<GivenArguments<'b, BoundedValue>, Stop>
     ensures given { EvaluatesTo arguments_of evaluation.old evaluation.new result (λ here.
-        arguments_at here (names_in names.entry) 0 (args_from (args_of args.now)) (nothing_given (length (names_in names.entry)))) }
+        each_argument here (names_in names.entry) 0 (args_from (args_of args.now)) (nothing_given (length (names_in names.entry)))) }
     ensures count { IfOk result (λ given. length given.slots.items ≡ length (names_in names.entry)) }
 {
     let mut so_far = ArgumentsSoFar::of(evaluation.alloc, names, &args.items)?;
@@ -412,7 +412,7 @@ fn function_value(
 ) -> Result<BoundedValue, Stop>
     requires count { length given.slots.items ≡ length function.params.now.items.items }
     ensures { EvaluatesTo bounded_val evaluation.old evaluation.new result (λ here.
-        function_value_at here (function_of function.entry) (arguments_of given.entry)) }
+        function_value here (function_of function.entry) (arguments_of given.entry)) }
 {
     let GivenArguments { slots, specials } = given;
     let begun = evaluation.begin_specials(specials);
@@ -433,7 +433,7 @@ fn with_defaults(
 ) -> Result<BoundedValue, Stop>
     requires count { length slots.items ≡ length function.params.now.items.items }
     ensures { EvaluatesTo bounded_val evaluation.old evaluation.new result (λ here turns.
-        then_with (parameters_at here (params_of function.entry.params.now) (slots_in slots.items) turns) (λ turns vs.
+        then_with (each_parameter here (params_of function.entry.params.now) (slots_in slots.items) turns) (λ turns vs.
         with_parameters here (function_of function.entry) vs turns)) }
 {
     let values = parameters(evaluation, function.params, slots)?;
@@ -471,7 +471,7 @@ pub(crate) fn parameters(
     slots: Vec<Option<BoundedValue>>,
 ) -> Result<BoundedValues, Stop>
     requires { length slots.items ≡ length params.now.items.items }
-    ensures values { EvaluatesTo values_seen evaluation.old evaluation.new result (λ here. parameters_at here (params_of params.now) (slots_in slots.items)) }
+    ensures values { EvaluatesTo values_seen evaluation.old evaluation.new result (λ here. each_parameter here (params_of params.now) (slots_in slots.items)) }
     ensures count { IfOk result (λ values. length values.items.items ≡ length params.now.items.items) }
 {
     let mut open = slots;
@@ -512,7 +512,7 @@ fn parameter(
 #[inline(never)]
 #[tactic(auto, using(crate::proofs::Kept::keeps_trans))]
 fn each_positional(evaluation: &mut Evaluation<'_, '_>, args: &Args) -> Result<BoundedValues, Stop>
-    ensures { EvaluatesTo values_seen evaluation.old evaluation.new result (λ here. values_at here (all_values (args_from (args_of args.now)))) }
+    ensures { EvaluatesTo values_seen evaluation.old evaluation.new result (λ here. each_value here (all_values (args_from (args_of args.now)))) }
 {
     let mut values = BoundedValues::new(evaluation.alloc);
     'each: for arg in &args.items {
@@ -529,7 +529,7 @@ fn counted(
     value: BoundedValue,
     place: Place,
 ) -> Result<BoundedValue, Stop>
-    ensures value { MeetsOutcome bounded_val result evaluation.new.turns (counted_at place (Gives evaluation.old.turns (bounded_val value))) }
+    ensures value { MeetsOutcome bounded_val result evaluation.new.turns (counted place (Gives evaluation.old.turns (bounded_val value))) }
     ensures kept { Keeps evaluation.old evaluation.new }
 {
     if let Value::List(_) = &value.value {

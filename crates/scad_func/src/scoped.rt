@@ -2,7 +2,7 @@
 
 ghost use Rattle.std.specs.Prelude.{◌≡◌, ◌<◌, IfOk, length};
 ghost use Rattle.scad_ast.specs.StatementView.{params_of};
-ghost use Rattle.scad_evaluation.specs.Meaning.{each_parameter as parameters_at};
+ghost use Rattle.scad_evaluation.specs.Meaning.{each_parameter};
 ghost use Rattle.scad_evaluation.specs.View.{MeetsOutcome, values_seen, slots_in};
 ghost use Rattle.scad_evaluation.specs.Evaluations.{Keeps, scopes_there, setting};
 
@@ -22,7 +22,7 @@ pub fn parameters_in(
     requires scope { scope < scopes_there evaluation.old }
     requires count { length slots.items ≡ length params.now.items.items }
     ensures values { MeetsOutcome values_seen result evaluation.new.turns
-        (parameters_at (setting evaluation.old scope) (params_of params.now) (slots_in slots.items) evaluation.old.turns) }
+        (each_parameter (setting evaluation.old scope) (params_of params.now) (slots_in slots.items) evaluation.old.turns) }
     ensures count { IfOk result (λ values. length values.items.items ≡ length params.now.items.items) }
     ensures kept { Keeps evaluation.old evaluation.new }
 {

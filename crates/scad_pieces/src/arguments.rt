@@ -14,10 +14,10 @@ ghost use Rattle.scad_evaluation.specs.View.{slot_of, slots_in, arguments_of};
 ghost use Rattle.scad_evaluation.specs.Evaluations.{EvaluatesTo};
 ghost use Rattle.scad_slots.specs.View.{slots_of};
 ghost use Rattle.scad_modules.specs.Bounds.{IsSafeCall};
-ghost use Rattle.scad_modules.specs.Calls.{effect_of as effect_at};
-ghost use Rattle.scad_modules.specs.Table.{is_left_out as leaves_out};
+ghost use Rattle.scad_modules.specs.Calls.{effect_of};
+ghost use Rattle.scad_modules.specs.Table.{is_left_out};
 ghost use Rattle.scad_modules.specs.View.{call_of};
-ghost use Rattle.scad_meaning.specs.Meaning.{arguments_for as arguments_at, each_said};
+ghost use Rattle.scad_meaning.specs.Meaning.{arguments_for, each_said};
 ghost use Rattle.scad_pieces.specs.Seen.{MeetsSilence};
 ghost use Rattle.scad_pieces.specs.Calls.{MeetsEffectAt, said_once};
 
@@ -43,7 +43,7 @@ pub fn effect_of(
     built_in: BuiltinModule,
     slots: Vec<Option<BoundedValue>>,
 ) -> Result<Effect, Stop>
-    ensures effect { MeetsEffectAt result place (effect_at unit (is_some position.inside)
+    ensures effect { MeetsEffectAt result place (effect_of unit (is_some position.inside)
         (find_in (chain_of evaluation.now.scopes.now) (codes "fn")) built_in (slots_in slots.items)) }
     ensures safe { IfOk result (λ effect. IsSafeCall (call_of effect)) }
 {
@@ -90,7 +90,7 @@ pub fn arguments_for<'b>(
     built_in: BuiltinModule,
     args: &'b Args,
 ) -> Result<GivenArguments<'b, BoundedValue>, Stop>
-    ensures { EvaluatesTo arguments_of evaluation.old evaluation.new result (λ here. arguments_at built_in here (args_from (args_of args.now))) }
+    ensures { EvaluatesTo arguments_of evaluation.old evaluation.new result (λ here. arguments_for built_in here (args_from (args_of args.now))) }
 {
     if built_in == BuiltinModule::Echo {
         return said(evaluation, args);
@@ -139,7 +139,7 @@ fn say<'n, 'b>(
 
 /// The kind of fault of a name that no module has.
 pub fn unknown(name: &[u8]) -> FaultKind
-    ensures { result ≡ if leaves_out name.now then NotInProfile else UnknownModule }
+    ensures { result ≡ if is_left_out name.now then NotInProfile else UnknownModule }
 {
     if is_left_out(name) {
         return FaultKind::NotInProfile;

@@ -3,26 +3,26 @@
 ghost use Rattle.std.specs.Prelude.{◌≡◌};
 ghost use Rattle.std.specs.List.{list_any};
 ghost use Rattle.scad_ast.specs.StatementView.{marks_of, instance_of, statements_of, body_of};
-ghost use Rattle.scad_meaning.specs.Bodies.{switches_off as switches_off_at, is_root as is_root_at, is_on as is_on_at, is_marked as is_marked_at, is_bare as is_bare_at, has_no_items};
+ghost use Rattle.scad_meaning.specs.Bodies.{switches_off, is_root, is_on, is_marked, is_bare, has_no_items};
 
 use scad_ast::{Body, Instance, Modifier, PlacedModifiers, Statements};
 
 /// Whether an instance is evaluated: one marked `*` or `%` counts as not written.
 pub(crate) fn is_on(instance: &Instance) -> bool
-    ensures { result ≡ is_on_at (instance_of instance.now) }
+    ensures { result ≡ is_on (instance_of instance.now) }
 {
     !any_off(&instance.marks)
 }
 
 /// Whether an instance is marked `!`.
 pub fn is_marked(instance: &Instance) -> bool
-    ensures { result ≡ is_marked_at (instance_of instance.now) }
+    ensures { result ≡ is_marked (instance_of instance.now) }
 {
     any_root(&instance.marks)
 }
 
 fn any_off(marks: &PlacedModifiers) -> bool
-    ensures { result ≡ list_any (λ m. switches_off_at m.modifier) (marks_of marks.now) }
+    ensures { result ≡ list_any (λ m. switches_off m.modifier) (marks_of marks.now) }
 {
     for mark in &marks.items {
         if switches_off(mark.modifier) {
@@ -33,7 +33,7 @@ fn any_off(marks: &PlacedModifiers) -> bool
 }
 
 fn any_root(marks: &PlacedModifiers) -> bool
-    ensures { result ≡ list_any (λ m. is_root_at m.modifier) (marks_of marks.now) }
+    ensures { result ≡ list_any (λ m. is_root m.modifier) (marks_of marks.now) }
 {
     for mark in &marks.items {
         if is_root(mark.modifier) {
@@ -44,7 +44,7 @@ fn any_root(marks: &PlacedModifiers) -> bool
 }
 
 fn switches_off(modifier: Modifier) -> bool
-    ensures { result ≡ switches_off_at modifier }
+    ensures { result ≡ switches_off modifier }
 {
     match modifier {
         Modifier::Disable | Modifier::Background => true,
@@ -53,7 +53,7 @@ fn switches_off(modifier: Modifier) -> bool
 }
 
 fn is_root(modifier: Modifier) -> bool
-    ensures { result ≡ is_root_at modifier }
+    ensures { result ≡ is_root modifier }
 {
     match modifier {
         Modifier::Root => true,
@@ -63,7 +63,7 @@ fn is_root(modifier: Modifier) -> bool
 
 /// Whether a body is `;` or `{ }`, with no token between its braces.
 pub fn is_bare(body: &Body) -> bool
-    ensures { result ≡ is_bare_at (body_of body.now) }
+    ensures { result ≡ is_bare (body_of body.now) }
 {
     match body {
         Body::Semicolon(_) => true,

@@ -9,7 +9,7 @@ ghost use Rattle.scad_evaluation.specs.Meaning.{entered_scope, no_call, module_i
 ghost use Rattle.scad_evaluation.specs.View.{source_text};
 ghost use Rattle.scad_evaluation.specs.Definitions.{statements_at, IsWhole};
 ghost use Rattle.scad_evaluation.specs.Evaluations.{Keeps, scope_here};
-ghost use Rattle.scad_meaning.specs.Bodies.{children_in, is_child as is_child_at};
+ghost use Rattle.scad_meaning.specs.Bodies.{children_in, is_child};
 ghost use Rattle.scad_pieces.specs.Positions.{term_of_numbered, HasBlocks};
 ghost use Rattle.scad_meaning.specs.Meaning.{instances_chosen};
 ghost use Rattle.scad_pieces.specs.Calls.{chosen_seen, IsSafeChosen};
@@ -28,7 +28,7 @@ const CHILDREN: usize = (1 << 53) - 1;
 /// Whether an instance of the scope in which is evaluated is a child: `echo` and `assert` are none, where the source defines no
 /// module of that name.
 pub fn is_child(evaluation: &Evaluation<'_, '_>, instance: &Instance) -> bool
-    ensures { result ≡ is_child_at (scope_here evaluation.now) (instance_of instance.now) }
+    ensures { result ≡ is_child (scope_here evaluation.now) (instance_of instance.now) }
 {
     match &instance.core {
         Core::Call(_, name, _, _) => !says_only(evaluation, name.items()),

@@ -5,8 +5,8 @@ ghost use Rattle.std.specs.Option.{option_to_list};
 ghost use Rattle.scad_value.specs.Values.{is_small};
 ghost use Rattle.scad_modules.specs.Bounds.{IsSafeChoice};
 ghost use Rattle.scad_modules.specs.View.{chosen_of};
-ghost use Rattle.scad_meaning.specs.Loops.{chosen_among as among, item_numbered, items_numbered, numbers_of_range};
-ghost use Rattle.scad_pieces.specs.Choosing.{distance_before as distance_at};
+ghost use Rattle.scad_meaning.specs.Loops.{chosen_among, item_numbered, items_numbered, numbers_of_range};
+ghost use Rattle.scad_pieces.specs.Choosing.{distance_before};
 
 use crate::ranges::{count_of_range, number_at};
 use scad_modules::Chosen;
@@ -21,7 +21,7 @@ pub fn chosen_among<T: Copy>(
     chosen: &Chosen,
 ) -> Result<Vec<T>, NoMemory>
     requires { IsSafeChoice (chosen_of chosen.now) }
-    ensures { IfOk result (λ found. found.items ≡ among children.items (chosen_of chosen.now)) }
+    ensures { IfOk result (λ found. found.items ≡ chosen_among children.items (chosen_of chosen.now)) }
 {
     match chosen {
         Chosen::All => Ok(children),
@@ -73,7 +73,7 @@ fn by_range<T: Copy>(
 
 // How far the first number of a range lies before a list of a length, seen along its step.
 fn distance_before(from: i64, by: i64, len: usize) -> u64
-    ensures { result ≡ distance_at from by len }
+    ensures { result ≡ distance_before from by len }
 {
     match (from < 0, by < 0) {
         (true, true) | (false, false) => 0,

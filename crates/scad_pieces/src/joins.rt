@@ -2,7 +2,7 @@
 
 ghost use Rattle.std.specs.Prelude.{◌≡◌, ℕ, option_map, IfOk};
 ghost use Rattle.scad_design.specs.View.{plain_of};
-ghost use Rattle.scad_meaning.specs.Meaning.{first_marked as first_of, no_design, joined_members, no_members as none_of, apart};
+ghost use Rattle.scad_meaning.specs.Meaning.{first_marked, no_design, joined_members, no_members, apart};
 ghost use Rattle.scad_pieces.specs.Seen.{instance_design_of, member_designs_of, one_member_of, IsLengthened};
 
 use crate::position::{InstanceResult, MemberResults};
@@ -23,7 +23,7 @@ pub fn nothing_made() -> InstanceResult
 
 /// What no instances give.
 pub fn no_members(alloc: Global) -> MemberResults
-    ensures { (leaves : ℕ) → member_designs_of leaves result ≡ none_of leaves }
+    ensures { (leaves : ℕ) → member_designs_of leaves result ≡ no_members leaves }
 {
     MemberResults {
         designs: Vec::new(alloc),
@@ -33,7 +33,7 @@ pub fn no_members(alloc: Global) -> MemberResults
 
 // The first of two designs that are marked.
 fn first_marked(earlier: Option<Design>, later: Option<Design>) -> Option<Design>
-    ensures { option_map plain_of result ≡ first_of (option_map plain_of earlier) (option_map plain_of later) }
+    ensures { option_map plain_of result ≡ first_marked (option_map plain_of earlier) (option_map plain_of later) }
 {
     match earlier {
         Some(design) => Some(design),

@@ -8,8 +8,8 @@ ghost use Rattle.scad_ast.specs.StatementView.{core_of, instance_of, statement_o
 ghost use Rattle.scad_blocks.specs.Blocks.{NumberedText, StandAt, beginnings_in, beginnings_of, beginnings_of_instance, count_blocks, nothing_there};
 ghost use Rattle.scad_evaluation.specs.Definitions.{statements_at, IsWhole};
 ghost use Rattle.scad_evaluation.specs.View.{source_text};
-ghost use Rattle.scad_meaning.specs.Bodies.{instances_of, evaluated_in, is_on as is_on_at};
-ghost use Rattle.scad_pieces.specs.Positions.{term_of_numbered, HasBlocks, has_else as has_else_at};
+ghost use Rattle.scad_meaning.specs.Bodies.{instances_of, evaluated_in, is_on};
+ghost use Rattle.scad_pieces.specs.Positions.{term_of_numbered, HasBlocks, has_else};
 
 use crate::bodies::is_on;
 use scad_ast::{Core, Instance, Statement, Statements};
@@ -110,7 +110,7 @@ fn add<'a>(
     requires before { All (HasBlocks (source_text source.now)) found.old.items }
     ensures behind { IfOk result (λ n. n ≡ first + count_blocks (beginnings_of (statement_of statement.now))) }
     ensures instances { OnOk result (map term_of_numbered found.new.items ≡ map term_of_numbered found.old.items
-        ++ filter is_on_at (instances_of (statement_of statement.now))) }
+        ++ filter is_on (instances_of (statement_of statement.now))) }
     ensures blocks { OnOk result (All (HasBlocks (source_text source.now)) found.new.items) }
 {
     match statement {
@@ -135,7 +135,7 @@ fn add_instance<'a>(
     requires before { All (HasBlocks (source_text source.now)) found.old.items }
     ensures behind { IfOk result (λ n. n ≡ block + count_blocks (beginnings_of_instance (instance_of instance.now))) }
     ensures instances { OnOk result (map term_of_numbered found.new.items ≡ map term_of_numbered found.old.items
-        ++ filter is_on_at (instance_of instance.now ∷ [])) }
+        ++ filter is_on (instance_of instance.now ∷ [])) }
     ensures blocks { OnOk result (All (HasBlocks (source_text source.now)) found.new.items) }
 {
     let numbered = with_blocks(source, instance, block);
@@ -173,7 +173,7 @@ fn behind(source: &Source<'_>, numbered: NumberedInstance<'_>) -> u32
 }
 
 fn has_else(core: &Core) -> bool
-    ensures { result ≡ has_else_at (core_of core.now) }
+    ensures { result ≡ has_else (core_of core.now) }
 {
     match core {
         Core::IfElse(_, _, _, _) => true,
@@ -189,7 +189,7 @@ fn add_if_on<'a>(
     found: &mut Vec<NumberedInstance<'a>>,
 ) -> Result<(), NoMemory>
     ensures instances { OnOk result (map term_of_numbered found.new.items ≡ map term_of_numbered found.old.items
-        ++ filter is_on_at (term_of_numbered numbered.entry ∷ [])) }
+        ++ filter is_on (term_of_numbered numbered.entry ∷ [])) }
     ensures blocks { (text : NumberedText) → HasBlocks text numbered.entry → All (HasBlocks text) found.old.items
         → OnOk result (All (HasBlocks text) found.new.items) }
 {

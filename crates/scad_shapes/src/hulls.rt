@@ -5,7 +5,7 @@ ghost use Rattle.plane_predicate.specs.Space.{point_at};
 ghost use Rattle.int_transform.specs.Maps.{coordinates, image, map_of};
 ghost use Rattle.scad_design.specs.Placing.{StaysSafe};
 ghost use Rattle.scad_design.specs.View.{plain_of};
-ghost use Rattle.scad_meaning.specs.Hulls.{is_nothing as is_nothing_at, is_union as is_union_at, points_of, hull_mesh, StaySafe};
+ghost use Rattle.scad_meaning.specs.Hulls.{is_nothing, is_union, points_of, hull_mesh, StaySafe};
 ghost use Rattle.scad_meaning.specs.Verdicts.{Judge, IsRight};
 ghost use Rattle.scad_shapes.specs.Answers.{MeetsShape, IsPastRange};
 
@@ -19,7 +19,7 @@ use text_place::FaultKind;
 
 /// Whether a design is empty.
 pub fn is_nothing(design: &Design) -> bool
-    ensures { result ≡ is_nothing_at (plain_of design.now) }
+    ensures { result ≡ is_nothing (plain_of design.now) }
 {
     match design {
         Design::Empty => true,
@@ -45,7 +45,7 @@ pub fn design_hull(alloc: Global, design: &Design) -> Result<Shape, ShapeStop>
 
 // Whether a design has no join but unions.
 fn is_union(design: &Design) -> bool
-    ensures { result ≡ is_union_at (plain_of design.now) }
+    ensures { result ≡ is_union (plain_of design.now) }
 {
     match design {
         Design::Empty => true,
