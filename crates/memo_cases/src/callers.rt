@@ -4,11 +4,10 @@ ghost use Rattle.std.specs.Prelude.{◌≡◌, ◌*◌, ◌<◌, ◌≤◌, []};
 ghost use Rattle.subtree_memo.specs.Shares.{IsOf};
 
 use crate::acts::{Act, Answer, acts_of};
-use crate::limits::Limits;
 use crate::meeting::Meeting;
-use crate::pieces::{LastDigits, Piece, Pieces};
 use crate::told::{Ended, put_ended};
 use case_lines::{CaseStop, Phrase, found, put_runs};
+use case_memos::{LastDigits, Limits, Piece, Pieces};
 use flight_memo::{Claim, Claimed, Flight, FlightBlanks, FlightBooks, FlightLedgers, FlightShare};
 use memo_core::MemoCore;
 use std::alloc::Global;

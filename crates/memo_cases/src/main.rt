@@ -31,20 +31,12 @@
 
 mod acts;
 mod callers;
-mod calls;
-mod clients;
-mod journals;
-mod limits;
 mod meeting;
-mod pieces;
 mod told;
 
 use crate::callers::put_callers;
-use crate::calls::put_calls;
-use crate::clients::put_clients;
-use crate::journals::put_verdict;
-use crate::limits::limits_of;
 use case_lines::{CaseStop, answer_cases, found, parts_of, phrases_of, unfolded};
+use case_memos::{limits_of, put_calls, put_clients, put_verdict};
 use std::alloc::Global;
 use std::process::ExitCode;
 use std::sync::Wait;

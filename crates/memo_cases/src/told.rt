@@ -1,8 +1,8 @@
 //! What is told of callers.
 
 use crate::acts::{Answer, put_answers};
-use crate::pieces::Pieces;
 use case_lines::{put, put_number, put_numbers, put_separated, put_tally};
+use case_memos::Pieces;
 use flight_memo::{Claims, LogItem};
 use std::alloc::Global;
 use subtree_memo::Tally;
