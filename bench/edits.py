@@ -36,7 +36,7 @@ FRAME = (
 # rest, with freeing, threads, and the reply's way to the output.
 PHASES = {
     # words of the source to tokens, tokens to a program, and its end
-    "reading": ("scad_lexer::", "scad_parser::", "scad_expressions::", "scad_source::scad_ast"),
+    "reading": ("scad_lexer::", "scad_parser::", "scad_statement_parts::", "scad_expressions::", "scad_source::scad_ast"),
     # a program to a design
     "evaluating": (
         "scad_eval::", "scad_evaluation::", "scad_func::", "scad_scope::", "scad_blocks::", "scad_arguments::", "newest_names::",

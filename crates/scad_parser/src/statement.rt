@@ -1,25 +1,19 @@
-ghost use Rattle.std.specs.Prelude.{◌≡◌, [], map};
-ghost use Rattle.scad_ast.specs.ExprView.{term_of};
-ghost use Rattle.scad_ast.specs.StatementView.{statement_of, statements_of, instance_of, core_of, body_of, param_of, params_of, binder_of, binders_of, mark_of, marks_of};
-ghost use Rattle.scad_grammar.specs.Classes.{among, is, name, comma_sign, else_word};
+ghost use Rattle.scad_ast.specs.StatementView.{statement_of, statements_of, instance_of, core_of, body_of};
+ghost use Rattle.scad_grammar.specs.Classes.{among, is, else_word};
 ghost use Rattle.scad_grammar.specs.Languages.{second_of};
 ghost use Rattle.scad_grammar.specs.Faults.{one};
-ghost use Rattle.scad_grammar.specs.Grammar.{mark_of as mark_of_token, instance_of as instance_of_marks, assignment_of};
-ghost use Rattle.scad_grammar.specs.Reading.{both, many, mapped, trailing, in_front};
-ghost use Rattle.scad_grammar.specs.Reads.{expr_read, arg_in, in_parentheses};
-ghost use Rattle.scad_grammar.specs.StatementReads.{firsts_of_statement, param_in, params_read, binder_in, binders_read, if_read, loop_read, call_read, core_read, marks_read, instance_in, braces_read, body_read, body_over as body_from, module_read, function_read, ended_read, special_read, definition_read, statement_over as statement_from, statement_read};
+ghost use Rattle.scad_grammar.specs.Reading.{both, many};
+ghost use Rattle.scad_grammar.specs.Reads.{expr_read, arg_in};
+ghost use Rattle.scad_grammar.specs.StatementReads.{firsts_of_statement, param_in, binder_in, if_read, loop_read, call_read, core_read, instance_in, braces_read, body_read, body_over, module_read, definition_read, statement_over, statement_read};
 ghost use Rattle.scad_tokens.specs.Views.{Gives};
 
-use scad_ast::{
-    Binder, Binders, Body, Core, Expr, Instance, Param, Params, PlacedModifier, PlacedModifiers,
-    Statement, Statements,
-};
-use scad_expressions::{arguments, behind, expr};
+use scad_ast::{Body, Core, Instance, Statement, Statements};
+use scad_expressions::arguments;
 use scad_lexer::{Reserved, Symbol, Token};
-use scad_tokens::{
-    Parsed, TokenClass, assigned, behind_comma, boxed, bytes, closed, is_comma_and_name, list_of,
-    modifier, take, too_deep, with,
+use scad_statement_parts::{
+    assignment, binders, condition, function, instance_from, marks, params, special_assignment,
 };
+use scad_tokens::{Parsed, TokenClass, assigned, boxed, bytes, closed, take, too_deep, with};
 use std::alloc::Global;
 
 // Each form stands in a function that is not inlined: the locals of a function are cleared at each call, also those
@@ -44,7 +38,7 @@ fn statement_over<'a>(
     depth: u32,
     inner: u32,
 ) -> Parsed<'a, Statement>
-    ensures value { Gives (λ p. (statement_of p.0, p.1.now)) result (statement_from (expr_read depth) (param_in inner (expr_read inner)) (statement_read inner) (body_read inner) (instance_in inner (body_read inner)) tokens.now) }
+    ensures value { Gives (λ p. (statement_of p.0, p.1.now)) result (statement_over (expr_read depth) (param_in inner (expr_read inner)) (statement_read inner) (body_read inner) (instance_in inner (body_read inner)) tokens.now) }
 {
     if let Some((end, rest)) = TokenClass::Sign(Symbol::Semicolon).split_first(tokens) {
         Ok((Statement::Empty(end.place), rest))
@@ -81,40 +75,6 @@ pub fn statements<'a>(alloc: Global, tokens: &'a [Token], depth: u32) -> Parsed<
         rest = after;
     }
     Ok((Statements { items }, rest))
-}
-
-// `name = value;`, by its name and what stands behind the `=`.
-#[inline(never)]
-fn assignment<'a>(
-    alloc: Global,
-    name: &Token,
-    tokens: &'a [Token],
-    depth: u32,
-) -> Parsed<'a, Statement>
-    ensures value { Gives (λ p. (statement_of p.0, p.1.now)) result (mapped (assignment_of name.now) (ended_read (expr_read depth)) tokens.now) }
-{
-    let bytes = bytes(alloc, &name.kind)?;
-    let (value, rest) = ended(alloc, tokens, depth)?;
-    Ok((Statement::Assignment(name.place, bytes, value), rest))
-}
-
-// `$name = value;`, of a special name other than `$children`.
-#[inline(never)]
-fn special_assignment<'a>(alloc: Global, tokens: &'a [Token], depth: u32) -> Parsed<'a, Statement>
-    ensures value { Gives (λ p. (statement_of p.0, p.1.now)) result (special_read (expr_read depth) tokens.now) }
-{
-    let (name, rest) = take(TokenClass::Special, tokens)?;
-    let (_, rest) = take(TokenClass::Sign(Symbol::Assign), rest)?;
-    let bytes = bytes(alloc, &name.kind)?;
-    let (value, rest) = ended(alloc, rest, depth)?;
-    Ok((Statement::SpecialAssignment(name.place, bytes, value), rest))
-}
-
-// An expression and the `;` behind it.
-fn ended<'a>(alloc: Global, tokens: &'a [Token], depth: u32) -> Parsed<'a, Expr>
-    ensures value { Gives (λ p. (term_of p.0, p.1.now)) result (ended_read (expr_read depth) tokens.now) }
-{
-    closed(expr(alloc, tokens, depth), Symbol::Semicolon)
 }
 
 // A module, a function or an instance.
@@ -155,89 +115,6 @@ fn module<'a>(alloc: Global, tokens: &'a [Token], depth: u32) -> Parsed<'a, Stat
     ))
 }
 
-// A function, by the depth of its expression and that of its defaults.
-#[inline(never)]
-fn function<'a>(alloc: Global, tokens: &'a [Token], depth: u32, inner: u32) -> Parsed<'a, Statement>
-    ensures value { Gives (λ p. (statement_of p.0, p.1.now)) result (function_read (expr_read depth) (param_in inner (expr_read inner)) tokens.now) }
-{
-    let (word, rest) = take(TokenClass::Word(Reserved::Function), tokens)?;
-    let (name, rest) = take(TokenClass::Name, rest)?;
-    let bytes = bytes(alloc, &name.kind)?;
-    let ((bytes, params), rest) = with(bytes, params(alloc, rest, inner))?;
-    let (((bytes, params), _), rest) = with(
-        (bytes, params),
-        take(TokenClass::Sign(Symbol::Assign), rest),
-    )?;
-    let (((bytes, params), value), rest) = with((bytes, params), ended(alloc, rest, depth))?;
-    Ok((
-        Statement::Function(word.place, bytes, name.place, params, value),
-        rest,
-    ))
-}
-
-// Parameters in parentheses.
-fn params<'a>(alloc: Global, tokens: &'a [Token], depth: u32) -> Parsed<'a, Params>
-    ensures value { Gives (λ p. (params_of p.0, p.1.now)) result (in_parentheses (params_read (param_in depth (expr_read depth))) tokens.now) }
-{
-    let (_, rest) = take(TokenClass::Sign(Symbol::OpenParenthesis), tokens)?;
-    closed(param_list(alloc, rest, depth), Symbol::CloseParenthesis)
-}
-
-// Parameters, and maybe a comma behind the last.
-fn param_list<'a>(alloc: Global, tokens: &'a [Token], depth: u32) -> Parsed<'a, Params>
-    ensures value { Gives (λ p. (params_of p.0, p.1.now)) result (params_read (param_in depth (expr_read depth)) tokens.now) }
-{
-    if !TokenClass::Name.begins(tokens) {
-        return Ok((no_params(alloc), tokens));
-    }
-    let (first, rest) = param(alloc, tokens, depth)?;
-    let items = list_of(alloc, first, 4)?;
-    more_params(alloc, items, rest, depth)
-}
-
-// No parameters.
-fn no_params(alloc: Global) -> Params
-    ensures { params_of result ≡ [] }
-{
-    Params {
-        items: Vec::new(alloc),
-    }
-}
-
-// More parameters, each behind a comma, and maybe a comma behind the last.
-fn more_params<'a>(
-    alloc: Global,
-    mut items: Vec<Param>,
-    tokens: &'a [Token],
-    depth: u32,
-) -> Parsed<'a, Params>
-    ensures value { Gives (λ p. (params_of p.0, p.1.now)) result (in_front (map param_of items.items) (trailing (is comma_sign) (is name) (param_in depth (expr_read depth)) tokens.now)) }
-{
-    let mut rest = tokens;
-    'commas: while is_comma_and_name(rest) {
-        let (item, after) = param(alloc, behind_comma(rest), depth)?;
-        items.push(item)?;
-        rest = after;
-    }
-    Ok((Params { items }, behind_comma(rest)))
-}
-
-// A parameter whose tokens are less deep than so much.
-fn param<'a>(alloc: Global, tokens: &'a [Token], depth: u32) -> Parsed<'a, Param>
-    ensures value { Gives (λ p. (param_of p.0, p.1.now)) result (param_in depth (expr_read depth) tokens.now) }
-{
-    if depth == 0 {
-        return Err(too_deep(TokenClass::Name, TokenClass::LeftOut, tokens));
-    }
-    let (name, rest) = take(TokenClass::Name, tokens)?;
-    let bytes = bytes(alloc, &name.kind)?;
-    if !TokenClass::Sign(Symbol::Assign).begins(rest) {
-        return Ok((Param::Plain(name.place, bytes), rest));
-    }
-    let ((bytes, value), rest) = with(bytes, behind(alloc, Symbol::Assign, rest, depth))?;
-    Ok((Param::WithDefault(name.place, bytes, value), rest))
-}
-
 // An instance over what is less deep than so much.
 #[cycle(statement)]
 fn instance<'a>(alloc: Global, tokens: &'a [Token], depth: u32) -> Parsed<'a, Instance>
@@ -246,40 +123,6 @@ fn instance<'a>(alloc: Global, tokens: &'a [Token], depth: u32) -> Parsed<'a, In
     let (marks, rest) = marks(alloc, tokens)?;
     let ((marks, core), rest) = with(marks, core(alloc, rest, depth))?;
     Ok((instance_from(marks, core), rest))
-}
-
-// An instance, by its marks and its core.
-fn instance_from(marks: PlacedModifiers, core: Core) -> Instance
-    ensures { instance_of result ≡ instance_of_marks (marks_of marks) (core_of core) }
-{
-    let place = match marks.items.first() {
-        Some(mark) => mark.place,
-        None => core.place(),
-    };
-    Instance { place, marks, core }
-}
-
-// Modifiers.
-fn marks<'a>(alloc: Global, tokens: &'a [Token]) -> Parsed<'a, PlacedModifiers>
-    ensures value { Gives (λ p. (marks_of p.0, p.1.now)) result (marks_read tokens.now) }
-{
-    let mut items = Vec::new(alloc);
-    let mut rest = tokens;
-    'marks: while let Some((token, after)) = TokenClass::Modifier.split_first(rest) {
-        items.push(mark(token))?;
-        rest = after;
-    }
-    Ok((PlacedModifiers { items }, rest))
-}
-
-// A modifier.
-fn mark(token: &Token) -> PlacedModifier
-    ensures { mark_of result ≡ mark_of_token token.now }
-{
-    PlacedModifier {
-        place: token.place,
-        modifier: modifier(&token.kind),
-    }
 }
 
 // An instance without its modifiers, over what is less deep than so much.
@@ -331,14 +174,6 @@ fn boxed_body<'a>(alloc: Global, tokens: &'a [Token], depth: u32) -> Parsed<'a, 
     boxed(alloc, body(alloc, tokens, depth))
 }
 
-// An expression in parentheses.
-fn condition<'a>(alloc: Global, tokens: &'a [Token], depth: u32) -> Parsed<'a, Expr>
-    ensures value { Gives (λ p. (term_of p.0, p.1.now)) result (in_parentheses (expr_read depth) tokens.now) }
-{
-    let (_, rest) = take(TokenClass::Sign(Symbol::OpenParenthesis), tokens)?;
-    closed(expr(alloc, rest, depth), Symbol::CloseParenthesis)
-}
-
 // A `for` or an `intersection_for`.
 #[cycle(statement)]
 #[inline(never)]
@@ -353,62 +188,6 @@ fn repetition<'a>(alloc: Global, tokens: &'a [Token], depth: u32) -> Parsed<'a, 
     } else {
         Ok((Core::IntersectionFor(word.place, binders, body), rest))
     }
-}
-
-// Variables of a loop, in parentheses.
-fn binders<'a>(alloc: Global, tokens: &'a [Token], depth: u32) -> Parsed<'a, Binders>
-    ensures value { Gives (λ p. (binders_of p.0, p.1.now)) result (in_parentheses (binders_read (binder_in depth (expr_read depth))) tokens.now) }
-{
-    let (_, rest) = take(TokenClass::Sign(Symbol::OpenParenthesis), tokens)?;
-    closed(binder_list(alloc, rest, depth), Symbol::CloseParenthesis)
-}
-
-// Variables of a loop, and maybe a comma behind the last.
-fn binder_list<'a>(alloc: Global, tokens: &'a [Token], depth: u32) -> Parsed<'a, Binders>
-    ensures value { Gives (λ p. (binders_of p.0, p.1.now)) result (binders_read (binder_in depth (expr_read depth)) tokens.now) }
-{
-    let (first, rest) = binder(alloc, tokens, depth)?;
-    let items = list_of(alloc, first, 4)?;
-    more_binders(alloc, items, rest, depth)
-}
-
-// More variables of a loop, each behind a comma, and maybe a comma behind the last.
-fn more_binders<'a>(
-    alloc: Global,
-    mut items: Vec<Binder>,
-    tokens: &'a [Token],
-    depth: u32,
-) -> Parsed<'a, Binders>
-    ensures value { Gives (λ p. (binders_of p.0, p.1.now)) result (in_front (map binder_of items.items) (trailing (is comma_sign) (is name) (binder_in depth (expr_read depth)) tokens.now)) }
-{
-    let mut rest = tokens;
-    'commas: while is_comma_and_name(rest) {
-        let (item, after) = binder(alloc, behind_comma(rest), depth)?;
-        items.push(item)?;
-        rest = after;
-    }
-    Ok((Binders { items }, behind_comma(rest)))
-}
-
-// A variable of a loop, whose tokens are less deep than so much.
-fn binder<'a>(alloc: Global, tokens: &'a [Token], depth: u32) -> Parsed<'a, Binder>
-    ensures value { Gives (λ p. (binder_of p.0, p.1.now)) result (binder_in depth (expr_read depth) tokens.now) }
-{
-    if depth == 0 {
-        return Err(too_deep(TokenClass::Name, TokenClass::LeftOut, tokens));
-    }
-    let (token, rest) = take(TokenClass::Name, tokens)?;
-    let name = bytes(alloc, &token.kind)?;
-    let ((name, values), rest) = with(name, behind(alloc, Symbol::Assign, rest, depth))?;
-    let place = token.place;
-    Ok((
-        Binder {
-            place,
-            name,
-            values,
-        },
-        rest,
-    ))
 }
 
 // A call of a module.
@@ -437,7 +216,7 @@ fn body<'a>(alloc: Global, tokens: &'a [Token], depth: u32) -> Parsed<'a, Body>
 // A body over what is less deep than so much.
 #[cycle(statement)]
 fn body_over<'a>(alloc: Global, tokens: &'a [Token], depth: u32) -> Parsed<'a, Body>
-    ensures value { Gives (λ p. (body_of p.0, p.1.now)) result (body_from (statement_read depth) (instance_in depth (body_read depth)) tokens.now) }
+    ensures value { Gives (λ p. (body_of p.0, p.1.now)) result (body_over (statement_read depth) (instance_in depth (body_read depth)) tokens.now) }
 {
     if let Some((end, rest)) = TokenClass::Sign(Symbol::Semicolon).split_first(tokens) {
         Ok((Body::Semicolon(end.place), rest))
