@@ -34,7 +34,6 @@
 mod asking;
 mod build;
 mod polygons;
-mod solids;
 
 use crate::build::Bench;
 use case_faces::put_about;

@@ -12,7 +12,7 @@ use Rattle.plane_table.specs.Joins.{IsFaceOf}
 use Rattle.bsp_tree.specs.Shapes.{IsWhole}
 use Rattle.bsp_tree.proofs.SheetFaces.{faces_more}
 use Rattle.bsp_tree.proofs.Wholes.{one_node_whole}
-use Rattle.geometry_cases.proofs.solids.twice.Goals as goal
+use Rattle.case_solids.proofs.solids.twice.Goals as goal
 
 two_nodes_whole : (s : Outline) (own : OwnFace) (none one two : List (Entry Face)) (copy : Face) (first second : NodeId) → IsFaceOf s own → none ≡ [] → copy ≡ own.face →
     Adds none one copy (End true) (End false) first → Adds one two own.face (To first) (To first) second →

@@ -11,6 +11,7 @@ use plane_table::face_of;
 use std::alloc::Global;
 use text_place::NoMemory;
 
+/// What a phrase makes of the solids.
 #[derive(Clone, Copy)]
 pub enum Building {
     Half,
@@ -46,6 +47,7 @@ const BUILDINGS: [(&[u8], Building); 15] = [
     (b"-", Building::Join(Op::Difference)),
 ];
 
+/// What a word has phrases make, if it has.
 pub fn building_of(word: &[u8]) -> Option<Building> {
     found(&BUILDINGS, word)
 }
@@ -185,6 +187,7 @@ pub struct Solids {
 }
 
 impl Solids {
+    /// The solid that was put last.
     pub fn last(&self) -> Result<&Solid, CaseStop> {
         self.items.last().ok_or(CaseStop::Unread)
     }
