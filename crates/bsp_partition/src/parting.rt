@@ -7,7 +7,7 @@ ghost use Rattle.plane_polygon.specs.declared.classes.Class.TheVariants.{Across}
 ghost use Rattle.plane_polygon.specs.Parts.{class_of, part_ahead, part_behind};
 ghost use Rattle.plane_table.specs.Tables.{named};
 ghost use Rattle.plane_table.specs.Cuts.{part_in, IsCrossing};
-ghost use Rattle.plane_table.specs.Faces.{outline_of, AreSidesOf, IsFaceOver};
+ghost use Rattle.plane_table.specs.Faces.{outline_of, AreSidesWhereAcross, IsFaceOver};
 ghost use Rattle.bsp_tree.specs.Trees.{make};
 ghost use Rattle.bsp_tree.specs.Growths.{tree_on};
 ghost use Rattle.bsp_tree.specs.Partitions.{across_row, ahead_row, behind_row, divide};
@@ -16,7 +16,7 @@ ghost use Rattle.bsp_partition.specs.Parts.{row_parts, trees_on, AreLinksOf, Has
 use crate::fork::Fork;
 use bsp_tree::{Face, Link, NodeId, Nodes, Part, is_same_leaf};
 use plane_polygon::Class;
-use plane_table::{CornerSides, Crossing, Half, cut, sides};
+use plane_table::{CornerSides, Crossing, Half, cut, sides_where_across};
 use std::alloc::Global;
 use text_place::NoMemory;
 
@@ -82,8 +82,8 @@ fn other_parts(
     ensures { IfOk result (λ r. HasParts nodes.old nodes.new r (row_parts (outline_of nodes.old.planes by.now) (outline_of nodes.old.planes node.face) (tree_on nodes.old node.behind) (tree_on nodes.old node.ahead))) }
 {
     let table = nodes.table();
-    let of_by = sides(alloc, table, by, node.face.plane)?;
-    let of_own = sides(alloc, table, &node.face, by.plane)?;
+    let of_by = sides_where_across(alloc, table, by, node.face.plane)?;
+    let of_own = sides_where_across(alloc, table, &node.face, by.plane)?;
     match (of_by.class, of_own.class) {
         (Class::Across, Class::Across) => {
             let parts = side_parts(alloc, nodes, &node, by, &of_by)?;
@@ -109,7 +109,7 @@ fn side_parts(
 ) -> Result<((Link, Link), (Link, Link)), NoMemory>
     requires node { IsForkOn nodes.old node.now }
     requires face { IsFaceOver nodes.old.planes by.now }
-    requires sides { AreSidesOf (outline_of nodes.old.planes by.now) (named nodes.old.planes node.now.face.plane) of_by.now }
+    requires sides { AreSidesWhereAcross (outline_of nodes.old.planes by.now) (named nodes.old.planes node.now.face.plane) of_by.now }
     requires across { of_by.now.class ≡ Across }
     ensures { IfOk result (λ r. HasSideParts nodes.old nodes.new r (divide (tree_on nodes.old node.now.behind) (part_behind (outline_of nodes.old.planes by.now) (named nodes.old.planes node.now.face.plane))) (divide (tree_on nodes.old node.now.ahead) (part_ahead (outline_of nodes.old.planes by.now) (named nodes.old.planes node.now.face.plane)))) }
 {
@@ -156,7 +156,7 @@ fn made_across(
 ) -> Result<(Link, Link), NoMemory>
     requires own { IsFaceOver nodes.old.planes face.now }
     requires face { IsFaceOver nodes.old.planes by.now }
-    requires sides { AreSidesOf (outline_of nodes.old.planes face.now) (named nodes.old.planes by.now.plane) of_own.now }
+    requires sides { AreSidesWhereAcross (outline_of nodes.old.planes face.now) (named nodes.old.planes by.now.plane) of_own.now }
     requires across { of_own.now.class ≡ Across }
     requires links { AreLinksOf nodes.old parts }
     ensures { IfOk result (λ r. HasParts nodes.old nodes.new r (across_row (outline_of nodes.old.planes by.now) (outline_of nodes.old.planes face.now) (trees_on nodes.old parts.0) (trees_on nodes.old parts.1))) }

@@ -14,8 +14,8 @@ use case_planes::put_planes;
 use plane_polygon::Class;
 use plane_predicate::Plane;
 use plane_table::{
-    Crossing, Face, Half, Numbered, PlaneTable, cut, faces_are_found, half_face, join, keep_used,
-    mark_used, polygon_of, renumber, sides,
+    CornerSide, Crossing, Face, Half, Numbered, PlaneTable, cut, faces_are_found, half_face, join,
+    keep_used, mark_used, polygon_of, renumber, sides, sides_where_across,
 };
 use std::alloc::Global;
 use text_place::NoMemory;
@@ -25,13 +25,15 @@ pub enum Tabling {
     Table,
     Alike,
     Lies,
+    Sides,
     Used,
 }
 
-const TABLINGS: [(&[u8], Tabling); 4] = [
+const TABLINGS: [(&[u8], Tabling); 5] = [
     (b"table", Tabling::Table),
     (b"alike", Tabling::Alike),
     (b"lies", Tabling::Lies),
+    (b"sides", Tabling::Sides),
     (b"used", Tabling::Used),
 ];
 
@@ -154,7 +156,7 @@ fn put_lying(
     requires face { IsFaceOver table.now face.now }
     requires number { IsNumberIn table.now number }
 {
-    let found = sides(alloc, table, face, number)?;
+    let found = sides_where_across(alloc, table, face, number)?;
     put_class(out, found.class)?;
     if let Class::Across = found.class {
         let sides = &found;
@@ -168,6 +170,37 @@ fn put_lying(
                 sides,
             },
         )?;
+    }
+    Ok(())
+}
+
+// On which side of a plane a corner lies.
+fn put_corner_side(out: &mut Vec<u8>, side: CornerSide) -> Result<(), NoMemory> {
+    if side.is_behind {
+        put(out, b" behind")
+    } else if side.is_ahead {
+        put(out, b" ahead")
+    } else {
+        put(out, b" on")
+    }
+}
+
+// How the face lies against the plane of a number, and on which side each of its corners lies.
+fn put_corner_sides(
+    alloc: Global,
+    out: &mut Vec<u8>,
+    table: &PlaneTable,
+    face: &Face,
+    number: u32,
+) -> Result<(), NoMemory>
+    requires face { IsFaceOver table.now face.now }
+    requires number { IsNumberIn table.now number }
+{
+    let found = sides(alloc, table, face, number)?;
+    put_class(out, found.class)?;
+    put(out, b" corners")?;
+    for side in found.corners.as_slice() {
+        put_corner_side(out, *side)?;
     }
     Ok(())
 }
@@ -214,6 +247,10 @@ fn put_asked(
         (Tabling::Lies, [number]) => {
             let number = number_in(table, *number)?;
             Ok(put_lying(alloc, out, table, face, number)?)
+        }
+        (Tabling::Sides, [number]) => {
+            let number = number_in(table, *number)?;
+            Ok(put_corner_sides(alloc, out, table, face, number)?)
         }
         (Tabling::Used, []) => Ok(put_used(alloc, out, table, face)?),
         _ => Err(CaseStop::Unread),

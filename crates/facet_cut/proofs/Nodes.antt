@@ -15,7 +15,7 @@ use Rattle.link_forest.specs.Forests.{IsNode}
 use Rattle.plane_table.specs.declared.faces.Face.{Face}
 use Rattle.plane_table.specs.declared.sorting.CornerSides.{CornerSides}
 use Rattle.plane_table.specs.Tables.{named}
-use Rattle.plane_table.specs.Faces.{outline_of, AreSidesOf}
+use Rattle.plane_table.specs.Faces.{outline_of, AreSidesWhereAcross}
 use Rattle.bsp_tree.specs.Links.{same_leaf}
 use Rattle.bsp_tree.specs.Trees.{Tree}
 use Rattle.bsp_tree.specs.Shapes.{leaf_of, tree_over}
@@ -52,7 +52,7 @@ end_pieces f planes nodes side s =
 pub across_node : (f : Piece → List Outline) (planes : List Coefficients) (nodes : List (Entry Face)) (link : Link) (id : NodeId)
     (own face : Face) (behind ahead : Link) (of_face : CornerSides) →
     link ≡ To id → IsNode nodes id own behind ahead →
-    AreSidesOf (outline_of planes face) (named planes own.plane) of_face → of_face.class ≡ Across →
+    AreSidesWhereAcross (outline_of planes face) (named planes own.plane) of_face → of_face.class ≡ Across →
     flat_map f (pieces (tree_over planes nodes link) (outline_of planes face)) ≡
     flat_map f (pieces (tree_over planes nodes behind) (part_behind (outline_of planes face) (named planes own.plane))) ++
     flat_map f (pieces (tree_over planes nodes ahead) (part_ahead (outline_of planes face) (named planes own.plane)))

@@ -13,7 +13,7 @@ use crate::adding::push_facing;
 use crate::{CutStop, Facet};
 use bsp_tree::{Face, Forest, Link, is_same_leaf};
 use plane_polygon::Class;
-use plane_table::{Crossing, Half, PlaneTable, cut, polygon_of, sides};
+use plane_table::{Crossing, Half, PlaneTable, cut, polygon_of, sides_where_across};
 use std::alloc::Global;
 
 /// The nodes of a solid, between whose leaves its faces are cut.
@@ -71,7 +71,7 @@ impl<'a> Walls<'a> {
             Link::End(is_inside) => { self.push_ahead(alloc, is_inside, ahead, face, most, found) }
             Link::To(id) => {
                 let (own, low, high) = self.forest.at(id);
-                let of_face = sides(alloc, self.table, face, own.plane)?;
+                let of_face = sides_where_across(alloc, self.table, face, own.plane)?;
                 match of_face.class {
                     Class::Behind | Class::On => {
                         self.push_between(alloc, low, ahead, face, most, found)
@@ -116,7 +116,7 @@ impl<'a> Walls<'a> {
             }
             Link::To(id) => {
                 let (own, low, high) = self.forest.at(id);
-                let of_face = sides(alloc, self.table, face, own.plane)?;
+                let of_face = sides_where_across(alloc, self.table, face, own.plane)?;
                 match of_face.class {
                     Class::Behind | Class::On => {
                         self.push_ahead(alloc, is_inside, low, face, most, found)

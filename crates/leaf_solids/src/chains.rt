@@ -9,7 +9,7 @@ ghost use Rattle.leaf_solids.specs.Chains.{after_step, behind_all, chained, kept
 
 use bsp_tree::{GrowStop, Growing, Link};
 use plane_polygon::Class;
-use plane_table::{Crossing, Face, Half, PlaneTable, cut, sides};
+use plane_table::{Crossing, Face, Half, PlaneTable, cut, sides_where_across};
 use std::alloc::Global;
 use text_place::NoMemory;
 
@@ -116,8 +116,8 @@ fn step_behind(alloc: Global, table: &PlaneTable, face: Face, by: Face) -> Resul
     if table.is_opposite(face.plane, by.plane) {
         return Ok(Step::Nothing);
     }
-    let of_by = sides(alloc, table, &by, face.plane)?;
-    let of_own = sides(alloc, table, &face, by.plane)?;
+    let of_by = sides_where_across(alloc, table, &by, face.plane)?;
+    let of_own = sides_where_across(alloc, table, &face, by.plane)?;
     match (of_by.class, of_own.class) {
         (Class::Across, Class::Across) => {
             let own = Crossing {

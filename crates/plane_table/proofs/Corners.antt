@@ -16,7 +16,7 @@ use Rattle.plane_table.specs.declared.faces.Face.{Face}
 use Rattle.plane_table.specs.declared.sorting.CornerSide.{CornerSide}
 use Rattle.plane_table.specs.declared.sorting.CornerSides.{CornerSides}
 use Rattle.plane_table.specs.Tables.{named}
-use Rattle.plane_table.specs.Faces.{outline_of, side_against, AreFourSides, AreSidesOf, IsFaceOver, IsSideAt}
+use Rattle.plane_table.specs.Faces.{outline_of, side_against, AreFourSides, AreSidesOf, AreSidesWhereAcross, IsFaceOver, IsSideAt}
 use Rattle.plane_table.proofs.Numbers.{get_map}
 
 -- ---- sides
@@ -112,6 +112,13 @@ sides_end planes face m found e =
     ∙ ap (λ (k : ℕ). map (λ i. side_against m (corner s i)) (up_to k)) (sym (length-map face.edges (named planes)))
     ∙ sym (sides_map s m)
 
+-- where all corners are listed, those of an outline that is across are
+pub all_listed : (s : Outline) (m : Coefficients) (found : CornerSides) → AreSidesOf s m found → AreSidesWhereAcross s m found
+all_listed s m found h = record {
+  class = h.class;
+  corners = λ across. h.corners;
+}
+
 -- the side of a corner by the side that was tested
 pub side_pair : (m : Coefficients) (p : Coordinates) (side : _) (b a : Bool) → side ≡ side_of (value m p) → b ≡ is_side_behind side → a ≡ is_side_ahead side →
     ◌≡◌ {A = CornerSide} (record { is_behind = b; is_ahead = a }) (side_against m p)
@@ -196,7 +203,7 @@ four_list a b c d w x y z p q r s = λ i. p i ∷ q i ∷ r i ∷ s i ∷ []
 
 pub four_end : (planes : List Coefficients) (face : Face) (m : Coefficients) (a b c d : Side) (sides : CornerSides) → length face.edges ≡ 4 →
     IsSideAt planes face m 0 a → IsSideAt planes face m 1 b → IsSideAt planes face m 2 c → IsSideAt planes face m 3 d →
-    AreFourSides a b c d sides → AreSidesOf (outline_of planes face) m sides
+    AreFourSides a b c d sides → AreSidesWhereAcross (outline_of planes face) m sides
 four_end planes face m a b c d found four x y z w h =
     let s : Outline = outline_of planes face in
     let n : sides s ≡ 4 = length-map face.edges (named planes) ∙ four in

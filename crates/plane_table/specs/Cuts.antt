@@ -9,7 +9,7 @@ use Rattle.plane_table.specs.declared.cutting.Half.{Half}
 use Rattle.plane_table.specs.declared.cutting.Half.TheVariants.{Behind, Ahead}
 use Rattle.plane_table.specs.declared.sorting.CornerSide.{CornerSide}
 use Rattle.plane_table.specs.Tables.{named, opposite_number, IsNumberIn}
-use Rattle.plane_table.specs.Faces.{outline_of, AreSidesOf, IsFaceOver}
+use Rattle.plane_table.specs.Faces.{outline_of, AreSidesWhereAcross, IsFaceOver}
 
 -- on the plane
 abbrev pub on_the_plane : CornerSide
@@ -48,5 +48,5 @@ part_in Ahead s m = part_ahead s m
 pub record IsCrossing (planes : List Coefficients) (crossing : Crossing) : Type 0 where
   pub face : IsFaceOver planes crossing.face.now
   pub number : IsNumberIn planes crossing.number
-  pub sides : AreSidesOf (outline_of planes crossing.face.now) (named planes crossing.number) crossing.sides.now
+  pub sides : AreSidesWhereAcross (outline_of planes crossing.face.now) (named planes crossing.number) crossing.sides.now
   pub across : crossing.sides.now.class ≡ Across

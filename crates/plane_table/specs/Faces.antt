@@ -33,8 +33,13 @@ side_against m p = record { is_behind = is_behind m p; is_ahead = is_ahead m p }
 abbrev pub IsSideAt : List Coefficients → Face → Coefficients → ℕ → Side → Type 0
 IsSideAt planes face m i side = side ≡ side_of (value m (corner (outline_of planes face) i))
 
--- how an outline lies against a plane, and where it is across, on which side of the plane each of its corners lies
+-- how an outline lies against a plane, and on which side of the plane each of its corners lies
 pub record AreSidesOf (s : Outline) (m : Coefficients) (sides : CornerSides) : Type 0 where
+  pub class : sides.class ≡ class_of s m
+  pub corners : sides.corners.items ≡ map (side_against m) (corners s)
+
+-- how an outline lies against a plane, and, where it is across, on which side of the plane each of its corners lies
+pub record AreSidesWhereAcross (s : Outline) (m : Coefficients) (sides : CornerSides) : Type 0 where
   pub class : sides.class ≡ class_of s m
   pub corners : sides.class ≡ Across → sides.corners.items ≡ map (side_against m) (corners s)
 

@@ -5,7 +5,7 @@ ghost use Rattle.plane_predicate.specs.Space.{Coefficients};
 ghost use Rattle.plane_line.specs.Lines.{IsAxisOf};
 ghost use Rattle.plane_polygon.specs.Parts.{class_of, corners};
 ghost use Rattle.plane_table.specs.Tables.{named, AreNumbersSmall, IsNumberIn};
-ghost use Rattle.plane_table.specs.Faces.{outline_of, side_against, AreSidesOf, IsFaceOver};
+ghost use Rattle.plane_table.specs.Faces.{outline_of, side_against, AreSidesWhereAcross, IsFaceOver};
 
 use crate::sorting::{CornerList, corner_on, either};
 use crate::{CornerSides, Face, PlaneTable};
@@ -26,7 +26,7 @@ pub fn sides_by_line(
 ) -> Result<Option<CornerSides>, NoMemory>
     requires face { IsFaceOver table.now face.now }
     requires number { IsNumberIn table.now number }
-    ensures { IfOk result (λ r. IfSome r (AreSidesOf (outline_of table.now face.now) (named table.now number))) }
+    ensures { IfOk result (λ r. IfSome r (AreSidesWhereAcross (outline_of table.now face.now) (named table.now number))) }
 {
     if !table.is_small() {
         return Ok(None);

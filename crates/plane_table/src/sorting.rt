@@ -6,7 +6,7 @@ ghost use Rattle.plane_polygon.specs.Polygons.{corner};
 ghost use Rattle.plane_polygon.specs.Parts.{class_by};
 ghost use Rattle.plane_polygon.specs.Parallels.{HasAllOn};
 ghost use Rattle.plane_table.specs.Tables.{named, IsNumberIn};
-ghost use Rattle.plane_table.specs.Faces.{corner_on, outline_of, side_against, AreFourSides, AreSidesOf, IsFaceOver, IsSideAt};
+ghost use Rattle.plane_table.specs.Faces.{corner_on, outline_of, side_against, AreFourSides, AreSidesOf, AreSidesWhereAcross, IsFaceOver, IsSideAt};
 
 use crate::lining::sides_by_line;
 use crate::{Face, PlaneTable, opposite_number};
@@ -31,19 +31,19 @@ pub struct CornerSide {
 /// The sides of corners in order. Up to eight stand in the value itself, more on the heap.
 pub type CornerList = SmallVec<CornerSide, FEW>;
 
-/// How a face lies against a plane, and, where it is across the plane, the side of each corner.
+/// How a face lies against a plane, with the sides of its corners: of all of them by `sides`, and by
+/// `sides_where_across` where the face is across.
 #[derive(Drop)]
 pub struct CornerSides {
     /// How the face lies against the plane.
     pub class: Class,
-    /// The sides of the corners of a face that is across, in order.
+    /// The sides of the corners, in order.
     pub corners: CornerList,
 }
 
-/// How a face lies against the plane of a number: On where all its corners are on the plane, Across where
-/// some lie strictly on each side, else the side of those that are off it. For speed alone, no corner is
-/// looked at where the table knows the planes as parallel, two edges tell those of a rectangle, and the
-/// line of the two planes tells them where all planes are small.
+/// How a face lies against the plane of a number, with the side of each corner: On where all its corners
+/// are on the plane, Across where some lie strictly on each side, else the side of those that are off it.
+/// It is for callers that read the corners of any face; those that cut faces take `sides_where_across`.
 pub fn sides(
     alloc: Global,
     table: &PlaneTable,
@@ -53,6 +53,42 @@ pub fn sides(
     requires face { IsFaceOver table.now face.now }
     requires number { IsNumberIn table.now number }
     ensures { IfOk result (λ r. AreSidesOf (outline_of table.now face.now) (named table.now number) r) }
+{
+    let edges = face.edges.numbers();
+    let mut corners = SmallVec::new(alloc);
+    let mut some_behind = false;
+    let mut some_ahead = false;
+    let mut ends = side_of_all(table, edges[0], number);
+    for i in 0..edges.len() {
+        let next = edges[next_index(i, edges.len())];
+        let begins = side_of_all(table, next, number);
+        let known = first_known(ends, begins);
+        let side = corner_side(table, face, i, number, known);
+        some_behind = either(some_behind, side.is_behind);
+        some_ahead = either(some_ahead, side.is_ahead);
+        corners.push(side)?;
+        ends = begins;
+    }
+    Ok(CornerSides {
+        class: class_from(some_behind, some_ahead),
+        corners,
+    })
+}
+
+/// How a face lies against the plane of a number, as `sides` tells it, with the sides of its corners where
+/// it is across, which is what `cut` asks for; elsewhere the list is no promise. It is for callers that cut
+/// faces: most faces lie on one side of a plane, and no corner of theirs is listed. For speed alone, no
+/// corner is looked at where the table knows the planes as parallel, two edges tell those of a rectangle,
+/// and the line of the two planes tells them where all planes are small; `sides` tells the rest.
+pub fn sides_where_across(
+    alloc: Global,
+    table: &PlaneTable,
+    face: &Face,
+    number: u32,
+) -> Result<CornerSides, NoMemory>
+    requires face { IsFaceOver table.now face.now }
+    requires number { IsNumberIn table.now number }
+    ensures { IfOk result (λ r. AreSidesWhereAcross (outline_of table.now face.now) (named table.now number) r) }
 {
     if let Some(side) = side_of_all(table, face.plane, number) {
         return Ok(CornerSides {
@@ -76,7 +112,7 @@ pub fn sides(
     if let Some(found) = sides_by_line(alloc, table, face, number)? {
         return Ok(found);
     }
-    corner_sides(alloc, table, face, number)
+    sides(alloc, table, face, number)
 }
 
 // Whether the table has one direction for two planes, or for one and the opposite of the other. For speed,
@@ -161,38 +197,6 @@ fn class_on(side: Side) -> Class
         Side::On => Class::On,
         Side::Ahead => Class::Ahead,
     }
-}
-
-// How a face lies, by the side of each corner.
-fn corner_sides(
-    alloc: Global,
-    table: &PlaneTable,
-    face: &Face,
-    number: u32,
-) -> Result<CornerSides, NoMemory>
-    requires face { IsFaceOver table.now face.now }
-    requires number { IsNumberIn table.now number }
-    ensures { IfOk result (λ r. AreSidesOf (outline_of table.now face.now) (named table.now number) r) }
-{
-    let edges = face.edges.numbers();
-    let mut corners = SmallVec::new(alloc);
-    let mut some_behind = false;
-    let mut some_ahead = false;
-    let mut ends = side_of_all(table, edges[0], number);
-    for i in 0..edges.len() {
-        let next = edges[next_index(i, edges.len())];
-        let begins = side_of_all(table, next, number);
-        let known = first_known(ends, begins);
-        let side = corner_side(table, face, i, number, known);
-        some_behind = either(some_behind, side.is_behind);
-        some_ahead = either(some_ahead, side.is_ahead);
-        corners.push(side)?;
-        ends = begins;
-    }
-    Ok(CornerSides {
-        class: class_from(some_behind, some_ahead),
-        corners,
-    })
 }
 
 // The side of the plane of a number on which corner `i` lies: the known one, else by the meeting of the

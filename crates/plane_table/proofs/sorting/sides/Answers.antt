@@ -1,47 +1,42 @@
-use Rattle.std.proofs.Common.{◌≡◌, ℕ, length, ap, sym, ◌∙◌, arith}
-use Rattle.std.proofs.lemmas.Result.{IfOk-weaker}
-use Rattle.plane_polygon.specs.Polygons.{after}
+use Rattle.std.proofs.Common.{◌≡◌, ap, ◌∙◌, length, get_or, arith, IfSome, subst, ℕ}
+use Rattle.plane_polygon.specs.Polygons.{Outline, corner}
+use Rattle.plane_polygon.specs.Parts.{is_behind, is_ahead}
+use Rattle.plane_polygon.specs.Parallels.{HasAllOn}
+use Rattle.plane_table.specs.declared.sorting.CornerSide.{CornerSide}
 use Rattle.plane_table.specs.Tables.{named}
-use Rattle.plane_table.specs.Faces.{outline_of, AreFourSides, AreSidesOf}
-use Rattle.plane_table.proofs.Corners.{all_of_class, one_side, begins_at, ends_at, four_end}
+use Rattle.plane_table.specs.Faces.{outline_of, side_against}
+use Rattle.plane_table.proofs.Corners.{after_next, some_step, map_step, class_end, sides_end, known_at}
 use Rattle.plane_table.proofs.sorting.sides.Goals as goal
 
-pub returns-in-Some : goal.returns-in-Some
-returns-in-Some c = record {
-  class = c.class_on.ensures ∙ all_of_class c.args.table.now c.args.face.now (named c.args.table.now c.args.number) c.in-Some.side c.requires.face c.in-Some.ensures;
-  corners = λ across. absurd (one_side c.in-Some.side (sym c.class_on.ensures ∙ across));
-}
-
-pub returns-in-Some-both_known : goal.returns-in-Some-both_known
-returns-in-Some-both_known c =
+pub corner_side-side-requires-clause-known : goal.corner_side-side-requires-clause-known
+corner_side-side-requires-clause-known c =
     let planes = c.args.table.now in
-    let face = c.args.face.now in
-    let m = named planes c.args.number in
-    let first = c.in-Some-both_known.first in
-    let third = c.in-Some-both_known.third in
-    let four : length face.edges ≡ 4 = sym c.len.ensures ∙ c.if-len-eq4.true in
-    let known = rw c.numbers-edges.ensures at c.in-Some-both_known.ensures in
-    IfOk-weaker c.four_sides.result (AreFourSides first third third first) (AreSidesOf (outline_of planes face) m)
-    (λ r h. four_end planes face m first third third first r four
-    (ends_at planes face m 0 first c.requires.face (omega arith) known.0)
-    (begins_at planes face m 1 2 third c.requires.face (omega arith) (ap (λ (n : ℕ). after n 1) four) known.1)
-    (ends_at planes face m 2 third c.requires.face (omega arith) known.1)
-    (begins_at planes face m 3 0 first c.requires.face (omega arith) (ap (λ (n : ℕ). after n 3) four) known.0) h)
-    c.four_sides.ensures
+    let within = rw c.numbers-edges.ensures at c.loop-i-test.true in
+    known_at planes c.args.face.now (named planes c.args.number) c.loop-i.i c.loop-i.ends c.side_of_all-begins.result c.first_known-known.result
+    c.requires.face within (c.loop-i.invariant.ends within)
+    (rw (c.next_index.ensures, c.numbers-edges.ensures) at c.side_of_all-begins.ensures) c.first_known-known.ensures
 
-pub returns-in-Some-both_known-2 : goal.returns-in-Some-both_known-2
-returns-in-Some-both_known-2 c =
+pub loop-i-preserved : goal.loop-i-preserved
+loop-i-preserved c =
     let planes = c.args.table.now in
-    let face = c.args.face.now in
+    let edges = c.args.face.now.edges in
+    let s : Outline = outline_of planes c.args.face.now in
     let m = named planes c.args.number in
-    let second = c.in-Some-both_known-2.second in
-    let fourth = c.in-Some-both_known-2.fourth in
-    let four : length face.edges ≡ 4 = sym c.len.ensures ∙ c.if-len-eq4.true in
-    let known = rw c.numbers-edges.ensures at c.in-Some-both_known-2.ensures in
-    IfOk-weaker c.four_sides-in-Some-both_known-2.result (AreFourSides second second fourth fourth) (AreSidesOf (outline_of planes face) m)
-    (λ r h. four_end planes face m second second fourth fourth r four
-    (begins_at planes face m 0 1 second c.requires.face (omega arith) (ap (λ (n : ℕ). after n 0) four) known.0)
-    (ends_at planes face m 1 second c.requires.face (omega arith) known.0)
-    (begins_at planes face m 2 3 fourth c.requires.face (omega arith) (ap (λ (n : ℕ). after n 2) four) known.1)
-    (ends_at planes face m 3 fourth c.requires.face (omega arith) known.1) h)
-    c.four_sides-in-Some-both_known-2.ensures
+    let i = c.loop-i.i in
+    let begins = rw (c.next_index.ensures, c.numbers-edges.ensures) at c.side_of_all-begins.ensures in
+    record {
+      behind = c.either-some_behind.ensures ∙ some_step (is_behind m) (corner s) i c.loop-i.some_behind c.corner_side-side.result.is_behind c.loop-i.invariant.behind (ap (λ (d : CornerSide). d.is_behind) c.corner_side-side.ensures);
+      ahead = c.either-some_ahead.ensures ∙ some_step (is_ahead m) (corner s) i c.loop-i.some_ahead c.corner_side-side.result.is_ahead c.loop-i.invariant.ahead (ap (λ (d : CornerSide). d.is_ahead) c.corner_side-side.ensures);
+      corners = c.in_ok-push.ensures.ok ∙ map_step (λ k. side_against m (corner s k)) i c.loop-i.corners.items c.corner_side-side.result c.loop-i.invariant.corners c.corner_side-side.ensures;
+      ends = λ l. subst (λ (k : ℕ). IfSome c.side_of_all-begins.result (HasAllOn (named planes (get_or edges k 0)) m)) (after_next (length edges) i l) begins;
+    }
+
+pub returns : goal.returns
+returns c =
+    let e : c.loop-i.i ≡ length c.args.face.now.edges = omega (arith, ap length c.numbers-edges.ensures) in
+    let m = named c.args.table.now c.args.number in
+    record {
+      class = c.class_from.ensures
+          ∙ class_end c.args.table.now c.args.face.now m c.loop-i.some_behind c.loop-i.some_ahead (rw e at c.loop-i.invariant.behind) (rw e at c.loop-i.invariant.ahead);
+      corners = sides_end c.args.table.now c.args.face.now m c.loop-i.corners.items (rw e at c.loop-i.invariant.corners);
+    }

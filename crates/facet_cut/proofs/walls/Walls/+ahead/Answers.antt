@@ -14,8 +14,8 @@ push_ahead-returns-in-End t c =
     rw (c.in-End.is, end_pieces (λ (r : Piece). facing c.args.is_inside r.is_inside r.part) w.table.now w.forest.now.nodes c.in-End.is_ahead_inside (outline_of w.table.now c.args.face.now))
     c.push_wall.ensures
 
-pub push_ahead-sides-requires-clause-number : goal.push_ahead-sides-requires-clause-number
-push_ahead-sides-requires-clause-number t c = (c.requires.faces.each _ _ c.at-low.ensures.node).plane
+pub push_ahead-sides_where_across-requires-clause-number : goal.push_ahead-sides_where_across-requires-clause-number
+push_ahead-sides_where_across-requires-clause-number t c = (c.requires.faces.each _ _ c.at-low.ensures.node).plane
 
 pub push_ahead-push_half-requires : goal.push_ahead-push_half-requires
 push_ahead-push_half-requires t c = (

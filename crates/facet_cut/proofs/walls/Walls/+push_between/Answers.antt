@@ -13,8 +13,8 @@ returns-in-End t c =
     rw (c.in-End.is, end_pieces (λ (r : Piece). facets_ahead r.is_inside (tree_over c.args.self.now.table.now c.args.self.now.forest.now.nodes c.args.ahead) r.part) w.table.now w.forest.now.nodes c.in-End.is_inside (outline_of w.table.now c.args.face.now))
     c.push_ahead.ensures
 
-pub sides-requires-clause-number : goal.sides-requires-clause-number
-sides-requires-clause-number t c = (c.requires.faces.each _ _ c.at-low.ensures.node).plane
+pub sides_where_across-requires-clause-number : goal.sides_where_across-requires-clause-number
+sides_where_across-requires-clause-number t c = (c.requires.faces.each _ _ c.at-low.ensures.node).plane
 
 pub cut-requires : goal.cut-requires
 cut-requires t c = record {

@@ -4,7 +4,7 @@ use Rattle.plane_polygon.specs.Parts.{some_of, is_behind, is_ahead, up_to}
 use Rattle.plane_polygon.specs.Parallels.{HasAllOn}
 use Rattle.plane_table.specs.Tables.{named}
 use Rattle.plane_table.specs.Faces.{outline_of, side_against}
-use Rattle.plane_table.proofs.sorting.corner_sides.Given as goal
+use Rattle.plane_table.proofs.sorting.sides.Given as goal
 
 abbrev pub invariant-loop-i : goal.invariant-loop-i
 invariant-loop-i l = record {
