@@ -9,7 +9,7 @@ use Rattle.scad_value.specs.View.{val_of, vals_in}
 use Rattle.scad_scope.specs.Names.{Pairs, NumberedEnv, NumberedOutermost, NumberedWithin, with_pair}
 use Rattle.scad_arguments.specs.Arguments.{name_of, names_of}
 use Rattle.scad_blocks.specs.Blocks.{NumberedText}
-use Rattle.scad_evaluation.specs.Meaning.{Env, Outermost, Within, paired, with_values, with_variable}
+use Rattle.scad_evaluation.specs.Meaning.{Env, Outermost, Within, paired, with_values, with_value}
 use Rattle.scad_evaluation.specs.Definitions.{env_in}
 
 pub vals_here : (xs : List Value) (i : ℕ) (x : Value) → i < length xs → x ≡ get_or xs i x
@@ -40,7 +40,7 @@ paired_more (q ∷ names) [] n v pairs h = absurd (omega arith)
 paired_more (q ∷ names) (w ∷ vs) n v pairs h = paired_more names vs n v ((q, w) ∷ pairs) (omega arith)
 
 values_more : (names : List (List ℕ)) (vs : List Val) (n : List ℕ) (v : Val) (e : Env) → length vs ≡ length names
-    → with_variable n v (with_values names (vals_from vs) e) ≡ with_values (names ++ n ∷ []) (vals_from (vs ++ v ∷ [])) e
+    → with_value n v (with_values names (vals_from vs) e) ≡ with_values (names ++ n ∷ []) (vals_from (vs ++ v ∷ [])) e
 values_more names vs n v Outermost h = refl
 values_more names vs n v (Within variables fs ms call outer) h =
     ap (λ pairs. Within pairs fs ms call outer) (sym (paired_more names vs n v variables h))
@@ -50,7 +50,7 @@ values_none Outermost = refl
 values_none (Within variables fs ms call outer) = refl
 
 pub pair_seen : (text : NumberedText) (name : List ℕ) (v : Val) (e : NumberedEnv)
-    → env_in text (with_pair name v e) ≡ with_variable name v (env_in text e)
+    → env_in text (with_pair name v e) ≡ with_value name v (env_in text e)
 pair_seen text name v NumberedOutermost = refl
 pair_seen text name v (NumberedWithin number row call outer) = refl
 
@@ -72,7 +72,7 @@ pub bound_more : (text : NumberedText) (first now new : NumberedEnv) (names more
     → length vs ≡ length names → new ≡ with_pair n v now → more ≡ names ++ n ∷ [] → ws ≡ vs ++ v ∷ []
     → env_in text new ≡ with_values more (vals_from ws) (env_in text first)
 bound_more text first now new names more vs ws n v r l b q w =
-    ap (env_in text) b ∙ pair_seen text n v now ∙ ap (with_variable n v) r
+    ap (env_in text) b ∙ pair_seen text n v now ∙ ap (with_value n v) r
     ∙ values_more names vs n v (env_in text first) l
     ∙ ap (λ ns. with_values ns (vals_from (vs ++ v ∷ [])) (env_in text first)) (sym q)
     ∙ ap (λ us. with_values more (vals_from us) (env_in text first)) (sym w)

@@ -3,19 +3,19 @@ use Rattle.std.proofs.Common.{◌≡◌, ℕ, zero, suc, ◌<◌, List, [], ◌�
 use Rattle.std.specs.Prelude.{IsTrue}
 use Rattle.std.specs.Str.{bytes_eq}
 use Rattle.std.proofs.lemmas.Bool.{and_parts, and_from, ltb-true}
-use Rattle.scad_scope.specs.Names.{Pairs, Row, find_in, or_else, envs_from, env_behind, env_of, NumberedEnv, NumberedOutermost, NumberedWithin, NumberedCall, no_numbered_call, numbered_call, enclosing_call, or_outer_call, variable_in as numbered_variable_in, standing_in as numbered_standing_in, function_in as numbered_function_in, module_in as numbered_module_in}
+use Rattle.scad_scope.specs.Names.{Pairs, Row, find_in, or_else, envs_from, env_behind, env_of, NumberedEnv, NumberedOutermost, NumberedWithin, NumberedCall, no_numbered_call, numbered_call, enclosing_call, or_outer_call, variable_in, standing_in, function_in, module_in}
 use Rattle.scad_blocks.specs.Numbered.{numbers_below}
 use Rattle.scad_scope.specs.Numbered.{each_row}
 use Rattle.scad_blocks.specs.Blocks.{SourceFunction, SourceModule, NumberedText}
 use Rattle.scad_scope.specs.declared.table.ModuleCall.{ModuleCall}
 use Rattle.scad_scope.specs.Table.{numbered_call_of}
 use Rattle.scad_evaluation.specs.View.{IsCallFound}
-use Rattle.scad_evaluation.specs.Meaning.{Env, variable_in, standing_in, function_in, module_in, call_in, or_outer}
-use Rattle.scad_evaluation.specs.Definitions.{numbered, named, resolved, env_in, call_seen}
+use Rattle.scad_evaluation.specs.Meaning.{Env, visible_variable, with_home, visible_function, visible_module, call_in, or_outer}
+use Rattle.scad_evaluation.specs.Definitions.{definition_numbered, with_definition, resolved, env_in, opened_in}
 
 -- a variable of a numbered scope is the one of the scope with its definitions
 pub variable_same : (text : NumberedText) (e : NumberedEnv) (name : List ℕ)
-    → variable_in (env_in text e) name ≡ numbered_variable_in e name
+    → visible_variable (env_in text e) name ≡ variable_in e name
 variable_same text NumberedOutermost name = refl
 variable_same text (NumberedWithin number row call outer) name = ap (or_else (find_in row.variables name))
     (variable_same text outer name)
@@ -37,17 +37,17 @@ pair_below n (p ∷ ps) name d h e =
     (pair_below n ps name d parts.1) e
 
 -- a number that is below the count has a definition
-number_there : {A : Type 0} (xs : List A) (d : ℕ) → d < length xs → (x : A) × (numbered xs d ≡ Some x)
+number_there : {A : Type 0} (xs : List A) (d : ℕ) → d < length xs → (x : A) × (definition_numbered xs d ≡ Some x)
 number_there [] d h = absurd (omega arith)
 number_there (x ∷ xs) zero h = (x, refl)
 number_there (x ∷ xs) (suc d) h = number_there xs d (omega arith)
 
 abbrev there : {A : Type 0} → List A → Option ℕ → Option A
 there xs None = None
-there xs (Some d) = numbered xs d
+there xs (Some d) = definition_numbered xs d
 
 pair_there : {A : Type 0} (xs : List A) (t : Bool) (d : ℕ) (x : A) (rest : Option A) (others : Option ℕ)
-    → numbered xs d ≡ Some x
+    → definition_numbered xs d ≡ Some x
     → rest ≡ there xs others → cond t (Some x) rest ≡ there xs (cond t (Some d) others)
 pair_there xs true d x rest others e g = sym e
 pair_there xs false d x rest others e g = g
@@ -59,7 +59,7 @@ find_resolved xs [] name h = refl
 find_resolved xs (p ∷ ps) name h =
     let parts = and_parts _ _ h in
     let x = number_there xs p.1 (ltb-true p.1 (length xs) parts.0) in
-    ap (λ o. find_in (named p.0 o (resolved xs ps)) name) x.1
+    ap (λ o. find_in (with_definition p.0 o (resolved xs ps)) name) x.1
     ∙ pair_there xs (bytes_eq p.0 name) p.1 x.0 (find_in (resolved xs ps) name) (find_in ps name) x.1
     (find_resolved xs ps name parts.1)
 
@@ -69,7 +69,7 @@ nothing_found e d h = cc
 standing_number : (n : ℕ) (e found : NumberedEnv) (here : Option ℕ) (beyond : Option (NumberedEnv × ℕ))
     (d : ℕ)
     → ((k : ℕ) → here ≡ Some k → k < n) → (beyond ≡ Some (found, d) → d < n)
-    → or_else (numbered_standing_in e here) beyond ≡ Some (found, d) → d < n
+    → or_else (standing_in e here) beyond ≡ Some (found, d) → d < n
 standing_number n e found None beyond d h g s = g s
 standing_number n e found (Some k) beyond d h g s =
     let pair : ◌≡◌ {A = NumberedEnv × ℕ} (e, k) (found, d) = cc in
@@ -77,7 +77,7 @@ standing_number n e found (Some k) beyond d h g s =
 
 -- what a number stands for
 number_seen : {A : Type 0} (fs : List A) (d : ℕ) (f : A) → d < length fs → f ≡ get_or fs d f
-    → numbered fs d ≡ Some f
+    → definition_numbered fs d ≡ Some f
 number_seen [] d f h e = absurd (omega arith)
 number_seen (g ∷ fs) zero f h e = ap Some (sym e)
 number_seen (g ∷ fs) (suc d) f h e = number_seen fs d f (omega arith) e
@@ -92,18 +92,18 @@ pub record Kind (A : Type 0) (text : NumberedText) : Type 0 where
   pub none_defined : (name : List ℕ) → defined (env_in text NumberedOutermost) name ≡ None
   pub next_by_number : (number : ℕ) (row : Row) (call : NumberedCall) (outer : NumberedEnv) (name : List ℕ)
       → by_number (NumberedWithin number row call outer) name
-      ≡ or_else (numbered_standing_in (NumberedWithin number row call outer) (find_in (own row) name)) (by_number outer name)
+      ≡ or_else (standing_in (NumberedWithin number row call outer) (find_in (own row) name)) (by_number outer name)
   pub next_defined : (number : ℕ) (row : Row) (call : NumberedCall) (outer : NumberedEnv) (name : List ℕ)
       → defined (env_in text (NumberedWithin number row call outer)) name
-      ≡ or_else (standing_in (env_in text (NumberedWithin number row call outer)) (find_in (resolved all (own row)) name))
+      ≡ or_else (with_home (env_in text (NumberedWithin number row call outer)) (find_in (resolved all (own row)) name))
       (defined (env_in text outer) name)
 
 abbrev pub functions_of : (text : NumberedText) → Kind SourceFunction text
 functions_of text = record {
   all = text.functions;
   own = λ r. r.functions;
-  by_number = numbered_function_in;
-  defined = function_in;
+  by_number = function_in;
+  defined = visible_function;
   none_by_number = λ name. refl;
   none_defined = λ name. refl;
   next_by_number = λ number row call outer name. refl;
@@ -114,8 +114,8 @@ abbrev pub modules_of : (text : NumberedText) → Kind SourceModule text
 modules_of text = record {
   all = text.modules;
   own = λ r. r.modules;
-  by_number = numbered_module_in;
-  defined = module_in;
+  by_number = module_in;
+  defined = visible_module;
   none_by_number = λ name. refl;
   none_defined = λ name. refl;
   next_by_number = λ number row call outer name. refl;
@@ -161,17 +161,17 @@ module _ {A : Type 0} (text : NumberedText) (kind : Kind A text) where
   -- what a number that was found stands for, with its scope
   abbrev defined_at : Option (NumberedEnv × ℕ) → Option (A × Env)
   defined_at None = None
-  defined_at (Some found) = standing_in (env_in text found.0) (numbered kind.all found.1)
+  defined_at (Some found) = with_home (env_in text found.0) (definition_numbered kind.all found.1)
 
   by_pair : (e : NumberedEnv) (here : Option ℕ) (outer : Option (A × Env)) (beyond : Option (NumberedEnv × ℕ))
       → ((d : ℕ) → here ≡ Some d → d < length kind.all) → outer ≡ defined_at beyond
-      → or_else (standing_in (env_in text e) (there kind.all here)) outer
-      ≡ defined_at (or_else (numbered_standing_in e here) beyond)
+      → or_else (with_home (env_in text e) (there kind.all here)) outer
+      ≡ defined_at (or_else (standing_in e here) beyond)
   by_pair e None outer beyond h g = g
   by_pair e (Some d) outer beyond h g =
       let x = number_there kind.all d (h d refl) in
-      ap (λ o. or_else (standing_in (env_in text e) o) outer) x.1
-      ∙ ap (standing_in (env_in text e)) (sym x.1)
+      ap (λ o. or_else (with_home (env_in text e) o) outer) x.1
+      ∙ ap (with_home (env_in text e)) (sym x.1)
 
   -- the definition of a name is the one of the number that is found
   same_definition : (e : NumberedEnv) (name : List ℕ) → IsTrue (scope_below kind.own (length kind.all) e)
@@ -181,7 +181,7 @@ module _ {A : Type 0} (text : NumberedText) (kind : Kind A text) where
       let p = and_parts _ _ h in
       let e = NumberedWithin number row call outer in
       kind.next_defined number row call outer name
-      ∙ ap (λ o. or_else (standing_in (env_in text e) o) (kind.defined (env_in text outer) name))
+      ∙ ap (λ o. or_else (with_home (env_in text e) o) (kind.defined (env_in text outer) name))
       (find_resolved kind.all (kind.own row) name p.0)
       ∙ by_pair e (find_in (kind.own row) name) (kind.defined (env_in text outer) name) (kind.by_number outer name)
       (λ d. pair_below (length kind.all) (kind.own row) name d p.0) (same_definition outer name p.1)
@@ -211,7 +211,7 @@ module _ {A : Type 0} (text : NumberedText) (kind : Kind A text) where
     found_seen found d f e is =
         same_definition (env_of rows scope) name (env_below kind.own (length kind.all) rows scope below)
         ∙ ap defined_at e
-        ∙ ap (standing_in (env_in text found)) (number_seen kind.all d f (found_within found d e) is)
+        ∙ ap (with_home (env_in text found)) (number_seen kind.all d f (found_within found d e) is)
 
     pub none_seen : kind.by_number (env_of rows scope) name ≡ None
         → kind.defined (env_in text (env_of rows scope)) name ≡ None
@@ -221,17 +221,17 @@ module _ {A : Type 0} (text : NumberedText) (kind : Kind A text) where
 
 -- the call that encloses a scope
 outer_same : (text : NumberedText) (call outer : NumberedCall)
-    → or_outer (call_seen text call) (call_seen text outer) ≡ call_seen text (or_outer_call call outer)
+    → or_outer (opened_in text call) (opened_in text outer) ≡ opened_in text (or_outer_call call outer)
 outer_same text no_numbered_call outer = refl
 outer_same text (numbered_call children caller) outer = refl
 
-pub call_same : (text : NumberedText) (e : NumberedEnv) → call_in (env_in text e) ≡ call_seen text (enclosing_call e)
+pub call_same : (text : NumberedText) (e : NumberedEnv) → call_in (env_in text e) ≡ opened_in text (enclosing_call e)
 call_same text NumberedOutermost = refl
 call_same text (NumberedWithin number row call outer) =
-    ap (or_outer (call_seen text call)) (call_same text outer) ∙ outer_same text call (enclosing_call outer)
+    ap (or_outer (opened_in text call)) (call_same text outer) ∙ outer_same text call (enclosing_call outer)
 
 pub enclosing_call_seen : (text : NumberedText) (rows : List Row) (scope : ℕ) (result : Option ModuleCall)
     → enclosing_call (env_of rows scope) ≡ numbered_call_of (env_of rows) result
     → IsCallFound text rows (call_in (env_in text (env_of rows scope))) result
-enclosing_call_seen text rows scope None e = call_same text (env_of rows scope) ∙ ap (call_seen text) e
-enclosing_call_seen text rows scope (Some call) e = call_same text (env_of rows scope) ∙ ap (call_seen text) e
+enclosing_call_seen text rows scope None e = call_same text (env_of rows scope) ∙ ap (opened_in text) e
+enclosing_call_seen text rows scope (Some call) e = call_same text (env_of rows scope) ∙ ap (opened_in text) e

@@ -3,7 +3,7 @@ use Rattle.std.proofs.Common.{◌≡◌, ℕ, zero, suc, List, [], ◌∷◌, ma
 use Rattle.std.specs.Str.{bytes_eq}
 use Rattle.scad_ast.specs.Terms.{ArgTerm, NamedTerm, SpecialArgTerm, PositionalTerm}
 use Rattle.scad_scope.specs.Names.{Pairs, find_in}
-use Rattle.scad_arguments.specs.Arguments.{Given, Taker, to_parameter, to_special, unless_filled, taken_by, taker_of}
+use Rattle.scad_arguments.specs.Arguments.{Given, to_parameter, to_special, unless_filled, taken_by, taker_of}
 use Rattle.scad_ast.specs.Names.{is_among}
 use Rattle.scad_arguments.specs.Lookup.{names_of_pairs}
 

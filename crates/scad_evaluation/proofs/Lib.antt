@@ -7,6 +7,7 @@ pub mod Chains
 pub mod Standing
 pub mod Bodies
 pub mod Calls
+pub mod Counting
 pub mod Outcomes
 pub mod Steps
 pub mod SmallNumbers

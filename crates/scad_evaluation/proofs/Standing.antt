@@ -5,22 +5,22 @@ use Rattle.scad_ast.specs.Terms.{StatementTerm, EmptyStatement, BlockStatement, 
 use Rattle.scad_scope.specs.Names.{Pairs}
 use Rattle.scad_blocks.specs.Blocks.{SourceFunction, SourceModule, Beginning, a_block, a_function, a_module, beginnings_of, beginnings_in, beginnings_of_instance, beginnings_of_core, beginnings_of_body, beginnings_of_program, functions_among, modules_among, count_functions, count_modules, own_functions, own_function, own_modules, own_module, SourceBlock, nothing_there, entries_from, numbered_text, NumberedText, assignments_of, count_blocks, StandsInOrder}
 use Rattle.scad_evaluation.specs.Meaning.{Env, Within, Opened, functions_standing_in, function_standing, modules_standing_in, module_standing, entered_scope}
-use Rattle.scad_evaluation.specs.Definitions.{numbered, named, resolved, statements_at, block_scope, IsWhole}
+use Rattle.scad_evaluation.specs.Definitions.{definition_numbered, with_definition, resolved, statements_at, block_scope, IsWhole}
 
 -- lists
 right_nil : {A : Type 0} (xs : List A) → xs ++ [] ≡ xs
 right_nil [] = refl
 right_nil (x ∷ xs) = ap (λ l. x ∷ l) (right_nil xs)
 
-named_joined : {A : Type 0} (name : List ℕ) (o : Option A) (xs ys : Pairs A) → named name o xs ++ ys ≡ named name o (xs ++ ys)
+named_joined : {A : Type 0} (name : List ℕ) (o : Option A) (xs ys : Pairs A) → with_definition name o xs ++ ys ≡ with_definition name o (xs ++ ys)
 named_joined name None xs ys = refl
 named_joined name (Some x) xs ys = refl
 
 resolved_joined : {A : Type 0} (all : List A) (ps qs : Pairs ℕ) → resolved all (ps ++ qs) ≡ resolved all ps ++ resolved all qs
 resolved_joined all [] qs = refl
 resolved_joined all (p ∷ ps) qs =
-    ap (named p.0 (numbered all p.1)) (resolved_joined all ps qs)
-    ∙ sym (named_joined p.0 (numbered all p.1) (resolved all ps) (resolved all qs))
+    ap (with_definition p.0 (definition_numbered all p.1)) (resolved_joined all ps qs)
+    ∙ sym (named_joined p.0 (definition_numbered all p.1) (resolved all ps) (resolved all qs))
 
 -- reversed pairs, in two parts
 turned_joined : {A : Type 0} (all : List A) (ps qs : Pairs ℕ) (xs ys : Pairs A) → resolved all (reverse ps) ≡ xs → resolved all (reverse qs) ≡ ys
@@ -29,8 +29,8 @@ turned_joined all ps qs xs ys h g =
     ap (resolved all) (reverse-append ps qs) ∙ resolved_joined all (reverse qs) (reverse ps)
     ∙ ap (λ l. l ++ resolved all (reverse ps)) g ∙ ap (λ l. ys ++ l) h
 
-number_behind : {A : Type 0} (before : List A) (x : A) (after : List A) (n : ℕ) → n ≡ length before → numbered (before ++ x ∷ after) n ≡ Some x
-number_behind [] x after n h = ap (numbered (x ∷ after)) h
+number_behind : {A : Type 0} (before : List A) (x : A) (after : List A) (n : ℕ) → n ≡ length before → definition_numbered (before ++ x ∷ after) n ≡ Some x
+number_behind [] x after n h = ap (definition_numbered (x ∷ after)) h
 number_behind (b ∷ before) x after zero h = absurd (omega arith)
 number_behind (b ∷ before) x after (suc n) h = number_behind before x after n (omega arith)
 
@@ -91,7 +91,7 @@ mutual
   functions_of all n (SpecialAssignmentTerm at name value) s = refl
   functions_of all n (ModuleTerm at name name_at params body) s = refl
   functions_of all n (FunctionTerm at name name_at params value) s =
-      ap (λ o. named name o []) (ap (λ l. numbered l n) s.whole
+      ap (λ o. with_definition name o []) (ap (λ l. definition_numbered l n) s.whole
       ∙ number_behind s.before (record { params = params; value = value }) s.behind n s.count)
   functions_of all n (InstanceStatement instance) s = refl
 
@@ -113,7 +113,7 @@ mutual
   modules_of all n (AssignmentTerm at name value) s = refl
   modules_of all n (SpecialAssignmentTerm at name value) s = refl
   modules_of all n (ModuleTerm at name name_at params body) s =
-      ap (λ o. named name o []) (ap (λ l. numbered l n) s.whole
+      ap (λ o. with_definition name o []) (ap (λ l. definition_numbered l n) s.whole
       ∙ number_behind s.before (record { params = params; body = body }) (modules_among (beginnings_of_body body) ++ s.behind) n s.count)
   modules_of all n (FunctionTerm at name name_at params value) s = refl
   modules_of all n (InstanceStatement instance) s = refl

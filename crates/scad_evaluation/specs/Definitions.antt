@@ -6,20 +6,20 @@ use Rattle.scad_blocks.specs.Blocks.{NumberedText, nothing_there, assignments_of
 use Rattle.scad_evaluation.specs.Meaning.{Env, Outermost, Within, Opened, no_call, opened, entered_scope}
 
 -- the item with a number, counted from 0, where there is one
-abbrev pub numbered : {A : Type 0} → List A → ℕ → Option A
-numbered [] n = None
-numbered (x ∷ xs) zero = Some x
-numbered (x ∷ xs) (suc n) = numbered xs n
+abbrev pub definition_numbered : {A : Type 0} → List A → ℕ → Option A
+definition_numbered [] n = None
+definition_numbered (x ∷ xs) zero = Some x
+definition_numbered (x ∷ xs) (suc n) = definition_numbered xs n
 
 -- names with the definitions of their numbers
-abbrev pub named : {A : Type 0} → List ℕ → Option A → Pairs A → Pairs A
-named name (Some x) pairs = (name, x) ∷ pairs
-named name None pairs = pairs
+abbrev pub with_definition : {A : Type 0} → List ℕ → Option A → Pairs A → Pairs A
+with_definition name (Some x) pairs = (name, x) ∷ pairs
+with_definition name None pairs = pairs
 
 -- names with the definitions of their numbers, of which those that stand for nothing are left out
 abbrev pub resolved : {A : Type 0} → List A → Pairs ℕ → Pairs A
 resolved all [] = []
-resolved all (pair ∷ pairs) = named pair.0 (numbered all pair.1) (resolved all pairs)
+resolved all (pair ∷ pairs) = with_definition pair.0 (definition_numbered all pair.1) (resolved all pairs)
 
 -- the statements of a block, by its number
 abbrev pub statements_at : NumberedText → ℕ → StatementTerms
@@ -30,11 +30,11 @@ abbrev mutual
   pub env_in : NumberedText → NumberedEnv → Env
   env_in text NumberedOutermost = Outermost
   env_in text (NumberedWithin number row call outer) = Within row.variables (resolved text.functions row.functions)
-      (resolved text.modules row.modules) (call_seen text call) (env_in text outer)
+      (resolved text.modules row.modules) (opened_in text call) (env_in text outer)
 
-  pub call_seen : NumberedText → NumberedCall → Opened
-  call_seen text no_numbered_call = no_call
-  call_seen text (numbered_call children caller) = opened (statements_at text children) (env_in text caller)
+  pub opened_in : NumberedText → NumberedCall → Opened
+  opened_in text no_numbered_call = no_call
+  opened_in text (numbered_call children caller) = opened (statements_at text children) (env_in text caller)
 
 -- the scope of a block, with the definitions that its numbers stand for
 abbrev pub block_scope : NumberedText → ℕ → Opened → Env → Env

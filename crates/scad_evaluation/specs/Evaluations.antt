@@ -5,7 +5,7 @@ use Rattle.scad_scope.specs.Table.{rows_of, chain_of}
 use Rattle.text_place.specs.declared.fault.Stop.{Stop}
 use Rattle.scad_evaluation.specs.Limits.{most_calls, most_evaluations}
 use Rattle.scad_evaluation.specs.Meaning.{Outcome, Env, Setting, evaluated}
-use Rattle.scad_evaluation.specs.View.{MeetsOutcome, seen, deepest}
+use Rattle.scad_evaluation.specs.View.{MeetsOutcome, env_seen, deepest}
 use Rattle.scad_evaluation.specs.declared.source.Source.{Source}
 use Rattle.scad_evaluation.specs.declared.evaluation.Evaluation.{Evaluation}
 
@@ -14,25 +14,25 @@ abbrev pub scopes_there : Evaluation → ℕ
 scopes_there evaluation = length (rows_of evaluation.scopes.now)
 
 -- where an expression of a scope stands
-abbrev pub setting : Evaluation → ℕ → Setting
-setting evaluation scope = record {
+abbrev pub setting_in : Evaluation → ℕ → Setting
+setting_in evaluation scope = record {
   deeper = evaluated (most_evaluations - evaluation.depth);
   calls = most_calls - evaluation.calls;
-  env = seen evaluation.source.now (rows_of evaluation.scopes.now) scope;
+  env = env_seen evaluation.source.now (rows_of evaluation.scopes.now) scope;
   chain = chain_of evaluation.scopes.now;
 }
 
 -- the scope in which is evaluated, with all that it stands in
-abbrev pub env_here : Evaluation → NumberedEnv
-env_here evaluation = env_of (rows_of evaluation.scopes.now) evaluation.scope
+abbrev pub numbered_env_here : Evaluation → NumberedEnv
+numbered_env_here evaluation = env_of (rows_of evaluation.scopes.now) evaluation.scope
 
 -- the same scope, with what its numbers stand for
-abbrev pub scope_here : Evaluation → Env
-scope_here evaluation = seen evaluation.source.now (rows_of evaluation.scopes.now) evaluation.scope
+abbrev pub env_here : Evaluation → Env
+env_here evaluation = env_seen evaluation.source.now (rows_of evaluation.scopes.now) evaluation.scope
 
 -- where an expression of the scope in which is evaluated stands
 abbrev pub setting_here : Evaluation → Setting
-setting_here evaluation = setting evaluation evaluation.scope
+setting_here evaluation = setting_in evaluation evaluation.scope
 
 -- the calls that are left, times more than any function is deep
 unfoldable pub work_left : Source → ℕ → ℕ
@@ -49,7 +49,7 @@ pub record Keeps (old new : Evaluation) : Type 0 where
   pub depth : new.depth ≡ old.depth
   pub work : work_left new.source.now new.calls ≡ work_left old.source.now old.calls
   pub count : scopes_there new ≡ scopes_there old
-  pub same : (scope : ℕ) → setting new scope ≡ setting old scope
+  pub same : (scope : ℕ) → setting_in new scope ≡ setting_in old scope
   pub here : setting_here new ≡ setting_here old
 
 -- What a function of the evaluator does: what it gives, as it is seen, is what its meaning gives in the evaluation's
@@ -69,7 +69,7 @@ pub record SameSetting (old new : Evaluation) : Type 0 where
   pub depth : new.depth ≡ old.depth
 
 -- one call deeper: all else but the turns is as before
-pub record CallBegins (old new : Evaluation) : Type 0 where
+pub record OneCallDeeper (old new : Evaluation) : Type 0 where
   pub source : new.source.now ≡ old.source.now
   pub lent : new.scopes.ghost_name ≡ old.scopes.ghost_name
   pub stands : new.scope ≡ old.scope
@@ -80,7 +80,7 @@ pub record CallBegins (old new : Evaluation) : Type 0 where
   pub within : old.calls < most_calls
 
 -- one evaluation deeper: all else but the turns is as before
-pub record EvaluationBegins (old new : Evaluation) : Type 0 where
+pub record OneEvaluationDeeper (old new : Evaluation) : Type 0 where
   pub source : new.source.now ≡ old.source.now
   pub lent : new.scopes.ghost_name ≡ old.scopes.ghost_name
   pub stands : new.scope ≡ old.scope
@@ -92,7 +92,7 @@ pub record EvaluationBegins (old new : Evaluation) : Type 0 where
 
 -- one scope more, which is the newest and the one in which is evaluated, where it was another one: all else but the turns
 -- is as before
-pub record ScopeEnters (old new : Evaluation) (before : ℕ) : Type 0 where
+pub record OneScopeMore (old new : Evaluation) (before : ℕ) : Type 0 where
   pub source : new.source.now ≡ old.source.now
   pub lent : new.scopes.ghost_name ≡ old.scopes.ghost_name
   pub from : before ≡ old.scope
@@ -104,7 +104,7 @@ pub record ScopeEnters (old new : Evaluation) (before : ℕ) : Type 0 where
   pub depth : new.depth ≡ old.depth
 
 -- more special names, in front of so many: all else but the turns is as before
-pub record SpecialsBegin (old new : Evaluation) (count : ℕ) : Type 0 where
+pub record MoreSpecials (old new : Evaluation) (count : ℕ) : Type 0 where
   pub source : new.source.now ≡ old.source.now
   pub lent : new.scopes.ghost_name ≡ old.scopes.ghost_name
   pub stands : new.scope ≡ old.scope
@@ -113,12 +113,3 @@ pub record SpecialsBegin (old new : Evaluation) (count : ℕ) : Type 0 where
   pub number : count ≡ length (chain_of old.scopes.now)
   pub calls : new.calls ≡ old.calls
   pub depth : new.depth ≡ old.depth
-
--- a binding in the newest scope: all else is as before, and where the scope was entered it still is
-pub record BindsIn (old new : Evaluation) : Type 0 where
-  pub same : SameSetting old new
-  pub front : take old.scope (rows_of new.scopes.now) ≡ take old.scope (rows_of old.scopes.now)
-  pub there : scopes_there new ≡ scopes_there old
-  pub chain : chain_of new.scopes.now ≡ chain_of old.scopes.now
-  pub turns : new.turns ≡ old.turns
-  pub entered : (first : Evaluation) (before : ℕ) → ScopeEnters first old before → ScopeEnters first new before

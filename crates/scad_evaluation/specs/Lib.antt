@@ -4,3 +4,4 @@ pub mod Definitions
 pub mod View
 pub mod Evaluations
 pub mod Steps
+pub mod Transitions

@@ -102,8 +102,8 @@ abbrev pub IsTextOf : Source → List StatementTerm → Type 0
 IsTextOf source program = source_text source ≡ numbered_text program
 
 -- a scope with what its numbers stand for
-abbrev pub seen : Source → List Row → ℕ → Env
-seen source rows scope = env_in (source_text source) (env_of rows scope)
+abbrev pub env_seen : Source → List Row → ℕ → Env
+env_seen source rows scope = env_in (source_text source) (env_of rows scope)
 
 -- each number of a function in the table of scopes is that of a function of the program
 abbrev pub IsNumbered : Source → List Row → Type 0
@@ -112,12 +112,12 @@ IsNumbered source rows = IsTrue (functions_below (length (source_text source).fu
 -- a function and the number of the scope in which it stands, or none
 abbrev pub IsFunctionFound : Source → List Row → Option (SourceFunction × Env) → Option (Function × ℕ) → Type 0
 IsFunctionFound source rows wanted None = wanted ≡ None
-IsFunctionFound source rows wanted (Some found) = wanted ≡ Some (function_of found.0, seen source rows found.1)
+IsFunctionFound source rows wanted (Some found) = wanted ≡ Some (function_of found.0, env_seen source rows found.1)
 
 -- a module and the number of the scope in which it stands, or none
 abbrev pub IsModuleFound : Source → List Row → Option (SourceModule × Env) → Option (Module × ℕ) → Type 0
 IsModuleFound source rows wanted None = wanted ≡ None
-IsModuleFound source rows wanted (Some found) = wanted ≡ Some (module_of found.0, seen source rows found.1)
+IsModuleFound source rows wanted (Some found) = wanted ≡ Some (module_of found.0, env_seen source rows found.1)
 
 -- a call with the statements that are its children and the scope of its caller, or none
 abbrev pub IsCallFound : NumberedText → List Row → Opened → Option ModuleCall → Type 0

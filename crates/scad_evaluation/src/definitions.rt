@@ -2,10 +2,10 @@ ghost use Rattle.std.specs.Prelude.{◌<◌, IfSome};
 ghost use Rattle.std.specs.List.{Contains};
 ghost use Rattle.scad_ast.specs.StatementView.{body_of};
 ghost use Rattle.scad_scope.specs.Table.{rows_of};
-ghost use Rattle.scad_evaluation.specs.Meaning.{function_in, module_in};
+ghost use Rattle.scad_evaluation.specs.Meaning.{visible_function, visible_module};
 ghost use Rattle.scad_evaluation.specs.View.{IsFunctionFound, IsModuleFound, source_text};
 ghost use Rattle.scad_evaluation.specs.Definitions.{IsBlockOf, IsWhole};
-ghost use Rattle.scad_evaluation.specs.Evaluations.{scope_here, scopes_there, setting_here};
+ghost use Rattle.scad_evaluation.specs.Evaluations.{env_here, scopes_there, setting_here};
 
 use crate::evaluation::Evaluation;
 use scad_scope::{Function, Module};
@@ -16,7 +16,7 @@ impl<'a> Evaluation<'a, '_> {
     /// number of the scope in which it stands. None where no scope outward has one.
     pub fn function(&self, name: &[u8]) -> Option<(Function<'a>, u32)>
         ensures found { IsFunctionFound self.now.source.now (rows_of self.now.scopes.now)
-            (function_in (setting_here self.now).env name.now) result }
+            (visible_function (setting_here self.now).env name.now) result }
         ensures there { IfSome result (λ found. found.1 < scopes_there self.now) }
         ensures among { IfSome result (λ found. Contains self.now.source.now.blocks.functions.items found.0) }
     {
@@ -32,7 +32,7 @@ impl<'a> Evaluation<'a, '_> {
     /// The module that a name stands for, the newest of its name from the scope outward, with its body's block,
     /// and the number of the scope in which it stands. None where no scope outward has one.
     pub fn module(&self, name: &[u8]) -> Option<(Module<'a>, u32)>
-        ensures found { IsModuleFound self.now.source.now (rows_of self.now.scopes.now) (module_in (scope_here self.now) name.now) result }
+        ensures found { IsModuleFound self.now.source.now (rows_of self.now.scopes.now) (visible_module (env_here self.now) name.now) result }
         ensures there { IfSome result (λ found. found.1 < scopes_there self.now) }
         ensures body { IsWhole (source_text self.now.source.now) →
             IfSome result (λ found. IsBlockOf (source_text self.now.source.now) found.0.block (body_of found.0.body.now)) }

@@ -1,8 +1,9 @@
-ghost use Rattle.std.specs.Prelude.{◌≡◌, ◌+◌, ◌<◌, IfErr, OnOk, OnErr};
+ghost use Rattle.std.specs.Prelude.{◌≡◌, ◌+◌, ◌<◌, IfErr, OnOk};
 ghost use Rattle.text_place.specs.declared.fault.FaultKind.TheVariants.{TooDeep, TooManyTurns};
 ghost use Rattle.scad_arguments.specs.ArgumentsView.{IsFaultAt};
-ghost use Rattle.scad_evaluation.specs.Limits.{most_calls, most_evaluations, most_turns};
-ghost use Rattle.scad_evaluation.specs.Evaluations.{Keeps, CallBegins, EvaluationBegins};
+ghost use Rattle.scad_evaluation.specs.Limits.{most_calls, most_turns};
+ghost use Rattle.scad_evaluation.specs.Evaluations.{Keeps, OneCallDeeper, OneEvaluationDeeper};
+ghost use Rattle.scad_evaluation.specs.Transitions.{BeginsCall, BeginsCountedCall, BeginsEvaluation, GoesBack};
 
 use crate::evaluation::Evaluation;
 use text_place::{FaultKind, Place, Stop};
@@ -30,16 +31,33 @@ impl Evaluation<'_, '_> {
         Ok(())
     }
 
-    /// One call deeper. TooDeep at its place where it is the 65th in one another.
-    pub fn begin_call(&mut self, place: Place) -> Result<(), Stop>
-        ensures begun { OnOk result (CallBegins self.old self.new) }
-        ensures refused { IfErr result (λ stop. (self.old.calls ≡ most_calls) × IsFaultAt stop TooDeep place) }
-        ensures kept { OnErr result (Keeps self.old self.new) }
-        ensures turns { self.new.turns ≡ self.old.turns }
+    // Whether one call more is within the limit.
+    fn may_call(&self, place: Place) -> Result<(), Stop>
+        ensures within { OnOk result (self.now.calls < most_calls) }
+        ensures refused { IfErr result (λ stop. (self.now.calls ≡ most_calls) × IsFaultAt stop TooDeep place) }
     {
         if self.calls == CALLS {
             return Err(FaultKind::TooDeep.at(place));
         }
+        Ok(())
+    }
+
+    /// One call deeper. TooDeep at its place where it is the 65th in one another.
+    pub fn begin_call(&mut self, place: Place) -> Result<(), Stop>
+        ensures { BeginsCall self.old self.new result place }
+    {
+        self.may_call(place)?;
+        self.calls += 1;
+        Ok(())
+    }
+
+    /// One call deeper, and one turn more. TooDeep at its place where it is the 65th in one another, and else TooManyTurns where
+    /// the turn is the 100,001st.
+    pub fn begin_counted_call(&mut self, place: Place) -> Result<(), Stop>
+        ensures { BeginsCountedCall self.old self.new result place }
+    {
+        self.may_call(place)?;
+        self.turn(place)?;
         self.calls += 1;
         Ok(())
     }
@@ -47,18 +65,14 @@ impl Evaluation<'_, '_> {
     /// One call back, to where the call began.
     pub fn end_call(&mut self)
         requires { 0 < self.old.calls }
-        ensures back { (first : Evaluation) → CallBegins first self.old → Keeps first self.new }
-        ensures turns { self.new.turns ≡ self.old.turns }
+        ensures { GoesBack (λ first. OneCallDeeper first self.old) self.old self.new }
     {
         self.calls -= 1;
     }
 
     /// One evaluation deeper. TooDeep at its place where it is the 513th in one another.
     pub fn begin_evaluation(&mut self, place: Place) -> Result<(), Stop>
-        ensures begun { OnOk result (EvaluationBegins self.old self.new) }
-        ensures refused { IfErr result (λ stop. (self.old.depth ≡ most_evaluations) × IsFaultAt stop TooDeep place) }
-        ensures kept { OnErr result (Keeps self.old self.new) }
-        ensures turns { self.new.turns ≡ self.old.turns }
+        ensures { BeginsEvaluation self.old self.new result place }
     {
         if self.depth == EVALUATIONS {
             return Err(FaultKind::TooDeep.at(place));
@@ -70,8 +84,7 @@ impl Evaluation<'_, '_> {
     /// One evaluation back, to where the evaluation began.
     pub fn end_evaluation(&mut self)
         requires { 0 < self.old.depth }
-        ensures back { (first : Evaluation) → EvaluationBegins first self.old → Keeps first self.new }
-        ensures turns { self.new.turns ≡ self.old.turns }
+        ensures { GoesBack (λ first. OneEvaluationDeeper first self.old) self.old self.new }
     {
         self.depth -= 1;
     }

@@ -10,7 +10,7 @@ ghost use Rattle.text_place.specs.declared.fault.FaultKind.TheVariants.{UnknownN
 ghost use Rattle.scad_arguments.specs.ArgumentsView.{IsFaultAt};
 ghost use Rattle.scad_evaluation.specs.Meaning.{or_zero, or_fault, answered, Gives};
 ghost use Rattle.scad_evaluation.specs.View.{MeetsOutcome, indexed_val, IsThere};
-ghost use Rattle.scad_evaluation.specs.Evaluations.{env_here};
+ghost use Rattle.scad_evaluation.specs.Evaluations.{numbered_env_here};
 
 // A value is lent where something can still fail, as in the operators of `scad_answer`.
 
@@ -41,7 +41,7 @@ impl Evaluation<'_, '_> {
         name: &CompactBytes,
         at: Place,
     ) -> Result<BoundedValue, Stop>
-        ensures { (turns : ℕ) → MeetsOutcome bounded_val result turns (or_fault (variable_in (env_here self.now) name.now) UnknownName at
+        ensures { (turns : ℕ) → MeetsOutcome bounded_val result turns (or_fault (variable_in (numbered_env_here self.now) name.now) UnknownName at
             (λ w. answered (binary_of part.now.op (bounded_val left) w) part.now.place turns)) }
     {
         self.binary_with_lent(&left, part, name, at)
@@ -54,7 +54,7 @@ impl Evaluation<'_, '_> {
         name: &CompactBytes,
         at: Place,
     ) -> Result<BoundedValue, Stop>
-        ensures { (turns : ℕ) → MeetsOutcome bounded_val result turns (or_fault (variable_in (env_here self.now) name.now) UnknownName at
+        ensures { (turns : ℕ) → MeetsOutcome bounded_val result turns (or_fault (variable_in (numbered_env_here self.now) name.now) UnknownName at
             (λ w. answered (binary_of part.now.op (bounded_val left.now) w) part.now.place turns)) }
     {
         match self.variable(name.items(), at) {
@@ -67,7 +67,7 @@ impl Evaluation<'_, '_> {
     #[inline(never)]
     pub fn variable_of(&self, name: &[u8], place: Place) -> Result<BoundedValue, Stop>
         ensures { (turns : ℕ) → MeetsOutcome bounded_val result turns
-            (or_fault (variable_in (env_here self.now) name.now) UnknownName place (Gives turns)) }
+            (or_fault (variable_in (numbered_env_here self.now) name.now) UnknownName place (Gives turns)) }
     {
         match self.variable(name, place) {
             Ok(value) => Ok(BoundedValue {
@@ -94,7 +94,7 @@ impl Evaluation<'_, '_> {
     /// The number of children, which is 0 where there are none.
     #[inline(never)]
     pub fn child_count(&self, place: Place) -> Result<BoundedValue, Stop>
-        ensures { (turns : ℕ) → MeetsOutcome bounded_val result turns (Gives turns (or_zero (variable_in (env_here self.now) (codes "$children")))) }
+        ensures { (turns : ℕ) → MeetsOutcome bounded_val result turns (Gives turns (or_zero (variable_in (numbered_env_here self.now) (codes "$children")))) }
     {
         match self.variable(b"$children", place) {
             Ok(value) => Ok(BoundedValue {
@@ -109,9 +109,9 @@ impl Evaluation<'_, '_> {
     /// What is indexed, as a variable. UnknownName at its place where there is none.
     #[inline(never)]
     pub fn variable_there<'a>(&self, name: &'a [u8], place: Place) -> Result<Indexed<'a>, Stop>
-        ensures found { IfOk result (λ of. variable_in (env_here self.now) name.now ≡ Some (indexed_val (env_here self.now) of)) }
-        ensures there { IfOk result (λ of. IsThere (env_here self.now) of) }
-        ensures missing { IfErr result (λ stop. (variable_in (env_here self.now) name.now ≡ None) × IsFaultAt stop UnknownName place) }
+        ensures found { IfOk result (λ of. variable_in (numbered_env_here self.now) name.now ≡ Some (indexed_val (numbered_env_here self.now) of)) }
+        ensures there { IfOk result (λ of. IsThere (numbered_env_here self.now) of) }
+        ensures missing { IfErr result (λ stop. (variable_in (numbered_env_here self.now) name.now ≡ None) × IsFaultAt stop UnknownName place) }
     {
         match self.variable(name, place) {
             Ok(_) => Ok(Indexed::Variable(name)),
@@ -127,8 +127,8 @@ impl Evaluation<'_, '_> {
         at: BoundedValue,
         place: Place,
     ) -> Result<BoundedValue, Stop>
-        requires there { IsThere (env_here self.now) of }
-        ensures { MeetsAnswerAt result (index_of (indexed_val (env_here self.now) of.entry) (bounded_val at)) place }
+        requires there { IsThere (numbered_env_here self.now) of }
+        ensures { MeetsAnswerAt result (index_of (indexed_val (numbered_env_here self.now) of.entry) (bounded_val at)) place }
     {
         self.item_at(&of, &at, place)
     }
@@ -139,8 +139,8 @@ impl Evaluation<'_, '_> {
         at: &BoundedValue,
         place: Place,
     ) -> Result<BoundedValue, Stop>
-        requires there { IsThere (env_here self.now) of.now }
-        ensures { MeetsAnswerAt result (index_of (indexed_val (env_here self.now) of.now) (bounded_val at.now)) place }
+        requires there { IsThere (numbered_env_here self.now) of.now }
+        ensures { MeetsAnswerAt result (index_of (indexed_val (numbered_env_here self.now) of.now) (bounded_val at.now)) place }
     {
         match of {
             Indexed::Variable(name) => match self.variable(name, place) {
@@ -160,9 +160,9 @@ impl Evaluation<'_, '_> {
         name_place: Place,
         place: Place,
     ) -> Result<BoundedValue, Stop>
-        requires there { IsThere (env_here self.now) of }
+        requires there { IsThere (numbered_env_here self.now) of }
         ensures { (turns : ℕ) → MeetsOutcome bounded_val result turns (or_fault (member_of name.now) NotInProfile name_place
-            (λ n. answered (index_of (indexed_val (env_here self.now) of.entry) (NumberVal n)) place turns)) }
+            (λ n. answered (index_of (indexed_val (numbered_env_here self.now) of.entry) (NumberVal n)) place turns)) }
     {
         match member_of(name.items()) {
             Some(n) => {
@@ -177,8 +177,8 @@ impl Evaluation<'_, '_> {
 
     // The value of a variable, lent.
     fn variable(&self, name: &[u8], place: Place) -> Result<&Value, Fault>
-        ensures { MatchResult result (λ v. IsVariable (variable_in (env_here self.now) name.now) v.now)
-            (IsMissing UnknownName place (variable_in (env_here self.now) name.now)) }
+        ensures { MatchResult result (λ v. IsVariable (variable_in (numbered_env_here self.now) name.now) v.now)
+            (IsMissing UnknownName place (variable_in (numbered_env_here self.now) name.now)) }
     {
         self.scopes.variable(self.scope, name, place)
     }

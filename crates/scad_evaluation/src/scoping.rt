@@ -1,17 +1,17 @@
-ghost use Rattle.std.specs.Prelude.{◌≡◌, ◌<◌, ◌≤◌, ◌+◌, [], ◌∷◌, ◌++◌, length, map, IfOk, IfErr, IfSome, OnOk, OnErr};
+ghost use Rattle.std.specs.Prelude.{◌≡◌, ◌<◌, ◌≤◌, ◌+◌, [], ◌∷◌, length, map, IfOk, IfErr, IfSome, OnErr};
 ghost use Rattle.scad_ast.specs.StatementView.{params_of};
 ghost use Rattle.scad_value.specs.BoundedView.{bounded_val};
-ghost use Rattle.scad_scope.specs.Names.{oldest};
 ghost use Rattle.scad_arguments.specs.Arguments.{names_of};
 ghost use Rattle.scad_scope.specs.Table.{rows_of, chain_of};
 ghost use Rattle.scad_blocks.specs.Blocks.{assignments_of};
 ghost use Rattle.scad_blocks.specs.TextView.{assigned_of};
-ghost use Rattle.scad_evaluation.specs.Meaning.{Within, call_in, no_call, opened, with_variable, with_values};
-ghost use Rattle.scad_evaluation.specs.View.{IsCallFound, IsNoMemory, specials_in, values_seen, seen, source_text};
+ghost use Rattle.scad_evaluation.specs.Meaning.{Within, call_in, no_call, opened, with_value, with_values};
+ghost use Rattle.scad_evaluation.specs.View.{IsCallFound, IsNoMemory, specials_in, values_seen, env_seen, source_text};
 ghost use Rattle.scad_evaluation.specs.Definitions.{statements_at, block_scope, IsWhole};
-ghost use Rattle.scad_evaluation.specs.Evaluations.{Keeps, SameSetting, ScopeEnters, SpecialsBegin, BindsIn, scopes_there, scope_here};
+ghost use Rattle.scad_evaluation.specs.Evaluations.{Keeps, OneScopeMore, scopes_there, env_here};
+ghost use Rattle.scad_evaluation.specs.Transitions.{BeginsSpecials, BindsVariables, EndsSpecials, EntersScope, GoesBack};
 
-use crate::bind::{bind_all, bind_one};
+use crate::bind::bind_all;
 use crate::evaluation::Evaluation;
 use crate::specials::bind_specials;
 use crate::values::BoundedValues;
@@ -39,11 +39,8 @@ impl<'a> Evaluation<'a, '_> {
     /// `NoMemory` leaves all as it was.
     pub fn enter_body(&mut self, outer: u32, block: u32) -> Result<u32, NoMemory>
         requires { outer < scopes_there self.old }
-        ensures entered { IfOk result (ScopeEnters self.old self.new) }
-        ensures inside { OnOk result (scope_here self.new
-            ≡ block_scope (source_text self.old.source.now) block no_call (seen self.old.source.now (rows_of self.old.scopes.now) outer)) }
-        ensures kept { OnErr result (Keeps self.old self.new) }
-        ensures turns { self.new.turns ≡ self.old.turns }
+        ensures { EntersScope self.old self.new result
+            (block_scope (source_text self.old.source.now) block no_call (env_seen self.old.source.now (rows_of self.old.scopes.now) outer)) }
     {
         let source = self.source;
         let before = self.scope;
@@ -54,10 +51,7 @@ impl<'a> Evaluation<'a, '_> {
     /// Enters a new scope without definitions inside the one in which is evaluated, and answers that one: a scope in
     /// which a loop binds a variable. `NoMemory` leaves all as it was.
     pub fn enter_empty(&mut self) -> Result<u32, NoMemory>
-        ensures entered { IfOk result (ScopeEnters self.old self.new) }
-        ensures inside { OnOk result (scope_here self.new ≡ Within [] [] [] no_call (scope_here self.old)) }
-        ensures kept { OnErr result (Keeps self.old self.new) }
-        ensures turns { self.new.turns ≡ self.old.turns }
+        ensures { EntersScope self.old self.new result (Within [] [] [] no_call (env_here self.old)) }
     {
         let before = self.scope;
         self.scope = self.scopes.enter_empty(self.alloc, before)?;
@@ -69,13 +63,9 @@ impl<'a> Evaluation<'a, '_> {
     /// as it was.
     pub fn enter_call(&mut self, home: u32, block: u32, children: u32) -> Result<u32, NoMemory>
         requires { home < scopes_there self.old }
-        ensures entered { IfOk result (ScopeEnters self.old self.new) }
-        ensures inside { OnOk result (scope_here self.new
-            ≡ block_scope (source_text self.old.source.now) block
-            (opened (statements_at (source_text self.old.source.now) children) (scope_here self.old))
-            (seen self.old.source.now (rows_of self.old.scopes.now) home)) }
-        ensures kept { OnErr result (Keeps self.old self.new) }
-        ensures turns { self.new.turns ≡ self.old.turns }
+        ensures { EntersScope self.old self.new result (block_scope (source_text self.old.source.now) block
+            (opened (statements_at (source_text self.old.source.now) children) (env_here self.old))
+            (env_seen self.old.source.now (rows_of self.old.scopes.now) home)) }
     {
         let source = self.source;
         let caller = self.scope;
@@ -90,8 +80,7 @@ impl<'a> Evaluation<'a, '_> {
     /// before.
     pub fn leave(&mut self, before: u32)
         requires { before < self.old.scope }
-        ensures back { (first : Evaluation) → ScopeEnters first self.old before → Keeps first self.new }
-        ensures turns { self.new.turns ≡ self.old.turns }
+        ensures { GoesBack (λ first. OneScopeMore first self.old before) self.old self.new }
     {
         let newest = self.scope;
         self.scope = before;
@@ -99,13 +88,13 @@ impl<'a> Evaluation<'a, '_> {
     }
 
     /// Gives a name a value in the scope in which is evaluated, which is the newest. `NoMemory` leaves all as it was.
+    #[tactic(auto, using(crate::proofs::Growth::front_kept, crate::proofs::Growth::bound_length))]
     pub fn bind(&mut self, name: &[u8], value: BoundedValue) -> Result<(), NoMemory>
         requires { self.old.scope + 1 ≡ scopes_there self.old }
-        ensures bound { OnOk result (scope_here self.new ≡ with_variable name.now (bounded_val value) (scope_here self.old)) }
-        ensures binds { BindsIn self.old self.new }
+        ensures binds { BindsVariables self.old self.new result (with_value name.now (bounded_val value) (env_here self.old)) }
         ensures kept { OnErr result (Keeps self.old self.new) }
     {
-        bind_one(self.alloc, self.scopes, self.scope, name, value)
+        self.scopes.bind(self.alloc, self.scope, name, value.value)
     }
 
     /// Gives parameters their values in the scope in which is evaluated, which is the newest. `NoMemory` leaves some of
@@ -117,8 +106,8 @@ impl<'a> Evaluation<'a, '_> {
     ) -> Result<(), NoMemory>
         requires newest { self.old.scope + 1 ≡ scopes_there self.old }
         requires count { length values.items.items ≡ length params.now.items.items }
-        ensures bound { OnOk result (scope_here self.new ≡ with_values (names_of (params_of params.now)) (values_seen values) (scope_here self.old)) }
-        ensures binds { BindsIn self.old self.new }
+        ensures binds { BindsVariables self.old self.new result
+            (with_values (names_of (params_of params.now)) (values_seen values) (env_here self.old)) }
     {
         bind_all(self.alloc, self.scopes, self.scope, params, values)
     }
@@ -128,11 +117,8 @@ impl<'a> Evaluation<'a, '_> {
         &mut self,
         specials: Vec<SpecialArgument<'_, BoundedValue>>,
     ) -> Result<u32, Stop>
-        ensures begun { IfOk result (SpecialsBegin self.old self.new) }
-        ensures chain { OnOk result (chain_of self.new.scopes.now ≡ specials_in specials.entry.items ++ chain_of self.old.scopes.now) }
+        ensures begins { BeginsSpecials self.old self.new result (specials_in specials.entry.items) }
         ensures stop { IfErr result IsNoMemory }
-        ensures kept { OnErr result (Keeps self.old self.new) }
-        ensures turns { self.new.turns ≡ self.old.turns }
     {
         let length = self.scopes.chain_length();
         if length > u32::MAX as usize {
@@ -151,12 +137,7 @@ impl<'a> Evaluation<'a, '_> {
     /// Gives a special name a value, as the newest of the chain, and answers its length before. `NoMemory`
     /// leaves all as it was.
     pub fn bind_special(&mut self, name: &[u8], value: BoundedValue) -> Result<u32, NoMemory>
-        ensures begun { IfOk result (SpecialsBegin self.old self.new) }
-        ensures chain { OnOk result (chain_of self.new.scopes.now ≡ (name.now, bounded_val value) ∷ chain_of self.old.scopes.now) }
-        ensures kept { OnErr result (Keeps self.old self.new) }
-        ensures same { SameSetting self.old self.new }
-        ensures rows { rows_of self.new.scopes.now ≡ rows_of self.old.scopes.now }
-        ensures turns { self.new.turns ≡ self.old.turns }
+        ensures { BeginsSpecials self.old self.new result ((name.now, bounded_val value) ∷ []) }
     {
         self.scopes.bind_special(self.alloc, name, value.value)
     }
@@ -175,11 +156,7 @@ impl<'a> Evaluation<'a, '_> {
     /// Takes special names from the chain, to where they were put on it.
     pub fn end_specials(&mut self, to: u32)
         requires { to ≤ length (chain_of self.old.scopes.now) }
-        ensures back { (first : Evaluation) → SpecialsBegin first self.old to → Keeps first self.new }
-        ensures same { SameSetting self.old self.new }
-        ensures rows { rows_of self.new.scopes.now ≡ rows_of self.old.scopes.now }
-        ensures chain { chain_of self.new.scopes.now ≡ oldest to (chain_of self.old.scopes.now) }
-        ensures turns { self.new.turns ≡ self.old.turns }
+        ensures { EndsSpecials self.old self.new to }
     {
         self.scopes.unwind(to);
     }
@@ -187,7 +164,7 @@ impl<'a> Evaluation<'a, '_> {
     /// The innermost call of a module whose scope is the one in which is evaluated or stands around it, with the block of
     /// its children and the scope of its caller.
     pub fn enclosing_call(&self) -> Option<ModuleCall>
-        ensures value { IsCallFound (source_text self.now.source.now) (rows_of self.now.scopes.now) (call_in (scope_here self.now)) result }
+        ensures value { IsCallFound (source_text self.now.source.now) (rows_of self.now.scopes.now) (call_in (env_here self.now)) result }
         ensures there { IfSome result (λ call. call.caller < scopes_there self.now) }
     {
         self.scopes.call_of(self.scope)

@@ -1,7 +1,6 @@
-ghost use Rattle.std.specs.Prelude.{◌≡◌, ◌≤◌, ◌++◌, length, IfErr, OnOk};
-ghost use Rattle.scad_scope.specs.Names.{oldest};
-ghost use Rattle.scad_scope.specs.Table.{rows_of, chain_of};
+ghost use Rattle.std.specs.Prelude.{IfErr};
 ghost use Rattle.scad_evaluation.specs.View.{IsNoMemory, specials_in};
+ghost use Rattle.scad_evaluation.specs.Transitions.{PutsOnChain};
 
 use scad_scope::{Scopes, SpecialArgument};
 use scad_value::BoundedValue;
@@ -14,11 +13,8 @@ pub(crate) fn bind_specials(
     scopes: &mut Scopes,
     specials: Vec<SpecialArgument<'_, BoundedValue>>,
 ) -> Result<(), Stop>
-    ensures bound { OnOk result (chain_of scopes.new ≡ specials_in specials.entry.items ++ chain_of scopes.old) }
+    ensures puts { PutsOnChain scopes.old scopes.new result (specials_in specials.entry.items) }
     ensures stop { IfErr result IsNoMemory }
-    ensures longer { length (chain_of scopes.old) ≤ length (chain_of scopes.new) }
-    ensures older { oldest (length (chain_of scopes.old)) (chain_of scopes.new) ≡ chain_of scopes.old }
-    ensures rows { rows_of scopes.new ≡ rows_of scopes.old }
 {
     let mut left = specials.into_iter();
     'each: while let Some(special) = left.next() {

@@ -12,12 +12,12 @@ use Rattle.scad_scope.specs.Table.{rows_of, chain_of}
 use Rattle.scad_arguments.specs.Arguments.{names_of, nothing_given}
 use Rattle.scad_blocks.specs.Blocks.{SourceFunction}
 use Rattle.scad_evaluation.specs.Limits.{most_calls, most_evaluations}
-use Rattle.scad_evaluation.specs.Meaning.{Outcome, Env, Setting, in_scope, with_specials, answered, evaluated, each_argument, function_called, called, function_in, then_with}
+use Rattle.scad_evaluation.specs.Meaning.{Outcome, Env, Setting, in_scope, with_specials, answered, evaluated, each_argument, function_called, called, visible_function, then_with}
 use Rattle.scad_evaluation.specs.declared.source.Source.{Source}
 use Rattle.scad_evaluation.specs.declared.evaluation.Evaluation.{Evaluation}
-use Rattle.scad_evaluation.specs.View.{MeetsOutcome, deepest, seen}
+use Rattle.scad_evaluation.specs.View.{MeetsOutcome, deepest, env_seen}
 use Rattle.scad_answer.specs.View.{MeetsAnswerAt}
-use Rattle.scad_evaluation.specs.Evaluations.{Keeps, EvaluatesTo, SpecialsBegin, ScopeEnters, setting, setting_here, scope_here, work_left}
+use Rattle.scad_evaluation.specs.Evaluations.{Keeps, EvaluatesTo, MoreSpecials, OneScopeMore, setting_in, setting_here, env_here, work_left}
 use Rattle.scad_evaluation.proofs.Outcomes.{fault_goes, value_goes, meets_answer}
 
 -- where an expression stands, by what it depends on
@@ -25,7 +25,7 @@ setting_by : Source → List Row → ℕ → ℕ → ℕ → Pairs Val → Setti
 setting_by source rows scope depth calls chain = record {
   deeper = evaluated (most_evaluations - depth);
   calls = most_calls - calls;
-  env = seen source rows scope;
+  env = env_seen source rows scope;
   chain = chain;
 }
 
@@ -37,7 +37,7 @@ pub keeps_from : (old new : Evaluation) → new.source.now ≡ old.source.now
     → Keeps old new
 unfolding setting_by
 keeps_from old new s l w r c k d =
-    let same : (scope : ℕ) → setting new scope ≡ setting old scope = λ scope.
+    let same : (scope : ℕ) → setting_in new scope ≡ setting_in old scope = λ scope.
     ap (λ (x : Source). setting_by x (rows_of new.scopes.now) scope new.depth new.calls (chain_of new.scopes.now)) s
     ∙ ap (λ rows. setting_by old.source.now rows scope new.depth new.calls (chain_of new.scopes.now)) r
     ∙ ap (λ n. setting_by old.source.now (rows_of old.scopes.now) scope n new.calls (chain_of new.scopes.now)) d
@@ -54,7 +54,7 @@ keeps_from old new s l w r c k d =
       work = ap (λ (x : Source). work_left x new.calls) s ∙ ap (work_left old.source.now) k;
       count = ap length r;
       same = same;
-      here = ap (λ (n : ℕ). setting new n) w ∙ same old.scope;
+      here = ap (λ (n : ℕ). setting_in new n) w ∙ same old.scope;
     }
 
 pub keeps_same : (e : Evaluation) → Keeps e e
@@ -69,7 +69,7 @@ pub moved : {A : Type 0} (F : Setting → A) {old new : Evaluation} → Keeps ol
 moved F k = ap F (sym k.here)
 
 -- where special names were put on the chain, or a scope was entered, behind evaluations that keep all
-pub specials_kept : (old : Evaluation) (count : ℕ) {mid new : Evaluation} → SpecialsBegin old mid count → Keeps mid new → SpecialsBegin old new count
+pub specials_kept : (old : Evaluation) (count : ℕ) {mid new : Evaluation} → MoreSpecials old mid count → Keeps mid new → MoreSpecials old new count
 specials_kept old count b k = record {
   source = k.source ∙ b.source;
   lent = k.lent ∙ b.lent;
@@ -81,7 +81,7 @@ specials_kept old count b k = record {
   depth = k.depth ∙ b.depth;
 }
 
-pub scope_kept : (old : Evaluation) (before : ℕ) {mid new : Evaluation} → ScopeEnters old mid before → Keeps mid new → ScopeEnters old new before
+pub scope_kept : (old : Evaluation) (before : ℕ) {mid new : Evaluation} → OneScopeMore old mid before → Keeps mid new → OneScopeMore old new before
 scope_kept old before {mid = mid} {new = new} e k = record {
   source = k.source ∙ e.source;
   lent = k.lent ∙ e.lent;
@@ -95,7 +95,7 @@ scope_kept old before {mid = mid} {new = new} e k = record {
 }
 
 -- where an expression stands with more special names, or in a scope that was entered
-pub specials_setting : (old new : Evaluation) (count : ℕ) (specials : Pairs Val) → SpecialsBegin old new count
+pub specials_setting : (old new : Evaluation) (count : ℕ) (specials : Pairs Val) → MoreSpecials old new count
     → chain_of new.scopes.now ≡ specials ++ chain_of old.scopes.now → setting_here new ≡ with_specials (setting_here old) specials
 unfolding setting_by
 specials_setting old new count specials b e =
@@ -109,12 +109,12 @@ specials_setting old new count specials b e =
 setting_with : ℕ → ℕ → Env → Pairs Val → Setting
 setting_with depth calls env chain = record { deeper = evaluated (most_evaluations - depth); calls = most_calls - calls; env = env; chain = chain }
 
-pub scope_setting : (old new : Evaluation) (before : ℕ) (env : Env) → ScopeEnters old new before → scope_here new ≡ env
+pub scope_setting : (old new : Evaluation) (before : ℕ) (env : Env) → OneScopeMore old new before → env_here new ≡ env
     → setting_here new ≡ in_scope (setting_here old) env
 unfolding setting_with
 scope_setting old new before env e h =
-    ap (λ n. setting_with n new.calls (scope_here new) (chain_of new.scopes.now)) e.depth
-    ∙ ap (λ n. setting_with old.depth n (scope_here new) (chain_of new.scopes.now)) e.calls
+    ap (λ n. setting_with n new.calls (env_here new) (chain_of new.scopes.now)) e.depth
+    ∙ ap (λ n. setting_with old.depth n (env_here new) (chain_of new.scopes.now)) e.calls
     ∙ ap (λ (x : Env). setting_with old.depth old.calls x (chain_of new.scopes.now)) h
     ∙ ap (setting_with old.depth old.calls env) e.chain
 
@@ -128,10 +128,10 @@ work_falls source calls h =
 
 -- a call of the function that a name stands for
 pub call_found : (e : Evaluation) (home : ℕ) (f : SourceFunction) (at : Place) (name : List ℕ) (args : ArgTerms) (turns : ℕ)
-    → function_in (setting_here e).env name ≡ Some (f, seen e.source.now (rows_of e.scopes.now) home)
-    → called (setting_here e) at name args turns (function_in (setting_here e).env name)
+    → visible_function (setting_here e).env name ≡ Some (f, env_seen e.source.now (rows_of e.scopes.now) home)
+    → called (setting_here e) at name args turns (visible_function (setting_here e).env name)
     ≡ then_with (each_argument (setting_here e) (names_of f.params) 0 args (nothing_given (length (names_of f.params))) turns)
-    (λ turns given. function_called (setting e home) at f given turns)
+    (λ turns given. function_called (setting_in e home) at f given turns)
 call_found e home f at name args turns h =
     ap (λ o. called (setting_here e) at name args turns o) h
 

@@ -1,26 +1,26 @@
-ghost use Rattle.std.specs.Prelude.{◌≡◌, ◌-◌, ◌<◌, ◌≤◌, ℕ, IfOk, IfErr, OnOk, Ok, Err, None, length, true, false, if◌then◌else◌};
+ghost use Rattle.std.specs.Prelude.{◌≡◌, ◌≤◌, IfOk, Ok, None, length, true, false, if◌then◌else◌};
 ghost use Rattle.scad_ast.specs.Terms.{terms_from, args_from, suffixes_from, links_from};
 ghost use Rattle.scad_ast.specs.ExprView.{term_of, terms_of, args_of, suffix_of, suffixes_of, link_of, links_of};
 ghost use Rattle.scad_ast.specs.StatementView.{param_of, params_of};
-ghost use Rattle.scad_value.specs.Values.{Val, ListVal, truth_of};
+ghost use Rattle.scad_value.specs.Values.{ListVal, truth_of};
 ghost use Rattle.scad_value.specs.Operators.{made, unary_of};
 ghost use Rattle.scad_value.specs.BoundedView.{bounded_val};
 ghost use Rattle.scad_arguments.specs.Arguments.{nothing_given};
 ghost use Rattle.scad_arguments.specs.ArgumentsView.{names_in};
-ghost use Rattle.scad_evaluation.specs.Limits.{most_calls, most_turns};
-ghost use Rattle.scad_evaluation.specs.Meaning.{Outcome, Gives, one_call_fewer, turn, then_with, answered, value_at, operand, each_value, each_argument, each_parameter, parameter_value, function_value, function_called, each_suffix, each_link, called, function_in, counted};
+ghost use Rattle.scad_evaluation.specs.Meaning.{Gives, then_with, answered, value_at, operand, each_value, each_argument, each_parameter, parameter_value, function_value, function_called, each_suffix, each_link, called, visible_function, counted};
 ghost use Rattle.scad_answer.specs.Answers.{range_of, stepped_range_of};
 ghost use Rattle.scad_evaluation.specs.Steps.{all_values, suffixed, linked, with_parameters};
 ghost use Rattle.scad_blocks.specs.TextView.{function_of};
 ghost use Rattle.scad_evaluation.specs.View.{MeetsOutcome, values_seen, indexed_val, IsThere, slot_of, slots_in, arguments_of, function_size, deepest};
-ghost use Rattle.scad_evaluation.specs.Evaluations.{Keeps, EvaluatesTo, env_here};
+ghost use Rattle.scad_evaluation.specs.Evaluations.{Keeps, EvaluatesTo, numbered_env_here, setting_here};
+ghost use Rattle.scad_evaluation.specs.Transitions.{EvaluatesParameters};
 
 use scad_answer::{
     binary_value, is_true, range_value, stepped_range_value, unary_value, wants_right, with,
 };
 use scad_ast::{Args, Expr, Exprs, Link, Links, Param, Params, Suffix, Suffixes, UnaryOp};
 use scad_evaluation::{
-    BoundedValues, CALLS, EVALUATIONS, Evaluation, Indexed, TURNS, applied_to, argument_value,
+    BoundedValues, EVALUATIONS, Evaluation, Indexed, TURNS, applied_to, argument_value,
     built_in_for, listed, text_of,
 };
 use scad_scope::{ArgumentsSoFar, Function, GivenArguments, Names, positional_after};
@@ -213,9 +213,9 @@ fn suffixes(
     of: Indexed<'_>,
     rest: &Suffixes,
 ) -> Result<BoundedValue, Stop>
-    requires there { IsThere (env_here evaluation.old) of }
+    requires there { IsThere (numbered_env_here evaluation.old) of }
     ensures { EvaluatesTo bounded_val evaluation.old evaluation.new result (λ here.
-        each_suffix here (indexed_val (env_here evaluation.old) of.entry) (suffixes_from (suffixes_of rest.now))) }
+        each_suffix here (indexed_val (numbered_env_here evaluation.old) of.entry) (suffixes_from (suffixes_of rest.now))) }
 {
     let mut so_far = suffix(evaluation, of, &rest.first)?;
     'each: for part in &rest.more {
@@ -231,9 +231,9 @@ fn suffix(
     of: Indexed<'_>,
     part: &Suffix,
 ) -> Result<BoundedValue, Stop>
-    requires there { IsThere (env_here evaluation.old) of }
+    requires there { IsThere (numbered_env_here evaluation.old) of }
     ensures { EvaluatesTo bounded_val evaluation.old evaluation.new result (λ here.
-        suffixed here (indexed_val (env_here evaluation.old) of.entry) (suffix_of part.now)) }
+        suffixed here (indexed_val (numbered_env_here evaluation.old) of.entry) (suffix_of part.now)) }
 {
     match part {
         Suffix::Index(place, index) => {
@@ -333,7 +333,7 @@ fn call(
     args: &Args,
 ) -> Result<BoundedValue, Stop>
     ensures { EvaluatesTo bounded_val evaluation.old evaluation.new result (λ here turns.
-        called here place name.now (args_from (args_of args.now)) turns (function_in here.env name.now)) }
+        called here place name.now (args_from (args_of args.now)) turns (visible_function here.env name.now)) }
 {
     match evaluation.function(name) {
         Some((function, home)) => {
@@ -394,11 +394,10 @@ fn function_call(
     ensures { EvaluatesTo bounded_val evaluation.old evaluation.new result (λ here.
         function_called here place (function_of function.entry) (arguments_of given.entry)) }
 {
-    let (given, ()) = with(given, may_call(evaluation, place))?;
-    evaluation.turns += 1;
-    evaluation.calls += 1;
+    let begun = evaluation.begin_counted_call(place);
+    let (given, ()) = with(given, begun)?;
     let value = function_value(evaluation, function, given);
-    evaluation.calls -= 1;
+    evaluation.end_call();
     value
 }
 
@@ -471,8 +470,7 @@ pub(crate) fn parameters(
     slots: Vec<Option<BoundedValue>>,
 ) -> Result<BoundedValues, Stop>
     requires { length slots.items ≡ length params.now.items.items }
-    ensures values { EvaluatesTo values_seen evaluation.old evaluation.new result (λ here. each_parameter here (params_of params.now) (slots_in slots.items)) }
-    ensures count { IfOk result (λ values. length values.items.items ≡ length params.now.items.items) }
+    ensures { EvaluatesParameters evaluation.old evaluation.new result (setting_here evaluation.old) params.now slots.items }
 {
     let mut open = slots;
     let mut values = BoundedValues::new(evaluation.alloc);
@@ -540,20 +538,4 @@ fn counted(
         evaluation.turns = turns;
     }
     Ok(value)
-}
-
-// Whether one call more, one call deeper, is within the limits. TooDeep goes before TooManyTurns.
-fn may_call(evaluation: &Evaluation<'_, '_>, place: Place) -> Result<(), Stop>
-    ensures within { OnOk result ((evaluation.now.calls < most_calls) × (evaluation.now.turns < most_turns)) }
-    ensures refused { IfErr result (λ stop. (go : ℕ → ℕ → Outcome Val) (n : ℕ) →
-        MeetsOutcome bounded_val (Err stop) n
-        (one_call_fewer (most_calls - evaluation.now.calls) place (λ calls. turn place evaluation.now.turns (go calls)))) }
-{
-    if evaluation.calls == CALLS {
-        return Err(FaultKind::TooDeep.at(place));
-    }
-    if evaluation.turns == TURNS {
-        return Err(FaultKind::TooManyTurns.at(place));
-    }
-    Ok(())
 }

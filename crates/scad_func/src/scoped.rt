@@ -1,10 +1,8 @@
 //! What a caller evaluates in another scope.
 
-ghost use Rattle.std.specs.Prelude.{◌≡◌, ◌<◌, IfOk, length};
-ghost use Rattle.scad_ast.specs.StatementView.{params_of};
-ghost use Rattle.scad_evaluation.specs.Meaning.{each_parameter};
-ghost use Rattle.scad_evaluation.specs.View.{MeetsOutcome, values_seen, slots_in};
-ghost use Rattle.scad_evaluation.specs.Evaluations.{Keeps, scopes_there, setting};
+ghost use Rattle.std.specs.Prelude.{◌≡◌, ◌<◌, length};
+ghost use Rattle.scad_evaluation.specs.Evaluations.{scopes_there, setting_in};
+ghost use Rattle.scad_evaluation.specs.Transitions.{EvaluatesParameters};
 
 use crate::evaluator::parameters;
 use scad_ast::Params;
@@ -21,10 +19,7 @@ pub fn parameters_in(
 ) -> Result<BoundedValues, Stop>
     requires scope { scope < scopes_there evaluation.old }
     requires count { length slots.items ≡ length params.now.items.items }
-    ensures values { MeetsOutcome values_seen result evaluation.new.turns
-        (each_parameter (setting evaluation.old scope) (params_of params.now) (slots_in slots.items) evaluation.old.turns) }
-    ensures count { IfOk result (λ values. length values.items.items ≡ length params.now.items.items) }
-    ensures kept { Keeps evaluation.old evaluation.new }
+    ensures { EvaluatesParameters evaluation.old evaluation.new result (setting_in evaluation.old scope) params.now slots.items }
 {
     let before = evaluation.scope;
     evaluation.scope = scope;

@@ -1,16 +1,11 @@
-ghost use Rattle.std.specs.Prelude.{◌≡◌, ◌-◌, ◌<◌, IsTrue, IfOk, length, true};
 ghost use Rattle.scad_ast.specs.ExprView.{term_of};
 ghost use Rattle.scad_ast.specs.ProgramView.{program_of};
 ghost use Rattle.scad_scope.specs.Names.{env_of};
-ghost use Rattle.scad_scope.specs.Numbered.{functions_below, modules_below};
-ghost use Rattle.scad_blocks.specs.Blocks.{functions_of_program, modules_of_program, numbered_text};
-ghost use Rattle.scad_scope.specs.Table.{rows_of, chain_of};
-ghost use Rattle.scad_value.specs.Values.{is_bounded};
-ghost use Rattle.scad_value.specs.View.{val_of};
-ghost use Rattle.scad_evaluation.specs.Limits.{most_calls, most_evaluations};
-ghost use Rattle.scad_evaluation.specs.Meaning.{evaluated};
+ghost use Rattle.scad_blocks.specs.Blocks.{numbered_text};
+ghost use Rattle.scad_scope.specs.Table.{rows_of};
 ghost use Rattle.scad_evaluation.specs.Definitions.{env_in};
-ghost use Rattle.scad_evaluation.specs.View.{MeetsOutcome, IsNumbered, seen, source_text};
+ghost use Rattle.scad_evaluation.specs.View.{env_seen, source_text};
+ghost use Rattle.scad_func.specs.Metered.{GivesValue, IsScopeOf, KeepsAllButTurns};
 
 use crate::evaluator::evaluate;
 use scad_answer::value_alone;
@@ -35,16 +30,9 @@ pub fn value_in(
     expr: &Expr,
     meter: &mut Meter,
 ) -> Result<Value, Stop>
-    requires scope { scope < length (rows_of scopes.old) }
-    requires numbered { IsNumbered source.now (rows_of scopes.old) }
-    requires modules { IsTrue (modules_below (length (source_text source.now).modules) (rows_of scopes.old)) }
-    ensures value { MeetsOutcome val_of result meter.new.turns (evaluated (most_evaluations - meter.old.depth) true (most_calls - meter.old.calls)
-        (seen source.now (rows_of scopes.old) scope) (chain_of scopes.old) (term_of expr.now) meter.old.turns)
-        × IfOk result (λ v. IsTrue (is_bounded (val_of v))) }
-    ensures scopes { rows_of scopes.new ≡ rows_of scopes.old }
-    ensures chain { chain_of scopes.new ≡ chain_of scopes.old }
-    ensures calls { meter.new.calls ≡ meter.old.calls }
-    ensures depth { meter.new.depth ≡ meter.old.depth }
+    requires { IsScopeOf (source_text source.now) (rows_of scopes.old) scope }
+    ensures value { GivesValue scopes.old meter.old meter.new (env_seen source.now (rows_of scopes.old) scope) (term_of expr.now) result }
+    ensures kept { KeepsAllButTurns scopes.old scopes.new meter.old meter.new }
 {
     let mut evaluation = Evaluation {
         alloc,
@@ -70,16 +58,10 @@ pub fn value_of(
     expr: &Expr,
     meter: &mut Meter,
 ) -> Result<Value, Stop>
-    requires scope { scope < length (rows_of scopes.old) }
-    requires numbered { IsTrue (functions_below (length (functions_of_program (program_of program.now))) (rows_of scopes.old)) }
-    requires modules { IsTrue (modules_below (length (modules_of_program (program_of program.now))) (rows_of scopes.old)) }
-    ensures value { MeetsOutcome val_of result meter.new.turns (evaluated (most_evaluations - meter.old.depth) true (most_calls - meter.old.calls)
-        (env_in (numbered_text (program_of program.now)) (env_of (rows_of scopes.old) scope)) (chain_of scopes.old) (term_of expr.now) meter.old.turns)
-        × IfOk result (λ v. IsTrue (is_bounded (val_of v))) }
-    ensures scopes { rows_of scopes.new ≡ rows_of scopes.old }
-    ensures chain { chain_of scopes.new ≡ chain_of scopes.old }
-    ensures calls { meter.new.calls ≡ meter.old.calls }
-    ensures depth { meter.new.depth ≡ meter.old.depth }
+    requires { IsScopeOf (numbered_text (program_of program.now)) (rows_of scopes.old) scope }
+    ensures value { GivesValue scopes.old meter.old meter.new
+        (env_in (numbered_text (program_of program.now)) (env_of (rows_of scopes.old) scope)) (term_of expr.now) result }
+    ensures kept { KeepsAllButTurns scopes.old scopes.new meter.old meter.new }
 {
     let source = Source::of(alloc, program)?;
     value_in(alloc, scopes, &source, scope, expr, meter)

@@ -13,7 +13,7 @@ use Rattle.scad_blocks.specs.Blocks.{SourceFunction}
 use Rattle.scad_builtin.specs.declared.function.Builtin.{Builtin}
 use Rattle.scad_builtin.specs.Builtins.{builtin_of, takes, applied}
 use Rattle.scad_evaluation.specs.Limits.{most_turns}
-use Rattle.scad_evaluation.specs.Meaning.{Outcome, Gives, Faults, then_with, answered, Env, Within, no_call, variable_in, function_in, counted, Evaluates, Setting, value_at, with_calls, in_scope, with_specials, each_value, with_front, only_values, count_of_terms, Slots, Arguments, each_argument, parameter_value, each_parameter, paired, function_value, function_called, built_in, called, operand, each_suffix, each_link, settled, evaluated}
+use Rattle.scad_evaluation.specs.Meaning.{Outcome, Gives, Faults, then_with, answered, Env, Within, no_call, visible_variable, visible_function, counted, Evaluates, Setting, value_at, with_calls, in_scope, with_specials, each_value, with_front, only_values, count_of_terms, Slots, Arguments, each_argument, parameter_value, each_parameter, paired, function_value, function_called, built_in, called, operand, each_suffix, each_link, settled, evaluated}
 use Rattle.scad_answer.specs.Answers.{range_of, stepped_range_of, member_of, wants_right}
 use Rattle.scad_meaning.proofs.HeldPlaces.{every_joined, if_keeps, Whatever, Held, first_held, rest_held, FunctionHeld, ScopeHeld, function_found, Keeps, skip_keeps, option_keeps, some_keeps, turn_keeps, call_keeps, answered_keeps}
 
@@ -160,9 +160,9 @@ module _ (P : Place → Type 0) where
     operand_keeps here s (UndefTerm at) turns h = tt
     operand_keeps here s (ChildCountTerm at) turns h = tt
     operand_keeps here s (SpecialTerm at name) turns h = some_keeps P Whatever (find_in here.chain name) UnknownName at (Gives turns) h.0 (λ v. tt)
-    operand_keeps here s (NameTerm at name) turns h = some_keeps P Whatever (variable_in here.env name) UnknownName at (Gives turns) h.0 (λ v. tt)
+    operand_keeps here s (NameTerm at name) turns h = some_keeps P Whatever (visible_variable here.env name) UnknownName at (Gives turns) h.0 (λ v. tt)
     operand_keeps here s (CallTerm at name args) turns h =
-        called_keeps here s at name args turns (function_in here.env name) h.0 h.1 (function_found P here.env name s.1)
+        called_keeps here s at name args turns (visible_function here.env name) h.0 h.1 (function_found P here.env name s.1)
     operand_keeps here s (ParenTerm at inner) turns h = value_keeps here s true inner turns h.1
     operand_keeps here s (ListTerm at items) turns h =
         skip_keeps P Whatever (each_value here items turns) _ (values_keep here s items turns h.1) (λ turns vs.

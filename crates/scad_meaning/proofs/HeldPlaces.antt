@@ -14,7 +14,7 @@ use Rattle.scad_value.specs.Operators.{Answer}
 use Rattle.scad_scope.specs.Names.{Pairs, find_in, or_else}
 use Rattle.scad_blocks.specs.Blocks.{SourceFunction, SourceModule, Assigned, same_name, with_assigned, all_assigned, assigned_in, assigned_by, assignments_of, statements_of_body}
 use Rattle.scad_evaluation.specs.Limits.{most_turns}
-use Rattle.scad_evaluation.specs.Meaning.{Outcome, Gives, Faults, then_with, or_fault, answered, Env, Outermost, Within, Opened, no_call, opened, standing_in, function_in, module_in, or_outer, call_in, functions_standing_in, function_standing, modules_standing_in, module_standing, entered_scope, with_variable, turn, one_call_fewer}
+use Rattle.scad_evaluation.specs.Meaning.{Outcome, Gives, Faults, then_with, or_fault, answered, Env, Outermost, Within, Opened, no_call, opened, with_home, visible_function, visible_module, or_outer, call_in, functions_standing_in, function_standing, modules_standing_in, module_standing, entered_scope, with_value, turn, one_call_fewer}
 use Rattle.scad_meaning.specs.Bodies.{instances_in, instances_of, is_on, evaluated_in}
 
 -- lists
@@ -69,21 +69,21 @@ module _ (P : Place → Type 0) where
 
   -- what is found in a scope
   standing_held : {A : Type 0} (Q : A → Type 0) (env : Env) (o : Option A) → ScopeHeld env → IfSome o Q
-      → IfSome (standing_in env o) (λ found. Q found.0 × ScopeHeld found.1)
+      → IfSome (with_home env o) (λ found. Q found.0 × ScopeHeld found.1)
   standing_held Q env None s h = tt
   standing_held Q env (Some x) s h = (h, s)
 
-  pub function_found : (env : Env) (name : List ℕ) → ScopeHeld env → IfSome (function_in env name) (λ found. FunctionHeld found.0 × ScopeHeld found.1)
+  pub function_found : (env : Env) (name : List ℕ) → ScopeHeld env → IfSome (visible_function env name) (λ found. FunctionHeld found.0 × ScopeHeld found.1)
   function_found Outermost name s = tt
   function_found (Within vs fs ms call outer) name s =
-      or_keeps (λ found. FunctionHeld found.0 × ScopeHeld found.1) (standing_in (Within vs fs ms call outer) (find_in fs name)) (function_in outer name)
+      or_keeps (λ found. FunctionHeld found.0 × ScopeHeld found.1) (with_home (Within vs fs ms call outer) (find_in fs name)) (visible_function outer name)
       (standing_held FunctionHeld (Within vs fs ms call outer) (find_in fs name) s (find_keeps FunctionHeld fs name s.0))
       (function_found outer name s.3)
 
-  pub module_found : (env : Env) (name : List ℕ) → ScopeHeld env → IfSome (module_in env name) (λ found. ModuleHeld found.0 × ScopeHeld found.1)
+  pub module_found : (env : Env) (name : List ℕ) → ScopeHeld env → IfSome (visible_module env name) (λ found. ModuleHeld found.0 × ScopeHeld found.1)
   module_found Outermost name s = tt
   module_found (Within vs fs ms call outer) name s =
-      or_keeps (λ found. ModuleHeld found.0 × ScopeHeld found.1) (standing_in (Within vs fs ms call outer) (find_in ms name)) (module_in outer name)
+      or_keeps (λ found. ModuleHeld found.0 × ScopeHeld found.1) (with_home (Within vs fs ms call outer) (find_in ms name)) (visible_module outer name)
       (standing_held ModuleHeld (Within vs fs ms call outer) (find_in ms name) s (find_keeps ModuleHeld ms name s.1))
       (module_found outer name s.3)
 
@@ -95,7 +95,7 @@ module _ (P : Place → Type 0) where
   call_found Outermost s = tt
   call_found (Within vs fs ms call outer) s = outer_call call (call_in outer) s.2 (call_found outer s.3)
 
-  pub variable_held : (name : List ℕ) (value : Val) (env : Env) → ScopeHeld env → ScopeHeld (with_variable name value env)
+  pub variable_held : (name : List ℕ) (value : Val) (env : Env) → ScopeHeld env → ScopeHeld (with_value name value env)
   variable_held name value Outermost s = tt
   variable_held name value (Within vs fs ms call outer) s = s
 

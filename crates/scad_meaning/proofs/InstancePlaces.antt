@@ -19,7 +19,7 @@ use Rattle.scad_scope.specs.Names.{Pairs, find_in}
 use Rattle.scad_arguments.specs.Arguments.{names_of, nothing_given, taker_of, with_argument}
 use Rattle.scad_blocks.specs.Blocks.{SourceModule, Assigned, assignments_of, statements_of_body}
 use Rattle.scad_evaluation.specs.Limits.{most_evaluations}
-use Rattle.scad_evaluation.specs.Meaning.{Outcome, Gives, Faults, then_with, Env, Outermost, Within, Opened, no_call, opened, module_in, call_in, entered_scope, with_variable, Setting, value_at, Arguments, each_argument, each_parameter}
+use Rattle.scad_evaluation.specs.Meaning.{Outcome, Gives, Faults, then_with, Env, Outermost, Within, Opened, no_call, opened, visible_module, call_in, entered_scope, with_value, Setting, value_at, Arguments, each_argument, each_parameter}
 use Rattle.scad_modules.specs.declared.table.BuiltinModule.{BuiltinModule}
 use Rattle.scad_modules.specs.declared.table.BuiltinModule.TheVariants.{Echo}
 use Rattle.scad_modules.specs.Table.{module_named, parameters_of}
@@ -157,7 +157,7 @@ module _ (P : Place → Type 0) where
 
     still_held : (a : Assigned) (v : Val) (here : Context) → ContextHeld here → ContextHeld (assigned a v here)
     still_held a v here s =
-        if_keeps ContextHeld a.special (with_chain here ((a.name, v) ∷ here.chain)) (inside_scope here (with_variable a.name v here.env)) s
+        if_keeps ContextHeld a.special (with_chain here ((a.name, v) ∷ here.chain)) (inside_scope here (with_value a.name v here.env)) s
         (variable_held P a.name v here.env s.0, s.1)
 
     assignments_keep : (evaluations : ℕ) (here : Context) (as_ : List Assigned) (turns : ℕ) → ContextHeld here → AllByRecursion (AssignedHeld P) as_
@@ -374,7 +374,7 @@ module _ (P : Place → Type 0) where
         core_keeps here (ForTerm at binders body) turns leaves s h = loop_keeps Union here at binders body turns leaves h.0 h.1 s
         core_keeps here (IntersectionForTerm at binders body) turns leaves s h = loop_keeps Intersection here at binders body turns leaves h.0 h.1 s
         core_keeps here (ModuleCallTerm at name args body) turns leaves s h =
-            called_keeps here at name args body (module_in here.env name) turns leaves h.0
+            called_keeps here at name args body (visible_module here.env name) turns leaves h.0
             (first_held P (places_of_args (args_from args)) (places_of_body body) h.1) (rest_held P (places_of_args (args_from args)) (places_of_body body) h.1)
             s (module_found P here.env name s.0)
 

@@ -20,7 +20,7 @@ use Rattle.scad_scope.specs.Names.{Pairs, find_in}
 use Rattle.scad_arguments.specs.Arguments.{names_of, nothing_given}
 use Rattle.scad_blocks.specs.Blocks.{SourceModule, assignments_of, statements_of_body}
 use Rattle.scad_evaluation.specs.Limits.{most_evaluations, most_turns}
-use Rattle.scad_evaluation.specs.Meaning.{Outcome, Gives, Faults, then_with, or_fault, Env, Opened, no_call, opened, module_in, call_in, entered_scope, turn, one_call_fewer, value_at, Arguments, each_argument, each_parameter}
+use Rattle.scad_evaluation.specs.Meaning.{Outcome, Gives, Faults, then_with, or_fault, Env, Opened, no_call, opened, visible_module, call_in, entered_scope, turn, one_call_fewer, value_at, Arguments, each_argument, each_parameter}
 use Rattle.scad_modules.specs.declared.table.BuiltinModule.{BuiltinModule}
 use Rattle.scad_modules.specs.Table.{module_named}
 use Rattle.scad_modules.specs.Effects.{EffectCall, a_solid, a_flat, a_move, a_join, a_hull, an_extrusion, silence, some_children, FlatCall, ChosenCall}
@@ -326,7 +326,7 @@ module _ (grouped_trim : (op : Op) (designs : List Design) → All IsTrim design
         body_small Union here (if truth_of v then body else other) turns leaves)
     core_small here (ForTerm at binders body) turns leaves = loop_small Union here at binders body turns leaves
     core_small here (IntersectionForTerm at binders body) turns leaves = loop_small Intersection here at binders body turns leaves
-    core_small here (ModuleCallTerm at name args body) turns leaves = called_small here at name args body (module_in here.env name) turns leaves
+    core_small here (ModuleCallTerm at name args body) turns leaves = called_small here at name args body (visible_module here.env name) turns leaves
 
     marked_small : (here : Context) (core : CoreTerm) (turns leaves : ℕ) → Has (IsSmall leaves) (marked_design evaluator here core turns leaves)
     marked_small here core turns leaves =

@@ -6,7 +6,7 @@ use Rattle.scad_ast.specs.declared.operator.Modifier.{Modifier}
 use Rattle.scad_ast.specs.declared.operator.Modifier.TheVariants.{Disable, Background, Highlight, Root}
 use Rattle.scad_ast.specs.Terms.{StatementTerm, EmptyStatement, BlockStatement, AssignmentTerm, SpecialAssignmentTerm, ModuleTerm, FunctionTerm, InstanceStatement, StatementTerms, no_statements, and_statement, InstanceTerm, AnInstance, CoreTerm, ModuleCallTerm, BodyTerm, EmptyBody, BlockBody, InstanceBody}
 use Rattle.scad_blocks.specs.Blocks.{Assigned, same_name}
-use Rattle.scad_evaluation.specs.Meaning.{Env, module_in}
+use Rattle.scad_evaluation.specs.Meaning.{Env, visible_module}
 
 -- whether an assignment's name is among those of others
 abbrev pub is_named_in : List Assigned → Assigned → Bool
@@ -81,7 +81,7 @@ evaluated_in statements = filter is_on (instances_in statements)
 -- `echo` and `assert`, where the source defines no module of that name, seen from the scope
 abbrev pub says_only : Env → CoreTerm → Bool
 says_only env (ModuleCallTerm at name args body) =
-    (bytes_eq name (codes "echo") || bytes_eq name (codes "assert")) && not (is_some (module_in env name))
+    (bytes_eq name (codes "echo") || bytes_eq name (codes "assert")) && not (is_some (visible_module env name))
 says_only env core = false
 
 -- whether an instance is a child: one that doesn't only say something

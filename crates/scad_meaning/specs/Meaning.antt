@@ -14,7 +14,7 @@ use Rattle.scad_scope.specs.Names.{Pairs, find_in}
 use Rattle.scad_arguments.specs.Arguments.{names_of, nothing_given, taker_of, with_argument}
 use Rattle.scad_blocks.specs.Blocks.{SourceModule, Assigned, assignments_of, statements_of_body}
 use Rattle.scad_evaluation.specs.Limits.{most_calls, most_evaluations}
-use Rattle.scad_evaluation.specs.Meaning.{Outcome, Gives, Faults, then_with, or_fault, Env, Outermost, Within, Opened, no_call, opened, module_in, call_in, functions_standing_in, modules_standing_in, entered_scope, with_variable, turn, Setting, value_at, one_call_fewer, Arguments, each_argument, each_parameter, paired, evaluated}
+use Rattle.scad_evaluation.specs.Meaning.{Outcome, Gives, Faults, then_with, or_fault, Env, Outermost, Within, Opened, no_call, opened, visible_module, call_in, functions_standing_in, modules_standing_in, entered_scope, with_value, turn, Setting, value_at, one_call_fewer, Arguments, each_argument, each_parameter, paired, evaluated}
 use Rattle.scad_modules.specs.declared.table.BuiltinModule.{BuiltinModule}
 use Rattle.scad_modules.specs.declared.table.BuiltinModule.TheVariants.{Echo}
 use Rattle.scad_modules.specs.Table.{module_named, is_left_out, parameters_of}
@@ -126,7 +126,7 @@ assigned_value (suc evaluations) here assignment turns = value_at (setting evalu
 abbrev pub assigned : Assigned → Val → Context → Context
 assigned assignment value here =
     if assignment.special then with_chain here ((assignment.name, value) ∷ here.chain)
-    else inside_scope here (with_variable assignment.name value here.env)
+    else inside_scope here (with_value assignment.name value here.env)
 
 -- the scope with its assignments, from the first on
 abbrev pub each_assigned : ℕ → Context → List Assigned → ℕ → Outcome Context
@@ -378,7 +378,7 @@ core_design evaluator here (ForTerm at binders body) turns leaves =
 core_design evaluator here (IntersectionForTerm at binders body) turns leaves =
     loop_design evaluator Intersection here at binders body turns leaves
 core_design evaluator here (ModuleCallTerm at name args body) turns leaves =
-    call_design evaluator here at name args body (module_in here.env name) turns leaves
+    call_design evaluator here at name args body (visible_module here.env name) turns leaves
 
 -- what an instance gives that is marked `!`
 abbrev pub apart : InstanceDesign → InstanceDesign

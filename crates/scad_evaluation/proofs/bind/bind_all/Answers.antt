@@ -1,6 +1,7 @@
 use Rattle.std.proofs.Common.{◌≡◌, ◌+◌, ◌<◌, ◌≤◌, List, length, map, take, drop, get_or, refl, sym, ap, subst, ◌∙◌, arith}
 use Rattle.std.specs.Prelude.{IsTrue}
 use Rattle.std.proofs.lemmas.Bool.{and_parts}
+use Rattle.std.proofs.lemmas.Result.{err_from_is_err_and}
 use Rattle.std.proofs.lemmas.List.{length-map, length-set, drop-set-lt}
 use Rattle.scad_ast.specs.declared.statement.Param.{Param}
 use Rattle.scad_ast.specs.StatementView.{param_of}
@@ -87,18 +88,35 @@ each-preserved c =
           (and_parts _ _ (subst (λ l. IsTrue (are_bounded l)) here inv.bounded)).1;
     }
 
-pub returns-clause-bound : goal.returns-clause-bound
-returns-clause-bound c =
+pub returns : goal.returns
+returns c =
     let xs = c.args.params.now.items.items in
     let vs = vals_in c.args.values.items.items in
     let i = c.each.i in
     let le : length xs ≤ i = omega (arith, c.each-test.false, ap length c.deref-param-items.ensures.value) in
     let few : length vs ≤ i = omega (arith, le, c.requires.count, length-map c.args.values.items.items val_of) in
-    λ text. all_bound text (env_of (rows_of c.args.scopes.now) c.args.scope) (env_of (rows_of c.each.scopes) c.args.scope)
-    xs vs i (c.each.invariant.env text) le few
+    let inv = c.each.invariant in
+    record {
+      bound = λ text. all_bound text (env_of (rows_of c.args.scopes.now) c.args.scope) (env_of (rows_of c.each.scopes) c.args.scope)
+          xs vs i (inv.env text) le few;
+      front = inv.front;
+      count = inv.there;
+      chain = inv.chain;
+      numbered = inv.numbered;
+    }
 
-pub returns-in_err-bind-clause-front : goal.returns-in_err-bind-clause-front
-returns-in_err-bind-clause-front c = ap (take c.args.scope) c.in_err-bind.ensures.unchanged ∙ c.each.invariant.front
-
-pub returns-in_err-bind-clause-count : goal.returns-in_err-bind-clause-count
-returns-in_err-bind-clause-count c = ap length c.in_err-bind.ensures.unchanged ∙ c.each.invariant.there
+pub returns-in_err-bind : goal.returns-in_err-bind
+returns-in_err-bind c =
+    let p = err_from_is_err_and c.from_residual.result c.from_residual.ensures.1 in
+    let inv = c.each.invariant in
+    let same = c.in_err-bind.ensures.unchanged in
+    rw (p.1) (record {
+      bound = tt;
+      front = ap (take c.args.scope) same ∙ inv.front;
+      count = ap length same ∙ inv.there;
+      chain = c.bind.ensures.chain ∙ inv.chain;
+      numbered = record {
+        functions = λ n k. c.bind.ensures.numbered.functions n (inv.numbered.functions n k);
+        modules = λ n k. c.bind.ensures.numbered.modules n (inv.numbered.modules n k);
+      };
+    })

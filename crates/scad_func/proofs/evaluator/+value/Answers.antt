@@ -20,7 +20,7 @@ use Rattle.scad_value.specs.declared.bounded_value.BoundedValue.{BoundedValue}
 use Rattle.scad_value.specs.BoundedView.{bounded_val}
 use Rattle.scad_arguments.specs.Arguments.{name_of, names_of, nothing_given, taker_of, argument_place}
 use Rattle.scad_arguments.specs.ArgumentsView.{given_of, names_in, taker_seen, IsGiven, IsFaultAt}
-use Rattle.scad_scope.specs.Names.{find_in, variable_in as numbered_variable_in}
+use Rattle.scad_scope.specs.Names.{find_in, variable_in}
 use Rattle.scad_scope.specs.Table.{chain_of}
 use Rattle.scad_blocks.specs.TextView.{function_of}
 use Rattle.scad_evaluation.specs.Limits.{most_calls, most_evaluations}
@@ -34,7 +34,7 @@ use Rattle.scad_arguments.specs.declared.parameters.GivenArguments.{GivenArgumen
 use Rattle.scad_arguments.specs.declared.parameters.Names.{Names}
 use Rattle.scad_arguments.specs.declared.so_far.ArgumentsSoFar.{ArgumentsSoFar}
 use Rattle.scad_arguments.specs.declared.parameters.Destination.{Destination}
-use Rattle.scad_evaluation.specs.Evaluations.{EvaluatesTo, SpecialsBegin, env_here, setting_here, work_left}
+use Rattle.scad_evaluation.specs.Evaluations.{EvaluatesTo, MoreSpecials, numbered_env_here, setting_here, work_left}
 use Rattle.scad_evaluation.specs.declared.source.Source.{Source}
 use Rattle.scad_evaluation.proofs.Outcomes.{meets_along, fault_goes, evaluated_deeper, evaluated_too_deep, value_counted, fault_counted, values_end, terms_here, terms_end, args_here, args_end, values_here, suffixes_here, suffix_step, links_here, step_more, step_fault, name_then, fault_at, link_wants}
 use Rattle.scad_evaluation.proofs.Environments.{variable_same}
@@ -90,7 +90,7 @@ operand-returns-in-ChildCount t c =
           (ap (λ x. operand (setting_here e) x e.turns)
           (ap term_of c.in-ChildCount.is ∙ count_form c.in-ChildCount.place)
           ∙ ap (λ o. Gives e.turns (or_zero o))
-          (variable_same (source_text e.source.now) (env_here e) (codes "$children")))
+          (variable_same (source_text e.source.now) (numbered_env_here e) (codes "$children")))
           (c.child_count.ensures e.turns);
       kept = keeps_same _;
     }
@@ -103,8 +103,8 @@ operand-returns-in-Name t c =
           (ap (λ x. operand (setting_here e) x e.turns)
           (ap term_of c.in-Name.is ∙ name_form c.in-Name.place c.in-Name.name)
           ∙ ap (λ o. or_fault o UnknownName c.in-Name.place (λ x. Gives e.turns x))
-          (variable_same (source_text e.source.now) (env_here e) c.in-Name.name ∙ ap
-          (λ n. numbered_variable_in (env_here e) n)
+          (variable_same (source_text e.source.now) (numbered_env_here e) c.in-Name.name ∙ ap
+          (λ n. variable_in (numbered_env_here e) n)
           (sym c.items.ensures)))
           (c.variable_of.ensures e.turns);
       kept = keeps_same _;
@@ -337,8 +337,8 @@ postfix-returns-in_err-variable t c =
     let e = c.args.evaluation.now in
     let here = setting_here e in
     let missing = c.in_err-variable.ensures.missing in
-    let none = variable_same (source_text e.source.now) (env_here e) c.in-Name.name ∙ ap
-    (λ n. numbered_variable_in (env_here e) n) (sym c.items.ensures)
+    let none = variable_same (source_text e.source.now) (numbered_env_here e) c.in-Name.name ∙ ap
+    (λ n. variable_in (numbered_env_here e) n) (sym c.items.ensures)
     ∙ missing.0 in
     record {
       value = rw (p.1, p.2) (fault_at c.in_err-variable.field-0.0 e.turns UnknownName c.in-Name.place _
@@ -352,8 +352,8 @@ pub postfix-returns-in-Name : goal.postfix-returns-in-Name
 postfix-returns-in-Name t c =
     let e = c.args.evaluation.now in
     let here = setting_here e in
-    let found = variable_same (source_text e.source.now) (env_here e) c.in-Name.name ∙ ap
-    (λ n. numbered_variable_in (env_here e) n) (sym c.items.ensures)
+    let found = variable_same (source_text e.source.now) (numbered_env_here e) c.in-Name.name ∙ ap
+    (λ n. variable_in (numbered_env_here e) n) (sym c.items.ensures)
     ∙ c.in_ok-variable.ensures.found in
     record {
       value = meets_along c.suffixes.result c.suffixes.new.evaluation.turns _ _
@@ -471,7 +471,7 @@ link-returns-in-Name t c =
           ∙ name_then here (term_of part.right) c.in-Name.at c.in-Name.name e.turns _
           (λ turns w. answered (binary_of part.op (bounded_val c.args.left) w) part.place turns)
           (ap term_of c.in-Name.is ∙ name_form c.in-Name.at c.in-Name.name)
-          (variable_same (source_text e.source.now) (env_here e) c.in-Name.name))
+          (variable_same (source_text e.source.now) (numbered_env_here e) c.in-Name.name))
           (c.binary_with_variable.ensures e.turns);
       kept = keeps_same _;
     }
@@ -735,7 +735,7 @@ function_call-function_value-value-requires t c =
 pub suffix-returns-in-Member : goal.suffix-returns-in-Member
 suffix-returns-in-Member t c =
     let e = c.args.evaluation.now in
-    let v = indexed_val (env_here e) c.args.of in
+    let v = indexed_val (numbered_env_here e) c.args.of in
     record {
       value = meets_along c.member_item.result e.turns _ _
           (ap (λ (x : Suffix). suffixed (setting_here e) v (suffix_of x) e.turns) c.in-Member.is
@@ -758,7 +758,7 @@ function_value-with_defaults-value-requires t c =
     let e = c.args.evaluation.now in
     let begun = c.begin_specials-begun.new.self in
     let w = c.in_ok-slots.ensures.ok in
-    let begins : SpecialsBegin e begun c.in_ok-slots.before = if_ok_at (λ (n : ℕ). SpecialsBegin e begun n) c.begin_specials-begun.result _ w.1 c.begin_specials-begun.ensures.begun in (
+    let begins : MoreSpecials e begun c.in_ok-slots.before = if_ok_at (λ (n : ℕ). MoreSpecials e begun n) c.begin_specials-begun.result _ w.1 c.begin_specials-begun.ensures.begun in (
       omega (arith, ap (λ (x : Source). work_left x begun.calls) begins.source, ap (work_left e.source.now) begins.calls, c.decreases),
       ap (λ (v : Vec (Option BoundedValue) Global). length v.items) w.0 ∙ c.requires.count,
     )
@@ -768,7 +768,7 @@ function_value-end_specials-requires t c =
     let e = c.args.evaluation.now in
     let begun = c.begin_specials-begun.new.self in
     let w = c.in_ok-slots.ensures.ok in
-    let begins : SpecialsBegin e begun c.in_ok-slots.before = if_ok_at (λ (n : ℕ). SpecialsBegin e begun n) c.begin_specials-begun.result _ w.1 c.begin_specials-begun.ensures.begun in
+    let begins : MoreSpecials e begun c.in_ok-slots.before = if_ok_at (λ (n : ℕ). MoreSpecials e begun n) c.begin_specials-begun.result _ w.1 c.begin_specials-begun.ensures.begun in
     let chain = on_ok_at _ c.begin_specials-begun.result _ w.1 c.begin_specials-begun.ensures.chain in
     omega (
       arith,
@@ -785,7 +785,7 @@ function_value-returns t c =
     let w = c.in_ok-slots.ensures.ok in
     let before = c.in_ok-slots.before in
     let given = arguments_of c.args.given in
-    let begins : SpecialsBegin e begun before = if_ok_at (λ (n : ℕ). SpecialsBegin e begun n) c.begin_specials-begun.result _ w.1 c.begin_specials-begun.ensures.begun in
+    let begins : MoreSpecials e begun before = if_ok_at (λ (n : ℕ). MoreSpecials e begun n) c.begin_specials-begun.result _ w.1 c.begin_specials-begun.ensures.begun in
     let chain : chain_of begun.scopes.now ≡ given.specials ++ chain_of e.scopes.now = on_ok_at _ c.begin_specials-begun.result _ w.1 c.begin_specials-begun.ensures.chain in
     let g = c.with_defaults-value.ensures in
     let told : Setting → Slots → ℕ → Outcome Val = λ here slots turns. then_with (each_parameter here f.params slots turns) (λ turns vs. with_parameters here f vs turns) in

@@ -17,7 +17,7 @@ use Rattle.scad_arguments.specs.ArgumentsView.{names_in}
 use Rattle.scad_evaluation.specs.Meaning.{each_value, each_argument, each_parameter, each_suffix, each_link}
 use Rattle.scad_evaluation.specs.Steps.{all_values}
 use Rattle.scad_evaluation.specs.View.{indexed_val, slots_in, arguments_of, function_size, param_size, params_size}
-use Rattle.scad_evaluation.specs.Evaluations.{Keeps, work_left, env_here, setting_here}
+use Rattle.scad_evaluation.specs.Evaluations.{Keeps, work_left, numbered_env_here, setting_here}
 use Rattle.scad_evaluation.proofs.Calls.{in_front}
 use Rattle.scad_func.proofs.evaluator.+value.Given as goal
 
@@ -122,7 +122,7 @@ abbrev pub invariant-suffixes-each : goal.invariant-suffixes-each
 invariant-suffixes-each l =
     let here = setting_here l.fn.evaluation in
     record {
-      told : each_suffix here (indexed_val (env_here l.fn.evaluation) l.fn.of)
+      told : each_suffix here (indexed_val (numbered_env_here l.fn.evaluation) l.fn.of)
           (suffixes_from (suffixes_of l.rest)) l.fn.evaluation.turns
           ≡ each_suffix here (bounded_val l.so_far)
           (suffixes_from (map suffix_of (drop l.part-index l.rest.more.items))) l.evaluation.turns;
