@@ -6,10 +6,10 @@ use Rattle.text_place.specs.declared.fault.Stop.TheVariants.{Fault, NoMemory}
 use Rattle.scad_ast.specs.Terms.{InstanceTerm, AnInstance}
 use Rattle.scad_evaluation.specs.Meaning.{Outcome, Gives, Faults, Env, then_with}
 use Rattle.scad_pieces.specs.declared.position.InstanceResult.{InstanceResult}
-use Rattle.scad_pieces.specs.declared.numbered.NumberedInstance.{NumberedInstance}
+use Rattle.scad_instances.specs.declared.numbered.NumberedInstance.{NumberedInstance}
 use Rattle.scad_meaning.specs.Bodies.{says_only, is_child}
 use Rattle.scad_meaning.specs.Meaning.{InstanceDesign, MemberDesigns, as_member, and_members, core_of}
-use Rattle.scad_pieces.specs.Positions.{term_of_numbered}
+use Rattle.scad_instances.specs.Positions.{term_of_numbered}
 use Rattle.scad_evaluation.specs.View.{MeetsOutcome}
 use Rattle.scad_pieces.specs.Seen.{HasOutcome, instance_design_of, one_member_of, in_front}
 

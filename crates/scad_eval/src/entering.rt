@@ -12,7 +12,8 @@ ghost use Rattle.scad_eval.specs.Within.{body_seen, IsCallAt};
 
 use crate::evaluator::InstanceEvaluator;
 use scad_evaluation::BoundedValues;
-use scad_pieces::{NumberedBody, count_children};
+use scad_instances::count_children;
+use scad_pieces::NumberedBody;
 use scad_scope::Module;
 use text_place::{NoMemory, Place, Stop};
 

@@ -7,7 +7,7 @@ ghost use Rattle.scad_value.specs.Values.{truth_of};
 ghost use Rattle.scad_evaluation.specs.Meaning.{Gives, then_with, value_at};
 ghost use Rattle.scad_evaluation.specs.View.{source_text};
 ghost use Rattle.scad_meaning.specs.Meaning.{setting, body_design, no_design, each_member, core_of, core_design, instance_design};
-ghost use Rattle.scad_pieces.specs.Positions.{term_of_numbered, HasBlocks};
+ghost use Rattle.scad_instances.specs.Positions.{term_of_numbered, HasBlocks};
 ghost use Rattle.scad_pieces.specs.Seen.{instance_design_of, member_designs_of};
 ghost use Rattle.scad_eval.specs.Keeping.{IsPosition, Stays, MeetsEquation};
 ghost use Rattle.scad_eval.specs.Within.{body_seen, IsInBlock, IsBodyAt};
@@ -16,9 +16,10 @@ use crate::evaluator::InstanceEvaluator;
 use csg_tree::Op;
 use scad_ast::{Core, Expr};
 use scad_func::evaluate;
+use scad_instances::{NumberedInstance, is_child, is_marked};
 use scad_pieces::{
-    InstanceResult, MemberResults, NumberedBody, NumberedInstance, Position, is_child, is_marked,
-    no_members, nothing_made, set_apart, with_made,
+    InstanceResult, MemberResults, NumberedBody, Position, no_members, nothing_made, set_apart,
+    with_made,
 };
 use scad_value::truth;
 use text_place::{FaultKind, Stop};

@@ -5,7 +5,7 @@ ghost use Rattle.csg_tree.specs.declared.op.Op.TheVariants.{Union};
 ghost use Rattle.scad_ast.specs.StatementView.{binder_of, binders_of};
 ghost use Rattle.scad_value.specs.BoundedView.{bounded_val};
 ghost use Rattle.scad_meaning.specs.Meaning.{loop_design, each_turn, each_step, in_loop};
-ghost use Rattle.scad_pieces.specs.Items.{remaining_in};
+ghost use Rattle.scad_instances.specs.Items.{remaining_in};
 ghost use Rattle.scad_pieces.specs.Seen.{instance_design_of, member_designs_of};
 ghost use Rattle.scad_eval.specs.Keeping.{Stays, MeetsEquation};
 ghost use Rattle.scad_eval.specs.Steps.{one_step};
@@ -15,8 +15,9 @@ use crate::evaluator::InstanceEvaluator;
 use csg_tree::Op;
 use scad_ast::{Binder, Binders};
 use scad_func::evaluate;
+use scad_instances::Items;
 use scad_pieces::{
-    InstanceResult, Items, MemberResults, NumberedBody, Position, joined, no_members, with_made,
+    InstanceResult, MemberResults, NumberedBody, Position, joined, no_members, with_made,
     with_members,
 };
 use scad_value::BoundedValue;

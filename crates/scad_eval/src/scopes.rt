@@ -6,15 +6,14 @@ ghost use Rattle.scad_evaluation.specs.Definitions.{statements_at};
 ghost use Rattle.scad_meaning.specs.Meaning.{body_design, block_members};
 ghost use Rattle.scad_pieces.specs.Seen.{instance_design_of, member_designs_of};
 ghost use Rattle.scad_eval.specs.Keeping.{IsPosition, Stays, Binds, MeetsEquation};
-ghost use Rattle.scad_pieces.specs.Calls.{chosen_seen, IsSafeChosen};
+ghost use Rattle.scad_instances.specs.Choosing.{chosen_seen, IsSafeChosen};
 ghost use Rattle.scad_eval.specs.Within.{body_seen, IsBodyAt};
 
 use crate::evaluator::InstanceEvaluator;
 use csg_tree::Op;
+use scad_instances::chosen_instances;
 use scad_modules::Chosen;
-use scad_pieces::{
-    InstanceResult, MemberResults, NumberedBody, Position, chosen_instances, joined,
-};
+use scad_pieces::{InstanceResult, MemberResults, NumberedBody, Position, joined};
 use text_place::Stop;
 
 impl InstanceEvaluator<'_, '_> {

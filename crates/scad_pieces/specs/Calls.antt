@@ -1,6 +1,5 @@
--- What calls of built-in modules are given, which children are chosen, and what the evaluator's pieces tell of them.
-use Rattle.std.specs.Prelude.{◌≡◌, ℕ, true, [], Option, Some, None, option_map, Result, Ok, Err}
-use Rattle.std.specs.Borrow.{Bor}
+-- What calls of built-in modules are given, and what the evaluator's pieces tell of them.
+use Rattle.std.specs.Prelude.{◌≡◌, ℕ, true, [], Result, Ok, Err}
 use Rattle.text_place.specs.declared.fault.Place.{Place}
 use Rattle.text_place.specs.declared.fault.Stop.{Stop}
 use Rattle.text_place.specs.declared.fault.Stop.TheVariants.{Fault, NoMemory}
@@ -9,20 +8,9 @@ use Rattle.scad_ast.specs.Terms.{ArgTerm, NamedTerm, SpecialArgTerm, PositionalT
 use Rattle.scad_value.specs.Operators.{Answer}
 use Rattle.scad_arguments.specs.Arguments.{taker_of, with_argument}
 use Rattle.scad_evaluation.specs.Meaning.{Outcome, Gives, then_with, or_fault, Arguments, Setting, value_at}
-use Rattle.scad_modules.specs.declared.effects.Chosen.{Chosen}
 use Rattle.scad_modules.specs.declared.effects.Effect.{Effect}
-use Rattle.scad_modules.specs.Bounds.{IsSafeChoice}
-use Rattle.scad_modules.specs.Effects.{ChosenCall, EffectCall}
-use Rattle.scad_modules.specs.View.{chosen_of, call_of}
-
--- which children are chosen, where some are
-abbrev pub chosen_seen : Option (Bor Chosen) → Option ChosenCall
-chosen_seen = option_map (λ chosen. chosen_of chosen.now)
-
--- the numbers by which children are chosen are at most 2^53 - 1 in size
-abbrev pub IsSafeChosen : Option (Bor Chosen) → Type 0
-IsSafeChosen None = Unit {0}
-IsSafeChosen (Some chosen) = IsSafeChoice (chosen_of chosen.now)
+use Rattle.scad_modules.specs.Effects.{EffectCall}
+use Rattle.scad_modules.specs.View.{call_of}
 
 -- the effect of a call, or its fault at a place, unless memory ran out
 abbrev pub MeetsEffectAt : Result Effect Stop → Place → Answer EffectCall → Type 0

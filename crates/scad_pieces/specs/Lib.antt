@@ -1,6 +1,2 @@
-pub mod BoundedItems
 pub mod Calls
-pub mod Choosing
-pub mod Items
-pub mod Positions
 pub mod Seen

@@ -27,11 +27,11 @@ use Rattle.scad_evaluation.specs.View.{seen, source_text, arguments_of, slots_in
 use Rattle.scad_evaluation.specs.Definitions.{statements_at}
 use Rattle.scad_evaluation.specs.Evaluations.{SpecialsBegin, scope_here}
 use Rattle.scad_evaluation.specs.declared.source.Source.{Source}
-use Rattle.scad_pieces.specs.declared.numbered.NumberedInstance.{NumberedInstance}
+use Rattle.scad_instances.specs.declared.numbered.NumberedInstance.{NumberedInstance}
 use Rattle.scad_pieces.specs.declared.position.Position.{Position}
-use Rattle.scad_pieces.specs.Calls.{chosen_seen}
-use Rattle.scad_pieces.specs.Items.{remaining_in}
-use Rattle.scad_pieces.specs.Positions.{term_of_numbered, HasBlocks}
+use Rattle.scad_instances.specs.Choosing.{chosen_seen}
+use Rattle.scad_instances.specs.Items.{remaining_in}
+use Rattle.scad_instances.specs.Positions.{term_of_numbered, HasBlocks}
 use Rattle.scad_pieces.specs.Seen.{one_member_of, member_designs_of}
 use Rattle.scad_meaning.specs.Bodies.{is_child}
 use Rattle.scad_meaning.specs.Meaning.{Context, MemberDesigns, InstanceDesign, Evaluator, joined_members, moved_design, no_design, as_member, and_members, body_design, hull_design, built_in_design, children_design, effect_design, after_step, each_member, each_step, each_turn, in_loop, module_scope, with_calls_left, with_chain, inside_scope, setting, apart, block_members, built_in_given, instances_chosen, module_filled, module_given}

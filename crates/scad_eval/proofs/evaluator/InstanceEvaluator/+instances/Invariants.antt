@@ -3,10 +3,10 @@ use Rattle.std.proofs.Common.{◌≡◌, ℕ, ◌+◌, ◌*◌, length, map, dro
 use Rattle.scad_ast.specs.StatementView.{binder_of}
 use Rattle.scad_meaning.specs.Verdicts.{Judge, IsRight}
 use Rattle.scad_meaning.specs.Meaning.{MemberDesigns, each_member, each_step, each_turn, in_loop}
-use Rattle.scad_pieces.specs.Positions.{term_of_numbered}
+use Rattle.scad_instances.specs.Positions.{term_of_numbered}
 use Rattle.scad_value.specs.Values.{Val, count_of}
 use Rattle.scad_evaluation.specs.Meaning.{Outcome}
-use Rattle.scad_pieces.specs.Items.{remaining_in}
+use Rattle.scad_instances.specs.Items.{remaining_in}
 use Rattle.scad_pieces.specs.Seen.{member_designs_of, in_front}
 use Rattle.scad_eval.specs.Keeping.{evaluator_at, context_at, Stays}
 use Rattle.scad_eval.specs.Within.{body_seen}

@@ -1,0 +1,82 @@
+-- The children among the instances of a block.
+use Rattle.std.proofs.Common.{◌≡◌, ℕ, ◌≤◌, Bool, true, false, List, [], ◌∷◌, length, map, take, ℤ, refl, sym, ap, subst, ◌∙◌, cond}
+use Rattle.std.specs.Prelude.{All, IfOk, Result, Ok, Err}
+use Rattle.std.specs.declared.vec.Vec.{Vec}
+use Rattle.std.specs.declared.alloc.Global.{Global}
+use Rattle.std.specs.List.{filter}
+use Rattle.std.proofs.lemmas.List.{length-map, take_all}
+use Rattle.std.proofs.lemmas.List.Elements.{All-filter}
+use Rattle.scad_ast.specs.Terms.{StatementTerms, InstanceTerm}
+use Rattle.scad_modules.specs.Effects.{ChosenCall}
+use Rattle.scad_value.specs.declared.value.Value.{Number}
+use Rattle.scad_value.specs.declared.value.Value.TheVariants.{rolls-Number}
+use Rattle.scad_value.specs.declared.value.Value.TheOpen.{Number as NumberIn}
+use Rattle.scad_value.specs.declared.value.Value.TheFolds.{fold-roll-Value}
+use Rattle.scad_value.specs.Values.{Val, NumberVal}
+use Rattle.scad_value.specs.View.{val_of, value_step, values_step}
+use Rattle.scad_blocks.specs.Blocks.{NumberedText}
+use Rattle.scad_evaluation.specs.Meaning.{Env, no_call, entered_scope}
+use Rattle.scad_evaluation.specs.View.{source_text}
+use Rattle.scad_evaluation.specs.Definitions.{statements_at, block_scope, IsWhole}
+use Rattle.scad_evaluation.specs.declared.source.Source.{Source}
+use Rattle.scad_instances.specs.declared.numbered.NumberedInstance.{NumberedInstance}
+use Rattle.scad_meaning.specs.Bodies.{is_child, evaluated_in, children_in}
+use Rattle.scad_instances.specs.Positions.{term_of_numbered, HasBlocks}
+use Rattle.scad_meaning.specs.Loops.{chosen_among}
+use Rattle.scad_meaning.proofs.Choosing.{map_chosen, all_chosen}
+
+abbrev pub is_child_here : Env → NumberedInstance → Bool
+is_child_here env i = is_child env (term_of_numbered i)
+
+map_filtered : {A B : Type 0} (f : A → B) (p : B → Bool) (xs : List A) → map f (filter (λ x. p (f x)) xs) ≡ filter p (map f xs)
+map_filtered f p [] = refl
+map_filtered f p (x ∷ xs) = by_test (p (f x)) ∙ ap (λ ys. cond (p (f x)) (f x ∷ ys) ys) (map_filtered f p xs)
+  where
+    by_test : (b : Bool) → map f (cond b (x ∷ filter (λ x. p (f x)) xs) (filter (λ x. p (f x)) xs))
+        ≡ cond b (f x ∷ map f (filter (λ x. p (f x)) xs)) (map f (filter (λ x. p (f x)) xs))
+    by_test true = refl
+    by_test false = refl
+
+module _ (env : Env) (xs found : List NumberedInstance) (n : ℕ) (is : found ≡ filter (is_child_here env) (take n xs)) (h : length xs ≤ n) where
+  all_seen : found ≡ filter (is_child_here env) xs
+  all_seen = is ∙ ap (filter (is_child_here env)) (take_all n xs h)
+
+  pub children_found : (body : StatementTerms) → map term_of_numbered xs ≡ evaluated_in body
+      → map term_of_numbered found ≡ children_in env body
+  children_found body e = ap (map term_of_numbered) all_seen ∙ map_filtered term_of_numbered (is_child env) xs ∙ ap (filter (is_child env)) e
+
+  pub children_blocks : (text : NumberedText) → All (HasBlocks text) xs → All (HasBlocks text) found
+  children_blocks text all = subst (All (HasBlocks text)) (sym all_seen) (All-filter (is_child_here env) (HasBlocks text) xs all)
+
+-- the chosen ones of some children
+module _ {E : Type 0} (r : Result (Vec NumberedInstance Global) E) (children : List NumberedInstance) (call : ChosenCall)
+    (h : IfOk r (λ found. found.items ≡ chosen_among children call)) where
+  pub chosen_found : (xs : List InstanceTerm) → map term_of_numbered children ≡ xs
+      → IfOk r (λ found. map term_of_numbered found.items ≡ chosen_among xs call)
+  chosen_found xs e = go r h
+    where
+      go : (r : Result (Vec NumberedInstance Global) E) → IfOk r (λ found. found.items ≡ chosen_among children call)
+          → IfOk r (λ found. map term_of_numbered found.items ≡ chosen_among xs call)
+      go (Ok found) h = ap (map term_of_numbered) h ∙ map_chosen term_of_numbered children call ∙ ap (λ l. chosen_among l call) e
+      go (Err stop) h = tt
+
+  pub chosen_blocks : (text : NumberedText) → All (HasBlocks text) children → IfOk r (λ found. All (HasBlocks text) found.items)
+  chosen_blocks text all = go r h
+    where
+      go : (r : Result (Vec NumberedInstance Global) E) → IfOk r (λ found. found.items ≡ chosen_among children call)
+          → IfOk r (λ found. All (HasBlocks text) found.items)
+      go (Ok found) h = subst (All (HasBlocks text)) (sym h) (all_chosen (HasBlocks text) children call all)
+      go (Err stop) h = tt
+
+-- how many children there are
+pub children_counted : (old new : Source) (block : ℕ) (env inner : Env) (found : List NumberedInstance) → IsWhole (source_text old) → new ≡ old
+    → inner ≡ block_scope (source_text old) block no_call env → map term_of_numbered found ≡ children_in inner (statements_at (source_text new) block)
+    → length found ≡ length (children_in (entered_scope (statements_at (source_text old) block) no_call env) (statements_at (source_text old) block))
+children_counted old new block env inner found whole same is e =
+    sym (length-map found term_of_numbered) ∙ ap length e
+    ∙ ap (λ (x : Source). length (children_in inner (statements_at (source_text x) block))) same
+    ∙ ap (λ (x : Env). length (children_in x (statements_at (source_text old) block))) (is ∙ whole.scopes block no_call env)
+
+-- a number in memory
+pub number_form : (n : ℤ) → val_of (Number n) ≡ NumberVal n
+number_form n = ap val_of (sym (rolls-Number n)) ∙ fold-roll-Value Val (List Val) value_step values_step (NumberIn n)

@@ -1,0 +1,6 @@
+mod BoundedItems
+mod Crossing
+mod KeptChildren
+mod NumberedItems
+mod Numbering
+mod RangeNumbers

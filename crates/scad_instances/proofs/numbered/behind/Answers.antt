@@ -1,0 +1,17 @@
+use Rattle.std.proofs.Common.{sym, ap, ◌∙◌}
+use Rattle.scad_evaluation.specs.View.{source_text}
+use Rattle.scad_instances.specs.Positions.{term_of_numbered, has_else}
+use Rattle.scad_instances.proofs.Numbering.{core_there, second_is_there, second_ends}
+use Rattle.scad_instances.proofs.numbered.behind.Goals as goal
+
+pub behind-requires : goal.behind-requires
+behind-requires c =
+    let n = c.args.numbered in
+    second_is_there (source_text c.args.source.now) c.requires.whole (term_of_numbered n) n.block n.other c.requires.stand (sym c.requires.other)
+    (ap has_else (core_there n.instance.now) ∙ sym c.has_else.ensures ∙ c.if-has_else.true)
+
+pub returns-then-has_else : goal.returns-then-has_else
+returns-then-has_else c =
+    let n = c.args.numbered in
+    c.behind.ensures ∙ second_ends (source_text c.args.source.now) c.requires.whole (term_of_numbered n) n.block n.other c.requires.stand
+    (sym c.requires.other) (ap has_else (core_there n.instance.now) ∙ sym c.has_else.ensures ∙ c.if-has_else.true)

@@ -1,0 +1,4 @@
+pub mod BoundedItems
+pub mod Choosing
+pub mod Items
+pub mod Positions

@@ -1,0 +1,116 @@
+//! Children of calls.
+
+ghost use Rattle.std.specs.Prelude.{◌≡◌, pos, All, IfOk, length, map, is_some, codes, not, ◌||◌, ◌&&◌};
+ghost use Rattle.std.specs.Str.{bytes_eq};
+ghost use Rattle.scad_ast.specs.StatementView.{instance_of};
+ghost use Rattle.scad_value.specs.Values.{NumberVal};
+ghost use Rattle.scad_value.specs.BoundedView.{bounded_val};
+ghost use Rattle.scad_evaluation.specs.Meaning.{entered_scope, no_call, visible_module};
+ghost use Rattle.scad_evaluation.specs.View.{source_text};
+ghost use Rattle.scad_evaluation.specs.Definitions.{statements_at, IsWhole};
+ghost use Rattle.scad_evaluation.specs.Evaluations.{Keeps, env_here};
+ghost use Rattle.scad_meaning.specs.Bodies.{children_in, is_child};
+ghost use Rattle.scad_instances.specs.Positions.{term_of_numbered, HasBlocks};
+ghost use Rattle.scad_meaning.specs.Meaning.{instances_chosen};
+ghost use Rattle.scad_instances.specs.Choosing.{chosen_seen, IsSafeChosen};
+
+use crate::chosen::chosen_among;
+use crate::numbered::{NumberedInstance, numbered_instances};
+use scad_ast::{Core, Instance};
+use scad_evaluation::Evaluation;
+use scad_modules::Chosen;
+use scad_value::{BoundedValue, Value};
+use text_place::NoMemory;
+
+// The most children of a call: their number is one of the language's.
+const CHILDREN: usize = (1 << 53) - 1;
+
+/// Whether an instance of the scope in which is evaluated is a child: `echo` and `assert` are none, where the source defines no
+/// module of that name.
+pub fn is_child(evaluation: &Evaluation<'_, '_>, instance: &Instance) -> bool
+    ensures { result ≡ is_child (env_here evaluation.now) (instance_of instance.now) }
+{
+    match &instance.core {
+        Core::Call(_, name, _, _) => !says_only(evaluation, name.items()),
+        Core::If(_, _, _)
+        | Core::IfElse(_, _, _, _)
+        | Core::For(_, _, _)
+        | Core::IntersectionFor(_, _, _) => true,
+    }
+}
+
+// Whether a name is `echo` or `assert`, and no module of the source, seen from the scope.
+fn says_only(evaluation: &Evaluation<'_, '_>, name: &[u8]) -> bool
+    ensures { result ≡ ((bytes_eq name.now (codes "echo") || bytes_eq name.now (codes "assert"))
+        && not (is_some (visible_module (env_here evaluation.now) name.now))) }
+{
+    (name == b"echo".as_slice() || name == b"assert".as_slice())
+        && evaluation.module(name).is_none()
+}
+
+// The children among the instances of a block, in its scope.
+fn children<'a>(
+    evaluation: &Evaluation<'a, '_>,
+    block: u32,
+) -> Result<Vec<NumberedInstance<'a>>, NoMemory>
+    requires { IsWhole (source_text evaluation.now.source.now) }
+    ensures found { IfOk result (λ found. map term_of_numbered found.items
+        ≡ children_in (env_here evaluation.now) (statements_at (source_text evaluation.now.source.now) block)) }
+    ensures blocks { IfOk result (λ found. All (HasBlocks (source_text evaluation.now.source.now)) found.items) }
+{
+    let alloc = evaluation.alloc;
+    let instances = numbered_instances(alloc, evaluation.source, block)?;
+    let mut children = Vec::new(alloc);
+    'each: for instance in &instances {
+        if is_child(evaluation, instance.instance) {
+            children.push(*instance)?;
+        }
+    }
+    Ok(children)
+}
+
+/// How many children a call has whose body is a block, in a scope of it inside the one in which is evaluated.
+pub fn count_children(
+    evaluation: &mut Evaluation<'_, '_>,
+    block: u32,
+) -> Result<BoundedValue, NoMemory>
+    requires { IsWhole (source_text evaluation.old.source.now) }
+    ensures count { let statements = statements_at (source_text evaluation.old.source.now) block in
+        IfOk result (λ n. bounded_val n ≡ NumberVal (pos (length (children_in (entered_scope statements no_call (env_here evaluation.old)) statements)))) }
+    ensures kept { Keeps evaluation.old evaluation.new }
+    ensures turns { evaluation.new.turns ≡ evaluation.old.turns }
+{
+    let outer = evaluation.scope;
+    let before = evaluation.enter_body(outer, block)?;
+    let children = children(evaluation, block);
+    evaluation.leave(before);
+    let children = children?;
+    if children.len() > CHILDREN {
+        return Err(NoMemory);
+    }
+    Ok(BoundedValue {
+        value: Value::Number(children.len() as i64),
+    })
+}
+
+/// The instances of a block that are evaluated, or of its children those that are chosen.
+pub fn chosen_instances<'a>(
+    evaluation: &Evaluation<'a, '_>,
+    block: u32,
+    chosen: Option<&Chosen>,
+) -> Result<Vec<NumberedInstance<'a>>, NoMemory>
+    requires whole { IsWhole (source_text evaluation.now.source.now) }
+    requires safe { IsSafeChosen chosen }
+    ensures found { IfOk result (λ found. map term_of_numbered found.items
+        ≡ instances_chosen (env_here evaluation.now) (chosen_seen chosen.entry) (statements_at (source_text evaluation.now.source.now) block)) }
+    ensures blocks { IfOk result (λ found. All (HasBlocks (source_text evaluation.now.source.now)) found.items) }
+{
+    let alloc = evaluation.alloc;
+    match chosen {
+        None => numbered_instances(alloc, evaluation.source, block),
+        Some(chosen) => {
+            let children = children(evaluation, block)?;
+            chosen_among(alloc, children, chosen)
+        }
+    }
+}

@@ -1,0 +1,62 @@
+//! How instances are marked.
+
+ghost use Rattle.std.specs.Prelude.{◌≡◌};
+ghost use Rattle.std.specs.List.{list_any};
+ghost use Rattle.scad_ast.specs.StatementView.{marks_of, instance_of};
+ghost use Rattle.scad_meaning.specs.Bodies.{switches_off, is_root, is_on, is_marked};
+
+use scad_ast::{Instance, Modifier, PlacedModifiers};
+
+/// Whether an instance is evaluated: one marked `*` or `%` counts as not written.
+pub(crate) fn is_on(instance: &Instance) -> bool
+    ensures { result ≡ is_on (instance_of instance.now) }
+{
+    !any_off(&instance.marks)
+}
+
+/// Whether an instance is marked `!`.
+pub fn is_marked(instance: &Instance) -> bool
+    ensures { result ≡ is_marked (instance_of instance.now) }
+{
+    any_root(&instance.marks)
+}
+
+fn any_off(marks: &PlacedModifiers) -> bool
+    ensures { result ≡ list_any (λ m. switches_off m.modifier) (marks_of marks.now) }
+{
+    for mark in &marks.items {
+        if switches_off(mark.modifier) {
+            return true;
+        }
+    }
+    false
+}
+
+fn any_root(marks: &PlacedModifiers) -> bool
+    ensures { result ≡ list_any (λ m. is_root m.modifier) (marks_of marks.now) }
+{
+    for mark in &marks.items {
+        if is_root(mark.modifier) {
+            return true;
+        }
+    }
+    false
+}
+
+fn switches_off(modifier: Modifier) -> bool
+    ensures { result ≡ switches_off modifier }
+{
+    match modifier {
+        Modifier::Disable | Modifier::Background => true,
+        Modifier::Highlight | Modifier::Root => false,
+    }
+}
+
+fn is_root(modifier: Modifier) -> bool
+    ensures { result ≡ is_root modifier }
+{
+    match modifier {
+        Modifier::Root => true,
+        Modifier::Disable | Modifier::Background | Modifier::Highlight => false,
+    }
+}

@@ -1,0 +1,200 @@
+//! The instances of a block with the numbers of their bodies' blocks, so that a body is entered by its number. Functions,
+//! modules and bodies are passed over by where their blocks end, and not walked through.
+
+ghost use Rattle.std.specs.Prelude.{◌≡◌, ◌<◌, ◌+◌, ◌++◌, ◌∷◌, [], length, map, slice_index_or, IfOk, OnOk};
+ghost use Rattle.std.specs.List.{All, filter};
+ghost use Rattle.scad_ast.specs.Terms.{statements_from};
+ghost use Rattle.scad_ast.specs.StatementView.{core_of, instance_of, statement_of, statements_of};
+ghost use Rattle.scad_blocks.specs.Blocks.{NumberedText, StandAt, beginnings_in, beginnings_of, beginnings_of_instance, count_blocks, nothing_there};
+ghost use Rattle.scad_evaluation.specs.Definitions.{statements_at, IsWhole};
+ghost use Rattle.scad_evaluation.specs.View.{source_text};
+ghost use Rattle.scad_meaning.specs.Bodies.{instances_of, evaluated_in, is_on};
+ghost use Rattle.scad_instances.specs.Positions.{term_of_numbered, HasBlocks, has_else};
+
+use crate::marks::is_on;
+use scad_ast::{Core, Instance, Statement, Statements};
+use scad_evaluation::Source;
+use scad_scope::BlockText;
+use std::alloc::Global;
+use text_place::NoMemory;
+
+/// An instance with the numbers of the blocks of its bodies: of the first one, and of the one behind `else`,
+/// which is any number where there is none.
+#[derive(Clone, Copy)]
+pub struct NumberedInstance<'a> {
+    pub instance: &'a Instance,
+    pub block: u32,
+    pub other: u32,
+}
+
+/// The instances of a block that are evaluated, in order, those of bare blocks too, with the numbers of their
+/// bodies' blocks. A block that isn't there has none. Its time is that of the block's own statements.
+pub fn numbered_instances<'a>(
+    alloc: Global,
+    source: &Source<'a>,
+    block: u32,
+) -> Result<Vec<NumberedInstance<'a>>, NoMemory>
+    requires { IsWhole (source_text source.now) }
+    ensures instances { IfOk result (λ found. map term_of_numbered found.items ≡ evaluated_in (statements_at (source_text source.now) block)) }
+    ensures blocks { IfOk result (λ found. All (HasBlocks (source_text source.now)) found.items) }
+{
+    let mut found = Vec::new(alloc);
+    if (block as usize) < source.blocks.count() {
+        add_block(source, block, &mut found)?;
+    }
+    Ok(found)
+}
+
+// Adds the instances of a block that is there.
+fn add_block<'a>(
+    source: &Source<'a>,
+    block: u32,
+    found: &mut Vec<NumberedInstance<'a>>,
+) -> Result<(), NoMemory>
+    requires whole { IsWhole (source_text source.now) }
+    requires there { block < length (source_text source.now).entries }
+    requires before { All (HasBlocks (source_text source.now)) found.old.items }
+    ensures instances { OnOk result (map term_of_numbered found.new.items ≡ map term_of_numbered found.old.items
+        ++ evaluated_in (statements_at (source_text source.now) block)) }
+    ensures blocks { OnOk result (All (HasBlocks (source_text source.now)) found.new.items) }
+{
+    // What stands in a block begins behind it. No program has so many blocks that there is no number.
+    let Some(first) = block.checked_add(1) else {
+        return Err(NoMemory);
+    };
+    match source.blocks.text(block) {
+        BlockText::Nothing => Ok(()),
+        BlockText::Statements(statements) => {
+            add_all(source, statements, first, found)?;
+            Ok(())
+        }
+        BlockText::Single(instance) => {
+            add_instance(source, instance, first, found)?;
+            Ok(())
+        }
+    }
+}
+
+// Adds the instances of statements whose blocks begin at a number, and answers the number behind them.
+#[cycle(numbered)]
+fn add_all<'a>(
+    source: &Source<'a>,
+    statements: &'a Statements,
+    first: u32,
+    found: &mut Vec<NumberedInstance<'a>>,
+) -> Result<u32, NoMemory>
+    requires whole { IsWhole (source_text source.now) }
+    requires stand { StandAt (source_text source.now) first (beginnings_in (statements_from (statements_of statements.now))) }
+    requires before { All (HasBlocks (source_text source.now)) found.old.items }
+    ensures behind { IfOk result (λ n. n ≡ first + count_blocks (beginnings_in (statements_from (statements_of statements.now)))) }
+    ensures instances { OnOk result (map term_of_numbered found.new.items ≡ map term_of_numbered found.old.items
+        ++ evaluated_in (statements_from (statements_of statements.now))) }
+    ensures blocks { OnOk result (All (HasBlocks (source_text source.now)) found.new.items) }
+{
+    let mut next = first;
+    'each: for statement in &statements.items {
+        next = add(source, statement, next, found)?;
+    }
+    Ok(next)
+}
+
+#[cycle(numbered)]
+fn add<'a>(
+    source: &Source<'a>,
+    statement: &'a Statement,
+    first: u32,
+    found: &mut Vec<NumberedInstance<'a>>,
+) -> Result<u32, NoMemory>
+    requires whole { IsWhole (source_text source.now) }
+    requires stand { StandAt (source_text source.now) first (beginnings_of (statement_of statement.now)) }
+    requires before { All (HasBlocks (source_text source.now)) found.old.items }
+    ensures behind { IfOk result (λ n. n ≡ first + count_blocks (beginnings_of (statement_of statement.now))) }
+    ensures instances { OnOk result (map term_of_numbered found.new.items ≡ map term_of_numbered found.old.items
+        ++ filter is_on (instances_of (statement_of statement.now))) }
+    ensures blocks { OnOk result (All (HasBlocks (source_text source.now)) found.new.items) }
+{
+    match statement {
+        Statement::Block(_, statements) => add_all(source, statements, first, found),
+        Statement::Instantiation(instance) => add_instance(source, instance, first, found),
+        Statement::Module(_, _, _, _, _) => Ok(source.blocks.behind(first)),
+        Statement::Function(_, _, _, _, _) => Ok(source.blocks.behind(first)),
+        Statement::Empty(_) => Ok(first),
+        Statement::Assignment(_, _, _) => Ok(first),
+        Statement::SpecialAssignment(_, _, _) => Ok(first),
+    }
+}
+
+fn add_instance<'a>(
+    source: &Source<'a>,
+    instance: &'a Instance,
+    block: u32,
+    found: &mut Vec<NumberedInstance<'a>>,
+) -> Result<u32, NoMemory>
+    requires whole { IsWhole (source_text source.now) }
+    requires stand { StandAt (source_text source.now) block (beginnings_of_instance (instance_of instance.now)) }
+    requires before { All (HasBlocks (source_text source.now)) found.old.items }
+    ensures behind { IfOk result (λ n. n ≡ block + count_blocks (beginnings_of_instance (instance_of instance.now))) }
+    ensures instances { OnOk result (map term_of_numbered found.new.items ≡ map term_of_numbered found.old.items
+        ++ filter is_on (instance_of instance.now ∷ [])) }
+    ensures blocks { OnOk result (All (HasBlocks (source_text source.now)) found.new.items) }
+{
+    let numbered = with_blocks(source, instance, block);
+    add_if_on(numbered, found)?;
+    Ok(behind(source, numbered))
+}
+
+// An instance whose blocks begin at a number.
+fn with_blocks<'a>(source: &Source<'a>, instance: &'a Instance, block: u32) -> NumberedInstance<'a>
+    requires whole { IsWhole (source_text source.now) }
+    requires stand { StandAt (source_text source.now) block (beginnings_of_instance (instance_of instance.now)) }
+    ensures same { (term_of_numbered result ≡ instance_of instance.now) × (result.block ≡ block) }
+    ensures other { result.other ≡ (slice_index_or (source_text source.now).entries block nothing_there).behind }
+    ensures blocks { HasBlocks (source_text source.now) result }
+{
+    NumberedInstance {
+        instance,
+        block,
+        other: source.blocks.behind(block),
+    }
+}
+
+// The number behind all blocks of an instance.
+fn behind(source: &Source<'_>, numbered: NumberedInstance<'_>) -> u32
+    requires whole { IsWhole (source_text source.now) }
+    requires stand { StandAt (source_text source.now) numbered.block (beginnings_of_instance (term_of_numbered numbered)) }
+    requires other { numbered.other ≡ (slice_index_or (source_text source.now).entries numbered.block nothing_there).behind }
+    ensures { result ≡ numbered.entry.block + count_blocks (beginnings_of_instance (term_of_numbered numbered.entry)) }
+{
+    if has_else(&numbered.instance.core) {
+        source.blocks.behind(numbered.other)
+    } else {
+        numbered.other
+    }
+}
+
+fn has_else(core: &Core) -> bool
+    ensures { result ≡ has_else (core_of core.now) }
+{
+    match core {
+        Core::IfElse(_, _, _, _) => true,
+        Core::If(_, _, _) => false,
+        Core::For(_, _, _) => false,
+        Core::IntersectionFor(_, _, _) => false,
+        Core::Call(_, _, _, _) => false,
+    }
+}
+
+fn add_if_on<'a>(
+    numbered: NumberedInstance<'a>,
+    found: &mut Vec<NumberedInstance<'a>>,
+) -> Result<(), NoMemory>
+    ensures instances { OnOk result (map term_of_numbered found.new.items ≡ map term_of_numbered found.old.items
+        ++ filter is_on (term_of_numbered numbered.entry ∷ [])) }
+    ensures blocks { (text : NumberedText) → HasBlocks text numbered.entry → All (HasBlocks text) found.old.items
+        → OnOk result (All (HasBlocks text) found.new.items) }
+{
+    if is_on(numbered.instance) {
+        found.push(numbered)?;
+    }
+    Ok(())
+}
