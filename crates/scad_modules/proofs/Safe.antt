@@ -7,10 +7,12 @@ use Rattle.text_place.specs.declared.fault.FaultKind.{FaultKind}
 use Rattle.plane_predicate.specs.Space.{point_at}
 use Rattle.int_transform.specs.Maps.{HasSafeCoordinates}
 use Rattle.primitives.specs.Sizes.{IsSafe}
+use Rattle.scad_value.specs.declared.bounded_value.BoundedValue.{BoundedValue}
+use Rattle.scad_value.specs.BoundedView.{bounded_val}
 use Rattle.scad_value.specs.Values.{Val, NumberVal, ListVal, RangeVal, Vals, no_vals, and_val, is_small, has_small_numbers, have_small_numbers}
-use Rattle.scad_slots.specs.Reading.{Slots, slot, number_in, with_first, each_in, of_length, sides_in, filled_from, factors_in, or_default}
-use Rattle.scad_slots.specs.View.{Reads}
-use Rattle.scad_modules.specs.Bounds.{are_bounded, IsSafeChoice}
+use Rattle.scad_slots.specs.Reading.{slot, number_in, with_first, each_in, of_length, sides_in, filled_from, factors_in, or_default}
+use Rattle.scad_slots.specs.View.{slots_in, Reads}
+use Rattle.scad_modules.specs.Bounds.{IsSafeChoice}
 use Rattle.scad_modules.specs.Effects.{ChosenCall, all_children, numbered}
 use Rattle.scad_modules.specs.Transforms.{part, factors_for}
 use Rattle.scad_modules.specs.Calls.{chosen_in}
@@ -29,13 +31,15 @@ AreSafe ns = All IsSafe ns
 safe_number : (n : ℤ) → IsTrue (is_small n) → IsSafe n
 safe_number n h = record { size = omega (arith, ltb-true (unsigned_abs n) (2 ^ 53) h) }
 
--- the value that a parameter has
-slot_small : (slots : Slots) (k : ℕ) → IsTrue (are_bounded slots) → OnRead IsSmallVal (slot slots k)
-slot_small [] k b = tt
-slot_small (None ∷ slots) zero b = tt
-slot_small (Some v ∷ slots) zero b = (and_parts _ _ (and_parts _ _ b).0).0
-slot_small (None ∷ slots) (suc k) b = slot_small slots k b
-slot_small (Some v ∷ slots) (suc k) b = slot_small slots k (and_parts _ _ b).1
+-- a bounded value, and the value that a parameter has
+small_val : (v : BoundedValue) → IsSmallVal (bounded_val v)
+small_val v = (and_parts _ _ v.bounded).0
+
+slot_small : (slots : List (Option BoundedValue)) (k : ℕ) → OnRead IsSmallVal (slot (slots_in slots) k)
+slot_small [] k = tt
+slot_small (None ∷ slots) zero = tt
+slot_small (Some v ∷ slots) zero = small_val v
+slot_small (given ∷ slots) (suc k) = slot_small slots k
 
 -- numbers and lists of numbers
 number_safe : (v : Val) → IsSmallVal v → OnRead IsSafe (number_in v)
@@ -94,12 +98,10 @@ factors_safe (ListVal items) s = filled_safe (pos 1) (each_in number_in items) o
 factors_safe v s = tt
 
 -- the factors of a scaling
-pub scale_safe : (slots : Slots) (inside : Bool) (v : Val) (by factors : List ℤ) → IsTrue (are_bounded slots)
-    → slot slots 0 ≡ Some v → factors_in v ≡ Some by → factors ≡ factors_for inside by
-    → HasSafeCoordinates (point_at factors)
-scale_safe slots inside v by factors b e f g =
-    let small : IsSmallVal v = subst (OnRead IsSmallVal) e (slot_small slots 0 b) in
-    let safe : All IsSafe by = subst (OnRead AreSafe) f (factors_safe v small) in
+pub scale_safe : (inside : Bool) (v : BoundedValue) (by factors : List ℤ) → factors_in (bounded_val v) ≡ Some by
+    → factors ≡ factors_for inside by → HasSafeCoordinates (point_at factors)
+scale_safe inside v by factors f g =
+    let safe : All IsSafe by = subst (OnRead AreSafe) f (factors_safe (bounded_val v) (small_val v)) in
     subst (λ l. HasSafeCoordinates (point_at l)) (sym g) (by_side inside safe)
   where
     by_side : (inside : Bool) → All IsSafe by → HasSafeCoordinates (point_at (factors_for inside by))
@@ -111,22 +113,22 @@ default_safe : {A : Type 0} (P : A → Type 0) (default : A) (read : Val → Opt
 default_safe P default read None p h s = p
 default_safe P default read (Some v) p h s = h v s
 
-pub number_or_safe : (slots : Slots) (k : ℕ) (default : ℤ) → IsTrue (are_bounded slots) → IsSafe default
-    → OnRead IsSafe (or_default default number_in (slot slots k))
-number_or_safe slots k default b p =
-    default_safe IsSafe default number_in (slot slots k) p number_safe (slot_small slots k b)
+pub number_or_safe : (slots : List (Option BoundedValue)) (k : ℕ) (default : ℤ) → IsSafe default
+    → OnRead IsSafe (or_default default number_in (slot (slots_in slots) k))
+number_or_safe slots k default p =
+    default_safe IsSafe default number_in (slot (slots_in slots) k) p number_safe (slot_small slots k)
 
-pub three_safe : (slots : Slots) → IsTrue (are_bounded slots)
-    → OnRead AreSafe (or_default (pos 1 ∷ pos 1 ∷ pos 1 ∷ []) (sides_in 3) (slot slots 0))
-three_safe slots b =
-    default_safe AreSafe (pos 1 ∷ pos 1 ∷ pos 1 ∷ []) (sides_in 3) (slot slots 0) (copies_safe 3 (pos 1) one_safe)
-    (sides_safe 3) (slot_small slots 0 b)
+pub three_safe : (slots : List (Option BoundedValue))
+    → OnRead AreSafe (or_default (pos 1 ∷ pos 1 ∷ pos 1 ∷ []) (sides_in 3) (slot (slots_in slots) 0))
+three_safe slots =
+    default_safe AreSafe (pos 1 ∷ pos 1 ∷ pos 1 ∷ []) (sides_in 3) (slot (slots_in slots) 0) (copies_safe 3 (pos 1) one_safe)
+    (sides_safe 3) (slot_small slots 0)
 
-pub two_safe : (slots : Slots) → IsTrue (are_bounded slots)
-    → OnRead AreSafe (or_default (pos 1 ∷ pos 1 ∷ []) (sides_in 2) (slot slots 0))
-two_safe slots b =
-    default_safe AreSafe (pos 1 ∷ pos 1 ∷ []) (sides_in 2) (slot slots 0) (copies_safe 2 (pos 1) one_safe)
-    (sides_safe 2) (slot_small slots 0 b)
+pub two_safe : (slots : List (Option BoundedValue))
+    → OnRead AreSafe (or_default (pos 1 ∷ pos 1 ∷ []) (sides_in 2) (slot (slots_in slots) 0))
+two_safe slots =
+    default_safe AreSafe (pos 1 ∷ pos 1 ∷ []) (sides_in 2) (slot (slots_in slots) 0) (copies_safe 2 (pos 1) one_safe)
+    (sides_safe 2) (slot_small slots 0)
 
 chosen_safe : (v : Val) → IsSmallVal v → OnRead IsSafeChoice (chosen_in v)
 chosen_safe (NumberVal n) s = All-cons IsSafe n [] (safe_number n s) (All-nil IsSafe)
@@ -139,11 +141,11 @@ chosen_safe (ListVal items) s = some_numbered (each_in number_in items) (each_sa
     some_numbered (Some ns) p = p
 chosen_safe v s = tt
 
-pub choice_safe : (slots : Slots) (choice : ChosenCall) → IsTrue (are_bounded slots)
-    → or_default all_children chosen_in (slot slots 0) ≡ Some choice → IsSafeChoice choice
-choice_safe slots choice b e =
+pub choice_safe : (slots : List (Option BoundedValue)) (choice : ChosenCall)
+    → or_default all_children chosen_in (slot (slots_in slots) 0) ≡ Some choice → IsSafeChoice choice
+choice_safe slots choice e =
     subst (OnRead IsSafeChoice) e
-    (default_safe IsSafeChoice all_children chosen_in (slot slots 0) tt chosen_safe (slot_small slots 0 b))
+    (default_safe IsSafeChoice all_children chosen_in (slot (slots_in slots) 0) tt chosen_safe (slot_small slots 0))
 
 -- what the code has read
 pub reads_safe : {A : Type 0} (P : A → Type 0) (r : Result A FaultKind) (read : Option A) → Reads r read

@@ -1,19 +1,7 @@
--- Numbers of at most 2^53 - 1 in size, in what a call is given and in its effect.
-use Rattle.std.specs.Prelude.{Bool, true, ◌&&◌, [], ◌∷◌, Option, Some, None, All}
+-- Numbers of at most 2^53 - 1 in size in a call's effect.
+use Rattle.std.specs.Prelude.{All}
 use Rattle.primitives.specs.Sizes.{IsSafe}
-use Rattle.scad_value.specs.Values.{Val, is_bounded}
-use Rattle.scad_slots.specs.Reading.{Slots}
 use Rattle.scad_modules.specs.Effects.{SolidCall, cube_call, polyhedron_call, cylinder_call, FlatCall, square_call, polygon_call, circle_call, ChosenCall, all_children, numbered, ranged, EffectCall, a_solid, a_flat, a_move, a_join, a_hull, an_extrusion, silence, some_children}
-
--- a value that is given is bounded
-abbrev pub is_slot_bounded : Option Val → Bool
-is_slot_bounded None = true
-is_slot_bounded (Some v) = is_bounded v
-
--- each value that is given is bounded
-abbrev pub are_bounded : Slots → Bool
-are_bounded [] = true
-are_bounded (given ∷ slots) = is_slot_bounded given && are_bounded slots
 
 -- what the calls of solid shapes want of sizes; they test points themselves
 abbrev pub IsSafeSolid : SolidCall → Type 0

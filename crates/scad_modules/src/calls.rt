@@ -1,10 +1,9 @@
 //! Calls of built-in modules.
 
-ghost use Rattle.std.specs.Prelude.{◌≡◌, IsTrue};
+ghost use Rattle.std.specs.Prelude.{◌≡◌};
 ghost use Rattle.scad_value.specs.View.{val_of};
 ghost use Rattle.scad_slots.specs.Reading.{slot, or_default};
-ghost use Rattle.scad_slots.specs.View.{slots_of, ReadsAs};
-ghost use Rattle.scad_modules.specs.Bounds.{are_bounded};
+ghost use Rattle.scad_slots.specs.View.{slots_in, ReadsAs};
 ghost use Rattle.scad_modules.specs.Calls.{chosen_in, assert_effect, children_effect, effect_of, hull_effect};
 ghost use Rattle.scad_modules.specs.Effects.{all_children};
 ghost use Rattle.scad_modules.specs.View.{fragments_of, chosen_of, MeetsEffect, GivesSafe};
@@ -17,7 +16,7 @@ use crate::transforms::{mirror, rotate, scale, translate};
 use csg_tree::Op;
 use plane_predicate::Unit;
 use scad_slots::{given, numbers, required};
-use scad_value::{Value, ValueStop, truth};
+use scad_value::{BoundedValue, Value, ValueStop, truth};
 use std::alloc::Global;
 use text_place::FaultKind;
 
@@ -37,10 +36,9 @@ pub fn effect(
     inside: bool,
     fragments: Option<&Value>,
     called: BuiltinModule,
-    slots: &[Option<Value>],
+    slots: &[Option<BoundedValue>],
 ) -> Result<Effect, ValueStop>
-    requires { IsTrue (are_bounded (slots_of slots.now)) }
-    ensures effect { MeetsEffect result (effect_of unit inside (fragments_of fragments.entry) called (slots_of slots.now)) }
+    ensures effect { MeetsEffect result (effect_of unit inside (fragments_of fragments.entry) called (slots_in slots.now)) }
     ensures safe { GivesSafe result }
 {
     match called {
@@ -80,31 +78,30 @@ fn hull(inside: bool) -> Result<Effect, ValueStop>
 }
 
 // The effect of `assert`, or its first fault: BadArgument or AssertFailed.
-fn asserted(slots: &[Option<Value>]) -> Result<Effect, ValueStop>
-    ensures effect { MeetsEffect result (assert_effect (slots_of slots.now)) }
+fn asserted(slots: &[Option<BoundedValue>]) -> Result<Effect, ValueStop>
+    ensures effect { MeetsEffect result (assert_effect (slots_in slots.now)) }
     ensures safe { GivesSafe result }
 {
-    if !truth(required(slots, 0)?) {
+    if !truth(&required(slots, 0)?.value) {
         return Err(ValueStop::Kind(FaultKind::AssertFailed));
     }
     Ok(Effect::Nothing)
 }
 
 // The effect of `children`, or TypeMismatch.
-fn children(alloc: Global, slots: &[Option<Value>]) -> Result<Effect, ValueStop>
-    requires { IsTrue (are_bounded (slots_of slots.now)) }
-    ensures effect { MeetsEffect result (children_effect (slots_of slots.now)) }
+fn children(alloc: Global, slots: &[Option<BoundedValue>]) -> Result<Effect, ValueStop>
+    ensures effect { MeetsEffect result (children_effect (slots_in slots.now)) }
     ensures safe { GivesSafe result }
 {
     Ok(Effect::Children(chosen(alloc, slots)?))
 }
 
 // Which children are wanted: all, where no index is given.
-fn chosen(alloc: Global, slots: &[Option<Value>]) -> Result<Chosen, ValueStop>
-    ensures { ReadsAs chosen_of result (or_default all_children chosen_in (slot (slots_of slots.now) 0)) }
+fn chosen(alloc: Global, slots: &[Option<BoundedValue>]) -> Result<Chosen, ValueStop>
+    ensures { ReadsAs chosen_of result (or_default all_children chosen_in (slot (slots_in slots.now) 0)) }
 {
     match given(slots, 0) {
-        Some(value) => chosen_by(alloc, value),
+        Some(value) => chosen_by(alloc, &value.value),
         None => Ok(Chosen::All),
     }
 }

@@ -6,7 +6,7 @@ ghost use Rattle.int_transform.specs.Maps.{affine_of, determinant_of};
 ghost use Rattle.scad_value.specs.Values.{vals_from};
 ghost use Rattle.scad_value.specs.View.{val_of, vals_in};
 ghost use Rattle.scad_slots.specs.Reading.{each_in, vector_in};
-ghost use Rattle.scad_slots.specs.View.{slots_of};
+ghost use Rattle.scad_slots.specs.View.{slots_in};
 ghost use Rattle.scad_modules.specs.Transforms.{part, row_at, is_zero, some_part, some_row, is_last_row, three_rows_from, rows_in, is_past_matrix, keeps_plane, leaves_plane_by, moves_past, row_on_grid, rows_on_grid, multmatrix_call};
 ghost use Rattle.scad_modules.specs.View.{MeetsEffect, GivesSafe};
 
@@ -15,7 +15,7 @@ use crate::transforms::{in_steps, moved};
 use int_transform::Step;
 use plane_predicate::Unit;
 use scad_slots::{quadruple, required};
-use scad_value::{Value, ValueStop};
+use scad_value::{BoundedValue, Value, ValueStop};
 use std::alloc::Global;
 use text_place::FaultKind;
 
@@ -28,12 +28,12 @@ pub(crate) fn multmatrix(
     alloc: Global,
     unit: Unit,
     inside: bool,
-    slots: &[Option<Value>],
+    slots: &[Option<BoundedValue>],
 ) -> Result<Effect, ValueStop>
-    ensures effect { MeetsEffect result (multmatrix_call unit inside (slots_of slots.now)) }
+    ensures effect { MeetsEffect result (multmatrix_call unit inside (slots_in slots.now)) }
     ensures safe { GivesSafe result }
 {
-    let rows = rows(required(slots, 0)?).ok_or(FaultKind::TypeMismatch)?;
+    let rows = rows(&required(slots, 0)?.value).ok_or(FaultKind::TypeMismatch)?;
     if is_steep(rows) {
         return Err(ValueStop::Kind(FaultKind::TooLarge));
     }

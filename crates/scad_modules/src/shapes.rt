@@ -1,11 +1,10 @@
 //! Calls of shapes and of extrusion.
 
-ghost use Rattle.std.specs.Prelude.{◌≡◌, ◌&&◌, ◌||◌, [], ◌∷◌, pos, not, is_some, All, IfOk, IsTrue};
+ghost use Rattle.std.specs.Prelude.{◌≡◌, ◌&&◌, ◌||◌, [], ◌∷◌, pos, not, is_some, All, IfOk};
 ghost use Rattle.std.specs.Ordering.{int_eq};
 ghost use Rattle.primitives.specs.Sizes.{IsSafe};
 ghost use Rattle.scad_slots.specs.Reading.{slot, number_in, or_default, sides_in};
-ghost use Rattle.scad_slots.specs.View.{slots_of, Reads};
-ghost use Rattle.scad_modules.specs.Bounds.{are_bounded};
+ghost use Rattle.scad_slots.specs.View.{slots_in, Reads};
 ghost use Rattle.scad_modules.specs.Shapes.{fragments_in, cube_effect, polyhedron_effect, square_effect, polygon_effect, circle_effect, cylinder_effect, extrude_effect};
 ghost use Rattle.scad_modules.specs.View.{fragments_of, MeetsEffect, GivesSafe};
 
@@ -14,7 +13,7 @@ use scad_slots::{
     faces, flat_points, found_number, given, is_centered, is_given, number, points, required,
     three_sides, two_sides,
 };
-use scad_value::{Value, ValueStop};
+use scad_value::{BoundedValue, Value, ValueStop};
 use std::alloc::Global;
 use text_place::FaultKind;
 
@@ -82,9 +81,8 @@ const EXTRUSION_SLICES: usize = 5;
 const FRAGMENTS: i64 = 4;
 
 /// The effect of `cube`, or its first fault: TypeMismatch or WrongDimension.
-pub(crate) fn cube(inside: bool, slots: &[Option<Value>]) -> Result<Effect, ValueStop>
-    requires { IsTrue (are_bounded (slots_of slots.now)) }
-    ensures effect { MeetsEffect result (cube_effect inside (slots_of slots.now)) }
+pub(crate) fn cube(inside: bool, slots: &[Option<BoundedValue>]) -> Result<Effect, ValueStop>
+    ensures effect { MeetsEffect result (cube_effect inside (slots_in slots.now)) }
     ensures safe { GivesSafe result }
 {
     let size = cube_size(slots)?;
@@ -99,15 +97,15 @@ pub(crate) fn cube(inside: bool, slots: &[Option<Value>]) -> Result<Effect, Valu
 pub(crate) fn polyhedron(
     alloc: Global,
     inside: bool,
-    slots: &[Option<Value>],
+    slots: &[Option<BoundedValue>],
 ) -> Result<Effect, ValueStop>
-    ensures effect { MeetsEffect result (polyhedron_effect inside (slots_of slots.now)) }
+    ensures effect { MeetsEffect result (polyhedron_effect inside (slots_in slots.now)) }
     ensures safe { GivesSafe result }
 {
     let point_list = required(slots, POINTS)?;
     let face_list = required(slots, FACES)?;
-    let points = points(alloc, point_list)?;
-    let faces = faces(alloc, face_list)?;
+    let points = points(alloc, &point_list.value)?;
+    let faces = faces(alloc, &face_list.value)?;
     if inside {
         return Err(ValueStop::Kind(FaultKind::WrongDimension));
     }
@@ -119,10 +117,9 @@ pub(crate) fn polyhedron(
 pub(crate) fn cylinder(
     inside: bool,
     fragments: Option<&Value>,
-    slots: &[Option<Value>],
+    slots: &[Option<BoundedValue>],
 ) -> Result<Effect, ValueStop>
-    requires { IsTrue (are_bounded (slots_of slots.now)) }
-    ensures effect { MeetsEffect result (cylinder_effect inside (fragments_of fragments.entry) (slots_of slots.now)) }
+    ensures effect { MeetsEffect result (cylinder_effect inside (fragments_of fragments.entry) (slots_in slots.now)) }
     ensures safe { GivesSafe result }
 {
     if is_given(slots, CYLINDER_DIAMETER)
@@ -154,9 +151,8 @@ pub(crate) fn cylinder(
 }
 
 /// The effect of `square`, or its first fault: TypeMismatch or WrongDimension.
-pub(crate) fn square(inside: bool, slots: &[Option<Value>]) -> Result<Effect, ValueStop>
-    requires { IsTrue (are_bounded (slots_of slots.now)) }
-    ensures effect { MeetsEffect result (square_effect inside (slots_of slots.now)) }
+pub(crate) fn square(inside: bool, slots: &[Option<BoundedValue>]) -> Result<Effect, ValueStop>
+    ensures effect { MeetsEffect result (square_effect inside (slots_in slots.now)) }
     ensures safe { GivesSafe result }
 {
     let size = square_size(slots)?;
@@ -172,16 +168,16 @@ pub(crate) fn square(inside: bool, slots: &[Option<Value>]) -> Result<Effect, Va
 pub(crate) fn polygon(
     alloc: Global,
     inside: bool,
-    slots: &[Option<Value>],
+    slots: &[Option<BoundedValue>],
 ) -> Result<Effect, ValueStop>
-    ensures effect { MeetsEffect result (polygon_effect inside (slots_of slots.now)) }
+    ensures effect { MeetsEffect result (polygon_effect inside (slots_in slots.now)) }
     ensures safe { GivesSafe result }
 {
     let point_list = required(slots, POINTS)?;
     if is_given(slots, PATHS) {
         return Err(ValueStop::Kind(FaultKind::NotInProfile));
     }
-    let points = flat_points(alloc, point_list)?;
+    let points = flat_points(alloc, &point_list.value)?;
     if !inside {
         return Err(ValueStop::Kind(FaultKind::WrongDimension));
     }
@@ -193,10 +189,9 @@ pub(crate) fn polygon(
 pub(crate) fn circle(
     inside: bool,
     fragments: Option<&Value>,
-    slots: &[Option<Value>],
+    slots: &[Option<BoundedValue>],
 ) -> Result<Effect, ValueStop>
-    requires { IsTrue (are_bounded (slots_of slots.now)) }
-    ensures effect { MeetsEffect result (circle_effect inside (fragments_of fragments.entry) (slots_of slots.now)) }
+    ensures effect { MeetsEffect result (circle_effect inside (fragments_of fragments.entry) (slots_in slots.now)) }
     ensures safe { GivesSafe result }
 {
     if is_given(slots, CIRCLE_DIAMETER) {
@@ -214,9 +209,11 @@ pub(crate) fn circle(
 
 /// The effect of `linear_extrude`, or its first fault: BadArgument, NotInProfile, TypeMismatch or
 /// WrongDimension.
-pub(crate) fn linear_extrude(inside: bool, slots: &[Option<Value>]) -> Result<Effect, ValueStop>
-    requires { IsTrue (are_bounded (slots_of slots.now)) }
-    ensures effect { MeetsEffect result (extrude_effect inside (slots_of slots.now)) }
+pub(crate) fn linear_extrude(
+    inside: bool,
+    slots: &[Option<BoundedValue>],
+) -> Result<Effect, ValueStop>
+    ensures effect { MeetsEffect result (extrude_effect inside (slots_in slots.now)) }
     ensures safe { GivesSafe result }
 {
     let given_height = required(slots, EXTRUSION_HEIGHT)?;
@@ -226,7 +223,7 @@ pub(crate) fn linear_extrude(inside: bool, slots: &[Option<Value>]) -> Result<Ef
     {
         return Err(ValueStop::Kind(FaultKind::NotInProfile));
     }
-    let height = number(given_height).ok_or(FaultKind::TypeMismatch)?;
+    let height = number(&given_height.value).ok_or(FaultKind::TypeMismatch)?;
     let center = is_centered(slots, EXTRUSION_CENTER)?;
     if inside {
         return Err(ValueStop::Kind(FaultKind::WrongDimension));
@@ -235,56 +232,57 @@ pub(crate) fn linear_extrude(inside: bool, slots: &[Option<Value>]) -> Result<Ef
 }
 
 // The sizes of a cube, or TypeMismatch.
-fn cube_size(slots: &[Option<Value>]) -> Result<[i64; 3], FaultKind>
-    requires { IsTrue (are_bounded (slots_of slots.now)) }
-    ensures value { Reads result (or_default (pos 1 ∷ pos 1 ∷ pos 1 ∷ []) (sides_in 3) (slot (slots_of slots.now) 0)) }
+fn cube_size(slots: &[Option<BoundedValue>]) -> Result<[i64; 3], FaultKind>
+    ensures value { Reads result (or_default (pos 1 ∷ pos 1 ∷ pos 1 ∷ []) (sides_in 3) (slot (slots_in slots.now) 0)) }
     ensures safe { IfOk result (All IsSafe) }
 {
     found_cube_size(slots)
 }
 
 // The sizes of a cube: 1, where they are missing.
-fn found_cube_size(slots: &[Option<Value>]) -> Result<[i64; 3], FaultKind>
-    ensures { Reads result (or_default (pos 1 ∷ pos 1 ∷ pos 1 ∷ []) (sides_in 3) (slot (slots_of slots.now) 0)) }
+fn found_cube_size(slots: &[Option<BoundedValue>]) -> Result<[i64; 3], FaultKind>
+    ensures { Reads result (or_default (pos 1 ∷ pos 1 ∷ pos 1 ∷ []) (sides_in 3) (slot (slots_in slots.now) 0)) }
 {
     match given(slots, SIZE) {
-        Some(value) => three_sides(value).ok_or(FaultKind::TypeMismatch),
+        Some(value) => three_sides(&value.value).ok_or(FaultKind::TypeMismatch),
         None => Ok([1, 1, 1]),
     }
 }
 
 // The sizes of a square, or TypeMismatch.
-fn square_size(slots: &[Option<Value>]) -> Result<[i64; 2], FaultKind>
-    requires { IsTrue (are_bounded (slots_of slots.now)) }
-    ensures value { Reads result (or_default (pos 1 ∷ pos 1 ∷ []) (sides_in 2) (slot (slots_of slots.now) 0)) }
+fn square_size(slots: &[Option<BoundedValue>]) -> Result<[i64; 2], FaultKind>
+    ensures value { Reads result (or_default (pos 1 ∷ pos 1 ∷ []) (sides_in 2) (slot (slots_in slots.now) 0)) }
     ensures safe { IfOk result (All IsSafe) }
 {
     found_square_size(slots)
 }
 
 // The sizes of a square: 1, where they are missing.
-fn found_square_size(slots: &[Option<Value>]) -> Result<[i64; 2], FaultKind>
-    ensures { Reads result (or_default (pos 1 ∷ pos 1 ∷ []) (sides_in 2) (slot (slots_of slots.now) 0)) }
+fn found_square_size(slots: &[Option<BoundedValue>]) -> Result<[i64; 2], FaultKind>
+    ensures { Reads result (or_default (pos 1 ∷ pos 1 ∷ []) (sides_in 2) (slot (slots_in slots.now) 0)) }
 {
     match given(slots, SIZE) {
-        Some(value) => two_sides(value).ok_or(FaultKind::TypeMismatch),
+        Some(value) => two_sides(&value.value).ok_or(FaultKind::TypeMismatch),
         None => Ok([1, 1]),
     }
 }
 
 // The number that a parameter has, or its default, or TypeMismatch.
-fn number_or(slots: &[Option<Value>], parameter: usize, default: i64) -> Result<i64, FaultKind>
-    requires slots { IsTrue (are_bounded (slots_of slots.now)) }
-    requires default { IsSafe default }
-    ensures value { Reads result (or_default default number_in (slot (slots_of slots.now) parameter)) }
+fn number_or(
+    slots: &[Option<BoundedValue>],
+    parameter: usize,
+    default: i64,
+) -> Result<i64, FaultKind>
+    requires { IsSafe default }
+    ensures value { Reads result (or_default default number_in (slot (slots_in slots.now) parameter)) }
     ensures safe { IfOk result IsSafe }
 {
     found_number(slots, parameter, default)
 }
 
 // Whether a cylinder has a radius for both its ends and one for an end.
-fn has_two_radii(slots: &[Option<Value>]) -> bool
-    ensures { result ≡ (is_some (slot (slots_of slots.now) 4) && (is_some (slot (slots_of slots.now) 1) || is_some (slot (slots_of slots.now) 2))) }
+fn has_two_radii(slots: &[Option<BoundedValue>]) -> bool
+    ensures { result ≡ (is_some (slot (slots_in slots.now) 4) && (is_some (slot (slots_in slots.now) 1) || is_some (slot (slots_in slots.now) 2))) }
 {
     is_given(slots, CYLINDER_RADIUS)
         && (is_given(slots, CYLINDER_LOW) || is_given(slots, CYLINDER_HIGH))

@@ -1,11 +1,10 @@
 //! Calls of transforms.
 
-ghost use Rattle.std.specs.Prelude.{◌≡◌, ◌<◌, ◌≤◌, ◌&&◌, true, false, nat_eq, unsigned_abs, Ok, [], ◌∷◌, IfOk, IfSome, IsTrue, MatchResult};
+ghost use Rattle.std.specs.Prelude.{◌≡◌, ◌<◌, ◌≤◌, ◌&&◌, true, false, nat_eq, unsigned_abs, Ok, [], ◌∷◌, IfOk, IfSome, MatchResult};
 ghost use Rattle.text_place.specs.declared.fault.FaultKind.TheVariants.{TooLarge};
 ghost use Rattle.plane_predicate.specs.Space.{point_at};
 ghost use Rattle.int_transform.specs.Maps.{HasSafeCoordinates};
-ghost use Rattle.scad_slots.specs.View.{slots_of};
-ghost use Rattle.scad_modules.specs.Bounds.{are_bounded};
+ghost use Rattle.scad_slots.specs.View.{slots_in};
 ghost use Rattle.scad_modules.specs.Effects.{a_move};
 ghost use Rattle.scad_modules.specs.Transforms.{is_zero, is_past, in_steps, on_grid, some_part, leaves_plane, tilts_plane, translate_call, is_skew, quarters_of, turned, turns_of, rotate_call, is_alone, axis_of, mirror_call, factors_for, scale_call};
 ghost use Rattle.scad_modules.specs.View.{MeetsEffect, GivesSafe};
@@ -14,7 +13,7 @@ use crate::effects::Effect;
 use int_transform::Step;
 use plane_predicate::Unit;
 use scad_slots::{angles, coordinates, factors, is_given, required};
-use scad_value::{Value, ValueStop, product_of_two};
+use scad_value::{BoundedValue, ValueStop, product_of_two};
 use std::alloc::Global;
 use text_place::FaultKind;
 
@@ -24,12 +23,12 @@ pub(crate) fn translate(
     alloc: Global,
     unit: Unit,
     inside: bool,
-    slots: &[Option<Value>],
+    slots: &[Option<BoundedValue>],
 ) -> Result<Effect, ValueStop>
-    ensures effect { MeetsEffect result (translate_call unit inside (slots_of slots.now)) }
+    ensures effect { MeetsEffect result (translate_call unit inside (slots_in slots.now)) }
     ensures safe { GivesSafe result }
 {
-    let by = coordinates(required(slots, 0)?, 0).ok_or(FaultKind::TypeMismatch)?;
+    let by = coordinates(&required(slots, 0)?.value, 0).ok_or(FaultKind::TypeMismatch)?;
     if leaves_plane(inside, by) {
         return Err(ValueStop::Kind(FaultKind::WrongDimension));
     }
@@ -42,16 +41,16 @@ pub(crate) fn translate(
 pub(crate) fn rotate(
     alloc: Global,
     inside: bool,
-    slots: &[Option<Value>],
+    slots: &[Option<BoundedValue>],
 ) -> Result<Effect, ValueStop>
-    ensures effect { MeetsEffect result (rotate_call inside (slots_of slots.now)) }
+    ensures effect { MeetsEffect result (rotate_call inside (slots_in slots.now)) }
     ensures safe { GivesSafe result }
 {
     let angle = required(slots, 0)?;
     if is_given(slots, 1) {
         return Err(ValueStop::Kind(FaultKind::NotInProfile));
     }
-    let by = angles(angle).ok_or(FaultKind::TypeMismatch)?;
+    let by = angles(&angle.value).ok_or(FaultKind::TypeMismatch)?;
     if are_skew(by) {
         return Err(ValueStop::Kind(FaultKind::NotQuarter));
     }
@@ -66,12 +65,12 @@ pub(crate) fn rotate(
 pub(crate) fn mirror(
     alloc: Global,
     inside: bool,
-    slots: &[Option<Value>],
+    slots: &[Option<BoundedValue>],
 ) -> Result<Effect, ValueStop>
-    ensures effect { MeetsEffect result (mirror_call inside (slots_of slots.now)) }
+    ensures effect { MeetsEffect result (mirror_call inside (slots_in slots.now)) }
     ensures safe { GivesSafe result }
 {
-    let by = coordinates(required(slots, 0)?, 0).ok_or(FaultKind::TypeMismatch)?;
+    let by = coordinates(&required(slots, 0)?.value, 0).ok_or(FaultKind::TypeMismatch)?;
     let axis = axis_of(by).ok_or(FaultKind::NotInProfile)?;
     if is_across_plane(inside, axis) {
         return Err(ValueStop::Kind(FaultKind::WrongDimension));
@@ -83,13 +82,12 @@ pub(crate) fn mirror(
 pub(crate) fn scale(
     alloc: Global,
     inside: bool,
-    slots: &[Option<Value>],
+    slots: &[Option<BoundedValue>],
 ) -> Result<Effect, ValueStop>
-    requires { IsTrue (are_bounded (slots_of slots.now)) }
-    ensures effect { MeetsEffect result (scale_call inside (slots_of slots.now)) }
+    ensures effect { MeetsEffect result (scale_call inside (slots_in slots.now)) }
     ensures safe { GivesSafe result }
 {
-    let by = factors(required(slots, 0)?).ok_or(FaultKind::TypeMismatch)?;
+    let by = factors(&required(slots, 0)?.value).ok_or(FaultKind::TypeMismatch)?;
     if has_zero(by) {
         return Err(ValueStop::Kind(FaultKind::Singular));
     }

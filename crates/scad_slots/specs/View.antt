@@ -1,16 +1,22 @@
 -- The values of a call's slots in memory, and what the code's readers answer.
-use Rattle.std.specs.Prelude.{◌≡◌, List, map, Option, Some, None, option_map, Result, Ok, Err}
+use Rattle.std.specs.Prelude.{◌≡◌, List, map, Option, Some, None, Result, Ok, Err}
 use Rattle.text_place.specs.declared.fault.FaultKind.{FaultKind}
 use Rattle.text_place.specs.declared.fault.FaultKind.TheVariants.{TypeMismatch}
-use Rattle.scad_value.specs.declared.value.Value.{Value}
+use Rattle.scad_value.specs.declared.bounded_value.BoundedValue.{BoundedValue}
 use Rattle.scad_value.specs.declared.stop.ValueStop.{ValueStop}
 use Rattle.scad_value.specs.declared.stop.ValueStop.TheVariants.{Kind, NoMemory}
-use Rattle.scad_value.specs.View.{val_of}
+use Rattle.scad_value.specs.Values.{Val}
+use Rattle.scad_value.specs.BoundedView.{bounded_val}
 use Rattle.scad_slots.specs.Reading.{Slots}
 
+-- the value that a slot holds
+abbrev pub slot_of : Option BoundedValue → Option Val
+slot_of (Some value) = Some (bounded_val value)
+slot_of None = None
+
 -- the values that a call gives
-abbrev pub slots_of : List (Option Value) → Slots
-slots_of = map (option_map val_of)
+abbrev pub slots_in : List (Option BoundedValue) → Slots
+slots_in slots = map slot_of slots
 
 -- what was read, or TypeMismatch where there is none
 abbrev pub Reads : {A : Type 0} → Result A FaultKind → Option A → Type 0

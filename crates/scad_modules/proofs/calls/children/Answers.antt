@@ -1,8 +1,7 @@
-use Rattle.scad_slots.specs.View.{slots_of}
 use Rattle.scad_modules.specs.View.{chosen_of}
 use Rattle.scad_modules.proofs.Safe.{choice_safe}
 use Rattle.scad_modules.proofs.calls.children.Goals as goal
 
 pub returns-clause-safe : goal.returns-clause-safe
 returns-clause-safe c =
-    choice_safe (slots_of c.args.slots.now) (chosen_of c.in_ok-chosen.field-0) c.requires c.in_ok-chosen.ensures
+    choice_safe c.args.slots.now (chosen_of c.in_ok-chosen.field-0) c.in_ok-chosen.ensures
