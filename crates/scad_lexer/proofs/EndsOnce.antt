@@ -3,20 +3,20 @@ use Rattle.std.proofs.Common.{◌≡◌, ℕ, List, [], ◌∷◌, ◌-◌, ◌^
 use Rattle.std.specs.Global.{Vec}
 use Rattle.text_place.specs.declared.fault.Place.{Place}
 use Rattle.text_place.specs.declared.fault.Stop.{Stop}
-use Rattle.scad_lexer.specs.declared.token.Token.{Token as TokenIn}
+use Rattle.scad_lexer.specs.declared.token.Token.{Token}
 use Rattle.scad_lexer.specs.declared.token.Reserved.{Reserved}
 use Rattle.scad_lexer.specs.declared.word.Word.{Word}
-use Rattle.scad_lexer.specs.declared.word.Word.TheVariants.{Blank as BlankWord, OpenComment, Name, Special, Numeral, NumeralAndLetter, Text, OpenText, Symbol}
+use Rattle.scad_lexer.specs.declared.word.Word.TheVariants.{Blank, UnclosedComment, Name, Special, Numeral, NumeralAndLetter, Text, UnclosedText, Symbol}
 use Rattle.scad_lexer.specs.declared.meaning.WordMeaning.{WordMeaning}
-use Rattle.scad_lexer.specs.declared.meaning.WordMeaning.TheVariants.{Blank, Token, Fault}
+use Rattle.scad_lexer.specs.declared.meaning.WordMeaning.TheVariants.{NoToken, OneToken, BadWord}
 use Rattle.scad_lexer.specs.Words.{digit, run_of}
-use Rattle.scad_lexer.specs.Tokens.{LexOutcome, Gives, Faults, in_front, tokens_at, IsEnd, IsStray, IsFaulty, Piece, Reads, LexesFrom, meaning_of, name_or, reserved_of, zero_fraction, bounded, number_from, numeral_of, or_letter, text_from, decoded, inside, moved, is_end, ends_once}
+use Rattle.scad_lexer.specs.Tokens.{LexOutcome, GivesTokens, FaultAt, tokens_in_front, tokens_at, IsEnd, IsStray, IsFaulty, Piece, ReadsWords, LexesFrom, meaning_of, name_or, reserved_of, zero_fraction, bounded, number_from, numeral_of, or_letter, text_from, decoded, inside, moved, is_end, ends_once}
 
 -- what a word stands for is no end
 abbrev IsPlain : WordMeaning → Type 0
-IsPlain (Token k) = is_end k ≡ false
-IsPlain Blank = Unit {0}
-IsPlain (Fault k n) = Unit {0}
+IsPlain (OneToken k) = is_end k ≡ false
+IsPlain NoToken = Unit {0}
+IsPlain (BadWord k n) = Unit {0}
 
 plain_name : (w : List ℕ) (r : Option Reserved) → is_end (name_or w r) ≡ false
 plain_name w None = refl
@@ -32,49 +32,49 @@ plain_numeral w =
     (plain_cond (nat_lt (number_from 0 (take (run_of digit w) w)) (2 ^ 53)) _ _ refl tt) tt
 
 plain_letter : (m : WordMeaning) (at : ℕ) → IsPlain (or_letter m at)
-plain_letter (Token k) at = tt
-plain_letter Blank at = tt
-plain_letter (Fault k n) at = tt
+plain_letter (OneToken k) at = tt
+plain_letter NoToken at = tt
+plain_letter (BadWord k n) at = tt
 
 plain_text : (r : Result (List ℕ) ℕ) → IsPlain (text_from r)
 plain_text (Ok bs) = refl
 plain_text (Err at) = tt
 
 plain : (w : Word) (bytes : List ℕ) → IsPlain (meaning_of w bytes)
-plain BlankWord bytes = tt
-plain OpenComment bytes = tt
+plain Blank bytes = tt
+plain UnclosedComment bytes = tt
 plain Name bytes = plain_name bytes (reserved_of bytes)
 plain Special bytes = refl
 plain Numeral bytes = plain_numeral bytes
 plain NumeralAndLetter bytes = plain_letter (numeral_of (take (length bytes - 1) bytes)) (length bytes - 1)
 plain Text bytes = plain_text (decoded (inside bytes))
-plain OpenText bytes = tt
+plain UnclosedText bytes = tt
 plain (Symbol s) bytes = refl
 
 -- the tokens, where there are some, end once
 abbrev pub EndsOnce : LexOutcome → Type 0
-EndsOnce (Gives ts) = ends_once ts ≡ true
-EndsOnce (Faults k p) = Unit {0}
+EndsOnce (GivesTokens ts) = ends_once ts ≡ true
+EndsOnce (FaultAt k p) = Unit {0}
 
-more : (t : TokenIn) (ts : List TokenIn) → is_end t.kind ≡ false → ends_once ts ≡ true → ends_once (t ∷ ts) ≡ true
+more : (t : Token) (ts : List Token) → is_end t.kind ≡ false → ends_once ts ≡ true → ends_once (t ∷ ts) ≡ true
 more t [] h e = absurd (cc)
 more t (u ∷ ts) h e = ap (λ b. not b && ends_once (u ∷ ts)) h ∙ e
 
-more_tokens : (p : Place) (m : WordMeaning) (rest : LexOutcome) → IsPlain m → EndsOnce rest → EndsOnce (in_front (tokens_at p m) rest)
-more_tokens p (Token k) (Gives us) h e = more (record { kind = k; place = p }) us h e
-more_tokens p Blank (Gives us) h e = e
-more_tokens p (Fault k n) (Gives us) h e = e
-more_tokens p m (Faults k q) h e = tt
+more_tokens : (p : Place) (m : WordMeaning) (rest : LexOutcome) → IsPlain m → EndsOnce rest → EndsOnce (tokens_in_front (tokens_at p m) rest)
+more_tokens p (OneToken k) (GivesTokens us) h e = more (record { kind = k; place = p }) us h e
+more_tokens p NoToken (GivesTokens us) h e = e
+more_tokens p (BadWord k n) (GivesTokens us) h e = e
+more_tokens p m (FaultAt k q) h e = tt
 
 last : (p : Place) (text : List ℕ) (o : LexOutcome) → (IsEnd p text o ⊎ (IsStray p text o ⊎ IsFaulty p text o)) → EndsOnce o
 last p text o (inl a) = subst EndsOnce (sym a.1) refl
 last p text o (inr (inl a)) = subst EndsOnce (sym a.2) tt
 last p text o (inr (inr a)) = subst EndsOnce (sym a.outcome) tt
 
-pub reads_end : (pieces : List Piece) (p : Place) (text : List ℕ) (o : LexOutcome) → Reads pieces p text o → EndsOnce o
+pub reads_end : (pieces : List Piece) (p : Place) (text : List ℕ) (o : LexOutcome) → ReadsWords pieces p text o → EndsOnce o
 reads_end [] p text o h = last p text o h
 reads_end (x ∷ xs) p text o h = subst EndsOnce (sym h.2.2) (more_tokens p (meaning_of x.word (take x.bytes text)) h.2.0 (plain x.word (take x.bytes text)) (reads_end xs (moved p (take x.bytes text)) (drop x.bytes text) h.2.0 h.2.1))
 
-pub end_once : (p : Place) (text : List ℕ) (r : Result (Vec TokenIn) Stop) → IfOk r (λ ts. LexesFrom p text (Gives ts.items)) → IfOk r (λ ts. ends_once ts.items ≡ true)
-end_once p text (Ok ts) h = reads_end h.0 p text (Gives ts.items) h.1
+pub end_once : (p : Place) (text : List ℕ) (r : Result (Vec Token) Stop) → IfOk r (λ ts. LexesFrom p text (GivesTokens ts.items)) → IfOk r (λ ts. ends_once ts.items ≡ true)
+end_once p text (Ok ts) h = reads_end h.0 p text (GivesTokens ts.items) h.1
 end_once p text (Err e) h = tt

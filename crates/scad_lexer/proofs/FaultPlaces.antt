@@ -4,22 +4,22 @@ use Rattle.std.proofs.lemmas.List.{take-append-drop}
 use Rattle.std.specs.Global.{Vec}
 use Rattle.text_place.specs.declared.fault.Place.{Place}
 use Rattle.text_place.specs.declared.fault.Stop.{Stop}
-use Rattle.text_place.specs.declared.fault.Stop.TheVariants.{Fault as StopFault, NoMemory}
-use Rattle.scad_lexer.specs.declared.token.Token.{Token as TokenIn}
+use Rattle.text_place.specs.declared.fault.Stop.TheVariants.{Fault, NoMemory}
+use Rattle.scad_lexer.specs.declared.token.Token.{Token}
 use Rattle.scad_lexer.specs.declared.class.ByteClass.TheVariants.{Printable}
 use Rattle.scad_lexer.specs.declared.word.Word.{Word}
-use Rattle.scad_lexer.specs.declared.word.Word.TheVariants.{Blank as BlankWord, OpenComment, Name, Special, Numeral, NumeralAndLetter, Text, OpenText, Symbol}
+use Rattle.scad_lexer.specs.declared.word.Word.TheVariants.{Blank, UnclosedComment, Name, Special, Numeral, NumeralAndLetter, Text, UnclosedText, Symbol}
 use Rattle.scad_lexer.specs.declared.meaning.WordMeaning.{WordMeaning}
-use Rattle.scad_lexer.specs.declared.meaning.WordMeaning.TheVariants.{Blank, Token, Fault}
+use Rattle.scad_lexer.specs.declared.meaning.WordMeaning.TheVariants.{NoToken, OneToken, BadWord}
 use Rattle.scad_lexer.specs.Words.{has, digit, run_of}
-use Rattle.scad_lexer.specs.Tokens.{zero_fraction, number_from, bounded, numeral_of, or_letter, escape_at, with_byte, with_escape, decoded, decoded_escape, inside, text_from, meaning_of, moved, LexOutcome, Gives, Faults, in_front, tokens_at, IsEnd, IsStray, IsFaulty, Piece, Reads, IsFault, IsPlaceOfByteFrom, StandsAtByte}
+use Rattle.scad_lexer.specs.Tokens.{zero_fraction, number_from, bounded, numeral_of, or_letter, escape_at, with_byte, with_escape, decoded, decoded_escape, inside, text_from, meaning_of, moved, LexOutcome, GivesTokens, FaultAt, tokens_in_front, tokens_at, IsEnd, IsStray, IsFaulty, Piece, ReadsWords, IsLexStop, IsPlaceOfByteFrom, StandsAtByte}
 use Rattle.scad_lexer.proofs.Lengths.{some_bytes}
 
 -- ---- a fault of a word stands before one of its bytes
 abbrev IsInside : ℕ → WordMeaning → Type 0
-IsInside n (Fault k before) = before < n
-IsInside n Blank = Unit {0}
-IsInside n (Token k) = Unit {0}
+IsInside n (BadWord k before) = before < n
+IsInside n NoToken = Unit {0}
+IsInside n (OneToken k) = Unit {0}
 
 inside_cond : (n : ℕ) (b : Bool) (m o : WordMeaning) → IsInside n m → IsInside n o → IsInside n (cond b m o)
 inside_cond n true m o h k = h
@@ -31,9 +31,9 @@ inside_numeral n w some =
     (inside_cond n (nat_lt (number_from 0 (take (run_of digit w) w)) (2 ^ 53)) _ _ tt (omega (arith, some))) (omega (arith, some))
 
 inside_letter : (n : ℕ) (m : WordMeaning) (at : ℕ) → at < n → IsInside n m → IsInside n (or_letter m at)
-inside_letter n (Fault k before) at l h = h
-inside_letter n Blank at l h = l
-inside_letter n (Token k) at l h = l
+inside_letter n (BadWord k before) at l h = h
+inside_letter n NoToken at l h = l
+inside_letter n (OneToken k) at l h = l
 
 -- a text's first fault has a byte
 abbrev HasByte : ℕ → Result (List ℕ) ℕ → Type 0
@@ -76,8 +76,8 @@ inside_text n m (Ok bs) l h = tt
 inside_text n m (Err at) l h = omega (arith, l, h)
 
 inside_word : (w : Word) (bytes : List ℕ) → 1 ≤ length bytes → IsInside (length bytes) (meaning_of w bytes)
-inside_word BlankWord bytes some = tt
-inside_word OpenComment bytes some = omega (arith, some)
+inside_word Blank bytes some = tt
+inside_word UnclosedComment bytes some = omega (arith, some)
 inside_word Name bytes some = tt
 inside_word Special bytes some = tt
 inside_word Numeral bytes some = inside_numeral (length bytes) bytes some
@@ -85,7 +85,7 @@ inside_word NumeralAndLetter bytes some =
     inside_letter (length bytes) (numeral_of (take (length bytes - 1) bytes)) (length bytes - 1) (omega (arith, some))
     (inside_numeral (length bytes) (take (length bytes - 1) bytes) some)
 inside_word Text bytes some = inside_text (length bytes) (length (inside bytes)) (decoded (inside bytes)) (inside_length bytes) (text_byte (inside bytes))
-inside_word OpenText bytes some = omega (arith, some)
+inside_word UnclosedText bytes some = omega (arith, some)
 inside_word (Symbol s) bytes some = tt
 
 -- ---- places of bytes
@@ -109,8 +109,8 @@ byte_further p n text at h = (
 
 -- ---- what a text gives
 abbrev FaultsAtByte : Place → List ℕ → LexOutcome → Type 0
-FaultsAtByte p text (Gives ts) = Unit {0}
-FaultsAtByte p text (Faults k at) = IsPlaceOfByteFrom p text at
+FaultsAtByte p text (GivesTokens ts) = Unit {0}
+FaultsAtByte p text (FaultAt k at) = IsPlaceOfByteFrom p text at
 
 some_text : (text : List ℕ) → (text ≡ [] → ⊥) → 1 ≤ length text
 some_text [] h = absurd (h refl)
@@ -129,18 +129,18 @@ last_byte p text o (inl a) = subst (FaultsAtByte p text) (sym a.1) tt
 last_byte p text o (inr (inl a)) = subst (FaultsAtByte p text) (sym a.2) (first_byte p text (some_text text a.0))
 last_byte p text o (inr (inr a)) = faulty_byte p text o a
 
-further : (p : Place) (n : ℕ) (text : List ℕ) (ts : List TokenIn) (o : LexOutcome) → FaultsAtByte (moved p (take n text)) (drop n text) o → FaultsAtByte p text (in_front ts o)
-further p n text ts (Gives us) h = tt
-further p n text ts (Faults k at) h = byte_further p n text at h
+further : (p : Place) (n : ℕ) (text : List ℕ) (ts : List Token) (o : LexOutcome) → FaultsAtByte (moved p (take n text)) (drop n text) o → FaultsAtByte p text (tokens_in_front ts o)
+further p n text ts (GivesTokens us) h = tt
+further p n text ts (FaultAt k at) h = byte_further p n text at h
 
-reads_byte : (pieces : List Piece) (p : Place) (text : List ℕ) (o : LexOutcome) → Reads pieces p text o → FaultsAtByte p text o
+reads_byte : (pieces : List Piece) (p : Place) (text : List ℕ) (o : LexOutcome) → ReadsWords pieces p text o → FaultsAtByte p text o
 reads_byte [] p text o h = last_byte p text o h
 reads_byte (x ∷ xs) p text o h =
     subst (FaultsAtByte p text) (sym h.2.2)
     (further p x.bytes text (tokens_at p (meaning_of x.word (take x.bytes text))) h.2.0
     (reads_byte xs (moved p (take x.bytes text)) (drop x.bytes text) h.2.0 h.2.1))
 
-pub stands_at_byte : (text : List ℕ) (r : Result (Vec TokenIn) Stop) → IfErr r (λ stop. IsFault text stop) → IfErr r (λ stop. StandsAtByte text stop)
+pub stands_at_byte : (text : List ℕ) (r : Result (Vec Token) Stop) → IfErr r (λ stop. IsLexStop text stop) → IfErr r (λ stop. StandsAtByte text stop)
 stands_at_byte text (Ok ts) h = tt
-stands_at_byte text (Err (StopFault f)) h = reads_byte h.0 (record { line = 1; column = 1 }) text (Faults f.kind f.place) h.1
+stands_at_byte text (Err (Fault f)) h = reads_byte h.0 (record { line = 1; column = 1 }) text (FaultAt f.kind f.place) h.1
 stands_at_byte text (Err NoMemory) h = tt

@@ -3,38 +3,38 @@ use Rattle.std.proofs.Common.{◌≡◌, ℕ, zero, suc, ◌+◌, ◌≤◌, Lis
 use Rattle.std.specs.Global.{Vec}
 use Rattle.text_place.specs.declared.fault.Place.{Place}
 use Rattle.text_place.specs.declared.fault.Stop.{Stop}
-use Rattle.scad_lexer.specs.declared.token.Token.{Token as TokenIn}
+use Rattle.scad_lexer.specs.declared.token.Token.{Token}
 use Rattle.scad_lexer.specs.declared.word.Word.{Word}
 use Rattle.scad_lexer.specs.declared.meaning.WordMeaning.{WordMeaning}
-use Rattle.scad_lexer.specs.declared.meaning.WordMeaning.TheVariants.{Blank, Token, Fault}
+use Rattle.scad_lexer.specs.declared.meaning.WordMeaning.TheVariants.{NoToken, OneToken, BadWord}
 use Rattle.scad_lexer.specs.Words.{word_of}
-use Rattle.scad_lexer.specs.Tokens.{LexOutcome, Gives, Faults, in_front, tokens_at, IsEnd, IsStray, IsFaulty, Piece, Reads, LexesFrom, meaning_of, moved}
+use Rattle.scad_lexer.specs.Tokens.{LexOutcome, GivesTokens, FaultAt, tokens_in_front, tokens_at, IsEnd, IsStray, IsFaulty, Piece, ReadsWords, LexesFrom, meaning_of, moved}
 
 abbrev HasFew : ℕ → LexOutcome → Type 0
-HasFew n (Gives ts) = length ts ≤ n + 1
-HasFew n (Faults k p) = Unit {0}
+HasFew n (GivesTokens ts) = length ts ≤ n + 1
+HasFew n (FaultAt k p) = Unit {0}
 
 last : (p : Place) (text : List ℕ) (o : LexOutcome) → (IsEnd p text o ⊎ (IsStray p text o ⊎ IsFaulty p text o)) → HasFew (length text) o
 last p text o (inl a) = subst (HasFew (length text)) (sym a.1) (omega arith)
 last p text o (inr (inl a)) = subst (HasFew (length text)) (sym a.2) tt
 last p text o (inr (inr a)) = subst (HasFew (length text)) (sym a.outcome) tt
 
-one_more : (p : Place) (m : WordMeaning) (n : ℕ) (rest : LexOutcome) → HasFew n rest → HasFew (suc n) (in_front (tokens_at p m) rest)
-one_more p (Token k) n (Gives us) h = omega (arith, h)
-one_more p Blank n (Gives us) h = omega (arith, h)
-one_more p (Fault k m) n (Gives us) h = omega (arith, h)
-one_more p m n (Faults k q) h = tt
+one_more : (p : Place) (m : WordMeaning) (n : ℕ) (rest : LexOutcome) → HasFew n rest → HasFew (suc n) (tokens_in_front (tokens_at p m) rest)
+one_more p (OneToken k) n (GivesTokens us) h = omega (arith, h)
+one_more p NoToken n (GivesTokens us) h = omega (arith, h)
+one_more p (BadWord k m) n (GivesTokens us) h = omega (arith, h)
+one_more p m n (FaultAt k q) h = tt
 
 fewer : (n m : ℕ) (o : LexOutcome) → n ≤ m → HasFew n o → HasFew m o
-fewer n m (Gives ts) l h = omega (arith, l, h)
-fewer n m (Faults k p) l h = tt
+fewer n m (GivesTokens ts) l h = omega (arith, l, h)
+fewer n m (FaultAt k p) l h = tt
 
 -- a word has bytes
 pub some_bytes : (text : List ℕ) (n : ℕ) (word : Word) → word_of (take n text) ≡ Some word → 1 ≤ n
 some_bytes text zero word e = absurd (let f : ◌≡◌ {A = Option Word} None (Some word) = e in cc)
 some_bytes text (suc n) word e = omega arith
 
-reads_few : (pieces : List Piece) (p : Place) (text : List ℕ) (o : LexOutcome) → Reads pieces p text o → HasFew (length text) o
+reads_few : (pieces : List Piece) (p : Place) (text : List ℕ) (o : LexOutcome) → ReadsWords pieces p text o → HasFew (length text) o
 reads_few [] p text o h = last p text o h
 reads_few (x ∷ xs) p text o h =
     let some = some_bytes text x.bytes x.word h.0.found in
@@ -43,6 +43,6 @@ reads_few (x ∷ xs) p text o h =
     (fewer (suc (length (drop x.bytes text))) (length text) _ (omega (arith, some, rest, h.0.within))
     (one_more p (meaning_of x.word (take x.bytes text)) (length (drop x.bytes text)) h.2.0 (reads_few xs (moved p (take x.bytes text)) (drop x.bytes text) h.2.0 h.2.1)))
 
-pub few_tokens : (p : Place) (text : List ℕ) (r : Result (Vec TokenIn) Stop) → IfOk r (λ ts. LexesFrom p text (Gives ts.items)) → IfOk r (λ ts. length ts.items ≤ length text + 1)
-few_tokens p text (Ok ts) h = reads_few h.0 p text (Gives ts.items) h.1
+pub few_tokens : (p : Place) (text : List ℕ) (r : Result (Vec Token) Stop) → IfOk r (λ ts. LexesFrom p text (GivesTokens ts.items)) → IfOk r (λ ts. length ts.items ≤ length text + 1)
+few_tokens p text (Ok ts) h = reads_few h.0 p text (GivesTokens ts.items) h.1
 few_tokens p text (Err e) h = tt

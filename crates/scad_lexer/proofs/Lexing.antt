@@ -6,17 +6,17 @@ use Rattle.text_place.specs.declared.fault.Place.{Place}
 use Rattle.text_place.specs.declared.fault.FaultKind.{FaultKind}
 use Rattle.text_place.specs.declared.fault.FaultKind.TheVariants.{BadCharacter}
 use Rattle.text_place.specs.declared.fault.Stop.{Stop}
-use Rattle.text_place.specs.declared.fault.Stop.TheVariants.{Fault as StopFault, NoMemory}
-use Rattle.scad_lexer.specs.declared.token.Token.{Token as TokenIn}
+use Rattle.text_place.specs.declared.fault.Stop.TheVariants.{Fault, NoMemory}
+use Rattle.scad_lexer.specs.declared.token.Token.{Token}
 use Rattle.scad_lexer.specs.declared.token.TokenKind.{TokenKind}
 use Rattle.scad_lexer.specs.declared.token.TokenKind.TheVariants.{End}
 use Rattle.scad_lexer.specs.declared.token.Symbol.{Symbol}
 use Rattle.scad_lexer.specs.declared.word.Word.{Word}
 use Rattle.scad_lexer.specs.declared.word.Word.TheVariants.{Symbol as SymbolWord}
 use Rattle.scad_lexer.specs.declared.meaning.WordMeaning.{WordMeaning}
-use Rattle.scad_lexer.specs.declared.meaning.WordMeaning.TheVariants.{Blank, Token, Fault}
+use Rattle.scad_lexer.specs.declared.meaning.WordMeaning.TheVariants.{NoToken, OneToken, BadWord}
 use Rattle.scad_lexer.specs.Words.{word_from, word_of, IsLongest, HasNoWord}
-use Rattle.scad_lexer.specs.Tokens.{LexOutcome, Gives, Faults, in_front, tokens_at, IsSound, IsEnd, IsStray, IsFaulty, Piece, Reads, LexesFrom, Lexes, IsFaultFrom, IsFault, Agrees, meaning_of, moved, AppendsNext}
+use Rattle.scad_lexer.specs.Tokens.{LexOutcome, GivesTokens, FaultAt, tokens_in_front, tokens_at, IsFaultless, IsEnd, IsStray, IsFaulty, Piece, ReadsWords, LexesFrom, Lexes, IsLexStopFrom, IsLexStop, Agrees, meaning_of, moved, AppendsNext}
 use Rattle.scad_lexer.proofs.Longest.{drop_more}
 use Rattle.scad_lexer.proofs.Scanned.{rest_all}
 
@@ -48,80 +48,80 @@ last_once p text o q (inr (inr a)) (inl b) = absurd (empty_longest text a.length
 last_once p text o q (inr (inr a)) (inr (inl b)) = absurd (b.1 a.length a.word a.longest.within a.longest.found)
 last_once p text o q (inr (inr a)) (inr (inr b)) =
     let one = longest_once text a.length b.length a.word b.word a.longest b.longest in
-    let means : Fault a.kind a.before ≡ Fault b.kind b.before = sym a.means ∙ ap (λ n. meaning_of a.word (take n text)) one.0 ∙ ap (λ w. meaning_of w (take b.length text)) one.1 ∙ b.means in
+    let means : BadWord a.kind a.before ≡ BadWord b.kind b.before = sym a.means ∙ ap (λ n. meaning_of a.word (take n text)) one.0 ∙ ap (λ w. meaning_of w (take b.length text)) one.1 ∙ b.means in
     let kind : a.kind ≡ b.kind = cc in
     let before : a.before ≡ b.before = cc in
-    a.outcome ∙ ap (λ k. Faults k (moved p (take a.before text))) kind ∙ ap (λ n. Faults b.kind (moved p (take n text))) before ∙ sym b.outcome
+    a.outcome ∙ ap (λ k. FaultAt k (moved p (take a.before text))) kind ∙ ap (λ n. FaultAt b.kind (moved p (take n text))) before ∙ sym b.outcome
 
-fault_unsound : (m : WordMeaning) (k : FaultKind) (n : ℕ) → m ≡ Fault k n → IsSound m → ⊥
-fault_unsound (Fault k n) j i e h = h
-fault_unsound Blank j i e h = absurd (cc)
-fault_unsound (Token k) j i e h = absurd (cc)
+fault_unsound : (m : WordMeaning) (k : FaultKind) (n : ℕ) → m ≡ BadWord k n → IsFaultless m → ⊥
+fault_unsound (BadWord k n) j i e h = h
+fault_unsound NoToken j i e h = absurd (cc)
+fault_unsound (OneToken k) j i e h = absurd (cc)
 
 -- a word with no fault is no last thing
-not_last : (p : Place) (text : List ℕ) (o : LexOutcome) (n : ℕ) (w : Word) → (IsEnd p text o ⊎ (IsStray p text o ⊎ IsFaulty p text o)) → IsLongest text n w → IsSound (meaning_of w (take n text)) → ⊥
+not_last : (p : Place) (text : List ℕ) (o : LexOutcome) (n : ℕ) (w : Word) → (IsEnd p text o ⊎ (IsStray p text o ⊎ IsFaulty p text o)) → IsLongest text n w → IsFaultless (meaning_of w (take n text)) → ⊥
 not_last p text o n w (inl a) h s = empty_longest text n w a.0 h
 not_last p text o n w (inr (inl a)) h s = a.1 n w h.within h.found
 not_last p text o n w (inr (inr a)) h s =
     let one = longest_once text a.length n a.word w a.longest h in
     fault_unsound (meaning_of w (take n text)) a.kind a.before (sym (ap (λ n. meaning_of a.word (take n text)) one.0 ∙ ap (λ w. meaning_of w (take n text)) one.1) ∙ a.means) s
 
-pub reads_once : (xs ys : List Piece) (p : Place) (text : List ℕ) (o q : LexOutcome) → Reads xs p text o → Reads ys p text q → o ≡ q
+pub reads_once : (xs ys : List Piece) (p : Place) (text : List ℕ) (o q : LexOutcome) → ReadsWords xs p text o → ReadsWords ys p text q → o ≡ q
 reads_once [] [] p text o q a b = last_once p text o q a b
 reads_once [] (y ∷ ys) p text o q a b = absurd (not_last p text o y.bytes y.word a b.0 b.1)
 reads_once (x ∷ xs) [] p text o q a b = absurd (not_last p text q x.bytes x.word b a.0 a.1)
 reads_once (x ∷ xs) (y ∷ ys) p text o q a b =
     let one = longest_once text x.bytes y.bytes x.word y.word a.0 b.0 in
-    let next : Reads ys (moved p (take x.bytes text)) (drop x.bytes text) b.2.0 = subst (λ n. Reads ys (moved p (take n text)) (drop n text) b.2.0) (sym one.0) b.2.1 in
+    let next : ReadsWords ys (moved p (take x.bytes text)) (drop x.bytes text) b.2.0 = subst (λ n. ReadsWords ys (moved p (take n text)) (drop n text) b.2.0) (sym one.0) b.2.1 in
     let rest : a.2.0 ≡ b.2.0 = reads_once xs ys (moved p (take x.bytes text)) (drop x.bytes text) a.2.0 b.2.0 a.2.1 next in
-    a.2.2 ∙ ap (in_front (tokens_at p (meaning_of x.word (take x.bytes text)))) rest
-    ∙ ap (λ n. in_front (tokens_at p (meaning_of x.word (take n text))) b.2.0) one.0 ∙ ap (λ w. in_front (tokens_at p (meaning_of w (take y.bytes text))) b.2.0) one.1 ∙ sym b.2.2
+    a.2.2 ∙ ap (tokens_in_front (tokens_at p (meaning_of x.word (take x.bytes text)))) rest
+    ∙ ap (λ n. tokens_in_front (tokens_at p (meaning_of x.word (take n text))) b.2.0) one.0 ∙ ap (λ w. tokens_in_front (tokens_at p (meaning_of w (take y.bytes text))) b.2.0) one.1 ∙ sym b.2.2
 
 -- a whole text gives one thing
 pub one_outcome : (text : List ℕ) (o q : LexOutcome) → Lexes text o → Lexes text q → o ≡ q
 one_outcome text o q h g = reads_once h.0 g.0 (record { line = 1; column = 1 }) text o q h.1 g.1
 
 -- the first thing that was found is the only one
-pub agrees : (text : List ℕ) (r : Result (Vec TokenIn) Stop) → IfOk r (λ ts. Lexes text (Gives ts.items)) → IfErr r (λ stop. IsFault text stop) → (o : LexOutcome) → Lexes text o → Agrees r o
-agrees text (Ok ts) f e o h = reads_once h.0 f.0 _ text o (Gives ts.items) h.1 f.1
-agrees text (Err (StopFault x)) f e o h = reads_once h.0 e.0 _ text o (Faults x.kind x.place) h.1 e.1
+pub agrees : (text : List ℕ) (r : Result (Vec Token) Stop) → IfOk r (λ ts. Lexes text (GivesTokens ts.items)) → IfErr r (λ stop. IsLexStop text stop) → (o : LexOutcome) → Lexes text o → Agrees r o
+agrees text (Ok ts) f e o h = reads_once h.0 f.0 _ text o (GivesTokens ts.items) h.1 f.1
+agrees text (Err (Fault x)) f e o h = reads_once h.0 e.0 _ text o (FaultAt x.kind x.place) h.1 e.1
 agrees text (Err NoMemory) f e o h = tt
 
-in_front_twice : (ts us : List TokenIn) (o : LexOutcome) → in_front ts (in_front us o) ≡ in_front (ts ++ us) o
-in_front_twice ts us (Gives vs) = ap Gives (sym (append_assoc ts us vs))
-in_front_twice ts us (Faults k p) = refl
+in_front_twice : (ts us : List Token) (o : LexOutcome) → tokens_in_front ts (tokens_in_front us o) ≡ tokens_in_front (ts ++ us) o
+in_front_twice ts us (GivesTokens vs) = ap GivesTokens (sym (append_assoc ts us vs))
+in_front_twice ts us (FaultAt k p) = refl
 
 -- what holds of what was read so far
-abbrev pub GoesOn : List ℕ → List TokenIn → Place → List ℕ → Type 0
-GoesOn text ts p rest = (o : LexOutcome) → LexesFrom p rest o → Lexes text (in_front ts o)
+abbrev pub GoesOn : List ℕ → List Token → Place → List ℕ → Type 0
+GoesOn text ts p rest = (o : LexOutcome) → LexesFrom p rest o → Lexes text (tokens_in_front ts o)
 
 pub goes_first : (text : List ℕ) → GoesOn text [] (record { line = 1; column = 1 }) text
-goes_first text (Gives ts) h = h
-goes_first text (Faults k p) h = h
+goes_first text (GivesTokens ts) h = h
+goes_first text (FaultAt k p) h = h
 
 -- one word more
-pub goes_on : (text : List ℕ) (ts us : List TokenIn) (p : Place) (rest : List ℕ) (n : ℕ) → GoesOn text ts p rest → AppendsNext ts us p rest n → GoesOn text us (moved p (take n rest)) (take (length rest - n) (drop n rest))
+pub goes_on : (text : List ℕ) (ts us : List Token) (p : Place) (rest : List ℕ) (n : ℕ) → GoesOn text ts p rest → AppendsNext ts us p rest n → GoesOn text us (moved p (take n rest)) (take (length rest - n) (drop n rest))
 goes_on text ts us p rest n told next o h =
-    let made : List TokenIn = tokens_at p (meaning_of next.word (take n rest)) in
-    let here : Reads h.0 (moved p (take n rest)) (drop n rest) o = subst (λ l. Reads h.0 (moved p (take n rest)) l o) (rest_all rest n) h.1 in
-    subst (λ l. Lexes text (in_front l o)) (sym next.appended)
+    let made : List Token = tokens_at p (meaning_of next.word (take n rest)) in
+    let here : ReadsWords h.0 (moved p (take n rest)) (drop n rest) o = subst (λ l. ReadsWords h.0 (moved p (take n rest)) l o) (rest_all rest n) h.1 in
+    subst (λ l. Lexes text (tokens_in_front l o)) (sym next.appended)
     (subst (Lexes text) (in_front_twice ts made o)
-    (told (in_front made o) (record { bytes = n; word = next.word } ∷ h.0, (next.longest, next.sound, (o, here, refl)))))
+    (told (tokens_in_front made o) (record { bytes = n; word = next.word } ∷ h.0, (next.longest, next.sound, (o, here, refl)))))
 
-pub goes_end : (text : List ℕ) (ts : List TokenIn) (p : Place) (rest : List ℕ) → GoesOn text ts p rest → length rest ≡ 0 → Lexes text (Gives (ts ++ record { kind = End; place = p } ∷ []))
-goes_end text ts p [] told e = told (Gives (record { kind = End; place = p } ∷ [])) ([], inl (refl, refl))
+pub goes_end : (text : List ℕ) (ts : List Token) (p : Place) (rest : List ℕ) → GoesOn text ts p rest → length rest ≡ 0 → Lexes text (GivesTokens (ts ++ record { kind = End; place = p } ∷ []))
+goes_end text ts p [] told e = told (GivesTokens (record { kind = End; place = p } ∷ [])) ([], inl (refl, refl))
 goes_end text ts p (b ∷ rest) told e = absurd (omega arith)
 
-pub goes_fault : (text : List ℕ) (ts : List TokenIn) (p : Place) (rest : List ℕ) (stop : Stop) → GoesOn text ts p rest → IsFaultFrom p rest stop → IsFault text stop
-goes_fault text ts p rest (StopFault x) told h = told (Faults x.kind x.place) h
+pub goes_fault : (text : List ℕ) (ts : List Token) (p : Place) (rest : List ℕ) (stop : Stop) → GoesOn text ts p rest → IsLexStopFrom p rest stop → IsLexStop text stop
+goes_fault text ts p rest (Fault x) told h = told (FaultAt x.kind x.place) h
 goes_fault text ts p rest NoMemory told h = tt
 
 -- one word
-pub stray : (p : Place) (text : List ℕ) → 1 ≤ length text → HasNoWord text → LexesFrom p text (Faults BadCharacter p)
+pub stray : (p : Place) (text : List ℕ) → 1 ≤ length text → HasNoWord text → LexesFrom p text (FaultAt BadCharacter p)
 stray p [] some h = absurd (omega arith)
 stray p (b ∷ t) some h = ([], inr (inl ((λ e. cc), h, refl)))
 
-pub faulty : (p : Place) (text : List ℕ) (n : ℕ) (w : Word) (k : FaultKind) (m : ℕ) → IsLongest text n w → Fault k m ≡ meaning_of w (take n text) → LexesFrom p text (Faults k (moved p (take m text)))
+pub faulty : (p : Place) (text : List ℕ) (n : ℕ) (w : Word) (k : FaultKind) (m : ℕ) → IsLongest text n w → BadWord k m ≡ meaning_of w (take n text) → LexesFrom p text (FaultAt k (moved p (take m text)))
 faulty p text n w k m h e = ([], inr (inr (record { length = n; word = w; kind = k; before = m; longest = h; means = sym e; outcome = refl })))
 
 pub word_some : (text : List ℕ) (n : ℕ) (w : Word) → IsLongest text n w → 1 ≤ n
@@ -129,11 +129,11 @@ word_some text zero w h = absurd (let e = h.found in cc)
 word_some text (suc n) w h = omega arith
 
 -- a word that makes no token, and one that makes one
-pub appends_none : (text : List ℕ) (ts : List TokenIn) (p : Place) (n : ℕ) (w : Word) → IsLongest text n w → Blank ≡ meaning_of w (take n text) → AppendsNext ts ts p text n
-appends_none text ts p n w h e = record { word = w; longest = h; sound = subst IsSound e tt; appended = sym (append-nil ts) ∙ ap (λ m. ts ++ tokens_at p m) e; some = word_some text n w h }
+pub appends_none : (text : List ℕ) (ts : List Token) (p : Place) (n : ℕ) (w : Word) → IsLongest text n w → NoToken ≡ meaning_of w (take n text) → AppendsNext ts ts p text n
+appends_none text ts p n w h e = record { word = w; longest = h; sound = subst IsFaultless e tt; appended = sym (append-nil ts) ∙ ap (λ m. ts ++ tokens_at p m) e; some = word_some text n w h }
 
-pub appends_one : (text : List ℕ) (ts us : List TokenIn) (p : Place) (n : ℕ) (w : Word) (kind : TokenKind) → IsLongest text n w → Token kind ≡ meaning_of w (take n text) → us ≡ ts ++ record { kind = kind; place = p } ∷ [] → AppendsNext ts us p text n
-appends_one text ts us p n w kind h e made = record { word = w; longest = h; sound = subst IsSound e tt; appended = made ∙ ap (λ m. ts ++ tokens_at p m) e; some = word_some text n w h }
+pub appends_one : (text : List ℕ) (ts us : List Token) (p : Place) (n : ℕ) (w : Word) (kind : TokenKind) → IsLongest text n w → OneToken kind ≡ meaning_of w (take n text) → us ≡ ts ++ record { kind = kind; place = p } ∷ [] → AppendsNext ts us p text n
+appends_one text ts us p n w kind h e made = record { word = w; longest = h; sound = subst IsFaultless e tt; appended = made ∙ ap (λ m. ts ++ tokens_at p m) e; some = word_some text n w h }
 
 pub taken_some : (text : List ℕ) (n : ℕ) (w : Word) → IsLongest text n w → 1 ≤ length (take n text)
 taken_some text n w h = omega (arith, word_some text n w h, length-take-le n text h.within)

@@ -6,7 +6,7 @@ use Rattle.scad_lexer.specs.declared.class.ByteClass.TheVariants.{InLine, Expone
 use Rattle.scad_lexer.specs.declared.token.Symbol.{Symbol}
 use Rattle.scad_lexer.specs.declared.token.Symbol.TheVariants.{Dot, Divide}
 use Rattle.scad_lexer.specs.declared.word.Word.{Word}
-use Rattle.scad_lexer.specs.declared.word.Word.TheVariants.{Blank, OpenComment, Name, Special, Numeral, NumeralAndLetter, Text, OpenText, Symbol as SymbolWord}
+use Rattle.scad_lexer.specs.declared.word.Word.TheVariants.{Blank, UnclosedComment, Name, Special, Numeral, NumeralAndLetter, Text, UnclosedText, Symbol as SymbolWord}
 use Rattle.scad_lexer.specs.Words.{has, digit, letter, blank, name_byte, begins_with, run_of, every, when, alone, with_bytes, more_bytes, one_longer, longest, in_whole, in_fraction, number_end, exponent, after_sign, in_exponent, after_point, after_dollar, after_slash, in_comment, after_star, in_text, in_escape, single, double, double_of, symbol_word, symbol_of, word_from, IsLongest, HasNoWord}
 use Rattle.scad_lexer.proofs.Longest.{longest_end, longest_step, longest_taken, longest_stop, longest_alone, longest_some, longest_same, longest_every, run_then, behind_run, drop_more, longest_is, longest_isnt}
 
@@ -275,12 +275,12 @@ comment_state s w = cond s (after_star w) (in_comment w)
 abbrev pub text_state : Bool → List ℕ → Option Word
 text_state s w = cond s (in_escape w) (in_text w)
 
-state_open : (s : Bool) → comment_state s [] ≡ Some OpenComment
+state_open : (s : Bool) → comment_state s [] ≡ Some UnclosedComment
 unfolding in_comment after_star
 state_open true = refl
 state_open false = refl
 
-text_open : (s : Bool) → text_state s [] ≡ Some OpenText
+text_open : (s : Bool) → text_state s [] ≡ Some UnclosedText
 unfolding in_text in_escape
 text_open true = refl
 text_open false = refl
@@ -293,7 +293,7 @@ comment_go false b w e = refl
 pub comment_more : (t : List ℕ) (r : Option (Word × ℕ)) (s : Bool) (n : ℕ) → n < length t → r ≡ more_bytes n (longest (comment_state s) (drop n t)) → (s && nat_eq (get_or t n 0) 47) ≡ false → r ≡ more_bytes (n + 1) (longest (comment_state (nat_eq (get_or t n 0) 42)) (drop (n + 1) t))
 comment_more t r s n l h e =
     h ∙ ap (λ u. more_bytes n (longest (comment_state s) u)) (drop_more t n l)
-    ∙ ap (more_bytes n) (longest_on (comment_state s) (comment_state (nat_eq (get_or t n 0) 42)) OpenComment (state_open (nat_eq (get_or t n 0) 42)) (get_or t n 0) (λ w. comment_go s (get_or t n 0) w e) (drop (n + 1) t))
+    ∙ ap (more_bytes n) (longest_on (comment_state s) (comment_state (nat_eq (get_or t n 0) 42)) UnclosedComment (state_open (nat_eq (get_or t n 0) 42)) (get_or t n 0) (λ w. comment_go s (get_or t n 0) w e) (drop (n + 1) t))
     ∙ more_twice n (longest (comment_state (nat_eq (get_or t n 0) 42)) (drop (n + 1) t))
 
 comment_close : (b : ℕ) (w : List ℕ) → nat_eq b 47 ≡ true → comment_state true (b ∷ w) ≡ alone Blank w
@@ -317,11 +317,11 @@ ends_open f x e t r n l h =
     let none : n + 0 ≡ n = omega arith in
     h ∙ ap (λ u. more_bytes n (longest f u)) (drop_past t n l) ∙ ap (more_bytes n) (longest_end f ∙ ap (with_bytes 0) e) ∙ ap (λ n. Some (x, n)) none
 
-pub comment_open : (t : List ℕ) (r : Option (Word × ℕ)) (s : Bool) (n : ℕ) → length t ≤ n → r ≡ more_bytes n (longest (comment_state s) (drop n t)) → r ≡ Some (OpenComment, n)
-comment_open t r s n = ends_open (comment_state s) OpenComment (state_open s) t r n
+pub comment_open : (t : List ℕ) (r : Option (Word × ℕ)) (s : Bool) (n : ℕ) → length t ≤ n → r ≡ more_bytes n (longest (comment_state s) (drop n t)) → r ≡ Some (UnclosedComment, n)
+comment_open t r s n = ends_open (comment_state s) UnclosedComment (state_open s) t r n
 
-pub text_ends : (t : List ℕ) (r : Option (Word × ℕ)) (s : Bool) (n : ℕ) → length t ≤ n → r ≡ more_bytes n (longest (text_state s) (drop n t)) → r ≡ Some (OpenText, n)
-text_ends t r s n = ends_open (text_state s) OpenText (text_open s) t r n
+pub text_ends : (t : List ℕ) (r : Option (Word × ℕ)) (s : Bool) (n : ℕ) → length t ≤ n → r ≡ more_bytes n (longest (text_state s) (drop n t)) → r ≡ Some (UnclosedText, n)
+text_ends t r s n = ends_open (text_state s) UnclosedText (text_open s) t r n
 
 text_go : (s : Bool) (b : ℕ) (w : List ℕ) → nat_eq b 10 ≡ false → (not s && nat_eq b 34) ≡ false → text_state s (b ∷ w) ≡ text_state (not s && nat_eq b 92) w
 unfolding in_text in_escape
@@ -332,7 +332,7 @@ pub text_more : (t : List ℕ) (r : Option (Word × ℕ)) (s : Bool) (n : ℕ) �
 text_more t r s n l h e q =
     let next = not s && nat_eq (get_or t n 0) 92 in
     h ∙ ap (λ u. more_bytes n (longest (text_state s) u)) (drop_more t n l)
-    ∙ ap (more_bytes n) (longest_on (text_state s) (text_state next) OpenText (text_open next) (get_or t n 0) (λ w. text_go s (get_or t n 0) w (not_equal (get_or t n 0) 10 e) q) (drop (n + 1) t))
+    ∙ ap (more_bytes n) (longest_on (text_state s) (text_state next) UnclosedText (text_open next) (get_or t n 0) (λ w. text_go s (get_or t n 0) w (not_equal (get_or t n 0) 10 e) q) (drop (n + 1) t))
     ∙ more_twice n (longest (text_state next) (drop (n + 1) t))
 
 text_line : (s : Bool) (b : ℕ) (w : List ℕ) → nat_eq b 10 ≡ true → nat_eq b 34 ≡ false → nat_eq b 92 ≡ false → text_state s (b ∷ w) ≡ None
@@ -343,13 +343,13 @@ text_line false b w e q k = rw (q, k, e) refl
 newline_is : (b : ℕ) → b ≡ 10 → (nat_eq b 10 ≡ true) × (nat_eq b 34 ≡ false) × (nat_eq b 92 ≡ false)
 newline_is b e = subst (λ b. (nat_eq b 10 ≡ true) × (nat_eq b 34 ≡ false) × (nat_eq b 92 ≡ false)) (sym e) (refl, refl, refl)
 
-pub text_newline : (t : List ℕ) (r : Option (Word × ℕ)) (s : Bool) (n : ℕ) → n < length t → r ≡ more_bytes n (longest (text_state s) (drop n t)) → get_or t n 0 ≡ 10 → r ≡ Some (OpenText, n)
+pub text_newline : (t : List ℕ) (r : Option (Word × ℕ)) (s : Bool) (n : ℕ) → n < length t → r ≡ more_bytes n (longest (text_state s) (drop n t)) → get_or t n 0 ≡ 10 → r ≡ Some (UnclosedText, n)
 text_newline t r s n l h e =
     let is = newline_is (get_or t n 0) e in
     let none : n + 0 ≡ n = omega arith in
     h ∙ ap (λ u. more_bytes n (longest (text_state s) u)) (drop_more t n l)
     ∙ ap (more_bytes n) (longest_stop (text_state s) (get_or t n 0) (λ w. text_line s (get_or t n 0) w is.0 is.1 is.2) (drop (n + 1) t) ∙ ap (with_bytes 0) (text_open s))
-    ∙ ap (λ n. Some (OpenText, n)) none
+    ∙ ap (λ n. Some (UnclosedText, n)) none
 
 text_quote : (b : ℕ) (w : List ℕ) → nat_eq b 34 ≡ true → text_state false (b ∷ w) ≡ alone Text w
 unfolding in_text

@@ -7,17 +7,17 @@ use Rattle.std.specs.Prelude.{Result, Ok, Err, ◌⊎◌, ◌≢◌, nat_lt}
 use Rattle.std.specs.Global.{Vec}
 use Rattle.text_place.specs.declared.fault.Place.{Place}
 use Rattle.text_place.specs.declared.fault.Stop.{Stop}
-use Rattle.text_place.specs.declared.fault.Stop.TheVariants.{Fault as StopFault, NoMemory}
+use Rattle.text_place.specs.declared.fault.Stop.TheVariants.{Fault, NoMemory}
 use Rattle.text_place.specs.declared.fault.FaultKind.{FaultKind}
-use Rattle.text_place.specs.declared.fault.FaultKind.TheVariants.{BadCharacter, OpenComment as OpenCommentFault, OpenText as OpenTextFault, NotWhole, TooLarge}
-use Rattle.scad_lexer.specs.declared.token.Token.{Token as TokenIn}
+use Rattle.text_place.specs.declared.fault.FaultKind.TheVariants.{BadCharacter, OpenComment, OpenText, NotWhole, TooLarge}
+use Rattle.scad_lexer.specs.declared.token.Token.{Token}
 use Rattle.scad_lexer.specs.declared.token.TokenKind.{TokenKind}
 use Rattle.scad_lexer.specs.declared.token.TokenKind.TheVariants.{Numeral as NumeralToken, Name as NameToken, Special as SpecialToken, Text as TextToken, Reserved as ReservedToken, Symbol as SymbolToken, End}
 use Rattle.scad_lexer.specs.declared.word.Word.{Word}
-use Rattle.scad_lexer.specs.declared.word.Word.TheVariants.{Blank as BlankWord, OpenComment, Name, Special, Numeral, NumeralAndLetter, Text, OpenText, Symbol}
+use Rattle.scad_lexer.specs.declared.word.Word.TheVariants.{Blank, UnclosedComment, Name, Special, Numeral, NumeralAndLetter, Text, UnclosedText, Symbol}
 use Rattle.scad_lexer.specs.declared.class.ByteClass.TheVariants.{Printable}
 use Rattle.scad_lexer.specs.declared.meaning.WordMeaning.{WordMeaning}
-use Rattle.scad_lexer.specs.declared.meaning.WordMeaning.TheVariants.{Blank, Token, Fault}
+use Rattle.scad_lexer.specs.declared.meaning.WordMeaning.TheVariants.{NoToken, OneToken, BadWord}
 use Rattle.scad_lexer.specs.Words.{has, digit, run_of, every, IsLongest, HasNoWord}
 
 -- the reserved name that these bytes are
@@ -37,8 +37,8 @@ name_or bytes None = NameToken bytes
 name_or bytes (Some reserved) = ReservedToken reserved
 
 -- a name, or a reserved one
-abbrev pub name_of : List ℕ → TokenKind
-name_of bytes = name_or bytes (reserved_of bytes)
+abbrev pub name_token : List ℕ → TokenKind
+name_token bytes = name_or bytes (reserved_of bytes)
 
 -- the number that decimal digits write, behind those that wrote a value
 abbrev pub number_from : ℕ → List ℕ → ℕ
@@ -56,17 +56,17 @@ too_large = 2 ^ 53
 
 -- a number, unless it is too large
 abbrev pub bounded : ℕ → WordMeaning
-bounded n = cond (nat_lt n too_large) (Token (NumeralToken n)) (Fault TooLarge 0)
+bounded n = cond (nat_lt n too_large) (OneToken (NumeralToken n)) (BadWord TooLarge 0)
 
 -- a numeral: its whole part, where nothing but zeros is behind its point, and no exponent
 abbrev pub numeral_of : List ℕ → WordMeaning
-numeral_of bytes = cond (zero_fraction (drop (run_of digit bytes) bytes)) (bounded (number_from 0 (take (run_of digit bytes) bytes))) (Fault NotWhole 0)
+numeral_of bytes = cond (zero_fraction (drop (run_of digit bytes) bytes)) (bounded (number_from 0 (take (run_of digit bytes) bytes))) (BadWord NotWhole 0)
 
 -- the fault that a numeral has, or else that of the letter behind so many bytes
 abbrev pub or_letter : WordMeaning → ℕ → WordMeaning
-or_letter (Fault kind n) at = Fault kind n
-or_letter Blank at = Fault BadCharacter at
-or_letter (Token kind) at = Fault BadCharacter at
+or_letter (BadWord kind n) at = BadWord kind n
+or_letter NoToken at = BadWord BadCharacter at
+or_letter (OneToken kind) at = BadWord BadCharacter at
 
 -- a numeral with a letter behind it: the numeral's fault, or that of the letter
 abbrev pub letter_behind : List ℕ → WordMeaning
@@ -109,8 +109,8 @@ inside bytes = take (length bytes - 1 - 1) (drop 1 bytes)
 
 -- the token of a text's bytes, or a fault behind its quote and so many bytes
 abbrev pub text_from : Result (List ℕ) ℕ → WordMeaning
-text_from (Ok bytes) = Token (TextToken bytes)
-text_from (Err at) = Fault BadCharacter (1 + at)
+text_from (Ok bytes) = OneToken (TextToken bytes)
+text_from (Err at) = BadWord BadCharacter (1 + at)
 
 -- what a text with both its quotes stands for
 abbrev pub text_of : List ℕ → WordMeaning
@@ -118,15 +118,15 @@ text_of bytes = text_from (decoded (inside bytes))
 
 -- what a word stands for
 abbrev pub meaning_of : Word → List ℕ → WordMeaning
-meaning_of BlankWord bytes = Blank
-meaning_of OpenComment bytes = Fault OpenCommentFault 0
-meaning_of Name bytes = Token (name_of bytes)
-meaning_of Special bytes = Token (SpecialToken (drop 1 bytes))
+meaning_of Blank bytes = NoToken
+meaning_of UnclosedComment bytes = BadWord OpenComment 0
+meaning_of Name bytes = OneToken (name_token bytes)
+meaning_of Special bytes = OneToken (SpecialToken (drop 1 bytes))
 meaning_of Numeral bytes = numeral_of bytes
 meaning_of NumeralAndLetter bytes = letter_behind bytes
 meaning_of Text bytes = text_of bytes
-meaning_of OpenText bytes = Fault OpenTextFault 0
-meaning_of (Symbol symbol) bytes = Token (SymbolToken symbol)
+meaning_of UnclosedText bytes = BadWord OpenText 0
+meaning_of (Symbol symbol) bytes = OneToken (SymbolToken symbol)
 
 -- the place behind these bytes: a newline begins a line
 abbrev pub moved : Place → List ℕ → Place
@@ -136,33 +136,33 @@ moved place (byte ∷ bytes) =
 
 -- what a source gives: its tokens, or its first fault
 pub data LexOutcome : Type 0 where
-  Gives : (tokens : List TokenIn) → LexOutcome
-  Faults : (kind : FaultKind) → (at : Place) → LexOutcome
+  GivesTokens : (tokens : List Token) → LexOutcome
+  FaultAt : (kind : FaultKind) → (at : Place) → LexOutcome
 
 -- with these tokens in front
-abbrev pub in_front : List TokenIn → LexOutcome → LexOutcome
-in_front tokens (Gives more) = Gives (tokens ++ more)
-in_front tokens (Faults kind place) = Faults kind place
+abbrev pub tokens_in_front : List Token → LexOutcome → LexOutcome
+tokens_in_front tokens (GivesTokens more) = GivesTokens (tokens ++ more)
+tokens_in_front tokens (FaultAt kind place) = FaultAt kind place
 
 -- the token that a word makes at a place, if it makes one
-abbrev pub tokens_at : Place → WordMeaning → List TokenIn
-tokens_at at (Token kind) = record { kind = kind; place = at } ∷ []
-tokens_at at Blank = []
-tokens_at at (Fault kind n) = []
+abbrev pub tokens_at : Place → WordMeaning → List Token
+tokens_at at (OneToken kind) = record { kind = kind; place = at } ∷ []
+tokens_at at NoToken = []
+tokens_at at (BadWord kind n) = []
 
 -- that a word has no fault
-abbrev pub IsSound : WordMeaning → Type 0
-IsSound (Fault kind n) = ⊥
-IsSound Blank = Unit {0}
-IsSound (Token kind) = Unit {0}
+abbrev pub IsFaultless : WordMeaning → Type 0
+IsFaultless (BadWord kind n) = ⊥
+IsFaultless NoToken = Unit {0}
+IsFaultless (OneToken kind) = Unit {0}
 
 -- the end of the source
 abbrev pub IsEnd : Place → List ℕ → LexOutcome → Type 0
-IsEnd at text outcome = (text ≡ []) × (outcome ≡ Gives (record { kind = End; place = at } ∷ []))
+IsEnd at text outcome = (text ≡ []) × (outcome ≡ GivesTokens (record { kind = End; place = at } ∷ []))
 
 -- a byte at which no word begins
 abbrev pub IsStray : Place → List ℕ → LexOutcome → Type 0
-IsStray at text outcome = (text ≢ []) × HasNoWord text × (outcome ≡ Faults BadCharacter at)
+IsStray at text outcome = (text ≢ []) × HasNoWord text × (outcome ≡ FaultAt BadCharacter at)
 
 -- a word with a fault
 pub record IsFaulty (at : Place) (text : List ℕ) (given : LexOutcome) : Type 0 where
@@ -171,8 +171,8 @@ pub record IsFaulty (at : Place) (text : List ℕ) (given : LexOutcome) : Type 0
   pub kind : FaultKind
   pub before : ℕ
   pub longest : IsLongest text length word
-  pub means : meaning_of word (take length text) ≡ Fault kind before
-  pub outcome : given ≡ Faults kind (moved at (take before text))
+  pub means : meaning_of word (take length text) ≡ BadWord kind before
+  pub outcome : given ≡ FaultAt kind (moved at (take before text))
 
 -- a word of a source, by its length
 pub record Piece : Type 0 where
@@ -180,29 +180,29 @@ pub record Piece : Type 0 where
   pub word : Word
 
 -- the text from a place on is these words, each the longest there, and then its end or its first fault
-abbrev pub Reads : List Piece → Place → List ℕ → LexOutcome → Type 0
-Reads [] at text outcome = IsEnd at text outcome ⊎ (IsStray at text outcome ⊎ IsFaulty at text outcome)
-Reads (piece ∷ pieces) at text outcome =
-    IsLongest text piece.bytes piece.word × IsSound (meaning_of piece.word (take piece.bytes text))
-    × ((rest : LexOutcome) × Reads pieces (moved at (take piece.bytes text)) (drop piece.bytes text) rest
-    × (outcome ≡ in_front (tokens_at at (meaning_of piece.word (take piece.bytes text))) rest))
+abbrev pub ReadsWords : List Piece → Place → List ℕ → LexOutcome → Type 0
+ReadsWords [] at text outcome = IsEnd at text outcome ⊎ (IsStray at text outcome ⊎ IsFaulty at text outcome)
+ReadsWords (piece ∷ pieces) at text outcome =
+    IsLongest text piece.bytes piece.word × IsFaultless (meaning_of piece.word (take piece.bytes text))
+    × ((rest : LexOutcome) × ReadsWords pieces (moved at (take piece.bytes text)) (drop piece.bytes text) rest
+    × (outcome ≡ tokens_in_front (tokens_at at (meaning_of piece.word (take piece.bytes text))) rest))
 
 -- what a text gives from a place on
 abbrev pub LexesFrom : Place → List ℕ → LexOutcome → Type 0
-LexesFrom at text outcome = (pieces : List Piece) × Reads pieces at text outcome
+LexesFrom at text outcome = (pieces : List Piece) × ReadsWords pieces at text outcome
 
 -- what a whole source gives: blanks, comments and tokens, each as long as possible
 abbrev pub Lexes : List ℕ → LexOutcome → Type 0
 Lexes text outcome = LexesFrom (record { line = 1; column = 1 }) text outcome
 
 -- the stop is what the text gives from the place on, unless memory ran out
-abbrev pub IsFaultFrom : Place → List ℕ → Stop → Type 0
-IsFaultFrom at text (StopFault fault) = LexesFrom at text (Faults fault.kind fault.place)
-IsFaultFrom at text NoMemory = Unit {0}
+abbrev pub IsLexStopFrom : Place → List ℕ → Stop → Type 0
+IsLexStopFrom at text (Fault fault) = LexesFrom at text (FaultAt fault.kind fault.place)
+IsLexStopFrom at text NoMemory = Unit {0}
 
 -- the stop is what the whole source gives, unless memory ran out
-abbrev pub IsFault : List ℕ → Stop → Type 0
-IsFault text stop = IsFaultFrom (record { line = 1; column = 1 }) text stop
+abbrev pub IsLexStop : List ℕ → Stop → Type 0
+IsLexStop text stop = IsLexStopFrom (record { line = 1; column = 1 }) text stop
 
 -- a place is that of a byte of the text, whose first byte stands at the start
 abbrev pub IsPlaceOfByteFrom : Place → List ℕ → Place → Type 0
@@ -210,28 +210,28 @@ IsPlaceOfByteFrom start text at = (front : List ℕ) × (byte : ℕ) × (rest : 
 
 -- a fault stands at a byte of the source; want of memory has no place
 abbrev pub StandsAtByte : List ℕ → Stop → Type 0
-StandsAtByte text (StopFault fault) = IsPlaceOfByteFrom (record { line = 1; column = 1 }) text fault.place
+StandsAtByte text (Fault fault) = IsPlaceOfByteFrom (record { line = 1; column = 1 }) text fault.place
 StandsAtByte text NoMemory = Unit {0}
 
 -- the answer is this outcome, unless memory ran out
-abbrev pub Agrees : Result (Vec TokenIn) Stop → LexOutcome → Type 0
-Agrees (Ok tokens) outcome = outcome ≡ Gives tokens.items
-Agrees (Err (StopFault fault)) outcome = outcome ≡ Faults fault.kind fault.place
+abbrev pub Agrees : Result (Vec Token) Stop → LexOutcome → Type 0
+Agrees (Ok tokens) outcome = outcome ≡ GivesTokens tokens.items
+Agrees (Err (Fault fault)) outcome = outcome ≡ FaultAt fault.kind fault.place
 Agrees (Err NoMemory) outcome = Unit {0}
 
 -- the longest word of a text has no fault, and the token that it makes at its place, if it makes one, is appended to those before
-pub record AppendsNext (before after : List TokenIn) (at : Place) (text : List ℕ) (bytes : ℕ) : Type 0 where
+pub record AppendsNext (before after : List Token) (at : Place) (text : List ℕ) (bytes : ℕ) : Type 0 where
   pub word : Word
   pub longest : IsLongest text bytes word
-  pub sound : IsSound (meaning_of word (take bytes text))
+  pub sound : IsFaultless (meaning_of word (take bytes text))
   pub appended : after ≡ before ++ tokens_at at (meaning_of word (take bytes text))
   pub some : 1 ≤ bytes
 
 -- a fault stands within the word
 abbrev pub IsWithin : ℕ → WordMeaning → Type 0
-IsWithin n (Fault kind before) = before ≤ n
-IsWithin n Blank = Unit {0}
-IsWithin n (Token kind) = Unit {0}
+IsWithin n (BadWord kind before) = before ≤ n
+IsWithin n NoToken = Unit {0}
+IsWithin n (OneToken kind) = Unit {0}
 
 -- the end of a source
 abbrev pub is_end : TokenKind → Bool
@@ -244,7 +244,7 @@ is_end (SymbolToken symbol) = false
 is_end End = true
 
 -- the last token is an end, and no other is
-abbrev pub ends_once : List TokenIn → Bool
+abbrev pub ends_once : List Token → Bool
 ends_once [] = false
 ends_once (token ∷ []) = is_end token.kind
 ends_once (token ∷ next ∷ tokens) = not (is_end token.kind) && ends_once (next ∷ tokens)

@@ -1,11 +1,11 @@
 -- Words of a source: blanks, comments and tokens (OpenSCAD User Manual, in the profile of this server).
 use Rattle.std.specs.Prelude.{◌≡◌, ℕ, suc, ◌+◌, ◌≤◌, List, [], ◌∷◌, length, take, Bool, true, false, cond, ◌||◌, ◌&&◌, not, nat_eq, nat_le, Option, Some, None}
 use Rattle.scad_lexer.specs.declared.class.ByteClass.{ByteClass}
-use Rattle.scad_lexer.specs.declared.class.ByteClass.TheVariants.{Blank as BlankClass, Letter, Digit, NameByte, InLine, Exponent, Sign, Printable, Byte}
+use Rattle.scad_lexer.specs.declared.class.ByteClass.TheVariants.{BlankByte, Letter, Digit, NameByte, InLine, Exponent, Sign, Printable, Byte}
 use Rattle.scad_lexer.specs.declared.token.Symbol.{Symbol}
 use Rattle.scad_lexer.specs.declared.token.Symbol.TheVariants.{OpenParenthesis, CloseParenthesis, OpenBracket, CloseBracket, OpenBrace, CloseBrace, Comma, Semicolon, Assign, Colon, Question, Dot, Plus, Minus, Times, Divide, Remainder, Less, Greater, LessEqual, GreaterEqual, Equal, NotEqual, And, Or, Not, Hash, Caret}
 use Rattle.scad_lexer.specs.declared.word.Word.{Word}
-use Rattle.scad_lexer.specs.declared.word.Word.TheVariants.{Blank, OpenComment, Name, Special, Numeral, NumeralAndLetter, Text, OpenText, Symbol as SymbolWord}
+use Rattle.scad_lexer.specs.declared.word.Word.TheVariants.{Blank, UnclosedComment, Name, Special, Numeral, NumeralAndLetter, Text, UnclosedText, Symbol as SymbolWord}
 
 -- space, tab, carriage return, newline
 abbrev pub blank : ℕ → Bool
@@ -25,7 +25,7 @@ name_byte byte = letter byte || digit byte
 
 -- a byte of the class
 abbrev pub has : ByteClass → ℕ → Bool
-has BlankClass byte = blank byte
+has BlankByte byte = blank byte
 has Letter byte = letter byte
 has Digit byte = digit byte
 has NameByte byte = name_byte byte
@@ -99,23 +99,23 @@ after_point (byte ∷ bytes) = cond (digit byte) (in_fraction bytes) None
 -- after the opening quote of a text: a backslash takes the next byte with it, and a newline ends nothing
 unfoldable mutual
   pub in_text : List ℕ → Option Word
-  in_text [] = Some OpenText
+  in_text [] = Some UnclosedText
   in_text (byte ∷ bytes) = cond (nat_eq byte 34) (alone Text bytes) (cond (nat_eq byte 92) (in_escape bytes) (cond (nat_eq byte 10) None (in_text bytes)))
 
   -- after a backslash
   pub in_escape : List ℕ → Option Word
-  in_escape [] = Some OpenText
+  in_escape [] = Some UnclosedText
   in_escape (byte ∷ bytes) = cond (nat_eq byte 10) None (in_text bytes)
 
 -- after `/*`: up to the first `*/`
 unfoldable mutual
   pub in_comment : List ℕ → Option Word
-  in_comment [] = Some OpenComment
+  in_comment [] = Some UnclosedComment
   in_comment (byte ∷ bytes) = cond (nat_eq byte 42) (after_star bytes) (in_comment bytes)
 
   -- after a `*` in it
   pub after_star : List ℕ → Option Word
-  after_star [] = Some OpenComment
+  after_star [] = Some UnclosedComment
   after_star (byte ∷ bytes) = cond (nat_eq byte 47) (alone Blank bytes) (cond (nat_eq byte 42) (after_star bytes) (in_comment bytes))
 
 -- after `/`: a symbol, or one of the two comments

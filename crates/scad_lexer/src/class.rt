@@ -5,7 +5,7 @@ ghost use Rattle.scad_lexer.specs.Words.{has, run_of, begins_with};
 #[derive(Clone, Copy, Debug, PartialEq, Eq)]
 pub enum ByteClass {
     /// Space, tab, carriage return and newline.
-    Blank,
+    BlankByte,
     /// A letter or `_`.
     Letter,
     Digit,
@@ -29,7 +29,7 @@ impl ByteClass {
         ensures { result ≡ has self byte }
     {
         match self {
-            ByteClass::Blank => matches!(byte, b' ' | b'\t' | b'\r' | b'\n'),
+            ByteClass::BlankByte => matches!(byte, b' ' | b'\t' | b'\r' | b'\n'),
             ByteClass::Letter => byte.is_ascii_alphabetic() || byte == b'_',
             ByteClass::Digit => byte.is_ascii_digit(),
             ByteClass::NameByte => byte.is_ascii_alphanumeric() || byte == b'_',

@@ -1,7 +1,7 @@
 ghost use Rattle.std.specs.Prelude.{◌≡◌, ◌-◌, ◌^◌, ◌<◌, ◌≤◌, length, IfOk, IfErr, IfSome, IfNone, MatchOption, drop, nat_eq, MatchResult, Ok, Err};
 ghost use Rattle.std.specs.Str.{bytes_eq};
 ghost use Rattle.scad_lexer.specs.Words.{every};
-ghost use Rattle.scad_lexer.specs.Tokens.{reserved_of, escape_at, with_byte, zero_fraction, number_from, numeral_of, letter_behind, decoded, inside, text_of, meaning_of, name_of, IsWithin};
+ghost use Rattle.scad_lexer.specs.Tokens.{reserved_of, escape_at, with_byte, zero_fraction, number_from, numeral_of, letter_behind, decoded, inside, text_of, meaning_of, name_token, IsWithin};
 
 use crate::class::ByteClass;
 use crate::token::{Reserved, TokenKind};
@@ -15,10 +15,10 @@ use whole_numeral::{Numeral, TOO_LARGE};
 #[derive(Drop)]
 pub enum WordMeaning {
     /// No token.
-    Blank,
-    Token(TokenKind),
+    NoToken,
+    OneToken(TokenKind),
     /// A fault, and how many bytes of the word stand before it.
-    Fault(FaultKind, usize),
+    BadWord(FaultKind, usize),
 }
 
 /// What a word stands for, by the kind of word that it is.
@@ -28,23 +28,23 @@ pub fn meant(alloc: Global, word: Word, bytes: &[u8]) -> Result<WordMeaning, NoM
     ensures within { IfOk result (λ m. IsWithin (length bytes.now) m) }
 {
     match word {
-        Word::Blank => Ok(WordMeaning::Blank),
-        Word::OpenComment => Ok(WordMeaning::Fault(FaultKind::OpenComment, 0)),
-        Word::OpenText => Ok(WordMeaning::Fault(FaultKind::OpenText, 0)),
-        Word::Name => Ok(WordMeaning::Token(name(alloc, bytes)?)),
+        Word::Blank => Ok(WordMeaning::NoToken),
+        Word::UnclosedComment => Ok(WordMeaning::BadWord(FaultKind::OpenComment, 0)),
+        Word::UnclosedText => Ok(WordMeaning::BadWord(FaultKind::OpenText, 0)),
+        Word::Name => Ok(WordMeaning::OneToken(name(alloc, bytes)?)),
         Word::Special => {
             let name = CompactBytes::of(alloc, &bytes[1..])?;
-            Ok(WordMeaning::Token(TokenKind::Special(name)))
+            Ok(WordMeaning::OneToken(TokenKind::Special(name)))
         }
         Word::Numeral => Ok(numeral(bytes)),
         Word::NumeralAndLetter => Ok(numeral_and_letter(bytes)),
         Word::Text => text(alloc, bytes),
-        Word::Symbol(symbol) => Ok(WordMeaning::Token(TokenKind::Symbol(symbol))),
+        Word::Symbol(symbol) => Ok(WordMeaning::OneToken(TokenKind::Symbol(symbol))),
     }
 }
 
 fn name(alloc: Global, bytes: &[u8]) -> Result<TokenKind, NoMemory>
-    ensures { IfOk result (λ k. k ≡ name_of bytes.now) }
+    ensures { IfOk result (λ k. k ≡ name_token bytes.now) }
 {
     match reserved(bytes) {
         Some(reserved) => Ok(TokenKind::Reserved(reserved)),
@@ -88,11 +88,11 @@ fn numeral(bytes: &[u8]) -> WordMeaning
 {
     let digits = ByteClass::Digit.run(bytes);
     if !is_zero_fraction(&bytes[digits..]) {
-        return WordMeaning::Fault(FaultKind::NotWhole, 0);
+        return WordMeaning::BadWord(FaultKind::NotWhole, 0);
     }
     match number(&bytes[..digits]) {
-        Some(number) => WordMeaning::Token(TokenKind::Numeral(number)),
-        None => WordMeaning::Fault(FaultKind::TooLarge, 0),
+        Some(number) => WordMeaning::OneToken(TokenKind::Numeral(number)),
+        None => WordMeaning::BadWord(FaultKind::TooLarge, 0),
     }
 }
 
@@ -139,8 +139,8 @@ fn numeral_and_letter(bytes: &[u8]) -> WordMeaning
 {
     let letter = bytes.len() - 1;
     match numeral(&bytes[..letter]) {
-        WordMeaning::Fault(kind, before) => WordMeaning::Fault(kind, before),
-        _ => WordMeaning::Fault(FaultKind::BadCharacter, letter),
+        WordMeaning::BadWord(kind, before) => WordMeaning::BadWord(kind, before),
+        _ => WordMeaning::BadWord(FaultKind::BadCharacter, letter),
     }
 }
 
@@ -150,8 +150,8 @@ fn text(alloc: Global, bytes: &[u8]) -> Result<WordMeaning, NoMemory>
     ensures within { IfOk result (λ m. IsWithin (length bytes.now) m) }
 {
     match decode(alloc, without_quotes(bytes))? {
-        Ok(bytes) => Ok(WordMeaning::Token(TokenKind::Text(CompactBytes::of(alloc, &bytes)?))),
-        Err(before) => Ok(WordMeaning::Fault(FaultKind::BadCharacter, 1 + before)),
+        Ok(bytes) => Ok(WordMeaning::OneToken(TokenKind::Text(CompactBytes::of(alloc, &bytes)?))),
+        Err(before) => Ok(WordMeaning::BadWord(FaultKind::BadCharacter, 1 + before)),
     }
 }
 

@@ -1,5 +1,5 @@
 ghost use Rattle.std.specs.Prelude.{◌≡◌, ℕ, ◌+◌, ◌≤◌, ◌<◌, ◌^◌, length, false, not, nat_eq, ◌&&◌, Some, IfSome, IfNone};
-ghost use Rattle.scad_lexer.specs.declared.class.ByteClass.TheVariants.{Blank, Letter, Digit};
+ghost use Rattle.scad_lexer.specs.declared.class.ByteClass.TheVariants.{BlankByte, Letter, Digit};
 ghost use Rattle.scad_lexer.specs.Words.{has, longest, more_bytes, word_from, in_whole, in_fraction, number_end, exponent, in_exponent, after_point, after_slash, after_dollar, in_text, in_comment, single, double, double_of, symbol_of, begins_with, IsLongest, HasNoWord};
 
 use crate::class::ByteClass;
@@ -56,7 +56,7 @@ fn after_byte(byte: u8, rest: &[u8]) -> Option<(Word, usize)>
     ensures found { result ≡ longest (word_from byte) rest.now }
     ensures within { IfSome result (λ p. p.1 ≤ length rest.now) }
 {
-    if ByteClass::Blank.has(byte) {
+    if ByteClass::BlankByte.has(byte) {
         Some((Word::Blank, 0))
     } else if ByteClass::Letter.has(byte) {
         Some((Word::Name, ByteClass::NameByte.run(rest)))
@@ -69,7 +69,7 @@ fn after_byte(byte: u8, rest: &[u8]) -> Option<(Word, usize)>
 
 // The same after a byte that is no blank, letter or digit.
 fn after_mark(byte: u8, rest: &[u8]) -> Option<(Word, usize)>
-    requires blank { has Blank byte ≡ false }
+    requires blank { has BlankByte byte ≡ false }
     requires letter { has Letter byte ≡ false }
     requires digit { has Digit byte ≡ false }
     ensures found { result ≡ longest (word_from byte) rest.now }
@@ -222,7 +222,7 @@ fn comment(text: &[u8]) -> (Word, usize)
         star = byte == b'*';
         count += 1;
     }
-    (Word::OpenComment, count)
+    (Word::UnclosedComment, count)
 }
 
 // Whether a byte ends a comment, after a star or not.
@@ -242,7 +242,7 @@ fn text(text: &[u8]) -> (Word, usize)
     while count < text.len() {
         let byte = text[count];
         if byte == b'\n' {
-            return (Word::OpenText, count);
+            return (Word::UnclosedText, count);
         }
         if ends_text(escaped, byte) {
             return (Word::Text, count + 1);
@@ -250,7 +250,7 @@ fn text(text: &[u8]) -> (Word, usize)
         escaped = begins_escape(escaped, byte);
         count += 1;
     }
-    (Word::OpenText, count)
+    (Word::UnclosedText, count)
 }
 
 // Whether a byte ends a text, after a backslash that takes it or not.

@@ -1,6 +1,6 @@
 ghost use Rattle.std.specs.Prelude.{◌≡◌, ℕ, List, true, ◌+◌, ◌-◌, ◌^◌, ◌<◌, ◌≤◌, ◌++◌, ◌∷◌, [], ◌⊎◌, length, IfOk, IfErr, OnOk};
 ghost use Rattle.scad_lexer.specs.Words.{IsLongest};
-ghost use Rattle.scad_lexer.specs.Tokens.{LexOutcome, Gives, Faults, Lexes, Agrees, IsFault, IsFaultFrom, StandsAtByte, moved, AppendsNext, ends_once};
+ghost use Rattle.scad_lexer.specs.Tokens.{LexOutcome, GivesTokens, FaultAt, Lexes, Agrees, IsLexStop, IsLexStopFrom, StandsAtByte, moved, AppendsNext, ends_once};
 
 use crate::class::ByteClass;
 use crate::meaning::{WordMeaning, meant};
@@ -15,9 +15,9 @@ use text_place::{FaultKind, NoMemory, Place, Stop};
 pub fn lex(alloc: Global, text: &[u8]) -> Result<Vec<Token>, Stop>
     requires { length text.now < 2 ^ 32 - 1 }
     // What is given are the source's tokens, each as long as possible.
-    ensures found { IfOk result (λ ts. Lexes text.now (Gives ts.items)) }
+    ensures found { IfOk result (λ ts. Lexes text.now (GivesTokens ts.items)) }
     // A fault is the source's first one, at its place.
-    ensures fault { IfErr result (λ stop. IsFault text.now stop) }
+    ensures fault { IfErr result (λ stop. IsLexStop text.now stop) }
     // The place of a fault is that of a byte of the source.
     ensures place { IfErr result (λ stop. StandsAtByte text.now stop) }
     // What the source gives is answered, unless memory runs out.
@@ -37,21 +37,21 @@ pub fn one_outcome()
 
 /// Each source gives something: its tokens, the last of which is their only end, or its first fault.
 pub fn some_outcome()
-    ensures { (text : List ℕ) → ((tokens : List Token) × Lexes text (Gives tokens) × (ends_once tokens ≡ true)) ⊎ ((kind : FaultKind) × (at : Place) × Lexes text (Faults kind at)) }
+    ensures { (text : List ℕ) → ((tokens : List Token) × Lexes text (GivesTokens tokens) × (ends_once tokens ≡ true)) ⊎ ((kind : FaultKind) × (at : Place) × Lexes text (FaultAt kind at)) }
 {}
 
 // Most words are blank bytes, and symbols that begin no longer word: they are read without a search for the
 // longest one.
 fn read_tokens(alloc: Global, text: &[u8]) -> Result<Vec<Token>, Stop>
     requires { length text.now < 2 ^ 32 - 1 }
-    ensures found { IfOk result (λ ts. Lexes text.now (Gives ts.items)) }
-    ensures fault { IfErr result (λ stop. IsFault text.now stop) }
+    ensures found { IfOk result (λ ts. Lexes text.now (GivesTokens ts.items)) }
+    ensures fault { IfErr result (λ stop. IsLexStop text.now stop) }
 {
     let mut tokens = Vec::new(alloc);
     let mut rest = text;
     let mut place = Place { line: 1, column: 1 };
     'words: while !rest.is_empty() {
-        if ByteClass::Blank.begins(rest) {
+        if ByteClass::BlankByte.begins(rest) {
             place = advance(place, &rest[..1]);
             rest = &rest[1..];
             continue;
@@ -86,15 +86,15 @@ fn push_word(
     requires line { place.line + length text.now < 2 ^ 32 }
     requires column { place.column + length text.now < 2 ^ 32 }
     ensures appended { OnOk result (AppendsNext tokens.old.items tokens.new.items place text.now bytes) }
-    ensures fault { IfErr result (λ stop. IsFaultFrom place text.now stop) }
+    ensures fault { IfErr result (λ stop. IsLexStopFrom place text.now stop) }
 {
     match meant(alloc, word, &text[..bytes])? {
-        WordMeaning::Blank => Ok(()),
-        WordMeaning::Token(kind) => {
+        WordMeaning::NoToken => Ok(()),
+        WordMeaning::OneToken(kind) => {
             push_token(tokens, kind, place)?;
             Ok(())
         }
-        WordMeaning::Fault(kind, before) => Err(kind.at(advance(place, &text[..before]))),
+        WordMeaning::BadWord(kind, before) => Err(kind.at(advance(place, &text[..before]))),
     }
 }
 

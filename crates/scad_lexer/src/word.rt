@@ -6,7 +6,7 @@ pub enum Word {
     /// White space or a closed comment.
     Blank,
     /// A comment that is not closed.
-    OpenComment,
+    UnclosedComment,
     Name,
     /// `$` and a name.
     Special,
@@ -16,6 +16,6 @@ pub enum Word {
     /// A text with both its quotes.
     Text,
     /// A text that is not closed on its line.
-    OpenText,
+    UnclosedText,
     Symbol(Symbol),
 }

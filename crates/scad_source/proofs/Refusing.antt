@@ -3,17 +3,17 @@ use Rattle.std.proofs.Common.{◌≡◌, inl, inr, ⊎_elim, true, List, ℕ, Re
 use Rattle.text_place.specs.declared.fault.Stop.{Stop}
 use Rattle.text_place.specs.declared.fault.Stop.TheVariants.{Fault, NoMemory}
 use Rattle.scad_lexer.specs.declared.token.Token.{Token}
-use Rattle.scad_lexer.specs.Tokens.{Lexes, Gives}
+use Rattle.scad_lexer.specs.Tokens.{Lexes, GivesTokens}
 use Rattle.scad_ast.specs.declared.program.Program.{Program}
 use Rattle.scad_grammar.specs.Grammar.{too_deep}
 use Rattle.scad_parser.specs.Parsing.{ends, IsStopOf}
 use Rattle.scad_source.specs.Sources.{RefusesText, IsMadeOfTokens, IsMadeOf}
 
-refused : (source : List ℕ) (tokens : List Token) (why : Stop) → Lexes source (Gives tokens) → IsStopOf too_deep tokens why → RefusesText source why
+refused : (source : List ℕ) (tokens : List Token) (why : Stop) → Lexes source (GivesTokens tokens) → IsStopOf too_deep tokens why → RefusesText source why
 refused source tokens (Fault fault) lexes stops = inr (tokens, lexes, stops)
 refused source tokens NoMemory lexes stops = tt
 
-pub made : {T : Type 0} (makes : Program → Result T Stop → Type 0) (source : List ℕ) (tokens : List Token) (r : Result T Stop) → Lexes source (Gives tokens)
+pub made : {T : Type 0} (makes : Program → Result T Stop → Type 0) (source : List ℕ) (tokens : List Token) (r : Result T Stop) → Lexes source (GivesTokens tokens)
     → ends tokens ≡ true → IsMadeOfTokens makes tokens r → IsMadeOf makes source r
 made makes source tokens r lexes end of =
     ⊎_elim

@@ -4,7 +4,7 @@ use Rattle.text_place.specs.declared.fault.Stop.{Stop}
 use Rattle.text_place.specs.declared.fault.Stop.TheVariants as stop
 use Rattle.text_place.specs.declared.fault.Fault.{Fault}
 use Rattle.scad_lexer.specs.declared.token.Token.{Token}
-use Rattle.scad_lexer.specs.Tokens.{Lexes, Gives, Faults}
+use Rattle.scad_lexer.specs.Tokens.{Lexes, GivesTokens, FaultAt}
 use Rattle.scad_ast.specs.declared.program.Program.{Program}
 use Rattle.scad_ast.specs.ProgramView.{program_of}
 use Rattle.scad_ast.specs.Terms.{StatementTerm}
@@ -13,13 +13,13 @@ use Rattle.scad_parser.specs.Parsing.{ends, IsStopOf, HasFault as HasSyntaxFault
 
 -- the source's tokens are the program's, at most 64 deep
 abbrev pub Writes : List ℕ → List StatementTerm → Type 0
-Writes source program = (tokens : List Token) × Lexes source (Gives tokens) × WholeProgram too_deep program tokens
+Writes source program = (tokens : List Token) × Lexes source (GivesTokens tokens) × WholeProgram too_deep program tokens
 
 -- the first fault of a source that writes no program: of its bytes, or else of its tokens
 abbrev pub HasTextFault : List ℕ → Fault → Type 0
 HasTextFault source fault =
-    Lexes source (Faults fault.kind fault.place)
-    ⊎ ((tokens : List Token) × Lexes source (Gives tokens) × HasSyntaxFault too_deep tokens fault)
+    Lexes source (FaultAt fault.kind fault.place)
+    ⊎ ((tokens : List Token) × Lexes source (GivesTokens tokens) × HasSyntaxFault too_deep tokens fault)
 
 -- the source is refused with that fault, unless memory ran out
 abbrev pub RefusesText : List ℕ → Stop → Type 0

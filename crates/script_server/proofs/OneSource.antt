@@ -4,7 +4,7 @@ use Rattle.text_place.specs.declared.fault.Fault.{Fault}
 use Rattle.text_place.specs.declared.fault.FaultKind.{FaultKind}
 use Rattle.text_place.specs.declared.fault.Place.{Place}
 use Rattle.scad_lexer.specs.declared.token.Token.{Token}
-use Rattle.scad_lexer.specs.Tokens.{LexOutcome, Lexes, Gives, Faults}
+use Rattle.scad_lexer.specs.Tokens.{LexOutcome, Lexes, GivesTokens, FaultAt}
 use Rattle.scad_ast.specs.Terms.{StatementTerm}
 use Rattle.scad_grammar.specs.Grammar.{WholeProgram}
 use Rattle.scad_grammar.specs.declared.SyntaxFault.{SyntaxFault}
@@ -29,11 +29,11 @@ abbrev pub OneMeaning : Type 0
 OneMeaning = (unit : LengthUnit) (program : List StatementTerm) (m n : Meaning) → IsMeaning unit program m → IsMeaning unit program n → m ≡ n
 
 module _ (text : OneText) where
-  one_list : (source : List ℕ) (s t : List Token) → Lexes source (Gives s) → Lexes source (Gives t) → s ≡ t
-  one_list source s t h g = let both : Gives s ≡ Gives t = text.outcomes source (Gives s) (Gives t) h g in cc
+  one_list : (source : List ℕ) (s t : List Token) → Lexes source (GivesTokens s) → Lexes source (GivesTokens t) → s ≡ t
+  one_list source s t h g = let both : GivesTokens s ≡ GivesTokens t = text.outcomes source (GivesTokens s) (GivesTokens t) h g in cc
 
-  no_list : (source : List ℕ) (s : List Token) (kind : FaultKind) (at : Place) → Lexes source (Gives s) → Lexes source (Faults kind at) → ⊥
-  no_list source s kind at h g = let both : Gives s ≡ Faults kind at = text.outcomes source (Gives s) (Faults kind at) h g in cc
+  no_list : (source : List ℕ) (s : List Token) (kind : FaultKind) (at : Place) → Lexes source (GivesTokens s) → Lexes source (FaultAt kind at) → ⊥
+  no_list source s kind at h g = let both : GivesTokens s ≡ FaultAt kind at = text.outcomes source (GivesTokens s) (FaultAt kind at) h g in cc
 
   same_fault : (f g : Fault) → f.kind ≡ g.kind → f.place ≡ g.place → f ≡ g
   same_fault f g e h = ap₂ (λ kind place. record { kind = kind; place = place }) e h
@@ -61,7 +61,7 @@ module _ (text : OneText) where
   one_text_fault source f g h i =
       ⊎_elim
       (λ a. ⊎_elim
-      (λ b. (let both : Faults f.kind f.place ≡ Faults g.kind g.place = text.outcomes source (Faults f.kind f.place) (Faults g.kind g.place) a b in
+      (λ b. (let both : FaultAt f.kind f.place ≡ FaultAt g.kind g.place = text.outcomes source (FaultAt f.kind f.place) (FaultAt g.kind g.place) a b in
       let kinds : f.kind ≡ g.kind = cc in
       let places : f.place ≡ g.place = cc in
       same_fault f g kinds places))

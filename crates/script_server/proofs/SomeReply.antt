@@ -7,7 +7,7 @@ use Rattle.plane_predicate.specs.declared.unit.Unit.{Unit as LengthUnit}
 use Rattle.csg_tree.specs.Formulas.{Formula}
 use Rattle.csg_tree.specs.ProperTrees.{IsProper}
 use Rattle.scad_lexer.specs.declared.token.Token.{Token}
-use Rattle.scad_lexer.specs.Tokens.{Lexes, Gives, Faults, ends_once}
+use Rattle.scad_lexer.specs.Tokens.{Lexes, GivesTokens, FaultAt, ends_once}
 use Rattle.scad_ast.specs.Terms.{StatementTerm}
 use Rattle.scad_grammar.specs.declared.SyntaxFault.{SyntaxFault}
 use Rattle.scad_grammar.specs.Grammar.{WholeProgram}
@@ -25,7 +25,7 @@ use Rattle.script_server.specs.Meaning.Exports.{reply_of, IsBounded, AnswersExpo
 
 -- what is known of the texts, the programs and the trees of sources
 pub record SomeText : Type 0 where
-  pub outcome : (text : List ℕ) → ((tokens : List Token) × Lexes text (Gives tokens) × (ends_once tokens ≡ true)) ⊎ ((kind : FaultKind) × (at : Place) × Lexes text (Faults kind at))
+  pub outcome : (text : List ℕ) → ((tokens : List Token) × Lexes text (GivesTokens tokens) × (ends_once tokens ≡ true)) ⊎ ((kind : FaultKind) × (at : Place) × Lexes text (FaultAt kind at))
   pub program : (d : ℕ) (s : List Token) → ends_once s ≡ true → ((x : List StatementTerm) × WholeProgram d x s) ⊎ ((fault : SyntaxFault) × (at : List Token) × IsFirstFault d s fault at)
   pub meaning : (unit : LengthUnit) (program : List StatementTerm) → (m : Meaning) × IsMeaning unit program m
 
@@ -39,11 +39,11 @@ of_program unit source program (a_fault kind at) writes means = inr (record { ki
 pub some_meaning : SomeText → (unit : LengthUnit) (source : List ℕ) → MeansSome unit source
 some_meaning text unit source = go (text.outcome source)
   where
-    with_tokens : (tokens : List Token) → Lexes source (Gives tokens) → ((x : List StatementTerm) × WholeProgram 65 x tokens) ⊎ ((fault : SyntaxFault) × (at : List Token) × IsFirstFault 65 tokens fault at) → MeansSome unit source
+    with_tokens : (tokens : List Token) → Lexes source (GivesTokens tokens) → ((x : List StatementTerm) × WholeProgram 65 x tokens) ⊎ ((fault : SyntaxFault) × (at : List Token) × IsFirstFault 65 tokens fault at) → MeansSome unit source
     with_tokens tokens lexes (inl (program, is)) = let m = text.meaning unit program in of_program unit source program m.0 (tokens, lexes, is) m.1
     with_tokens tokens lexes (inr (fault, at, first)) = inr (record { kind = kind_of fault; place = place_at at }, inl (inr (tokens, lexes, (fault, at, first, refl, refl))))
 
-    go : ((tokens : List Token) × Lexes source (Gives tokens) × (ends_once tokens ≡ true)) ⊎ ((kind : FaultKind) × (at : Place) × Lexes source (Faults kind at)) → MeansSome unit source
+    go : ((tokens : List Token) × Lexes source (GivesTokens tokens) × (ends_once tokens ≡ true)) ⊎ ((kind : FaultKind) × (at : Place) × Lexes source (FaultAt kind at)) → MeansSome unit source
     go (inl (tokens, lexes, ends)) = with_tokens tokens lexes (text.program 65 tokens ends)
     go (inr (kind, at, lexes)) = inr (record { kind = kind; place = at }, inl (inl lexes))
 

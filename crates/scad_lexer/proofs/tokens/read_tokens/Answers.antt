@@ -4,7 +4,7 @@ use Rattle.std.proofs.lemmas.Result.{err_from_is_err_and}
 use Rattle.text_place.specs.declared.fault.FaultKind.TheVariants.{BadCharacter}
 use Rattle.scad_lexer.specs.declared.token.TokenKind.TheVariants.{Symbol}
 use Rattle.scad_lexer.specs.declared.word.Word.TheVariants.{Blank, Symbol as SymbolWord}
-use Rattle.scad_lexer.specs.Tokens.{Faults}
+use Rattle.scad_lexer.specs.Tokens.{FaultAt}
 use Rattle.scad_lexer.proofs.Lexing.{appends_none, appends_one, goes_on, goes_end, goes_fault, moved_symbol, rest_length, stray}
 use Rattle.scad_lexer.proofs.Scanned.{blank_found}
 use Rattle.scad_lexer.proofs.tokens.read_tokens.Goals as goal
@@ -52,4 +52,4 @@ pub returns-clause-found : goal.returns-clause-found
 returns-clause-found c = rw c.in_ok-push_token-2.ensures (goes_end c.args.text.now c.words.tokens.items c.words.place c.words.rest.now c.words.invariant.told (eqb-true _ _ (sym c.words-test.ensures)))
 
 pub returns-in_default-longest_word-clause-fault : goal.returns-in_default-longest_word-clause-fault
-returns-in_default-longest_word-clause-fault c = rw c.at.ensures (c.words.invariant.told (Faults BadCharacter c.words.place) (stray c.words.place c.words.rest.now (search rules) c.in_default-longest_word.ensures.none))
+returns-in_default-longest_word-clause-fault c = rw c.at.ensures (c.words.invariant.told (FaultAt BadCharacter c.words.place) (stray c.words.place c.words.rest.now (search rules) c.in_default-longest_word.ensures.none))
